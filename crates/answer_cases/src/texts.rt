@@ -1,9 +1,9 @@
 //! Whole texts of answers, read and put.
 
 use cost_base::{MemorySink, OutOfMemory, PutFailed};
+use design_problem::Answer;
 use evidence_reader::{AnswerStop, read_answer};
 use evidence_text::{TreePart, put_answer, put_costs, put_rows, put_tree};
-use path_rows::Answer;
 use std::alloc::{AllocError, Global};
 
 /// The answer of a text of at most 100,000 bytes.

@@ -7,14 +7,14 @@ use Rattle.cost_base.specs.declared.Ratio.{Ratio}
 use Rattle.cost_base.specs.declared.StepName.{StepName}
 use Rattle.cost_base.specs.declared.StepName.TheVariants.{Add, Sub, Mul, Div, Lcm, Scale}
 use Rattle.cost_base.proofs.ListLemmas.{all_from_each}
-use Rattle.path_rows.specs.declared.tree.Side.{Side}
-use Rattle.path_rows.specs.declared.tree.Side.TheVariants.{Low as LowSide, High as HighSide}
-use Rattle.path_rows.specs.declared.tree.Member.{Member}
-use Rattle.path_rows.specs.declared.tree.Member.TheVariants.{Low, High, Row}
-use Rattle.path_rows.specs.declared.tree.Entry.{Entry}
-use Rattle.path_rows.specs.declared.tree.Entry.TheVariants.{Tighten, Split, Halve, Refute, Undone}
-use Rattle.path_rows.specs.Bounds.{BoundsEntry}
-use Rattle.path_rows.specs.Text.{spaced, integer, side_word, step_word, ratio_word, members_words, part_words, entry_line, FitsEntry}
+use Rattle.design_problem.specs.declared.tree.Side.{Side}
+use Rattle.design_problem.specs.declared.tree.Side.TheVariants.{Low as LowSide, High as HighSide}
+use Rattle.design_problem.specs.declared.tree.Member.{Member}
+use Rattle.design_problem.specs.declared.tree.Member.TheVariants.{Low, High, Row}
+use Rattle.design_problem.specs.declared.tree.Entry.{Entry}
+use Rattle.design_problem.specs.declared.tree.Entry.TheVariants.{Tighten, Split, Halve, Refute, Undone}
+use Rattle.design_problem.specs.Bounds.{BoundsEntry}
+use Rattle.design_problem.specs.Text.{spaced, integer, side_word, step_word, ratio_word, members_words, part_words, entry_line, FitsEntry}
 use Rattle.text_lines.specs.Numbers.{split}
 use Rattle.answer_lines.specs.Words.{IsSpaceless, entry_words, SaysEntry, SaysNoEntry}
 use Rattle.answer_lines.proofs.EntryWords.{entry_line-words}

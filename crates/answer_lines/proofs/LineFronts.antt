@@ -8,7 +8,7 @@ use Rattle.text_lines.specs.Lines.{lines, grow, IsOneLine}
 use Rattle.text_lines.specs.Numbers.{split}
 use Rattle.text_lines.proofs.LineLaws.{lines-cons}
 use Rattle.text_lines.proofs.Pieces.{split-some}
-use Rattle.answer_lines.specs.Places.{IsFirst, LacksFirst}
+use Rattle.answer_lines.specs.Places.{IsFirstInText, LacksFirst}
 
 -- the number that stands behind a front
 pub number_behind : (line front text : List ℕ) (g : ℕ) (r : Option ℕ) → line ≡ front ++ text →
@@ -53,5 +53,5 @@ no_first s one line left first =
     split-some 10 left none
 
 -- the first line of a text is one
-pub first-one : (bytes a b x y : List ℕ) → IsFirst bytes a x → bytes ≡ b ++ 10 ∷ y → IsOneLine b → (a ≡ b) × (x ≡ y)
+pub first-one : (bytes a b x y : List ℕ) → IsFirstInText bytes a x → bytes ≡ b ++ 10 ∷ y → IsOneLine b → (a ≡ b) × (x ≡ y)
 first-one bytes a b x y first parts one = first_line-one a b x y first.one one (sym first.parts ∙ parts)

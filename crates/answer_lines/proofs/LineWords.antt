@@ -2,8 +2,8 @@
 use Rattle.std.proofs.Common.{◌≡◌, ℕ, List, [], ◌∷◌, map, codes, refl}
 use Rattle.std.proofs.lemmas.List.Elements.{All-cons}
 use Rattle.cost_base.specs.Decimal.{decimal}
-use Rattle.path_rows.specs.declared.form.Row.{Row}
-use Rattle.path_rows.specs.Text.{row_line}
+use Rattle.design_problem.specs.declared.form.Row.{Row}
+use Rattle.design_problem.specs.Text.{row_line}
 use Rattle.text_lines.specs.Numbers.{split}
 use Rattle.evidence_text.specs.Parts.{part_word, tree_line}
 use Rattle.evidence_text.specs.declared.TreePart.{TreePart}

@@ -3,7 +3,7 @@ use Rattle.std.proofs.Common.{◌≡◌, ◌≢◌, ℕ, ◌≤◌, List, [], �
 use Rattle.std.proofs.lemmas.List.{map-append}
 use Rattle.std.proofs.lemmas.List.Elements.{All-nil, All-cons, All-head, All-tail, All-append}
 use Rattle.cost_base.specs.Decimal.{decimal}
-use Rattle.path_rows.specs.Bounds.{IsThing}
+use Rattle.design_problem.specs.Bounds.{IsThing}
 
 -- numbers go on where the words that were read do
 pub no_number : (xs ns : List ℕ) (left : List (List ℕ)) → All IsThing ns → map decimal ns ≡ map decimal xs ++ left → left ≢ [] →

@@ -2,14 +2,14 @@
 use Rattle.std.proofs.Common.{◌≡◌, ◌≢◌, ℕ, ◌+◌, ◌<◌, List, [], ◌∷◌, ◌++◌, All, eqb, true, false, ℤ, pos, negsuc, nat_abs, MatchOption, Option, Some, None, arith, refl, sym, ap, ◌∙◌}
 use Rattle.std.specs.List.{list_all}
 use Rattle.cost_base.specs.Decimal.{decimal, is_digit}
-use Rattle.path_rows.specs.Text.{integer}
+use Rattle.design_problem.specs.Text.{integer}
 use Rattle.text_lines.proofs.Printed.{decimal-digits}
 use Rattle.std.proofs.Common.{◌≤◌, ◌^◌, leb}
 use Rattle.std.proofs.lemmas.Bool.{and_parts, leb-true, ne_eqb}
 use Rattle.std.proofs.lemmas.List.{append_cancel_left}
 use Rattle.std.proofs.lemmas.List.Elements.{All-nil, All-cons}
 use Rattle.cost_base.specs.declared.Ratio.{Ratio}
-use Rattle.path_rows.specs.Text.{ratio_word, IsPrinted}
+use Rattle.design_problem.specs.Text.{ratio_word, IsPrintedRatio}
 use Rattle.whole_numbers.specs.Fractions.{gcd}
 use Rattle.text_lines.specs.Numbers.{split}
 use Rattle.text_lines.proofs.Pieces.{split-some}
@@ -47,7 +47,7 @@ integer-unslashed (pos n) = digits-unslashed (decimal n) (decimal-digits n)
 integer-unslashed (negsuc n) = All-cons (λ x. eqb x 47 ≡ false) 45 (decimal (n + 1)) refl (digits-unslashed (decimal (n + 1)) (decimal-digits (n + 1)))
 
 -- a word without a slash is no fraction
-pub no_slash : (word : List ℕ) → split 47 word ≡ word ∷ [] → (q : Ratio) → IsPrinted q → word ≢ ratio_word q
+pub no_slash : (word : List ℕ) → split 47 word ≡ word ∷ [] → (q : Ratio) → IsPrintedRatio q → word ≢ ratio_word q
 no_slash word one q printed e =
     let cut : split 47 word ≡ integer q.numerator ∷ split 47 (integer q.denominator) = ap (split 47) e
     ∙ split-front 47 (integer q.numerator) (integer q.denominator) (integer-unslashed q.numerator) in
@@ -76,19 +76,19 @@ integer-same (negsuc n) (negsuc m) e =
     ap negsuc less
 
 -- a printed fraction's numbers
-pub printed-above : (q : Ratio) → IsPrinted q → nat_abs q.numerator < 2 ^ 127
+pub printed-above : (q : Ratio) → IsPrintedRatio q → nat_abs q.numerator < 2 ^ 127
 printed-above q p = omega (arith, p.numerator, ap (λ r. nat_abs r.numerator) p.same)
 
-pub printed-below : (q : Ratio) (p : IsPrinted q) → q.denominator ≡ pos p.fraction.denominator
+pub printed-below : (q : Ratio) (p : IsPrintedRatio q) → q.denominator ≡ pos p.fraction.denominator
 printed-below q p = ap (λ r. r.denominator) p.same
 
 -- what the numbers around a slash say of the word
 pub ratio_found : (word above below : List ℕ) (numerator : ℤ) (denominator : ℕ) (r : Option Ratio) →
     word ≡ above ++ 47 ∷ below → split 47 word ≡ above ∷ split 47 below →
     above ≡ integer numerator → below ≡ decimal denominator →
-    MatchOption r ((q : Ratio) → IsPrinted q → q.numerator ≡ numerator → q.denominator ≡ pos denominator → ⊥)
-    (λ q. IsPrinted q × (q.numerator ≡ numerator) × (q.denominator ≡ pos denominator)) →
-    MatchOption r ((q : Ratio) → IsPrinted q → word ≢ ratio_word q) (λ q. IsPrinted q × (word ≡ ratio_word q))
+    MatchOption r ((q : Ratio) → IsPrintedRatio q → q.numerator ≡ numerator → q.denominator ≡ pos denominator → ⊥)
+    (λ q. IsPrintedRatio q × (q.numerator ≡ numerator) × (q.denominator ≡ pos denominator)) →
+    MatchOption r ((q : Ratio) → IsPrintedRatio q → word ≢ ratio_word q) (λ q. IsPrintedRatio q × (word ≡ ratio_word q))
 ratio_found word above below numerator denominator None parts pieces first second h =
     λ q printed e.
     let around = same_slash word above below q parts pieces e in
@@ -98,7 +98,7 @@ ratio_found word above below numerator denominator (Some q) parts pieces first s
 
 -- two numbers without a common divisor are a printed fraction
 pub lowest_is : (n : ℤ) (d : ℕ) (a b : ℤ) → a ≡ n → b ≡ pos d → 0 < d → gcd (nat_abs n) d ≡ 1 → nat_abs n < 2 ^ 127 →
-    d < 2 ^ 127 → IsPrinted (record { numerator = a; denominator = b }) × (a ≡ n) × (b ≡ pos d)
+    d < 2 ^ 127 → IsPrintedRatio (record { numerator = a; denominator = b }) × (a ≡ n) × (b ≡ pos d)
 lowest_is n d a b first second some apart above below = (
   record {
     fraction = record { numerator = n; denominator = d };

@@ -6,7 +6,7 @@ use Rattle.std.specs.List.{list_all}
 use Rattle.std.specs.Prelude.{not}
 use Rattle.cost_base.specs.Words.{is_blank, ends_a_word, IsOneWord}
 use Rattle.cost_base.specs.Decimal.{decimal}
-use Rattle.path_rows.specs.Text.{spaced}
+use Rattle.design_problem.specs.Text.{spaced}
 use Rattle.text_lines.specs.Lines.{grow}
 use Rattle.text_lines.specs.Numbers.{split}
 use Rattle.text_lines.proofs.Pieces.{split-some}

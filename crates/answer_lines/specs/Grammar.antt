@@ -1,44 +1,45 @@
 -- The grammar of an answer's text, line by line: which lines may stand at a place, and where each leads.
 use Rattle.std.specs.Prelude.{◌≡◌, ◌≢◌, ℕ, zero, suc, ◌+◌, ◌<◌, ◌⊎◌, List, [], ◌∷◌, codes, Option, Some, None}
 use Rattle.cost_base.specs.Words.{IsOneWord}
-use Rattle.path_rows.specs.declared.form.Row.{Row}
-use Rattle.path_rows.specs.declared.tree.Entry.{Entry}
-use Rattle.path_rows.specs.declared.answer.Verdict.{Verdict}
-use Rattle.path_rows.specs.declared.answer.Floor.{Floor}
-use Rattle.path_rows.specs.Bounds.{IsThing, IsCost, IsRowNumber, BoundsVerdict, BoundsFloor, BoundsRow, BoundsEntry}
-use Rattle.path_rows.specs.Text.{spaced, row_line, entry_line, FitsEntry}
-use Rattle.path_rows.specs.Trees.{subtree_count}
-use Rattle.evidence_text.specs.Parts.{verdict_line, costs_line, interface_line, cost_line, floor_line, rows_line, no_tree_line, tree_line}
+use Rattle.design_problem.specs.declared.form.Row.{Row}
+use Rattle.design_problem.specs.declared.tree.Entry.{Entry}
+use Rattle.design_problem.specs.declared.answer.Verdict.{Verdict}
+use Rattle.design_problem.specs.declared.answer.Floor.{Floor}
+use Rattle.design_problem.specs.Bounds.{IsThing, IsCost, IsRowNumber, BoundsVerdict, BoundsFloor, BoundsRow, BoundsEntry}
+use Rattle.design_problem.specs.Text.{spaced, row_line, entry_line, FitsEntry}
+use Rattle.design_problem.specs.Trees.{subtree_count}
+use Rattle.evidence_text.specs.Parts.{verdict_line, costs_line, interface_line, answer_cost_line, floor_line, rows_line, no_tree_line, tree_line}
 use Rattle.evidence_text.specs.declared.TreePart.{TreePart}
 use Rattle.evidence_text.specs.declared.TreePart.TheVariants.{Proof, Unfinished}
 
 -- a place between two lines
-pub data Place : Type 0 where
+pub data TextPlace : Type 0 where
   -- before the first line, and behind it
-  AtHead : Place
-  AtVerdict : Place
-  AtCosts : Place
+  AtHead : TextPlace
+  AtVerdict : TextPlace
+  AtCosts : TextPlace
   -- among the sections, with the router of the cost line before
-  AtSections : Option (List ℕ) → Place
+  AtSections : Option (List ℕ) → TextPlace
   -- behind the line of a router, of an interface, and of a cost, each with its router
-  AtInterface : List ℕ → Place
-  AtCost : List ℕ → Place
-  AtExit : List ℕ → Place
+  AtInterface : List ℕ → TextPlace
+  AtCost : List ℕ → TextPlace
+  AtExit : List ℕ → TextPlace
   -- behind `costs none`
-  AtFloor : Place
-  AtRows : Place
+  AtFloor : TextPlace
+  AtRows : TextPlace
   -- among the rows, with how many are still announced
-  AtRow : ℕ → Place
+  AtRow : ℕ → TextPlace
   -- among the lines of a tree, with its open places and how many lines are still announced
-  AtTree : TreePart → ℕ → ℕ → Place
-  AtEnd : Place
-  AfterEnd : Place
+  AtTree : TreePart → ℕ → ℕ → TextPlace
+  AtEnd : TextPlace
+  AfterEnd : TextPlace
 
+-- `router R`
 abbrev pub router_line : List ℕ → List ℕ
 router_line name = spaced (codes "router" ∷ name ∷ [])
 
 -- a router that isn't that of the cost line before
-pub record IsRouterNext (before : Option (List ℕ)) (line : List ℕ) (next : Place) : Type 0 where
+pub record IsRouterNext (before : Option (List ℕ)) (line : List ℕ) (next : TextPlace) : Type 0 where
   pub name : List ℕ
   pub word : IsOneWord name
   pub other : before ≢ Some name
@@ -46,56 +47,62 @@ pub record IsRouterNext (before : Option (List ℕ)) (line : List ℕ) (next : P
   pub leads : next ≡ AtInterface name
 
 -- an interface of a router
-pub record IsInterfaceNext (router line : List ℕ) (next : Place) : Type 0 where
+pub record IsInterfaceNext (router line : List ℕ) (next : TextPlace) : Type 0 where
   pub name : List ℕ
   pub word : IsOneWord name
   pub is : line ≡ interface_line name
   pub leads : next ≡ AtCost router
 
-pub record IsFloorNext (line : List ℕ) (next : Place) : Type 0 where
+-- the line of a floor, which leads to the rows
+pub record IsFloorNext (line : List ℕ) (next : TextPlace) : Type 0 where
   pub floor : Floor
   pub bounds : BoundsFloor floor
   pub is : line ≡ floor_line floor
   pub leads : next ≡ AtRows
 
 -- a further interface stands only behind a cost line
-abbrev pub IsInterfaceAgain : Option (List ℕ) → List ℕ → Place → Type 0
+abbrev pub IsInterfaceAgain : Option (List ℕ) → List ℕ → TextPlace → Type 0
 IsInterfaceAgain None line next = ⊥
 IsInterfaceAgain (Some router) line next = IsInterfaceNext router line next
 
-pub record IsCostNext (router line : List ℕ) (next : Place) : Type 0 where
+-- the cost of an interface, which leads to `exit`
+pub record IsCostNext (router line : List ℕ) (next : TextPlace) : Type 0 where
   pub cost : ℕ
   pub some : 0 < cost
   pub bounds : IsCost cost
-  pub is : line ≡ cost_line cost
+  pub is : line ≡ answer_cost_line cost
   pub leads : next ≡ AtExit router
 
-pub record IsVerdictNext (line : List ℕ) (next : Place) : Type 0 where
+-- the line of a verdict, which leads to the costs
+pub record IsVerdictNext (line : List ℕ) (next : TextPlace) : Type 0 where
   pub verdict : Verdict
   pub bounds : BoundsVerdict verdict
   pub is : line ≡ verdict_line verdict
   pub leads : next ≡ AtCosts
 
-pub record IsGreatestNext (line : List ℕ) (next : Place) : Type 0 where
+-- the line `costs K`, which leads to the sections
+pub record IsGreatestNext (line : List ℕ) (next : TextPlace) : Type 0 where
   pub greatest : ℕ
   pub bounds : IsCost greatest
   pub is : line ≡ costs_line greatest
   pub leads : next ≡ AtSections None
 
-pub record IsRowsNext (line : List ℕ) (next : Place) : Type 0 where
+-- the line that counts the rows, which leads among them
+pub record IsRowsNext (line : List ℕ) (next : TextPlace) : Type 0 where
   pub count : ℕ
   pub bounds : IsRowNumber count
   pub is : line ≡ rows_line count
   pub leads : next ≡ AtRow count
 
-pub record IsRowNext (left : ℕ) (line : List ℕ) (next : Place) : Type 0 where
+-- the line of a row, behind which so many rows are still announced
+pub record IsRowNext (left : ℕ) (line : List ℕ) (next : TextPlace) : Type 0 where
   pub row : Row
   pub bounds : BoundsRow row
   pub is : line ≡ row_line row
   pub leads : next ≡ AtRow left
 
 -- the head of a part with a tree: one place is open
-pub record IsTreeNext (part : TreePart) (line : List ℕ) (next : Place) : Type 0 where
+pub record IsTreeNext (part : TreePart) (line : List ℕ) (next : TextPlace) : Type 0 where
   pub cap : ℕ
   pub count : ℕ
   pub cap_bounds : IsCost cap
@@ -104,11 +111,11 @@ pub record IsTreeNext (part : TreePart) (line : List ℕ) (next : Place) : Type 
   pub leads : next ≡ AtTree part 1 count
 
 -- a part without a tree stands as a tree that is done
-abbrev pub IsPartNext : TreePart → List ℕ → Place → Type 0
+abbrev pub IsPartNext : TreePart → List ℕ → TextPlace → Type 0
 IsPartNext part line next = ((line ≡ no_tree_line part) × (next ≡ AtTree part 0 0)) ⊎ IsTreeNext part line next
 
 -- a tree line takes the first open place away, and opens one for each of its subtrees
-pub record IsEntryNext (part : TreePart) (places left : ℕ) (line : List ℕ) (next : Place) : Type 0 where
+pub record IsEntryNext (part : TreePart) (places left : ℕ) (line : List ℕ) (next : TextPlace) : Type 0 where
   pub entry : Entry
   pub bounds : BoundsEntry entry
   pub fits : FitsEntry entry
@@ -116,7 +123,7 @@ pub record IsEntryNext (part : TreePart) (places left : ℕ) (line : List ℕ) (
   pub leads : next ≡ AtTree part (subtree_count entry + places) left
 
 -- the lines that are in the grammar at a place, and where they lead. Nothing is where a tree has lines left over and no open place, or the other way round.
-abbrev pub Next : Place → List ℕ → Place → Type 0
+abbrev pub Next : TextPlace → List ℕ → TextPlace → Type 0
 Next AtHead line next = (line ≡ codes "ospfcost answer 1") × (next ≡ AtVerdict)
 Next AtVerdict line next = IsVerdictNext line next
 Next AtCosts line next = ((line ≡ codes "costs none") × (next ≡ AtFloor)) ⊎ IsGreatestNext line next

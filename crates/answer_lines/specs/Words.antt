@@ -2,10 +2,10 @@
 use Rattle.std.specs.Prelude.{◌≡◌, ℕ, List, [], ◌∷◌, codes, Option, Some, None, All, ◌==◌, false}
 use Rattle.std.specs.Option.{option_copied}
 use Rattle.cost_base.specs.Decimal.{decimal}
-use Rattle.path_rows.specs.declared.tree.Entry.{Entry}
-use Rattle.path_rows.specs.declared.tree.Entry.TheVariants.{Tighten, Split, Halve, Refute, Undone}
-use Rattle.path_rows.specs.Bounds.{BoundsEntry}
-use Rattle.path_rows.specs.Text.{side_word, step_word, ratio_word, members_words, part_words, FitsEntry}
+use Rattle.design_problem.specs.declared.tree.Entry.{Entry}
+use Rattle.design_problem.specs.declared.tree.Entry.TheVariants.{Tighten, Split, Halve, Refute, Undone}
+use Rattle.design_problem.specs.Bounds.{BoundsEntry}
+use Rattle.design_problem.specs.Text.{side_word, step_word, ratio_word, members_words, part_words, FitsEntry}
 use Rattle.text_lines.specs.Numbers.{split}
 use Rattle.answer_lines.specs.declared.words.Pieces.{Pieces}
 
@@ -13,6 +13,7 @@ use Rattle.answer_lines.specs.declared.words.Pieces.{Pieces}
 abbrev pub IsSpaceless : List ℕ → Type 0
 IsSpaceless w = All (λ c. (c == 32) ≡ false) w
 
+-- the words of the text that is left, where there is one
 abbrev pub words_of_rest : Option (List ℕ) → List (List ℕ)
 words_of_rest None = []
 words_of_rest (Some text) = split 32 text
@@ -36,5 +37,6 @@ pub record SaysEntry (words : List (List ℕ)) (entry : Entry) : Type 0 where
   pub fits : FitsEntry entry
   pub is : words ≡ entry_words entry
 
+-- the words say no entry
 abbrev pub SaysNoEntry : List (List ℕ) → Type 0
 SaysNoEntry words = (entry : Entry) → SaysEntry words entry → ⊥

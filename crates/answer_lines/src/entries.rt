@@ -3,22 +3,22 @@ ghost use Rattle.std.specs.Prelude.{◌≡◌, ◌≢◌, ℕ, ◌+◌, ◌<◌,
 ghost use Rattle.std.specs.Prelude.{slice_index_or};
 ghost use Rattle.cost_base.specs.Decimal.{decimal};
 ghost use Rattle.cost_base.specs.declared.StepName.{StepName};
-ghost use Rattle.path_rows.specs.declared.tree.Side.{Side};
-ghost use Rattle.path_rows.specs.declared.tree.Member.{Member};
-ghost use Rattle.path_rows.specs.declared.tree.Entry.{Entry};
-ghost use Rattle.path_rows.specs.Bounds.{IsThing, IsCost, IsRowNumber, BoundsMember, BoundsParts, BoundsEntry};
-ghost use Rattle.path_rows.specs.Text.{side_word, step_word, member_words, members_words, part_words, entry_line, FitsEntry};
+ghost use Rattle.design_problem.specs.declared.tree.Side.{Side};
+ghost use Rattle.design_problem.specs.declared.tree.Member.{Member};
+ghost use Rattle.design_problem.specs.declared.tree.Entry.{Entry};
+ghost use Rattle.design_problem.specs.Bounds.{IsThing, IsCost, IsRowNumber, BoundsMember, BoundsParts, BoundsEntry};
+ghost use Rattle.design_problem.specs.Text.{side_word, step_word, member_words, members_words, part_words, entry_line, FitsEntry};
 ghost use Rattle.text_lines.specs.Numbers.{split};
 ghost use Rattle.cost_base.specs.declared.Ratio.{Ratio};
 ghost use Rattle.answer_lines.specs.declared.entries.HalveFront.{HalveFront};
 ghost use Rattle.answer_lines.specs.Fronts.{IsHalveFront, front_words};
-ghost use Rattle.path_rows.specs.Text.{ratio_word, IsPrinted};
+ghost use Rattle.design_problem.specs.Text.{ratio_word, IsPrintedRatio};
 ghost use Rattle.answer_lines.specs.Words.{words_left, SaysEntry, SaysNoEntry};
 
 use crate::ratios::ratio_of;
 use crate::words::Pieces;
 use cost_base::{Listed, OutOfMemory};
-use path_rows::{Entry, Member, Parts, Ratio, Side, StepName, WideAt};
+use design_problem::{Entry, Member, Parts, Ratio, Side, StepName, WideAt};
 use std::alloc::Global;
 
 /// The greatest number of a variable.
@@ -248,8 +248,8 @@ fn halve_front(words: Pieces<'_>) -> Option<(HalveFront, Pieces<'_>)>
 
 /// The fraction that is the next word, and the words behind it.
 fn next_ratio(words: Pieces<'_>) -> Option<(Ratio, Pieces<'_>)>
-    ensures { MatchOption result ((q : Ratio) (rest : List (List ℕ)) → IsPrinted q → words_left words.entry ≢ ratio_word q ∷ rest)
-        (λ r. IsPrinted r.0 × (words_left words.entry ≡ ratio_word r.0 ∷ words_left r.1)) }
+    ensures { MatchOption result ((q : Ratio) (rest : List (List ℕ)) → IsPrintedRatio q → words_left words.entry ≢ ratio_word q ∷ rest)
+        (λ r. IsPrintedRatio r.0 × (words_left words.entry ≡ ratio_word r.0 ∷ words_left r.1)) }
 {
     let (word, rest) = words.word()?;
     let ratio = ratio_of(word)?;

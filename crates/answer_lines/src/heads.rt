@@ -1,6 +1,6 @@
 //! Reading the lines of an answer that have at most one number.
 ghost use Rattle.std.specs.Prelude.{◌≡◌, ◌≢◌, ℕ, ◌+◌, ◌<◌, List, [], ◌∷◌, MatchOption, MatchResult, codes};
-ghost use Rattle.path_rows.specs.Bounds.{IsThing, IsCost, IsRowNumber, BoundsVerdict, BoundsFloor};
+ghost use Rattle.design_problem.specs.Bounds.{IsThing, IsCost, IsRowNumber, BoundsVerdict, BoundsFloor};
 ghost use Rattle.evidence_text.specs.Parts.{verdict_line, floor_line, rows_line, tree_line};
 ghost use Rattle.answer_lines.specs.Grammar.{AtHead, AtVerdict, AtCosts, AtFloor, AtSections, AtRows, AtRow, AtTree, AtEnd, AfterEnd};
 ghost use Rattle.answer_lines.specs.Places.{LacksLawful};
@@ -8,8 +8,8 @@ ghost use Rattle.answer_lines.specs.Going.{Goes};
 
 use crate::text_left::TextLeft;
 use crate::words::{Pieces, number_after};
+use design_problem::{Floor, Verdict};
 use evidence_text::{TreePart, part_word};
-use path_rows::{Floor, Verdict};
 
 /// The verdict that a line says.
 fn verdict_of(line: &[u8]) -> Option<Verdict>
@@ -23,7 +23,7 @@ fn verdict_of(line: &[u8]) -> Option<Verdict>
         return Some(Verdict::Optimal(greatest as u16));
     }
     let cap = number_after(line, b"verdict undecided budget ", 65_535)?;
-    Some(Verdict::Budget(cap as u16))
+    Some(Verdict::Undecided(cap as u16))
 }
 
 /// The floor that a line says.

@@ -3,7 +3,7 @@ ghost use Rattle.std.specs.Prelude.{◌≡◌, ◌≢◌, ℕ, ◌+◌, ◌<◌,
 ghost use Rattle.cost_base.specs.declared.Ratio.{Ratio};
 ghost use Rattle.cost_base.specs.Decimal.{decimal};
 ghost use Rattle.std.specs.Prelude.{negsuc, pos};
-ghost use Rattle.path_rows.specs.Text.{integer, ratio_word, IsPrinted};
+ghost use Rattle.design_problem.specs.Text.{integer, ratio_word, IsPrintedRatio};
 
 use crate::words::after;
 use cost_base::Ratio;
@@ -15,7 +15,7 @@ pub const GREATEST_SIZE: u128 = 170_141_183_460_469_231_731_687_303_715_884_105_
 
 /// The fraction that a word says.
 pub(crate) fn ratio_of(word: &[u8]) -> Option<Ratio>
-    ensures { MatchOption result ((q : Ratio) → IsPrinted q → word.now ≢ ratio_word q) (λ q. IsPrinted q × (word.now ≡ ratio_word q)) }
+    ensures { MatchOption result ((q : Ratio) → IsPrintedRatio q → word.now ≢ ratio_word q) (λ q. IsPrintedRatio q × (word.now ≡ ratio_word q)) }
 {
     let (above, below) = cut(word, b'/')?;
     let numerator = integer_of(above)?;
@@ -27,8 +27,8 @@ pub(crate) fn ratio_of(word: &[u8]) -> Option<Ratio>
 fn lowest(numerator: i128, denominator: u128) -> Option<Ratio>
     requires above { nat_abs numerator < 2 ^ 127 }
     requires below { denominator < 2 ^ 127 }
-    ensures { MatchOption result ((q : Ratio) → IsPrinted q → q.numerator ≡ numerator → q.denominator ≡ pos denominator → ⊥)
-        (λ q. IsPrinted q × (q.numerator ≡ numerator) × (q.denominator ≡ pos denominator)) }
+    ensures { MatchOption result ((q : Ratio) → IsPrintedRatio q → q.numerator ≡ numerator → q.denominator ≡ pos denominator → ⊥)
+        (λ q. IsPrintedRatio q × (q.numerator ≡ numerator) × (q.denominator ≡ pos denominator)) }
 {
     if denominator == 0 {
         return None;

@@ -1,15 +1,15 @@
 //! Reading the rows of an answer.
 ghost use Rattle.std.specs.Prelude.{◌≡◌, ◌≢◌, ℕ, ◌+◌, ◌<◌, ◌≤◌, List, [], ◌∷◌, All, MatchOption, IfOk, map, length};
 ghost use Rattle.cost_base.specs.Decimal.{decimal};
-ghost use Rattle.path_rows.specs.declared.form.Row.{Row};
-ghost use Rattle.path_rows.specs.Bounds.{IsThing, BoundsRow};
-ghost use Rattle.path_rows.specs.Text.{row_line};
+ghost use Rattle.design_problem.specs.declared.form.Row.{Row};
+ghost use Rattle.design_problem.specs.Bounds.{IsThing, BoundsRow};
+ghost use Rattle.design_problem.specs.Text.{row_line};
 ghost use Rattle.answer_lines.specs.Words.{words_left};
 
 use crate::words::Pieces;
 use area_graph::Path;
 use cost_base::{Listed, OutOfMemory};
-use path_rows::Row;
+use design_problem::Row;
 use std::alloc::Global;
 
 /// The row that a line says. Its rival starts at 0, since a text says no start.

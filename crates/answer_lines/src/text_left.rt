@@ -1,6 +1,6 @@
 //! What is left of an answer's text while it is read.
 ghost use Rattle.std.specs.Prelude.{◌≡◌, ◌≢◌, ℕ, ◌+◌, ◌-◌, ◌^◌, ◌<◌, ◌≤◌, List, [], MatchOption, IsTrue, true, false, length};
-ghost use Rattle.answer_lines.specs.Places.{IsFirst, LacksFirst};
+ghost use Rattle.answer_lines.specs.Places.{IsFirstInText, LacksFirst};
 
 use text_lines::cut;
 
@@ -33,7 +33,7 @@ impl<'a> TextLeft<'a> {
     /// The next line, which ends with an LF and has at most 65,536 bytes, and the text behind it.
     pub fn line(self) -> Option<(&'a [u8], TextLeft<'a>)>
         ensures { MatchOption result (LacksFirst self.entry.left.now)
-            (λ r. IsFirst self.entry.left.now r.0.now r.1.left.now × (r.1.read ≡ self.entry.read + 1)) }
+            (λ r. IsFirstInText self.entry.left.now r.0.now r.1.left.now × (r.1.read ≡ self.entry.read + 1)) }
     {
         let (line, left) = cut(self.left, b'\n')?;
         if line.len() > LONGEST {
@@ -50,8 +50,8 @@ impl<'a> TextLeft<'a> {
 
     /// The text behind this line, where it is the next.
     pub fn behind(self, wanted: &[u8]) -> Option<TextLeft<'a>>
-        ensures { MatchOption result ((left : List ℕ) → IsFirst self.entry.left.now wanted.now left → ⊥)
-            (λ r. IsFirst self.entry.left.now wanted.now r.left.now × (r.read ≡ self.entry.read + 1)) }
+        ensures { MatchOption result ((left : List ℕ) → IsFirstInText self.entry.left.now wanted.now left → ⊥)
+            (λ r. IsFirstInText self.entry.left.now wanted.now r.left.now × (r.read ≡ self.entry.read + 1)) }
     {
         let (line, rest) = self.line()?;
         if line == wanted { Some(rest) } else { None }

@@ -9,19 +9,19 @@ use Rattle.area_graph.specs.declared.Vertex.{Vertex}
 use Rattle.area_graph.specs.declared.Vertex.TheVariants.{Router, Subnet}
 use Rattle.area_graph.specs.declared.Price.{Price}
 use Rattle.area_graph.specs.declared.Price.TheVariants.{Fixed, Var, Zero}
-use Rattle.area_graph.specs.Area.{Area, edge_at, no_edge, vertex_at, is_router, FitsGraph, FitsEdge, FitsSource, IsMetric, HasMetrics}
+use Rattle.area_graph.specs.Area.{Area, edge_at, no_edge, vertex_at, is_vertex_of_router, FitsGraph, FitsEdge, FitsSource, IsMetric, HasMetrics}
 use Rattle.area_graph.specs.Paths.{Joins, visited}
 use Rattle.area_graph.specs.Costs.{price_at, cost, IsPriced, FitsPoint}
 use Rattle.area_graph.proofs.Deviations.{lacks_not}
 
 -- a list with one element that passes no more counts one less
-pub count_less : (vs : List Vertex) (i : ℕ) (v : Vertex) → i < length vs → is_router (get_or vs i (Router 0)) ≡ true →
-    is_router v ≡ false → count_by is_router (set vs i v) + 1 ≡ count_by is_router vs
+pub count_less : (vs : List Vertex) (i : ℕ) (v : Vertex) → i < length vs → is_vertex_of_router (get_or vs i (Router 0)) ≡ true →
+    is_vertex_of_router v ≡ false → count_by is_vertex_of_router (set vs i v) + 1 ≡ count_by is_vertex_of_router vs
 count_less vs i v within was now =
-    let step = sum_by-set (λ x. cond (is_router x) 1 0) vs i v (Router 0) within in
+    let step = sum_by-set (λ x. cond (is_vertex_of_router x) 1 0) vs i v (Router 0) within in
     let counted : Bool → ℕ = λ b. cond b 1 0 in
-    let one : counted (is_router (get_or vs i (Router 0))) ≡ counted true = ap counted was in
-    let nothing : counted (is_router v) ≡ counted false = ap counted now in
+    let one : counted (is_vertex_of_router (get_or vs i (Router 0))) ≡ counted true = ap counted was in
+    let nothing : counted (is_vertex_of_router v) ≡ counted false = ap counted now in
     omega (arith, step, one, nothing)
 
 -- no price is above the greatest interface cost
@@ -42,9 +42,9 @@ one_more price rest count most first later = omega arith
 -- the first edge of a path and the rest of it
 step-le : (g : Area) (p : Point) (vs : List Vertex) (s e : ℕ) (es : List ℕ) → FitsGraph g → HasMetrics g →
     FitsPoint g p → length vs ≡ length g.vertices → get_or vs s (Router 0) ≡ vertex_at g s → e < length g.edges →
-    (edge_at g e).from ≡ s → cost g p es ≤ count_by is_router vs * (65535 * p.scale) →
-    cost g p es ≤ count_by is_router (set vs s (Subnet 0)) * (65535 * p.scale) →
-    cost g p (e ∷ es) ≤ count_by is_router vs * (65535 * p.scale)
+    (edge_at g e).from ≡ s → cost g p es ≤ count_by is_vertex_of_router vs * (65535 * p.scale) →
+    cost g p es ≤ count_by is_vertex_of_router (set vs s (Subnet 0)) * (65535 * p.scale) →
+    cost g p (e ∷ es) ≤ count_by is_vertex_of_router vs * (65535 * p.scale)
 step-le g p vs s e es graph metrics fits same mark known from after_subnet after_router = by_source (vertex_at g s) refl
   where
     edge : FitsEdge g (edge_at g e)
@@ -56,24 +56,24 @@ step-le g p vs s e es graph metrics fits same mark known from after_subnet after
     longer : cost g p (e ∷ es) ≡ price_at p (edge_at g e).price + cost g p es
     longer = sum_by-cons (λ i. price_at p (edge_at g i).price) e es
 
-    by_source : (v : Vertex) → vertex_at g s ≡ v → cost g p (e ∷ es) ≤ count_by is_router vs * (65535 * p.scale)
+    by_source : (v : Vertex) → vertex_at g s ≡ v → cost g p (e ∷ es) ≤ count_by is_vertex_of_router vs * (65535 * p.scale)
     by_source (Router n) is =
         let first = price-le g p (edge_at g e).price fits (metrics e no_edge known) (fits.priced e no_edge known) in
-        let less = count_less vs s (Subnet 0) within (ap is_router (mark ∙ is)) refl in
-        let both = one_more (price_at p (edge_at g e).price) (cost g p es) (count_by is_router (set vs s (Subnet 0))) (65535 * p.scale) first after_router in
+        let less = count_less vs s (Subnet 0) within (ap is_vertex_of_router (mark ∙ is)) refl in
+        let both = one_more (price_at p (edge_at g e).price) (cost g p es) (count_by is_vertex_of_router (set vs s (Subnet 0))) (65535 * p.scale) first after_router in
         subst (λ (n : ℕ). cost g p (e ∷ es) ≤ n * (65535 * p.scale)) less
-        (subst (λ (c : ℕ). c ≤ (count_by is_router (set vs s (Subnet 0)) + 1) * (65535 * p.scale))
+        (subst (λ (c : ℕ). c ≤ (count_by is_vertex_of_router (set vs s (Subnet 0)) + 1) * (65535 * p.scale))
         (sym longer) both)
     by_source (Subnet n) is =
         let none = free_out p (edge_at g e).price n (subst (λ (v : Vertex). FitsSource v (edge_at g e).price) (ap (vertex_at g) from ∙ is) edge.price) in
         let whole : cost g p (e ∷ es) ≡ cost g p es = omega (arith, longer, none) in
-        subst (λ (c : ℕ). c ≤ count_by is_router vs * (65535 * p.scale)) (sym whole) after_subnet
+        subst (λ (c : ℕ). c ≤ count_by is_vertex_of_router vs * (65535 * p.scale)) (sym whole) after_subnet
 
 -- a path with no vertex twice costs at most the greatest interface cost for each router that it can leave
 pub cost-le_routers : (g : Area) (p : Point) (vs : List Vertex) (s : ℕ) (es : List ℕ) (t : ℕ) → FitsGraph g →
     HasMetrics g → FitsPoint g p → length vs ≡ length g.vertices → Joins g s es t → NoneTwice (visited g s es) →
     ((v : ℕ) → Has (visited g s es) v → get_or vs v (Router 0) ≡ vertex_at g v) →
-    cost g p es ≤ count_by is_router vs * (65535 * p.scale)
+    cost g p es ≤ count_by is_vertex_of_router vs * (65535 * p.scale)
 cost-le_routers g p vs s [] t graph metrics fits same joins once marks = omega arith
 cost-le_routers g p vs s (e ∷ es) t graph metrics fits same joins once marks =
     step-le g p vs s e es graph metrics fits same (marks s (inl refl)) joins.0 joins.1
@@ -90,5 +90,5 @@ thousand count scale total few above within = let most = mul-le-mul_right (65535
 pub cost_below : (g : Area) (p : Point) (s : ℕ) (es : List ℕ) (t : ℕ) → FitsGraph g → HasMetrics g → FitsPoint g p →
     Joins g s es t → NoneTwice (visited g s es) → cost g p es < 2 ^ 26 * p.scale
 cost_below g p s es t graph metrics fits joins once =
-    thousand (count_by is_router g.vertices) p.scale (cost g p es) graph.routers fits.scale
+    thousand (count_by is_vertex_of_router g.vertices) p.scale (cost g p es) graph.routers fits.scale
     (cost-le_routers g p g.vertices s es t graph metrics fits refl joins once (λ v has. refl))

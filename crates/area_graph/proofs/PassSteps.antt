@@ -11,17 +11,17 @@ use Rattle.area_graph.specs.Costs.{price_at}
 use Rattle.area_graph.specs.Distances.{far, WalkWithin, AreReached, through, SettledBelow, StaysBy, ShorterBy}
 
 -- what a pass has done after n edges: from `old` to `d`, whether a number was lowered
-pub record Passed (g : Area) (p : Point) (gone : List ℕ) (n : ℕ) (old d : List ℕ) (lowered : Bool) : Type 0 where
+pub record Passed (g : Area) (p : Point) (excluded : List ℕ) (n : ℕ) (old d : List ℕ) (lowered : Bool) : Type 0 where
   pub count : length d ≡ length old
   pub bounded : All (λ x. x ≤ far p) d
-  pub reached : (t limit : ℕ) → AreReached g p gone t limit old → AreReached g p gone t limit d
+  pub reached : (t limit : ℕ) → AreReached g p excluded t limit old → AreReached g p excluded t limit d
   pub lower : lowered ≡ true → sum d < sum old
   pub same : lowered ≡ false → sum d ≡ sum old
-  pub settled : lowered ≡ false → SettledBelow n g p gone d
+  pub settled : lowered ≡ false → SettledBelow n g p excluded d
 
 -- a pass begins
-pub passed_none : (g : Area) (p : Point) (gone : List ℕ) (d : List ℕ) → All (λ x. x ≤ far p) d → Passed g p gone 0 d d false
-passed_none g p gone d bounded = record {
+pub passed_none : (g : Area) (p : Point) (excluded : List ℕ) (d : List ℕ) → All (λ x. x ≤ far p) d → Passed g p excluded 0 d d false
+passed_none g p excluded d bounded = record {
   count = refl;
   bounded = bounded;
   reached = λ t limit are. are;
@@ -34,26 +34,26 @@ passed_none g p gone d bounded = record {
     clash h = cc
 
 -- an edge that is gone, or leads to no smaller number
-pub passed_stays : (g : Area) (p : Point) (gone : List ℕ) (n : ℕ) (old d new : List ℕ) (lowered : Bool) →
-    Passed g p gone n old d lowered → new ≡ d → (Lacks gone n → StaysBy p (edge_at g n) d new) →
-    Passed g p gone (n + 1) old new lowered
-passed_stays g p gone n old d new lowered passed same stays =
-    subst (λ (xs : List ℕ). Passed g p gone (n + 1) old xs lowered) (sym same)
+pub passed_stays : (g : Area) (p : Point) (excluded : List ℕ) (n : ℕ) (old d new : List ℕ) (lowered : Bool) →
+    Passed g p excluded n old d lowered → new ≡ d → (Lacks excluded n → StaysBy p (edge_at g n) d new) →
+    Passed g p excluded (n + 1) old new lowered
+passed_stays g p excluded n old d new lowered passed same stays =
+    subst (λ (xs : List ℕ). Passed g p excluded (n + 1) old xs lowered) (sym same)
     (record {
       count = passed.count;
       bounded = passed.bounded;
       reached = passed.reached;
       lower = passed.lower;
       same = passed.same;
-      settled = λ h. below_more (λ (e : ℕ). Lacks gone e → get_or d (edge_at g e).from 0 ≤ through p (edge_at g e) d) n
+      settled = λ h. below_more (λ (e : ℕ). Lacks excluded e → get_or d (edge_at g e).from 0 ≤ through p (edge_at g e) d) n
           (passed.settled h) (λ lacks. (stays lacks).least);
     })
 
 -- a walk from an edge's start, by the edge and then by a walk from its end
-walk_more : (g : Area) (p : Point) (gone : List ℕ) (n t : ℕ) (d : List ℕ) → n < length g.edges → Lacks gone n →
-    WalkWithin g p gone (edge_at g n).to t (get_or d (edge_at g n).to 0) →
-    WalkWithin g p gone (edge_at g n).from t (through p (edge_at g n) d)
-walk_more g p gone n t d known lacks walk =
+walk_more : (g : Area) (p : Point) (excluded : List ℕ) (n t : ℕ) (d : List ℕ) → n < length g.edges → Lacks excluded n →
+    WalkWithin g p excluded (edge_at g n).to t (get_or d (edge_at g n).to 0) →
+    WalkWithin g p excluded (edge_at g n).from t (through p (edge_at g n) d)
+walk_more g p excluded n t d known lacks walk =
     let longer = sum_by-cons (λ i. price_at p (edge_at g i).price) n walk.edges in
     record {
       edges = n ∷ walk.edges;
@@ -63,10 +63,10 @@ walk_more g p gone n t d known lacks walk =
     }
 
 -- a number that is lowered to what a walk costs
-pub reached_by_walk : (g : Area) (p : Point) (gone : List ℕ) (t limit v x : ℕ) (d : List ℕ) → v < length d →
-    x < get_or d v 0 → (x < limit → WalkWithin g p gone v t x) → AreReached g p gone t limit d →
-    AreReached g p gone t limit (set d v x)
-reached_by_walk g p gone t limit v x d within less walk are = record {
+pub reached_by_walk : (g : Area) (p : Point) (excluded : List ℕ) (t limit v x : ℕ) (d : List ℕ) → v < length d →
+    x < get_or d v 0 → (x < limit → WalkWithin g p excluded v t x) → AreReached g p excluded t limit d →
+    AreReached g p excluded t limit (set d v x)
+reached_by_walk g p excluded t limit v x d within less walk are = record {
   target = elim (ℕ_discrete t v) [
     | yes same ↦ let nothing = ap (λ (i : ℕ). get_or d i 0) same in let target = are.target in absurd (omega arith)
     | no other ↦ get_or-set_other d v t x 0 other ∙ are.target
@@ -74,23 +74,23 @@ reached_by_walk g p gone t limit v x d within less walk are = record {
   reached = λ u inside near. elim (ℕ_discrete u v) [
     | yes same ↦
         let value : get_or (set d v x) u 0 ≡ x = ap (λ (i : ℕ). get_or (set d v x) i 0) same ∙ get_or-set_same d v x 0 within in
-        subst (λ (y : ℕ). WalkWithin g p gone u t y) (sym value)
-        (subst (λ (i : ℕ). WalkWithin g p gone i t x) (sym same) (walk (subst (λ (y : ℕ). y < limit) value near)))
+        subst (λ (y : ℕ). WalkWithin g p excluded u t y) (sym value)
+        (subst (λ (i : ℕ). WalkWithin g p excluded i t x) (sym same) (walk (subst (λ (y : ℕ). y < limit) value near)))
     | no other ↦
         let value : get_or (set d v x) u 0 ≡ get_or d u 0 = get_or-set_other d v u x 0 other in
-        subst (λ (y : ℕ). WalkWithin g p gone u t y) (sym value)
+        subst (λ (y : ℕ). WalkWithin g p excluded u t y) (sym value)
         (are.reached u (subst (λ (n : ℕ). u < n) (length-set d v x) inside)
         (subst (λ (y : ℕ). y < limit) value near))
   ];
 }
 
 -- the numbers after one was lowered are still what walks cost at most
-reached_lower : (g : Area) (p : Point) (gone : List ℕ) (n t limit : ℕ) (d : List ℕ) → FitsEdge g (edge_at g n) →
-    length d ≡ length g.vertices → n < length g.edges → Lacks gone n →
-    through p (edge_at g n) d < get_or d (edge_at g n).from 0 → AreReached g p gone t limit d →
-    AreReached g p gone t limit (set d (edge_at g n).from (through p (edge_at g n) d))
-reached_lower g p gone n t limit d edge count known lacks less are =
-    reached_by_walk g p gone t limit (edge_at g n).from (through p (edge_at g n) d) d from_within less walk are
+reached_lower : (g : Area) (p : Point) (excluded : List ℕ) (n t limit : ℕ) (d : List ℕ) → FitsEdge g (edge_at g n) →
+    length d ≡ length g.vertices → n < length g.edges → Lacks excluded n →
+    through p (edge_at g n) d < get_or d (edge_at g n).from 0 → AreReached g p excluded t limit d →
+    AreReached g p excluded t limit (set d (edge_at g n).from (through p (edge_at g n) d))
+reached_lower g p excluded n t limit d edge count known lacks less are =
+    reached_by_walk g p excluded t limit (edge_at g n).from (through p (edge_at g n) d) d from_within less walk are
   where
     from_within : (edge_at g n).from < length d
     from_within = omega (arith, edge.from, count)
@@ -98,19 +98,19 @@ reached_lower g p gone n t limit d edge count known lacks less are =
     to_within : (edge_at g n).to < length d
     to_within = omega (arith, edge.to, count)
 
-    walk : through p (edge_at g n) d < limit → WalkWithin g p gone (edge_at g n).from t (through p (edge_at g n) d)
-    walk near = walk_more g p gone n t d known lacks (are.reached (edge_at g n).to to_within (omega arith))
+    walk : through p (edge_at g n) d < limit → WalkWithin g p excluded (edge_at g n).from t (through p (edge_at g n) d)
+    walk near = walk_more g p excluded n t d known lacks (are.reached (edge_at g n).to to_within (omega arith))
 
 -- an edge that led to a smaller number
-pub passed_lower : (g : Area) (p : Point) (gone : List ℕ) (n : ℕ) (old d new : List ℕ) (lowered : Bool) → FitsGraph g →
-    length old ≡ length g.vertices → Passed g p gone n old d lowered → n < length g.edges → Lacks gone n →
-    ShorterBy p (edge_at g n) d new → Passed g p gone (n + 1) old new true
-passed_lower g p gone n old d new lowered graph count passed known lacks shorter =
-    subst (λ (xs : List ℕ). Passed g p gone (n + 1) old xs true) (sym shorter.set)
+pub passed_lower : (g : Area) (p : Point) (excluded : List ℕ) (n : ℕ) (old d new : List ℕ) (lowered : Bool) → FitsGraph g →
+    length old ≡ length g.vertices → Passed g p excluded n old d lowered → n < length g.edges → Lacks excluded n →
+    ShorterBy p (edge_at g n) d new → Passed g p excluded (n + 1) old new true
+passed_lower g p excluded n old d new lowered graph count passed known lacks shorter =
+    subst (λ (xs : List ℕ). Passed g p excluded (n + 1) old xs true) (sym shorter.set)
     (record {
       count = size ∙ passed.count;
       bounded = All-set (λ x. x ≤ far p) d (edge_at g n).from (through p (edge_at g n) d) (omega (arith, most, shorter.less)) passed.bounded;
-      reached = λ t limit are. reached_lower g p gone n t limit d edge (passed.count ∙ count) known lacks shorter.less (passed.reached t limit are);
+      reached = λ t limit are. reached_lower g p excluded n t limit d edge (passed.count ∙ count) known lacks shorter.less (passed.reached t limit are);
       lower = λ h. falls;
       same = λ h. absurd (clash h);
       settled = λ h. absurd (clash h);
@@ -142,8 +142,8 @@ passed_lower g p gone n old d new lowered graph count passed known lacks shorter
         omega (arith, step, before, shorter.less)
 
 -- at the start only the target's number is below the limit
-pub reached_none : (g : Area) (p : Point) (gone : List ℕ) (t limit n : ℕ) → t < n → AreReached g p gone t limit (set (replicate n limit) t 0)
-reached_none g p gone t limit n within = record {
+pub reached_none : (g : Area) (p : Point) (excluded : List ℕ) (t limit n : ℕ) → t < n → AreReached g p excluded t limit (set (replicate n limit) t 0)
+reached_none g p excluded t limit n within = record {
   target = get_or-set_same (replicate n limit) t 0 0 (let size = length-replicate n limit in omega (arith, size, within));
   reached = λ v inside near. elim (ℕ_discrete v t) [
     | yes same ↦ let value : get_or (set (replicate n limit) t 0) v 0 ≡ 0 =

@@ -7,7 +7,7 @@ use Rattle.cost_base.proofs.ListLemmas.{numbers_from-push, length-numbers_from, 
 use Rattle.area_graph.specs.declared.Vertex.{Vertex}
 use Rattle.area_graph.specs.declared.Vertex.TheVariants.{Router, Subnet}
 use Rattle.area_graph.specs.declared.Edge.{Edge}
-use Rattle.area_graph.specs.Area.{is_router, vertices_of, FitsSource, FitsTarget}
+use Rattle.area_graph.specs.Area.{is_vertex_of_router, vertices_of, FitsSource, FitsTarget}
 
 -- what a function gives of the numbers below the next one
 pub map-numbers_from-push : {X : Type 0} (f : ℕ → X) (n : ℕ) → map f (numbers_from 0 (n + 1)) ≡ map f (numbers_from 0 n) ++ f n ∷ []
@@ -34,19 +34,19 @@ subnet_vertex r s n below =
     ∙ get_or-map Subnet (numbers_from 0 s) n 0 (Router 0) (omega (arith, length-numbers_from 0 s))
     ∙ ap Subnet (get_or-numbers_from 0 s n 0 below ∙ zero-add n)
 
-no_router : (a n : ℕ) → count_by is_router (map Subnet (numbers_from a n)) ≡ 0
+no_router : (a n : ℕ) → count_by is_vertex_of_router (map Subnet (numbers_from a n)) ≡ 0
 no_router a zero = refl
-no_router a (suc n) = omega (arith, sum_by-cons (λ v. cond (is_router v) 1 0) (Subnet a) (map Subnet (numbers_from (a + 1) n)), no_router (a + 1) n)
+no_router a (suc n) = omega (arith, sum_by-cons (λ v. cond (is_vertex_of_router v) 1 0) (Subnet a) (map Subnet (numbers_from (a + 1) n)), no_router (a + 1) n)
 
 -- at most so many router vertices as routers
-pub routers_count : (r s : ℕ) → count_by is_router (vertices_of r s) ≤ r
+pub routers_count : (r s : ℕ) → count_by is_vertex_of_router (vertices_of r s) ≤ r
 routers_count r s =
     omega (
       arith,
-      sum_by-append (λ v. cond (is_router v) 1 0) (map Router (numbers_from 0 r))
+      sum_by-append (λ v. cond (is_vertex_of_router v) 1 0) (map Router (numbers_from 0 r))
           (map Subnet (numbers_from 0 s)),
       no_router 0 s,
-      count_by-le-length is_router (map Router (numbers_from 0 r)),
+      count_by-le-length is_vertex_of_router (map Router (numbers_from 0 r)),
       length-map (numbers_from 0 r) Router,
       length-numbers_from 0 r,
     )

@@ -7,10 +7,10 @@ use Rattle.area_graph.specs.declared.adjacency.Side.TheVariants.{Out, Into}
 use Rattle.area_graph.specs.Area.{Area, edge_at}
 
 -- the end of an edge at which it is listed
-abbrev pub end_on : Side → Edge → ℕ
-end_on Out edge = edge.from
-end_on Into edge = edge.to
+abbrev pub edge_end_on : Side → Edge → ℕ
+edge_end_on Out edge = edge.from
+edge_end_on Into edge = edge.to
 
--- those of the first n edges that are listed at a vertex
+-- of the first n edges those that are listed at a vertex
 abbrev pub listed_below : ℕ → Side → Area → ℕ → List ℕ
-listed_below n side g v = filter (λ e. end_on side (edge_at g e) == v) (numbers_from 0 n)
+listed_below n side g v = filter (λ e. edge_end_on side (edge_at g e) == v) (numbers_from 0 n)

@@ -8,24 +8,24 @@ use Rattle.area_graph.specs.Paths.{Joins, Avoids}
 use Rattle.area_graph.specs.Costs.{price_at, cost}
 
 -- which edges are gone, as a mark for each edge
-abbrev pub AreMarks : List ℕ → List Bool → Type 0
-AreMarks gone marks = (e : ℕ) → e < length marks → (slice_index_or marks e true ≡ false) ↔ Lacks gone e
+abbrev pub AreEdgeMarks : List ℕ → List Bool → Type 0
+AreEdgeMarks excluded marks = (e : ℕ) → e < length marks → (slice_index_or marks e true ≡ false) ↔ Lacks excluded e
 
 -- more than a simple path can cost
 abbrev pub far : Point → ℕ
 far p = 2 ^ 26 * p.scale
 
 -- a walk from v to t with no edge that is gone, that costs at most so much
-pub record WalkWithin (g : Area) (p : Point) (gone : List ℕ) (v t most : ℕ) : Type 0 where
+pub record WalkWithin (g : Area) (p : Point) (excluded : List ℕ) (v t most : ℕ) : Type 0 where
   pub edges : List ℕ
   pub joins : Joins g v edges t
-  pub kept : Avoids gone edges
+  pub kept : Avoids excluded edges
   pub within : cost g p edges ≤ most
 
 -- some walk to t costs no more than each number below a limit
-pub record AreReached (g : Area) (p : Point) (gone : List ℕ) (t limit : ℕ) (d : List ℕ) : Type 0 where
+pub record AreReached (g : Area) (p : Point) (excluded : List ℕ) (t limit : ℕ) (d : List ℕ) : Type 0 where
   pub target : slice_index d t ≡ 0
-  pub reached : (v : ℕ) → v < length d → slice_index d v < limit → WalkWithin g p gone v t (slice_index d v)
+  pub reached : (v : ℕ) → v < length d → slice_index d v < limit → WalkWithin g p excluded v t (slice_index d v)
 
 -- what a vertex would get by an edge
 abbrev pub through : Point → Edge → List ℕ → ℕ
@@ -33,7 +33,7 @@ through p edge d = price_at p edge.price + slice_index d edge.to
 
 -- none of the first n edges that aren't gone leads to a smaller number
 abbrev pub SettledBelow : ℕ → Area → Point → List ℕ → List ℕ → Type 0
-SettledBelow n g p gone d = (e : ℕ) → e < n → Lacks gone e → slice_index d (edge_at g e).from ≤ through p (edge_at g e) d
+SettledBelow n g p excluded d = (e : ℕ) → e < n → Lacks excluded e → slice_index d (edge_at g e).from ≤ through p (edge_at g e) d
 
 -- nothing was changed, since the edge leads to no smaller number
 pub record StaysBy (p : Point) (edge : Edge) (old new : List ℕ) : Type 0 where
@@ -46,10 +46,10 @@ pub record ShorterBy (p : Point) (edge : Edge) (old new : List ℕ) : Type 0 whe
   pub less : through p edge old < slice_index old edge.from
 
 -- an edge is gone, is the named one, or leads to more than so much
-abbrev pub IsDearer : Area → Point → List ℕ → List ℕ → ℕ → ℕ → ℕ → Type 0
-IsDearer g p gone d number most e = Lacks gone e → e ≢ number → most < through p (edge_at g e) d
+abbrev pub LeadsToMore : Area → Point → List ℕ → List ℕ → ℕ → ℕ → ℕ → Type 0
+LeadsToMore g p excluded d number most e = Lacks excluded e → e ≢ number → most < through p (edge_at g e) d
 
 -- at each vertex of the path every other edge that isn't gone leads to more than what the path costs from there
-abbrev pub Leads : Area → Point → List ℕ → List ℕ → List ℕ → Type 0
-Leads g p gone d [] = Unit {0}
-Leads g p gone d (e ∷ es) = All (IsDearer g p gone d e (cost g p (e ∷ es))) (edges_out g (edge_at g e).from) × Leads g p gone d es
+abbrev pub OtherEdgesLeadToMore : Area → Point → List ℕ → List ℕ → List ℕ → Type 0
+OtherEdgesLeadToMore g p excluded d [] = Unit {0}
+OtherEdgesLeadToMore g p excluded d (e ∷ es) = All (LeadsToMore g p excluded d e (cost g p (e ∷ es))) (edges_out g (edge_at g e).from) × OtherEdgesLeadToMore g p excluded d es

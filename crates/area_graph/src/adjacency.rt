@@ -2,7 +2,7 @@
 
 ghost use Rattle.std.specs.Prelude.{◌≡◌, ℕ, ◌<◌, ◌≤◌, ◌^◌, ◌++◌, List, [], ◌∷◌, All, IfOk, OnErr, OnOk, length, replicate, slice_index_or, vec_len};
 ghost use Rattle.area_graph.specs.Area.{FitsGraph, HasMetrics, IsMetric, edges_out, edges_in, vertices_of};
-ghost use Rattle.area_graph.specs.Adjacency.{end_on, listed_below};
+ghost use Rattle.area_graph.specs.Adjacency.{edge_end_on, listed_below};
 
 use crate::{Edge, Graph, Price, Vertex};
 use cost_base::{Listed, OutOfMemory};
@@ -34,7 +34,7 @@ enum Side {
 }
 
 fn end_of(edge: Edge, side: Side) -> u32
-    ensures { result ≡ end_on side edge }
+    ensures { result ≡ edge_end_on side edge }
 {
     match side {
         Side::Out => edge.from,
@@ -58,7 +58,7 @@ fn edges_on(
     edges: &[Edge],
     side: Side,
 ) -> Result<Vec<Listed<u32>>, OutOfMemory>
-    requires ends { All (λ edge. end_on side edge < length vertices.now) edges.now }
+    requires ends { All (λ edge. edge_end_on side edge < length vertices.now) edges.now }
     requires few { length edges.now < 2 ^ 32 }
     ensures count { IfOk result (λ lists. length lists.items ≡ length vertices.now) }
     ensures lists { IfOk result (λ lists. (v : ℕ) → v < length vertices.now →

@@ -1,7 +1,7 @@
 //! The conditions on a graph and on a point.
 
 ghost use Rattle.std.specs.Prelude.{◌≡◌, ◌↔◌, ◌≤◌, ◌*◌, ℕ, All, IsTrue, count_by, length};
-ghost use Rattle.area_graph.specs.Area.{FitsEdge, FitsGraph, FitsSource, FitsTarget, is_router};
+ghost use Rattle.area_graph.specs.Area.{FitsEdge, FitsGraph, FitsSource, FitsTarget, is_vertex_of_router};
 ghost use Rattle.area_graph.specs.Costs.{FitsPoint, IsPriced};
 
 use crate::{Edge, Graph, Point, Price, Vertex};
@@ -42,7 +42,7 @@ fn edges_fit(vertices: &[Vertex], edges: &[Edge]) -> bool
 }
 
 fn count_routers(vertices: &[Vertex]) -> usize
-    ensures { result ≡ count_by is_router vertices.now }
+    ensures { result ≡ count_by is_vertex_of_router vertices.now }
 {
     vertices
         .iter()
@@ -51,7 +51,7 @@ fn count_routers(vertices: &[Vertex]) -> usize
 }
 
 fn is_router_vertex(vertex: Vertex) -> bool
-    ensures { result ≡ is_router vertex }
+    ensures { result ≡ is_vertex_of_router vertex }
 {
     match vertex {
         Vertex::Router(_) => true,

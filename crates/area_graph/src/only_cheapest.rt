@@ -5,12 +5,12 @@ ghost use Rattle.std.specs.Prelude.{◌≡◌, ◌↔◌, ◌++◌, ◌∷◌, [
 ghost use Rattle.area_graph.specs.Area.{edge_at, edges_out};
 ghost use Rattle.area_graph.specs.Costs.{FitsPoint, IsOnlyCheapest, cost};
 ghost use Rattle.area_graph.specs.Paths.{IsPathOf, IsSimple};
-ghost use Rattle.area_graph.specs.Distances.{AreMarks, AreReached, IsDearer, Leads, SettledBelow, far, through};
+ghost use Rattle.area_graph.specs.Distances.{AreEdgeMarks, AreReached, LeadsToMore, OtherEdgesLeadToMore, SettledBelow, far, through};
 
 use crate::costs::{path_cost, price_of};
 use crate::passes::put_distances;
 use crate::paths::edge_of;
-use crate::removal::{Removal, mark_gone};
+use crate::removal::{Removal, mark_excluded};
 use crate::{Graph, Path, Point};
 use cost_base::OutOfMemory;
 use std::alloc::Global;
@@ -59,7 +59,7 @@ fn is_dearer(
     requires known { other < length graph.now.edges }
     requires count { length distances.now ≡ length graph.now.vertices }
     requires bounded { All (λ x. x ≤ far point.now) distances.now }
-    ensures { IsTrue result ↔ IsDearer graph.now point.now removal.now distances.now named most other }
+    ensures { IsTrue result ↔ LeadsToMore graph.now point.now removal.now distances.now named most other }
 {
     graph.keeps_conditions();
     if other == named || !removal.leaves(other) {
@@ -83,7 +83,7 @@ fn others_are_dearer(
     requires count { length distances.now ≡ length graph.now.vertices }
     requires bounded { All (λ x. x ≤ far point.now) distances.now }
     ensures { IsTrue result ↔
-        All (IsDearer graph.now point.now removal.now distances.now named most) (edges_out graph.now (edge_at graph.now named).from) }
+        All (LeadsToMore graph.now point.now removal.now distances.now named most) (edges_out graph.now (edge_at graph.now named).from) }
 {
     graph.keeps_conditions();
     for other in graph.edges_out(edge_of(graph, named).from) {
@@ -101,7 +101,7 @@ fn leads(graph: &Graph, point: &Point, path: &Path, removal: &Removal, distances
     requires simple { (end : ℕ) × IsSimple graph.now path.now.start path.now.edges end }
     requires count { length distances.now ≡ length graph.now.vertices }
     requires bounded { All (λ x. x ≤ far point.now) distances.now }
-    ensures leads { IsTrue result ↔ Leads graph.now point.now removal.now distances.now path.now.edges }
+    ensures leads { IsTrue result ↔ OtherEdgesLeadToMore graph.now point.now removal.now distances.now path.now.edges }
     ensures below { cost graph.now point.now path.now.edges < far point.now }
 {
     let mut rest = path_cost(graph, path, point);
@@ -128,18 +128,18 @@ pub fn is_only_cheapest(
     point: &Point,
     path: &Path,
     end: u32,
-    gone: &[u32],
+    excluded: &[u32],
 ) -> Result<bool, OutOfMemory>
     requires fits { FitsPoint graph.now point.now }
-    requires path { IsPathOf graph.now (record { start = path.now.start; end = end; gone = gone.now }) path.now.edges }
+    requires path { IsPathOf graph.now (record { start = path.now.start; end = end; excluded = excluded.now }) path.now.edges }
     ensures { IfOk result (λ yes. IsTrue yes ↔
-        IsOnlyCheapest graph.now point.now (record { start = path.now.start; end = end; gone = gone.now }) path.now.edges) }
+        IsOnlyCheapest graph.now point.now (record { start = path.now.start; end = end; excluded = excluded.now }) path.now.edges) }
 {
     graph.keeps_conditions();
     let mut marks = vec![in alloc; false; graph.edges().len()]?;
-    mark_gone(&mut marks, gone);
+    mark_excluded(&mut marks, excluded);
     let removal = Removal {
-        gone,
+        excluded,
         marks: marks.as_slice(),
     };
     let distances = distances_to(alloc, graph, point, &removal, end)?;

@@ -38,11 +38,11 @@ pub fn is_simple(graph: &Graph, path: &Path, end: u32) -> bool
 }
 
 /// Whether none of the edges is among those that are gone. Takes no memory.
-pub fn avoids(gone: &[u32], edges: &[u32]) -> bool
-    ensures { IsTrue result ↔ Avoids gone.now edges.now }
+pub fn avoids(excluded: &[u32], edges: &[u32]) -> bool
+    ensures { IsTrue result ↔ Avoids excluded.now edges.now }
 {
     for edge in edges {
-        if !lacks(gone, *edge) {
+        if !lacks(excluded, *edge) {
             return false;
         }
     }
@@ -50,10 +50,10 @@ pub fn avoids(gone: &[u32], edges: &[u32]) -> bool
 }
 
 /// Whether a path is a simple path to `end` with no edge that is gone. Takes no memory.
-pub fn is_path_of(graph: &Graph, path: &Path, end: u32, gone: &[u32]) -> bool
-    ensures { IsTrue result ↔ IsPathOf graph.now (record { start = path.now.start; end = end; gone = gone.now }) path.now.edges }
+pub fn is_path_of(graph: &Graph, path: &Path, end: u32, excluded: &[u32]) -> bool
+    ensures { IsTrue result ↔ IsPathOf graph.now (record { start = path.now.start; end = end; excluded = excluded.now }) path.now.edges }
 {
-    is_simple(graph, path, end) && avoids(gone, path.edges.as_slice())
+    is_simple(graph, path, end) && avoids(excluded, path.edges.as_slice())
 }
 
 fn joins(graph: &Graph, start: u32, edges: &[u32], end: u32) -> bool
@@ -98,10 +98,10 @@ fn misses(graph: &Graph, start: u32, edges: &[u32], vertex: u32) -> bool
 }
 
 /// Whether an edge isn't among those that are gone.
-pub(crate) fn lacks(gone: &[u32], edge: u32) -> bool
-    ensures { IsTrue result ↔ Lacks gone.now edge }
+pub(crate) fn lacks(excluded: &[u32], edge: u32) -> bool
+    ensures { IsTrue result ↔ Lacks excluded.now edge }
 {
-    for other in gone {
+    for other in excluded {
         if edge == *other {
             return false;
         }

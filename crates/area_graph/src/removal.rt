@@ -2,17 +2,17 @@
 
 ghost use Rattle.std.specs.Prelude.{◌≡◌, ◌↔◌, ◌++◌, ◌∷◌, [], ℕ, IsTrue, List, length};
 ghost use Rattle.cost_base.specs.Lists.{Lacks};
-ghost use Rattle.area_graph.specs.Distances.{AreMarks};
+ghost use Rattle.area_graph.specs.Distances.{AreEdgeMarks};
 
 use crate::paths::lacks;
 use std::marker::Model;
 
 /// The edges that a request takes away, with a mark for each edge of the graph that tells at once whether it is one of
-/// them (`mark_gone` sets the marks). Contracts see the list of their numbers.
+/// them (`mark_excluded` sets the marks). Contracts see the list of their numbers.
 #[derive(Drop)]
 pub struct Removal<'a> {
     /// The numbers of the edges that are taken away.
-    pub gone: &'a [u32],
+    pub excluded: &'a [u32],
     /// For each edge of the graph, whether it is one of them.
     pub marks: &'a [bool],
 }
@@ -22,11 +22,11 @@ impl<'a> Model for Removal<'a> {
 
     ghost Value = { List ℕ };
 
-    ghost use Rattle.area_graph.specs.Distances.{AreMarks};
+    ghost use Rattle.area_graph.specs.Distances.{AreEdgeMarks};
 
-    ghost view = { λ r. r.gone.now };
+    ghost view = { λ r. r.excluded.now };
 
-    ghost invariant = { λ r. AreMarks r.gone.now r.marks.now };
+    ghost invariant = { λ r. AreEdgeMarks r.excluded.now r.marks.now };
 }
 
 impl<'a> Removal<'a> {
@@ -37,25 +37,25 @@ impl<'a> Removal<'a> {
         if (edge as usize) < self.marks.len() {
             !self.marks[edge as usize]
         } else {
-            lacks(self.gone, edge)
+            lacks(self.excluded, edge)
         }
     }
 }
 
 /// Marks the edges that are gone, and no other. Takes no memory.
-pub fn mark_gone(marks: &mut Vec<bool>, gone: &[u32])
-    ensures marks { AreMarks gone.now marks.new.items }
+pub fn mark_excluded(marks: &mut Vec<bool>, excluded: &[u32])
+    ensures marks { AreEdgeMarks excluded.now marks.new.items }
     ensures count { length marks.new.items ≡ length marks.old.items }
 {
     marks.fill(false);
-    for edge in gone {
+    for edge in excluded {
         mark(marks, *edge);
     }
 }
 
 /// Sets the mark of one edge more, if it is an edge of the graph.
 fn mark(marks: &mut Vec<bool>, edge: u32)
-    ensures marks { (gone : List ℕ) → AreMarks gone marks.old.items → AreMarks (gone ++ edge ∷ []) marks.new.items }
+    ensures marks { (excluded : List ℕ) → AreEdgeMarks excluded marks.old.items → AreEdgeMarks (excluded ++ edge ∷ []) marks.new.items }
     ensures count { length marks.new.items ≡ length marks.old.items }
 {
     if (edge as usize) < marks.len() {

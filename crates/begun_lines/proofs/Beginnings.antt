@@ -1,7 +1,7 @@
 -- Bytes that lines begin with.
 use Rattle.std.proofs.Common.{◌≡◌, ◌≢◌, ℕ, ◌≤◌, ◌⊎◌, ◌↔◌, IsTrue, MatchOption, Option, Some, None, is_some, List, [], ◌∷◌, ◌++◌, refl, sym, ap, ◌∙◌, arith, inl, inr, append_assoc, append-nil}
 use Rattle.cost_base.specs.Decimal.{decimal}
-use Rattle.begun_lines.specs.Begun.{IsFront, BeginsNumber}
+use Rattle.begun_lines.specs.Begun.{IsLineFront, BeginsNumber}
 use Rattle.begun_lines.proofs.BegunNumbers.{cut-decimal}
 
 -- bytes go on into what stands behind a front
@@ -12,7 +12,7 @@ pub record GoesInto (rest more front tail : List ℕ) : Type 0 where
   pub left : cut ++ more ≡ tail
 
 -- bytes that a line of two parts begins with end in the first part, or go on into the second
-pub two_parts : (rest more front tail : List ℕ) → rest ++ more ≡ front ++ tail → IsFront rest front ⊎ GoesInto rest more front tail
+pub two_parts : (rest more front tail : List ℕ) → rest ++ more ≡ front ++ tail → IsLineFront rest front ⊎ GoesInto rest more front tail
 two_parts [] more front tail e = inl (front, refl)
 two_parts (x ∷ xs) more [] tail e = inr (record { cut = x ∷ xs; some = λ none. cc; is = refl; left = e })
 two_parts (x ∷ xs) more (y ∷ ys) tail e =
@@ -23,16 +23,16 @@ two_parts (x ∷ xs) more (y ∷ ys) tail e =
     ]
 
 -- a longer line has the same fronts
-pub front-longer : (rest line tail : List ℕ) → IsFront rest line → IsFront rest (line ++ tail)
+pub front-longer : (rest line tail : List ℕ) → IsLineFront rest line → IsLineFront rest (line ++ tail)
 front-longer rest line tail front = (front.0 ++ tail, sym (append_assoc rest front.0 tail) ∙ ap (λ bytes. bytes ++ tail) front.1)
 
 -- a line begins with itself
-pub front-whole : (rest line : List ℕ) → rest ≡ line → IsFront rest line
+pub front-whole : (rest line : List ℕ) → rest ≡ line → IsLineFront rest line
 front-whole rest line e = ([], append-nil rest ∙ e)
 
 -- a line that ends in a number is begun before its number, or with a number that isn't greater
-pub front-number : (rest front : List ℕ) (greatest n : ℕ) → n ≤ greatest → IsFront rest (front ++ decimal n) →
-    IsFront rest front ⊎ ((m : ℕ) × (m ≤ greatest) × (rest ≡ front ++ decimal m))
+pub front-number : (rest front : List ℕ) (greatest n : ℕ) → n ≤ greatest → IsLineFront rest (front ++ decimal n) →
+    IsLineFront rest front ⊎ ((m : ℕ) × (m ≤ greatest) × (rest ≡ front ++ decimal m))
 front-number rest front greatest n small begun =
     elim (two_parts rest begun.0 front (decimal n) begun.1) [
       | inl before ↦ inl before
@@ -42,7 +42,7 @@ front-number rest front greatest n small begun =
     ]
 
 -- where the front isn't begun, the number behind it tells
-pub number-tested : (rest front : List ℕ) (greatest : ℕ) (found : Option ℕ) → (IsFront rest front → ⊥) →
+pub number-tested : (rest front : List ℕ) (greatest : ℕ) (found : Option ℕ) → (IsLineFront rest front → ⊥) →
     MatchOption found ((n : ℕ) → n ≤ greatest → rest ≢ front ++ decimal n)
     (λ n. (n ≤ greatest) × (rest ≡ front ++ decimal n)) → IsTrue (is_some found) ↔ BeginsNumber rest front greatest
 number-tested rest front greatest None unbegun h = (

@@ -5,8 +5,8 @@ use Rattle.cost_base.specs.Decimal.{decimal}
 use Rattle.text_lines.specs.Reads.{begins_as_printed}
 use Rattle.text_lines.proofs.Printed.{decimal-same, decimal-begins}
 use Rattle.answer_lines.specs.Grammar.{AtCost, AtExit}
-use Rattle.answer_lines.specs.Places.{Begins}
-use Rattle.begun_lines.specs.Begun.{IsFront, BeginsNumber}
+use Rattle.answer_lines.specs.Places.{BeginsLawful}
+use Rattle.begun_lines.specs.Begun.{IsLineFront, BeginsNumber}
 use Rattle.begun_lines.proofs.Beginnings.{two_parts, front-longer}
 use Rattle.begun_lines.proofs.BegunPlaces.{begins-from, short_number}
 use Rattle.answer_lines.proofs.ListParts.{not-both}
@@ -26,8 +26,8 @@ zero_led n [] e = decimal-same n 0 (sym e)
 zero_led n (d ∷ ds) e = absurd (not-both (begins_as_printed (decimal n)) (decimal-begins n) (ap begins_as_printed (sym e)))
 
 -- a number that begins with these bytes can be one from 1
-from_one : (rest : List ℕ) (n : ℕ) → n ≤ 65535 → IsFront rest (cost_front ++ decimal n) →
-    rest ≢ codes " ip ospf cost 0" → (m : ℕ) × (0 < m) × (m ≤ 65535) × IsFront rest (cost_front ++ decimal m)
+from_one : (rest : List ℕ) (n : ℕ) → n ≤ 65535 → IsLineFront rest (cost_front ++ decimal n) →
+    rest ≢ codes " ip ospf cost 0" → (m : ℕ) × (0 < m) × (m ≤ 65535) × IsLineFront rest (cost_front ++ decimal m)
 from_one rest (suc n) small begun other = (suc n, omega arith, small, begun)
 from_one rest zero small begun other =
     elim (two_parts rest begun.0 cost_front (48 ∷ []) begun.1) [
@@ -35,10 +35,10 @@ from_one rest zero small begun other =
       | inr into ↦ absurd (other (into.is ∙ ap (λ bytes. cost_front ++ bytes) (alone into.cut begun.0 48 into.some into.left)))
     ]
 
-pub cost-begun : (rest router : List ℕ) → (BeginsNumber rest (codes " ip ospf cost ") 65535 × (rest ≢ codes " ip ospf cost 0")) ↔ Begins (AtCost router) rest
+pub cost-begun : (rest router : List ℕ) → (BeginsNumber rest (codes " ip ospf cost ") 65535 × (rest ≢ codes " ip ospf cost 0")) ↔ BeginsLawful (AtCost router) rest
 cost-begun rest router = (
   λ begun.
-      let found : (m : ℕ) × (0 < m) × (m ≤ 65535) × IsFront rest (cost_front ++ decimal m) = from_one rest begun.0.0 begun.0.1 begun.0.2 begun.1 in
+      let found : (m : ℕ) × (0 < m) × (m ≤ 65535) × IsLineFront rest (cost_front ++ decimal m) = from_one rest begun.0.0 begun.0.1 begun.0.2 begun.1 in
       begins-from (AtCost router) (AtExit router) rest (cost_front ++ decimal found.0)
       (record { cost = found.0; some = found.1; bounds = omega (arith, found.2); is = refl; leads = refl })
       (omega (arith, short_number cost_front found.0 (omega arith) (omega (arith, found.2)))) found.3,

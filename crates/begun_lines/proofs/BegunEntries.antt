@@ -4,13 +4,13 @@ use Rattle.std.specs.Prelude.{◌⊎◌}
 use Rattle.std.proofs.lemmas.List.Elements.{All-nil, All-cons, All-head, All-tail}
 use Rattle.cost_base.specs.Decimal.{decimal}
 use Rattle.text_lines.proofs.Printed.{decimal-same}
-use Rattle.path_rows.specs.declared.tree.Member.{Member}
-use Rattle.path_rows.specs.declared.tree.Member.TheVariants.{Low, High, Row}
-use Rattle.path_rows.specs.Bounds.{BoundsMember}
-use Rattle.path_rows.specs.Text.{spaced, member_words, members_words, part_words}
+use Rattle.design_problem.specs.declared.tree.Member.{Member}
+use Rattle.design_problem.specs.declared.tree.Member.TheVariants.{Low, High, Row}
+use Rattle.design_problem.specs.Bounds.{BoundsMember}
+use Rattle.design_problem.specs.Text.{spaced, member_words, members_words, part_words}
 use Rattle.text_lines.specs.Numbers.{split}
 use Rattle.text_lines.proofs.Pieces.{split-some}
-use Rattle.begun_lines.specs.BegunLines.{GoesOn, Then, Alone, IsAmong, IsNumber, rows_from, multipliers, IsRising, PartsWords, MemberWords, MembersWords}
+use Rattle.begun_lines.specs.BegunLines.{GoesOn, Then, Alone, IsCoprimeInRange, IsNumberInRange, rows_from, multiplier_range, IsRising, PartsWords, MemberWords, MembersWords}
 use Rattle.answer_lines.proofs.ListParts.{head-is, tail-is}
 use Rattle.answer_lines.proofs.LineFronts.{split-front, split-whole}
 use Rattle.answer_lines.proofs.SpacedWords.{split-alone, spaced-split}
@@ -180,8 +180,8 @@ member_last text room none r h = (λ is. forth (h.0 is), λ on. h.1 (back on.0 o
         ends x more bounds within (member_grows x (members_words (y ∷ ys)) text more (λ e. some_words y (members_words ys) (sym e)) is)
 
 -- a row and its multiplier that stand with a space behind them
-pub part_skip : (text rest : List ℕ) (room least row m : ℕ) → least ≤ row → IsAmong (rows_from 0) row →
-    IsAmong multipliers m → split 32 text ≡ decimal row ∷ decimal m ∷ split 32 rest →
+pub part_skip : (text rest : List ℕ) (room least row m : ℕ) → least ≤ row → IsCoprimeInRange (rows_from 0) row →
+    IsCoprimeInRange multiplier_range m → split 32 text ≡ decimal row ∷ decimal m ∷ split 32 rest →
     GoesOn (PartsWords least) text room ↔ GoesOn (PartsWords (row + 1)) rest room
 part_skip text rest room least row m above among positive e = (λ on. forth on.0 on.1.0 on.1.1 on.1.2 on.1.3 on.2, λ on. back on.0 on.1.0 on.1.2 on.1.3 on.2)
   where
@@ -200,7 +200,7 @@ part_skip text rest room least row m above among positive e = (λ on. forth on.0
     back : (more : List ℕ) (ps : List (ℕ × ℕ)) → IsRising (row + 1) ps → split 32 (rest ++ more) ≡ part_words ps →
         length more ≤ room → GoesOn (PartsWords least) text room
     back more ps rising is within =
-        let here : IsAmong (rows_from least) row = record { least = above; greatest = among.greatest; coprime = among.coprime } in
+        let here : IsCoprimeInRange (rows_from least) row = record { least = above; greatest = among.greatest; coprime = among.coprime } in
         (more, ((row, m) ∷ ps, λ none. cc, (here, positive, rising), words more ∙ ap (λ l. decimal row ∷ decimal m ∷ l) is), within)
 
 -- a row that doesn't rise
@@ -217,13 +217,13 @@ part_falls text rest room least row m below e = (λ no. absurd (cc), λ on. absu
 
 -- where no row stands with its multiplier and a space behind it, the line may end with them
 pub part_last : (text : List ℕ) (room least : ℕ) →
-    ((row m : ℕ) (rest : List ℕ) → IsAmong (rows_from 0) row → IsAmong multipliers m →
+    ((row m : ℕ) (rest : List ℕ) → IsCoprimeInRange (rows_from 0) row → IsCoprimeInRange multiplier_range m →
     split 32 text ≢ decimal row ∷ decimal m ∷ split 32 rest) →
-    (r : Bool) → IsTrue r ↔ GoesOn (Then (IsNumber (rows_from least)) (Alone (IsNumber multipliers))) text room → IsTrue r ↔ GoesOn (PartsWords least) text room
+    (r : Bool) → IsTrue r ↔ GoesOn (Then (IsNumberInRange (rows_from least)) (Alone (IsNumberInRange multiplier_range))) text room → IsTrue r ↔ GoesOn (PartsWords least) text room
 part_last text room least none r h = (λ is. forth (h.0 is), λ on. h.1 (back on.0 on.1.0 on.1.1 on.1.2 on.1.3 on.2))
   where
     one : List (List ℕ) → Type 0
-    one ws = Then (IsNumber (rows_from least)) (Alone (IsNumber multipliers)) ws
+    one ws = Then (IsNumberInRange (rows_from least)) (Alone (IsNumberInRange multiplier_range)) ws
 
     said : (ws : List (List ℕ)) → one ws → PartsWords least ws
     said [] is = absurd is
@@ -234,10 +234,10 @@ part_last text room least none r h = (λ is. forth (h.0 is), λ on. h.1 (back on
     forth : GoesOn one text room → GoesOn (PartsWords least) text room
     forth on = (on.0, said (split 32 (text ++ on.0)) on.1, on.2)
 
-    from : (row m : ℕ) (ws : List (List ℕ)) → IsAmong (rows_from least) row → IsAmong multipliers m → ws ≡ decimal row ∷ decimal m ∷ [] → one ws
+    from : (row m : ℕ) (ws : List (List ℕ)) → IsCoprimeInRange (rows_from least) row → IsCoprimeInRange multiplier_range m → ws ≡ decimal row ∷ decimal m ∷ [] → one ws
     from row m ws among positive e = subst one (sym e) ((row, among, refl), (m, positive, refl))
 
-    ends : (row m : ℕ) (more : List ℕ) → IsAmong (rows_from least) row → IsAmong multipliers m → length more ≤ room →
+    ends : (row m : ℕ) (more : List ℕ) → IsCoprimeInRange (rows_from least) row → IsCoprimeInRange multiplier_range m → length more ≤ room →
         StandsOrGrows (decimal row ∷ decimal m ∷ []) text more → GoesOn one text room
     ends row m more among positive within (inl stands) =
         absurd (none row m stands.0 (record { least = omega arith; greatest = among.greatest; coprime = among.coprime })

@@ -6,22 +6,22 @@ use Rattle.std.proofs.lemmas.List.Kept.{AllPairs-cons}
 use Rattle.cost_base.specs.Decimal.{decimal}
 use Rattle.cost_base.specs.declared.StepName.{StepName}
 use Rattle.cost_base.specs.declared.StepName.TheVariants.{Add, Sub, Mul, Div, Lcm, Scale}
-use Rattle.path_rows.specs.declared.tree.Side.{Side}
-use Rattle.path_rows.specs.declared.tree.Side.TheVariants.{Low as LowSide, High as HighSide}
-use Rattle.path_rows.specs.declared.tree.Member.{Member}
-use Rattle.path_rows.specs.declared.tree.Member.TheVariants.{Low, High, Row}
-use Rattle.path_rows.specs.declared.tree.Entry.{Entry}
-use Rattle.path_rows.specs.declared.tree.Entry.TheVariants.{Tighten, Split, Halve, Refute, Undone}
-use Rattle.path_rows.specs.Bounds.{IsThing, IsCost, IsRowNumber, BoundsMember, BoundsParts, BoundsEntry}
-use Rattle.path_rows.specs.Text.{side_word, step_word, ratio_word, member_words, members_words, part_words, entry_line, spaced, FitsEntry}
+use Rattle.design_problem.specs.declared.tree.Side.{Side}
+use Rattle.design_problem.specs.declared.tree.Side.TheVariants.{Low as LowSide, High as HighSide}
+use Rattle.design_problem.specs.declared.tree.Member.{Member}
+use Rattle.design_problem.specs.declared.tree.Member.TheVariants.{Low, High, Row}
+use Rattle.design_problem.specs.declared.tree.Entry.{Entry}
+use Rattle.design_problem.specs.declared.tree.Entry.TheVariants.{Tighten, Split, Halve, Refute, Undone}
+use Rattle.design_problem.specs.Bounds.{IsThing, IsCost, IsRowNumber, BoundsMember, BoundsParts, BoundsEntry}
+use Rattle.design_problem.specs.Text.{side_word, step_word, ratio_word, member_words, members_words, part_words, entry_line, spaced, FitsEntry}
 use Rattle.text_lines.specs.Numbers.{split}
 use Rattle.whole_numbers.proofs.Divisors.{one-gcd}
 use Rattle.evidence_text.specs.declared.TreePart.{TreePart}
 use Rattle.answer_lines.specs.Grammar.{AtTree}
-use Rattle.answer_lines.specs.Places.{Begins}
+use Rattle.answer_lines.specs.Places.{BeginsLawful}
 use Rattle.answer_lines.specs.Words.{entry_words}
-use Rattle.begun_lines.specs.BegunLines.{GoesOn, Then, Alone, IsAmong, IsNumber, IsSide, IsStepWord, IsEitherStep, IsLaterStep, IsRatio, range, vars, values, rows_from, IsRising, OpenWords, SplitWords, BoundWords, TightenWords, LeafWords, ParentWords, PartsWords, RefuteWords, RowWords, EndWords, MemberWords, MembersWords, BasisWords, HalveWords, EntryWords}
-use Rattle.path_rows.specs.Trees.{subtree_count}
+use Rattle.begun_lines.specs.BegunLines.{GoesOn, Then, Alone, IsCoprimeInRange, IsNumberInRange, IsSide, IsStepWord, IsEitherStep, IsLaterStep, IsRatio, range, vars, values, rows_from, IsRising, OpenWords, SplitWords, BoundWords, TightenWords, LeafWords, ParentWords, PartsWords, RefuteWords, RowWords, EndWords, MemberWords, MembersWords, BasisWords, HalveWords, EntryWords}
+use Rattle.design_problem.specs.Trees.{subtree_count}
 use Rattle.begun_lines.proofs.BegunWords.{alone_is}
 use Rattle.answer_lines.proofs.EntryWords.{entry_line-words}
 use Rattle.answer_lines.proofs.LineEntries.{pieces-entry}
@@ -29,7 +29,7 @@ use Rattle.answer_lines.proofs.SpacedWords.{spaced-split}
 use Rattle.answer_lines.proofs.ListParts.{not-both}
 
 -- a number up to the greatest of a range
-upto : (greatest n : ℕ) → n ≤ greatest → IsAmong (range 0 greatest) n
+upto : (greatest n : ℕ) → n ≤ greatest → IsCoprimeInRange (range 0 greatest) n
 upto greatest n le = record { least = omega arith; greatest = le; coprime = one-gcd n }
 
 -- words of one kind where those of another are
@@ -187,8 +187,8 @@ joined ws rest vs w v is same left = is ∙ ap (λ x. x ∷ rest) same ∙ ap (�
 
 pub row_member : (ws : List (List ℕ)) → RowWords ws → MemberWords ws
 row_member ws is =
-    let name = first_of (λ w. w ≡ codes "row") (Alone (IsNumber (rows_from 0))) ws is in
-    let row = alone_is (IsNumber (rows_from 0)) name.rest name.left in (
+    let name = first_of (λ w. w ≡ codes "row") (Alone (IsNumberInRange (rows_from 0))) ws is in
+    let row = alone_is (IsNumberInRange (rows_from 0)) name.rest name.left in (
       Row row.1.0,
       omega (arith, row.1.1.greatest),
       joined ws name.rest (decimal row.1.0 ∷ []) name.w (codes "row") name.is name.first
@@ -198,8 +198,8 @@ row_member ws is =
 pub bound_member : (ws : List (List ℕ)) → Then IsSide EndWords ws → MemberWords ws
 bound_member ws is =
     let name = first_of IsSide EndWords ws is in
-    let var = first_of (IsNumber vars) (Alone (IsNumber values)) name.rest name.left in
-    let value = alone_is (IsNumber values) var.rest var.left in
+    let var = first_of (IsNumberInRange vars) (Alone (IsNumberInRange values)) name.rest name.left in
+    let value = alone_is (IsNumberInRange values) var.rest var.left in
     let numbers : name.rest ≡ decimal var.first.0 ∷ decimal value.1.0 ∷ [] =
     joined name.rest var.rest (decimal value.1.0 ∷ []) var.w (decimal var.first.0) var.is var.first.2 (value.2 ∙ ap (λ w. w ∷ []) value.1.2) in
     member name.first.0 var.first.0 value.1.0 (omega (arith, var.first.1.greatest)) (omega (arith, value.1.1.greatest))
@@ -215,18 +215,18 @@ entry_kinds ws is = cases is.0 is.1.bounds is.1.fits is.1.is
   where
     cases : (entry : Entry) → BoundsEntry entry → FitsEntry entry → ws ≡ entry_words entry → LeafWords ws ⊎ ParentWords ws
     cases (Tighten v side b row) bounds fits e =
-        let var : IsNumber vars (decimal v) = (v, upto 4294967295 v (omega (arith, bounds.0)), refl) in
-        let value : IsNumber values (decimal b) = (b, upto 65535 b (omega (arith, bounds.1)), refl) in
-        let last : IsNumber (rows_from 0) (decimal row) = (row, upto 18446744073709551615 row (omega (arith, bounds.2)), refl) in
+        let var : IsNumberInRange vars (decimal v) = (v, upto 4294967295 v (omega (arith, bounds.0)), refl) in
+        let value : IsNumberInRange values (decimal b) = (b, upto 65535 b (omega (arith, bounds.1)), refl) in
+        let last : IsNumberInRange (rows_from 0) (decimal row) = (row, upto 18446744073709551615 row (omega (arith, bounds.2)), refl) in
         let name : IsSide (side_word side) = (side, refl) in
         inr (inl (subst TightenWords (sym e) (refl, (var, (name, (value, last))))))
     cases (Split v b) bounds fits e =
-        let var : IsNumber vars (decimal v) = (v, upto 4294967295 v (omega (arith, bounds.0)), refl) in
-        let value : IsNumber values (decimal b) = (b, upto 65535 b (omega (arith, bounds.1)), refl) in
+        let var : IsNumberInRange vars (decimal v) = (v, upto 4294967295 v (omega (arith, bounds.0)), refl) in
+        let value : IsNumberInRange values (decimal b) = (b, upto 65535 b (omega (arith, bounds.1)), refl) in
         inr (inr (inl (subst SplitWords (sym e) (refl, (var, value)))))
     cases (Halve v b wide) bounds fits e =
-        let var : IsNumber vars (decimal v) = (v, upto 4294967295 v (omega (arith, bounds.0)), refl) in
-        let value : IsNumber values (decimal b) = (b, upto 65535 b (omega (arith, bounds.1)), refl) in
+        let var : IsNumberInRange vars (decimal v) = (v, upto 4294967295 v (omega (arith, bounds.0)), refl) in
+        let value : IsNumberInRange values (decimal b) = (b, upto 65535 b (omega (arith, bounds.1)), refl) in
         let step : IsStepWord (step_word wide.step) = (wide.step, refl) in
         let left : IsRatio (ratio_word wide.left) = (wide.left, fits.0, refl) in
         let right : IsRatio (ratio_word wide.right) = (wide.right, fits.1, refl) in
@@ -239,11 +239,11 @@ entry_kinds ws is = cases is.0 is.1.bounds is.1.fits is.1.is
 
 tighten_entry : (ws : List (List ℕ)) → TightenWords ws → EntryWords ws
 tighten_entry ws is =
-    let name = first_of (λ w. w ≡ codes "tighten") (Then (IsNumber vars) (Then IsSide BoundWords)) ws is in
-    let var = first_of (IsNumber vars) (Then IsSide BoundWords) name.rest name.left in
+    let name = first_of (λ w. w ≡ codes "tighten") (Then (IsNumberInRange vars) (Then IsSide BoundWords)) ws is in
+    let var = first_of (IsNumberInRange vars) (Then IsSide BoundWords) name.rest name.left in
     let side = first_of IsSide BoundWords var.rest var.left in
-    let value = first_of (IsNumber values) (Alone (IsNumber (rows_from 0))) side.rest side.left in
-    let row = alone_is (IsNumber (rows_from 0)) value.rest value.left in (
+    let value = first_of (IsNumberInRange values) (Alone (IsNumberInRange (rows_from 0))) side.rest side.left in
+    let row = alone_is (IsNumberInRange (rows_from 0)) value.rest value.left in (
       Tighten var.first.0 side.first.0 value.first.0 row.1.0,
       record {
         bounds = (omega (arith, var.first.1.greatest), omega (arith, value.first.1.greatest), omega (arith, row.1.1.greatest));
@@ -258,9 +258,9 @@ tighten_entry ws is =
 
 split_entry : (ws : List (List ℕ)) → SplitWords ws → EntryWords ws
 split_entry ws is =
-    let name = first_of (λ w. w ≡ codes "split") (Then (IsNumber vars) (Alone (IsNumber values))) ws is in
-    let var = first_of (IsNumber vars) (Alone (IsNumber values)) name.rest name.left in
-    let value = alone_is (IsNumber values) var.rest var.left in (
+    let name = first_of (λ w. w ≡ codes "split") (Then (IsNumberInRange vars) (Alone (IsNumberInRange values))) ws is in
+    let var = first_of (IsNumberInRange vars) (Alone (IsNumberInRange values)) name.rest name.left in
+    let value = alone_is (IsNumberInRange values) var.rest var.left in (
       Split var.first.0 value.1.0,
       record {
         bounds = (omega (arith, var.first.1.greatest), omega (arith, value.1.1.greatest));
@@ -272,9 +272,9 @@ split_entry ws is =
 
 halve_entry : (ws : List (List ℕ)) → HalveWords ws → EntryWords ws
 halve_entry ws is =
-    let name = first_of (λ w. w ≡ codes "halve") (Then (IsNumber vars) (Then (IsNumber values) (Then IsStepWord BasisWords))) ws is in
-    let var = first_of (IsNumber vars) (Then (IsNumber values) (Then IsStepWord BasisWords)) name.rest name.left in
-    let value = first_of (IsNumber values) (Then IsStepWord BasisWords) var.rest var.left in
+    let name = first_of (λ w. w ≡ codes "halve") (Then (IsNumberInRange vars) (Then (IsNumberInRange values) (Then IsStepWord BasisWords))) ws is in
+    let var = first_of (IsNumberInRange vars) (Then (IsNumberInRange values) (Then IsStepWord BasisWords)) name.rest name.left in
+    let value = first_of (IsNumberInRange values) (Then IsStepWord BasisWords) var.rest var.left in
     let step = first_of IsStepWord BasisWords value.rest value.left in
     let left = first_of IsRatio (Then IsRatio MembersWords) step.rest step.left in
     let right = first_of IsRatio MembersWords left.rest left.left in
@@ -318,10 +318,10 @@ parent_entry ws (inr (inr is)) = halve_entry ws is
 
 -- a lawful tree line, by its words
 pub begins_by_words : (part : TreePart) (places left : ℕ) (rest : List ℕ) (room : ℕ) → length rest + room ≡ 65536 →
-    (r : Bool) → IsTrue r ↔ GoesOn EntryWords rest room → IsTrue r ↔ Begins (AtTree part (suc places) (suc left)) rest
+    (r : Bool) → IsTrue r ↔ GoesOn EntryWords rest room → IsTrue r ↔ BeginsLawful (AtTree part (suc places) (suc left)) rest
 begins_by_words part places left rest room size r h = (λ is. forth (h.0 is), λ on. h.1 (back on))
   where
-    forth : GoesOn EntryWords rest room → Begins (AtTree part (suc places) (suc left)) rest
+    forth : GoesOn EntryWords rest room → BeginsLawful (AtTree part (suc places) (suc left)) rest
     forth on =
         let entry = on.1.0 in
         let says = on.1.1 in
@@ -336,7 +336,7 @@ begins_by_words part places left rest room size r h = (λ is. forth (h.0 is), λ
           ),
         )
 
-    back : Begins (AtTree part (suc places) (suc left)) rest → GoesOn EntryWords rest room
+    back : BeginsLawful (AtTree part (suc places) (suc left)) rest → GoesOn EntryWords rest room
     back on =
         let leads = on.1.1 in
         let entry = leads.is.entry in (
@@ -346,5 +346,5 @@ begins_by_words part places left rest room size r h = (λ is. forth (h.0 is), λ
         )
 
 -- a line that is too long begins none
-pub too_long : (part : TreePart) (places left : ℕ) (rest : List ℕ) → 65536 < length rest → IsTrue false ↔ Begins (AtTree part (suc places) (suc left)) rest
+pub too_long : (part : TreePart) (places left : ℕ) (rest : List ℕ) → 65536 < length rest → IsTrue false ↔ BeginsLawful (AtTree part (suc places) (suc left)) rest
 too_long part places left rest long = (λ no. absurd (cc), λ on. absurd (omega (arith, long, on.1.1.short, length-append rest on.0)))

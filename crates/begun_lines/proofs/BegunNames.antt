@@ -6,7 +6,7 @@ use Rattle.std.proofs.lemmas.Bool.Decides.{Decides-eqb}
 use Rattle.std.specs.Cmp.Lexicographic.{pointwise, pointwise_decides}
 use Rattle.cost_base.specs.Words.{IsOneWord, ends_a_word}
 use Rattle.answer_lines.specs.Grammar.{router_line}
-use Rattle.begun_lines.specs.Begun.{IsFront, BeginsName, BeginsRouter, IsRouterOf}
+use Rattle.begun_lines.specs.Begun.{IsLineFront, BeginsName, BeginsRouter, IsRouterOf}
 use Rattle.begun_lines.proofs.Beginnings.{GoesInto, two_parts, front-longer, front-whole}
 use Rattle.answer_lines.proofs.ListParts.{not-both, head-is}
 
@@ -23,11 +23,11 @@ letter : (c : ℕ) → ends_a_word c ≡ false → IsOneWord (c ∷ [])
 letter c e = record { some = λ none. cc; whole = All-cons (λ x. ends_a_word x ≡ false) c [] e (All-nil (λ x. ends_a_word x ≡ false)) }
 
 -- a name may follow where the front is begun
-pub name-started : (rest front : List ℕ) → length front < 65536 → IsFront rest front → BeginsName rest front
+pub name-started : (rest front : List ℕ) → length front < 65536 → IsLineFront rest front → BeginsName rest front
 name-started rest front small begun = (97 ∷ [], letter 97 refl, front-longer rest front (97 ∷ []) begun, omega (arith, length-append front (97 ∷ [])))
 
 -- where the front isn't begun, the name behind it tells
-pub name-tested : (rest front : List ℕ) (found : Option (Bor (List ℕ))) → length rest ≤ 65536 → (IsFront rest front → ⊥) →
+pub name-tested : (rest front : List ℕ) (found : Option (Bor (List ℕ))) → length rest ≤ 65536 → (IsLineFront rest front → ⊥) →
     MatchOption found ((name : List ℕ) → IsOneWord name → rest ≢ front ++ name)
     (λ name. IsOneWord name.now × (rest ≡ front ++ name.now)) → IsTrue (is_some found) ↔ BeginsName rest front
 name-tested rest front None short unbegun h = (
@@ -56,7 +56,7 @@ other_name (Some x) a b differ = cases (pointwise eqb x a) refl
 pub router-open : (rest : List ℕ) (before : Option (List ℕ)) → BeginsName rest (codes "router ") → length rest < 65536 → BeginsRouter before rest
 router-open rest before begun room = elim (two_parts rest begun.2.0 (codes "router ") begun.0 begun.2.1) [ inl started ↦ early started | inr into ↦ late into ]
   where
-    early : IsFront rest (codes "router ") → BeginsRouter before rest
+    early : IsLineFront rest (codes "router ") → BeginsRouter before rest
     early started =
         elim (other_name before (97 ∷ []) (98 ∷ []) (λ e. let letters : 97 ≡ 98 = head-is 97 98 [] [] e in omega arith)) [
           | inl other ↦ (97 ∷ [], letter 97 refl, other, front-longer rest (codes "router ") (97 ∷ []) started, omega arith)
@@ -81,7 +81,7 @@ router-open rest before begun room = elim (two_parts rest begun.2.0 (codes "rout
         ]
 
 -- a line that has room for no further byte is begun by itself alone
-full : (rest line : List ℕ) → 65536 ≤ length rest → length line ≤ 65536 → IsFront rest line → rest ≡ line
+full : (rest line : List ℕ) → 65536 ≤ length rest → length line ≤ 65536 → IsLineFront rest line → rest ≡ line
 full rest line much short begun =
     let none : begun.0 ≡ [] = nil_from_length begun.0 (omega (arith, length-append rest begun.0, ap length begun.1)) in
     sym (append-nil rest) ∙ ap (λ more. rest ++ more) (sym none) ∙ begun.1

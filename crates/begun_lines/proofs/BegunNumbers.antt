@@ -8,7 +8,7 @@ use Rattle.text_lines.proofs.Digits.{decimal-step, decimal-small, decimal_value-
 use Rattle.text_lines.proofs.NumberLaws.{length-decimal-some}
 use Rattle.text_lines.proofs.Printed.{decimal-digits, decimal-begins, decimal_value-decimal, decimal-same}
 use Rattle.whole_numbers.specs.Fractions.{gcd}
-use Rattle.begun_lines.specs.BegunLines.{Never, IsMissing, IsAmong, IsNumber, Extends}
+use Rattle.begun_lines.specs.BegunLines.{Never, IsMissing, IsCoprimeInRange, IsNumberInRange, Extends}
 use Rattle.begun_lines.specs.declared.numbers.Numbers.{Numbers}
 use Rattle.answer_lines.proofs.ListParts.{head-is, tail-is}
 
@@ -138,7 +138,7 @@ digits-le a b le =
 -- an empty word becomes the least number of a range
 pub missing_whole : (numbers : Numbers) (found : Option ℕ) → gcd numbers.coprime_to numbers.least ≡ 1 →
     MatchOption found (numbers.greatest < numbers.least) (λ count. (numbers.least ≤ numbers.greatest)
-    × (count ≡ length (decimal numbers.least))) → IsMissing (IsNumber numbers) [] found
+    × (count ≡ length (decimal numbers.least))) → IsMissing (IsNumberInRange numbers) [] found
 missing_whole numbers None coprime empty = λ more number. omega (arith, empty, number.1.least, number.1.greatest)
 missing_whole numbers (Some count) coprime is =
     record {
@@ -150,12 +150,12 @@ missing_whole numbers (Some count) coprime is =
 
 -- a zero is a whole number
 pub missing_zero : (numbers : Numbers) (word : List ℕ) (found : Option ℕ) → word ≡ decimal 0 →
-    MatchOption found (IsAmong numbers 0 → ⊥) (λ count. (count ≡ 0) × IsAmong numbers 0) →
-    IsMissing (IsNumber numbers) word found
+    MatchOption found (IsCoprimeInRange numbers 0 → ⊥) (λ count. (count ≡ 0) × IsCoprimeInRange numbers 0) →
+    IsMissing (IsNumberInRange numbers) word found
 missing_zero numbers word None is none = λ more number.
     let e : decimal number.0 ≡ 48 ∷ more = sym number.2 ∙ ap (λ l. l ++ more) is in
     let same : number.0 ≡ 0 = decimal-same number.0 0 (e ∙ ap (λ l. 48 ∷ l) (zero_alone number.0 more e)) in
-    none (subst (IsAmong numbers) same number.1)
+    none (subst (IsCoprimeInRange numbers) same number.1)
 missing_zero numbers word (Some count) is found =
     record {
       more = [];
@@ -165,20 +165,20 @@ missing_zero numbers word (Some count) is found =
     }
 
 -- a word that is no number begins none
-pub missing_none : (numbers : Numbers) (word : List ℕ) → word ≢ [] → ((n : ℕ) → n ≤ numbers.greatest → word ≢ decimal n) → Never (IsNumber numbers) word
+pub missing_none : (numbers : Numbers) (word : List ℕ) → word ≢ [] → ((n : ℕ) → n ≤ numbers.greatest → word ≢ decimal n) → Never (IsNumberInRange numbers) word
 missing_none numbers word some none = λ more number.
     let cut = cut_number (length more) number.0 word more refl (sym number.2) some in
     none cut.number (omega (arith, extends-le cut.number (length more) number.0 cut.extends, number.1.greatest)) cut.is
 
 -- what a search for the digits behind a positive number found
 abbrev FoundDigits : Numbers → ℕ → Option ℕ → Type 0
-FoundDigits numbers begun found = MatchOption found ((k n : ℕ) → Extends begun k n → IsAmong numbers n → ⊥)
-    (λ count. ((n : ℕ) × Extends begun count n × IsAmong numbers n) × ((k n : ℕ) → Extends begun k n → IsAmong numbers n → count ≤ k))
+FoundDigits numbers begun found = MatchOption found ((k n : ℕ) → Extends begun k n → IsCoprimeInRange numbers n → ⊥)
+    (λ count. ((n : ℕ) × Extends begun count n × IsCoprimeInRange numbers n) × ((k n : ℕ) → Extends begun k n → IsCoprimeInRange numbers n → count ≤ k))
 
 -- a positive number goes on with digits
 pub missing_more : (numbers : Numbers) (word : List ℕ) (begun : ℕ) (found : Option ℕ) → word ≡ decimal begun →
-    0 < begun → FoundDigits numbers begun found → IsMissing (IsNumber numbers) word found
-missing_more numbers word begun found is some h = subst (λ w. IsMissing (IsNumber numbers) w found) (sym is) (cases found h)
+    0 < begun → FoundDigits numbers begun found → IsMissing (IsNumberInRange numbers) word found
+missing_more numbers word begun found is some h = subst (λ w. IsMissing (IsNumberInRange numbers) w found) (sym is) (cases found h)
   where
     digit : decimal begun ≢ []
     digit e = omega (arith, length-decimal-some begun, ap length e)
@@ -188,7 +188,7 @@ missing_more numbers word begun found is some h = subst (λ w. IsMissing (IsNumb
         let cut = cut_number (length more) n (decimal begun) more refl (sym e) digit in
         subst (λ b. Extends b (length more) n) (sym (decimal-same begun cut.number cut.is)) cut.extends
 
-    cases : (found : Option ℕ) → FoundDigits numbers begun found → IsMissing (IsNumber numbers) (decimal begun) found
+    cases : (found : Option ℕ) → FoundDigits numbers begun found → IsMissing (IsNumberInRange numbers) (decimal begun) found
     cases None h = λ more number. h (length more) number.0 (extended more number.0 number.2) number.1
     cases (Some count) h =
         let digits = more_digits begun count h.0.0 some h.0.1 in

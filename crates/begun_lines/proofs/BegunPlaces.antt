@@ -1,25 +1,25 @@
 -- What the lawful lines at a place begin with.
 use Rattle.std.proofs.Common.{◌≡◌, ℕ, ◌≤◌, ◌⊎◌, ◌↔◌, List, ◌++◌, length, codes, refl, sym, ap, subst, arith, inl, inr, Option, Some, None, length-append}
 use Rattle.cost_base.specs.Decimal.{decimal}
-use Rattle.path_rows.specs.declared.answer.Verdict.{Verdict}
-use Rattle.path_rows.specs.declared.answer.Verdict.TheVariants.{Optimal, Impossible, Budget}
-use Rattle.path_rows.specs.declared.answer.Floor.{Floor}
-use Rattle.path_rows.specs.declared.answer.Floor.TheVariants.{Absent, Empty, Var}
-use Rattle.path_rows.specs.Bounds.{BoundsVerdict, BoundsFloor}
+use Rattle.design_problem.specs.declared.answer.Verdict.{Verdict}
+use Rattle.design_problem.specs.declared.answer.Verdict.TheVariants.{Optimal, Impossible, Undecided}
+use Rattle.design_problem.specs.declared.answer.Floor.{Floor}
+use Rattle.design_problem.specs.declared.answer.Floor.TheVariants.{Absent, Empty, Var}
+use Rattle.design_problem.specs.Bounds.{BoundsVerdict, BoundsFloor}
 use Rattle.text_lines.proofs.Digits.{length-decimal-le}
 use Rattle.evidence_text.specs.Parts.{verdict_line, floor_line}
-use Rattle.answer_lines.specs.Grammar.{Place, AtVerdict, AtCosts, AtSections, AtInterface, AtCost, AtFloor, AtRows, AtRow, Next, IsInterfaceAgain}
-use Rattle.answer_lines.specs.Places.{Begins}
-use Rattle.begun_lines.specs.Begun.{IsFront, BeginsNumber, BeginsName, BeginsRouter, BeginsAgain}
+use Rattle.answer_lines.specs.Grammar.{TextPlace, AtVerdict, AtCosts, AtSections, AtInterface, AtCost, AtFloor, AtRows, AtRow, Next, IsInterfaceAgain}
+use Rattle.answer_lines.specs.Places.{BeginsLawful}
+use Rattle.begun_lines.specs.Begun.{IsLineFront, BeginsNumber, BeginsName, BeginsRouter, BeginsAgain}
 
 -- what begins a lawful line
-pub begins-from : (place next : Place) (rest line : List ℕ) → Next place line next → length line ≤ 65536 → IsFront rest line → Begins place rest
+pub begins-from : (place next : TextPlace) (rest line : List ℕ) → Next place line next → length line ≤ 65536 → IsLineFront rest line → BeginsLawful place rest
 begins-from place next rest line is short front =
     (front.0, (next, record { is = subst (λ l. Next place l next) (sym front.1) is; short = subst (λ l. length l ≤ 65536) (sym front.1) short }))
 
 -- where one line alone is in the grammar
-pub wanted-begun : (place next : Place) (rest line : List ℕ) → length line ≤ 65536 → Next place line next →
-    ((l : List ℕ) (n : Place) → Next place l n → l ≡ line) → IsFront rest line ↔ Begins place rest
+pub wanted-begun : (place next : TextPlace) (rest line : List ℕ) → length line ≤ 65536 → Next place line next →
+    ((l : List ℕ) (n : TextPlace) → Next place l n → l ≡ line) → IsLineFront rest line ↔ BeginsLawful place rest
 wanted-begun place next rest line short is only = (
   λ front. begins-from place next rest line is short front,
   λ begins. (begins.0, only (rest ++ begins.0) begins.1.0 begins.1.1.is),
@@ -30,15 +30,15 @@ pub short_number : (front : List ℕ) (n : ℕ) → length front ≤ 100 → n �
 short_number front n small bound = omega (arith, length-append front (decimal n), length-decimal-le 30 n (omega arith) (omega arith))
 
 -- what begins a lawful line that ends in a number
-numbered : (place : Place) (next : ℕ → Place) (rest front : List ℕ) (greatest : ℕ) → length front ≤ 100 → greatest ≤ 18446744073709551615 →
-    ((n : ℕ) → n ≤ greatest → Next place (front ++ decimal n) (next n)) → BeginsNumber rest front greatest → Begins place rest
+numbered : (place : TextPlace) (next : ℕ → TextPlace) (rest front : List ℕ) (greatest : ℕ) → length front ≤ 100 → greatest ≤ 18446744073709551615 →
+    ((n : ℕ) → n ≤ greatest → Next place (front ++ decimal n) (next n)) → BeginsNumber rest front greatest → BeginsLawful place rest
 numbered place next rest front greatest small bound lawful begun =
     begins-from place (next begun.0) rest (front ++ decimal begun.0) (lawful begun.0 begun.1)
     (omega (arith, short_number front begun.0 small (omega (arith, begun.1)))) begun.2
 
 pub verdict-begun : (rest : List ℕ) →
-    ((IsFront rest (codes "verdict impossible") ⊎ BeginsNumber rest (codes "verdict optimal ") 65535)
-    ⊎ BeginsNumber rest (codes "verdict undecided budget ") 65535) ↔ Begins AtVerdict rest
+    ((IsLineFront rest (codes "verdict impossible") ⊎ BeginsNumber rest (codes "verdict optimal ") 65535)
+    ⊎ BeginsNumber rest (codes "verdict undecided budget ") 65535) ↔ BeginsLawful AtVerdict rest
 verdict-begun rest = (
   λ begun. elim begun [
     | inl (inl line) ↦ begins-from AtVerdict AtCosts rest (codes "verdict impossible")
@@ -48,19 +48,19 @@ verdict-begun rest = (
         (λ n small. record { verdict = Optimal n; bounds = omega (arith, small); is = refl; leads = refl }) number
     | inr number ↦
         numbered AtVerdict (λ _. AtCosts) rest (codes "verdict undecided budget ") 65535 (omega arith) (omega arith)
-        (λ n small. record { verdict = Budget n; bounds = omega (arith, small); is = refl; leads = refl }) number
+        (λ n small. record { verdict = Undecided n; bounds = omega (arith, small); is = refl; leads = refl }) number
   ],
   λ begins. parts begins.0 begins.1.1.is.verdict begins.1.1.is.bounds begins.1.1.is.is,
 )
   where
     parts : (more : List ℕ) (verdict : Verdict) → BoundsVerdict verdict → rest ++ more ≡ verdict_line verdict →
-        (IsFront rest (codes "verdict impossible") ⊎ BeginsNumber rest (codes "verdict optimal ") 65535)
+        (IsLineFront rest (codes "verdict impossible") ⊎ BeginsNumber rest (codes "verdict optimal ") 65535)
         ⊎ BeginsNumber rest (codes "verdict undecided budget ") 65535
     parts more Impossible bounds is = inl (inl (more, is))
     parts more (Optimal k) bounds is = inl (inr (k, omega (arith, bounds), (more, is)))
-    parts more (Budget k) bounds is = inr (k, omega (arith, bounds), (more, is))
+    parts more (Undecided k) bounds is = inr (k, omega (arith, bounds), (more, is))
 
-pub costs-begun : (rest : List ℕ) → (IsFront rest (codes "costs none") ⊎ BeginsNumber rest (codes "costs ") 65535) ↔ Begins AtCosts rest
+pub costs-begun : (rest : List ℕ) → (IsLineFront rest (codes "costs none") ⊎ BeginsNumber rest (codes "costs ") 65535) ↔ BeginsLawful AtCosts rest
 costs-begun rest = (
   λ begun. elim begun [
     | inl line ↦ begins-from AtCosts AtFloor rest (codes "costs none") (inl (refl, refl)) (omega arith) line
@@ -72,14 +72,14 @@ costs-begun rest = (
 )
 
 floor-parts : (rest more : List ℕ) (floor : Floor) → BoundsFloor floor → rest ++ more ≡ floor_line floor →
-    (IsFront rest (codes "floor none") ⊎ IsFront rest (codes "floor empty")) ⊎ BeginsNumber rest (codes "floor ") 4294967295
+    (IsLineFront rest (codes "floor none") ⊎ IsLineFront rest (codes "floor empty")) ⊎ BeginsNumber rest (codes "floor ") 4294967295
 floor-parts rest more Absent bounds is = inl (inl (more, is))
 floor-parts rest more Empty bounds is = inl (inr (more, is))
 floor-parts rest more (Var v) bounds is = inr (v, omega (arith, bounds), (more, is))
 
 pub floor-begun : (rest : List ℕ) →
-    ((IsFront rest (codes "floor none") ⊎ IsFront rest (codes "floor empty"))
-    ⊎ BeginsNumber rest (codes "floor ") 4294967295) ↔ Begins AtFloor rest
+    ((IsLineFront rest (codes "floor none") ⊎ IsLineFront rest (codes "floor empty"))
+    ⊎ BeginsNumber rest (codes "floor ") 4294967295) ↔ BeginsLawful AtFloor rest
 floor-begun rest = (
   λ begun. elim begun [
     | inl (inl line) ↦ begins-from AtFloor AtRows rest (codes "floor none") (record { floor = Absent; bounds = tt; is = refl; leads = refl }) (omega arith) line
@@ -91,14 +91,14 @@ floor-begun rest = (
   λ begins. floor-parts rest begins.0 begins.1.1.is.floor begins.1.1.is.bounds begins.1.1.is.is,
 )
 
-pub rows-begun : (rest : List ℕ) → BeginsNumber rest (codes "rows ") 18446744073709551615 ↔ Begins AtRows rest
+pub rows-begun : (rest : List ℕ) → BeginsNumber rest (codes "rows ") 18446744073709551615 ↔ BeginsLawful AtRows rest
 rows-begun rest = (
   λ number. numbered AtRows AtRow rest (codes "rows ") 18446744073709551615 (omega arith) (omega arith)
       (λ n small. record { count = n; bounds = omega (arith, small); is = refl; leads = refl }) number,
   λ begins. (begins.1.1.is.count, omega (arith, begins.1.1.is.bounds), (begins.0, begins.1.1.is.is)),
 )
 
-pub interface-begun : (rest router : List ℕ) → BeginsName rest (codes "interface ") ↔ Begins (AtInterface router) rest
+pub interface-begun : (rest router : List ℕ) → BeginsName rest (codes "interface ") ↔ BeginsLawful (AtInterface router) rest
 interface-begun rest router = (
   λ begun. begins-from (AtInterface router) (AtCost router) rest (codes "interface " ++ begun.0)
       (record { name = begun.0; word = begun.1; is = refl; leads = refl }) begun.3 begun.2,
@@ -106,7 +106,7 @@ interface-begun rest router = (
 )
 
 pub section-begun : (rest : List ℕ) (before : Option (List ℕ)) →
-    ((BeginsRouter before rest ⊎ BeginsAgain before rest) ⊎ Begins AtFloor rest) ↔ Begins (AtSections before) rest
+    ((BeginsRouter before rest ⊎ BeginsAgain before rest) ⊎ BeginsLawful AtFloor rest) ↔ BeginsLawful (AtSections before) rest
 section-begun rest before = (
   λ begun. elim begun [
     | inl (inl router) ↦
@@ -123,11 +123,11 @@ section-begun rest before = (
   ],
 )
   where
-    further : (before : Option (List ℕ)) → BeginsAgain before rest → Begins (AtSections before) rest
+    further : (before : Option (List ℕ)) → BeginsAgain before rest → BeginsLawful (AtSections before) rest
     further None again = absurd again
     further (Some router) again = (again.0, (again.1.0, record { is = inr (inl again.1.1.is); short = again.1.1.short }))
 
-    back : (before : Option (List ℕ)) (more : List ℕ) (next : Place) → IsInterfaceAgain before (rest ++ more) next →
+    back : (before : Option (List ℕ)) (more : List ℕ) (next : TextPlace) → IsInterfaceAgain before (rest ++ more) next →
         length (rest ++ more) ≤ 65536 → BeginsAgain before rest
     back None more next again short = absurd again
     back (Some router) more next again short = (more, (next, record { is = again; short = short }))

@@ -4,13 +4,13 @@ use Rattle.std.proofs.lemmas.Bool.{eq-eqb}
 use Rattle.std.proofs.lemmas.List.Elements.{All-head, All-tail}
 use Rattle.std.specs.List.{list_all}
 use Rattle.cost_base.specs.Decimal.{decimal, is_digit}
-use Rattle.path_rows.specs.Text.{integer}
+use Rattle.design_problem.specs.Text.{integer}
 use Rattle.text_lines.specs.Numbers.{split}
 use Rattle.text_lines.proofs.NumberLaws.{length-decimal-some}
 use Rattle.text_lines.proofs.Printed.{decimal-digits, decimal-same}
 use Rattle.whole_numbers.specs.Fractions.{gcd}
 use Rattle.whole_numbers.proofs.Divisors.{gcd-one}
-use Rattle.begun_lines.specs.BegunLines.{Never, IsLeast, IsMissing, IsAmong, IsNumber, IsRatio}
+use Rattle.begun_lines.specs.BegunLines.{Never, IsLeastCompletion, IsMissing, IsCoprimeInRange, IsNumberInRange, IsRatio}
 use Rattle.begun_lines.specs.declared.numbers.Numbers.{Numbers}
 use Rattle.answer_lines.proofs.ListParts.{head-is, tail-is, not-both}
 use Rattle.answer_lines.proofs.LineFronts.{split-front, split-whole}
@@ -76,7 +76,7 @@ integer-some (pos n) = length-decimal-some n
 integer-some (negsuc n) = omega arith
 
 -- an empty word becomes `0/1`
-pub least_nothing : IsLeast IsRatio [] 3
+pub least_nothing : IsLeastCompletion IsRatio [] 3
 least_nothing = record {
   more = codes "0/1";
   fits = whole_ratio (pos 0) (omega arith);
@@ -85,7 +85,7 @@ least_nothing = record {
 }
 
 -- a minus becomes `-1/1`
-pub least_minus : IsLeast IsRatio (codes "-") 3
+pub least_minus : IsLeastCompletion IsRatio (codes "-") 3
 least_minus = record {
   more = codes "1/1";
   fits = whole_ratio (negsuc 0) (omega arith);
@@ -98,7 +98,7 @@ least_minus = record {
     signed (negsuc n) grown e = omega (arith, ap length e, length-decimal-some (n + 1))
 
 -- a whole number becomes a fraction by `/1`
-pub least_whole : (word : List ℕ) (z : ℤ) → split 47 word ≡ word ∷ [] → nat_abs z < 2 ^ 127 → word ≡ integer z → IsLeast IsRatio word 2
+pub least_whole : (word : List ℕ) (z : ℤ) → split 47 word ≡ word ∷ [] → nat_abs z < 2 ^ 127 → word ≡ integer z → IsLeastCompletion IsRatio word 2
 least_whole word z one small is = record {
   more = codes "/1";
   fits = subst (λ w. IsRatio (w ++ codes "/1")) (sym is) (whole_ratio z small);
@@ -177,11 +177,11 @@ never_above word above below parts pieces none = λ more ratio.
 -- what the denominator lacks the fraction lacks
 pub missing_below : (word above below : List ℕ) (z : ℤ) (numbers : Numbers) (found : Option ℕ) →
     word ≡ above ++ 47 ∷ below → split 47 word ≡ above ∷ split 47 below → nat_abs z < 2 ^ 127 → above ≡ integer z →
-    ((n : ℕ) → (IsAmong numbers n ↔ ((0 < n) × (n < 2 ^ 127) × (gcd (nat_abs z) n ≡ 1)))) →
-    IsMissing (IsNumber numbers) below found → IsMissing IsRatio word found
+    ((n : ℕ) → (IsCoprimeInRange numbers n ↔ ((0 < n) × (n < 2 ^ 127) × (gcd (nat_abs z) n ≡ 1)))) →
+    IsMissing (IsNumberInRange numbers) below found → IsMissing IsRatio word found
 missing_below word above below z numbers found parts pieces small is among missing = cases found missing
   where
-    denominator : (more : List ℕ) → IsRatio (word ++ more) → IsNumber numbers (below ++ more)
+    denominator : (more : List ℕ) → IsRatio (word ++ more) → IsNumberInRange numbers (below ++ more)
     denominator more ratio =
         let around = around_slash word above below more parts pieces ratio in
         let same : around.numerator ≡ z = integer-same around.numerator z (sym around.above_is ∙ is) in (
@@ -194,7 +194,7 @@ missing_below word above below z numbers found parts pieces small is among missi
           around.below_is,
         )
 
-    cases : (found : Option ℕ) → IsMissing (IsNumber numbers) below found → IsMissing IsRatio word found
+    cases : (found : Option ℕ) → IsMissing (IsNumberInRange numbers) below found → IsMissing IsRatio word found
     cases None never = λ more ratio. never more (denominator more ratio)
     cases (Some count) least =
         let n = least.fits.0 in

@@ -3,14 +3,14 @@ use Rattle.std.proofs.Common.{◌≡◌, ◌≢◌, ℕ, suc, ◌<◌, ◌≤◌
 use Rattle.std.proofs.lemmas.List.{map-append}
 use Rattle.std.proofs.lemmas.List.Elements.{All-nil, All-cons, All-head, All-tail, All-push}
 use Rattle.cost_base.specs.Decimal.{decimal}
-use Rattle.path_rows.specs.declared.form.Row.{Row}
-use Rattle.path_rows.specs.Bounds.{IsThing, BoundsRow}
-use Rattle.path_rows.specs.Text.{spaced, row_line}
+use Rattle.design_problem.specs.declared.form.Row.{Row}
+use Rattle.design_problem.specs.Bounds.{IsThing, BoundsRow}
+use Rattle.design_problem.specs.Text.{spaced, row_line}
 use Rattle.text_lines.specs.Numbers.{split}
 use Rattle.text_lines.proofs.WordLaws.{decimal-word}
 use Rattle.answer_lines.specs.Grammar.{AtRow}
-use Rattle.answer_lines.specs.Places.{Begins}
-use Rattle.begun_lines.specs.Begun.{BeginsNumber, IsRowLine, AreNumbers, IsShortRow, BeginsEdge}
+use Rattle.answer_lines.specs.Places.{BeginsLawful}
+use Rattle.begun_lines.specs.Begun.{BeginsNumber, IsLineOfRow, AreNumberWords, IsShortRow, BeginsEdge}
 use Rattle.begun_lines.proofs.Beginnings.{two_parts, front-longer, front-whole, behind-space}
 use Rattle.begun_lines.proofs.BegunPlaces.{begins-from, short_number}
 use Rattle.begun_lines.proofs.BegunNumbers.{cut-decimal}
@@ -97,7 +97,7 @@ abbrev row_of_numbers : ℕ → List ℕ → Row
 row_of_numbers first others = record { request = first; rival = record { start = 0; edges = others } }
 
 -- `row` and numbers are the line of a row
-row-line : (rest text : List ℕ) → rest ≡ codes "row " ++ text → IsNumbers text → IsRowLine rest
+row-line : (rest text : List ℕ) → rest ≡ codes "row " ++ text → IsNumbers text → IsLineOfRow rest
 row-line rest text is numbers = (
   row_of_numbers numbers.first numbers.others,
   (All-head IsThing numbers.first numbers.others numbers.bounds, All-tail IsThing numbers.first numbers.others numbers.bounds),
@@ -114,10 +114,10 @@ row-more request edges =
     ap (λ words. codes "row " ++ spaced (decimal request ∷ words)) (map-append decimal edges (0 ∷ []))
     ∙ ap (λ bytes. codes "row " ++ bytes) (spaced-more (decimal request) (map decimal edges) (48 ∷ []))
 
-edge-begins : (rest : List ℕ) (left : ℕ) → BeginsEdge rest → Begins (AtRow (suc left)) rest
+edge-begins : (rest : List ℕ) (left : ℕ) → BeginsEdge rest → BeginsLawful (AtRow (suc left)) rest
 edge-begins rest left edge = go edge.0 edge.1.0 edge.1.1 edge.1.2 edge.2 edge.3
   where
-    go : (line : List ℕ) (row : Row) → BoundsRow row → line ≡ row_line row → rest ≡ line ++ 32 ∷ [] → length rest < 65536 → Begins (AtRow (suc left)) rest
+    go : (line : List ℕ) (row : Row) → BoundsRow row → line ≡ row_line row → rest ≡ line ++ 32 ∷ [] → length rest < 65536 → BeginsLawful (AtRow (suc left)) rest
     go line row bounds is space room =
         let longer : Row = row_of_numbers row.request (row.rival.edges ++ 0 ∷ []) in
         let whole : rest ++ 48 ∷ [] ≡ row_line longer =
@@ -128,7 +128,7 @@ edge-begins rest left edge = go edge.0 edge.1.0 edge.1.1 edge.1.2 edge.2 edge.3
         (omega (arith, ap length whole, length-append rest (48 ∷ []))) (48 ∷ [], whole)
 
 pub row-begun : (rest : List ℕ) (left : ℕ) →
-    ((BeginsNumber rest (codes "row ") 4294967295 ⊎ IsShortRow rest) ⊎ BeginsEdge rest) ↔ Begins (AtRow (suc left)) rest
+    ((BeginsNumber rest (codes "row ") 4294967295 ⊎ IsShortRow rest) ⊎ BeginsEdge rest) ↔ BeginsLawful (AtRow (suc left)) rest
 row-begun rest left = (
   λ begun. elim begun [
     | inl (inl number) ↦
@@ -168,16 +168,16 @@ row-begun rest left = (
         ]
 
 -- a word `row`, and numbers behind it, one at least, are the words of a row's line
-pub row-said : (line : List ℕ) (words : List (List ℕ)) → split 32 line ≡ codes "row" ∷ words → ((words ≢ []) × AreNumbers words) ↔ IsRowLine line
+pub row-said : (line : List ℕ) (words : List (List ℕ)) → split 32 line ≡ codes "row" ∷ words → ((words ≢ []) × AreNumberWords words) ↔ IsLineOfRow line
 row-said line words cut = (λ said. from said.1.0 said.1.1 said.1.2 said.0, λ row. back row.0 row.1 row.2)
   where
-    from : (ns : List ℕ) → All IsThing ns → words ≡ map decimal ns → words ≢ [] → IsRowLine line
+    from : (ns : List ℕ) → All IsThing ns → words ≡ map decimal ns → words ≢ [] → IsLineOfRow line
     from [] all is some = absurd (some is)
     from (n ∷ ns) all is some =
         row-line line (spaced (map decimal (n ∷ ns))) (from-words line (codes "row") (map decimal (n ∷ ns)) (cut ∙ ap (λ ws. codes "row" ∷ ws) is))
         (record { first = n; others = ns; bounds = all; is = refl })
 
-    back : (row : Row) → BoundsRow row → line ≡ row_line row → (words ≢ []) × AreNumbers words
+    back : (row : Row) → BoundsRow row → line ≡ row_line row → (words ≢ []) × AreNumberWords words
     back row bounds is =
         let same : words ≡ map decimal (row.request ∷ row.rival.edges) =
         tail-is (codes "row") (codes "row") words (map decimal (row.request ∷ row.rival.edges))
@@ -185,7 +185,7 @@ row-said line words cut = (λ said. from said.1.0 said.1.1 said.1.2 said.0, λ r
         (λ none. cc, (row.request ∷ row.rival.edges, All-cons IsThing row.request row.rival.edges bounds.0 bounds.1, same))
 
 -- words that begin with no number aren't numbers
-pub numbers-off : (words : List (List ℕ)) → words ≢ [] → ((n : ℕ) (rest : List (List ℕ)) → n ≤ 4294967295 → words ≢ decimal n ∷ rest) → AreNumbers words → ⊥
+pub numbers-off : (words : List (List ℕ)) → words ≢ [] → ((n : ℕ) (rest : List (List ℕ)) → n ≤ 4294967295 → words ≢ decimal n ∷ rest) → AreNumberWords words → ⊥
 numbers-off words some none numbers = go numbers.0 numbers.1 numbers.2
   where
     go : (ns : List ℕ) → All IsThing ns → words ≡ map decimal ns → ⊥
@@ -193,7 +193,7 @@ numbers-off words some none numbers = go numbers.0 numbers.1 numbers.2
     go (n ∷ ns) all is = let small : IsThing n = All-head IsThing n ns all in none n (map decimal ns) (omega arith) is
 
 -- words that begin with a number are numbers where those behind it are
-pub numbers-on : (words rest : List (List ℕ)) (n : ℕ) → n ≤ 4294967295 → words ≡ decimal n ∷ rest → AreNumbers words ↔ AreNumbers rest
+pub numbers-on : (words rest : List (List ℕ)) (n : ℕ) → n ≤ 4294967295 → words ≡ decimal n ∷ rest → AreNumberWords words ↔ AreNumberWords rest
 numbers-on words rest n small is = (
   λ numbers. from numbers.0 numbers.1 numbers.2,
   λ numbers. (
@@ -204,6 +204,6 @@ numbers-on words rest n small is = (
   ),
 )
   where
-    from : (ns : List ℕ) → All IsThing ns → words ≡ map decimal ns → AreNumbers rest
+    from : (ns : List ℕ) → All IsThing ns → words ≡ map decimal ns → AreNumberWords rest
     from [] all same = absurd (cc)
     from (k ∷ ks) all same = (ks, All-tail IsThing k ks all, tail-is (decimal n) (decimal k) rest (map decimal ks) (sym is ∙ same))

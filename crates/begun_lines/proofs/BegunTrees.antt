@@ -8,9 +8,9 @@ use Rattle.text_lines.proofs.Digits.{length-decimal-le}
 use Rattle.evidence_text.specs.Parts.{no_tree_line, tree_line}
 use Rattle.evidence_text.specs.declared.TreePart.{TreePart}
 use Rattle.evidence_text.specs.declared.TreePart.TheVariants.{Proof, Unfinished}
-use Rattle.answer_lines.specs.Grammar.{Place, AtRow, AtTree, IsPartNext, Next}
-use Rattle.answer_lines.specs.Places.{Begins}
-use Rattle.begun_lines.specs.Begun.{IsFront, IsNumberWord, BeginsNumber, BeginsTree, BeginsCount}
+use Rattle.answer_lines.specs.Grammar.{TextPlace, AtRow, AtTree, IsPartNext, Next}
+use Rattle.answer_lines.specs.Places.{BeginsLawful}
+use Rattle.begun_lines.specs.Begun.{IsLineFront, IsNumberWord, BeginsNumber, BeginsTree, BeginsCount}
 use Rattle.begun_lines.proofs.Beginnings.{two_parts, front-longer, behind-space}
 use Rattle.begun_lines.proofs.BegunPlaces.{begins-from}
 use Rattle.answer_lines.proofs.ListParts.{head-is}
@@ -22,7 +22,7 @@ pub tree-begun : (rest front : List ℕ) → (BeginsNumber rest front 65535 ⊎ 
 tree-begun rest front = (
   λ begun. elim begun [
     | inl number ↦
-        let longer : IsFront rest ((front ++ decimal number.0) ++ 32 ∷ decimal 0) = front-longer rest (front ++ decimal number.0) (32 ∷ decimal 0) number.2 in
+        let longer : IsLineFront rest ((front ++ decimal number.0) ++ 32 ∷ decimal 0) = front-longer rest (front ++ decimal number.0) (32 ∷ decimal 0) number.2 in
         (number.0, 0, number.1, omega arith, (longer.0, longer.1 ∙ append_assoc front (decimal number.0) (32 ∷ decimal 0)))
     | inr count ↦ behind count.0 count.1 count.2 count.3 count.4
   ],
@@ -110,11 +110,11 @@ short_head front cap count small few many =
     )
 
 -- what begins the first line of a part, at a place where this line alone may stand
-part-begun : (place : Place) (part : TreePart) (none front rest : List ℕ) →
-    ((line : List ℕ) (next : Place) → IsPartNext part line next ↔ Next place line next) →
+part-begun : (place : TextPlace) (part : TreePart) (none front rest : List ℕ) →
+    ((line : List ℕ) (next : TextPlace) → IsPartNext part line next ↔ Next place line next) →
     none ≡ no_tree_line part → length none ≤ 100 →
     ((cap count : ℕ) → front ++ (decimal cap ++ 32 ∷ decimal count) ≡ tree_line part cap count) → length front ≤ 100 →
-    (IsFront rest none ⊎ BeginsTree rest front) ↔ Begins place rest
+    (IsLineFront rest none ⊎ BeginsTree rest front) ↔ BeginsLawful place rest
 part-begun place part none front rest lawful no_tree few a_tree small = (
   λ begun. elim begun [
     | inl line ↦ begins-from place (AtTree part 0 0) rest none ((lawful none (AtTree part 0 0)).0 (inl (no_tree, refl))) (omega (arith, few)) line
@@ -143,12 +143,12 @@ part-begun place part none front rest lawful no_tree few a_tree small = (
   ],
 )
 
-pub proof-begun : (rest : List ℕ) → (IsFront rest (codes "proof none") ⊎ BeginsTree rest (codes "proof ")) ↔ Begins (AtRow zero) rest
+pub proof-begun : (rest : List ℕ) → (IsLineFront rest (codes "proof none") ⊎ BeginsTree rest (codes "proof ")) ↔ BeginsLawful (AtRow zero) rest
 proof-begun rest =
     part-begun (AtRow zero) Proof (codes "proof none") (codes "proof ") rest (λ line next. (λ is. is, λ is. is)) refl (omega arith)
     (λ cap count. refl) (omega arith)
 
-pub open-begun : (rest : List ℕ) → (IsFront rest (codes "open none") ⊎ BeginsTree rest (codes "open ")) ↔ Begins (AtTree Proof zero zero) rest
+pub open-begun : (rest : List ℕ) → (IsLineFront rest (codes "open none") ⊎ BeginsTree rest (codes "open ")) ↔ BeginsLawful (AtTree Proof zero zero) rest
 open-begun rest =
     part-begun (AtTree Proof zero zero) Unfinished (codes "open none") (codes "open ") rest (λ line next. (λ is. is, λ is. is)) refl
     (omega arith) (λ cap count. refl) (omega arith)

@@ -2,12 +2,12 @@
 use Rattle.std.proofs.Common.{◌≡◌, ◌≢◌, ℕ, ◌+◌, ◌<◌, ◌≤◌, List, [], ◌∷◌, ◌++◌, length, eqb, Bool, false, MatchOption, Option, Some, None, ◌↔◌, IsTrue, refl, sym, ap, subst, ◌∙◌, arith, inl, inr, append_assoc, append-nil, length-append}
 use Rattle.std.specs.Prelude.{◌⊎◌}
 use Rattle.std.proofs.lemmas.List.Elements.{All-head, All-tail}
-use Rattle.path_rows.specs.Text.{spaced}
+use Rattle.design_problem.specs.Text.{spaced}
 use Rattle.text_lines.specs.Lines.{grow}
 use Rattle.text_lines.specs.Numbers.{split}
 use Rattle.text_lines.proofs.Pieces.{split-some}
 use Rattle.answer_lines.specs.Words.{IsSpaceless}
-use Rattle.begun_lines.specs.BegunLines.{GoesOn, Then, Alone, Never, IsLeast, IsStep, IsNoStep, IsNumber, IsRatio}
+use Rattle.begun_lines.specs.BegunLines.{GoesOn, Then, Alone, Never, IsLeastCompletion, IsWordStep, IsNoStep, IsNumberInRange, IsRatio}
 use Rattle.begun_lines.specs.declared.numbers.Numbers.{Numbers}
 use Rattle.begun_lines.specs.declared.begun.Begun.{Begun}
 use Rattle.answer_lines.proofs.ListParts.{head-is, tail-is}
@@ -108,8 +108,8 @@ StandsBehind b missing after =
     × (split 32 b.text.now ≡ word ∷ split 32 after.text.now) × (missing ≡ 0) × (after.room ≡ b.room))
     ⊎ ((split 32 b.text.now ≡ b.text.now ∷ []) × (after.text.now ≡ []) × (after.room + missing + 1 ≡ b.room))
 
-step_here : (word : List ℕ → Type 0) (b after : Begun) (v : List ℕ) (vs : List (List ℕ)) (n : ℕ) → IsLeast word v n → split 32 b.text.now ≡ v ∷ vs →
-    (u : List ℕ) → b.text.now ≡ u ++ 32 ∷ after.text.now → split 32 b.text.now ≡ u ∷ split 32 after.text.now → n ≡ 0 → after.room ≡ b.room → IsStep word b after
+step_here : (word : List ℕ → Type 0) (b after : Begun) (v : List ℕ) (vs : List (List ℕ)) (n : ℕ) → IsLeastCompletion word v n → split 32 b.text.now ≡ v ∷ vs →
+    (u : List ℕ) → b.text.now ≡ u ++ 32 ∷ after.text.now → split 32 b.text.now ≡ u ∷ split 32 after.text.now → n ≡ 0 → after.room ≡ b.room → IsWordStep word b after
 step_here word b after v vs n least first u parts cut none same =
     let spaceless : IsSpaceless u = split-whole 32 b.text.now u (split 32 after.text.now) cut in
     let is_u : v ≡ u = head-is v u vs (split 32 after.text.now) (sym first ∙ cut) in
@@ -132,7 +132,7 @@ record Onward (word : List ℕ → Type 0) (text more w : List ℕ) (ws : List (
   is : ws ≡ split 32 rest
   few : n + 1 + length rest ≤ length more
 
-onward : (word : List ℕ → Type 0) (text more w : List ℕ) (ws : List (List ℕ)) (n : ℕ) → IsLeast word text n →
+onward : (word : List ℕ → Type 0) (text more w : List ℕ) (ws : List (List ℕ)) (n : ℕ) → IsLeastCompletion word text n →
     split 32 text ≡ text ∷ [] → word w → ws ≢ [] → split 32 (text ++ more) ≡ w ∷ ws →
     Onward word text more w ws n
 onward word text more w ws n least alone is some e =
@@ -148,8 +148,8 @@ onward word text more w ws n least alone is some e =
     ]
 
 step_grown : (word : List ℕ → Type 0) → ((w : List ℕ) → word w → IsSpaceless w) → (b after : Begun) (n : ℕ) →
-    IsLeast word b.text.now n → split 32 b.text.now ≡ b.text.now ∷ [] →
-    after.text.now ≡ [] → after.room + n + 1 ≡ b.room → IsStep word b after
+    IsLeastCompletion word b.text.now n → split 32 b.text.now ≡ b.text.now ∷ [] →
+    after.text.now ≡ [] → after.room + n + 1 ≡ b.room → IsWordStep word b after
 step_grown word spaceless b after n least alone empty room = record {
   forth =
       λ more w ws is some e within.
@@ -170,12 +170,12 @@ step_grown word spaceless b after n least alone empty room = record {
 
 -- what follows a word that lacks some bytes
 pub step_behind : (word : List ℕ → Type 0) → ((w : List ℕ) → word w → IsSpaceless w) →
-    (b : Begun) (v : List ℕ) (vs : List (List ℕ)) (n : ℕ) → IsLeast word v n → split 32 b.text.now ≡ v ∷ vs →
-    (r : Option Begun) → MatchOption r (NotBehind b n) (λ after. StandsBehind b n after) → MatchOption r (IsNoStep word b) (λ after. IsStep word b after)
+    (b : Begun) (v : List ℕ) (vs : List (List ℕ)) (n : ℕ) → IsLeastCompletion word v n → split 32 b.text.now ≡ v ∷ vs →
+    (r : Option Begun) → MatchOption r (NotBehind b n) (λ after. StandsBehind b n after) → MatchOption r (IsNoStep word b) (λ after. IsWordStep word b after)
 step_behind word spaceless b v vs n least first (Some after) (inl here) = step_here word b after v vs n least first here.0 here.1 here.2 here.3 here.4
 step_behind word spaceless b v vs n least first (Some after) (inr grown) =
     let is : v ≡ b.text.now = head-is v b.text.now vs [] (sym first ∙ grown.0) in
-    step_grown word spaceless b after n (subst (λ u. IsLeast word u n) is least) grown.0 grown.1 grown.2
+    step_grown word spaceless b after n (subst (λ u. IsLeastCompletion word u n) is least) grown.0 grown.1 grown.2
 step_behind word spaceless b v vs n least first None (inl not) = λ more w ws is some e within.
     elim (first_word b.text.now v vs first).parts [
       | inl one ↦ not.0 (first ∙ ap (λ us. v ∷ us) one.0 ∙ ap (λ u. u ∷ []) (sym one.1))
@@ -186,7 +186,7 @@ step_behind word spaceless b v vs n least first None (inl not) = λ more w ws is
     ]
 step_behind word spaceless b v vs n least first None (inr tight) = λ more w ws is some e within.
     let same : v ≡ b.text.now = head-is v b.text.now vs [] (sym first ∙ tight.0) in
-    let on = onward word b.text.now more w ws n (subst (λ u. IsLeast word u n) same least) tight.0 is some e in
+    let on = onward word b.text.now more w ws n (subst (λ u. IsLeastCompletion word u n) same least) tight.0 is some e in
     omega (arith, on.few, tight.1)
 
 -- one word alone
@@ -208,7 +208,7 @@ last_never word text v vs room first never = (
 
 -- a line that may end with a word
 pub last_word : (word : List ℕ → Type 0) → ((w : List ℕ) → word w → IsSpaceless w) →
-    (text v : List ℕ) (vs : List (List ℕ)) (room n : ℕ) → split 32 text ≡ v ∷ vs → IsLeast word v n → (r : Bool) →
+    (text v : List ℕ) (vs : List (List ℕ)) (room n : ℕ) → split 32 text ≡ v ∷ vs → IsLeastCompletion word v n → (r : Bool) →
     IsTrue r ↔ ((split 32 text ≡ text ∷ []) × (n ≤ room)) → IsTrue r ↔ GoesOn (Alone word) text room
 last_word word spaceless text v vs room n first least r h = (λ yes_it. forth (h.0 yes_it), λ on. h.1 (back on))
   where
@@ -254,7 +254,7 @@ stops word said b none some = (
 )
 
 -- a line that goes on with a word and what follows it
-pub goes : (word : List ℕ → Type 0) (said : List (List ℕ) → Type 0) (b after : Begun) → IsStep word b after →
+pub goes : (word : List ℕ → Type 0) (said : List (List ℕ) → Type 0) (b after : Begun) → IsWordStep word b after →
     (said [] → ⊥) → (r : Bool) → IsTrue r ↔ GoesOn said after.text.now after.room →
     IsTrue r ↔ GoesOn (Then word said) b.text.now b.room
 goes word said b after step some r h = (λ yes_it. forth (h.0 yes_it), λ on. h.1 (back on))
@@ -276,7 +276,7 @@ pub never_name : (wanted word : List ℕ) → ((rest : List ℕ) → wanted ≢ 
 never_name wanted word none = λ more e. none more (sym e)
 
 -- what a word lacks of a name
-pub least_name : (wanted word missing : List ℕ) → wanted ≡ word ++ missing → IsLeast (λ w. w ≡ wanted) word (length missing)
+pub least_name : (wanted word missing : List ℕ) → wanted ≡ word ++ missing → IsLeastCompletion (λ w. w ≡ wanted) word (length missing)
 least_name wanted word missing e = record {
   more = missing;
   fits = sym e;
@@ -287,7 +287,7 @@ least_name wanted word missing e = record {
 pub name-spaceless : (wanted : List ℕ) → IsSpaceless wanted → (w : List ℕ) → w ≡ wanted → IsSpaceless w
 name-spaceless wanted spaceless w e = subst IsSpaceless (sym e) spaceless
 
-pub number-spaceless : (numbers : Numbers) (w : List ℕ) → IsNumber numbers w → IsSpaceless w
+pub number-spaceless : (numbers : Numbers) (w : List ℕ) → IsNumberInRange numbers w → IsSpaceless w
 number-spaceless numbers w is = subst IsSpaceless (sym is.2) (decimal-spaceless is.0)
 
 pub ratio_word-spaceless : (w : List ℕ) → IsRatio w → IsSpaceless w

@@ -2,15 +2,15 @@
 use Rattle.std.specs.Prelude.{◌≡◌, ◌≢◌, ℕ, ◌<◌, ◌≤◌, List, [], ◌∷◌, ◌++◌, All, length, map, Option, Some, None}
 use Rattle.cost_base.specs.Decimal.{decimal}
 use Rattle.cost_base.specs.Words.{IsOneWord}
-use Rattle.path_rows.specs.declared.form.Row.{Row}
-use Rattle.path_rows.specs.Bounds.{IsThing, BoundsRow}
-use Rattle.path_rows.specs.Text.{row_line}
+use Rattle.design_problem.specs.declared.form.Row.{Row}
+use Rattle.design_problem.specs.Bounds.{IsThing, BoundsRow}
+use Rattle.design_problem.specs.Text.{row_line}
 use Rattle.answer_lines.specs.Grammar.{AtInterface, router_line}
-use Rattle.answer_lines.specs.Places.{Begins}
+use Rattle.answer_lines.specs.Places.{BeginsLawful}
 
 -- a line begins with these bytes
-abbrev pub IsFront : List ℕ → List ℕ → Type 0
-IsFront rest line = (more : List ℕ) × (rest ++ more ≡ line)
+abbrev pub IsLineFront : List ℕ → List ℕ → Type 0
+IsLineFront rest line = (more : List ℕ) × (rest ++ more ≡ line)
 
 -- the word of a number that is at most the greatest
 abbrev pub IsNumberWord : List ℕ → ℕ → Type 0
@@ -18,15 +18,15 @@ IsNumberWord word greatest = (n : ℕ) × (n ≤ greatest) × (word ≡ decimal 
 
 -- some bytes, with a number behind them that is at most the greatest, begin with these
 abbrev pub BeginsNumber : List ℕ → List ℕ → ℕ → Type 0
-BeginsNumber rest front greatest = (n : ℕ) × (n ≤ greatest) × IsFront rest (front ++ decimal n)
+BeginsNumber rest front greatest = (n : ℕ) × (n ≤ greatest) × IsLineFront rest (front ++ decimal n)
 
 -- some bytes, with a name behind them, begin with these, and are a line of at most 65,536 bytes
 abbrev pub BeginsName : List ℕ → List ℕ → Type 0
-BeginsName rest front = (name : List ℕ) × IsOneWord name × IsFront rest (front ++ name) × (length (front ++ name) ≤ 65536)
+BeginsName rest front = (name : List ℕ) × IsOneWord name × IsLineFront rest (front ++ name) × (length (front ++ name) ≤ 65536)
 
 -- the head of a tree, with its cap and its count, begins with these bytes
 abbrev pub BeginsTree : List ℕ → List ℕ → Type 0
-BeginsTree rest front = (cap count : ℕ) × (cap ≤ 65535) × (count ≤ 4294967295) × IsFront rest (front ++ (decimal cap ++ 32 ∷ decimal count))
+BeginsTree rest front = (cap count : ℕ) × (cap ≤ 65535) × (count ≤ 4294967295) × IsLineFront rest (front ++ (decimal cap ++ 32 ∷ decimal count))
 
 -- these bytes hold the whole cap of the head of a tree
 abbrev pub BeginsCount : List ℕ → List ℕ → Type 0
@@ -38,25 +38,25 @@ IsRouterOf router line = (name : List ℕ) × (router ≡ Some name) × (line �
 
 -- the line of a router, not that of the cost line before, begins with these bytes
 abbrev pub BeginsRouter : Option (List ℕ) → List ℕ → Type 0
-BeginsRouter before rest = (name : List ℕ) × IsOneWord name × (before ≢ Some name) × IsFront rest (router_line name) × (length (router_line name) ≤ 65536)
+BeginsRouter before rest = (name : List ℕ) × IsOneWord name × (before ≢ Some name) × IsLineFront rest (router_line name) × (length (router_line name) ≤ 65536)
 
 -- the line of a further interface, which stands only behind a cost line, begins with these bytes
 abbrev pub BeginsAgain : Option (List ℕ) → List ℕ → Type 0
 BeginsAgain None rest = ⊥
-BeginsAgain (Some router) rest = Begins (AtInterface router) rest
+BeginsAgain (Some router) rest = BeginsLawful (AtInterface router) rest
 
 -- the line of a row
-abbrev pub IsRowLine : List ℕ → Type 0
-IsRowLine line = (row : Row) × BoundsRow row × (line ≡ row_line row)
+abbrev pub IsLineOfRow : List ℕ → Type 0
+IsLineOfRow line = (row : Row) × BoundsRow row × (line ≡ row_line row)
 
 -- the line of a row, of at most 65,536 bytes
 abbrev pub IsShortRow : List ℕ → Type 0
-IsShortRow line = IsRowLine line × (length line ≤ 65536)
+IsShortRow line = IsLineOfRow line × (length line ≤ 65536)
 
 -- the line of a row, and a space behind it, with room for one more edge
 abbrev pub BeginsEdge : List ℕ → Type 0
-BeginsEdge rest = (line : List ℕ) × IsRowLine line × (rest ≡ line ++ 32 ∷ []) × (length rest < 65536)
+BeginsEdge rest = (line : List ℕ) × IsLineOfRow line × (rest ≡ line ++ 32 ∷ []) × (length rest < 65536)
 
--- words are numbers
-abbrev pub AreNumbers : List (List ℕ) → Type 0
-AreNumbers words = (ns : List ℕ) × All IsThing ns × (words ≡ map decimal ns)
+-- words that are decimal numbers of 32 bits
+abbrev pub AreNumberWords : List (List ℕ) → Type 0
+AreNumberWords words = (ns : List ℕ) × All IsThing ns × (words ≡ map decimal ns)

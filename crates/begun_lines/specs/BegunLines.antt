@@ -6,29 +6,29 @@ use Rattle.whole_numbers.specs.Fractions.{gcd}
 use Rattle.cost_base.specs.declared.Ratio.{Ratio}
 use Rattle.cost_base.specs.declared.StepName.{StepName}
 use Rattle.cost_base.specs.declared.StepName.TheVariants.{Mul, Div, Lcm, Scale}
-use Rattle.path_rows.specs.declared.tree.Side.{Side}
-use Rattle.path_rows.specs.declared.tree.Member.{Member}
-use Rattle.path_rows.specs.declared.tree.Entry.{Entry}
-use Rattle.path_rows.specs.Bounds.{BoundsMember}
-use Rattle.path_rows.specs.Text.{side_word, step_word, ratio_word, member_words, members_words, part_words, IsPrinted}
+use Rattle.design_problem.specs.declared.tree.Side.{Side}
+use Rattle.design_problem.specs.declared.tree.Member.{Member}
+use Rattle.design_problem.specs.declared.tree.Entry.{Entry}
+use Rattle.design_problem.specs.Bounds.{BoundsMember}
+use Rattle.design_problem.specs.Text.{side_word, step_word, ratio_word, member_words, members_words, part_words, IsPrintedRatio}
 use Rattle.answer_lines.specs.Words.{SaysEntry}
 use Rattle.begun_lines.specs.declared.begun.Begun.{Begun}
 use Rattle.begun_lines.specs.declared.numbers.Numbers.{Numbers}
 
--- with some bytes more, for which there is room, a text has words of a kind
+-- a text with some bytes more, for which there is room, has words of a kind
 abbrev pub GoesOn : (List (List ℕ) → Type 0) → List ℕ → ℕ → Type 0
 GoesOn said text room = (more : List ℕ) × said (split 32 (text ++ more)) × (length more ≤ room)
 
--- in the room that it has, a begun line may become one of these words
+-- a begun line may become words of this kind in the room that it has
 abbrev pub Becomes : (List (List ℕ) → Type 0) → Begun → Type 0
 Becomes said line = GoesOn said line.text.now line.room
 
--- a word, and then words
+-- the line is a word of one kind, and behind it words of another
 abbrev pub Then : (List ℕ → Type 0) → (List (List ℕ) → Type 0) → List (List ℕ) → Type 0
 Then word said [] = ⊥
 Then word said (w ∷ ws) = word w × said ws
 
--- one word alone
+-- the line is one word of this kind
 abbrev pub Alone : (List ℕ → Type 0) → List (List ℕ) → Type 0
 Alone word [] = ⊥
 Alone word (w ∷ []) = word w
@@ -38,8 +38,8 @@ Alone word (w ∷ v ∷ vs) = ⊥
 abbrev pub Never : (List ℕ → Type 0) → List ℕ → Type 0
 Never word begun = (more : List ℕ) → word (begun ++ more) → ⊥
 
--- so many more bytes make a word of the kind, and no fewer do
-pub record IsLeast (word : List ℕ → Type 0) (begun : List ℕ) (count : ℕ) : Type 0 where
+-- a begun word lacks just so many bytes: so many more make a word of the kind, and no fewer do
+pub record IsLeastCompletion (word : List ℕ → Type 0) (begun : List ℕ) (count : ℕ) : Type 0 where
   pub more : List ℕ
   pub fits : word (begun ++ more)
   pub count_is : length more ≡ count
@@ -47,10 +47,10 @@ pub record IsLeast (word : List ℕ → Type 0) (begun : List ℕ) (count : ℕ)
 
 -- how many bytes a begun word still lacks
 abbrev pub IsMissing : (List ℕ → Type 0) → List ℕ → Option ℕ → Type 0
-IsMissing word begun found = MatchOption found (Never word begun) (IsLeast word begun)
+IsMissing word begun found = MatchOption found (Never word begun) (IsLeastCompletion word begun)
 
 -- what follows a word: what goes on with the one goes on with the other
-pub record IsStep (word : List ℕ → Type 0) (before after : Begun) : Type 0 where
+pub record IsWordStep (word : List ℕ → Type 0) (before after : Begun) : Type 0 where
   pub forth : (more w : List ℕ) (ws : List (List ℕ)) → word w → ws ≢ [] → split 32 (before.text.now ++ more) ≡ w ∷ ws → length more ≤ before.room →
       (left : List ℕ) × (ws ≡ split 32 (after.text.now ++ left)) × (length left ≤ after.room)
   pub back : (left : List ℕ) → length left ≤ after.room →
@@ -62,13 +62,14 @@ IsNoStep word before =
     (more w : List ℕ) (ws : List (List ℕ)) → word w → ws ≢ [] → split 32 (before.text.now ++ more) ≡ w ∷ ws → length more ≤ before.room → ⊥
 
 -- a number of a range that has no divisor in common with another
-pub record IsAmong (numbers : Numbers) (n : ℕ) : Type 0 where
+pub record IsCoprimeInRange (numbers : Numbers) (n : ℕ) : Type 0 where
   pub least : numbers.least ≤ n
   pub greatest : n ≤ numbers.greatest
   pub coprime : gcd numbers.coprime_to n ≡ 1
 
-abbrev pub IsNumber : Numbers → List ℕ → Type 0
-IsNumber numbers w = (n : ℕ) × IsAmong numbers n × (w ≡ decimal n)
+-- the decimal digits of such a number
+abbrev pub IsNumberInRange : Numbers → List ℕ → Type 0
+IsNumberInRange numbers w = (n : ℕ) × IsCoprimeInRange numbers n × (w ≡ decimal n)
 
 -- a number is another with so many more digits
 abbrev pub Extends : ℕ → ℕ → ℕ → Type 0
@@ -78,24 +79,31 @@ Extends begun digits n = (begun * 10 ^ digits ≤ n) × (n < begun * 10 ^ digits
 abbrev pub range : ℕ → ℕ → Numbers
 range least greatest = record { least = least; greatest = greatest; coprime_to = 1 }
 
+-- the word of a fraction
 abbrev pub IsRatio : List ℕ → Type 0
-IsRatio w = (q : Ratio) × IsPrinted q × (w ≡ ratio_word q)
+IsRatio w = (q : Ratio) × IsPrintedRatio q × (w ≡ ratio_word q)
 
+-- `low` or `high`
 abbrev pub IsSide : List ℕ → Type 0
 IsSide w = (side : Side) × (w ≡ side_word side)
 
+-- the word of a step
 abbrev pub IsStepWord : List ℕ → Type 0
 IsStepWord w = (step : StepName) × (w ≡ step_word step)
 
+-- the word of one of two steps
 abbrev pub IsEitherStep : StepName → StepName → List ℕ → Type 0
 IsEitherStep first second w = (w ≡ step_word first) ⊎ (w ≡ step_word second)
 
+-- the word of a product, a quotient, a least common multiple or a scale
 abbrev pub IsLaterStep : List ℕ → Type 0
 IsLaterStep w = IsEitherStep Mul Div w ⊎ IsEitherStep Lcm Scale w
 
+-- the numbers of variables: 32 bits
 abbrev pub vars : Numbers
 vars = range 0 4294967295
 
+-- the numbers of bounds: 16 bits
 abbrev pub values : Numbers
 values = range 0 65535
 
@@ -104,44 +112,51 @@ abbrev pub rows_from : ℕ → Numbers
 rows_from least = range least 18446744073709551615
 
 -- multipliers, of at most 31 digits
-abbrev pub multipliers : Numbers
-multipliers = range 1 9999999999999999999999999999999
+abbrev pub multiplier_range : Numbers
+multiplier_range = range 1 9999999999999999999999999999999
 
+-- the words of an Undone
 abbrev pub OpenWords : List (List ℕ) → Type 0
 OpenWords ws = Alone (λ w. w ≡ codes "open") ws
 
+-- the words of a Split
 abbrev pub SplitWords : List (List ℕ) → Type 0
-SplitWords ws = Then (λ w. w ≡ codes "split") (Then (IsNumber vars) (Alone (IsNumber values))) ws
+SplitWords ws = Then (λ w. w ≡ codes "split") (Then (IsNumberInRange vars) (Alone (IsNumberInRange values))) ws
 
 -- what follows the side of a Tighten
 abbrev pub BoundWords : List (List ℕ) → Type 0
-BoundWords ws = Then (IsNumber values) (Alone (IsNumber (rows_from 0))) ws
+BoundWords ws = Then (IsNumberInRange values) (Alone (IsNumberInRange (rows_from 0))) ws
 
+-- the words of a Tighten
 abbrev pub TightenWords : List (List ℕ) → Type 0
-TightenWords ws = Then (λ w. w ≡ codes "tighten") (Then (IsNumber vars) (Then IsSide BoundWords)) ws
+TightenWords ws = Then (λ w. w ≡ codes "tighten") (Then (IsNumberInRange vars) (Then IsSide BoundWords)) ws
 
 -- rows that rise from a number on, with their multipliers
 abbrev pub IsRising : ℕ → List (ℕ × ℕ) → Type 0
 IsRising least [] = Unit {0}
-IsRising least (part ∷ parts) = IsAmong (rows_from least) part.0 × IsAmong multipliers part.1 × IsRising (part.0 + 1) parts
+IsRising least (part ∷ parts) = IsCoprimeInRange (rows_from least) part.0 × IsCoprimeInRange multiplier_range part.1 × IsRising (part.0 + 1) parts
 
 -- some rows that rise from a number on, with their multipliers
 abbrev pub PartsWords : ℕ → List (List ℕ) → Type 0
 PartsWords least ws = (parts : List (ℕ × ℕ)) × (parts ≢ []) × IsRising least parts × (ws ≡ part_words parts)
 
+-- the words of a Refute
 abbrev pub RefuteWords : List (List ℕ) → Type 0
 RefuteWords ws = Then (λ w. w ≡ codes "refute") (PartsWords 0) ws
 
+-- the words of a member of a basis
 abbrev pub MemberWords : List (List ℕ) → Type 0
 MemberWords ws = (member : Member) × BoundsMember member × (ws ≡ member_words member)
 
 -- the member of a row, and what follows the side of a bound
 abbrev pub RowWords : List (List ℕ) → Type 0
-RowWords ws = Then (λ w. w ≡ codes "row") (Alone (IsNumber (rows_from 0))) ws
+RowWords ws = Then (λ w. w ≡ codes "row") (Alone (IsNumberInRange (rows_from 0))) ws
 
+-- what follows the side of a bound in a basis: a variable and the bound
 abbrev pub EndWords : List (List ℕ) → Type 0
-EndWords ws = Then (IsNumber vars) (Alone (IsNumber values)) ws
+EndWords ws = Then (IsNumberInRange vars) (Alone (IsNumberInRange values)) ws
 
+-- the words of the members of a basis, at least one
 abbrev pub MembersWords : List (List ℕ) → Type 0
 MembersWords ws = (members : List Member) × (members ≢ []) × All BoundsMember members × (ws ≡ members_words members)
 
@@ -149,18 +164,22 @@ MembersWords ws = (members : List Member) × (members ≢ []) × All BoundsMembe
 abbrev pub BasisWords : List (List ℕ) → Type 0
 BasisWords ws = Then IsRatio (Then IsRatio MembersWords) ws
 
+-- the words of a Halve
 abbrev pub HalveWords : List (List ℕ) → Type 0
-HalveWords ws = Then (λ w. w ≡ codes "halve") (Then (IsNumber vars) (Then (IsNumber values) (Then IsStepWord BasisWords))) ws
+HalveWords ws = Then (λ w. w ≡ codes "halve") (Then (IsNumberInRange vars) (Then (IsNumberInRange values) (Then IsStepWord BasisWords))) ws
 
 -- entries without a subtree, with two, and with one or two
 abbrev pub LeafWords : List (List ℕ) → Type 0
 LeafWords ws = RefuteWords ws ⊎ OpenWords ws
 
+-- the words of an entry with two subtrees
 abbrev pub PartingWords : List (List ℕ) → Type 0
 PartingWords ws = SplitWords ws ⊎ HalveWords ws
 
+-- the words of an entry with a subtree or two
 abbrev pub ParentWords : List (List ℕ) → Type 0
 ParentWords ws = TightenWords ws ⊎ PartingWords ws
 
+-- the words of any entry
 abbrev pub EntryWords : List (List ℕ) → Type 0
 EntryWords ws = (entry : Entry) × SaysEntry ws entry

@@ -3,7 +3,7 @@ ghost use Rattle.std.specs.Prelude.{◌≡◌, ◌≢◌, ◌+◌, ◌^◌, ◌<
 ghost use Rattle.text_lines.specs.Numbers.{split};
 ghost use Rattle.whole_numbers.specs.Fractions.{gcd};
 ghost use Rattle.answer_lines.specs.Words.{IsSpaceless};
-ghost use Rattle.begun_lines.specs.BegunLines.{IsStep, IsNoStep, Becomes, Alone, IsNumber, IsRatio};
+ghost use Rattle.begun_lines.specs.BegunLines.{IsWordStep, IsNoStep, Becomes, Alone, IsNumberInRange, IsRatio};
 
 use crate::numbers::{Numbers, missing_digits};
 use crate::ratios::missing_of_ratio;
@@ -21,7 +21,7 @@ impl<'a> Begun<'a> {
     /// What follows this name, where the next word is it or begins it.
     pub(crate) fn name(self, wanted: &[u8]) -> Option<Begun<'a>>
         requires { IsSpaceless wanted.now }
-        ensures { MatchOption result (IsNoStep (λ w. w ≡ wanted.now) self.entry) (λ after. IsStep (λ w. w ≡ wanted.now) self.entry after) }
+        ensures { MatchOption result (IsNoStep (λ w. w ≡ wanted.now) self.entry) (λ after. IsWordStep (λ w. w ≡ wanted.now) self.entry after) }
     {
         let missing = after(wanted, self.first_word())?;
         self.behind(missing.len())
@@ -42,7 +42,7 @@ impl<'a> Begun<'a> {
     pub(crate) fn number(self, numbers: Numbers) -> Option<Begun<'a>>
         requires coprime { gcd numbers.coprime_to numbers.least ≡ 1 }
         requires fits { numbers.greatest < 2 ^ 128 }
-        ensures { MatchOption result (IsNoStep (IsNumber numbers) self.entry) (λ after. IsStep (IsNumber numbers) self.entry after) }
+        ensures { MatchOption result (IsNoStep (IsNumberInRange numbers) self.entry) (λ after. IsWordStep (IsNumberInRange numbers) self.entry after) }
     {
         let missing = missing_digits(self.first_word(), numbers)?;
         self.behind(missing)
@@ -52,7 +52,7 @@ impl<'a> Begun<'a> {
     pub(crate) fn last_number(self, numbers: Numbers) -> bool
         requires coprime { gcd numbers.coprime_to numbers.least ≡ 1 }
         requires fits { numbers.greatest < 2 ^ 128 }
-        ensures { IsTrue result ↔ Becomes (Alone (IsNumber numbers)) self.entry }
+        ensures { IsTrue result ↔ Becomes (Alone (IsNumberInRange numbers)) self.entry }
     {
         match missing_digits(self.first_word(), numbers) {
             Some(missing) => self.ends(missing),
@@ -62,7 +62,7 @@ impl<'a> Begun<'a> {
 
     /// What follows a fraction, where the next word is one or begins one.
     pub(crate) fn ratio(self) -> Option<Begun<'a>>
-        ensures { MatchOption result (IsNoStep IsRatio self.entry) (λ after. IsStep IsRatio self.entry after) }
+        ensures { MatchOption result (IsNoStep IsRatio self.entry) (λ after. IsWordStep IsRatio self.entry after) }
     {
         let missing = missing_of_ratio(self.first_word())?;
         self.behind(missing)

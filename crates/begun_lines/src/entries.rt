@@ -1,14 +1,14 @@
 //! Tree lines of an answer that are begun.
 ghost use Rattle.std.specs.Prelude.{◌≡◌, ◌≢◌, ℕ, suc, ◌+◌, ◌<◌, ◌≤◌, ◌∷◌, ◌++◌, List, MatchOption, IsTrue, ◌↔◌, length};
 ghost use Rattle.cost_base.specs.Decimal.{decimal};
-ghost use Rattle.path_rows.specs.declared.tree.Member.{Member};
-ghost use Rattle.path_rows.specs.Bounds.{BoundsMember};
-ghost use Rattle.path_rows.specs.Text.{side_word, step_word, member_words};
+ghost use Rattle.design_problem.specs.declared.tree.Member.{Member};
+ghost use Rattle.design_problem.specs.Bounds.{BoundsMember};
+ghost use Rattle.design_problem.specs.Text.{side_word, step_word, member_words};
 ghost use Rattle.text_lines.specs.Numbers.{split};
 ghost use Rattle.evidence_text.specs.declared.TreePart.{TreePart};
 ghost use Rattle.answer_lines.specs.Grammar.{AtTree};
-ghost use Rattle.answer_lines.specs.Places.{Begins};
-ghost use Rattle.begun_lines.specs.BegunLines.{Becomes, Then, Alone, IsAmong, IsNumber, IsSide, IsStepWord, IsEitherStep, IsLaterStep, rows_from, multipliers};
+ghost use Rattle.answer_lines.specs.Places.{BeginsLawful};
+ghost use Rattle.begun_lines.specs.BegunLines.{Becomes, Then, Alone, IsCoprimeInRange, IsNumberInRange, IsSide, IsStepWord, IsEitherStep, IsLaterStep, rows_from, multiplier_range};
 ghost use Rattle.begun_lines.specs.BegunLines.{LeafWords, ParentWords, PartingWords, SplitWords, BoundWords, TightenWords, PartsWords, RefuteWords, RowWords};
 ghost use Rattle.begun_lines.specs.BegunLines.{EndWords, MemberWords, MembersWords, BasisWords, HalveWords, EntryWords};
 
@@ -18,8 +18,8 @@ use answer_lines::{
     GREATEST_MULTIPLIER, GREATEST_ROW, GREATEST_VALUE, GREATEST_VAR, LONGEST, Pieces, member_of,
     part_of,
 };
+use design_problem::{Side, StepName};
 use evidence_text::{side_word, step_word};
-use path_rows::{Side, StepName};
 
 /// The numbers of variables.
 const VARS: Numbers = Numbers {
@@ -48,7 +48,7 @@ const MULTIPLIERS: Numbers = Numbers {
 
 /// Whether a lawful tree line begins with these bytes.
 pub fn begins_entry(rest: &[u8]) -> bool
-    ensures { (part : TreePart) (places left : ℕ) → (IsTrue result ↔ Begins (AtTree part (suc places) (suc left)) rest.now) }
+    ensures { (part : TreePart) (places left : ℕ) → (IsTrue result ↔ BeginsLawful (AtTree part (suc places) (suc left)) rest.now) }
 {
     match LONGEST.checked_sub(rest.len()) {
         Some(room) => becomes_entry(Begun { text: rest, room }),
@@ -165,8 +165,8 @@ fn goes_on_with_parts(line: Begun<'_>) -> bool
 /// The row of the next two words, and the text behind them, where there is one.
 fn behind_part(text: &[u8]) -> Option<(u64, &[u8])>
     ensures { MatchOption result
-        ((row m : ℕ) (rest : List ℕ) → IsAmong (rows_from 0) row → IsAmong multipliers m → split 32 text.now ≢ decimal row ∷ decimal m ∷ split 32 rest)
-        (λ r. (m : ℕ) × IsAmong (rows_from 0) r.0 × IsAmong multipliers m × (split 32 text.now ≡ decimal r.0 ∷ decimal m ∷ split 32 r.1.now)) }
+        ((row m : ℕ) (rest : List ℕ) → IsCoprimeInRange (rows_from 0) row → IsCoprimeInRange multiplier_range m → split 32 text.now ≢ decimal row ∷ decimal m ∷ split 32 rest)
+        (λ r. (m : ℕ) × IsCoprimeInRange (rows_from 0) r.0 × IsCoprimeInRange multiplier_range m × (split 32 text.now ≡ decimal r.0 ∷ decimal m ∷ split 32 r.1.now)) }
 {
     let ((row, _), rest) = part_of(Pieces::new(text))?;
     let behind = rest.text()?;
@@ -175,7 +175,7 @@ fn behind_part(text: &[u8]) -> Option<(u64, &[u8])>
 
 /// Whether a `refute` line may end with a row from this one on, and its multiplier.
 fn ends_with_part(line: Begun<'_>, least: u128) -> bool
-    ensures { IsTrue result ↔ Becomes (Then (IsNumber (rows_from least)) (Alone (IsNumber multipliers))) line.entry }
+    ensures { IsTrue result ↔ Becomes (Then (IsNumberInRange (rows_from least)) (Alone (IsNumberInRange multiplier_range))) line.entry }
 {
     let rows = Numbers {
         least,

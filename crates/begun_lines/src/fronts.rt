@@ -1,12 +1,12 @@
 //! Whether bytes begin a line of a known form.
 ghost use Rattle.std.specs.Prelude.{◌≡◌, ℕ, ◌<◌, ◌≤◌, ◌++◌, IsTrue, ◌↔◌, length};
-ghost use Rattle.begun_lines.specs.Begun.{IsFront, BeginsNumber, BeginsName};
+ghost use Rattle.begun_lines.specs.Begun.{IsLineFront, BeginsNumber, BeginsName};
 
 use answer_lines::{LONGEST, name_after, number_after};
 
 /// Whether this line begins with these bytes.
 pub(crate) fn begins_line(rest: &[u8], line: &[u8]) -> bool
-    ensures { IsTrue result ↔ IsFront rest.now line.now }
+    ensures { IsTrue result ↔ IsLineFront rest.now line.now }
 {
     line.starts_with(rest)
 }

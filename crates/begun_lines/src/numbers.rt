@@ -2,7 +2,7 @@
 ghost use Rattle.std.specs.Prelude.{◌≡◌, ◌≢◌, ◌+◌, ◌-◌, ◌*◌, ◌^◌, ◌<◌, ◌≤◌, ◌↔◌, ℕ, MatchOption, IsTrue, length};
 ghost use Rattle.cost_base.specs.Decimal.{decimal};
 ghost use Rattle.whole_numbers.specs.Fractions.{gcd};
-ghost use Rattle.begun_lines.specs.BegunLines.{IsMissing, IsNumber, IsAmong, Extends};
+ghost use Rattle.begun_lines.specs.BegunLines.{IsMissing, IsNumberInRange, IsCoprimeInRange, Extends};
 
 use text_lines::{number_bytes, printed_number};
 use whole_numbers::greatest_common_divisor;
@@ -19,7 +19,7 @@ pub(crate) struct Numbers {
 pub(crate) fn missing_digits(word: &[u8], numbers: Numbers) -> Option<usize>
     requires coprime { gcd numbers.coprime_to numbers.least ≡ 1 }
     requires fits { numbers.greatest < 2 ^ 128 }
-    ensures { IsMissing (IsNumber numbers) word.now result }
+    ensures { IsMissing (IsNumberInRange numbers) word.now result }
 {
     if word.is_empty() {
         return all_digits(numbers);
@@ -45,7 +45,7 @@ fn all_digits(numbers: Numbers) -> Option<usize>
 
 /// No digit may follow a zero.
 fn missing_behind_zero(numbers: Numbers) -> Option<usize>
-    ensures { MatchOption result (IsAmong numbers 0 → ⊥) (λ count. (count ≡ 0) × IsAmong numbers 0) }
+    ensures { MatchOption result (IsCoprimeInRange numbers 0 → ⊥) (λ count. (count ≡ 0) × IsCoprimeInRange numbers 0) }
 {
     if has_number(0, 0, numbers) {
         Some(0)
@@ -58,8 +58,8 @@ fn missing_behind_zero(numbers: Numbers) -> Option<usize>
 fn missing_behind(begun: u128, numbers: Numbers) -> Option<usize>
     requires some { 0 < begun }
     requires fits { numbers.greatest < 2 ^ 128 }
-    ensures { MatchOption result ((k n : ℕ) → Extends begun k n → IsAmong numbers n → ⊥)
-        (λ count. ((n : ℕ) × Extends begun count n × IsAmong numbers n) × ((k n : ℕ) → Extends begun k n → IsAmong numbers n → count ≤ k)) }
+    ensures { MatchOption result ((k n : ℕ) → Extends begun k n → IsCoprimeInRange numbers n → ⊥)
+        (λ count. ((n : ℕ) × Extends begun count n × IsCoprimeInRange numbers n) × ((k n : ℕ) → Extends begun k n → IsCoprimeInRange numbers n → count ≤ k)) }
 {
     for digits in 0..39u32 {
         if goes_on(begun, 10u128.pow(digits), numbers) {
@@ -73,7 +73,7 @@ fn missing_behind(begun: u128, numbers: Numbers) -> Option<usize>
 fn goes_on(begun: u128, span: u128, numbers: Numbers) -> bool
     requires some { 0 < span }
     requires fits { numbers.greatest < 2 ^ 128 }
-    ensures { IsTrue result ↔ ((n : ℕ) × (begun * span ≤ n) × (n < begun * span + span) × IsAmong numbers n) }
+    ensures { IsTrue result ↔ ((n : ℕ) × (begun * span ≤ n) × (n < begun * span + span) × IsCoprimeInRange numbers n) }
 {
     match begun.checked_mul(span) {
         Some(low) => has_number(low, low.saturating_add(span - 1), numbers),
@@ -83,7 +83,7 @@ fn goes_on(begun: u128, span: u128, numbers: Numbers) -> bool
 
 /// Whether one of these numbers stands in a range.
 fn has_number(low: u128, high: u128, numbers: Numbers) -> bool
-    ensures { IsTrue result ↔ ((n : ℕ) × (low ≤ n) × (n ≤ high) × IsAmong numbers n) }
+    ensures { IsTrue result ↔ ((n : ℕ) × (low ≤ n) × (n ≤ high) × IsCoprimeInRange numbers n) }
 {
     let first = low.max(numbers.least);
     let last = high.min(numbers.greatest);

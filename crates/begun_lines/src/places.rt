@@ -2,8 +2,8 @@
 ghost use Rattle.std.specs.Prelude.{◌≡◌, ◌⊎◌, ℕ, zero, suc, List, IsTrue, ◌↔◌, Option, codes};
 ghost use Rattle.std.specs.Option.{option_copied};
 ghost use Rattle.answer_lines.specs.Grammar.{AtHead, AtVerdict, AtCosts, AtSections, AtInterface, AtCost, AtExit, AtFloor, AtRows, AtRow, AtTree, AtEnd};
-ghost use Rattle.answer_lines.specs.Places.{Begins};
-ghost use Rattle.begun_lines.specs.Begun.{IsFront, BeginsNumber, BeginsTree, BeginsCount, BeginsRouter, BeginsAgain, IsRouterOf};
+ghost use Rattle.answer_lines.specs.Places.{BeginsLawful};
+ghost use Rattle.begun_lines.specs.Begun.{IsLineFront, BeginsNumber, BeginsTree, BeginsCount, BeginsRouter, BeginsAgain, IsRouterOf};
 
 use crate::fronts::{begins_line, begins_name, begins_number};
 use answer_lines::{LONGEST, after};
@@ -12,35 +12,35 @@ use text_lines::{cut, printed_number};
 
 /// Whether these bytes begin the first line.
 pub fn begins_head(rest: &[u8]) -> bool
-    ensures { IsTrue result ↔ Begins AtHead rest.now }
+    ensures { IsTrue result ↔ BeginsLawful AtHead rest.now }
 {
     begins_line(rest, b"ospfcost answer 1")
 }
 
 /// Whether these bytes begin the line of a verdict.
 pub fn begins_verdict(rest: &[u8]) -> bool
-    ensures { IsTrue result ↔ Begins AtVerdict rest.now }
+    ensures { IsTrue result ↔ BeginsLawful AtVerdict rest.now }
 {
     begins_decided(rest) || begins_number(rest, b"verdict undecided budget ", 65_535)
 }
 
 /// Whether these bytes begin the line of a verdict that decides.
 fn begins_decided(rest: &[u8]) -> bool
-    ensures { IsTrue result ↔ (IsFront rest.now (codes "verdict impossible") ⊎ BeginsNumber rest.now (codes "verdict optimal ") 65535) }
+    ensures { IsTrue result ↔ (IsLineFront rest.now (codes "verdict impossible") ⊎ BeginsNumber rest.now (codes "verdict optimal ") 65535) }
 {
     begins_line(rest, b"verdict impossible") || begins_number(rest, b"verdict optimal ", 65_535)
 }
 
 /// Whether these bytes begin the line of the greatest cost.
 pub fn begins_costs(rest: &[u8]) -> bool
-    ensures { IsTrue result ↔ Begins AtCosts rest.now }
+    ensures { IsTrue result ↔ BeginsLawful AtCosts rest.now }
 {
     begins_line(rest, b"costs none") || begins_number(rest, b"costs ", 65_535)
 }
 
 /// Whether these bytes begin a line among the sections, `before` being the router of the cost line before.
 pub fn begins_section(rest: &[u8], before: Option<&[u8]>) -> bool
-    ensures { IsTrue result ↔ Begins (AtSections (option_copied before.entry)) rest.now }
+    ensures { IsTrue result ↔ BeginsLawful (AtSections (option_copied before.entry)) rest.now }
 {
     begins_next_cost(rest, before) || begins_floor(rest)
 }
@@ -84,28 +84,28 @@ fn begins_interface_again(rest: &[u8], before: Option<&[u8]>) -> bool
 
 /// Whether these bytes begin the line of an interface.
 pub fn begins_interface(rest: &[u8]) -> bool
-    ensures { (router : List ℕ) → (IsTrue result ↔ Begins (AtInterface router) rest.now) }
+    ensures { (router : List ℕ) → (IsTrue result ↔ BeginsLawful (AtInterface router) rest.now) }
 {
     begins_name(rest, b"interface ")
 }
 
 /// Whether these bytes begin the line of an interface's cost.
 pub fn begins_cost(rest: &[u8]) -> bool
-    ensures { (router : List ℕ) → (IsTrue result ↔ Begins (AtCost router) rest.now) }
+    ensures { (router : List ℕ) → (IsTrue result ↔ BeginsLawful (AtCost router) rest.now) }
 {
     begins_number(rest, b" ip ospf cost ", 65_535) && rest != b" ip ospf cost 0".as_slice()
 }
 
 /// Whether these bytes begin the line that ends an interface.
 pub fn begins_exit(rest: &[u8]) -> bool
-    ensures { (router : List ℕ) → (IsTrue result ↔ Begins (AtExit router) rest.now) }
+    ensures { (router : List ℕ) → (IsTrue result ↔ BeginsLawful (AtExit router) rest.now) }
 {
     begins_line(rest, b"exit")
 }
 
 /// Whether these bytes begin the line of a floor.
 pub fn begins_floor(rest: &[u8]) -> bool
-    ensures { IsTrue result ↔ Begins AtFloor rest.now }
+    ensures { IsTrue result ↔ BeginsLawful AtFloor rest.now }
 {
     begins_line(rest, b"floor none")
         || begins_line(rest, b"floor empty")
@@ -114,21 +114,21 @@ pub fn begins_floor(rest: &[u8]) -> bool
 
 /// Whether these bytes begin the line of how many rows there are.
 pub fn begins_rows(rest: &[u8]) -> bool
-    ensures { IsTrue result ↔ Begins AtRows rest.now }
+    ensures { IsTrue result ↔ BeginsLawful AtRows rest.now }
 {
     begins_number(rest, b"rows ", 18_446_744_073_709_551_615)
 }
 
 /// Whether these bytes begin the head of the proof.
 pub fn begins_proof(rest: &[u8]) -> bool
-    ensures { IsTrue result ↔ Begins (AtRow zero) rest.now }
+    ensures { IsTrue result ↔ BeginsLawful (AtRow zero) rest.now }
 {
     rest.len() <= LONGEST && (begins_line(rest, b"proof none") || begins_tree(rest, b"proof "))
 }
 
 /// Whether these bytes begin the head of the unfinished tree.
 pub fn begins_open(rest: &[u8]) -> bool
-    ensures { IsTrue result ↔ Begins (AtTree TreePart.Proof zero zero) rest.now }
+    ensures { IsTrue result ↔ BeginsLawful (AtTree TreePart.Proof zero zero) rest.now }
 {
     rest.len() <= LONGEST && (begins_line(rest, b"open none") || begins_tree(rest, b"open "))
 }
@@ -155,14 +155,14 @@ fn begins_count(rest: &[u8], front: &[u8]) -> bool
 
 /// Whether these bytes begin the line of the wide part.
 pub fn begins_wide(rest: &[u8]) -> bool
-    ensures { IsTrue result ↔ Begins (AtTree TreePart.Unfinished zero zero) rest.now }
+    ensures { IsTrue result ↔ BeginsLawful (AtTree TreePart.Unfinished zero zero) rest.now }
 {
     begins_line(rest, b"wide none")
 }
 
 /// Whether these bytes begin the last line.
 pub fn begins_end(rest: &[u8]) -> bool
-    ensures { IsTrue result ↔ Begins AtEnd rest.now }
+    ensures { IsTrue result ↔ BeginsLawful AtEnd rest.now }
 {
     begins_line(rest, b"end")
 }

@@ -3,7 +3,7 @@ ghost use Rattle.std.specs.Prelude.{◌≡◌, ◌∷◌, [], ◌^◌, ◌<◌, 
 ghost use Rattle.cost_base.specs.Decimal.{decimal};
 ghost use Rattle.text_lines.specs.Numbers.{split};
 ghost use Rattle.whole_numbers.specs.Fractions.{gcd};
-ghost use Rattle.begun_lines.specs.BegunLines.{IsMissing, IsRatio, IsAmong};
+ghost use Rattle.begun_lines.specs.BegunLines.{IsMissing, IsRatio, IsCoprimeInRange};
 
 use crate::numbers::{Numbers, missing_digits};
 use answer_lines::{GREATEST_SIZE, integer_of};
@@ -38,7 +38,7 @@ fn missing_of_numerator(word: &[u8]) -> Option<usize>
 fn denominators(size: u128) -> Numbers
     ensures least { gcd result.coprime_to result.least ≡ 1 }
     ensures fits { result.greatest < 2 ^ 128 }
-    ensures among { (n : ℕ) → (IsAmong result n ↔ ((0 < n) × (n < 2 ^ 127) × (gcd size n ≡ 1))) }
+    ensures among { (n : ℕ) → (IsCoprimeInRange result n ↔ ((0 < n) × (n < 2 ^ 127) × (gcd size n ≡ 1))) }
 {
     if size == 0 {
         return Numbers {

@@ -2,15 +2,15 @@
 ghost use Rattle.std.specs.Prelude.{◌≡◌, ◌⊎◌, ℕ, suc, List, IsTrue, ◌↔◌, codes};
 ghost use Rattle.answer_lines.specs.Words.{words_left};
 ghost use Rattle.answer_lines.specs.Grammar.{AtRow};
-ghost use Rattle.answer_lines.specs.Places.{Begins};
-ghost use Rattle.begun_lines.specs.Begun.{BeginsNumber, IsRowLine, IsShortRow, BeginsEdge, AreNumbers};
+ghost use Rattle.answer_lines.specs.Places.{BeginsLawful};
+ghost use Rattle.begun_lines.specs.Begun.{BeginsNumber, IsLineOfRow, IsShortRow, BeginsEdge, AreNumberWords};
 
 use crate::fronts::begins_number;
 use answer_lines::{LONGEST, Pieces};
 
 /// Whether these bytes begin the line of a row that has at most 65,536 bytes.
 pub fn begins_row(rest: &[u8]) -> bool
-    ensures { (left : ℕ) → (IsTrue result ↔ Begins (AtRow (suc left)) rest.now) }
+    ensures { (left : ℕ) → (IsTrue result ↔ BeginsLawful (AtRow (suc left)) rest.now) }
 {
     begins_number_or_row(rest) || begins_edge(rest)
 }
@@ -44,7 +44,7 @@ fn begins_edge(rest: &[u8]) -> bool
 
 /// Whether this is the line of a row.
 fn is_row(line: &[u8]) -> bool
-    ensures { IsTrue result ↔ IsRowLine line.now }
+    ensures { IsTrue result ↔ IsLineOfRow line.now }
 {
     match Pieces::new(line).behind(b"row") {
         Some(numbers) => !numbers.is_done() && are_numbers(numbers),
@@ -54,7 +54,7 @@ fn is_row(line: &[u8]) -> bool
 
 /// Whether these words are numbers, each at most 4294967295.
 fn are_numbers(words: Pieces<'_>) -> bool
-    ensures { IsTrue result ↔ AreNumbers (words_left words.entry) }
+    ensures { IsTrue result ↔ AreNumberWords (words_left words.entry) }
 {
     let mut left = words;
     while !left.is_done() {

@@ -3,7 +3,7 @@ use Rattle.std.proofs.Common.{◌≡◌, ℕ, suc, ◌+◌, ◌-◌, ◌*◌, �
 use Rattle.std.specs.Prelude.{ℤ, pos, negsuc, nat_abs, ◌<ℤ◌}
 use Rattle.std.proofs.lemmas.Int.{ints}
 use Rattle.std.proofs.Math.Nat.{mul-le-mul_left}
-use Rattle.path_rows.specs.declared.tree.Side.TheVariants.{Low, High}
+use Rattle.design_problem.specs.declared.tree.Side.TheVariants.{Low, High}
 use Rattle.bound_propagation.specs.Ranges.{IsExactBound, HasNoBound}
 
 -- one more and one less

@@ -3,24 +3,24 @@ use Rattle.std.proofs.Common.{◌≡◌, ℕ, zero, suc, ◌+◌, ◌-◌, ◌<�
 use Rattle.std.specs.Prelude.{ℤ, pos, ◌+ℤ◌, ◌<ℤ◌, slice_set, slice_index}
 use Rattle.std.proofs.Math.ListN.{length-set}
 use Rattle.std.proofs.lemmas.Int.{ints}
-use Rattle.path_rows.specs.declared.form.CostBox.{CostBox}
-use Rattle.path_rows.specs.declared.form.Term.{Term}
-use Rattle.path_rows.specs.declared.tree.Side.{Side}
-use Rattle.path_rows.specs.declared.tree.Side.TheVariants.{Low, High}
-use Rattle.path_rows.specs.Forms.{Form, form_at, terms_of}
-use Rattle.path_rows.specs.Boxes.{upper, upper_sum, greatest, with_low, with_high}
-use Rattle.path_rows.specs.Trees.{IsSmaller, removed, TightensAt}
-use Rattle.path_rows.specs.Earnest.{at_bound}
+use Rattle.design_problem.specs.declared.form.CostBox.{CostBox}
+use Rattle.design_problem.specs.declared.form.Term.{Term}
+use Rattle.design_problem.specs.declared.tree.Side.{Side}
+use Rattle.design_problem.specs.declared.tree.Side.TheVariants.{Low, High}
+use Rattle.design_problem.specs.Forms.{Form, form_at, terms_of}
+use Rattle.design_problem.specs.Boxes.{upper_term, upper_sum, greatest, with_low, with_high}
+use Rattle.design_problem.specs.Trees.{IsSmaller, removed, TightensAt}
+use Rattle.design_problem.specs.Earnest.{at_bound}
 use Rattle.bound_propagation.specs.Ranges.{IsExactBound, HasNoBound}
 use Rattle.bound_propagation.specs.Tightening.{IsExactTightening, NoneAt, NoneBefore}
 use Rattle.bound_propagation.proofs.Ranges.{no_bound}
-use Rattle.path_rows.proofs.TermLaws.{terms_known, term_coefficient, term_or_zero}
+use Rattle.design_problem.proofs.TermLaws.{terms_known, term_coefficient, term_or_zero}
 use Rattle.std.proofs.lemmas.Bool.{cases_lt}
 
 -- another upper end of one place
 sum_high : (cs : List ℤ) (ls hs : List ℕ) (i v : ℕ) → i < length cs → length cs ≡ length ls → length cs ≡ length hs →
-    (upper_sum cs ls (slice_set hs i v) +ℤ upper (get_or cs i (pos 0)) (slice_index ls i) (slice_index hs i))
-    ≡ (upper_sum cs ls hs +ℤ upper (get_or cs i (pos 0)) (slice_index ls i) v)
+    (upper_sum cs ls (slice_set hs i v) +ℤ upper_term (get_or cs i (pos 0)) (slice_index ls i) (slice_index hs i))
+    ≡ (upper_sum cs ls hs +ℤ upper_term (get_or cs i (pos 0)) (slice_index ls i) v)
 sum_high [] ls hs i v i_in low high = absurd (omega arith)
 sum_high (c ∷ cs) [] hs i v i_in low high = absurd (omega arith)
 sum_high (c ∷ cs) (l ∷ ls) [] i v i_in low high = absurd (omega arith)
@@ -30,8 +30,8 @@ sum_high (c ∷ cs) (l ∷ ls) (h ∷ hs) (suc i) v i_in low high =
 
 -- another lower end of one place
 sum_low : (cs : List ℤ) (ls hs : List ℕ) (i v : ℕ) → i < length cs → length cs ≡ length ls → length cs ≡ length hs →
-    (upper_sum cs (slice_set ls i v) hs +ℤ upper (get_or cs i (pos 0)) (slice_index ls i) (slice_index hs i))
-    ≡ (upper_sum cs ls hs +ℤ upper (get_or cs i (pos 0)) v (slice_index hs i))
+    (upper_sum cs (slice_set ls i v) hs +ℤ upper_term (get_or cs i (pos 0)) (slice_index ls i) (slice_index hs i))
+    ≡ (upper_sum cs ls hs +ℤ upper_term (get_or cs i (pos 0)) v (slice_index hs i))
 sum_low [] ls hs i v i_in low high = absurd (omega arith)
 sum_low (c ∷ cs) [] hs i v i_in low high = absurd (omega arith)
 sum_low (c ∷ cs) (l ∷ ls) [] i v i_in low high = absurd (omega arith)
@@ -67,13 +67,13 @@ place_of f box ts ls hs k d c terms k_in low_count high_count lows highs here =
     }
 
 -- the same term, at the same ends
-same_upper : (c d : ℤ) (l m h k : ℕ) → c ≡ d → l ≡ m → h ≡ k → upper c l h ≡ upper d m k
+same_upper : (c d : ℤ) (l m h k : ℕ) → c ≡ d → l ≡ m → h ≡ k → upper_term c l h ≡ upper_term d m k
 same_upper c d l m h k coefficients lows highs =
-    ap (λ (z : ℤ). upper z l h) coefficients ∙ ap (λ (x : ℕ). upper d x h) lows ∙ ap (λ (x : ℕ). upper d m x) highs
+    ap (λ (z : ℤ). upper_term z l h) coefficients ∙ ap (λ (x : ℕ). upper_term d x h) lows ∙ ap (λ (x : ℕ). upper_term d m x) highs
 
 -- the greatest value of the form where one variable has another upper bound
 high_moved : (f : Form) (box : CostBox) (var v : ℕ) (c : ℤ) (l h : ℕ) → IsPlace f box var c l h →
-    (greatest f (with_high box var v) +ℤ upper c l h) ≡ (greatest f box +ℤ upper c l v)
+    (greatest f (with_high box var v) +ℤ upper_term c l h) ≡ (greatest f box +ℤ upper_term c l v)
 high_moved f box var v c l h place =
     let sums = sum_high f.coefficients box.low box.high var v place.inside place.low_count place.high_count in
     let old = same_upper _ c _ l _ h place.coefficient place.low place.high in
@@ -82,7 +82,7 @@ high_moved f box var v c l h place =
 
 -- where it has another lower bound
 low_moved : (f : Form) (box : CostBox) (var v : ℕ) (c : ℤ) (l h : ℕ) → IsPlace f box var c l h →
-    (greatest f (with_low box var v) +ℤ upper c l h) ≡ (greatest f box +ℤ upper c v h)
+    (greatest f (with_low box var v) +ℤ upper_term c l h) ≡ (greatest f box +ℤ upper_term c v h)
 low_moved f box var v c l h place =
     let sums = sum_low f.coefficients box.low box.high var v place.inside place.low_count place.high_count in
     let old = same_upper _ c _ l _ h place.coefficient place.low place.high in
@@ -91,7 +91,7 @@ low_moved f box var v c l h place =
 
 -- where it has one value alone
 bound_moved : (f : Form) (box : CostBox) (var v : ℕ) (c : ℤ) (l h : ℕ) → IsPlace f box var c l h →
-    (greatest f (at_bound box var v) +ℤ upper c l h) ≡ (greatest f box +ℤ upper c v v)
+    (greatest f (at_bound box var v) +ℤ upper_term c l h) ≡ (greatest f box +ℤ upper_term c v v)
 bound_moved f box var v c l h place =
     let within : var < length box.high = omega (arith, place.inside, place.high_count) in
     let cut : IsPlace f (with_high box var v) var c l v = record {
@@ -136,7 +136,7 @@ none_of_range f box var slack c l h High value place all none smaller refuted =
     none High value (omega (arith, place.low, smaller.0), omega (arith, place.high, smaller.1))
     (omega (arith, ints, low_moved f box var (value + 1) c l h place, all, refuted))
 
--- a tightening by a row's form is a sound step of a tree of cases
+-- a tightening by a row's form is a sound step of a branching tree
 pub tightens_at : (forms : List Form) (box : CostBox) (side : Side) (var value row : ℕ) → row < length forms →
     IsExactTightening (form_at forms row) box side var value → TightensAt forms box side var value row
 tightens_at forms box side var value row known step =

@@ -1,11 +1,11 @@
 -- When a form alone makes the range of a variable smaller.
 use Rattle.std.specs.Prelude.{ℕ, ◌<◌, pos, ◌<ℤ◌, ◌≤ℤ◌, length}
-use Rattle.path_rows.specs.declared.form.Form.{Form}
-use Rattle.path_rows.specs.declared.form.CostBox.{CostBox}
-use Rattle.path_rows.specs.declared.tree.Side.{Side}
-use Rattle.path_rows.specs.Boxes.{greatest}
-use Rattle.path_rows.specs.Trees.{IsSmaller, removed}
-use Rattle.path_rows.specs.Earnest.{at_bound}
+use Rattle.design_problem.specs.declared.form.Form.{Form}
+use Rattle.design_problem.specs.declared.form.CostBox.{CostBox}
+use Rattle.design_problem.specs.declared.tree.Side.{Side}
+use Rattle.design_problem.specs.Boxes.{greatest}
+use Rattle.design_problem.specs.Trees.{IsSmaller, removed}
+use Rattle.design_problem.specs.Earnest.{at_bound}
 
 -- the new bound makes the range smaller, and not empty; the form refutes the part that is removed, and doesn't refute
 -- the new bound itself
@@ -15,10 +15,10 @@ pub record IsExactTightening (form : Form) (box : CostBox) (side : Side) (var va
   pub refuted : greatest form (removed box side var value) <ℤ pos 0
   pub exact : pos 0 ≤ℤ greatest form (at_bound box var value)
 
--- of a variable the form refutes no part at an end that leaves something of its range
+-- the form refutes no part of a variable's range at one of its ends that would leave something of the range
 abbrev pub NoneAt : Form → CostBox → ℕ → Type 0
 NoneAt form box var = (side : Side) (value : ℕ) → IsSmaller box side var value → greatest form (removed box side var value) <ℤ pos 0 → ⊥
 
--- and so of each variable before the given number
+-- the form refutes no such part of any variable before the given number
 abbrev pub NoneBefore : Form → CostBox → ℕ → Type 0
 NoneBefore form box count = (var : ℕ) → var < count → NoneAt form box var

@@ -2,7 +2,7 @@
 ghost use Rattle.std.specs.Prelude.{◌≡◌, ℕ, ◌+◌, ◌-◌, ◌*◌, ◌<◌, ◌≤◌, IfSome};
 ghost use Rattle.bound_propagation.specs.Ranges.{IsExactBound, HasNoBound};
 
-use path_rows::Side;
+use design_problem::Side;
 
 /// A new bound of a range, at its side.
 #[derive(Clone, Copy)]

@@ -1,10 +1,10 @@
 //! The first variable whose range a form alone makes smaller.
 ghost use Rattle.std.specs.Prelude.{◌≡◌, ℕ, ◌^◌, ◌≤◌, ◌≤ℤ◌, pos, length, nat_abs, All, IfSome};
-ghost use Rattle.path_rows.specs.Boxes.{greatest};
+ghost use Rattle.design_problem.specs.Boxes.{greatest};
 ghost use Rattle.bound_propagation.specs.Tightening.{IsExactTightening, NoneBefore};
 
 use crate::range::exact_bound;
-use path_rows::{CostBox, Form, Side, greatest_over};
+use design_problem::{CostBox, Form, Side, greatest_over};
 
 /// A new bound of a variable at a side of its range.
 #[derive(Clone, Copy, Debug, PartialEq, Eq)]

@@ -2,7 +2,7 @@
 use Rattle.std.proofs.Common.{◌≡◌, ℕ, ◌+◌, ◌<◌, List, [], ◌∷◌, ◌++◌, map, drop, length, get_or, sym, ◌∙◌, ap, append_assoc, add-one, drop-cons, Bor}
 use Rattle.std.specs.Prelude.{◌==◌}
 use Rattle.std.specs.List.{slice_split}
-use Rattle.case_scripts.specs.Escapes.{all_unescaped, bytes_of, joined, unescaped}
+use Rattle.case_scripts.specs.Escapes.{all_unescaped, bytes_of, joined_escapes, unescaped}
 
 -- what the pieces of a text hold
 abbrev pub texts_of : List (Bor (List ℕ)) → List (List ℕ)
@@ -20,7 +20,7 @@ pub begun_bytes : (text : List ℕ) (pieces : List (Bor (List ℕ))) (first : Bo
     → texts_of pieces ≡ slice_split (λ byte. byte == 92) text → pieces ≡ first ∷ others → bytes ≡ first.now
     → bytes ++ all_unescaped (texts_of others) ≡ bytes_of text
 begun_bytes text pieces first others bytes cut parts put =
-    ap (λ b. b ++ all_unescaped (texts_of others)) put ∙ ap joined (sym (ap texts_of parts) ∙ cut)
+    ap (λ b. b ++ all_unescaped (texts_of others)) put ∙ ap joined_escapes (sym (ap texts_of parts) ∙ cut)
 
 -- one more piece is put
 pub more_bytes : (text : List ℕ) (others : List (Bor (List ℕ))) (place : ℕ) (d : Bor (List ℕ)) (old new : List ℕ) (byte : ℕ) (rest : List ℕ)

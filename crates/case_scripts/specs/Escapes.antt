@@ -23,16 +23,16 @@ unescaped (first ∷ text) =
     else if first == 120 then behind_x text
     else 92 ∷ first ∷ text
 
--- the same of the texts that stand behind several, one after another
+-- what several texts stand for, each of which stood behind a `\`, one after another
 abbrev pub all_unescaped : List (List ℕ) → List ℕ
 all_unescaped [] = []
 all_unescaped (text ∷ texts) = unescaped text ++ all_unescaped texts
 
--- the same of texts of which the first stands behind none
-abbrev pub joined : List (List ℕ) → List ℕ
-joined [] = []
-joined (first ∷ texts) = first ++ all_unescaped texts
+-- what the pieces of a text between its `\` stand for: the first as it is, each other one as behind a `\`
+abbrev pub joined_escapes : List (List ℕ) → List ℕ
+joined_escapes [] = []
+joined_escapes (first ∷ texts) = first ++ all_unescaped texts
 
 -- the bytes that a text stands for: each is itself, but those that a `\` begins
 abbrev pub bytes_of : List ℕ → List ℕ
-bytes_of text = joined (slice_split (λ byte. byte == 92) text)
+bytes_of text = joined_escapes (slice_split (λ byte. byte == 92) text)

@@ -1,3 +1,4 @@
 pub mod Words
 pub mod Escapes
 pub mod ScriptTexts
+pub mod WrittenWords

@@ -34,15 +34,15 @@ abbrev pub with_text : List ℕ → ScriptTexts → ScriptTexts
 with_text name texts = record { made = texts.made ++ (texts.last ∷ []); last = begun name }
 
 -- the text that is being made goes on with a line
-abbrev pub with_line : List ℕ → ScriptTexts → ScriptTexts
-with_line line texts =
+abbrev pub with_text_line : List ℕ → ScriptTexts → ScriptTexts
+with_text_line line texts =
     record texts { last = record { name = texts.last.name; bytes = texts.last.bytes ++ (bytes_of line ++ (10 ∷ [])) } }
 
 -- the texts behind a line of this first word and this rest, where it makes texts
 abbrev pub after_word : List ℕ → List ℕ → ScriptTexts → Option ScriptTexts
 after_word word rest texts =
     if bytes_eq word (codes "text") then Some (with_text rest texts)
-    else if bytes_eq word (codes "|") then Some (with_line rest texts)
+    else if bytes_eq word (codes "|") then Some (with_text_line rest texts)
     else None
 
 -- the texts behind a line, where it makes texts: `text NAME` begins one, and `| LINE` adds a line to the last one

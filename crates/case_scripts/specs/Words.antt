@@ -15,13 +15,13 @@ IsNextWord text word rest =
     × ((behind : List ℕ) × EmptyOrStartsWithPassing is_whitespace rest behind))
 
 -- the text is a number below 2^32: decimal digits, a plus before them or not
-abbrev pub IsNumber : List ℕ → Type 0
-IsNumber text = IsNumeral 10 (without_leading_plus text) × (digits_value 10 (without_leading_plus text) < 2 ^ 32)
+abbrev pub IsNumberText : List ℕ → Type 0
+IsNumberText text = IsNumeral 10 (without_leading_plus text) × (digits_value 10 (without_leading_plus text) < 2 ^ 32)
 
 -- the number that a text is, or 0 where it is none
 abbrev pub IsNumberOrZero : List ℕ → ℕ → Type 0
 IsNumberOrZero text number =
-    (IsNumber text → number ≡ digits_value 10 (without_leading_plus text)) × (¬ (IsNumber text) → number ≡ 0)
+    (IsNumberText text → number ≡ digits_value 10 (without_leading_plus text)) × (¬ (IsNumberText text) → number ≡ 0)
 
 -- the values of those answers that are one, in their order
 abbrev pub values_of : {T E : Type 0} → List (Result T E) → List T
@@ -30,10 +30,10 @@ values_of (Ok value ∷ answers) = value ∷ values_of answers
 values_of (Err error ∷ answers) = values_of answers
 
 -- the parts of a text between its commas
-abbrev pub parts_of : List ℕ → List (List ℕ)
-parts_of text = slice_split (λ byte. byte == 44) text
+abbrev pub comma_parts : List ℕ → List (List ℕ)
+comma_parts text = slice_split (λ byte. byte == 44) text
 
 -- each part of the text is read, which gives an answer as `gives` says, and the things are the values of these answers
 abbrev pub AreListed : {T E : Type 0} → (List ℕ → Result T E → Type 0) → List ℕ → List T → Type 0
 AreListed {T} {E} gives text things =
-    (answers : List (Result T E)) × AllZip gives (parts_of text) answers × (things ≡ values_of answers)
+    (answers : List (Result T E)) × AllZip gives (comma_parts text) answers × (things ≡ values_of answers)

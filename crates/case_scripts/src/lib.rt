@@ -6,8 +6,10 @@ ghost use Rattle.std.specs.Str.Iter.{split_whitespace_rest};
 ghost use Rattle.case_scripts.specs.Words.{AreListed, IsNextWord, IsNumberOrZero, values_of};
 ghost use Rattle.case_scripts.specs.Escapes.{bytes_of, hex_byte, unescaped};
 
+mod entries;
 mod texts;
 
+pub use entries::{Line, Named, Part, Step};
 use std::alloc::{AllocError, Global};
 use std::fmt;
 use std::str::{FromStr, SplitWhitespace};

@@ -4,7 +4,7 @@ ghost use Rattle.std.specs.Option.{is_some, option_or};
 ghost use Rattle.std.specs.List.{after_first, before_first};
 ghost use Rattle.std.specs.Str.{bytes_eq};
 ghost use Rattle.case_scripts.specs.Escapes.{bytes_of};
-ghost use Rattle.case_scripts.specs.ScriptTexts.{after_line, begun, last_named, named, with_line, with_text};
+ghost use Rattle.case_scripts.specs.ScriptTexts.{after_line, begun, last_named, named, with_text_line, with_text};
 
 use crate::bytes_of;
 use std::alloc::{AllocError, Global};
@@ -130,7 +130,7 @@ impl Texts {
 
     /// Adds a line to the text that is being made.
     fn add_line(&mut self, alloc: Global, line: &str) -> Result<(), AllocError>
-        ensures added { OnOk result (self.new ≡ with_line line.now self.old) }
+        ensures added { OnOk result (self.new ≡ with_text_line line.now self.old) }
         ensures same { OnErr result (self.new ≡ self.old) }
     {
         let mut bytes = bytes_of(alloc, line)?;

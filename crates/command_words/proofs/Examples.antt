@@ -13,13 +13,13 @@ unfolding job_of
 no_words = refl
 
 plain_design : job_of (codes "design" ∷ codes "--request" ∷ codes "F" ∷ codes "A" ∷ codes "B" ∷ [])
-    ≡ Some (Design (codes "F") usual (codes "A" ∷ codes "B" ∷ []))
+    ≡ Some (Design (record { request = codes "F"; limits = usual; configs = codes "A" ∷ codes "B" ∷ [] }))
 unfolding job_of job_of_row row_of_word table clap_on_literals
 plain_design = refl
 
 -- options in any order and between the CONFIG words
 mixed_design : job_of (codes "design" ∷ codes "A" ∷ codes "--nodes=5" ∷ codes "--request" ∷ codes "F" ∷ codes "B" ∷ codes "--bits" ∷ codes "28" ∷ [])
-    ≡ Some (Design (codes "F") (record { nodes = 5; top = 2 ^ 28 - 1 }) (codes "A" ∷ codes "B" ∷ []))
+    ≡ Some (Design (record { request = codes "F"; limits = record { nodes = 5; top = 2 ^ 28 - 1 }; configs = codes "A" ∷ codes "B" ∷ [] }))
 unfolding job_of job_of_row row_of_word table clap_on_literals
 mixed_design = refl
 

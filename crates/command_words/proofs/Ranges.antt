@@ -9,7 +9,7 @@ use Rattle.command_words.specs.declared.job.Job.{Job}
 use Rattle.command_words.specs.declared.job.WordsStop.{WordsStop}
 use Rattle.command_words.specs.Forms.{Answers}
 use Rattle.command_words.specs.Jobs.{seen, Text, JobRead, SearchRead, IsInRange, Design, Check, Audit, Rewrite, Trial, Conflict, Spread, Total, Lsas, Route}
-use Rattle.command_words.specs.Commands.{Form, Found, search_of, job_of, job_of_row, row_of_word, table, takes_words, found_in, value, limits, configs, number_between, number_or, from_low, of_two, of_three, of_four, trial_job}
+use Rattle.command_words.specs.Commands.{CommandRow, Found, search_of, job_of, job_of_row, row_of_word, table, takes_words, found_in, option_value, configs_found, number_between, number_or, from_low, of_two, of_three, trial_job}
 
 two_in : {A B : Type 0} (whole : A → B → JobRead) (a : Option A) (b : Option B)
     → ((x : A) (y : B) → a ≡ Some x → b ≡ Some y → IsInRange (whole x y)) → IfSome (of_two whole a b) IsInRange
@@ -27,14 +27,6 @@ three_in whole (Some x) (Some y) (Some z) h = h x y z
 search_in : (whole : SearchRead → JobRead) (o : Option SearchRead) → ((s : SearchRead) → IsInRange (whole s)) → IfSome (option_map whole o) IsInRange
 search_in whole None h = tt
 search_in whole (Some s) h = h s
-
-four_in : {A B C D : Type 0} (whole : A → B → C → D → JobRead) (a : Option A) (b : Option B) (c : Option C) (d : Option D)
-    → ((x : A) (y : B) (z : C) (w : D) → IsInRange (whole x y z w)) → IfSome (of_four whole a b c d) IsInRange
-four_in whole None b c d h = tt
-four_in whole (Some x) None c d h = tt
-four_in whole (Some x) (Some y) None d h = tt
-four_in whole (Some x) (Some y) (Some z) None h = tt
-four_in whole (Some x) (Some y) (Some z) (Some w) h = h x y z w
 
 pub between_in : (low high : ℕ) (text : Text) (n : ℕ) → number_between low high text ≡ Some n → (low ≤ n) × (n ≤ high)
 between_in low high text n is = go (number text high) (number_within-le 10 high text) is
@@ -57,40 +49,40 @@ must_in low high (Some text) n is = between_in low high text n is
 
 trial_in : (found : Found) → IfSome (trial_job found) IsInRange
 trial_in found =
-    two_in Trial (option_and_then (number_between 1 125) (value (codes "blocks") found))
-    (number_or 1 0 2147483647 (value (codes "start") found))
+    two_in Trial (option_and_then (number_between 1 125) (option_value (codes "blocks") found))
+    (number_or 1 0 2147483647 (option_value (codes "start") found))
     (λ blocks start blocks_is start_is.
-    let most = must_in 1 125 (value (codes "blocks") found) blocks blocks_is in
-    let last = or_in 1 0 2147483647 (value (codes "start") found) start (omega arith) (omega arith) start_is in
+    let most = must_in 1 125 (option_value (codes "blocks") found) blocks blocks_is in
+    let last = or_in 1 0 2147483647 (option_value (codes "start") found) start (omega arith) (omega arith) start_is in
     (most.0, most.1, omega arith))
 
-abbrev InRange : Form → Type 0
+abbrev InRange : CommandRow → Type 0
 InRange form = (found : Found) → IfSome (form.job found) IsInRange
 
 rows_in : AllByRecursion InRange table
 unfolding table
 rows_in = (
-  (λ found. search_in (λ s. Design s.request s.limits s.configs) (search_of found) (λ s. tt)),
+  (λ found. search_in Design (search_of found) (λ s. tt)),
   (
-    (λ found. three_in Check (value (codes "request") found) (value (codes "answer") found) (configs found) (λ x y z. tt)),
+    (λ found. three_in Check (option_value (codes "request") found) (option_value (codes "answer") found) (configs_found found) (λ x y z. tt)),
     (
-      (λ found. two_in Audit (value (codes "request") found) (configs found) (λ x y e f. tt)),
+      (λ found. two_in Audit (option_value (codes "request") found) (configs_found found) (λ x y e f. tt)),
       (
-        (λ found. two_in Rewrite (value (codes "answer") found) (value (codes "CONFIG") found) (λ x y e f. tt)),
+        (λ found. two_in Rewrite (option_value (codes "answer") found) (option_value (codes "CONFIG") found) (λ x y e f. tt)),
         (
           trial_in,
           (
-            (λ found. search_in (λ s. Conflict s.request s.limits s.configs) (search_of found) (λ s. tt)),
+            (λ found. search_in Conflict (search_of found) (λ s. tt)),
             (
-              (λ found. four_in Spread (value (codes "request") found) (value (codes "sets") found) (limits found) (configs found) (λ x y z w. tt)),
+              (λ found. two_in Spread (search_of found) (option_value (codes "sets") found) (λ x y e f. tt)),
               (
-                (λ found. search_in (λ s. Total s.request s.limits s.configs) (search_of found) (λ s. tt)),
+                (λ found. search_in Total (search_of found) (λ s. tt)),
                 (
-                  (λ found. two_in Lsas (value (codes "request") found) (configs found) (λ x y e f. tt)),
+                  (λ found. two_in Lsas (option_value (codes "request") found) (configs_found found) (λ x y e f. tt)),
                   (
-                    (λ found. three_in Route (value (codes "lsas") found)
-                        (option_and_then quad (value (codes "from") found))
-                        (option_and_then quad (value (codes "to") found)) (λ x y z. tt)),
+                    (λ found. three_in Route (option_value (codes "lsas") found)
+                        (option_and_then quad (option_value (codes "from") found))
+                        (option_and_then quad (option_value (codes "to") found)) (λ x y z. tt)),
                     tt,
                   ),
                 ),
@@ -115,7 +107,7 @@ row_in : (word : Text) → IfSome (row_of_word word) InRange
 unfolding row_of_word
 row_in word = found_holds (λ form. same_bytes form.name word) InRange table rows_in
 
-row_job_in : (form : Form) (words : List Text) → InRange form → IfSome (job_of_row form words) IsInRange
+row_job_in : (form : CommandRow) (words : List Text) → InRange form → IfSome (job_of_row form words) IsInRange
 unfolding job_of_row
 row_job_in form words h = go (takes_words form words)
   where
@@ -123,7 +115,7 @@ row_job_in form words h = go (takes_words form words)
     go true = h (found_in form words)
     go false = tt
 
-named_in : (words : List Text) (o : Option Form) → IfSome o InRange → IfSome (option_and_then (λ form. job_of_row form words) o) IsInRange
+named_in : (words : List Text) (o : Option CommandRow) → IfSome o InRange → IfSome (option_and_then (λ form. job_of_row form words) o) IsInRange
 named_in words None h = tt
 named_in words (Some form) h = row_job_in form words h
 

@@ -9,10 +9,10 @@ use Rattle.clap.specs.declared.error.kind.ErrorKind.TheVariants.{OutOfMemory}
 use Rattle.command_words.specs.declared.table.CommandName.{CommandName}
 use Rattle.command_words.specs.declared.table.CommandName.TheVariants as name
 use Rattle.command_words.specs.Commands.{app_of_row}
-use Rattle.command_words.specs.Forms.{form_of}
+use Rattle.command_words.specs.Forms.{row_of_command}
 
 -- no option of the table has a rule on another
-pub free_row : (n : CommandName) → is_simple_and_free (app_of_row (form_of n)) ≡ true
+pub free_row : (n : CommandName) → is_simple_and_free (app_of_row (row_of_command n)) ≡ true
 free_row name.Design = refl
 free_row name.Check = refl
 free_row name.Audit = refl
@@ -25,7 +25,7 @@ free_row name.Lsas = refl
 free_row name.Route = refl
 
 -- each command of the table is simple
-pub simple_row : (n : CommandName) → is_simple (app_of_row (form_of n)) ≡ true
+pub simple_row : (n : CommandName) → is_simple (app_of_row (row_of_command n)) ≡ true
 simple_row name.Design = refl
 simple_row name.Check = refl
 simple_row name.Audit = refl

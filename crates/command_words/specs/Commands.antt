@@ -29,11 +29,13 @@ config_word = record (new_rule (codes "CONFIG")) { required = true }
 abbrev pub config_words : Rule
 config_words = record config_word { range = Some (record { start_inclusive = 1; end_inclusive = usize_max }) }
 
+-- the rules for the CONFIG words that a command takes
 abbrev pub files_rules : Files → List Rule
 files_rules none = []
 files_rules one = config_word ∷ []
 files_rules several = config_words ∷ []
 
+-- the command with these rules, in their order
 abbrev pub with_rules : App → List Rule → App
 with_rules app rules = fold with_rule app rules
 
@@ -49,13 +51,14 @@ abbrev pub Found : Type 0
 Found = List Row
 
 -- the value of an option, or the one CONFIG word
-abbrev pub value : Text → Found → Option Text
-value name found = first_of name found
+abbrev pub option_value : Text → Found → Option Text
+option_value name found = first_of name found
 
 -- the CONFIG words in their order
-abbrev pub configs : Found → Option (List Text)
-configs found = all_of (codes "CONFIG") found
+abbrev pub configs_found : Found → Option (List Text)
+configs_found found = all_of (codes "CONFIG") found
 
+-- the number, where it is no less than `low`
 abbrev pub from_low : ℕ → Option ℕ → Option ℕ
 from_low low None = None
 from_low low (Some n) = if nat_le low n then Some n else None
@@ -74,103 +77,121 @@ abbrev pub of_two : {A B C : Type 0} → (A → B → C) → Option A → Option
 of_two whole (Some a) (Some b) = Some (whole a b)
 of_two whole _ _ = None
 
+-- the whole of three parts, where each is there
 abbrev pub of_three : {A B C D : Type 0} → (A → B → C → D) → Option A → Option B → Option C → Option D
 of_three whole (Some a) (Some b) (Some c) = Some (whole a b c)
 of_three whole _ _ _ = None
 
-abbrev pub of_four : {A B C D E : Type 0} → (A → B → C → D → E) → Option A → Option B → Option C → Option D → Option E
-of_four whole (Some a) (Some b) (Some c) (Some d) = Some (whole a b c d)
-of_four whole _ _ _ _ = None
-
--- `--nodes N` of 1 to 10,000,000, or 100,000, and `--bits B` of 28 to 127, or 127, whose top is 2^B - 1
+-- the limits of a search: `--nodes N` of 1 to 10,000,000, else 100,000; `--bits B` of 28 to 127, else 127
 abbrev pub limits : Found → Option Bounds
 limits found = of_two (λ nodes bits. record { nodes = nodes; top = 2 ^ bits - 1 })
-    (number_or 100000 1 10000000 (value (codes "nodes") found))
-    (number_or 127 28 127 (value (codes "bits") found))
+    (number_or 100000 1 10000000 (option_value (codes "nodes") found))
+    (number_or 127 28 127 (option_value (codes "bits") found))
 
 -- a request, the limits and the configurations
 abbrev pub search_of : Found → Option SearchRead
 search_of found = of_three (λ request limits configs. record { request = request; limits = limits; configs = configs })
-    (value (codes "request") found) (limits found) (configs found)
+    (option_value (codes "request") found) (limits found) (configs_found found)
 
+-- `design`: a request file, limits and configurations
 abbrev pub design_job : Found → Option JobRead
-design_job found = option_map (λ s. Design s.request s.limits s.configs) (search_of found)
+design_job found = option_map Design (search_of found)
 
+-- `check`: a request file, an answer and configurations
 abbrev pub check_job : Found → Option JobRead
-check_job found = of_three Check (value (codes "request") found) (value (codes "answer") found) (configs found)
+check_job found = of_three Check (option_value (codes "request") found) (option_value (codes "answer") found) (configs_found found)
 
+-- `audit`: a request file and configurations
 abbrev pub audit_job : Found → Option JobRead
-audit_job found = of_two Audit (value (codes "request") found) (configs found)
+audit_job found = of_two Audit (option_value (codes "request") found) (configs_found found)
 
+-- `rewrite`: an answer and one configuration
 abbrev pub rewrite_job : Found → Option JobRead
-rewrite_job found = of_two Rewrite (value (codes "answer") found) (value (codes "CONFIG") found)
+rewrite_job found = of_two Rewrite (option_value (codes "answer") found) (option_value (codes "CONFIG") found)
 
 -- `--blocks T` of 1 to 125, and `--start S` of 0 to 2147483647, or 1
 abbrev pub trial_job : Found → Option JobRead
 trial_job found = of_two Trial
-    (option_and_then (number_between 1 125) (value (codes "blocks") found))
-    (number_or 1 0 2147483647 (value (codes "start") found))
+    (option_and_then (number_between 1 125) (option_value (codes "blocks") found))
+    (number_or 1 0 2147483647 (option_value (codes "start") found))
 
+-- `conflict`: a request file, limits and configurations
 abbrev pub conflict_job : Found → Option JobRead
-conflict_job found = option_map (λ s. Conflict s.request s.limits s.configs) (search_of found)
+conflict_job found = option_map Conflict (search_of found)
 
+-- `spread`: a request file, a file of sets, limits and configurations
 abbrev pub spread_job : Found → Option JobRead
-spread_job found = of_four Spread (value (codes "request") found) (value (codes "sets") found) (limits found) (configs found)
+spread_job found = of_two Spread (search_of found) (option_value (codes "sets") found)
 
+-- `total`: a request file, limits and configurations
 abbrev pub total_job : Found → Option JobRead
-total_job found = option_map (λ s. Total s.request s.limits s.configs) (search_of found)
+total_job found = option_map Total (search_of found)
 
+-- `lsas`: a request file and configurations
 abbrev pub lsas_job : Found → Option JobRead
-lsas_job found = of_two Lsas (value (codes "request") found) (configs found)
+lsas_job found = of_two Lsas (option_value (codes "request") found) (configs_found found)
 
+-- `route`: a file of LSAs, and the router ids of the two ends
 abbrev pub route_job : Found → Option JobRead
-route_job found = of_three Route (value (codes "lsas") found)
-    (option_and_then quad (value (codes "from") found)) (option_and_then quad (value (codes "to") found))
+route_job found = of_three Route (option_value (codes "lsas") found)
+    (option_and_then quad (option_value (codes "from") found)) (option_and_then quad (option_value (codes "to") found))
 
 -- ---- the table of commands
 
 -- a row: a command, the options that must be given, those that may be, its CONFIG words, and its job
-pub record Form : Type 0 where
+pub record CommandRow : Type 0 where
   pub name : Text
   pub must : List Text
   pub may : List Text
   pub files : Files
   pub job : Found → Option JobRead
 
-abbrev pub row : Text → List Text → List Text → Files → (Found → Option JobRead) → Form
+-- a row of the command table
+abbrev pub row : Text → List Text → List Text → Files → (Found → Option JobRead) → CommandRow
 row name must may files job = record { name = name; must = must; may = may; files = files; job = job }
 
-abbrev pub design_row : Form
+-- `design --request FILE [--nodes N] [--bits B] CONFIG..`
+abbrev pub design_row : CommandRow
 design_row = row (codes "design") (codes "request" ∷ []) (codes "nodes" ∷ codes "bits" ∷ []) several design_job
 
-abbrev pub check_row : Form
+-- `check --request FILE --answer FILE CONFIG..`
+abbrev pub check_row : CommandRow
 check_row = row (codes "check") (codes "request" ∷ codes "answer" ∷ []) [] several check_job
 
-abbrev pub audit_row : Form
+-- `audit --request FILE CONFIG..`
+abbrev pub audit_row : CommandRow
 audit_row = row (codes "audit") (codes "request" ∷ []) [] several audit_job
 
-abbrev pub rewrite_row : Form
+-- `rewrite --answer FILE CONFIG`
+abbrev pub rewrite_row : CommandRow
 rewrite_row = row (codes "rewrite") (codes "answer" ∷ []) [] one rewrite_job
 
-abbrev pub trial_row : Form
+-- `trial --blocks T [--start S]`
+abbrev pub trial_row : CommandRow
 trial_row = row (codes "trial") (codes "blocks" ∷ []) (codes "start" ∷ []) none trial_job
 
-abbrev pub conflict_row : Form
+-- `conflict --request FILE [--nodes N] [--bits B] CONFIG..`
+abbrev pub conflict_row : CommandRow
 conflict_row = row (codes "conflict") (codes "request" ∷ []) (codes "nodes" ∷ codes "bits" ∷ []) several conflict_job
 
-abbrev pub spread_row : Form
+-- `spread --request FILE --sets FILE [--nodes N] [--bits B] CONFIG..`
+abbrev pub spread_row : CommandRow
 spread_row = row (codes "spread") (codes "request" ∷ codes "sets" ∷ []) (codes "nodes" ∷ codes "bits" ∷ []) several spread_job
 
-abbrev pub total_row : Form
+-- `total --request FILE [--nodes N] [--bits B] CONFIG..`
+abbrev pub total_row : CommandRow
 total_row = row (codes "total") (codes "request" ∷ []) (codes "nodes" ∷ codes "bits" ∷ []) several total_job
 
-abbrev pub lsas_row : Form
+-- `lsas --request FILE CONFIG..`
+abbrev pub lsas_row : CommandRow
 lsas_row = row (codes "lsas") (codes "request" ∷ []) [] several lsas_job
 
-abbrev pub route_row : Form
+-- `route --lsas FILE --from ID --to ID`
+abbrev pub route_row : CommandRow
 route_row = row (codes "route") (codes "lsas" ∷ codes "from" ∷ codes "to" ∷ []) [] none route_job
 
-unfoldable pub table : List Form
+-- the table of commands: one row for each
+unfoldable pub table : List CommandRow
 table =
     design_row
     ∷ check_row
@@ -186,24 +207,25 @@ table =
 
 -- ---- words
 
-abbrev pub app_of_row : Form → App
+-- the simple command of a row, as `clap` reads it
+abbrev pub app_of_row : CommandRow → App
 app_of_row form = command_of form.name form.must form.may form.files
 
 -- The simple command of a row takes the words behind the first, which `clap` passes over: no step of its reading
 -- fails.
-abbrev pub takes_words : Form → List Text → Bool
+abbrev pub takes_words : CommandRow → List Text → Bool
 takes_words form words = is_empty (fault_of (app_of_row form) words)
 
 -- what it finds there
-abbrev pub found_in : Form → List Text → Found
+abbrev pub found_in : CommandRow → List Text → Found
 found_in form words = matches_of (app_of_row form) words
 
 -- the job of words whose first is the row's name
-unfoldable pub job_of_row : Form → List Text → Option JobRead
+unfoldable pub job_of_row : CommandRow → List Text → Option JobRead
 job_of_row form words = if takes_words form words then form.job (found_in form words) else None
 
 -- the row of a command
-unfoldable pub row_of_word : Text → Option Form
+unfoldable pub row_of_word : Text → Option CommandRow
 row_of_word word = find (λ form. same_bytes form.name word) table
 
 -- the job that words ask for; None where they're off the table

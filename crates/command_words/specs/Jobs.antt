@@ -1,10 +1,12 @@
 -- Jobs as contracts see them.
 use Rattle.std.specs.Prelude.{ℕ, ◌<◌, ◌≤◌, ◌^◌, List, string_bytes}
 use Rattle.wide_fraction.specs.declared.bounds.Limits.{Limits}
+use Rattle.command_words.specs.declared.job.Search.{Search}
 use Rattle.command_words.specs.declared.job.Job.{Job}
 use Rattle.command_words.specs.declared.job.Job.TheVariants as variant
-use Rattle.command_words.specs.Words.{texts}
+use Rattle.text_lines.specs.Arguments.{texts}
 
+-- the bytes of a word
 abbrev pub Text : Type 0
 Text = List ℕ
 
@@ -21,31 +23,35 @@ pub record SearchRead : Type 0 where
 
 -- what the words ask for
 pub data JobRead : Type 0 where
-  Design : (request : Text) → (limits : Bounds) → (configs : List Text) → JobRead
+  Design : (search : SearchRead) → JobRead
   Check : (request : Text) → (answer : Text) → (configs : List Text) → JobRead
   Audit : (request : Text) → (configs : List Text) → JobRead
   Rewrite : (answer : Text) → (config : Text) → JobRead
   Trial : (blocks : ℕ) → (start : ℕ) → JobRead
-  Conflict : (request : Text) → (limits : Bounds) → (configs : List Text) → JobRead
-  Spread : (request : Text) → (sets : Text) → (limits : Bounds) → (configs : List Text) → JobRead
-  Total : (request : Text) → (limits : Bounds) → (configs : List Text) → JobRead
+  Conflict : (search : SearchRead) → JobRead
+  Spread : (search : SearchRead) → (sets : Text) → JobRead
+  Total : (search : SearchRead) → JobRead
   Lsas : (request : Text) → (configs : List Text) → JobRead
   Route : (lsas : Text) → (from : ℕ) → (to : ℕ) → JobRead
 
+-- the limits of a search as contracts see them
 abbrev pub bounds : Limits → Bounds
 bounds limits = record { nodes = limits.nodes; top = limits.top }
 
+-- a search with the bytes of its texts
+abbrev pub search_seen : Search → SearchRead
+search_seen search = record { request = string_bytes search.request; limits = bounds search.limits; configs = texts search.configs.items }
+
 -- a job with the bytes of its texts
 abbrev pub seen : Job → JobRead
-seen (variant.Design request limits configs) = Design (string_bytes request) (bounds limits) (texts configs.items)
+seen (variant.Design search) = Design (search_seen search)
 seen (variant.Check request answer configs) = Check (string_bytes request) (string_bytes answer) (texts configs.items)
 seen (variant.Audit request configs) = Audit (string_bytes request) (texts configs.items)
 seen (variant.Rewrite answer config) = Rewrite (string_bytes answer) (string_bytes config)
 seen (variant.Trial blocks start) = Trial blocks start
-seen (variant.Conflict request limits configs) = Conflict (string_bytes request) (bounds limits) (texts configs.items)
-seen (variant.Spread request sets limits configs) =
-    Spread (string_bytes request) (string_bytes sets) (bounds limits) (texts configs.items)
-seen (variant.Total request limits configs) = Total (string_bytes request) (bounds limits) (texts configs.items)
+seen (variant.Conflict search) = Conflict (search_seen search)
+seen (variant.Spread search sets) = Spread (search_seen search) (string_bytes sets)
+seen (variant.Total search) = Total (search_seen search)
 seen (variant.Lsas request configs) = Lsas (string_bytes request) (texts configs.items)
 seen (variant.Route lsas from to) = Route (string_bytes lsas) from to
 

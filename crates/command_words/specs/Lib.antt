@@ -1,4 +1,3 @@
-pub mod Words
 pub mod Jobs
 pub mod Commands
 pub mod Forms

@@ -2,25 +2,33 @@
 use std::alloc::AllocError;
 use wide_fraction::Limits;
 
+/// What a search is asked: the value of `--request`, the limits of `--nodes` and `--bits`, and the CONFIG words in their
+/// order.
+#[derive(Debug, Drop)]
+pub struct Search {
+    /// The file of the request.
+    pub request: String,
+    /// How many entries a tree may have, and how long a number may be.
+    pub limits: Limits,
+    /// The files of the configurations.
+    pub configs: Vec<String>,
+}
+
 /// What the words ask for: the values of the options, the CONFIG words in their order, and the stated defaults.
 ///
 /// Texts are names of files: `request` is that of `--request`, `answer` that of `--answer`, `sets` that of `--sets`, `lsas`
-/// that of `--lsas`; `config` and `configs` are the CONFIG words. `limits` are `--nodes` and `--bits`.
+/// that of `--lsas`; `config` and `configs` are the CONFIG words.
 #[derive(Debug, Drop)]
 pub enum Job {
     /// Find costs, or evidence that there are none.
-    Design {
-        request: String,
-        limits: Limits,
-        configs: Vec<String>,
-    },
+    Design(Search),
     /// Check an answer's evidence.
     Check {
         request: String,
         answer: String,
         configs: Vec<String>,
     },
-    /// Report the requested paths at present costs.
+    /// Report the wanted paths at present costs.
     Audit {
         request: String,
         configs: Vec<String>,
@@ -36,24 +44,14 @@ pub enum Job {
         start: u32,
     },
     /// Find a least conflict among the requests.
-    Conflict {
-        request: String,
-        limits: Limits,
-        configs: Vec<String>,
-    },
+    Conflict(Search),
     /// Find costs that spread traffic over exactly the listed paths.
     Spread {
-        request: String,
+        search: Search,
         sets: String,
-        limits: Limits,
-        configs: Vec<String>,
     },
     /// Find the least total among the best costs.
-    Total {
-        request: String,
-        limits: Limits,
-        configs: Vec<String>,
-    },
+    Total(Search),
     /// Write the LSAs of the configurations at present costs (RFC 2328, A.4).
     Lsas {
         request: String,

@@ -3,9 +3,9 @@
 
 ghost use Rattle.std.specs.Prelude.{◌≡◌, None, Some, IfOk, IsErrOf, MatchOption};
 ghost use Rattle.command_words.specs.Commands.{job_of, job_of_row};
-ghost use Rattle.command_words.specs.Forms.{form_of};
+ghost use Rattle.command_words.specs.Forms.{row_of_command};
 ghost use Rattle.command_words.specs.Jobs.{seen, IsInRange};
-ghost use Rattle.command_words.specs.Words.{texts};
+ghost use Rattle.text_lines.specs.Arguments.{texts};
 
 use std::alloc::Global;
 
@@ -14,7 +14,7 @@ mod reading;
 mod table;
 mod values;
 
-pub use job::{Job, WordsStop};
+pub use job::{Job, Search, WordsStop};
 use reading::read_row;
 use table::{CommandName, command_named};
 
@@ -44,7 +44,7 @@ pub fn read_words(alloc: Global, words: &[String]) -> Result<Job, WordsStop>
 
 /// The command that the first word names; None exactly where there is none.
 fn named(words: &[String]) -> Option<CommandName>
-    ensures { MatchOption result (job_of (texts words.now) ≡ None) (λ name. job_of (texts words.now) ≡ job_of_row (form_of name) (texts words.now)) }
+    ensures { MatchOption result (job_of (texts words.now) ≡ None) (λ name. job_of (texts words.now) ≡ job_of_row (row_of_command name) (texts words.now)) }
 {
     let (first, _others) = words.split_first()?;
     command_named(first.as_bytes())

@@ -3,21 +3,20 @@ ghost use Rattle.std.specs.Prelude.{◌≡◌, ◌≢◌, MatchResult, true, fal
 ghost use Rattle.clap.specs.Values.{kind_of};
 ghost use Rattle.command_words.specs.Commands.{takes_words, found_in, job_of_row, search_of, design_job, check_job, audit_job, rewrite_job};
 ghost use Rattle.command_words.specs.Commands.{trial_job, conflict_job, spread_job, total_job, lsas_job, route_job};
-ghost use Rattle.command_words.specs.Forms.{form_of, found, search_seen, Answers};
-ghost use Rattle.command_words.specs.Jobs.{seen};
-ghost use Rattle.command_words.specs.Words.{texts};
+ghost use Rattle.command_words.specs.Forms.{row_of_command, found, Answers};
+ghost use Rattle.command_words.specs.Jobs.{search_seen, seen};
+ghost use Rattle.text_lines.specs.Arguments.{texts};
 
 use crate::table::{CommandName, simple_command};
 use crate::values::{configs, limits, may_number, must_number, router, text};
-use crate::{Job, WordsStop};
+use crate::{Job, Search, WordsStop};
 use clap::error::ErrorKind;
 use clap::{ArgMatches, Error};
 use std::alloc::Global;
-use wide_fraction::Limits;
 
 /// The job of words whose first is this command's.
 pub(crate) fn read_row(alloc: Global, name: CommandName, words: &[String]) -> Result<Job, WordsStop>
-    ensures { Answers (job_of_row (form_of name) (texts words.now)) seen result }
+    ensures { Answers (job_of_row (row_of_command name) (texts words.now)) seen result }
 {
     let matches = find_values(alloc, name, words)?;
     job_of_values(alloc, name, &matches)
@@ -30,8 +29,8 @@ fn find_values<'a>(
     words: &'a [String],
 ) -> Result<ArgMatches<'a>, WordsStop>
     ensures { MatchResult result
-        (λ matches. (takes_words (form_of name) (texts words.now) ≡ true) × (found matches ≡ found_in (form_of name) (texts words.now)))
-        (λ stop. stop ≡ WordsStop.Refused → takes_words (form_of name) (texts words.now) ≡ false) }
+        (λ matches. (takes_words (row_of_command name) (texts words.now) ≡ true) × (found matches ≡ found_in (row_of_command name) (texts words.now)))
+        (λ stop. stop ≡ WordsStop.Refused → takes_words (row_of_command name) (texts words.now) ≡ false) }
 {
     let command = simple_command(alloc, name)?;
     match command.try_get_matches_from(words) {
@@ -57,7 +56,7 @@ fn job_of_values(
     name: CommandName,
     matches: &ArgMatches<'_>,
 ) -> Result<Job, WordsStop>
-    ensures { Answers ((form_of name).job (found matches.now)) seen result }
+    ensures { Answers ((row_of_command name).job (found matches.now)) seen result }
 {
     match name {
         CommandName::Design => design(alloc, matches),
@@ -71,14 +70,6 @@ fn job_of_values(
         CommandName::Lsas => lsas(alloc, matches),
         CommandName::Route => route(alloc, matches),
     }
-}
-
-/// What a search is asked.
-#[derive(Drop)]
-struct Search {
-    request: String,
-    limits: Limits,
-    configs: Vec<String>,
 }
 
 /// What the words ask of a search.
@@ -98,12 +89,8 @@ fn searched(alloc: Global, matches: &ArgMatches<'_>) -> Result<Search, WordsStop
 fn design(alloc: Global, matches: &ArgMatches<'_>) -> Result<Job, WordsStop>
     ensures { Answers (design_job (found matches.now)) seen result }
 {
-    let asked = searched(alloc, matches)?;
-    Ok(Job::Design {
-        request: asked.request,
-        limits: asked.limits,
-        configs: asked.configs,
-    })
+    let search = searched(alloc, matches)?;
+    Ok(Job::Design(search))
 }
 
 fn check(alloc: Global, matches: &ArgMatches<'_>) -> Result<Job, WordsStop>
@@ -149,38 +136,23 @@ fn trial(matches: &ArgMatches<'_>) -> Result<Job, WordsStop>
 fn conflict(alloc: Global, matches: &ArgMatches<'_>) -> Result<Job, WordsStop>
     ensures { Answers (conflict_job (found matches.now)) seen result }
 {
-    let asked = searched(alloc, matches)?;
-    Ok(Job::Conflict {
-        request: asked.request,
-        limits: asked.limits,
-        configs: asked.configs,
-    })
+    let search = searched(alloc, matches)?;
+    Ok(Job::Conflict(search))
 }
 
 fn spread(alloc: Global, matches: &ArgMatches<'_>) -> Result<Job, WordsStop>
     ensures { Answers (spread_job (found matches.now)) seen result }
 {
-    let limits = limits(matches).ok_or(WordsStop::Refused)?;
-    let request = text(alloc, matches, "request")?;
+    let search = searched(alloc, matches)?;
     let sets = text(alloc, matches, "sets")?;
-    let configs = configs(alloc, matches)?;
-    Ok(Job::Spread {
-        request,
-        sets,
-        limits,
-        configs,
-    })
+    Ok(Job::Spread { search, sets })
 }
 
 fn total(alloc: Global, matches: &ArgMatches<'_>) -> Result<Job, WordsStop>
     ensures { Answers (total_job (found matches.now)) seen result }
 {
-    let asked = searched(alloc, matches)?;
-    Ok(Job::Total {
-        request: asked.request,
-        limits: asked.limits,
-        configs: asked.configs,
-    })
+    let search = searched(alloc, matches)?;
+    Ok(Job::Total(search))
 }
 
 fn lsas(alloc: Global, matches: &ArgMatches<'_>) -> Result<Job, WordsStop>

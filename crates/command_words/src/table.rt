@@ -3,7 +3,7 @@ ghost use Rattle.std.specs.Prelude.{◌≡◌, IfOk, map, option_map, true, fals
 ghost use Rattle.clap.specs.Walk.{rule_of};
 ghost use Rattle.clap.specs.Simple.{app_of};
 ghost use Rattle.command_words.specs.Commands.{option, config_word, config_words, files_rules, with_rules, command_of, app_of_row, row_of_word};
-ghost use Rattle.command_words.specs.Forms.{form_of, files_of, now_texts};
+ghost use Rattle.command_words.specs.Forms.{row_of_command, files_of_words, now_texts};
 
 use crate::table::ConfigWords::{Nothing, One, Several};
 use clap::{Arg, Command};
@@ -48,7 +48,7 @@ static NAMES: [CommandName; 10] = [
 impl CommandName {
     /// The word that names the command.
     fn word(self) -> &'static str
-        ensures { result.now ≡ (form_of self).name }
+        ensures { result.now ≡ (row_of_command self).name }
     {
         match self {
             CommandName::Design => "design",
@@ -67,7 +67,7 @@ impl CommandName {
 
 /// The command that a word names; None exactly where it names none.
 pub(crate) fn command_named(word: &[u8]) -> Option<CommandName>
-    ensures { option_map form_of result ≡ row_of_word word.now }
+    ensures { option_map row_of_command result ≡ row_of_word word.now }
 {
     for name in NAMES {
         if name.word().as_bytes() == word {
@@ -82,7 +82,7 @@ pub(crate) fn simple_command<'a>(
     alloc: Global,
     name: CommandName,
 ) -> Result<Command<'a>, AllocError>
-    ensures { IfOk result (λ command. app_of command ≡ app_of_row (form_of name)) }
+    ensures { IfOk result (λ command. app_of command ≡ app_of_row (row_of_command name)) }
 {
     let word = name.word();
     match name {
@@ -114,7 +114,7 @@ fn command<'a>(
     may: &[&'a str],
     configs: ConfigWords,
 ) -> Result<Command<'a>, AllocError>
-    ensures { IfOk result (λ command. app_of command ≡ command_of name.now (now_texts must.now) (now_texts may.now) (files_of configs)) }
+    ensures { IfOk result (λ command. app_of command ≡ command_of name.now (now_texts must.now) (now_texts may.now) (files_of_words configs)) }
 {
     let command = with_options(alloc, Command::new(alloc, name), must, true)?;
     let command = with_options(alloc, command, may, false)?;
@@ -143,7 +143,7 @@ fn with_configs<'a>(
     command: Command<'a>,
     configs: ConfigWords,
 ) -> Result<Command<'a>, AllocError>
-    ensures { IfOk result (λ more. app_of more ≡ with_rules (app_of command.entry) (files_rules (files_of configs))) }
+    ensures { IfOk result (λ more. app_of more ≡ with_rules (app_of command.entry) (files_rules (files_of_words configs))) }
 {
     match configs {
         Nothing => Ok(command),

@@ -1,10 +1,10 @@
 //! The values that a command finds in the words.
 ghost use Rattle.std.specs.Prelude.{◌≡◌, ◌≤◌, IfOk, IfSome, map, option_map, option_and_then, string_bytes};
 ghost use Rattle.text_lines.specs.Numbers as numbers;
-ghost use Rattle.command_words.specs.Commands.{value, configs, number_between, number_or, limits};
+ghost use Rattle.command_words.specs.Commands.{option_value, configs_found, number_between, number_or, limits};
 ghost use Rattle.command_words.specs.Forms.{found, now_texts, Answers};
 ghost use Rattle.command_words.specs.Jobs.{bounds};
-ghost use Rattle.command_words.specs.Words.{texts};
+ghost use Rattle.text_lines.specs.Arguments.{texts};
 
 use crate::WordsStop;
 use clap::ArgMatches;
@@ -14,14 +14,14 @@ use wide_fraction::{Limits, Top};
 
 /// The value of an option, or the first CONFIG word.
 fn value<'a>(matches: &ArgMatches<'a>, name: &str) -> Option<&'a str>
-    ensures { option_map (λ text. text.now) result ≡ value name.now (found matches.now) }
+    ensures { option_map (λ text. text.now) result ≡ option_value name.now (found matches.now) }
 {
     matches.get_str(name)
 }
 
 /// A copy of the value of an option, or of the first CONFIG word.
 pub(crate) fn text(alloc: Global, matches: &ArgMatches<'_>, name: &str) -> Result<String, WordsStop>
-    ensures { Answers (value name.now (found matches.now)) string_bytes result }
+    ensures { Answers (option_value name.now (found matches.now)) string_bytes result }
 {
     match value(matches, name) {
         Some(value) => Ok(String::from_str(alloc, value)?),
@@ -31,7 +31,7 @@ pub(crate) fn text(alloc: Global, matches: &ArgMatches<'_>, name: &str) -> Resul
 
 /// Copies of the CONFIG words in their order.
 pub(crate) fn configs(alloc: Global, matches: &ArgMatches<'_>) -> Result<Vec<String>, WordsStop>
-    ensures { Answers (configs (found matches.now)) (λ all. texts all.items) result }
+    ensures { Answers (configs_found (found matches.now)) (λ all. texts all.items) result }
 {
     match matches.get_raw("CONFIG") {
         Some(words) => Ok(copies(alloc, words)?),
@@ -61,7 +61,7 @@ fn number_between(text: &str, low: u64, high: u64) -> Option<u64>
 
 /// The number of an option that must be given; None where it isn't a number from `low` to `high`.
 pub(crate) fn must_number(matches: &ArgMatches<'_>, name: &str, low: u64, high: u64) -> Option<u64>
-    ensures { result ≡ option_and_then (number_between low high) (value name.now (found matches.now)) }
+    ensures { result ≡ option_and_then (number_between low high) (option_value name.now (found matches.now)) }
 {
     number_between(value(matches, name)?, low, high)
 }
@@ -74,7 +74,7 @@ pub(crate) fn may_number(
     high: u64,
     default: u64,
 ) -> Option<u64>
-    ensures { result ≡ number_or default low high (value name.now (found matches.now)) }
+    ensures { result ≡ number_or default low high (option_value name.now (found matches.now)) }
 {
     match value(matches, name) {
         Some(text) => number_between(text, low, high),
@@ -84,7 +84,7 @@ pub(crate) fn may_number(
 
 /// The router ID of an option that must be given; None where it isn't a dotted quad.
 pub(crate) fn router(matches: &ArgMatches<'_>, name: &str) -> Option<u32>
-    ensures { result ≡ option_and_then numbers.quad (value name.now (found matches.now)) }
+    ensures { result ≡ option_and_then numbers.quad (option_value name.now (found matches.now)) }
 {
     quad(value(matches, name)?.as_bytes())
 }

@@ -12,7 +12,7 @@ use Rattle.text_lines.specs.declared.LineKind.{LineKind}
 use Rattle.text_lines.specs.declared.LineKind.TheVariants.{Blank, Comment, Head, Indented}
 use Rattle.config_reader.specs.Statements.{Block, OfInterface, OfRouter, OfOther, block_of}
 use Rattle.config_reader.specs.Settings.{said, said_by, block_by_head, about, is_of}
-use Rattle.config_reader.specs.Configs.{first_heads, firsts, with_line, name_opened}
+use Rattle.config_reader.specs.Configs.{first_heads, firsts, name_with_line, name_opened}
 use Rattle.config_reader.specs.Reading.{open_block}
 use Rattle.config_reader.specs.Gathered.{NamesApart}
 use Rattle.config_reader.proofs.SaidSteps.{said_after, said-push, opened_from}
@@ -66,13 +66,13 @@ open_headed = by_lines (λ file. (name : List ℕ) → open_block file ≡ OfInt
         ap (is_headed name) (first_heads-push file line) ∙ cases (is_head line) (sym (open_block-push file line) ∙ here)
       where
         opens : block_of (words line) ≡ OfInterface name →
-            is_headed name (heads_with (with_line (length file + 1) (name_opened (block_of (words line))))
+            is_headed name (heads_with (name_with_line (length file + 1) (name_opened (block_of (words line))))
             (first_heads file)) ≡ true
-        opens e = ap (λ b. is_headed name (heads_with (with_line (length file + 1) (name_opened b)) (first_heads file)))
+        opens e = ap (λ b. is_headed name (heads_with (name_with_line (length file + 1) (name_opened b)) (first_heads file)))
             e ∙ is_headed-opened name (length file + 1) (first_heads file)
 
         cases : (b : Bool) → block_with b line (open_block file) ≡ OfInterface name →
-            is_headed name (heads_with (cond b (with_line (length file + 1) (name_opened (block_of (words line)))) None)
+            is_headed name (heads_with (cond b (name_with_line (length file + 1) (name_opened (block_of (words line)))) None)
             (first_heads file)) ≡ true
         cases true e = opens e
         cases false e = before name e

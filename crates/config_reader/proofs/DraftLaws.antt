@@ -17,7 +17,7 @@ use Rattle.interface_model.specs.declared.Kind.TheVariants.{Broadcast}
 use Rattle.config_reader.specs.declared.drafts.Draft.{Draft}
 use Rattle.config_reader.specs.declared.networks.NetworkLine.{NetworkLine}
 use Rattle.config_reader.specs.Statements.{Statement, AddressIs, AreaIs, CostIs, KindIs, PriorityIs, PassiveIs, DownIs, RouterIdIs, NetworkIs, PassiveInterfaceIs, Refused, Unread, Block, OfInterface, OfRouter, OfOther}
-use Rattle.config_reader.specs.Settings.{Said, about, about_router, is_of, is_of_router, setting, address_said, area_said, cost_said, kind_said, passive_said, down_said, priority_said, passive_name_said, address_part, length_part}
+use Rattle.config_reader.specs.Settings.{Said, about, about_router, is_of, is_of_router, setting, address_said, area_set, cost_set, kind_said, passive_said, down_said, priority_said, passive_name_said, address_part, length_part}
 use Rattle.config_reader.specs.Hearing.{sets}
 use Rattle.config_reader.specs.Drafting.{new_draft, with_setting, with_address, touch, target, change, is_matched, covers, draft_with, draft_after}
 use Rattle.config_reader.proofs.SettingSteps.{about-push, about_router-push, said_where, Made, by_said, by_one_more, by_said-push}
@@ -67,8 +67,8 @@ module _ (own : List Statement) (name : List ℕ) (line : ℕ) where
   unfolding plain plain_by
   sets_one (AddressIs p) =
       plain-push own name line (AddressIs p)
-      ∙ sym (add_address name line p (first_of (filter_map address_said own)) (setting area_said own)
-      (setting cost_said own) (setting kind_said own) (setting passive_said own) (setting down_said own)
+      ∙ sym (add_address name line p (first_of (filter_map address_said own)) (setting area_set own)
+      (setting cost_set own) (setting kind_said own) (setting passive_said own) (setting down_said own)
       (setting priority_said own))
   sets_one (AreaIs a) = quiet (AreaIs a) refl
   sets_one (CostIs n) = quiet (CostIs n) refl

@@ -18,7 +18,7 @@ use Rattle.config_reader.specs.Configs.{firsts}
 use Rattle.config_reader.specs.Drafting.{new_draft, touch, target, change, draft_with, draft_after, with_address}
 use Rattle.config_reader.specs.Gathered.{NamesApart, IsOpened, IsGathered}
 use Rattle.config_reader.specs.declared.reader.SaidLine.{SaidLine}
-use Rattle.config_reader.specs.Heards.{head_of, said_of}
+use Rattle.config_reader.specs.Heards.{head_heard, said_of}
 use Rattle.config_reader.specs.declared.reader.NamedHead.{NamedHead}
 use Rattle.config_reader.proofs.LongerLists.{any-map}
 use Rattle.config_reader.proofs.BlockFacts.{firsts-apart}
@@ -129,11 +129,11 @@ after_none nets [] = refl
 after_none nets (d ∷ ds) = ap (λ more. d ∷ more) (after_none nets ds)
 
 -- one more head
-pub opened_more : (heads : List NamedHead) (i : ℕ) (old new : Drafts) (d : NamedHead) → i < length heads → IsOpened (map head_of (take i heads)) old →
+pub opened_more : (heads : List NamedHead) (i : ℕ) (old new : Drafts) (d : NamedHead) → i < length heads → IsOpened (map head_heard (take i heads)) old →
     new.drafts.items ≡ cond (list_any (same_bytes (get_or heads i d).name.now) old.names) old.drafts.items
-    (old.drafts.items ++ new_draft (head_of (get_or heads i d)) ∷ []) →
+    (old.drafts.items ++ new_draft (head_heard (get_or heads i d)) ∷ []) →
     new.names ≡ cond (list_any (same_bytes (get_or heads i d).name.now) old.names) old.names (old.names ++ (get_or heads i d).name.now ∷ []) →
-    IsOpened (map head_of (take (i + 1) heads)) new
+    IsOpened (map head_heard (take (i + 1) heads)) new
 opened_more heads i old new d within so_far drafts names = record {
   drafts = drafts ∙ drafts_by (list_any (same_bytes head.name.now) old.names) refl;
   names = names ∙ names_by (list_any (same_bytes head.name.now) old.names) refl;
@@ -143,41 +143,41 @@ opened_more heads i old new d within so_far drafts names = record {
     head = get_or heads i d
 
     hs : List (List ℕ × ℕ)
-    hs = map head_of (take i heads)
+    hs = map head_heard (take i heads)
 
-    grown : map head_of (take (i + 1) heads) ≡ hs ++ head_of head ∷ []
+    grown : map head_heard (take (i + 1) heads) ≡ hs ++ head_heard head ∷ []
     grown =
-        ap (map head_of) (take_more heads i d within)
-        ∙ map-append head_of (take i heads) (get_or heads i d ∷ [])
+        ap (map head_heard) (take_more heads i d within)
+        ∙ map-append head_heard (take i heads) (get_or heads i d ∷ [])
 
     known : list_any (same_bytes head.name.now) old.names ≡ is_headed head.name.now (firsts [] hs)
     known = ap (list_any (same_bytes head.name.now)) so_far.names ∙ sym (any-map (same_bytes head.name.now) (λ (h : List ℕ × ℕ). h.0) (firsts [] hs))
 
-    firsts_now : firsts [] (map head_of (take (i + 1) heads)) ≡ firsts [] hs ++ unless_known (list_any (same_bytes head.name.now) old.names) (head_of head)
-    firsts_now = ap (firsts []) grown ∙ firsts-push [] hs (head_of head) ∙ ap (λ b. firsts [] hs ++ unless_known b (head_of head)) (sym known)
+    firsts_now : firsts [] (map head_heard (take (i + 1) heads)) ≡ firsts [] hs ++ unless_known (list_any (same_bytes head.name.now) old.names) (head_heard head)
+    firsts_now = ap (firsts []) grown ∙ firsts-push [] hs (head_heard head) ∙ ap (λ b. firsts [] hs ++ unless_known b (head_heard head)) (sym known)
 
     drafts_by : (b : Bool) → list_any (same_bytes head.name.now) old.names ≡ b →
-        cond b old.drafts.items (old.drafts.items ++ new_draft (head_of head) ∷ [])
-        ≡ map new_draft (firsts [] (map head_of (take (i + 1) heads)))
+        cond b old.drafts.items (old.drafts.items ++ new_draft (head_heard head) ∷ [])
+        ≡ map new_draft (firsts [] (map head_heard (take (i + 1) heads)))
     drafts_by true e =
         so_far.drafts
-        ∙ ap (map new_draft) (sym (append-nil (firsts [] hs)) ∙ ap (λ b. firsts [] hs ++ unless_known b (head_of head)) (sym e) ∙ sym firsts_now)
+        ∙ ap (map new_draft) (sym (append-nil (firsts [] hs)) ∙ ap (λ b. firsts [] hs ++ unless_known b (head_heard head)) (sym e) ∙ sym firsts_now)
     drafts_by false e =
-        ap (λ ds. ds ++ new_draft (head_of head) ∷ []) so_far.drafts
-        ∙ sym (map-append new_draft (firsts [] hs) (head_of head ∷ []))
-        ∙ ap (map new_draft) (ap (λ b. firsts [] hs ++ unless_known b (head_of head)) (sym e) ∙ sym firsts_now)
+        ap (λ ds. ds ++ new_draft (head_heard head) ∷ []) so_far.drafts
+        ∙ sym (map-append new_draft (firsts [] hs) (head_heard head ∷ []))
+        ∙ ap (map new_draft) (ap (λ b. firsts [] hs ++ unless_known b (head_heard head)) (sym e) ∙ sym firsts_now)
 
     names_by : (b : Bool) → list_any (same_bytes head.name.now) old.names ≡ b →
         cond b old.names (old.names ++ head.name.now ∷ [])
-        ≡ map (λ h. h.0) (firsts [] (map head_of (take (i + 1) heads)))
+        ≡ map (λ h. h.0) (firsts [] (map head_heard (take (i + 1) heads)))
     names_by true e =
         so_far.names
         ∙ ap (map (λ (h : List ℕ × ℕ). h.0)) (sym (append-nil (firsts [] hs))
-        ∙ ap (λ b. firsts [] hs ++ unless_known b (head_of head)) (sym e) ∙ sym firsts_now)
+        ∙ ap (λ b. firsts [] hs ++ unless_known b (head_heard head)) (sym e) ∙ sym firsts_now)
     names_by false e =
         ap (λ ns. ns ++ head.name.now ∷ []) so_far.names
-        ∙ sym (map-append (λ (h : List ℕ × ℕ). h.0) (firsts [] hs) (head_of head ∷ []))
-        ∙ ap (map (λ (h : List ℕ × ℕ). h.0)) (ap (λ b. firsts [] hs ++ unless_known b (head_of head)) (sym e) ∙ sym firsts_now)
+        ∙ sym (map-append (λ (h : List ℕ × ℕ). h.0) (firsts [] hs) (head_heard head ∷ []))
+        ∙ ap (map (λ (h : List ℕ × ℕ). h.0)) (ap (λ b. firsts [] hs ++ unless_known b (head_heard head)) (sym e) ∙ sym firsts_now)
 
 -- the names of drafts that were opened stand apart
 pub opened_names : (heads : List (List ℕ × ℕ)) (d : Drafts) → IsOpened heads d → (d.names ≡ names_of d.drafts.items) × NamesApart d.names

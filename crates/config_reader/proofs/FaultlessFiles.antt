@@ -11,7 +11,7 @@ use Rattle.text_lines.specs.Lines.{words, kind_of}
 use Rattle.config_reader.specs.declared.stop.ConfigFault.{ConfigFault}
 use Rattle.config_reader.specs.declared.stop.ConfigFault.TheVariants.{LongLine, BadName}
 use Rattle.config_reader.specs.Statements.{Statement, Block, Network}
-use Rattle.config_reader.specs.Settings.{Said, said, said_at, networks}
+use Rattle.config_reader.specs.Settings.{Said, said, said_at, networks_said}
 use Rattle.config_reader.specs.Configs.{first_heads}
 use Rattle.config_reader.specs.Faults.{router_name, is_router_name}
 use Rattle.config_reader.specs.FaultList.{Fault, at_line, long_line, is_short, read_line, read_lines, refused, second_address, area_twice, bad_name, faults_at, faults}
@@ -89,7 +89,7 @@ module _ (file_name : List ℕ) (file : List (List ℕ)) where
       long_line line
       ∷ refused (said_at read i).statement
       ∷ second_address (said read) (said_at read i).block (said_at read i).statement
-      ∷ area_twice (said read) (first_heads read) (networks (take i (said read))) (said_at read i).block (said_at read i).statement
+      ∷ area_twice (said read) (first_heads read) (networks_said (take i (said read))) (said_at read i).block (said_at read i).statement
       ∷ bad_name (router_name file_name read) (i + 1)
       ∷ []
       )
@@ -106,7 +106,7 @@ module _ (file_name : List ℕ) (file : List (List ℕ)) where
       let here =
       five_none (i + 1) (long_line (get_or file i [])) (refused (said_at read i).statement)
       (second_address (said read) (said_at read i).block (said_at read i).statement)
-      (area_twice (said read) (first_heads read) (networks (take i (said read))) (said_at read i).block
+      (area_twice (said read) (first_heads read) (networks_said (take i (said read))) (said_at read i).block
       (said_at read i).statement) (bad_name (router_name file_name read) (i + 1)) parts.0 in
       let is : get_or file i [] ≡ line = ap (λ f. get_or f i []) split ∙ get_or_at front line rest [] i refl in
       All-cons (λ l. is_short l ≡ true) line rest (short_by (is_short line) (ap long_line (sym is) ∙ here.0))
@@ -122,7 +122,7 @@ module _ (file_name : List ℕ) (file : List (List ℕ)) where
         long_line line
         ∷ refused (statement_by (kind_of line) (open_block front) (words line))
         ∷ second_address (said file) (block_by (kind_of line) (open_block front)) (statement_by (kind_of line) (open_block front) (words line))
-        ∷ area_twice (said file) (first_heads file) (networks (said front)) (block_by (kind_of line) (open_block front))
+        ∷ area_twice (said file) (first_heads file) (networks_said (said front)) (block_by (kind_of line) (open_block front))
         (statement_by (kind_of line) (open_block front) (words line))
         ∷ bad_name (router_name file_name file) (length front + 1)
         ∷ []
@@ -141,7 +141,7 @@ module _ (file_name : List ℕ) (file : List (List ℕ)) where
             long_line line
             ∷ refused statement
             ∷ second_address (said file) block statement
-            ∷ area_twice (said file) (first_heads file) (networks before) block statement
+            ∷ area_twice (said file) (first_heads file) (networks_said before) block statement
             ∷ bad_name (router_name file_name file) (length front + 1)
             ∷ []
             )
@@ -156,7 +156,7 @@ module _ (file_name : List ℕ) (file : List (List ℕ)) where
         let here =
         five_none (length front + 1) (long_line line) (refused (statement_by (kind_of line) (open_block front) (words line)))
         (second_address (said file) (block_by (kind_of line) (open_block front)) (statement_by (kind_of line) (open_block front) (words line)))
-        (area_twice (said file) (first_heads file) (networks (said front)) (block_by (kind_of line) (open_block front))
+        (area_twice (said file) (first_heads file) (networks_said (said front)) (block_by (kind_of line) (open_block front))
         (statement_by (kind_of line) (open_block front) (words line)))
         (bad_name (router_name file_name file) (length front + 1)) (sym (here_faults front line rest split) ∙ parts.0) in (
           record { short = short_by (is_short line) here.0; own = here.1; address = here.2; area = here.3 },
@@ -180,7 +180,7 @@ module _ (file_name : List ℕ) (file : List (List ℕ)) where
         (here_faults front line rest split
         ∙ none_five (length front + 1) (long_line line) (refused (statement_by (kind_of line) (open_block front) (words line)))
         (second_address (said file) (block_by (kind_of line) (open_block front)) (statement_by (kind_of line) (open_block front) (words line)))
-        (area_twice (said file) (first_heads file) (networks (said front)) (block_by (kind_of line) (open_block front))
+        (area_twice (said file) (first_heads file) (networks_said (said front)) (block_by (kind_of line) (open_block front))
         (statement_by (kind_of line) (open_block front) (words line)))
         (bad_name (router_name file_name file) (length front + 1))
         (ap (λ b. cond b None (Some LongLine)) all.0.short) all.0.own all.0.address all.0.area (good_name good (length front + 1)))

@@ -5,7 +5,7 @@ use Rattle.text_lines.specs.declared.LineKind.{LineKind}
 use Rattle.text_lines.specs.declared.LineKind.TheVariants.{Blank, Comment, Head, Indented}
 use Rattle.config_reader.specs.declared.stop.ConfigFault.{ConfigFault}
 use Rattle.config_reader.specs.Statements.{Statement, Unread, Network, Block, OfOther, statement_in, head_statement}
-use Rattle.config_reader.specs.Settings.{said, said_by, networks}
+use Rattle.config_reader.specs.Settings.{said, said_by, networks_said}
 use Rattle.config_reader.specs.FaultList.{is_short, refused}
 use Rattle.config_reader.specs.Reading.{open_block}
 use Rattle.config_reader.proofs.SaidSteps.{said_after}
@@ -44,7 +44,7 @@ module _ (second : Block → Statement → Option ConfigFault) (twice : List Net
     pub short : is_short line ≡ true
     pub own : refused (statement_by (kind_of line) (open_block front) (words line)) ≡ None
     pub address : second (block_by (kind_of line) (open_block front)) (statement_by (kind_of line) (open_block front) (words line)) ≡ None
-    pub area : twice (networks (said front)) (block_by (kind_of line) (open_block front)) (statement_by (kind_of line) (open_block front) (words line)) ≡ None
+    pub area : twice (networks_said (said front)) (block_by (kind_of line) (open_block front)) (statement_by (kind_of line) (open_block front) (words line)) ≡ None
 
   abbrev pub AllFine : List (List ℕ) → List (List ℕ) → Type 0
   AllFine front [] = Unit {0}

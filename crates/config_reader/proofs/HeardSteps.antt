@@ -19,7 +19,7 @@ use Rattle.config_reader.specs.declared.stop.ConfigFault.{ConfigFault}
 use Rattle.config_reader.specs.declared.stop.ConfigFault.TheVariants.{LongLine}
 use Rattle.config_reader.specs.Statements.{Statement, AddressIs, AreaIs, CostIs, KindIs, PriorityIs, PassiveIs, DownIs, RouterIdIs, NetworkIs, PassiveInterfaceIs, Refused, Unread, Block, OfOther, block_of, statement_in, head_statement, begin_with, word_at}
 use Rattle.config_reader.specs.Settings.{Said, said, said_at, said_by}
-use Rattle.config_reader.specs.Configs.{opened_at, with_line, name_opened}
+use Rattle.config_reader.specs.Configs.{opened_at, name_with_line, name_opened}
 use Rattle.config_reader.specs.Faults.{is_hostname_head, last_hostname}
 use Rattle.config_reader.specs.FaultList.{at_line, long_line, refused, read_line, read_lines, is_short}
 use Rattle.config_reader.specs.Hearing.{Heard, sets, hear, hear_kind, hear_statement, with_fault, heard, named_by, own_fault}
@@ -55,7 +55,7 @@ added kind long h n ws =
     let s = said_by kind n h.block ws in
     record {
       said = h.said ++ only_if (sets s.statement) s;
-      heads = h.heads ++ cons_option (cond (is_head_kind kind) (with_line n (name_opened (block_of ws))) None) [];
+      heads = h.heads ++ cons_option (cond (is_head_kind kind) (name_with_line n (name_opened (block_of ws))) None) [];
       hostname = cond (is_head_kind kind && begin_with (codes "hostname" ∷ []) ws) (Some (word_at ws 1, n)) h.hostname;
       fault = option_or h.fault (at_line n (option_or long (refused s.statement)));
       block = cond (is_head_kind kind) (block_of ws) h.block;
@@ -170,7 +170,7 @@ heard-push file line = heard_same (heard (file ++ line ∷ []))
 
     opened : (heard (file ++ line ∷ [])).heads ≡ (heard file).heads
         ++ cons_option (cond (is_head_kind (kind_of l))
-        (with_line (length file + 1) (name_opened (block_of (words l)))) None) []
+        (name_with_line (length file + 1) (name_opened (block_of (words l)))) None) []
     opened =
         ap (λ ls. filter_map (opened_at ls) (numbers_from 0 (length ls))) (read_lines-push file line)
         ∙ opened-push r l
@@ -266,7 +266,7 @@ hears : (kind : LineKind) (h : Heard) (n : ℕ) (ws : List (List ℕ)) → hear_
 hears Blank h n ws = nothing_added h
 hears Comment h n ws = nothing_added h
 hears Head h n ws = keeps (record h {
-  heads = h.heads ++ cons_option (with_line n (name_opened (block_of ws))) [];
+  heads = h.heads ++ cons_option (name_with_line n (name_opened (block_of ws))) [];
   hostname = cond (begin_with (codes "hostname" ∷ []) ws) (Some (word_at ws 1, n)) h.hostname;
   block =
       block_of ws;

@@ -17,8 +17,8 @@ use Rattle.text_lines.specs.declared.LineKind.TheVariants.{Blank, Comment, Head,
 use Rattle.interface_model.specs.declared.Interface.{Interface}
 use Rattle.interface_model.specs.Records.{IsInterface, IsRouter}
 use Rattle.config_reader.specs.Statements.{Statement, AddressIs, AreaIs, CostIs, KindIs, PriorityIs, PassiveIs, DownIs, RouterIdIs, NetworkIs, PassiveInterfaceIs, Refused, Unread, Block, OfInterface, OfRouter, OfOther, block_of, head_statement, interface_statement, router_statement, address_statement, area_statement, cost_statement, priority_statement, network_statement, router_id_statement, alone, begin_with}
-use Rattle.config_reader.specs.Settings.{Said, said, said_by, about, is_of, interface_of, address_said, cost_said, length_part}
-use Rattle.config_reader.specs.Configs.{config_of, first_heads, opened_at, with_line, name_opened}
+use Rattle.config_reader.specs.Settings.{Said, said, said_by, about, is_of, interface_as_set, address_said, cost_set, length_part}
+use Rattle.config_reader.specs.Configs.{config_of, first_heads, opened_at, name_with_line, name_opened}
 use Rattle.config_reader.specs.Faults.{is_name_byte, is_router_name, router_name}
 use Rattle.config_reader.specs.Reading.{open_block}
 use Rattle.config_reader.proofs.SaidSteps.{said_after, said-push, opened_from}
@@ -177,9 +177,9 @@ first_length (Refused fault ∷ own) fits = first_length own fits.1
 first_length (Unread ∷ own) fits = first_length own fits.1
 
 -- the last cost of statements that fit
-last_positive : (own : List Statement) → EachFits own → IfSome (last_of (filter_map cost_said own)) (λ cost. 0 < cost)
+last_positive : (own : List Statement) → EachFits own → IfSome (last_of (filter_map cost_set own)) (λ cost. 0 < cost)
 last_positive [] fits = tt
-last_positive (CostIs n ∷ own) fits = behind (filter_map cost_said own) (last_positive own fits.1)
+last_positive (CostIs n ∷ own) fits = behind (filter_map cost_set own) (last_positive own fits.1)
   where
     behind : (ns : List ℕ) → IfSome (last_of ns) (λ cost. 0 < cost) → IfSome (last_of (n ∷ ns)) (λ cost. 0 < cost)
     behind [] h = fits.0.fact
@@ -280,7 +280,7 @@ opened_word n line name m good = by_head (is_head line)
     each : EachWord (length line) (words line)
     each = words-words line (and_parts (lacks_end line) (nat_le (length line) 4096) good).0
 
-    by_block : (block : Block) → block_of (words line) ≡ block → with_line (n + 1) (name_opened block) ≡ Some (name, m) → IsWord name
+    by_block : (block : Block) → block_of (words line) ≡ block → name_with_line (n + 1) (name_opened block) ≡ Some (name, m) → IsWord name
     by_block (OfInterface other) e h =
         let pair : Some (other, n + 1) ≡ Some (name, m) = h in
         let same : other ≡ name = first_same other name (n + 1) m pair in
@@ -295,7 +295,7 @@ opened_word n line name m good = by_head (is_head line)
     by_block OfRouter e h = absurd (cc)
     by_block OfOther e h = absurd (cc)
 
-    by_head : (b : Bool) → cond b (with_line (n + 1) (name_opened (block_of (words line)))) None ≡ Some (name, m) → IsWord name
+    by_head : (b : Bool) → cond b (name_with_line (n + 1) (name_opened (block_of (words line)))) None ≡ Some (name, m) → IsWord name
     by_head true h = by_block (block_of (words line)) refl h
     by_head false h = absurd (cc)
 
@@ -324,10 +324,10 @@ heads_words = by_lines (λ file. list_all is_good_line file ≡ true → EachHea
 
 -- the interfaces of a file keep their facts
 interfaces_kept : (file : List (List ℕ)) (heads : List (List ℕ × ℕ)) → EachHead heads →
-    All IsInterface (map (λ head. interface_of (said file) head.0 head.1) heads)
+    All IsInterface (map (λ head. interface_as_set (said file) head.0 head.1) heads)
 interfaces_kept file [] each = All-nil IsInterface
 interfaces_kept file (h ∷ heads) each =
-    All-cons IsInterface (interface_of (said file) h.0 h.1) (map (λ head. interface_of (said file) head.0 head.1) heads)
+    All-cons IsInterface (interface_as_set (said file) h.0 h.1) (map (λ head. interface_as_set (said file) head.0 head.1) heads)
     (record {
       name = each.0;
       short = first_length (about (said file) h.0) (about_fits file h.0);
@@ -336,8 +336,8 @@ interfaces_kept file (h ∷ heads) each =
     (interfaces_kept file heads each.1)
 
 named_at : (all : List Said) (heads : List (List ℕ × ℕ)) (x : List ℕ) (j : ℕ) (d : Interface) →
-    j < length (map (λ (head : List ℕ × ℕ). interface_of all head.0 head.1) heads) →
-    x ≡ (get_or (map (λ (head : List ℕ × ℕ). interface_of all head.0 head.1) heads) j d).name → list_any (same_bytes x) (head_names heads) ≡ true
+    j < length (map (λ (head : List ℕ × ℕ). interface_as_set all head.0 head.1) heads) →
+    x ≡ (get_or (map (λ (head : List ℕ × ℕ). interface_as_set all head.0 head.1) heads) j d).name → list_any (same_bytes x) (head_names heads) ≡ true
 named_at all [] x j d within e = absurd (omega arith)
 named_at all (h ∷ heads) x zero d within e =
     or_left (same_bytes x h.0) (list_any (same_bytes x) (head_names heads)) (ap (same_bytes x) (sym e)
@@ -346,7 +346,7 @@ named_at all (h ∷ heads) x (suc j) d within e =
     or_right (same_bytes x h.0) (list_any (same_bytes x) (head_names heads)) (named_at all heads x j d (omega arith) e)
 
 interfaces_apart : (all : List Said) (heads : List (List ℕ × ℕ)) → NamesApart (head_names heads) →
-    AllPairs (λ (a b : Interface). a.name ≢ b.name) (map (λ head. interface_of all head.0 head.1) heads)
+    AllPairs (λ (a b : Interface). a.name ≢ b.name) (map (λ head. interface_as_set all head.0 head.1) heads)
 interfaces_apart all [] apart i j d before within = absurd (omega arith)
 interfaces_apart all (h ∷ heads) apart i zero d before within = absurd (omega arith)
 interfaces_apart all (h ∷ heads) apart zero (suc j) d before within = λ same. false≢true (sym apart.0 ∙ named_at all heads h.0 j d (omega arith) same)

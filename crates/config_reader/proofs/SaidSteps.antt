@@ -8,7 +8,7 @@ use Rattle.cost_base.proofs.ListLemmas.{length-push}
 use Rattle.text_lines.specs.Lines.{words, kind_of, is_head}
 use Rattle.config_reader.specs.Statements.{block_of, begin_with, word_at}
 use Rattle.config_reader.specs.Settings.{Said, said, said_at, said_by, block_by_head}
-use Rattle.config_reader.specs.Configs.{opened_at, with_line, name_opened}
+use Rattle.config_reader.specs.Configs.{opened_at, name_with_line, name_opened}
 use Rattle.config_reader.specs.Faults.{is_hostname_head, last_hostname, name_and_line, router_name}
 use Rattle.config_reader.proofs.LongerLists.{map-numbers_more, filter_map-numbers_more, filter-numbers_same, last_passing-lt}
 
@@ -44,7 +44,7 @@ said-push file line =
 
 -- the interface that a line opens at a place
 abbrev pub opened_from : ℕ → List ℕ → Option (List ℕ × ℕ)
-opened_from i line = if is_head line then with_line (i + 1) (name_opened (block_of (words line))) else None
+opened_from i line = if is_head line then name_with_line (i + 1) (name_opened (block_of (words line))) else None
 
 -- one more line opens at most one interface more
 pub opened-push : (file : List (List ℕ)) (line : List ℕ) →

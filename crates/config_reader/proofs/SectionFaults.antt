@@ -12,11 +12,11 @@ use Rattle.text_lines.specs.Lines.{lines, words, ends_word, grow, is_head, ended
 use Rattle.text_lines.proofs.Digits.{length-decimal-le}
 use Rattle.text_lines.proofs.WordLists.{room}
 use Rattle.config_reader.specs.Statements.{Statement, CostIs, Block, OfInterface, OfRouter, OfOther, block_of, begin_with, statement_in}
-use Rattle.config_reader.specs.Settings.{said, networks, about, about_router, address_said, area_said, is_of, is_of_router}
-use Rattle.config_reader.specs.Configs.{first_heads, with_line, name_opened}
+use Rattle.config_reader.specs.Settings.{said, networks_said, about, about_router, address_said, area_set, is_of, is_of_router}
+use Rattle.config_reader.specs.Configs.{first_heads, name_with_line, name_opened}
 use Rattle.config_reader.specs.Faults.{router_name, is_router_name}
 use Rattle.config_reader.specs.FaultList.{is_short, refused, second_address, area_twice, config_fault, faults}
-use Rattle.config_reader.specs.Sections.{section_lines, IsSectionCost, name_line, cost_line}
+use Rattle.config_reader.specs.Sections.{config_section_lines, IsSectionCost, name_line, section_cost_line}
 use Rattle.config_reader.proofs.SaidSteps.{said_after, said-push, names_router, router_name-push}
 use Rattle.config_reader.proofs.SettingSteps.{about-push, about_router-push, said_where}
 use Rattle.config_reader.proofs.HeadSteps.{first_heads-push, heads_with, is_headed, is_headed-contains, unless_known}
@@ -110,7 +110,7 @@ headed_short = by_lines (λ file. list_all is_short file ≡ true → (name : Li
             by_known false false is_known h = by_new (same_bytes name other) refl h
 
         by_head : (b : Bool) (block : Block) → block_of (words line) ≡ block →
-            is_headed name (heads_with (cond b (with_line (length file + 1) (name_opened block)) None)
+            is_headed name (heads_with (cond b (name_with_line (length file + 1) (name_opened block)) None)
             (first_heads file)) ≡ true → length name + 10 ≤ 4096
         by_head true (OfInterface other) is found = new other (length file + 1) is found
         by_head true OfRouter is found = before parts.0 name found
@@ -119,11 +119,11 @@ headed_short = by_lines (λ file. list_all is_short file ≡ true → (name : Li
 
 -- a line that gives no address and no area, is of no router block and opens no new interface
 same_pushed : (file : List (List ℕ)) (line : List ℕ) → address_said (said_after file line).statement ≡ None →
-    area_said (said_after file line).statement ≡ None →
+    area_set (said_after file line).statement ≡ None →
     is_of_router (said_after file line).block ≡ false → first_heads (file ++ line ∷ []) ≡ first_heads file → SameTests file (file ++ line ∷ [])
 same_pushed file line no_address no_area no_router heads = record {
   addresses = picked address_said no_address;
-  areas = picked area_said no_area;
+  areas = picked area_set no_area;
   router =
       ap about_router (said-push file line)
       ∙ about_router-push (said file) (said_after file line)
@@ -173,7 +173,7 @@ module _ (file_name : List ℕ) (base : List (List ℕ)) where
 
   -- the lines of one cost
   one_cost : (file : List (List ℕ)) (cost : List ℕ × ℕ) → IsSectionCost file cost → length cost.0 + 10 ≤ 4096 →
-      GoesOn file → GoesOn (file ++ section_lines (cost ∷ []))
+      GoesOn file → GoesOn (file ++ config_section_lines (cost ∷ []))
   one_cost file cost fits short so_far =
       let known = is_headed-contains cost.0 (first_heads file) fits.headed in
       let first = goes_on file (name_line cost.0) so_far
@@ -182,36 +182,36 @@ module _ (file_name : List ℕ) (base : List (List ℕ)) where
       let opened = file ++ name_line cost.0 ∷ [] in
       let block = block_behind file cost.0 fits.word in
       let says = cost_said_there cost.1 fits.from fits.to in
-      let statement : statement_in (OfInterface cost.0) (words (cost_line cost.1)) ≡ CostIs cost.1 = says in
-      let second = goes_on opened (cost_line cost.1) first
+      let statement : statement_in (OfInterface cost.0) (words (section_cost_line cost.1)) ≡ CostIs cost.1 = says in
+      let second = goes_on opened (section_cost_line cost.1) first
       (record {
-        short = le-leb (length (cost_line cost.1)) 4096 (omega (arith, length-decimal-le 5 cost.1 (omega arith) (omega (arith, fits.to))));
-        own = ap (λ b. refused (statement_in b (words (cost_line cost.1)))) block ∙ ap refused statement;
-        address = ap (λ b. second_address (said base) b (statement_in b (words (cost_line cost.1)))) block
+        short = le-leb (length (section_cost_line cost.1)) 4096 (omega (arith, length-decimal-le 5 cost.1 (omega arith) (omega (arith, fits.to))));
+        own = ap (λ b. refused (statement_in b (words (section_cost_line cost.1)))) block ∙ ap refused statement;
+        address = ap (λ b. second_address (said base) b (statement_in b (words (section_cost_line cost.1)))) block
             ∙ ap (second_address (said base) (OfInterface cost.0)) statement;
-        area = ap (λ b. area_twice (said base) (first_heads base) (networks (said opened)) b
-            (statement_in b (words (cost_line cost.1)))) block
-            ∙ ap (area_twice (said base) (first_heads base) (networks (said opened)) (OfInterface cost.0)) statement;
+        area = ap (λ b. area_twice (said base) (first_heads base) (networks_said (said opened)) b
+            (statement_in b (words (section_cost_line cost.1)))) block
+            ∙ ap (area_twice (said base) (first_heads base) (networks_said (said opened)) (OfInterface cost.0)) statement;
       })
-      (same_pushed opened (cost_line cost.1)
-      (ap address_said (ap (λ b. statement_in b (words (cost_line cost.1))) block ∙ statement))
-      (ap area_said (ap (λ b. statement_in b (words (cost_line cost.1))) block ∙ statement))
+      (same_pushed opened (section_cost_line cost.1)
+      (ap address_said (ap (λ b. statement_in b (words (section_cost_line cost.1))) block ∙ statement))
+      (ap area_set (ap (λ b. statement_in b (words (section_cost_line cost.1))) block ∙ statement))
       (ap is_of_router block)
       (after_cost file_name file cost.0 cost.1 fits.word fits.from fits.to).1) refl in
-      let set = opened ++ cost_line cost.1 ∷ [] in
+      let set = opened ++ section_cost_line cost.1 ∷ [] in
       let third = goes_on set (codes "exit") second (record { short = refl; own = refl; address = refl; area = refl })
       (same_pushed set (codes "exit") refl refl refl (after_exit file_name set).1) refl in
-      subst GoesOn (three_more file (name_line cost.0) (cost_line cost.1) (codes "exit")) third
+      subst GoesOn (three_more file (name_line cost.0) (section_cost_line cost.1) (codes "exit")) third
 
   -- the lines of a section
   section_goes : (file : List (List ℕ)) (costs : List (List ℕ × ℕ)) → All (IsSectionCost file) costs →
-      All (λ cost. length cost.0 + 10 ≤ 4096) costs → GoesOn file → GoesOn (file ++ section_lines costs)
+      All (λ cost. length cost.0 + 10 ≤ 4096) costs → GoesOn file → GoesOn (file ++ config_section_lines costs)
   section_goes file [] fits short so_far = subst GoesOn (sym (append-nil file)) so_far
   section_goes file (cost ∷ costs) fits short so_far =
       let here = All-head (IsSectionCost file) cost costs fits in
       let heads = (after_one file_name file cost here).1 in
-      let rest : All (IsSectionCost (file ++ section_lines (cost ∷ []))) costs =
-      All-weaker (IsSectionCost file) (IsSectionCost (file ++ section_lines (cost ∷ [])))
+      let rest : All (IsSectionCost (file ++ config_section_lines (cost ∷ []))) costs =
+      All-weaker (IsSectionCost file) (IsSectionCost (file ++ config_section_lines (cost ∷ [])))
       (λ other fit. record {
         word = fit.word;
         headed = subst (λ (hs : List (List ℕ × ℕ)). Contains (map (λ head. head.0) hs) other.0)
@@ -221,17 +221,17 @@ module _ (file_name : List ℕ) (base : List (List ℕ)) where
       })
       costs (All-tail (IsSectionCost file) cost costs fits) in
       subst GoesOn (sym (section_lines-cons file cost costs))
-      (section_goes (file ++ section_lines (cost ∷ [])) costs rest
+      (section_goes (file ++ config_section_lines (cost ∷ [])) costs rest
       (All-tail (λ c. length c.0 + 10 ≤ 4096) cost costs short)
       (one_cost file cost here (All-head (λ c. length c.0 + 10 ≤ 4096) cost costs short) so_far))
 
-all_short : (file : List (List ℕ)) → All (λ line. is_short line ≡ true) file → list_all is_short file ≡ true
+pub all_short : (file : List (List ℕ)) → All (λ line. is_short line ≡ true) file → list_all is_short file ≡ true
 all_short [] each = refl
 all_short (line ∷ file) each = rw (All-head (λ l. is_short l ≡ true) line file each, all_short file (All-tail (λ l. is_short l ≡ true) line file each)) refl
 
 -- a configuration without a fault has none with a section after it
 pub section_accepted : (file_name bytes : List ℕ) (costs : List (List ℕ × ℕ)) → All (IsSectionCost (lines bytes)) costs → config_fault file_name bytes ≡ None →
-    config_fault file_name (ended bytes ++ with_ends (section_lines costs)) ≡ None
+    config_fault file_name (ended bytes ++ with_ends (config_section_lines costs)) ≡ None
 section_accepted file_name bytes costs fits accepted =
     let file = lines bytes in
     let before = faultless file_name file accepted in
@@ -246,4 +246,4 @@ section_accepted file_name bytes costs fits accepted =
     (λ cost fit. headed_short file short cost.0 (is_headed-contains cost.0 (first_heads file) fit.headed)) costs
     fits) start in
     ap (λ (read : List (List ℕ)). first_of (faults file_name read)) (lines-section bytes costs fits)
-    ∙ no_faults file_name (file ++ section_lines costs) (faultless_so file_name file (file ++ section_lines costs) done.same done.fine done.name)
+    ∙ no_faults file_name (file ++ config_section_lines costs) (faultless_so file_name file (file ++ config_section_lines costs) done.same done.fine done.name)

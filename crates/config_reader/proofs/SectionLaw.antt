@@ -13,10 +13,10 @@ use Rattle.text_lines.specs.Lines.{lines, words, is_head, ended, with_ends}
 use Rattle.interface_model.specs.declared.Interface.{Interface}
 use Rattle.interface_model.specs.Records.{Router}
 use Rattle.config_reader.specs.Statements.{CostIs, OfInterface, OfOther, block_of, cost_statement, interface_statement, statement_in}
-use Rattle.config_reader.specs.Settings.{Said, said, block_by_head, about_router, setting, router_id_said, interface_of, is_of, is_of_router}
-use Rattle.config_reader.specs.Configs.{config_of, first_heads, with_line, name_opened}
+use Rattle.config_reader.specs.Settings.{Said, said, block_by_head, about_router, setting, router_id_said, interface_as_set, is_of, is_of_router}
+use Rattle.config_reader.specs.Configs.{config_of, first_heads, name_with_line, name_opened}
 use Rattle.config_reader.specs.Faults.{router_name}
-use Rattle.config_reader.specs.Sections.{section_lines, with_cost, with_costs, IsSectionCost, name_line, cost_line}
+use Rattle.config_reader.specs.Sections.{config_section_lines, with_cost, with_costs, IsSectionCost, name_line, section_cost_line}
 use Rattle.config_reader.proofs.SaidSteps.{said_after, said-push, names_router, router_name-push, opened_from}
 use Rattle.config_reader.proofs.SettingSteps.{interface_of-other, interface_of-cost, about_router-push, said_where}
 use Rattle.config_reader.proofs.HeadSteps.{first_heads-push, heads_with, is_headed, is_headed-contains, unless_known}
@@ -30,7 +30,7 @@ pub router_by : List ℕ → List Said → List (List ℕ × ℕ) → Router
 router_by name all heads = record {
   name = name;
   router_id = setting router_id_said (about_router all);
-  interfaces = map (λ head. interface_of all head.0 head.1) heads;
+  interfaces = map (λ head. interface_as_set all head.0 head.1) heads;
 }
 
 -- what the lines of a configuration say
@@ -52,7 +52,7 @@ unfolding router_by
 router_by-silent name all s heads silent =
     cc (
       router_id_kept all s (ap is_of_router silent),
-      map-agree (λ head. interface_of (all ++ s ∷ []) head.0 head.1) (λ head. interface_of all head.0 head.1) heads
+      map-agree (λ head. interface_as_set (all ++ s ∷ []) head.0 head.1) (λ head. interface_as_set all head.0 head.1) heads
           (λ head. interface_of-other all s head.0 head.1 (ap (is_of head.0) silent) (ap is_of_router silent)),
     )
 
@@ -64,16 +64,16 @@ unfolding router_by
 router_by-cost name all s heads interface n block cost =
     cc (
       router_id_kept all s (ap is_of_router block),
-      map-agree (λ head. interface_of (all ++ s ∷ []) head.0 head.1) (λ head. with_cost ((interface, n) ∷ []) (interface_of all head.0 head.1)) heads one,
-      map-map (with_cost ((interface, n) ∷ [])) (λ head. interface_of all head.0 head.1) heads,
+      map-agree (λ head. interface_as_set (all ++ s ∷ []) head.0 head.1) (λ head. with_cost ((interface, n) ∷ []) (interface_as_set all head.0 head.1)) heads one,
+      map-map (with_cost ((interface, n) ∷ [])) (λ head. interface_as_set all head.0 head.1) heads,
     )
   where
-    one : (head : List ℕ × ℕ) → interface_of (all ++ s ∷ []) head.0 head.1 ≡ with_cost ((interface, n) ∷ []) (interface_of all head.0 head.1)
+    one : (head : List ℕ × ℕ) → interface_as_set (all ++ s ∷ []) head.0 head.1 ≡ with_cost ((interface, n) ∷ []) (interface_as_set all head.0 head.1)
     one head = cases (same_bytes head.0 interface) refl
       where
         cases : (b : Bool) → same_bytes head.0 interface ≡ b →
-            interface_of (all ++ s ∷ []) head.0 head.1
-            ≡ record (interface_of all head.0 head.1) { cost = cond b (Some n) (interface_of all head.0 head.1).cost }
+            interface_as_set (all ++ s ∷ []) head.0 head.1
+            ≡ record (interface_as_set all head.0 head.1) { cost = cond b (Some n) (interface_as_set all head.0 head.1).cost }
         cases true same = interface_of-cost all s head.0 head.1 n (ap (is_of head.0) block ∙ same) (ap is_of_router block) cost
         cases false same = interface_of-other all s head.0 head.1 (ap (is_of head.0) block ∙ same) (ap is_of_router block)
 
@@ -118,7 +118,7 @@ after_name file_name file name one known = (router_of-silent file_name file (nam
         ∙ append-nil (first_heads file)
       where
         opened : opened_from (length file) (name_line name) ≡ Some (name, length file + 1)
-        opened = ap (λ ws. with_line (length file + 1) (name_opened (block_of (codes "interface" ∷ ws)))) (words-one name one)
+        opened = ap (λ ws. name_with_line (length file + 1) (name_opened (block_of (codes "interface" ∷ ws)))) (words-one name one)
 
 -- the block of a line behind a head of an interface
 pub block_behind : (file : List (List ℕ)) (name : List ℕ) → IsOneWord name →
@@ -129,7 +129,7 @@ block_behind file name one =
     ∙ ap (λ ws. block_of (codes "interface" ∷ ws)) (words-one name one)
 
 -- what a cost line says
-pub cost_said_there : (n : ℕ) → 1 ≤ n → n ≤ 65535 → interface_statement (words (cost_line n)) ≡ CostIs n
+pub cost_said_there : (n : ℕ) → 1 ≤ n → n ≤ 65535 → interface_statement (words (section_cost_line n)) ≡ CostIs n
 cost_said_there n from to =
     ap (λ ws. interface_statement (codes "ip" ∷ codes "ospf" ∷ codes "cost" ∷ ws)) (words-one (decimal n) (decimal-word n))
     ∙ ap (cost_statement true) (number-decimal n 65535 to (omega arith))
@@ -140,16 +140,16 @@ cost_said_there n from to =
 
 -- a cost line behind the head of its interface sets the cost
 pub after_cost : (file_name : List ℕ) (file : List (List ℕ)) (name : List ℕ) (n : ℕ) → IsOneWord name → 1 ≤ n → n ≤ 65535 →
-    (router_of file_name ((file ++ name_line name ∷ []) ++ cost_line n ∷ []) ≡ with_costs ((name, n) ∷ []) (router_of file_name (file ++ name_line name ∷ [])))
-    × (first_heads ((file ++ name_line name ∷ []) ++ cost_line n ∷ []) ≡ first_heads (file ++ name_line name ∷ []))
+    (router_of file_name ((file ++ name_line name ∷ []) ++ section_cost_line n ∷ []) ≡ with_costs ((name, n) ∷ []) (router_of file_name (file ++ name_line name ∷ [])))
+    × (first_heads ((file ++ name_line name ∷ []) ++ section_cost_line n ∷ []) ≡ first_heads (file ++ name_line name ∷ []))
 after_cost file_name file name n one from to =
-    (router_of-cost file_name (file ++ name_line name ∷ []) (cost_line n) name n (block_behind file name one) cost refl heads, heads)
+    (router_of-cost file_name (file ++ name_line name ∷ []) (section_cost_line n) name n (block_behind file name one) cost refl heads, heads)
   where
-    heads : first_heads ((file ++ name_line name ∷ []) ++ cost_line n ∷ []) ≡ first_heads (file ++ name_line name ∷ [])
-    heads = first_heads-push (file ++ name_line name ∷ []) (cost_line n)
+    heads : first_heads ((file ++ name_line name ∷ []) ++ section_cost_line n ∷ []) ≡ first_heads (file ++ name_line name ∷ [])
+    heads = first_heads-push (file ++ name_line name ∷ []) (section_cost_line n)
 
-    cost : (said_after (file ++ name_line name ∷ []) (cost_line n)).statement ≡ CostIs n
-    cost = ap (λ b. statement_in b (words (cost_line n))) (block_behind file name one) ∙ cost_said_there n from to
+    cost : (said_after (file ++ name_line name ∷ []) (section_cost_line n)).statement ≡ CostIs n
+    cost = ap (λ b. statement_in b (words (section_cost_line n))) (block_behind file name one) ∙ cost_said_there n from to
 
 -- `exit` leaves what a file says
 pub after_exit : (file_name : List ℕ) (file : List (List ℕ)) →
@@ -165,14 +165,14 @@ three_more (x ∷ xs) a b c = ap (λ ys. x ∷ ys) (three_more xs a b c)
 
 -- a file with the lines of one cost after it
 pub after_one : (file_name : List ℕ) (file : List (List ℕ)) (cost : List ℕ × ℕ) → IsSectionCost file cost →
-    (router_of file_name (file ++ section_lines (cost ∷ [])) ≡ with_costs (cost ∷ []) (router_of file_name file))
-    × (first_heads (file ++ section_lines (cost ∷ [])) ≡ first_heads file)
+    (router_of file_name (file ++ config_section_lines (cost ∷ [])) ≡ with_costs (cost ∷ []) (router_of file_name file))
+    × (first_heads (file ++ config_section_lines (cost ∷ [])) ≡ first_heads file)
 after_one file_name file cost fits =
     let known = is_headed-contains cost.0 (first_heads file) fits.headed in
     let head = after_name file_name file cost.0 fits.word known in
     let set = after_cost file_name file cost.0 cost.1 fits.word fits.from fits.to in
-    let left = after_exit file_name ((file ++ name_line cost.0 ∷ []) ++ cost_line cost.1 ∷ []) in
-    let same = three_more file (name_line cost.0) (cost_line cost.1) (codes "exit") in
+    let left = after_exit file_name ((file ++ name_line cost.0 ∷ []) ++ section_cost_line cost.1 ∷ []) in
+    let same = three_more file (name_line cost.0) (section_cost_line cost.1) (codes "exit") in
     (ap (router_of file_name) (sym same) ∙ left.0 ∙ set.0 ∙ ap (with_costs ((cost.0, cost.1) ∷ [])) head.0, ap first_heads (sym same) ∙ left.1 ∙ set.1 ∙ head.1)
 
 -- costs one after another
@@ -182,13 +182,13 @@ with_costs-cons cost costs r =
     (map-map (with_cost costs) (with_cost (cost ∷ [])) r.interfaces)
 
 pub section_lines-cons : (file : List (List ℕ)) (cost : List ℕ × ℕ) (costs : List (List ℕ × ℕ)) →
-    file ++ section_lines (cost ∷ costs) ≡ (file ++ section_lines (cost ∷ [])) ++ section_lines costs
-section_lines-cons file cost costs = sym (append_assoc file (section_lines (cost ∷ [])) (section_lines costs))
+    file ++ config_section_lines (cost ∷ costs) ≡ (file ++ config_section_lines (cost ∷ [])) ++ config_section_lines costs
+section_lines-cons file cost costs = sym (append_assoc file (config_section_lines (cost ∷ [])) (config_section_lines costs))
 
 -- a file with the lines of a section after it
 pub router_of-section : (file_name : List ℕ) (file : List (List ℕ)) (costs : List (List ℕ × ℕ)) →
     All (IsSectionCost file) costs →
-    router_of file_name (file ++ section_lines costs) ≡ with_costs costs (router_of file_name file)
+    router_of file_name (file ++ config_section_lines costs) ≡ with_costs costs (router_of file_name file)
 router_of-section file_name file [] fits = ap (router_of file_name) (append-nil file) ∙ same (router_of file_name file)
   where
     same : (r : Router) → r ≡ with_costs [] r
@@ -199,8 +199,8 @@ router_of-section file_name file [] fits = ap (router_of file_name) (append-nil 
         each (i ∷ is) = ap (λ rest. i ∷ rest) (each is)
 router_of-section file_name file (cost ∷ costs) fits =
     let here = after_one file_name file cost (All-head (IsSectionCost file) cost costs fits) in
-    let rest : All (IsSectionCost (file ++ section_lines (cost ∷ []))) costs =
-    All-weaker (IsSectionCost file) (IsSectionCost (file ++ section_lines (cost ∷ [])))
+    let rest : All (IsSectionCost (file ++ config_section_lines (cost ∷ []))) costs =
+    All-weaker (IsSectionCost file) (IsSectionCost (file ++ config_section_lines (cost ∷ [])))
     (λ other fit. record {
       word = fit.word;
       headed = subst (λ (heads : List (List ℕ × ℕ)). Contains (map (λ head. head.0) heads) other.0)
@@ -210,12 +210,12 @@ router_of-section file_name file (cost ∷ costs) fits =
     })
     costs (All-tail (IsSectionCost file) cost costs fits) in
     ap (router_of file_name) (section_lines-cons file cost costs)
-    ∙ router_of-section file_name (file ++ section_lines (cost ∷ [])) costs rest
+    ∙ router_of-section file_name (file ++ config_section_lines (cost ∷ [])) costs rest
     ∙ ap (with_costs costs) here.0
     ∙ with_costs-cons cost costs (router_of file_name file)
 
 -- no line of a section has an LF
-section_lacks_end : (file : List (List ℕ)) (costs : List (List ℕ × ℕ)) → All (IsSectionCost file) costs → all_lack_end (section_lines costs) ≡ true
+section_lacks_end : (file : List (List ℕ)) (costs : List (List ℕ × ℕ)) → All (IsSectionCost file) costs → all_lack_end (config_section_lines costs) ≡ true
 section_lacks_end file [] fits = refl
 section_lacks_end file (cost ∷ costs) fits =
     let name : lacks_end cost.0 ≡ true = word_lacks_end cost.0 (All-head (IsSectionCost file) cost costs fits).word.whole in
@@ -225,17 +225,17 @@ section_lacks_end file (cost ∷ costs) fits =
 
 -- the lines of a text with a section after it
 pub lines-section : (bytes : List ℕ) (costs : List (List ℕ × ℕ)) → All (IsSectionCost (lines bytes)) costs →
-    lines (ended bytes ++ with_ends (section_lines costs)) ≡ lines bytes ++ section_lines costs
+    lines (ended bytes ++ with_ends (config_section_lines costs)) ≡ lines bytes ++ config_section_lines costs
 lines-section bytes costs fits =
-    lines-ended bytes (with_ends (section_lines costs))
+    lines-ended bytes (with_ends (config_section_lines costs))
     ∙ ap (λ more. lines bytes ++ more)
-    (lines-with_ends (section_lines costs) (section_lacks_end (lines bytes) costs fits))
+    (lines-with_ends (config_section_lines costs) (section_lacks_end (lines bytes) costs fits))
 
 -- a configuration with a section after it says the same, but for the costs of the section
 pub config_of-section : (file_name bytes : List ℕ) (costs : List (List ℕ × ℕ)) → All (IsSectionCost (lines bytes)) costs →
-    config_of file_name (ended bytes ++ with_ends (section_lines costs)) ≡ with_costs costs (config_of file_name bytes)
+    config_of file_name (ended bytes ++ with_ends (config_section_lines costs)) ≡ with_costs costs (config_of file_name bytes)
 config_of-section file_name bytes costs fits =
-    config_of-lines file_name (ended bytes ++ with_ends (section_lines costs))
+    config_of-lines file_name (ended bytes ++ with_ends (config_section_lines costs))
     ∙ ap (router_of file_name) (lines-section bytes costs fits)
     ∙ router_of-section file_name (lines bytes) costs fits
     ∙ ap (with_costs costs) (sym (config_of-lines file_name bytes))

@@ -12,7 +12,7 @@ use Rattle.interface_model.specs.declared.Interface.{Interface}
 use Rattle.interface_model.specs.declared.Kind.{Kind}
 use Rattle.interface_model.specs.declared.Kind.TheVariants.{Broadcast}
 use Rattle.config_reader.specs.Statements.{Statement, CostIs, Network}
-use Rattle.config_reader.specs.Settings.{Said, about, about_router, is_of, is_of_router, setting, interface_of, address_of, networks, area_by_networks, address_said, area_said, cost_said, kind_said, passive_said, down_said, priority_said, network_said, passive_name_said, matches, address_part, length_part}
+use Rattle.config_reader.specs.Settings.{Said, about, about_router, is_of, is_of_router, setting, interface_as_set, interface_address, networks_said, area_by_networks, address_said, area_set, cost_set, kind_said, passive_said, down_said, priority_said, network_said, passive_name_said, matches, address_part, length_part}
 
 -- a thing that is said where a test passes
 abbrev pub said_where : Bool → Statement → List Statement
@@ -67,13 +67,13 @@ Made X = Option Prefix → Option ℕ → Option ℕ → Option Kind → Option 
 -- what is made of the settings that some statements say
 abbrev pub by_said : {X : Type 0} → Made X → List Statement → X
 by_said {X} make own =
-    make (first_of (filter_map address_said own)) (setting area_said own) (setting cost_said own) (setting kind_said own)
+    make (first_of (filter_map address_said own)) (setting area_set own) (setting cost_set own) (setting kind_said own)
     (setting passive_said own) (setting down_said own) (setting priority_said own)
 
 -- what is made of an address, and of the other settings with one more statement
 abbrev pub by_one_more : {X : Type 0} → Made X → Option Prefix → List Statement → Statement → X
 by_one_more {X} make address own s =
-    make address (option_or (area_said s) (setting area_said own)) (option_or (cost_said s) (setting cost_said own))
+    make address (option_or (area_set s) (setting area_set own)) (option_or (cost_set s) (setting cost_set own))
     (option_or (kind_said s) (setting kind_said own)) (option_or (passive_said s) (setting passive_said own))
     (option_or (down_said s) (setting down_said own)) (option_or (priority_said s) (setting priority_said own))
 
@@ -82,8 +82,8 @@ pub by_said-push : {X : Type 0} (make : Made X) (own : List Statement) (s : Stat
 by_said-push {X} make own s =
     cc (
       first_said-push address_said own s,
-      setting-push area_said own s,
-      setting-push cost_said own s,
+      setting-push area_set own s,
+      setting-push cost_set own s,
       setting-push kind_said own s,
       setting-push passive_said own s,
       setting-push down_said own s,
@@ -109,13 +109,13 @@ interface_by router name line address area cost kind passive down priority = rec
 unfoldable pub interface_from : List Statement → List Statement → List ℕ → ℕ → Interface
 interface_from own router name line = by_said (interface_by router name line) own
 
-pub interface_of-from : (all : List Said) (name : List ℕ) (line : ℕ) → interface_of all name line ≡ interface_from (about all name) (about_router all) name line
+pub interface_of-from : (all : List Said) (name : List ℕ) (line : ℕ) → interface_as_set all name line ≡ interface_from (about all name) (about_router all) name line
 unfolding interface_from interface_by
 interface_of-from all name line =
-    ap (λ (area : Option ℕ). record (interface_of all name line) { area = area })
-    (same (setting area_said (about all name)) (address_of all name))
+    ap (λ (area : Option ℕ). record (interface_as_set all name line) { area = area })
+    (same (setting area_set (about all name)) (interface_address all name))
   where
-    same : (own : Option ℕ) (address : Option Prefix) → option_or own (area_by_networks all address) ≡ area_from own address (networks all)
+    same : (own : Option ℕ) (address : Option Prefix) → option_or own (area_by_networks all address) ≡ area_from own address (networks_said all)
     same own None = refl
     same own (Some p) = refl
 
@@ -136,7 +136,7 @@ interface_from-cost own router name line n = interface_from-push own router name
   where
     by_address : Option Prefix → Interface
     by_address address =
-        interface_by router name line address (setting area_said own) (Some n) (setting kind_said own)
+        interface_by router name line address (setting area_set own) (Some n) (setting kind_said own)
         (setting passive_said own) (setting down_said own) (setting priority_said own)
 
     set : by_address (first_of (filter_map address_said own)) ≡ record (interface_from own router name line) { cost = Some n }
@@ -144,7 +144,7 @@ interface_from-cost own router name line n = interface_from-push own router name
 
 -- what is said in other blocks leaves an interface
 pub interface_of-other : (all : List Said) (s : Said) (name : List ℕ) (line : ℕ) → is_of name s.block ≡ false →
-    is_of_router s.block ≡ false → interface_of (all ++ s ∷ []) name line ≡ interface_of all name line
+    is_of_router s.block ≡ false → interface_as_set (all ++ s ∷ []) name line ≡ interface_as_set all name line
 interface_of-other all s name line other no_router =
     let own : about (all ++ s ∷ []) name ≡ about all name = about-push all s name
     ∙ ap (λ b. about all name ++ said_where b s.statement) other ∙ append-nil (about all name) in
@@ -158,7 +158,7 @@ interface_of-other all s name line other no_router =
 -- what is said in its own block is added to what is said of it
 pub interface_of-own : (all : List Said) (s : Said) (name : List ℕ) (line : ℕ) → is_of name s.block ≡ true →
     is_of_router s.block ≡ false →
-    interface_of (all ++ s ∷ []) name line ≡ interface_from (about all name ++ s.statement ∷ [])
+    interface_as_set (all ++ s ∷ []) name line ≡ interface_from (about all name ++ s.statement ∷ [])
     (about_router all) name line
 interface_of-own all s name line here no_router =
     let own : about (all ++ s ∷ []) name ≡ about all name ++ s.statement ∷ [] = about-push all s name
@@ -172,7 +172,7 @@ interface_of-own all s name line here no_router =
 -- a cost line of an interface sets its cost alone
 pub interface_of-cost : (all : List Said) (s : Said) (name : List ℕ) (line n : ℕ) → is_of name s.block ≡ true →
     is_of_router s.block ≡ false → s.statement ≡ CostIs n →
-    interface_of (all ++ s ∷ []) name line ≡ record (interface_of all name line) { cost = Some n }
+    interface_as_set (all ++ s ∷ []) name line ≡ record (interface_as_set all name line) { cost = Some n }
 interface_of-cost all s name line n here no_router cost =
     interface_of-own all s name line here no_router
     ∙ ap (λ statement. interface_from (about all name ++ statement ∷ []) (about_router all) name line) cost

@@ -13,7 +13,7 @@ use Rattle.config_reader.specs.declared.networks.NetworkPrefix.{NetworkPrefix}
 use Rattle.config_reader.specs.declared.networks.Sighted.{Sighted}
 use Rattle.config_reader.specs.declared.networks.PrefixLines.{PrefixLines}
 use Rattle.config_reader.specs.Drafting.{covers, area_among, clash}
-use Rattle.config_reader.specs.Sightings.{prefix_at, same_prefix, names_prefix, is_elsewhere, first_at, lesser, other_after, noted, lines_from, lines_of}
+use Rattle.config_reader.specs.Sightings.{prefix_of_length, same_prefix, names_prefix, is_elsewhere, first_at, lesser, other_after, noted, lines_from, lines_of_prefix}
 
 -- The lines of one prefix.
 
@@ -34,19 +34,19 @@ same_prefix-true a b e =
 
 -- a map that has the lines of each prefix has them still, once the lines of one prefix are put with one more
 pub lines_with : (old new : NetworkPrefix → Option PrefixLines) (ws : List NetworkLine) (w : NetworkLine) →
-    ((k : NetworkPrefix) → old k ≡ lines_of k ws) →
-    ((k : NetworkPrefix) → new k ≡ cond (same_prefix (prefix_at w.address w.length) k)
-    (Some (noted (length ws) w (old (prefix_at w.address w.length)))) (old k)) →
-    (k : NetworkPrefix) → new k ≡ lines_of k (ws ++ w ∷ [])
+    ((k : NetworkPrefix) → old k ≡ lines_of_prefix k ws) →
+    ((k : NetworkPrefix) → new k ≡ cond (same_prefix (prefix_of_length w.address w.length) k)
+    (Some (noted (length ws) w (old (prefix_of_length w.address w.length)))) (old k)) →
+    (k : NetworkPrefix) → new k ≡ lines_of_prefix k (ws ++ w ∷ [])
 lines_with old new ws w each put k = put k ∙ go (names_prefix k w) refl ∙ sym (one_more 0 k None ws w)
   where
     own : NetworkPrefix
-    own = prefix_at w.address w.length
+    own = prefix_of_length w.address w.length
 
     go : (b : Bool) → names_prefix k w ≡ b →
-        cond b (Some (noted (length ws) w (old own))) (old k) ≡ cond b (Some (noted (0 + length ws) w (lines_of k ws))) (lines_of k ws)
+        cond b (Some (noted (length ws) w (old own))) (old k) ≡ cond b (Some (noted (0 + length ws) w (lines_of_prefix k ws))) (lines_of_prefix k ws)
     go true e = ap (λ found. Some (noted (length ws) w found)) (ap old (same_prefix-true own k e) ∙ each k)
-        ∙ ap (λ m. Some (noted m w (lines_of k ws))) (omega arith)
+        ∙ ap (λ m. Some (noted m w (lines_of_prefix k ws))) (omega arith)
     go false e = each k
 
 -- The first line of a prefix.
@@ -154,23 +154,23 @@ other_named n k area (w ∷ ws) = go (names_prefix k w) (other_named (n + 1) k a
 
 -- What the lines of a prefix tell.
 
-pub first_found : (k : NetworkPrefix) (ws : List NetworkLine) (l : PrefixLines) → Some l ≡ lines_of k ws → Some l.first ≡ first_at 0 (names_prefix k) ws
+pub first_found : (k : NetworkPrefix) (ws : List NetworkLine) (l : PrefixLines) → Some l ≡ lines_of_prefix k ws → Some l.first ≡ first_at 0 (names_prefix k) ws
 first_found k ws l is = ap (option_map (λ found. found.first)) is ∙ first_named 0 k ws
 
-pub first_lacks : (k : NetworkPrefix) (ws : List NetworkLine) → None ≡ lines_of k ws → None ≡ first_at 0 (names_prefix k) ws
+pub first_lacks : (k : NetworkPrefix) (ws : List NetworkLine) → None ≡ lines_of_prefix k ws → None ≡ first_at 0 (names_prefix k) ws
 first_lacks k ws is = ap (option_map (λ found. found.first)) is ∙ first_named 0 k ws
 
-pub other_here : (k : NetworkPrefix) (area : ℕ) (ws : List NetworkLine) (l : PrefixLines) → Some l ≡ lines_of k ws → l.first.line.area ≡ area →
+pub other_here : (k : NetworkPrefix) (area : ℕ) (ws : List NetworkLine) (l : PrefixLines) → Some l ≡ lines_of_prefix k ws → l.first.line.area ≡ area →
     l.other ≡ first_at 0 (λ w. names_prefix k w && is_elsewhere area w) ws
 other_here k area ws l is same =
     sym (ap (λ b. cond b l.other (Some l.first)) (eq-eqb l.first.line.area area same)) ∙ ap (other_in area) is ∙ other_named 0 k area ws
 
-pub first_elsewhere : (k : NetworkPrefix) (area : ℕ) (ws : List NetworkLine) (l : PrefixLines) → Some l ≡ lines_of k ws → l.first.line.area ≢ area →
+pub first_elsewhere : (k : NetworkPrefix) (area : ℕ) (ws : List NetworkLine) (l : PrefixLines) → Some l ≡ lines_of_prefix k ws → l.first.line.area ≢ area →
     Some l.first ≡ first_at 0 (λ w. names_prefix k w && is_elsewhere area w) ws
 first_elsewhere k area ws l is apart =
     sym (ap (λ b. cond b l.other (Some l.first)) (ne_eqb l.first.line.area area apart)) ∙ ap (other_in area) is ∙ other_named 0 k area ws
 
-pub other_lacks : (k : NetworkPrefix) (area : ℕ) (ws : List NetworkLine) → None ≡ lines_of k ws →
+pub other_lacks : (k : NetworkPrefix) (area : ℕ) (ws : List NetworkLine) → None ≡ lines_of_prefix k ws →
     None ≡ first_at 0 (λ w. names_prefix k w && is_elsewhere area w) ws
 other_lacks k area ws is = ap (other_in area) is ∙ other_named 0 k area ws
 
@@ -233,23 +233,23 @@ covers_below bound address w = ltb w.length bound && contains w.address w.length
 pub covers_none : (address : ℕ) (w : NetworkLine) → covers_below 0 address w ≡ false
 covers_none address w = ap (λ b. b && contains w.address w.length address) (le-ltb w.length 0 (omega arith))
 
-pub covers_more : (m address : ℕ) (w : NetworkLine) → covers_below (m + 1) address w ≡ (covers_below m address w || names_prefix (prefix_at address m) w)
+pub covers_more : (m address : ℕ) (w : NetworkLine) → covers_below (m + 1) address w ≡ (covers_below m address w || names_prefix (prefix_of_length address m) w)
 covers_more m address w =
     elim (cases_order w.length m) [
       | inl same ↦
           ap (λ b. b && inside) (lt-ltb w.length (m + 1) (omega (arith, same)))
-          ∙ sym (ap (λ b. b || names_prefix (prefix_at address m) w)
+          ∙ sym (ap (λ b. b || names_prefix (prefix_of_length address m) w)
           (ap (λ b. b && inside) (le-ltb w.length m (omega (arith, same))))
           ∙ ap (λ b. eqb own (subnet address m) && b) (eq-eqb w.length m same)
           ∙ and-true (eqb own (subnet address m)) ∙ ap (λ l. eqb own (subnet address l)) (sym same))
       | inr apart ↦ elim apart [
         | inl before ↦
             ap (λ b. b && inside) (lt-ltb w.length (m + 1) (omega (arith, before)))
-            ∙ sym (ap (λ b. (b && inside) || names_prefix (prefix_at address m) w) (lt-ltb w.length m before)
+            ∙ sym (ap (λ b. (b && inside) || names_prefix (prefix_of_length address m) w) (lt-ltb w.length m before)
             ∙ ap (λ b. inside || b) (other (λ e. omega (arith, e, before))) ∙ or-false inside)
         | inr after ↦
             ap (λ b. b && inside) (le-ltb w.length (m + 1) (omega (arith, after)))
-            ∙ sym (ap (λ b. (b && inside) || names_prefix (prefix_at address m) w)
+            ∙ sym (ap (λ b. (b && inside) || names_prefix (prefix_of_length address m) w)
             (le-ltb w.length m (omega (arith, after))) ∙ other (λ e. omega (arith, e, after)))
       ]
     ]
@@ -260,7 +260,7 @@ covers_more m address w =
     inside : Bool
     inside = contains w.address w.length address
 
-    other : (w.length ≡ m → ⊥) → names_prefix (prefix_at address m) w ≡ false
+    other : (w.length ≡ m → ⊥) → names_prefix (prefix_of_length address m) w ≡ false
     other apart = and_right (eqb own (subnet address m)) (eqb w.length m) (ne_eqb w.length m apart)
 
 pub covers_all : (p : Prefix) (w : NetworkLine) → covers_below (p.length + 1) p.address w ≡ covers p w
@@ -278,30 +278,30 @@ never n test (w ∷ ws) none = ap (λ b. cond b (Some (record { place = n; line 
 
 -- with the lines of one more length
 pub next_length : (m address : ℕ) (ws : List NetworkLine) (found other : Option Sighted) →
-    found ≡ first_at 0 (covers_below m address) ws → other ≡ first_at 0 (names_prefix (prefix_at address m)) ws →
+    found ≡ first_at 0 (covers_below m address) ws → other ≡ first_at 0 (names_prefix (prefix_of_length address m)) ws →
     lesser found other ≡ first_at 0 (covers_below (m + 1) address) ws
 next_length m address ws found other so_far here =
     ap (λ o. lesser o other) so_far ∙ ap (lesser (first_at 0 (covers_below m address) ws)) here
-    ∙ sym (first_of_two 0 (covers_below m address) (names_prefix (prefix_at address m)) ws)
-    ∙ first_same 0 (λ w. covers_below m address w || names_prefix (prefix_at address m) w)
+    ∙ sym (first_of_two 0 (covers_below m address) (names_prefix (prefix_of_length address m)) ws)
+    ∙ first_same 0 (λ w. covers_below m address w || names_prefix (prefix_of_length address m) w)
     (covers_below (m + 1) address) ws (λ w. sym (covers_more m address w))
 
 -- the same among the lines with another area
 pub next_elsewhere : (m address area : ℕ) (ws : List NetworkLine) (found other : Option Sighted) →
     found ≡ first_at 0 (λ w. covers_below m address w && is_elsewhere area w) ws →
-    other ≡ first_at 0 (λ w. names_prefix (prefix_at address m) w && is_elsewhere area w) ws →
+    other ≡ first_at 0 (λ w. names_prefix (prefix_of_length address m) w && is_elsewhere area w) ws →
     lesser found other ≡ first_at 0 (λ w. covers_below (m + 1) address w && is_elsewhere area w) ws
 next_elsewhere m address area ws found other so_far here =
     ap (λ o. lesser o other) so_far ∙ ap (lesser (first_at 0 before ws)) here ∙ sym (first_of_two 0 before now ws)
     ∙ first_same 0 (λ w. before w || now w) (λ w. covers_below (m + 1) address w && is_elsewhere area w) ws
-    (λ w. spread (covers_below m address w) (names_prefix (prefix_at address m) w) (is_elsewhere area w)
+    (λ w. spread (covers_below m address w) (names_prefix (prefix_of_length address m) w) (is_elsewhere area w)
     ∙ ap (λ b. b && is_elsewhere area w) (sym (covers_more m address w)))
   where
     before : NetworkLine → Bool
     before w = covers_below m address w && is_elsewhere area w
 
     now : NetworkLine → Bool
-    now w = names_prefix (prefix_at address m) w && is_elsewhere area w
+    now w = names_prefix (prefix_of_length address m) w && is_elsewhere area w
 
     spread : (a b c : Bool) → ((a && c) || (b && c)) ≡ ((a || b) && c)
     spread true true true = refl

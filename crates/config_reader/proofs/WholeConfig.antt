@@ -12,7 +12,7 @@ use Rattle.config_reader.specs.Settings.{Said}
 use Rattle.config_reader.specs.Configs.{firsts}
 use Rattle.config_reader.specs.FaultList.{Fault, config_fault}
 use Rattle.config_reader.specs.Hearing.{heard}
-use Rattle.config_reader.specs.Heards.{said_of, head_of, fault_of}
+use Rattle.config_reader.specs.Heards.{said_of, head_heard, fault_of}
 use Rattle.config_reader.specs.Parts.{IsParts}
 use Rattle.config_reader.specs.Gathered.{IsGathered}
 use Rattle.config_reader.specs.Drafting.{network_lines, new_draft, draft_after, first_second, first_clash, earliest, finished, id_after, name_from, name_fault}
@@ -22,8 +22,8 @@ use Rattle.config_reader.proofs.WholeRecords.{total_law, made_law, IsConfig}
 pub record IsRead (file_name bytes : List ℕ) (p : Parts) (nets : List NetworkLine) (d : Drafts) (name : List ℕ × ℕ) : Type 0 where
   pub parts : IsParts (heard (lines bytes)) p
   pub found : nets ≡ network_lines (map said_of p.said.items)
-  pub gathered : IsGathered nets (map head_of p.heads.items) (map said_of p.said.items) d
-  pub named : name ≡ name_from file_name (option_map head_of p.hostname)
+  pub gathered : IsGathered nets (map head_heard p.heads.items) (map said_of p.said.items) d
+  pub named : name ≡ name_from file_name (option_map head_heard p.hostname)
 
 -- the fault that is found among it
 abbrev pub found_among : Parts → List NetworkLine → Drafts → List ℕ × ℕ → Option Fault
@@ -38,7 +38,7 @@ module _ (file_name bytes : List ℕ) (p : Parts) (nets : List NetworkLine) (d :
   drafts_is : d.drafts.items ≡ map (λ head. draft_after nets (heard (lines bytes)).said (new_draft head)) (firsts [] (heard (lines bytes)).heads)
   drafts_is =
       read.gathered.drafts
-      ∙ ap (λ (all : List Said). map (λ head. draft_after nets all (new_draft head)) (firsts [] (map head_of p.heads.items))) read.parts.said
+      ∙ ap (λ (all : List Said). map (λ head. draft_after nets all (new_draft head)) (firsts [] (map head_heard p.heads.items))) read.parts.said
       ∙ ap (λ (hs : List (List ℕ × ℕ)). map (λ head. draft_after nets (heard (lines bytes)).said (new_draft head)) (firsts [] hs)) read.parts.heads
 
   name_is : name ≡ name_from file_name (heard (lines bytes)).hostname
@@ -94,13 +94,13 @@ module _ (file_name bytes : List ℕ) (p : Parts) (nets : List NetworkLine) (d :
 
 pub read_is : (file_name bytes : List ℕ) (p : Parts) (nets : List NetworkLine) (d : Drafts) (name : List ℕ × ℕ) (f : List ℕ) →
     IsParts (heard (lines bytes)) p → nets ≡ network_lines (map said_of p.said.items) →
-    IsGathered nets (map head_of p.heads.items) (map said_of p.said.items) d →
-    name ≡ name_from f (option_map head_of p.hostname) → f ≡ file_name → IsRead file_name bytes p nets d name
+    IsGathered nets (map head_heard p.heads.items) (map said_of p.said.items) d →
+    name ≡ name_from f (option_map head_heard p.hostname) → f ≡ file_name → IsRead file_name bytes p nets d name
 read_is file_name bytes p nets d name f parts found gathered named same_name = record {
   parts = parts;
   found = found;
   gathered = gathered;
-  named = named ∙ ap (λ (n : List ℕ). name_from n (option_map head_of p.hostname)) same_name;
+  named = named ∙ ap (λ (n : List ℕ). name_from n (option_map head_heard p.hostname)) same_name;
 }
 
 pub config_as : (file_name bytes : List ℕ) (p : Parts) (nets : List NetworkLine) (d : Drafts) (name : List ℕ × ℕ) →

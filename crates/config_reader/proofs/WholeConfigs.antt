@@ -12,7 +12,7 @@ use Rattle.config_reader.specs.declared.stop.ConfigFault.{ConfigFault}
 use Rattle.config_reader.specs.declared.stop.ConfigFault.TheVariants.{AreaTwice}
 use Rattle.config_reader.specs.declared.networks.NetworkLine.{NetworkLine}
 use Rattle.config_reader.specs.Statements.{Statement, AddressIs, AreaIs, CostIs, KindIs, PriorityIs, PassiveIs, DownIs, RouterIdIs, NetworkIs, PassiveInterfaceIs, Refused, Unread, Network, Block, OfInterface, OfRouter, OfOther}
-use Rattle.config_reader.specs.Settings.{Said, about, setting, area_said, address_of, networks, network_said, matches, address_part, length_part, is_of_router}
+use Rattle.config_reader.specs.Settings.{Said, about, setting, area_set, interface_address, networks_said, network_said, matches, address_part, length_part, is_of_router}
 use Rattle.config_reader.specs.FaultList.{Fault, at_line, address_by_networks, is_other_area, area_twice}
 use Rattle.config_reader.specs.Drafting.{network_line, network_lines, clash, whole_address, twice_at, clash_for, clash_of, earliest, first_clash}
 use Rattle.config_reader.proofs.FirstFaults.{firsts_at, firsts_suc, merge, agree, never, earliest_assoc, earliest_none}
@@ -23,11 +23,11 @@ abbrev pub net_of : NetworkLine → Network
 net_of w = record { prefix = record { address = w.address; length = w.length }; area = w.area }
 
 -- the `network` lines of a file
-pub nets_law : (all : List Said) → networks all ≡ map net_of (network_lines all)
+pub nets_law : (all : List Said) → networks_said all ≡ map net_of (network_lines all)
 nets_law [] = refl
 nets_law (s ∷ all) = by s.block s.statement (nets_law all)
   where
-    by : (b : Block) (st : Statement) → networks all ≡ map net_of (network_lines all) →
+    by : (b : Block) (st : Statement) → networks_said all ≡ map net_of (network_lines all) →
         filter_map network_said (map (λ (t : Said). t.statement)
         (cond (is_of_router b) (record { number = s.number; block = b; statement = st }
         ∷ filter (λ (t : Said). is_of_router t.block) all) (filter (λ (t : Said). is_of_router t.block) all)))
@@ -47,7 +47,7 @@ nets_law (s ∷ all) = by s.block s.statement (nets_law all)
     by OfRouter (Refused fault) more = more
     by OfRouter Unread more = more
 
-nets-push : (all : List Said) (s : Said) → networks (all ++ s ∷ []) ≡ networks all ++ map net_of (cons_option (network_line s.number s.block s.statement) [])
+nets-push : (all : List Said) (s : Said) → networks_said (all ++ s ∷ []) ≡ networks_said all ++ map net_of (cons_option (network_line s.number s.block s.statement) [])
 nets-push all s =
     nets_law (all ++ s ∷ [])
     ∙ ap (map net_of) (filter_map-append (λ (t : Said). network_line t.number t.block t.statement) all (s ∷ []))
@@ -194,36 +194,36 @@ abbrev pub no_said : Said
 no_said = record { number = 0; block = OfOther; statement = Unread }
 
 abbrev pub twice_rule : List Said → Option Prefix → ℕ → Option ConfigFault
-twice_rule all address i = twice_one (networks (take i all)) (get_or all i no_said).block (get_or all i no_said).statement address
+twice_rule all address i = twice_one (networks_said (take i all)) (get_or all i no_said).block (get_or all i no_said).statement address
 
-scan : (p : Prefix) (before rest : List Said) (first : Option ℕ) → OneArea p (networks before) first → Numbered (length before) rest →
+scan : (p : Prefix) (before rest : List Said) (first : Option ℕ) → OneArea p (networks_said before) first → Numbered (length before) rest →
     firsts_at (twice_rule (before ++ rest) (Some p)) (length before) (length rest) ≡ twice_at (clash p first (network_lines rest))
 scan p before [] None known numbered = refl
 scan p before [] (Some a) known numbered = refl
 scan p before (s ∷ rest) first known numbered =
     firsts_suc (twice_rule (before ++ s ∷ rest) (Some p)) (length before) (length rest)
     ∙ ap (λ o. option_or (at_line (length before + 1) o) later) here
-    ∙ more_line p (length before + 1) (networks before) (network_line s.number s.block s.statement) first
+    ∙ more_line p (length before + 1) (networks_said before) (network_line s.number s.block s.statement) first
     (network_lines rest) later (λ w e. line_of_net s.number s.block s.statement w e ∙ numbered.0) known
     (go (λ next k counted. scan p (before ++ s ∷ []) rest next k counted))
   where
     later : Option Fault
     later = firsts_at (twice_rule (before ++ s ∷ rest) (Some p)) (length before + 1) (length rest)
 
-    here : twice_rule (before ++ s ∷ rest) (Some p) (length before) ≡ by_net (networks before) (network_line s.number s.block s.statement) (Some p)
+    here : twice_rule (before ++ s ∷ rest) (Some p) (length before) ≡ by_net (networks_said before) (network_line s.number s.block s.statement) (Some p)
     here =
-        ap (λ (t : Said). twice_one (networks (take (length before) (before ++ s ∷ rest))) t.block t.statement (Some p))
+        ap (λ (t : Said). twice_one (networks_said (take (length before) (before ++ s ∷ rest))) t.block t.statement (Some p))
         (get_or_at before s rest no_said (length before) refl)
-        ∙ ap (λ (e : List Said). twice_one (networks e) s.block s.statement (Some p)) (take_at before (s ∷ rest) (length before) refl)
-        ∙ twice_by_net s.number (networks before) s.block s.statement (Some p)
+        ∙ ap (λ (e : List Said). twice_one (networks_said e) s.block s.statement (Some p)) (take_at before (s ∷ rest) (length before) refl)
+        ∙ twice_by_net s.number (networks_said before) s.block s.statement (Some p)
 
     length_next : length (before ++ s ∷ []) ≡ length before + 1
     length_next = omega (arith, length-append before (s ∷ []))
 
-    go : ((next : Option ℕ) → OneArea p (networks (before ++ s ∷ [])) next → Numbered (length (before ++ s ∷ [])) rest →
+    go : ((next : Option ℕ) → OneArea p (networks_said (before ++ s ∷ [])) next → Numbered (length (before ++ s ∷ [])) rest →
         firsts_at (twice_rule ((before ++ s ∷ []) ++ rest) (Some p)) (length (before ++ s ∷ [])) (length rest)
         ≡ twice_at (clash p next (network_lines rest))) →
-        (next : Option ℕ) → OneArea p (networks before
+        (next : Option ℕ) → OneArea p (networks_said before
         ++ map net_of (cons_option (network_line s.number s.block s.statement) [])) next →
         later ≡ twice_at (clash p next (network_lines rest))
     go more next k =
@@ -233,7 +233,7 @@ scan p before (s ∷ rest) first known numbered =
 
 -- the second area over several interfaces
 abbrev pub address_for : List Said → List ℕ × ℕ → Option Prefix
-address_for all head = address_by_networks (setting area_said (about all head.0)) (address_of all head.0)
+address_for all head = address_by_networks (setting area_set (about all head.0)) (interface_address all head.0)
 
 twice_more : (all : List Said) (h : List ℕ × ℕ) (hs : List (List ℕ × ℕ)) (earlier : List Network) (b : Block)
     (s : Statement) → area_twice all (h ∷ hs) earlier b s ≡ option_or (twice_one earlier b s (address_for all h))
@@ -257,7 +257,7 @@ one_none earlier OfRouter (NetworkIs w) = refl
 one_none earlier _ _ = refl
 
 abbrev pub areas_rule : List Said → List (List ℕ × ℕ) → ℕ → Option ConfigFault
-areas_rule all heads i = area_twice all heads (networks (take i all)) (get_or all i no_said).block (get_or all i no_said).statement
+areas_rule all heads i = area_twice all heads (networks_said (take i all)) (get_or all i no_said).block (get_or all i no_said).statement
 
 pub whole_parts : (o : Option Prefix) → whole_address (address_part o) (length_part o) ≡ o
 whole_parts None = refl
@@ -269,16 +269,16 @@ clash_law : (all : List Said) (head : List ℕ × ℕ) → Numbered 0 all →
     ≡ firsts_at (twice_rule all (address_for all head)) 0 (length all)
 unfolding plain plain_by
 clash_law all head numbered =
-    ap (clash_for (network_lines all) (setting area_said (about all head.0))) (whole_parts (address_of all head.0))
-    ∙ cases (setting area_said (about all head.0)) (address_of all head.0)
+    ap (clash_for (network_lines all) (setting area_set (about all head.0))) (whole_parts (interface_address all head.0))
+    ∙ cases (setting area_set (about all head.0)) (interface_address all head.0)
   where
     cases : (own : Option ℕ) (address : Option Prefix) →
         clash_for (network_lines all) own address ≡ firsts_at (twice_rule all (address_by_networks own address)) 0
         (length all)
     cases (Some a) address = sym (never (twice_rule all None) 0 (length all)
-        (λ i. one_none (networks (take i all)) (get_or all i no_said).block (get_or all i no_said).statement))
+        (λ i. one_none (networks_said (take i all)) (get_or all i no_said).block (get_or all i no_said).statement))
     cases None None = sym (never (twice_rule all None) 0 (length all)
-        (λ i. one_none (networks (take i all)) (get_or all i no_said).block (get_or all i no_said).statement))
+        (λ i. one_none (networks_said (take i all)) (get_or all i no_said).block (get_or all i no_said).statement))
     cases None (Some p) = sym (scan p [] all None refl numbered)
 
 pub clashes_law : (all : List Said) (found : Option Fault) (heads : List (List ℕ × ℕ)) → Numbered 0 all →
@@ -286,7 +286,7 @@ pub clashes_law : (all : List Said) (found : Option Fault) (heads : List (List �
     ≡ earliest found (firsts_at (areas_rule all heads) 0 (length all))
 clashes_law all found [] numbered =
     sym (ap (earliest found) (never (areas_rule all []) 0 (length all)
-    (λ i. twice_none all (networks (take i all)) (get_or all i no_said).block (get_or all i no_said).statement))
+    (λ i. twice_none all (networks_said (take i all)) (get_or all i no_said).block (get_or all i no_said).statement))
     ∙ earliest_none found)
 clashes_law all found (h ∷ hs) numbered =
     clashes_law all (earliest found (clash_of (network_lines all) (draft_of (network_lines all) all h))) hs numbered
@@ -295,7 +295,7 @@ clashes_law all found (h ∷ hs) numbered =
     (ap (λ o. earliest o (firsts_at (areas_rule all hs) 0 (length all))) (clash_law all h numbered)
     ∙ sym (merge (twice_rule all (address_for all h)) (areas_rule all hs) 0 (length all))
     ∙ sym (agree (areas_rule all (h ∷ hs)) (λ i. option_or (twice_rule all (address_for all h) i) (areas_rule all hs i))
-    0 (length all) (λ i above below. twice_more all h hs (networks (take i all)) (get_or all i no_said).block
+    0 (length all) (λ i above below. twice_more all h hs (networks_said (take i all)) (get_or all i no_said).block
     (get_or all i no_said).statement)))
 
 -- a name's place, or none

@@ -19,10 +19,10 @@ use Rattle.config_reader.specs.declared.stop.ConfigFault.TheVariants.{SecondAddr
 use Rattle.config_reader.specs.declared.drafts.Draft.{Draft}
 use Rattle.config_reader.specs.declared.networks.NetworkLine.{NetworkLine}
 use Rattle.config_reader.specs.Statements.{Statement, AddressIs, Block, OfInterface}
-use Rattle.config_reader.specs.Settings.{Said, said, said_at, said_by, block_by_head, about, setting, area_said, address_said, address_of, networks, matches, address_part, length_part}
+use Rattle.config_reader.specs.Settings.{Said, said, said_at, said_by, block_by_head, about, setting, area_set, address_said, interface_address, networks_said, matches, address_part, length_part}
 use Rattle.config_reader.specs.Configs.{first_heads}
 use Rattle.config_reader.specs.Faults.{router_name, name_and_line, last_hostname, is_hostname_head, is_router_name}
-use Rattle.config_reader.specs.FaultList.{Fault, at_line, long_line, refused, read_lines, takes_part, differs, second_address, area_twice, bad_name, faults_at, faults}
+use Rattle.config_reader.specs.FaultList.{Fault, at_line, long_line, refused, read_lines, is_given_area, differs, second_address, area_twice, bad_name, faults_at, faults}
 use Rattle.config_reader.specs.Hearing.{heard, sets, named_by}
 use Rattle.config_reader.specs.Drafting.{network_lines, covers, whole_address, at_place, find_draft, is_second, second_of, first_second, first_clash, earliest, name_from, name_fault}
 use Rattle.config_reader.proofs.FirstFaults.{firsts_at, bound, merge, agree, never, met_at, past_all, first_flat, first_five, first_front, first_filtered, filter_map-map}
@@ -50,25 +50,25 @@ headed_names name heads = any-map (same_bytes name) (λ (h : List ℕ × ℕ). h
 -- a draft of an interface takes part exactly where the interface does
 takes_law : (all : List Said) (head : List ℕ × ℕ) (p : Prefix) →
     is_second p (Some (draft_of (network_lines all) all head))
-    ≡ (takes_part all head.0 && differs p (address_of all head.0))
+    ≡ (is_given_area all head.0 && differs p (interface_address all head.0))
 unfolding plain plain_by
 takes_law all head p =
-    ap (λ m. (is_some (setting area_said (about all head.0)) || m)
-    && differs p (whole_address (address_part (address_of all head.0)) (length_part (address_of all head.0))))
+    ap (λ m. (is_some (setting area_set (about all head.0)) || m)
+    && differs p (whole_address (address_part (interface_address all head.0)) (length_part (interface_address all head.0))))
     matched
-    ∙ ap (λ o. takes_part all head.0 && differs p o) (whole_parts (address_of all head.0))
+    ∙ ap (λ o. is_given_area all head.0 && differs p o) (whole_parts (interface_address all head.0))
   where
-    one : (q : Prefix) → list_any (covers q) (network_lines all) ≡ list_any (matches q) (networks all)
+    one : (q : Prefix) → list_any (covers q) (network_lines all) ≡ list_any (matches q) (networks_said all)
     one q = any-map (matches q) net_of (network_lines all) ∙ ap (list_any (matches q)) (sym (nets_law all))
 
-    matched : any_matched (network_lines all) (about all head.0) ≡ list_any (λ q. list_any (matches q) (networks all))
+    matched : any_matched (network_lines all) (about all head.0) ≡ list_any (λ q. list_any (matches q) (networks_said all))
         (filter_map address_said (about all head.0))
     matched = ap (λ (f : Prefix → Bool). list_any f (filter_map address_said (about all head.0))) (λ i q. one q i)
 
 module _ (all : List Said) (heads : List (List ℕ × ℕ)) (unheaded : (name : List ℕ) → is_headed name heads ≡ false → about all name ≡ []) where
   second_found : (name : List ℕ) (p : Prefix) →
       is_second p (find_draft name (map (draft_of (network_lines all) all) heads))
-      ≡ (takes_part all name && differs p (address_of all name))
+      ≡ (is_given_area all name && differs p (interface_address all name))
   second_found name p =
       ap (λ ns. is_second p (at_place (position (same_bytes name) ns) (map (draft_of (network_lines all) all) heads)))
       (drafts_names (network_lines all) all heads)
@@ -76,10 +76,10 @@ module _ (all : List Said) (heads : List (List ℕ × ℕ)) (unheaded : (name : 
     where
       cases : (o : Option ℕ) → position (same_bytes name) (head_names heads) ≡ o →
           is_second p (at_place o (map (draft_of (network_lines all) all) heads))
-          ≡ (takes_part all name && differs p (address_of all name))
+          ≡ (is_given_area all name && differs p (interface_address all name))
       cases None e =
           let none : about all name ≡ [] = unheaded name (headed_names name heads ∙ no_place (same_bytes name) (head_names heads) e) in
-          sym (and_right (takes_part all name) (differs p (address_of all name)) (ap (λ own. differs p (first_of (filter_map address_said own))) none))
+          sym (and_right (is_given_area all name) (differs p (interface_address all name)) (ap (λ own. differs p (first_of (filter_map address_said own))) none))
       cases (Some i) e =
           let found = position-Some (same_bytes name) (head_names heads) i [] e in
           let within : i < length heads = omega (arith, found.0, length-map heads (λ (h : List ℕ × ℕ). h.0)) in
@@ -88,12 +88,12 @@ module _ (all : List Said) (heads : List (List ℕ × ℕ)) (unheaded : (name : 
           ∙ found.1) in
           ap (is_second p) (slice_get_map (draft_of (network_lines all) all) heads i ([], 0) within)
           ∙ takes_law all (get_or heads i ([], 0)) p
-          ∙ ap (λ n. takes_part all n && differs p (address_of all n)) (sym named)
+          ∙ ap (λ n. is_given_area all n && differs p (interface_address all n)) (sym named)
 
   second_same : (n : ℕ) (b : Block) (s : Statement) → second_of (map (draft_of (network_lines all) all) heads) n b s ≡ at_line n (second_address all b s)
   second_same n (OfInterface name) (AddressIs p) =
       ap (λ (c : Bool). cond c (Some (record { line = n; fault = SecondAddress })) None) (second_found name p)
-      ∙ cases (takes_part all name && differs p (address_of all name))
+      ∙ cases (is_given_area all name && differs p (interface_address all name))
     where
       cases : (c : Bool) → cond c (Some (record { line = n; fault = SecondAddress })) None ≡ at_line n (cond c (Some SecondAddress) None)
       cases true = refl
@@ -229,7 +229,7 @@ faults_law file_name file =
     second i = second_address all (said_at read i).block (said_at read i).statement
 
     twice : ℕ → Option ConfigFault
-    twice i = area_twice all heads (networks (take i all)) (said_at read i).block (said_at read i).statement
+    twice i = area_twice all heads (networks_said (take i all)) (said_at read i).block (said_at read i).statement
 
     seconds : first_second (file_drafts file) (heard file).said ≡ firsts_at second 0 (length file)
     seconds =
@@ -250,7 +250,7 @@ faults_law file_name file =
         clashes_law all None heads (numbered read 0 (length read))
         ∙ ap (firsts_at (areas_rule all heads) 0) (length-said read ∙ length-read_lines file)
         ∙ agree (areas_rule all heads) twice 0 (length file)
-        (λ i above below. ap (λ (s : Said). area_twice all heads (networks (take i all)) s.block s.statement)
+        (λ i above below. ap (λ (s : Said). area_twice all heads (networks_said (take i all)) s.block s.statement)
         (at_number i (omega (arith, below, length-read_lines file))))
       where
         at_number : (i : ℕ) → i < length read → get_or all i no_said ≡ said_at read i

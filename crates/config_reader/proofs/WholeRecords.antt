@@ -17,12 +17,12 @@ use Rattle.config_reader.specs.declared.stop.ConfigFault.TheVariants.{LongLine, 
 use Rattle.config_reader.specs.declared.drafts.Draft.{Draft}
 use Rattle.config_reader.specs.declared.networks.NetworkLine.{NetworkLine}
 use Rattle.config_reader.specs.Statements.{Statement, AddressIs, AreaIs, CostIs, KindIs, PriorityIs, PassiveIs, DownIs, RouterIdIs, NetworkIs, PassiveInterfaceIs, Refused, Unread, Network, Block, OfInterface, OfRouter, OfOther}
-use Rattle.config_reader.specs.Settings.{Said, said, about, about_router, setting, area_said, router_id_said, address_of, matches, interface_of, area_by_networks}
+use Rattle.config_reader.specs.Settings.{Said, said, about, about_router, setting, area_set, router_id_said, interface_address, matches, interface_as_set, area_by_networks}
 use Rattle.config_reader.specs.Configs.{first_heads, firsts, config_of}
 use Rattle.config_reader.specs.Faults.{router_name, is_router_name}
 use Rattle.config_reader.specs.FaultList.{Fault, at_line, long_line, refused, read_line, read_lines, is_short, config_fault}
 use Rattle.config_reader.specs.Hearing.{heard, sets}
-use Rattle.config_reader.specs.Drafting.{network_line, network_lines, covers, area_among, area_for, finished, new_draft, draft_after, first_second, first_clash, earliest, id_in, id_after, name_from, name_fault}
+use Rattle.config_reader.specs.Drafting.{network_line, network_lines, covers, area_among, area_for, finished, new_draft, draft_after, first_second, first_clash, earliest, router_id_set, id_after, name_from, name_fault}
 use Rattle.config_reader.proofs.FirstFaults.{first_filtered}
 use Rattle.config_reader.proofs.DraftLaws.{draft_of, plain, plain_by, drafted}
 use Rattle.config_reader.proofs.BlockFacts.{by_lines}
@@ -52,11 +52,11 @@ area_law all None = refl
 area_law all (Some p) = among_law p (network_lines all) ∙ ap (λ ns. first_of (map (λ n. n.area) (filter (matches p) ns))) (sym (nets_law all))
 
 -- the interface of a draft is that of the lines
-finish_law : (all : List Said) (head : List ℕ × ℕ) → finished (network_lines all) (draft_of (network_lines all) all head) ≡ interface_of all head.0 head.1
+finish_law : (all : List Said) (head : List ℕ × ℕ) → finished (network_lines all) (draft_of (network_lines all) all head) ≡ interface_as_set all head.0 head.1
 unfolding plain plain_by
 finish_law all head =
-    ap (λ (a : Option ℕ). record (interface_of all head.0 head.1) { area = option_or (setting area_said (about all head.0)) a })
-    (ap (area_for (network_lines all)) (whole_parts (address_of all head.0)) ∙ area_law all (address_of all head.0))
+    ap (λ (a : Option ℕ). record (interface_as_set all head.0 head.1) { area = option_or (setting area_set (about all head.0)) a })
+    (ap (area_for (network_lines all)) (whole_parts (interface_address all head.0)) ∙ area_law all (interface_address all head.0))
 
 -- router ids
 ids : List Said → List ℕ
@@ -73,7 +73,7 @@ last_cons (Some x) (y ∷ ys) o = last_some y ys o ∙ sym (last_some y ys (Some
 
 ids_cons : (n : ℕ) (b : Block) (s : Statement) (all : List Said) →
     filter_map router_id_said (about_router (record { number = n; block = b; statement = s } ∷ all))
-    ≡ cons_option (id_in b s) (filter_map router_id_said (about_router all))
+    ≡ cons_option (router_id_set b s) (filter_map router_id_said (about_router all))
 ids_cons n OfRouter (RouterIdIs id) all = refl
 ids_cons n OfRouter (AddressIs p) all = refl
 ids_cons n OfRouter (AreaIs a) all = refl
@@ -89,7 +89,7 @@ ids_cons n OfRouter Unread all = refl
 ids_cons n (OfInterface name) s all = refl
 ids_cons n OfOther s all = refl
 
-unset_id : (b : Block) (s : Statement) → sets s ≡ false → id_in b s ≡ None
+unset_id : (b : Block) (s : Statement) → sets s ≡ false → router_id_set b s ≡ None
 unset_id OfRouter (RouterIdIs id) quiet = absurd (false≢true (sym quiet))
 unset_id _ _ quiet = refl
 
@@ -98,7 +98,7 @@ ids_along : (all : List Said) (o : Option ℕ) →
     ≡ option_or (last_of (filter_map router_id_said (about_router all))) o
 ids_along [] o = refl
 ids_along (s ∷ all) o = cases (sets s.statement) refl (λ p. ids_along all p)
-    ∙ sym (last_cons (id_in s.block s.statement) (filter_map router_id_said (about_router all)) o)
+    ∙ sym (last_cons (router_id_set s.block s.statement) (filter_map router_id_said (about_router all)) o)
     ∙ ap (λ xs. option_or (last_of xs) o) (sym (ids_cons s.number s.block s.statement all))
   where
     cases : (b : Bool) → sets s.statement ≡ b →
@@ -106,8 +106,8 @@ ids_along (s ∷ all) o = cases (sets s.statement) refl (λ p. ids_along all p)
         ≡ option_or (last_of (filter_map router_id_said (about_router all))) p) →
         id_after o (cond b (s ∷ filter (λ t. sets t.statement) all) (filter (λ t. sets t.statement) all))
         ≡ option_or (last_of (filter_map router_id_said (about_router all)))
-        (option_or (id_in s.block s.statement) o)
-    cases true e more = more (option_or (id_in s.block s.statement) o)
+        (option_or (router_id_set s.block s.statement) o)
+    cases true e more = more (option_or (router_id_set s.block s.statement) o)
     cases false e more = more o ∙ ap (λ c. option_or (last_of (filter_map router_id_said (about_router all)))
         (option_or c o)) (sym (unset_id s.block s.statement e))
 
@@ -174,7 +174,7 @@ abbrev pub records_of : List ℕ → List (List ℕ) → Router
 records_of file_name file = record {
   name = (router_name file_name file).0;
   router_id = setting router_id_said (about_router (said file));
-  interfaces = map (λ head. interface_of (said file) head.0 head.1) (first_heads file);
+  interfaces = map (λ head. interface_as_set (said file) head.0 head.1) (first_heads file);
 }
 
 unset_net : (n : ℕ) (b : Block) (s : Statement) → sets s ≡ false → network_line n b s ≡ None
@@ -262,7 +262,7 @@ made_law file_name bytes nets drafts found made none =
     same : (nets ≡ network_lines (said (read_lines file))) × (drafts ≡ file_drafts file)
     same = drafts_same file nets drafts found made
 
-    interfaces : map (finished nets) drafts ≡ map (λ head. interface_of (said (read_lines file)) head.0 head.1) (first_heads (read_lines file))
+    interfaces : map (finished nets) drafts ≡ map (λ head. interface_as_set (said (read_lines file)) head.0 head.1) (first_heads (read_lines file))
     interfaces =
         ap (λ ns. map (finished ns) drafts) same.0
         ∙ ap (map (finished (network_lines (said (read_lines file))))) same.1
@@ -270,7 +270,7 @@ made_law file_name bytes nets drafts found made none =
         (draft_of (network_lines (said (read_lines file))) (said (read_lines file))) (first_heads (read_lines file))
         ∙ map-agree (λ head. finished (network_lines (said (read_lines file)))
         (draft_of (network_lines (said (read_lines file))) (said (read_lines file)) head))
-        (λ head. interface_of (said (read_lines file)) head.0 head.1) (first_heads (read_lines file))
+        (λ head. interface_as_set (said (read_lines file)) head.0 head.1) (first_heads (read_lines file))
         (λ head. finish_law (said (read_lines file)) head)
 
     made_same : (record {

@@ -20,6 +20,7 @@ abbrev pub network_line : ℕ → Block → Statement → Option NetworkLine
 network_line n OfRouter (NetworkIs w) = Some (record { line = n; address = w.prefix.address; length = w.prefix.length; area = w.area })
 network_line n _ _ = None
 
+-- the `network` lines of the router blocks, in order
 abbrev pub network_lines : List Said → List NetworkLine
 network_lines all = filter_map (λ s. network_line s.number s.block s.statement) all
 
@@ -27,6 +28,7 @@ network_lines all = filter_map (λ s. network_line s.number s.block s.statement)
 abbrev pub covers : Prefix → NetworkLine → Bool
 covers p w = nat_le w.length p.length && contains w.address w.length p.address
 
+-- the area of the first `network` line that matches an address
 abbrev pub area_among : Prefix → List NetworkLine → Option ℕ
 area_among p lines = first_of (map (λ w. w.area) (filter (covers p) lines))
 
@@ -42,6 +44,7 @@ abbrev pub new_interface : List ℕ → ℕ → Interface
 new_interface name line =
     record { name = name; line = line; address = None; length = 0; area = None; cost = None; kind = Broadcast; passive = false; down = false; priority = 1 }
 
+-- the draft of an interface at its head, before any of its lines
 abbrev pub new_draft : List ℕ × ℕ → Draft
 new_draft head = record { interface = new_interface head.0 head.1; matched = false; listed = false }
 
@@ -50,6 +53,7 @@ abbrev pub with_address : Prefix → Option ℕ → Interface → Interface
 with_address p None i = record i { address = Some p.address; length = p.length }
 with_address p (Some first) i = i
 
+-- the interface with what one line of its block sets
 abbrev pub with_setting : Statement → Interface → Interface
 with_setting (AddressIs p) i = with_address p i.address i
 with_setting (AreaIs a) i = record i { area = Some a }
@@ -60,6 +64,7 @@ with_setting (PassiveIs b) i = record i { passive = b }
 with_setting (DownIs b) i = record i { down = b }
 with_setting _ i = i
 
+-- the line gives an address that some `network` line matches
 abbrev pub is_matched : List NetworkLine → Statement → Bool
 is_matched nets (AddressIs p) = list_any (covers p) nets
 is_matched nets _ = false
@@ -70,12 +75,14 @@ target (OfInterface name) s = Some name
 target OfRouter (PassiveInterfaceIs name) = Some name
 target _ _ = None
 
+-- a draft with what a line says that is about it: a line of its own block, or a `passive-interface` line
 abbrev pub change : List NetworkLine → Block → Statement → Draft → Draft
 change nets (OfInterface name) s d =
     record d { interface = with_setting s d.interface; matched = d.matched || is_matched nets s }
 change nets OfRouter s d = record d { listed = true }
 change nets OfOther s d = d
 
+-- the draft changed, where a line is about its interface
 abbrev pub touch : Option (List ℕ) → (Draft → Draft) → Draft → Draft
 touch None f d = d
 touch (Some name) f d = if same_bytes name d.interface.name then f d else d
@@ -84,14 +91,17 @@ touch (Some name) f d = if same_bytes name d.interface.name then f d else d
 abbrev pub draft_with : List NetworkLine → Said → Draft → Draft
 draft_with nets s d = touch (target s.block s.statement) (change nets s.block s.statement) d
 
+-- a draft after all these lines
 abbrev pub draft_after : List NetworkLine → List Said → Draft → Draft
 draft_after nets [] d = d
 draft_after nets (s ∷ ss) d = draft_after nets ss (draft_with nets s d)
 
+-- an address and its prefix length, where there is an address
 abbrev pub whole_address : Option ℕ → ℕ → Option Prefix
 whole_address None long = None
 whole_address (Some a) long = Some (record { address = a; length = long })
 
+-- the area that the `network` lines give to an interface with this address
 abbrev pub area_for : List NetworkLine → Option Prefix → Option ℕ
 area_for nets None = None
 area_for nets (Some p) = area_among p nets
@@ -104,10 +114,12 @@ finished nets d =
       passive = d.interface.passive || d.listed;
     }
 
+-- the element at a place, where there is a place
 abbrev pub at_place : {X : Type 0} → Option ℕ → List X → Option X
 at_place None xs = None
 at_place (Some i) xs = slice_get xs i
 
+-- the draft of an interface, by its name
 abbrev pub find_draft : List ℕ → List Draft → Option Draft
 find_draft name drafts = at_place (position (same_bytes name) (map (λ d. d.interface.name) drafts)) drafts
 
@@ -116,17 +128,21 @@ abbrev pub is_second : Prefix → Option Draft → Bool
 is_second p None = false
 is_second p (Some d) = (is_some d.interface.area || d.matched) && differs p (whole_address d.interface.address d.interface.length)
 
+-- a line gives an interface that takes part another address than its first
 abbrev pub second_in : List Draft → Block → Statement → Bool
 second_in drafts (OfInterface name) (AddressIs p) = is_second p (find_draft name drafts)
 second_in drafts _ _ = false
 
+-- fault 6 of a line, where it gives such a second address
 abbrev pub second_of : List Draft → ℕ → Block → Statement → Option Fault
 second_of drafts n block s =
     if second_in drafts block s then Some (record { line = n; fault = SecondAddress }) else None
 
+-- the first line with a second address, as fault 6
 abbrev pub first_second : List Draft → List Said → Option Fault
 first_second drafts all = first_of (filter_map (λ s. second_of drafts s.number s.block s.statement) all)
 
+-- fault 7 at this line, where there is one
 abbrev pub twice_at : Option ℕ → Option Fault
 twice_at None = None
 twice_at (Some n) = Some (record { line = n; fault = AreaTwice })
@@ -137,6 +153,7 @@ clash_for nets (Some area) address = None
 clash_for nets None None = None
 clash_for nets None (Some p) = twice_at (clash p None nets)
 
+-- fault 7 of a draft: `network` lines give its interface two areas
 abbrev pub clash_of : List NetworkLine → Draft → Option Fault
 clash_of nets d = clash_for nets d.interface.area (whole_address d.interface.address d.interface.length)
 
@@ -146,23 +163,26 @@ earliest None b = b
 earliest (Some a) None = Some a
 earliest (Some a) (Some b) = if nat_lt b.line a.line then Some b else Some a
 
+-- the earliest fault 7 of these drafts and of one that was found before
 abbrev pub first_clash : List NetworkLine → Option Fault → List Draft → Option Fault
 first_clash nets found [] = found
 first_clash nets found (d ∷ ds) = first_clash nets (earliest found (clash_of nets d)) ds
 
 -- the router id of a line of a router block
-abbrev pub id_in : Block → Statement → Option ℕ
-id_in OfRouter (RouterIdIs id) = Some id
-id_in _ _ = None
+abbrev pub router_id_set : Block → Statement → Option ℕ
+router_id_set OfRouter (RouterIdIs id) = Some id
+router_id_set _ _ = None
 
+-- the last router id that the lines set, or the one from before
 abbrev pub id_after : Option ℕ → List Said → Option ℕ
 id_after found [] = found
-id_after found (s ∷ ss) = id_after (option_or (id_in s.block s.statement) found) ss
+id_after found (s ∷ ss) = id_after (option_or (router_id_set s.block s.statement) found) ss
 
 -- the name of the last `hostname` head, or of the file
 abbrev pub name_from : List ℕ → Option (List ℕ × ℕ) → List ℕ × ℕ
 name_from file_name None = (before_first_dot (after_last_slash file_name), 0)
 name_from file_name (Some head) = head
 
+-- fault 8: the router's name is none, at the line that it is from
 abbrev pub name_fault : List ℕ × ℕ → Option Fault
 name_fault name = if is_router_name name.0 then None else Some (record { line = name.1; fault = BadName })

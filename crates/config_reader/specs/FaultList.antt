@@ -9,7 +9,7 @@ use Rattle.config_reader.specs.declared.stop.ConfigFault.TheVariants.{LongLine, 
 use Rattle.config_reader.specs.declared.stop.ConfigStop.{ConfigStop}
 use Rattle.config_reader.specs.declared.stop.ConfigStop.TheVariants.{Refused as RefusedStop, OutOfMemory}
 use Rattle.config_reader.specs.Statements.{Statement, AddressIs, NetworkIs, Refused, Network, Block, OfInterface, OfRouter}
-use Rattle.config_reader.specs.Settings.{Said, said, said_at, about, setting, area_said, address_said, address_of, networks, matches}
+use Rattle.config_reader.specs.Settings.{Said, said, said_at, about, setting, area_set, address_said, interface_address, networks_said, matches}
 use Rattle.config_reader.specs.Configs.{first_heads}
 use Rattle.config_reader.specs.Faults.{is_router_name, router_name}
 
@@ -26,6 +26,7 @@ is_short line = nat_le (length line) 4096
 abbrev pub read_line : List ℕ → List ℕ
 read_line line = if is_short line then line else []
 
+-- the lines of a file as they are read
 abbrev pub read_lines : List (List ℕ) → List (List ℕ)
 read_lines file = map read_line file
 
@@ -39,11 +40,12 @@ refused (Refused fault) = Some fault
 refused _ = None
 
 -- an interface has an area line, or some `network` line matches one of its addresses
-abbrev pub takes_part : List Said → List ℕ → Bool
-takes_part all name =
-    is_some (setting area_said (about all name))
-    || list_any (λ p. list_any (matches p) (networks all)) (filter_map address_said (about all name))
+abbrev pub is_given_area : List Said → List ℕ → Bool
+is_given_area all name =
+    is_some (setting area_set (about all name))
+    || list_any (λ p. list_any (matches p) (networks_said all)) (filter_map address_said (about all name))
 
+-- the address or its prefix length isn't that of the first
 abbrev pub differs : Prefix → Option Prefix → Bool
 differs p None = false
 differs p (Some first) = not (p.address == first.address && p.length == first.length)
@@ -51,7 +53,7 @@ differs p (Some first) = not (p.address == first.address && p.length == first.le
 -- 6: another address than the first, of an interface that takes part
 abbrev pub second_address : List Said → Block → Statement → Option ConfigFault
 second_address all (OfInterface name) (AddressIs p) =
-    if takes_part all name && differs p (address_of all name) then Some SecondAddress else None
+    if is_given_area all name && differs p (interface_address all name) then Some SecondAddress else None
 second_address all _ _ = None
 
 -- the address for which an interface takes its area from the `network` lines
@@ -67,7 +69,7 @@ is_other_area earlier n (Some p) = matches p n && list_any (λ m. matches p m &&
 -- 7: a `network` line gives an interface without an area line a second area
 abbrev pub area_twice : List Said → List (List ℕ × ℕ) → List Network → Block → Statement → Option ConfigFault
 area_twice all heads earlier OfRouter (NetworkIs n) =
-    if list_any (λ head. is_other_area earlier n (address_by_networks (setting area_said (about all head.0)) (address_of all head.0))) heads
+    if list_any (λ head. is_other_area earlier n (address_by_networks (setting area_set (about all head.0)) (interface_address all head.0))) heads
     then Some AreaTwice else None
 area_twice all heads earlier _ _ = None
 
@@ -75,6 +77,7 @@ area_twice all heads earlier _ _ = None
 abbrev pub bad_name : List ℕ × ℕ → ℕ → Option ConfigFault
 bad_name name line = if name.1 == line && not (is_router_name name.0) then Some BadName else None
 
+-- the fault as one of the line of number n
 abbrev pub at_line : ℕ → Option ConfigFault → Option Fault
 at_line n None = None
 at_line n (Some fault) = Some (record { line = n; fault = fault })
@@ -89,7 +92,7 @@ faults_at file_name file i =
     long_line (slice_index_or file i [])
     ∷ refused s.statement
     ∷ second_address all s.block s.statement
-    ∷ area_twice all (first_heads read) (networks (take i all)) s.block s.statement
+    ∷ area_twice all (first_heads read) (networks_said (take i all)) s.block s.statement
     ∷ bad_name (router_name file_name read) (i + 1)
     ∷ []
     )

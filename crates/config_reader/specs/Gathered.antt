@@ -13,10 +13,12 @@ abbrev pub NamesApart : List (List ℕ) → Type 0
 NamesApart [] = Unit {0}
 NamesApart (name ∷ names) = (list_any (same_bytes name) names ≡ false) × NamesApart names
 
+-- the drafts are those of the heads so far, one for each name, and found by their names
 pub record IsOpened (heads : List (List ℕ × ℕ)) (d : Drafts) : Type 0 where
   pub drafts : d.drafts.items ≡ map new_draft (firsts [] heads)
   pub names : d.names ≡ map (λ head. head.0) (firsts [] heads)
 
+-- the drafts hold what the lines so far say of each interface
 pub record IsGathered (nets : List NetworkLine) (heads : List (List ℕ × ℕ)) (all : List Said) (d : Drafts) : Type 0 where
   pub drafts : d.drafts.items ≡ map (λ head. draft_after nets all (new_draft head)) (firsts [] heads)
   pub names : d.names ≡ map (λ draft. draft.interface.name) d.drafts.items

@@ -7,11 +7,14 @@ use Rattle.config_reader.specs.Settings.{Said}
 use Rattle.config_reader.specs.FaultList.{Fault}
 use Rattle.config_reader.specs.Spoken.{statement_of, block_spoken}
 
+-- what a line that the reader keeps says
 abbrev pub said_of : SaidLine → Said
 said_of s = record { number = s.number; block = block_spoken s.block; statement = statement_of s.statement }
 
-abbrev pub head_of : NamedHead → List ℕ × ℕ
-head_of h = (h.name.now, h.line)
+-- a head of an interface that the reader keeps: its name and its line
+abbrev pub head_heard : NamedHead → List ℕ × ℕ
+head_heard h = (h.name.now, h.line)
 
+-- a fault that the reader keeps, with its line
 abbrev pub fault_of : LineFault → Fault
 fault_of f = record { line = f.line; fault = f.fault }

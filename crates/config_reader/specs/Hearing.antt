@@ -9,7 +9,7 @@ use Rattle.text_lines.specs.declared.LineKind.TheVariants.{Head, Indented}
 use Rattle.config_reader.specs.declared.stop.ConfigFault.{ConfigFault}
 use Rattle.config_reader.specs.Statements.{Statement, Refused, Unread, Block, OfOther, block_of, statement_in, head_statement, begin_with, word_at}
 use Rattle.config_reader.specs.Settings.{Said, said, said_at}
-use Rattle.config_reader.specs.Configs.{opened_at, with_line, name_opened}
+use Rattle.config_reader.specs.Configs.{opened_at, name_with_line, name_opened}
 use Rattle.config_reader.specs.Faults.{last_hostname}
 use Rattle.config_reader.specs.FaultList.{Fault, at_line, long_line, refused, read_lines}
 use Rattle.config_reader.specs.Reading.{open_block}
@@ -28,23 +28,27 @@ sets (Refused fault) = false
 sets Unread = false
 sets _ = true
 
+-- one more fault was met, of which only the first is kept
 abbrev pub with_fault : Heard → ℕ → ConfigFault → Heard
 with_fault h n fault = record h { fault = option_or h.fault (Some (record { line = n; fault = fault })) }
 
+-- what is kept after a line that makes this statement in this block
 abbrev pub hear_statement : Heard → ℕ → Block → Statement → Heard
 hear_statement h n block (Refused fault) = with_fault h n fault
 hear_statement h n block Unread = h
 hear_statement h n block statement =
     record h { said = h.said ++ record { number = n; block = block; statement = statement } ∷ [] }
 
+-- what is kept after a head with these words, which opens a block
 abbrev pub hear_head : Heard → ℕ → List (List ℕ) → Heard
 hear_head h n ws =
     hear_statement (record h {
-      heads = h.heads ++ cons_option (with_line n (name_opened (block_of ws))) [];
+      heads = h.heads ++ cons_option (name_with_line n (name_opened (block_of ws))) [];
       hostname = (if begin_with (codes "hostname" ∷ []) ws then Some (word_at ws 1, n) else h.hostname);
       block = block_of ws;
     }) n OfOther (head_statement ws)
 
+-- what is kept after a line of this kind with these words
 abbrev pub hear_kind : LineKind → Heard → ℕ → List (List ℕ) → Heard
 hear_kind Head h n ws = hear_head h n ws
 hear_kind Indented h n ws = hear_statement h n h.block (statement_in h.block ws)
@@ -54,6 +58,7 @@ hear_kind _ h n ws = h
 abbrev pub hear : Heard → ℕ → List ℕ → Heard
 hear h n line = hear_kind (kind_of line) h n (words line)
 
+-- the name of the `hostname` head at a place, with its line number
 abbrev pub named_by : List (List ℕ) → Option ℕ → Option (List ℕ × ℕ)
 named_by file None = None
 named_by file (Some i) = Some (word_at (words (slice_index_or file i [])) 1, i + 1)

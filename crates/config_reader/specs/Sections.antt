@@ -15,20 +15,21 @@ abbrev pub name_line : List ℕ → List ℕ
 name_line name = join_with_byte 32 (codes "interface" ∷ name ∷ [])
 
 -- ` ip ospf cost N`
-abbrev pub cost_line : ℕ → List ℕ
-cost_line n = join_with_byte 32 (codes " ip" ∷ codes "ospf" ∷ codes "cost" ∷ decimal n ∷ [])
+abbrev pub section_cost_line : ℕ → List ℕ
+section_cost_line n = join_with_byte 32 (codes " ip" ∷ codes "ospf" ∷ codes "cost" ∷ decimal n ∷ [])
 
 -- for each name and cost three lines: `interface NAME`, ` ip ospf cost N` and `exit`
-abbrev pub section_lines : List (List ℕ × ℕ) → List (List ℕ)
-section_lines [] = []
-section_lines (cost ∷ costs) =
-    name_line cost.0 ∷ cost_line cost.1 ∷ codes "exit" ∷ section_lines costs
+abbrev pub config_section_lines : List (List ℕ × ℕ) → List (List ℕ)
+config_section_lines [] = []
+config_section_lines (cost ∷ costs) =
+    name_line cost.0 ∷ section_cost_line cost.1 ∷ codes "exit" ∷ config_section_lines costs
 
 -- the last cost that is given to a name, or the one of before
 abbrev pub cost_after : List (List ℕ × ℕ) → List ℕ → Option ℕ → Option ℕ
 cost_after [] name before = before
 cost_after (cost ∷ costs) name before = cost_after costs name (if same_bytes name cost.0 then Some cost.1 else before)
 
+-- the interface with the last cost that the section gives it
 abbrev pub with_cost : List (List ℕ × ℕ) → Interface → Interface
 with_cost costs i = record i { cost = cost_after costs i.name i.cost }
 
@@ -47,5 +48,5 @@ pub record IsSectionCost (file : List (List ℕ)) (cost : List ℕ × ℕ) : Typ
 abbrev pub SectionsSetCosts : Type 0
 SectionsSetCosts =
     (file_name bytes : List ℕ) (costs : List (List ℕ × ℕ)) → All (IsSectionCost (lines bytes)) costs →
-    (config_of file_name (ended bytes ++ with_ends (section_lines costs)) ≡ with_costs costs (config_of file_name bytes))
-    × (config_fault file_name bytes ≡ None → config_fault file_name (ended bytes ++ with_ends (section_lines costs)) ≡ None)
+    (config_of file_name (ended bytes ++ with_ends (config_section_lines costs)) ≡ with_costs costs (config_of file_name bytes))
+    × (config_fault file_name bytes ≡ None → config_fault file_name (ended bytes ++ with_ends (config_section_lines costs)) ≡ None)

@@ -7,16 +7,18 @@ use Rattle.config_reader.specs.declared.networks.Sighted.{Sighted}
 use Rattle.config_reader.specs.declared.networks.PrefixLines.{PrefixLines}
 
 -- the prefix of a length that holds an address
-abbrev pub prefix_at : ℕ → ℕ → NetworkPrefix
-prefix_at address length = record { subnet = subnet address length; length = length }
+abbrev pub prefix_of_length : ℕ → ℕ → NetworkPrefix
+prefix_of_length address length = record { subnet = subnet address length; length = length }
 
+-- two prefixes have one subnet and one length
 abbrev pub same_prefix : NetworkPrefix → NetworkPrefix → Bool
 same_prefix a b = a.subnet == b.subnet && a.length == b.length
 
 -- a line names a prefix; host bits are ignored
 abbrev pub names_prefix : NetworkPrefix → NetworkLine → Bool
-names_prefix prefix line = same_prefix (prefix_at line.address line.length) prefix
+names_prefix prefix line = same_prefix (prefix_of_length line.address line.length) prefix
 
+-- the `network` line is of another area
 abbrev pub is_elsewhere : ℕ → NetworkLine → Bool
 is_elsewhere area line = not (line.area == area)
 
@@ -31,6 +33,7 @@ lesser None other = other
 lesser (Some line) None = Some line
 lesser (Some line) (Some other) = if nat_lt other.place line.place then Some other else Some line
 
+-- the first line of another area than a prefix's first line, after one line more
 abbrev pub other_after : Option Sighted → Bool → Sighted → Option Sighted
 other_after None elsewhere sighted = if elsewhere then Some sighted else None
 other_after (Some other) elsewhere sighted = Some other
@@ -48,5 +51,5 @@ lines_from n prefix found (line ∷ lines) =
     lines_from (n + 1) prefix (if names_prefix prefix line then Some (noted n line found) else found) lines
 
 -- the lines of a prefix
-abbrev pub lines_of : NetworkPrefix → List NetworkLine → Option PrefixLines
-lines_of prefix lines = lines_from 0 prefix None lines
+abbrev pub lines_of_prefix : NetworkPrefix → List NetworkLine → Option PrefixLines
+lines_of_prefix prefix lines = lines_from 0 prefix None lines

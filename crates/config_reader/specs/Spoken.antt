@@ -7,11 +7,13 @@ use Rattle.config_reader.specs.declared.statements.Block.{Block as SpokenBlock}
 use Rattle.config_reader.specs.declared.statements.Block.TheVariants.{Interface, Router, Other}
 use Rattle.config_reader.specs.Statements.{Block, OfInterface, OfRouter, OfOther, Statement, AddressIs, AreaIs, CostIs, KindIs, PriorityIs, PassiveIs, DownIs, RouterIdIs, NetworkIs, PassiveInterfaceIs, Refused, Unread}
 
-abbrev pub prefix_of : AddressPrefix → Prefix
-prefix_of p = record { address = p.address; length = p.length }
+-- a prefix as the code keeps it
+abbrev pub prefix_spoken : AddressPrefix → Prefix
+prefix_spoken p = record { address = p.address; length = p.length }
 
+-- what a statement means that the code keeps
 abbrev pub statement_of : Spoken → Statement
-statement_of (spoken.Address p) = AddressIs (prefix_of p)
+statement_of (spoken.Address p) = AddressIs (prefix_spoken p)
 statement_of (spoken.Area a) = AreaIs a
 statement_of (spoken.Cost n) = CostIs n
 statement_of (spoken.Network kind) = KindIs kind
@@ -19,11 +21,12 @@ statement_of (spoken.Priority n) = PriorityIs n
 statement_of (spoken.Passive b) = PassiveIs b
 statement_of (spoken.Down b) = DownIs b
 statement_of (spoken.RouterId id) = RouterIdIs id
-statement_of (spoken.NetworkArea p a) = NetworkIs (record { prefix = prefix_of p; area = a })
+statement_of (spoken.NetworkArea p a) = NetworkIs (record { prefix = prefix_spoken p; area = a })
 statement_of (spoken.PassiveInterface name) = PassiveInterfaceIs name.now
 statement_of (spoken.Refused fault) = Refused fault
 statement_of spoken.Unread = Unread
 
+-- what a block means that the code keeps
 abbrev pub block_spoken : SpokenBlock → Block
 block_spoken (Interface name) = OfInterface name.now
 block_spoken Router = OfRouter

@@ -4,7 +4,7 @@ ghost use Rattle.std.specs.Option.{option_map};
 ghost use Rattle.interface_model.specs.Records.{IsRouter};
 ghost use Rattle.config_reader.specs.Configs.{config_of};
 ghost use Rattle.config_reader.specs.FaultList.{config_fault, Tells};
-ghost use Rattle.config_reader.specs.Heards.{said_of, head_of, fault_of};
+ghost use Rattle.config_reader.specs.Heards.{said_of, head_heard, fault_of};
 ghost use Rattle.config_reader.specs.Drafting as drafting;
 ghost use Rattle.config_reader.specs.Gathered.{IsGathered};
 ghost use Rattle.config_reader.specs.Hearing as hearing;
@@ -32,7 +32,7 @@ fn first_fault<'a>(
         (drafting.earliest
         (drafting.earliest (option_map fault_of parts.now.fault) (drafting.first_second drafts.now.drafts.items (map said_of parts.now.said.items)))
         (drafting.first_clash networks.now None drafts.now.drafts.items))
-        (drafting.name_fault (head_of name.entry)) }
+        (drafting.name_fault (head_heard name.entry)) }
 {
     let second = earliest(parts.fault, second_address(drafts, &parts.said));
     let twice = earliest(second, area_twice(&drafts.drafts, networks));
@@ -67,7 +67,7 @@ fn checked<'a>(
 ) -> Result<RouterConfig, ConfigStop>
     requires read { (bytes : List ℕ) × IsParts (hearing.heard (lines bytes)) parts.now }
     requires networks { networks.now ≡ drafting.network_lines (map said_of parts.now.said.items) }
-    requires drafts { IsGathered networks.now (map head_of parts.now.heads.items) (map said_of parts.now.said.items) drafts }
+    requires drafts { IsGathered networks.now (map head_heard parts.now.heads.items) (map said_of parts.now.said.items) drafts }
     ensures made { (bytes : List ℕ) → IsParts (hearing.heard (lines bytes)) parts.now →
         IfOk result (λ r. (config_fault file_name.now bytes ≡ None) × (r ≡ config_of file_name.now bytes)) }
     ensures refused { (bytes : List ℕ) → IsParts (hearing.heard (lines bytes)) parts.now →

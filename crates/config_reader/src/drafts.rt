@@ -5,7 +5,7 @@ ghost use Rattle.cost_base.specs.Lists.{same_bytes};
 ghost use Rattle.config_reader.specs.Gathered.{IsOpened, IsGathered, NamesApart};
 ghost use Rattle.std.specs.Option.{option_map};
 ghost use Rattle.config_reader.specs.Spoken.{statement_of, block_spoken};
-ghost use Rattle.config_reader.specs.Heards.{said_of, head_of};
+ghost use Rattle.config_reader.specs.Heards.{said_of, head_heard};
 ghost use Rattle.config_reader.specs.Drafting as drafting;
 
 use crate::names::Names;
@@ -120,7 +120,7 @@ impl<'a> Drafts<'a> {
     fn add(&mut self, alloc: Global, head: NamedHead<'a>) -> Result<(), OutOfMemory>
         ensures drafts { OnOk result (self.new.drafts.items ≡
             (if list_any (same_bytes head.entry.name.now) self.old.names then self.old.drafts.items
-            else self.old.drafts.items ++ drafting.new_draft (head_of head.entry) ∷ [])) }
+            else self.old.drafts.items ++ drafting.new_draft (head_heard head.entry) ∷ [])) }
         ensures names { OnOk result (self.new.names ≡
             (if list_any (same_bytes head.entry.name.now) self.old.names then self.old.names else self.old.names ++ head.entry.name.now ∷ [])) }
     {
@@ -133,7 +133,7 @@ impl<'a> Drafts<'a> {
 
     /// A draft for each name of a head, of which nothing is said.
     fn open(alloc: Global, heads: &[NamedHead<'a>]) -> Result<Drafts<'a>, OutOfMemory>
-        ensures { IfOk result (IsOpened (map head_of heads.now)) }
+        ensures { IfOk result (IsOpened (map head_heard heads.now)) }
     {
         let mut opened = Drafts {
             names: Names::new(alloc),
@@ -152,7 +152,7 @@ impl<'a> Drafts<'a> {
         said: &[SaidLine<'a>],
         networks: &Networks,
     ) -> Result<Drafts<'a>, OutOfMemory>
-        ensures { IfOk result (IsGathered networks.now (map head_of heads.now) (map said_of said.now)) }
+        ensures { IfOk result (IsGathered networks.now (map head_heard heads.now) (map said_of said.now)) }
     {
         let Drafts { names, mut drafts } = Drafts::open(alloc, heads)?;
         for line in said {

@@ -1,8 +1,8 @@
 //! The faults that rest on several lines.
 ghost use Rattle.std.specs.Prelude.{◌≡◌, None, map, Option};
 ghost use Rattle.std.specs.Option.{option_map};
-ghost use Rattle.config_reader.specs.Spoken.{statement_of, block_spoken, prefix_of};
-ghost use Rattle.config_reader.specs.Heards.{said_of, head_of, fault_of};
+ghost use Rattle.config_reader.specs.Spoken.{statement_of, block_spoken, prefix_spoken};
+ghost use Rattle.config_reader.specs.Heards.{said_of, head_heard, fault_of};
 ghost use Rattle.config_reader.specs.Drafting as drafting;
 
 use crate::ConfigFault;
@@ -25,7 +25,7 @@ pub(crate) fn earliest(first: Option<LineFault>, second: Option<LineFault>) -> O
 
 /// Whether an address is another one than a draft's first, and the draft has an area.
 fn is_other_address(draft: &Draft, address: AddressPrefix) -> bool
-    ensures { result ≡ drafting.is_second (prefix_of address) (Some draft.now) }
+    ensures { result ≡ drafting.is_second (prefix_spoken address) (Some draft.now) }
 {
     let Some(first) = draft.interface.address else {
         return false;
@@ -95,7 +95,7 @@ pub(crate) fn area_twice(drafts: &[Draft], networks: &Networks) -> Option<LineFa
 
 /// The router id of a line of a router block.
 fn id_in(said: &SaidLine<'_>) -> Option<u32>
-    ensures { result ≡ drafting.id_in (block_spoken said.now.block) (statement_of said.now.statement) }
+    ensures { result ≡ drafting.router_id_set (block_spoken said.now.block) (statement_of said.now.statement) }
 {
     match (said.block, said.statement) {
         (Block::Router, Statement::RouterId(id)) => Some(id),
@@ -116,7 +116,7 @@ pub(crate) fn router_id(said: &[SaidLine<'_>]) -> Option<u32>
 
 /// The router's name, with its line: of the last `hostname` head, or of the file, with line 0.
 pub(crate) fn router_name<'a>(hostname: Option<NamedHead<'a>>, file_name: &'a [u8]) -> NamedHead<'a>
-    ensures { head_of result ≡ drafting.name_from file_name.now (option_map head_of hostname.entry) }
+    ensures { head_heard result ≡ drafting.name_from file_name.now (option_map head_heard hostname.entry) }
 {
     match hostname {
         Some(head) => head,
@@ -129,7 +129,7 @@ pub(crate) fn router_name<'a>(hostname: Option<NamedHead<'a>>, file_name: &'a [u
 
 /// The fault of the router's name.
 pub(crate) fn name_fault(name: NamedHead<'_>) -> Option<LineFault>
-    ensures { option_map fault_of result ≡ drafting.name_fault (head_of name.entry) }
+    ensures { option_map fault_of result ≡ drafting.name_fault (head_heard name.entry) }
 {
     if is_router_name(name.name) {
         return None;

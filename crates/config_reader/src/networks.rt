@@ -1,9 +1,9 @@
 //! The `network` lines of a configuration, found by the prefixes that they name.
 ghost use Rattle.std.specs.Prelude.{◌≡◌, ◌&&◌, ◌∷◌, ◌++◌, [], None, IfOk, map};
-ghost use Rattle.config_reader.specs.Spoken.{prefix_of};
+ghost use Rattle.config_reader.specs.Spoken.{prefix_spoken};
 ghost use Rattle.config_reader.specs.Heards.{said_of};
 ghost use Rattle.config_reader.specs.Drafting.{network_line, network_lines, covers, area_among, clash};
-ghost use Rattle.config_reader.specs.Sightings.{prefix_at, names_prefix, is_elsewhere, first_at, noted, lesser};
+ghost use Rattle.config_reader.specs.Sightings.{prefix_of_length, names_prefix, is_elsewhere, first_at, noted, lesser};
 ghost use Rattle.config_reader.specs.Spoken.{statement_of, block_spoken};
 ghost use Rattle.std.specs.List.{list_any};
 
@@ -60,13 +60,13 @@ impl Model for Networks {
     ghost use Rattle.indexmap.specs.IndexMap.{get};
     ghost use Rattle.config_reader.specs.declared.networks.NetworkLine.{NetworkLine as Line};
     ghost use Rattle.config_reader.specs.declared.networks.NetworkPrefix.{NetworkPrefix as Key};
-    ghost use Rattle.config_reader.specs.Sightings.{same_prefix, lines_of};
+    ghost use Rattle.config_reader.specs.Sightings.{same_prefix, lines_of_prefix};
 
     ghost Value = { List Line };
 
     ghost view = { λ n. n.lines.items };
 
-    ghost invariant = { λ n. (key : Key) → get same_prefix n.by_prefix key ≡ lines_of key n.lines.items };
+    ghost invariant = { λ n. (key : Key) → get same_prefix n.by_prefix key ≡ lines_of_prefix key n.lines.items };
 }
 
 /// The `network` line that a line is.
@@ -86,7 +86,7 @@ fn network_line(said: &SaidLine<'_>) -> Option<NetworkLine>
 
 /// The prefix of a length that holds an address.
 fn prefix_at(address: u32, length: u8) -> NetworkPrefix
-    ensures { result ≡ prefix_at address length }
+    ensures { result ≡ prefix_of_length address length }
 {
     NetworkPrefix {
         subnet: subnet(address, length.min(32)),
@@ -190,7 +190,7 @@ impl Networks {
 
     /// The first line that matches an address.
     fn first_match(&self, address: AddressPrefix) -> Option<Sighted>
-        ensures { result ≡ first_at 0 (covers (prefix_of address)) self.now }
+        ensures { result ≡ first_at 0 (covers (prefix_spoken address)) self.now }
     {
         let mut shorter = None;
         for length in 0..address.length {
@@ -202,7 +202,7 @@ impl Networks {
 
     /// The first line that matches an address and has another area than this one.
     fn first_elsewhere(&self, address: AddressPrefix, area: u32) -> Option<Sighted>
-        ensures { result ≡ first_at 0 (λ line. covers (prefix_of address) line && is_elsewhere area line) self.now }
+        ensures { result ≡ first_at 0 (λ line. covers (prefix_spoken address) line && is_elsewhere area line) self.now }
     {
         let mut shorter = None;
         for length in 0..address.length {
@@ -215,14 +215,14 @@ impl Networks {
 
     /// Whether some line matches an address.
     pub(crate) fn match_some(&self, address: AddressPrefix) -> bool
-        ensures { result ≡ list_any (covers (prefix_of address)) self.now }
+        ensures { result ≡ list_any (covers (prefix_spoken address)) self.now }
     {
         self.first_match(address).is_some()
     }
 
     /// The area of the first line that matches an address.
     pub(crate) fn area(&self, address: AddressPrefix) -> Option<u32>
-        ensures { result ≡ area_among (prefix_of address) self.now }
+        ensures { result ≡ area_among (prefix_spoken address) self.now }
     {
         let first = self.first_match(address)?;
         Some(first.line.area)
@@ -230,7 +230,7 @@ impl Networks {
 
     /// The number of the first line that matches an address and has another area than the first that does.
     pub(crate) fn clash(&self, address: AddressPrefix) -> Option<u32>
-        ensures { result ≡ clash (prefix_of address) None self.now }
+        ensures { result ≡ clash (prefix_spoken address) None self.now }
     {
         let first = self.first_match(address)?;
         let other = self.first_elsewhere(address, first.line.area)?;

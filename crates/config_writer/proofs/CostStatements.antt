@@ -8,7 +8,7 @@ use Rattle.text_lines.specs.Numbers.{number, prefix, area, Prefix}
 use Rattle.interface_model.specs.declared.Kind.TheVariants.{PointToPoint, Broadcast}
 use Rattle.config_reader.specs.declared.stop.ConfigFault.TheVariants.{BadNumber, Unsupported}
 use Rattle.config_reader.specs.Statements.{Statement, CostIs, KindIs, PassiveIs, Refused, Unread, begin_with, word_at, ip_ospf, no, alone, address_statement, area_statement, cost_statement, priority_statement, switch_statement, is_unsupported, interface_statement}
-use Rattle.config_reader.specs.Settings.{cost_said}
+use Rattle.config_reader.specs.Settings.{cost_set}
 use Rattle.config_reader.specs.FaultList.{refused}
 
 -- words that begin with `ip ospf cost`
@@ -57,31 +57,31 @@ sets_cost ws begins fine =
     (given.0, says ∙ given.1)
 
 -- choices between statements that set no cost
-neither : (b : Bool) (s t : Statement) → cost_said s ≡ None → cost_said t ≡ None → cost_said (cond b s t) ≡ None
+neither : (b : Bool) (s t : Statement) → cost_set s ≡ None → cost_set t ≡ None → cost_set (cond b s t) ≡ None
 neither true s t one two = one
 neither false s t one two = two
 
-alone_quiet : (last : Bool) (s : Statement) → cost_said s ≡ None → cost_said (alone last s) ≡ None
+alone_quiet : (last : Bool) (s : Statement) → cost_set s ≡ None → cost_set (alone last s) ≡ None
 alone_quiet true s quiet = quiet
 alone_quiet false s quiet = refl
 
-no_address : (o : Option Prefix) → cost_said (address_statement o) ≡ None
+no_address : (o : Option Prefix) → cost_set (address_statement o) ≡ None
 no_address None = refl
 no_address (Some p) = refl
 
-no_area : (last : Bool) (o : Option ℕ) → cost_said (area_statement last o) ≡ None
+no_area : (last : Bool) (o : Option ℕ) → cost_set (area_statement last o) ≡ None
 no_area true None = refl
 no_area false None = refl
 no_area true (Some a) = refl
 no_area false (Some a) = refl
 
-no_priority : (last : Bool) (o : Option ℕ) → cost_said (priority_statement last o) ≡ None
+no_priority : (last : Bool) (o : Option ℕ) → cost_set (priority_statement last o) ≡ None
 no_priority true None = refl
 no_priority false None = refl
 no_priority true (Some n) = refl
 no_priority false (Some n) = refl
 
-no_switch : (ws : List (List ℕ)) → cost_said (switch_statement ws) ≡ None
+no_switch : (ws : List (List ℕ)) → cost_set (switch_statement ws) ≡ None
 no_switch ws =
     neither (begin_with (ip_ospf (codes "passive")) ws) _ _ (alone_quiet (nat_le (length ws) 3) (PassiveIs true) refl)
     (neither (begin_with (no (ip_ospf (codes "passive"))) ws) _ _ (alone_quiet (nat_le (length ws) 4) (PassiveIs false) refl)
@@ -89,13 +89,13 @@ no_switch ws =
     (neither (begin_with (no (codes "shutdown" ∷ [])) ws) _ _ refl (neither (is_unsupported ws) (Refused Unsupported) Unread refl refl))))
 
 -- a line of an interface that doesn't begin with `ip ospf cost` sets no cost
-pub sets_none : (ws : List (List ℕ)) → begin_with (ip_ospf (codes "cost")) ws ≡ false → cost_said (interface_statement ws) ≡ None
+pub sets_none : (ws : List (List ℕ)) → begin_with (ip_ospf (codes "cost")) ws ≡ false → cost_set (interface_statement ws) ≡ None
 sets_none ws other =
     neither (begin_with (codes "ip" ∷ codes "address" ∷ []) ws) _ _
     (neither (same_bytes (word_at ws 3) (codes "peer")) (Refused Unsupported)
     (address_statement (prefix (word_at ws 2))) refl (no_address (prefix (word_at ws 2))))
     (neither (begin_with (ip_ospf (codes "area")) ws) _ _ (no_area (nat_le (length ws) 4) (area (word_at ws 3)))
-    (ap (λ b. cost_said (cond b (cost_statement (nat_le (length ws) 4) (number (word_at ws 3) 65535)) (behind ws))) other
+    (ap (λ b. cost_set (cond b (cost_statement (nat_le (length ws) 4) (number (word_at ws 3) 65535)) (behind ws))) other
     ∙ neither (begin_with (ip_ospf (codes "network")) ws) _ _ (no_kind ws)
     (neither (begin_with (ip_ospf (codes "priority")) ws) _ _ (no_priority (nat_le (length ws) 4) (number (word_at ws 3) 255)) (no_switch ws))))
   where
@@ -108,7 +108,7 @@ sets_none ws other =
         (cond (begin_with (ip_ospf (codes "priority")) vs)
         (priority_statement (nat_le (length vs) 4) (number (word_at vs 3) 255)) (switch_statement vs))
 
-    no_kind : (vs : List (List ℕ)) → cost_said (kind_of_words vs) ≡ None
+    no_kind : (vs : List (List ℕ)) → cost_set (kind_of_words vs) ≡ None
     no_kind vs =
         neither (same_bytes (word_at vs 3) (codes "point-to-point")) (KindIs PointToPoint)
         (cond (same_bytes (word_at vs 3) (codes "broadcast")) (KindIs Broadcast) (Refused Unsupported)) refl

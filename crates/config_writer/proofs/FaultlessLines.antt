@@ -6,10 +6,10 @@ use Rattle.text_lines.specs.Lines.{words, kind_of}
 use Rattle.text_lines.proofs.Digits.{length-decimal-le}
 use Rattle.config_reader.specs.declared.stop.ConfigFault.{ConfigFault}
 use Rattle.config_reader.specs.Statements.{Statement, CostIs, Network, Block, OfInterface, statement_in}
-use Rattle.config_reader.specs.Settings.{said, networks, network_said}
+use Rattle.config_reader.specs.Settings.{said, networks_said, network_said}
 use Rattle.config_reader.specs.FaultList.{refused}
 use Rattle.config_reader.specs.Reading.{open_block}
-use Rattle.config_reader.specs.Sections.{cost_after, cost_line}
+use Rattle.config_reader.specs.Sections.{cost_after, section_cost_line}
 use Rattle.config_writer.specs.Rewriting.{is_replaced, cost_behind}
 use Rattle.config_writer.proofs.NewLines.{lines_for, relined}
 use Rattle.config_reader.proofs.SectionLaw.{cost_said_there}
@@ -28,23 +28,23 @@ module _ (second : Block → Statement → Option ConfigFault) (twice : List Net
     area =
         ap (λ said. twice (filter_map network_said said) (block_by (kind_of line) (open_block new))
         (statement_by (kind_of line) (open_block new) (words line))) same.router
-        ∙ ap (λ block. twice (networks (said old)) (block_by (kind_of line) block) (statement_by (kind_of line) block (words line))) same.block
+        ∙ ap (λ block. twice (networks_said (said old)) (block_by (kind_of line) block) (statement_by (kind_of line) block (words line))) same.block
         ∙ fine.area;
   }
 
   module _ (quiet_second : (h : List ℕ) (n : ℕ) → second (OfInterface h) (CostIs n) ≡ None)
       (quiet_twice : (ns : List Network) (h : List ℕ) (n : ℕ) → twice ns (OfInterface h) (CostIs n) ≡ None) where
     -- a new cost line has no fault
-    cost_fine : (front : List (List ℕ)) (h : List ℕ) (n : ℕ) → open_block front ≡ OfInterface h → 1 ≤ n → n ≤ 65535 → LineFine second twice front (cost_line n)
+    cost_fine : (front : List (List ℕ)) (h : List ℕ) (n : ℕ) → open_block front ≡ OfInterface h → 1 ≤ n → n ≤ 65535 → LineFine second twice front (section_cost_line n)
     cost_fine front h n here from to = record {
-      short = le-leb (length (cost_line n)) 4096 (omega (arith, length-decimal-le 5 n (omega arith) (omega arith)));
-      own = ap (λ block. refused (statement_in block (words (cost_line n)))) here ∙ ap refused (cost_said_there n from to);
-      address = ap (λ block. second block (statement_in block (words (cost_line n)))) here
+      short = le-leb (length (section_cost_line n)) 4096 (omega (arith, length-decimal-le 5 n (omega arith) (omega arith)));
+      own = ap (λ block. refused (statement_in block (words (section_cost_line n)))) here ∙ ap refused (cost_said_there n from to);
+      address = ap (λ block. second block (statement_in block (words (section_cost_line n)))) here
           ∙ ap (second (OfInterface h)) (cost_said_there n from to) ∙ quiet_second h n;
       area =
-          ap (λ block. twice (networks (said front)) block (statement_in block (words (cost_line n)))) here
-          ∙ ap (twice (networks (said front)) (OfInterface h)) (cost_said_there n from to)
-          ∙ quiet_twice (networks (said front)) h n;
+          ap (λ block. twice (networks_said (said front)) block (statement_in block (words (section_cost_line n)))) here
+          ∙ ap (twice (networks_said (said front)) (OfInterface h)) (cost_said_there n from to)
+          ∙ quiet_twice (networks_said (said front)) h n;
     }
 
     module _ (costs : List (List ℕ × ℕ)) (file_name : List ℕ) (bounds : (old : List (List ℕ)) (line : List ℕ) (n : ℕ) →
@@ -69,10 +69,10 @@ module _ (second : Block → Statement → Option ConfigFault) (twice : List Net
           cases false (Some n) stays behind =
               let within = bounds old line n behind in
               let here = opened_here costs old new line n behind in
-              subst (λ ls. Walked (old ++ line ∷ []) ls) (append_assoc new (line ∷ []) (cost_line n ∷ []))
+              subst (λ ls. Walked (old ++ line ∷ []) ls) (append_assoc new (line ∷ []) (section_cost_line n ∷ []))
               (record {
                 alike = opened costs file_name old new line n walked.alike behind within.0 within.1;
-                fine = all_push second twice [] (new ++ line ∷ []) (cost_line n) both (cost_fine (new ++ line ∷ []) here.0 n here.1 within.0 within.1);
+                fine = all_push second twice [] (new ++ line ∷ []) (section_cost_line n) both (cost_fine (new ++ line ∷ []) here.0 n here.1 within.0 within.1);
               })
 
       walk : (rest old new : List (List ℕ)) → Walked old new → AllFine second twice old rest → Walked (old ++ rest) (new ++ relined costs old rest)

@@ -11,7 +11,7 @@ use Rattle.text_lines.specs.Reading.{line_end}
 use Rattle.text_lines.proofs.LineLaws.{lines-cons, lines-one, lines-some}
 use Rattle.config_reader.proofs.PrintedLines.{one_line, word_lacks_end}
 use Rattle.text_lines.proofs.WordLaws.{decimal-word}
-use Rattle.config_reader.specs.Sections.{cost_line}
+use Rattle.config_reader.specs.Sections.{section_cost_line}
 use Rattle.config_writer.specs.Rewriting.{is_replaced, cost_behind, whole_lines, written_for, written_at, rewritten}
 use Rattle.config_writer.proofs.WholeLines.{IsCut, whole_first, ended-line}
 use Rattle.config_reader.proofs.FaultlessFiles.{one_more}
@@ -21,7 +21,7 @@ use Rattle.config_writer.proofs.WrittenLines.{written_here}
 abbrev pub lines_for : Bool → Option ℕ → List ℕ → List (List ℕ)
 lines_for true behind line = []
 lines_for false None line = line ∷ []
-lines_for false (Some n) line = line ∷ cost_line n ∷ []
+lines_for false (Some n) line = line ∷ section_cost_line n ∷ []
 
 -- the lines that stand for some lines behind others
 abbrev pub relined : List (List ℕ × ℕ) → List (List ℕ) → List (List ℕ) → List (List ℕ)
@@ -87,8 +87,8 @@ cut_of (c ∷ cs) line rest is = cases (c == 10) refl (lines cs) refl (λ l more
           behind = cut.behind;
         })
 
-cost_line-one : (n : ℕ) → IsOneLine (cost_line n)
-cost_line-one n = one_line (cost_line n) (word_lacks_end (decimal n) (decimal-word n).whole)
+cost_line-one : (n : ℕ) → IsOneLine (section_cost_line n)
+cost_line-one n = one_line (section_cost_line n) (word_lacks_end (decimal n) (decimal-word n).whole)
 
 two_lines : (a b more : List ℕ) → ((a ++ 10 ∷ []) ++ (b ++ 10 ∷ [])) ++ more ≡ a ++ 10 ∷ (b ++ 10 ∷ more)
 two_lines a b more =
@@ -113,10 +113,10 @@ lines-written_for : (replaced : Bool) (behind : Option ℕ) (bytes line : List �
 lines-written_for true behind bytes line end left more cut done = refl
 lines-written_for false None bytes line end left more cut done = kept_line bytes line end left more cut done
 lines-written_for false (Some n) bytes line end left more cut done =
-    ap (λ l. lines ((l ++ (cost_line n ++ 10 ∷ [])) ++ more)) (ended-line bytes line end left cut)
-    ∙ ap lines (two_lines line (cost_line n) more)
-    ∙ lines-cons line (cost_line n ++ 10 ∷ more) cut.one
-    ∙ ap (λ ls. line ∷ ls) (lines-cons (cost_line n) more (cost_line-one n))
+    ap (λ l. lines ((l ++ (section_cost_line n ++ 10 ∷ [])) ++ more)) (ended-line bytes line end left cut)
+    ∙ ap lines (two_lines line (section_cost_line n) more)
+    ∙ lines-cons line (section_cost_line n ++ 10 ∷ more) cut.one
+    ∙ ap (λ ls. line ∷ ls) (lines-cons (section_cost_line n) more (cost_line-one n))
 
 lines-written_from : (costs : List (List ℕ × ℕ)) (bytes : List ℕ) (front fronts ls : List (List ℕ)) (left : List ℕ) →
     lines left ≡ ls → lines bytes ≡ front ++ ls → whole_lines bytes ≡ fronts ++ whole_lines left → length fronts ≡ length front →

@@ -12,7 +12,7 @@ use Rattle.text_lines.specs.Lines.{lines, words, is_head}
 use Rattle.interface_model.specs.declared.Interface.{Interface}
 use Rattle.config_reader.specs.declared.stop.ConfigFault.{ConfigFault}
 use Rattle.config_reader.specs.Statements.{Statement, CostIs, Network, Block, OfInterface, OfRouter, OfOther, block_of}
-use Rattle.config_reader.specs.Settings.{Said, said, about, about_router, setting, address_said, area_said, cost_said, kind_said, passive_said, down_said, priority_said, router_id_said, interface_of}
+use Rattle.config_reader.specs.Settings.{Said, said, about, about_router, setting, address_said, area_set, cost_set, kind_said, passive_said, down_said, priority_said, router_id_said, interface_as_set}
 use Rattle.config_reader.specs.Configs.{first_heads}
 use Rattle.config_reader.specs.Faults.{router_name, is_router_name}
 use Rattle.config_reader.specs.FaultList.{second_address, area_twice, config_fault, faults}
@@ -41,17 +41,17 @@ pick_recosted pick quiet (Some n) true own =
     ap (λ o. cons_option o (filter_map pick (filter sets_no_cost own))) (quiet n) ∙ first_filtered sets_no_cost pick own (unsaid pick quiet)
 
 -- no cost is left
-none_left : (own : List Statement) → filter_map cost_said (filter sets_no_cost own) ≡ []
+none_left : (own : List Statement) → filter_map cost_set (filter sets_no_cost own) ≡ []
 none_left [] = refl
-none_left (s ∷ own) = cases (cost_said s) refl (none_left own)
+none_left (s ∷ own) = cases (cost_set s) refl (none_left own)
   where
-    cases : (o : Option ℕ) → cost_said s ≡ o → filter_map cost_said (filter sets_no_cost own) ≡ [] →
-        filter_map cost_said (cond (not (is_some o)) (s ∷ filter sets_no_cost own) (filter sets_no_cost own)) ≡ []
-    cases None said none = ap (λ o. cons_option o (filter_map cost_said (filter sets_no_cost own))) said ∙ none
+    cases : (o : Option ℕ) → cost_set s ≡ o → filter_map cost_set (filter sets_no_cost own) ≡ [] →
+        filter_map cost_set (cond (not (is_some o)) (s ∷ filter sets_no_cost own) (filter sets_no_cost own)) ≡ []
+    cases None said none = ap (λ o. cons_option o (filter_map cost_set (filter sets_no_cost own))) said ∙ none
     cases (Some n) said none = none
 
 cost_recosted : (cost : Option ℕ) (known : Bool) (own : List Statement) → known ≡ true →
-    setting cost_said (recosted cost known own) ≡ option_or cost (setting cost_said own)
+    setting cost_set (recosted cost known own) ≡ option_or cost (setting cost_set own)
 cost_recosted None known own is = refl
 cost_recosted (Some n) false own is = absurd (cc)
 cost_recosted (Some n) true own is = ap (λ (rest : List ℕ). last_of (n ∷ rest)) (none_left own)
@@ -74,11 +74,11 @@ cost_from (cost ∷ costs) name before = cases (same_bytes name cost.0) (cost_fr
 -- an interface of which this is said
 interface_recosted : (cost : Option ℕ) (known : Bool) (own router : List Statement) (name : List ℕ) (line : ℕ) →
     interface_from (recosted cost known own) router name line
-    ≡ record (interface_from own router name line) { cost = setting cost_said (recosted cost known own) }
+    ≡ record (interface_from own router name line) { cost = setting cost_set (recosted cost known own) }
 unfolding interface_from interface_by
 interface_recosted cost known own router name line =
     picks (ap first_of (pick_recosted address_said (λ n. refl) cost known own))
-    (ap last_of (pick_recosted area_said (λ n. refl) cost known own))
+    (ap last_of (pick_recosted area_set (λ n. refl) cost known own))
     (ap last_of (pick_recosted kind_said (λ n. refl) cost known own))
     (ap last_of (pick_recosted passive_said (λ n. refl) cost known own))
     (ap last_of (pick_recosted down_said (λ n. refl) cost known own))
@@ -88,32 +88,32 @@ interface_recosted cost known own router name line =
     new = recosted cost known own
 
     picks : first_of (filter_map address_said new) ≡ first_of (filter_map address_said own) →
-        setting area_said new ≡ setting area_said own → setting kind_said new ≡ setting kind_said own →
+        setting area_set new ≡ setting area_set own → setting kind_said new ≡ setting kind_said own →
         setting passive_said new ≡ setting passive_said own → setting down_said new ≡ setting down_said own →
         setting priority_said new ≡ setting priority_said own →
-        interface_by router name line (first_of (filter_map address_said new)) (setting area_said new) (setting cost_said new)
+        interface_by router name line (first_of (filter_map address_said new)) (setting area_set new) (setting cost_set new)
         (setting kind_said new) (setting passive_said new) (setting down_said new)
         (setting priority_said new)
-        ≡ interface_by router name line (first_of (filter_map address_said own)) (setting area_said own)
-        (setting cost_said new) (setting kind_said own) (setting passive_said own) (setting down_said own)
+        ≡ interface_by router name line (first_of (filter_map address_said own)) (setting area_set own)
+        (setting cost_set new) (setting kind_said own) (setting passive_said own) (setting down_said own)
         (setting priority_said own)
     picks a b c d e f =
-        ap (λ x. interface_by router name line x (setting area_said new) (setting cost_said new) (setting kind_said new)
+        ap (λ x. interface_by router name line x (setting area_set new) (setting cost_set new) (setting kind_said new)
         (setting passive_said new) (setting down_said new) (setting priority_said new)) a
-        ∙ ap (λ x. interface_by router name line (first_of (filter_map address_said own)) x (setting cost_said new)
+        ∙ ap (λ x. interface_by router name line (first_of (filter_map address_said own)) x (setting cost_set new)
         (setting kind_said new) (setting passive_said new) (setting down_said new)
         (setting priority_said new)) b
-        ∙ ap (λ x. interface_by router name line (first_of (filter_map address_said own)) (setting area_said own)
-        (setting cost_said new) x (setting passive_said new) (setting down_said new)
+        ∙ ap (λ x. interface_by router name line (first_of (filter_map address_said own)) (setting area_set own)
+        (setting cost_set new) x (setting passive_said new) (setting down_said new)
         (setting priority_said new)) c
-        ∙ ap (λ x. interface_by router name line (first_of (filter_map address_said own)) (setting area_said own)
-        (setting cost_said new) (setting kind_said own) x (setting down_said new)
+        ∙ ap (λ x. interface_by router name line (first_of (filter_map address_said own)) (setting area_set own)
+        (setting cost_set new) (setting kind_said own) x (setting down_said new)
         (setting priority_said new)) d
-        ∙ ap (λ x. interface_by router name line (first_of (filter_map address_said own)) (setting area_said own)
-        (setting cost_said new) (setting kind_said own) (setting passive_said own) x
+        ∙ ap (λ x. interface_by router name line (first_of (filter_map address_said own)) (setting area_set own)
+        (setting cost_set new) (setting kind_said own) (setting passive_said own) x
         (setting priority_said new)) e
-        ∙ ap (λ x. interface_by router name line (first_of (filter_map address_said own)) (setting area_said own)
-        (setting cost_said new) (setting kind_said own) (setting passive_said own) (setting down_said own)
+        ∙ ap (λ x. interface_by router name line (first_of (filter_map address_said own)) (setting area_set own)
+        (setting cost_set new) (setting kind_said own) (setting passive_said own) (setting down_said own)
         x) f
 
 -- every name of some is among them
@@ -136,33 +136,33 @@ map_known f g names (x ∷ xs) same known =
 
 -- interfaces, line numbers aside
 unnumbered_all : (all : List Said) (heads : List (List ℕ × ℕ)) →
-    map unnumbered (map (λ head. interface_of all head.0 head.1) heads) ≡ map (λ name. interface_of all name 0)
+    map unnumbered (map (λ head. interface_as_set all head.0 head.1) heads) ≡ map (λ name. interface_as_set all name 0)
     (map (λ head. head.0) heads)
 unnumbered_all all [] = refl
-unnumbered_all all (h ∷ hs) = ap (λ is. interface_of all h.0 0 ∷ is) (unnumbered_all all hs)
+unnumbered_all all (h ∷ hs) = ap (λ is. interface_as_set all h.0 0 ∷ is) (unnumbered_all all hs)
 
 unnumbered_costs : (costs : List (List ℕ × ℕ)) (all : List Said) (heads : List (List ℕ × ℕ)) →
-    map unnumbered (map (with_cost costs) (map (λ head. interface_of all head.0 head.1) heads))
-    ≡ map (λ name. with_cost costs (interface_of all name 0)) (map (λ head. head.0) heads)
+    map unnumbered (map (with_cost costs) (map (λ head. interface_as_set all head.0 head.1) heads))
+    ≡ map (λ name. with_cost costs (interface_as_set all name 0)) (map (λ head. head.0) heads)
 unnumbered_costs costs all [] = refl
-unnumbered_costs costs all (h ∷ hs) = ap (λ is. with_cost costs (interface_of all h.0 0) ∷ is) (unnumbered_costs costs all hs)
+unnumbered_costs costs all (h ∷ hs) = ap (λ is. with_cost costs (interface_as_set all h.0 0) ∷ is) (unnumbered_costs costs all hs)
 
 module _ (costs : List (List ℕ × ℕ)) (file_name : List ℕ) (old new : List (List ℕ)) (alike : Alike costs file_name old new) where
   -- the records of the old lines with the new costs
-  interface_same : (name : List ℕ) → is_known old name ≡ true → interface_of (said new) name 0 ≡ with_cost costs (interface_of (said old) name 0)
+  interface_same : (name : List ℕ) → is_known old name ≡ true → interface_as_set (said new) name 0 ≡ with_cost costs (interface_as_set (said old) name 0)
   interface_same name known =
       interface_of-from (said new) name 0
       ∙ ap (λ own. interface_from own (about_router (said new)) name 0) (alike.own name)
       ∙ ap (λ router. interface_from (recosted (cost_after costs name None) (is_known old name) (about (said old) name)) router name 0) alike.rest.router
       ∙ interface_recosted (cost_after costs name None) (is_known old name) (about (said old) name) (about_router (said old)) name 0
       ∙ ap (λ (i : Interface). record i {
-        cost = setting cost_said
+        cost = setting cost_set
             (recosted (cost_after costs name None) (is_known old name) (about (said old) name));
       })
       (sym (interface_of-from (said old) name 0))
-      ∙ ap (λ (o : Option ℕ). record (interface_of (said old) name 0) { cost = o })
+      ∙ ap (λ (o : Option ℕ). record (interface_as_set (said old) name 0) { cost = o })
       (cost_recosted (cost_after costs name None) (is_known old name) (about (said old) name) known
-      ∙ sym (cost_from costs name (setting cost_said (about (said old) name))))
+      ∙ sym (cost_from costs name (setting cost_set (about (said old) name))))
 
   records_same : without_numbers (records_of file_name new) ≡ without_numbers (with_costs costs (records_of file_name old))
   records_same =
@@ -173,8 +173,8 @@ module _ (costs : List (List ℕ × ℕ)) (file_name : List ℕ) (old new : List
       }) alike.rest.router
       ∙ ap (λ (is : List Interface). record (without_numbers (records_of file_name old)) { interfaces = is })
       (unnumbered_all (said new) (first_heads new)
-      ∙ ap (map (λ name. interface_of (said new) name 0)) alike.rest.heads
-      ∙ map_known (λ name. interface_of (said new) name 0) (λ name. with_cost costs (interface_of (said old) name 0))
+      ∙ ap (map (λ name. interface_as_set (said new) name 0)) alike.rest.heads
+      ∙ map_known (λ name. interface_as_set (said new) name 0) (λ name. with_cost costs (interface_as_set (said old) name 0))
       (headed old) (headed old) interface_same (all_known [] (headed old))
       ∙ sym (unnumbered_costs costs (said old) (first_heads old)))
 
@@ -187,7 +187,7 @@ module _ (costs : List (List ℕ × ℕ)) (file_name : List ℕ) (old new : List
   same_tests : SameTests old new
   same_tests = record {
     addresses = picked address_said (λ n. refl);
-    areas = picked area_said (λ n. refl);
+    areas = picked area_set (λ n. refl);
     router = alike.rest.router;
     heads = alike.rest.heads;
   }

@@ -11,11 +11,11 @@ use Rattle.text_lines.specs.Lines.{words, kind_of, is_head_kind}
 use Rattle.text_lines.specs.declared.LineKind.{LineKind}
 use Rattle.text_lines.specs.declared.LineKind.TheVariants.{Blank, Comment, Head, Indented}
 use Rattle.config_reader.specs.Statements.{Statement, CostIs, Block, OfInterface, OfRouter, OfOther, block_of, begin_with, ip_ospf, statement_in, interface_statement}
-use Rattle.config_reader.specs.Settings.{said, about, cost_said, is_of}
+use Rattle.config_reader.specs.Settings.{said, about, cost_set, is_of}
 use Rattle.config_reader.specs.Configs.{first_heads}
 use Rattle.config_reader.specs.FaultList.{refused}
 use Rattle.config_reader.specs.Reading.{open_block}
-use Rattle.config_reader.specs.Sections.{cost_after, cost_line}
+use Rattle.config_reader.specs.Sections.{cost_after, section_cost_line}
 use Rattle.config_reader.proofs.LongerLists.{any-map}
 use Rattle.config_reader.proofs.SettingSteps.{said_where}
 use Rattle.config_reader.proofs.BlockFacts.{open_block-push, block_with, open_headed, about-unheaded}
@@ -28,7 +28,7 @@ use Rattle.config_reader.proofs.FineLines.{block_by, statement_by}
 use Rattle.config_writer.proofs.SameStatements.{about-line, SameRest, rest_kept, rest_indented, rest_trans, rest_sym}
 
 abbrev pub sets_no_cost : Statement → Bool
-sets_no_cost s = not (is_some (cost_said s))
+sets_no_cost s = not (is_some (cost_set s))
 
 -- what is said of an interface with a new cost, once it has a head
 abbrev pub recosted : Option ℕ → Bool → List Statement → List Statement
@@ -208,14 +208,14 @@ fresh_cost n (Some m) false [] a b c = let same : n ≡ m = cc in ap (λ (x : �
 
 -- a first head, and its cost behind it
 pub opened : (costs : List (List ℕ × ℕ)) (file_name : List ℕ) (old new : List (List ℕ)) (line : List ℕ) (n : ℕ) → Alike costs file_name old new →
-    cost_behind costs old line ≡ Some n → 1 ≤ n → n ≤ 65535 → Alike costs file_name (old ++ line ∷ []) ((new ++ line ∷ []) ++ cost_line n ∷ [])
+    cost_behind costs old line ≡ Some n → 1 ≤ n → n ≤ 65535 → Alike costs file_name (old ++ line ∷ []) ((new ++ line ∷ []) ++ section_cost_line n ∷ [])
 opened costs file_name old new line n alike behind from to = record {
-  rest = rest_trans file_name (old ++ line ∷ []) (new ++ line ∷ []) ((new ++ line ∷ []) ++ cost_line n ∷ [])
+  rest = rest_trans file_name (old ++ line ∷ []) (new ++ line ∷ []) ((new ++ line ∷ []) ++ section_cost_line n ∷ [])
       (rest_kept file_name old new line alike.rest)
-      (rest_indented file_name (new ++ line ∷ []) (cost_line n) first.h refl here);
+      (rest_indented file_name (new ++ line ∷ []) (section_cost_line n) first.h refl here);
   own = λ name.
-      about-line (new ++ line ∷ []) (cost_line n) name
-      ∙ ap (λ block. about (said (new ++ line ∷ [])) name ++ said_where (is_of name block) (statement_in block (words (cost_line n)))) here
+      about-line (new ++ line ∷ []) (section_cost_line n) name
+      ∙ ap (λ block. about (said (new ++ line ∷ [])) name ++ said_where (is_of name block) (statement_in block (words (section_cost_line n)))) here
       ∙ ap (λ s. about (said (new ++ line ∷ [])) name ++ said_where (same_bytes name first.h) s) (cost_said_there n from to)
       ∙ ap (λ own. own ++ said_where (same_bytes name first.h) (CostIs n)) (quiet new name ∙ alike.own name)
       ∙ added name (same_bytes name first.h) refl
@@ -299,7 +299,7 @@ dropped costs file_name old new line alike replaced fine = record {
   rest = rest_trans file_name (old ++ line ∷ []) old new (rest_sym file_name old (old ++ line ∷ []) same) alike.rest;
   own = λ name.
       alike.own name
-      ∙ gone name (same_bytes name out.h) refl
+      ∙ excluded name (same_bytes name out.h) refl
       ∙ ap (λ s. recosted (cost_after costs name None) (is_known old name) (about (said old) name ++ said_where (same_bytes name out.h) s)) (sym says.1)
       ∙ ap (λ heads. recosted (cost_after costs name None) (list_any (same_bytes name) heads)
       (about (said old) name ++ said_where (same_bytes name out.h) (interface_statement (words line))))
@@ -325,12 +325,12 @@ dropped costs file_name old new line alike replaced fine = record {
         ∙ ap (λ kind. refused (statement_by kind (open_block old) (words line))) (sym out.kind)
         ∙ fine)
 
-    gone : (name : List ℕ) (s : Bool) → same_bytes name out.h ≡ s →
+    excluded : (name : List ℕ) (s : Bool) → same_bytes name out.h ≡ s →
         recosted (cost_after costs name None) (is_known old name) (about (said old) name)
         ≡ recosted (cost_after costs name None) (is_known old name)
         (about (said old) name ++ said_where s (CostIs says.0))
-    gone name false other = ap (recosted (cost_after costs name None) (is_known old name)) (sym (append-nil (about (said old) name)))
-    gone name true same_name =
+    excluded name false other = ap (recosted (cost_after costs name None) (is_known old name)) (sym (append-nil (about (said old) name)))
+    excluded name true same_name =
         let is : name ≡ out.h = same_bytes-true name out.h same_name in
         dropped_cost says.0 out.n (cost_after costs name None) (is_known old name) (about (said old) name)
         (ap (λ m. cost_after costs m None) is ∙ out.cost) (ap (is_known old) is ∙ known_open old out.h out.block)

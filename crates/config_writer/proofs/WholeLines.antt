@@ -4,7 +4,7 @@ use Rattle.std.proofs.lemmas.List.Elements.{All-head, All-tail}
 use Rattle.text_lines.specs.Lines.{lines, grow, IsOneLine, ended}
 use Rattle.text_lines.specs.Reading.{IsFirstLine, line_end}
 use Rattle.text_lines.proofs.LineLaws.{line-whole}
-use Rattle.config_reader.specs.Sections.{cost_line}
+use Rattle.config_reader.specs.Sections.{section_cost_line}
 use Rattle.config_writer.specs.Rewriting.{whole_lines, written_for}
 use Rattle.config_writer.specs.Writing.{put_for}
 
@@ -77,4 +77,4 @@ pub put_written : (replaced : Bool) (behind : Option ℕ) (bytes line : List ℕ
     put_for replaced behind line end ≡ written_for replaced behind (line ++ line_end end)
 put_written true behind bytes line end left cut = refl
 put_written false None bytes line end left cut = refl
-put_written false (Some n) bytes line end left cut = ap (λ l. l ++ (cost_line n ++ 10 ∷ [])) (sym (ended-line bytes line end left cut))
+put_written false (Some n) bytes line end left cut = ap (λ l. l ++ (section_cost_line n ++ 10 ∷ [])) (sym (ended-line bytes line end left cut))

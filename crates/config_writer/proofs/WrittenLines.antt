@@ -14,7 +14,7 @@ use Rattle.text_lines.specs.declared.line_reader.Line.{Line}
 use Rattle.text_lines.specs.declared.LineKind.{LineKind}
 use Rattle.text_lines.specs.declared.LineKind.TheVariants.{Blank, Comment, Head, Indented}
 use Rattle.config_reader.specs.Statements.{Block, OfInterface, OfRouter, OfOther, block_of, begin_with, ip_ospf}
-use Rattle.config_reader.specs.Configs.{first_heads, with_line, name_opened}
+use Rattle.config_reader.specs.Configs.{first_heads, name_with_line, name_opened}
 use Rattle.config_reader.specs.Reading.{open_block}
 use Rattle.config_reader.specs.Sections.{cost_after}
 use Rattle.config_reader.proofs.LongerLists.{map-unless, position-map}
@@ -22,20 +22,20 @@ use Rattle.config_reader.proofs.SaidSteps.{opened_from}
 use Rattle.config_reader.proofs.HeadSteps.{first_heads-push, heads_with as first_heads_with, is_headed, unless_known}
 use Rattle.config_reader.proofs.BlockFacts.{open_block-push, block_with}
 use Rattle.config_writer.specs.Rewriting.{new_cost, headed, is_replaced, is_cost_line, is_indented_kind, is_first_block, cost_behind, whole_lines, written_for, written_at, costs_of, first_missing}
-use Rattle.config_writer.specs.Writing.{look_up, block_cost, cost_after_line, heads_after_line, named_after_line, put_for, GoesOverLine, Opens}
-use Rattle.path_rows.specs.declared.answer.CostLine.{CostLine}
+use Rattle.config_writer.specs.Writing.{look_up, block_cost, cost_after_line, heads_after_line, named_after_line, put_for, GoesOverLine, OpensHead}
+use Rattle.design_problem.specs.declared.answer.CostLine.{CostLine}
 use Rattle.config_writer.specs.declared.writer.Writer.{Writer}
 use Rattle.config_writer.proofs.WholeLines.{IsCut, first_cut, whole_first, put_written}
 
 -- the interface that a line of a kind opens
 abbrev pub opened_by : LineKind → ℕ → Block → Option (List ℕ × ℕ)
-opened_by Head n block = with_line n (name_opened block)
+opened_by Head n block = name_with_line n (name_opened block)
 opened_by _ n block = None
 
 opened_kind : (i : ℕ) (line : List ℕ) → opened_from i line ≡ opened_by (kind_of line) (i + 1) (block_of (words line))
 opened_kind i line = cases (kind_of line)
   where
-    cases : (kind : LineKind) → cond (is_head_kind kind) (with_line (i + 1) (name_opened (block_of (words line)))) None
+    cases : (kind : LineKind) → cond (is_head_kind kind) (name_with_line (i + 1) (name_opened (block_of (words line)))) None
         ≡ opened_by kind (i + 1) (block_of (words line))
     cases Blank = refl
     cases Comment = refl
@@ -214,11 +214,11 @@ written_step costs bytes old new writer next line so_far is_line step = record {
         ∙ ap (λ n. concat (map (written_at costs bytes) (numbers_from 0 n))) (sym (length-push so_far.front text))
 
 -- a head is gone over: its block is opened, and it is put
-pub head_gone : (old opened next : Writer) (line : List ℕ) (end : Bool) (behind : Option ℕ) → kind_of line ≡ Head →
-    Opens old opened (block_of (words line)) behind →
+pub head_excluded : (old opened next : Writer) (line : List ℕ) (end : Bool) (behind : Option ℕ) → kind_of line ≡ Head →
+    OpensHead old opened (block_of (words line)) behind →
     next.costs ≡ opened.costs → next.heads ≡ opened.heads → next.in_named_block ≡ opened.in_named_block →
     next.out.items ≡ opened.out.items ++ put_for false behind line end → GoesOverLine old next line end
-head_gone old opened next line end behind head opens costs heads named out = record {
+head_excluded old opened next line end behind head opens costs heads named out = record {
   out =
       out
       ∙ ap (λ items. items ++ put_for false behind line end) opens.out

@@ -8,11 +8,11 @@ use Rattle.text_lines.specs.declared.LineKind.TheVariants.{Indented}
 use Rattle.config_reader.specs.Statements.{Block, OfInterface, OfRouter, OfOther, block_of, begin_with, ip_ospf}
 use Rattle.config_reader.specs.Reading.{open_block}
 use Rattle.config_reader.specs.Configs.{first_heads, config_of}
-use Rattle.config_reader.specs.Sections.{cost_after, with_costs, cost_line}
+use Rattle.config_reader.specs.Sections.{cost_after, with_costs, section_cost_line}
 use Rattle.config_reader.specs.FaultList.{config_fault}
 use Rattle.interface_model.specs.declared.Interface.{Interface}
 use Rattle.interface_model.specs.Records.{Router}
-use Rattle.path_rows.specs.declared.answer.CostLine.{CostLine}
+use Rattle.design_problem.specs.declared.answer.CostLine.{CostLine}
 use Rattle.config_writer.specs.declared.RewriteStop.{RewriteStop}
 use Rattle.config_writer.specs.declared.RewriteStop.TheVariants.{NoInterface, OutOfMemory}
 
@@ -30,6 +30,7 @@ new_cost costs OfOther = None
 abbrev pub headed : List (List ℕ) → List (List ℕ)
 headed file = map (λ head. head.0) (first_heads file)
 
+-- whether a kind of line is that of an indented line
 abbrev pub is_indented_kind : LineKind → Bool
 is_indented_kind Indented = true
 is_indented_kind _ = false
@@ -62,7 +63,7 @@ whole_lines (c ∷ cs) = if c == 10 then (10 ∷ []) ∷ whole_lines cs else gro
 abbrev pub written_for : Bool → Option ℕ → List ℕ → List ℕ
 written_for true behind whole = []
 written_for false None whole = whole
-written_for false (Some n) whole = ended whole ++ (cost_line n ++ 10 ∷ [])
+written_for false (Some n) whole = ended whole ++ (section_cost_line n ++ 10 ∷ [])
 
 -- what is written for the line at a place, from 0
 abbrev pub written_at : List (List ℕ × ℕ) → List ℕ → ℕ → List ℕ

@@ -7,7 +7,7 @@ use Rattle.text_lines.specs.Reading.{line_end}
 use Rattle.text_lines.specs.declared.LineKind.{LineKind}
 use Rattle.text_lines.specs.declared.LineKind.TheVariants.{Head}
 use Rattle.config_reader.specs.Statements.{Block, OfInterface, OfRouter, OfOther, block_of}
-use Rattle.config_reader.specs.Sections.{cost_line}
+use Rattle.config_reader.specs.Sections.{section_cost_line}
 use Rattle.config_writer.specs.Rewriting.{is_cost_line}
 use Rattle.config_writer.specs.declared.writer.Writer.{Writer}
 
@@ -39,10 +39,12 @@ abbrev pub cost_after_line : LineKind → List (List ℕ × ℕ) → List (List 
 cost_after_line Head costs heads block = first_cost costs heads block
 cost_after_line _ costs heads block = None
 
+-- the interfaces that have heads behind a line
 abbrev pub heads_after_line : LineKind → List (List ℕ) → Block → List (List ℕ)
 heads_after_line Head heads block = heads_with heads block
 heads_after_line _ heads block = heads
 
+-- whether the block behind a line is of an interface with a new cost
 abbrev pub named_after_line : LineKind → List (List ℕ × ℕ) → Bool → Block → Bool
 named_after_line Head costs named block = is_some (block_cost costs block)
 named_after_line _ costs named block = named
@@ -51,10 +53,10 @@ named_after_line _ costs named block = named
 abbrev pub put_for : Bool → Option ℕ → List ℕ → Bool → List ℕ
 put_for true behind line end = []
 put_for false None line end = line ++ line_end end
-put_for false (Some n) line end = (line ++ 10 ∷ []) ++ (cost_line n ++ 10 ∷ [])
+put_for false (Some n) line end = (line ++ 10 ∷ []) ++ (section_cost_line n ++ 10 ∷ [])
 
 -- a line was opened as a head
-pub record Opens (old new : Writer) (block : Block) (behind : Option ℕ) : Type 0 where
+pub record OpensHead (old new : Writer) (block : Block) (behind : Option ℕ) : Type 0 where
   pub behind_is : behind ≡ first_cost old.costs old.heads block
   pub heads : new.heads ≡ heads_with old.heads block
   pub named : new.in_named_block ≡ is_some (block_cost old.costs block)

@@ -6,8 +6,8 @@ ghost use Rattle.config_writer.specs.Rewriting.{costs_of};
 ghost use Rattle.config_writer.specs.Writing.{look_up};
 
 use cost_base::OutOfMemory;
+use design_problem::CostLine;
 use indexmap::IndexMap;
-use path_rows::CostLine;
 use std::alloc::Global;
 use std::marker::Model;
 

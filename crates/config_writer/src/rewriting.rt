@@ -13,7 +13,7 @@ use crate::new_costs::NewCosts;
 use crate::writer::Writer;
 use config_reader::Names;
 use cost_base::OutOfMemory;
-use path_rows::CostLine;
+use design_problem::CostLine;
 use std::alloc::Global;
 use text_lines::{Line, Lines};
 

@@ -3,8 +3,8 @@ ghost use Rattle.std.specs.Prelude.{◌≡◌, ◌∷◌, ◌++◌, [], false, O
 ghost use Rattle.text_lines.specs.Lines.{words};
 ghost use Rattle.text_lines.specs.Reading.{line_end};
 ghost use Rattle.config_reader.specs.Statements.{block_of};
-ghost use Rattle.config_reader.specs.Sections.{cost_line};
-ghost use Rattle.config_writer.specs.Writing.{Opens, GoesOverLine, put_for};
+ghost use Rattle.config_reader.specs.Sections.{section_cost_line};
+ghost use Rattle.config_writer.specs.Writing.{OpensHead, GoesOverLine, put_for};
 
 use crate::config_lines::{interface_opened, sets_cost};
 use crate::new_costs::NewCosts;
@@ -55,7 +55,7 @@ impl<'a> Writer<'a> {
 
     /// Opens the block of a head. Tells the new cost where this is the first head of a named interface.
     fn open(&mut self, head: &'a [u8]) -> Result<Option<u16>, OutOfMemory>
-        ensures { IfOk result (Opens self.old self.new (block_of (words head.now))) }
+        ensures { IfOk result (OpensHead self.old self.new (block_of (words head.now))) }
     {
         let Some(interface) = interface_opened(head) else {
             self.in_named_block = false;
@@ -97,7 +97,7 @@ fn put_line(out: &mut Vec<u8>, text: &[u8], ended: bool) -> Result<(), OutOfMemo
 
 /// Puts the line ` ip ospf cost N`.
 fn put_cost_line(out: &mut Vec<u8>, cost: u16) -> Result<(), OutOfMemory>
-    ensures { OnOk result (out.new.items ≡ out.old.items ++ (cost_line cost ++ 10 ∷ [])) }
+    ensures { OnOk result (out.new.items ≡ out.old.items ++ (section_cost_line cost ++ 10 ∷ [])) }
 {
     let mut room = [0; 40];
     let length = number_bytes(cost as u128, &mut room);

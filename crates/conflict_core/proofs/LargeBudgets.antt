@@ -1,16 +1,21 @@
--- A budget of about twice as many entries as there are points can't be used up.
+-- Where no tree uses the budget up, the requests are settled; a budget of about twice as many entries as there are points
+-- is used up by none.
 use Rattle.std.proofs.Common.{arith, length}
-use Rattle.path_rows.specs.Rows.{forms_of_rows}
-use Rattle.path_rows.proofs.TreeShapes.{few_entries}
-use Rattle.path_rows.specs.Answers.{whole_box}
+use Rattle.design_problem.specs.Rows.{forms_of_rows}
+use Rattle.design_problem.proofs.TreeShapes.{few_entries}
+use Rattle.design_problem.specs.Answers.{whole_box}
 use Rattle.printed_rows.proofs.CapBoxes.{bounds_box}
-use Rattle.conflict_core.specs.declared.conflict.Conflict.TheVariants.{Fits, Core, Unknown}
-use Rattle.conflict_core.specs.Laws.{LargeBudgetsSettle}
+use Rattle.conflict_core.specs.declared.conflict.Conflict.TheVariants.{Fits, Core, Undecided}
+use Rattle.conflict_core.specs.Laws.{ConflictUnspentIfLarge, ConflictSettlesUnspent}
 
-pub large_settle : LargeBudgetsSettle
-large_settle p top nodes (Fits w) kept enough found = tt
-large_settle p top nodes (Core members rows tree without) kept enough found = tt
-large_settle p top nodes (Unknown members rows tree) kept enough found =
+pub unspent_settle : ConflictSettlesUnspent
+unspent_settle p top nodes (Fits w) cannot found = tt
+unspent_settle p top nodes (Core members rows tree without) cannot found = tt
+unspent_settle p top nodes (Undecided members rows tree) cannot found =
+    absurd (cannot members rows tree found.set found.told.sheet.true_rows found.told.printed.earnest found.undone found.spent)
+
+pub large_suffice : ConflictUnspentIfLarge
+large_suffice p top nodes kept enough members rows tree set true_rows earnest undone spent =
     let few = (few_entries (length p.low) (forms_of_rows p rows) (whole_box p) tree
-    (bounds_box p kept) found.told.printed.earnest.sound).unfinished found.undone in
-    absurd (omega (arith, few, enough, found.spent))
+    (bounds_box p kept) earnest.sound).unfinished undone in
+    absurd (omega (arith, few, enough, spent))

@@ -1,6 +1,6 @@
 -- Sets of requests: fewer requests, the rows of a restricted problem in the whole one, and conflicts that are refuted.
 use Rattle.std.proofs.Common.{◌≡◌, ℕ, zero, suc, ◌+◌, ◌<◌, ◌≤◌, refl, sym, ◌∙◌, ap, subst, inl, inr, List, [], ◌∷◌, ◌++◌, map, length, get_or, arith}
-use Rattle.std.specs.Prelude.{All, Contains, slice_get, slice_index, Option, None, Some}
+use Rattle.std.specs.Prelude.{All, AllPairs, Contains, slice_get, slice_index, Option, None, Some}
 use Rattle.std.specs.List.{remove}
 use Rattle.std.proofs.lemmas.Bool.{cases_lt}
 use Rattle.std.proofs.lemmas.List.{length-map, get_or-map, get_or_default}
@@ -12,15 +12,16 @@ use Rattle.cost_base.specs.Lists.{numbers_from}
 use Rattle.cost_base.proofs.ListLemmas.{get_or-map-numbers_from, get_or-numbers_from, length-map-numbers_from, length-numbers_from, numbers_from-push}
 use Rattle.area_graph.specs.Area.{Area}
 use Rattle.area_graph.specs.Costs.{IsOnlyCheapest, at_costs}
-use Rattle.path_rows.specs.declared.problem.Request.{Request}
-use Rattle.path_rows.specs.declared.form.Row.{Row}
-use Rattle.path_rows.specs.Problems.{DesignProblem, IsProblem, ends_of, no_request, request_at, restricted}
-use Rattle.path_rows.specs.Rows.{IsFit, IsRivalOf, IsRow, LeadsEach, box_of, form_between, form_of_row, forms_of_rows, path_edges}
-use Rattle.path_rows.specs.Boxes.{capped}
-use Rattle.path_rows.specs.Answers.{greatest_bound}
-use Rattle.path_rows.proofs.OpenPlaces.{earnest_tree_sound}
-use Rattle.path_rows.proofs.ProblemTrees.{low_below, tree_leaves_none}
-use Rattle.path_rows.proofs.RestrictedProblems.{restricted_kept}
+use Rattle.design_problem.specs.declared.problem.Request.{Request}
+use Rattle.design_problem.specs.declared.form.Row.{Row}
+use Rattle.design_problem.specs.Problems.{DesignProblem, IsProblem, request_ends, no_request, request_at, restricted}
+use Rattle.design_problem.specs.Rows.{IsFit, IsRivalOf, IsRow, LeadsEach, box_of, form_between, form_of_row, forms_of_rows, path_edges}
+use Rattle.design_problem.specs.Boxes.{capped}
+use Rattle.design_problem.specs.Answers.{greatest_bound}
+use Rattle.design_problem.proofs.OpenPlaces.{earnest_tree_sound}
+use Rattle.design_problem.proofs.ProblemTrees.{low_below, tree_leaves_none}
+use Rattle.design_problem.proofs.RestrictedProblems.{restricted_kept}
+use Rattle.cost_branching.specs.Pools.{Differ}
 use Rattle.conflict_core.specs.declared.deciding.SetTree.{SetTree}
 use Rattle.conflict_core.specs.Conflicts.{IsConflict, IsRequestSet, all_requests}
 use Rattle.conflict_core.specs.Deciding.{IsRefutedSet, whole_row}
@@ -68,7 +69,7 @@ rest_set p members place within set =
 -- costs that are fit for some requests are fit for fewer
 pub fit_fewer : (p : DesignProblem) (members fewer w : List ℕ) → All (Contains members) fewer → IsFit (restricted p members) w → IsFit (restricted p fewer) w
 fit_fewer p members fewer w contained fit =
-    let P : Request → Type 0 = λ r. IsOnlyCheapest p.graph (at_costs w) (ends_of r) r.path.edges in
+    let P : Request → Type 0 = λ r. IsOnlyCheapest p.graph (at_costs w) (request_ends r) r.path.edges in
     record {
       within = fit.within;
       only = λ k d k_in.
@@ -82,7 +83,7 @@ fit_fewer p members fewer w contained fit =
 -- costs that are fit for all requests are fit
 pub fit_all : (p : DesignProblem) (members w : List ℕ) → members ≡ all_requests p → IsFit (restricted p members) w → IsFit p w
 fit_all p members w is fit =
-    let P : Request → Type 0 = λ r. IsOnlyCheapest p.graph (at_costs w) (ends_of r) r.path.edges in
+    let P : Request → Type 0 = λ r. IsOnlyCheapest p.graph (at_costs w) (request_ends r) r.path.edges in
     let whole : IsFit (restricted p (all_requests p)) w = subst (λ (ms : List ℕ). IsFit (restricted p ms) w) is fit in
     record {
       within = fit.within;
@@ -125,6 +126,34 @@ row_known p members row is =
           (slice_get_past (map (request_at p.paths) members) row.request
           (omega (arith, length-map members (request_at p.paths)))) is)
     ]
+
+-- members at different places differ
+member_places : (p : DesignProblem) (members : List ℕ) (i j : ℕ) → IsRequestSet p members → i < length members →
+    j < length members → slice_index members i ≡ slice_index members j → i ≡ j
+member_places p members i j set i_in j_in same =
+    let pairs = AllPairs-from_increasing members set.rising in
+    elim (cases_lt i j) [
+      | inl before ↦ (let rise = pairs i j 0 before j_in in absurd (omega (arith, rise, same)))
+      | inr from ↦ elim (cases_lt j i) [
+        | inl behind ↦ (let rise = pairs j i 0 behind i_in in absurd (omega (arith, rise, same)))
+        | inr until ↦ omega (arith, from, until)
+      ]
+    ]
+
+-- rows that differ do so with the whole problem's numbers
+pub whole_differ : (p : DesignProblem) (members : List ℕ) (rows : List Row) → IsRequestSet p members →
+    All (IsRow (restricted p members)) rows → AllPairs Differ rows → AllPairs Differ (map (whole_row members) rows)
+whole_differ p members rows set true_rows once i j d before j_in =
+    let count = length-map rows (whole_row members) in
+    let j_known : j < length rows = omega arith in
+    let i_known : i < length rows = omega arith in
+    let a = get_or rows i d in
+    let b = get_or rows j d in
+    let known = row_known p members a (true_rows i d i_known) in
+    let other = row_known p members b (true_rows j d j_known) in
+    let apart : Differ (whole_row members a) (whole_row members b) =
+    λ same edges. once i j d before j_known (member_places p members a.request b.request set known other same) edges in
+    rw (get_or-map (whole_row members) rows i d d i_known, get_or-map (whole_row members) rows j d d j_known) apart
 
 -- it is the request of the member's number in the whole problem
 pub same_request : (p : DesignProblem) (members : List ℕ) (i : ℕ) → All (λ m. m < length p.paths) members →

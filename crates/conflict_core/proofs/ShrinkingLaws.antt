@@ -5,13 +5,13 @@ use Rattle.std.specs.List.{remove}
 use Rattle.std.proofs.lemmas.Bool.{cases_lt}
 use Rattle.std.proofs.lemmas.List.{get_or_append_left, get_or-append-add}
 use Rattle.std.proofs.lemmas.List.Edits.{length-remove}
-use Rattle.path_rows.specs.Problems.{DesignProblem, IsProblem, restricted}
-use Rattle.path_rows.specs.Rows.{IsFit}
+use Rattle.design_problem.specs.Problems.{DesignProblem, IsProblem, restricted}
+use Rattle.design_problem.specs.Rows.{IsFit}
 use Rattle.conflict_core.specs.declared.deciding.SetTree.{SetTree}
 use Rattle.conflict_core.specs.declared.shrinking.Shrunk.{Shrunk}
 use Rattle.conflict_core.specs.declared.telling.Told.{Told}
-use Rattle.conflict_core.specs.Conflicts.{IsConflictLessOne, IsCore, IsTreeOfSet, IsUnknown, all_requests}
-use Rattle.conflict_core.specs.Deciding.{IsRefutedSet, IsShrunk, IsSpentSet, IsTold}
+use Rattle.conflict_core.specs.Conflicts.{IsConflictLessOne, IsCore, IsTreeOfSet, IsUndecidedConflict, all_requests}
+use Rattle.conflict_core.specs.Deciding.{IsRefutedSet, IsShrunk, IsUndecidedSet, IsSetTreeTold}
 use Rattle.conflict_core.proofs.Sets.{fit_fewer, refuted_conflict, rest_contained, taken_out}
 
 -- no member was tried yet
@@ -99,7 +99,7 @@ less_one p top nodes s members place kept was within same = record {
 
 -- a least conflict: for each member there are costs
 pub core_found : (p : DesignProblem) (top nodes : ℕ) (s : Shrunk) (told : Told) → IsProblem p → IsShrunk p top nodes s →
-    length s.conflict.members.items ≤ length s.without.items → IsTold p top nodes s.conflict told →
+    length s.conflict.members.items ≤ length s.without.items → IsSetTreeTold p top nodes s.conflict told →
     IsCore p top nodes told.members told.rows told.tree s.without.items
 core_found p top nodes s told kept was ended is =
     let members = s.conflict.members.items in
@@ -118,11 +118,11 @@ core_found p top nodes s told kept was ended is =
     })
 
 -- the budget was used up
-pub unknown_found : (p : DesignProblem) (top nodes : ℕ) (t : SetTree) (told : Told) → IsSpentSet p top nodes t →
-    (t.members.items ≡ all_requests p) ⊎ IsConflictLessOne p t.members.items → IsTold p top nodes t told →
-    IsUnknown p top nodes told.members told.rows told.tree
+pub unknown_found : (p : DesignProblem) (top nodes : ℕ) (t : SetTree) (told : Told) → IsUndecidedSet p top nodes t →
+    (t.members.items ≡ all_requests p) ⊎ IsConflictLessOne p t.members.items → IsSetTreeTold p top nodes t told →
+    IsUndecidedConflict p top nodes told.members told.rows told.tree
 unknown_found p top nodes t told spent tried is =
-    subst (λ (ms : List ℕ). IsUnknown p top nodes ms told.rows told.tree) (sym is.members)
+    subst (λ (ms : List ℕ). IsUndecidedConflict p top nodes ms told.rows told.tree) (sym is.members)
     (record {
       set = spent.tree.set;
       tried = tried;

@@ -3,25 +3,27 @@ use Rattle.std.proofs.Common.{◌≡◌, ℕ, refl, sym, ◌∙◌, ap, subst, L
 use Rattle.std.specs.Prelude.{All, Contains, slice_index}
 use Rattle.std.proofs.lemmas.List.{get_or_default}
 use Rattle.std.proofs.lemmas.List.Elements.{All-map}
-use Rattle.path_rows.specs.declared.form.Form.{Form}
-use Rattle.path_rows.specs.declared.form.Row.{Row}
-use Rattle.path_rows.specs.declared.tree.Entry.{Entry}
-use Rattle.path_rows.specs.declared.tree.Entry.TheVariants.{Undone}
-use Rattle.path_rows.specs.Problems.{DesignProblem, restricted}
-use Rattle.path_rows.specs.Rows.{IsRow, LeadsEach, form_of_row}
-use Rattle.path_rows.specs.Trees.{entry_count}
-use Rattle.path_rows.specs.Earnest.{IsFormOfRow}
-use Rattle.path_rows.specs.Answers.{whole_box}
+use Rattle.design_problem.specs.declared.form.Form.{Form}
+use Rattle.design_problem.specs.declared.form.Row.{Row}
+use Rattle.design_problem.specs.declared.tree.Entry.{Entry}
+use Rattle.design_problem.specs.declared.tree.Entry.TheVariants.{Undone}
+use Rattle.design_problem.specs.Problems.{DesignProblem, restricted}
+use Rattle.design_problem.specs.Rows.{IsRow, LeadsEach, form_of_row}
+use Rattle.design_problem.specs.Trees.{entry_count}
+use Rattle.design_problem.specs.Earnest.{IsFormOfRow}
+use Rattle.design_problem.specs.Answers.{whole_box}
 use Rattle.form_search.specs.Finds.{IsSearchTree}
-use Rattle.printed_rows.specs.NamedRows.{NamesBelow, is_named}
-use Rattle.printed_rows.specs.NewNumbers.{IsPrinted, new_number}
+use Rattle.printed_rows.specs.NamedRows.{NamesBelow, is_row_named}
+use Rattle.printed_rows.specs.NewNumbers.{IsTreePrinted, new_number}
 use Rattle.printed_rows.proofs.RenumberedTrees.{count_kept, undone_kept}
-use Rattle.printed_rows.proofs.TreeCopies.{IsCopy, all_printed, copy_closed, copy_names, copy_printed, copy_short, printed_copy, search_names}
+use Rattle.printed_rows.proofs.TreeCopies.{IsCopy, all_printed, copy_closed, copy_printed, copy_short, printed_copy, search_names}
+use Rattle.printed_rows.proofs.SheetLaws.{copy_sheet}
+use Rattle.cost_branching.specs.Pools.{Differ}
 use Rattle.conflict_core.specs.declared.deciding.SetTree.{SetTree}
 use Rattle.conflict_core.specs.declared.telling.Told.{Told}
 use Rattle.conflict_core.specs.Conflicts.{IsTreeOfSet}
-use Rattle.conflict_core.specs.Deciding.{IsSetTree, IsTold, whole_row}
-use Rattle.conflict_core.proofs.Sets.{row_known, whole_form, whole_forms, whole_is_row}
+use Rattle.conflict_core.specs.Deciding.{IsSetTree, IsSetTreeTold, whole_row}
+use Rattle.conflict_core.proofs.Sets.{row_known, whole_differ, whole_form, whole_forms, whole_is_row}
 
 -- the tree over the forms of the whole problem's rows
 pub search_tree : (p : DesignProblem) (top nodes : ℕ) (t : SetTree) → IsSetTree p top nodes t →
@@ -42,13 +44,13 @@ tree_names p top nodes t rows is same =
 
 -- what is told: the printed rows, and the printed tree
 tree_of_set : (p : DesignProblem) (top nodes : ℕ) (t : SetTree) (rows : List Row) (tree : List Entry) →
-    IsSetTree p top nodes t → IsPrinted (map (whole_row t.members.items) t.pool.rows) t.tree rows tree →
+    IsSetTree p top nodes t → IsTreePrinted (map (whole_row t.members.items) t.pool.rows) t.tree rows tree →
     IsTreeOfSet p top nodes t.members.items rows tree
 tree_of_set p top nodes t rows tree is sheet =
     let members = t.members.items in
     let q : DesignProblem = restricted p members in
     let pool = t.pool.rows in
-    let named = is_named t.tree in
+    let named = is_row_named t.tree in
     let whole = map (whole_row members) pool in
     let copy : IsCopy named whole rows t.tree tree = printed_copy whole rows t.tree tree sheet (tree_names p top nodes t whole is refl) in
     let IsMember : Row → Type 0 = λ row. Contains members row.request in
@@ -71,22 +73,21 @@ tree_of_set p top nodes t rows tree is sheet =
     let within = row_known p members row (is.is_pool.rows k d k_in) in
     (row.request, within, get_or_default members row.request (slice_index members row.request) 0 within)) in
     record {
-      true_rows = all_printed (IsRow p) named whole rows copy.kept true_rows;
+      sheet = copy_sheet (IsRow p) Differ named whole rows t.tree tree copy (λ row is. is) true_rows
+          (whole_differ p members pool is.set is.is_pool.rows is.is_pool.once);
       of_members = all_printed IsMember named whole rows copy.kept of_members;
       printed = copy_printed (LeadsEach q) (IsFormOfRow q) top nodes (form_of_row p) (whole_box p) named whole rows t.tree tree copy true_forms search is.few;
-      names = copy_names named whole rows t.tree tree copy;
-      sheet = record { pool = whole; searched = t.tree; printed = sheet };
       few = copy.kept.few;
       short = copy_short (length p.low) named whole rows t.tree tree copy search.short;
     }
 
 pub told_of_set : (p : DesignProblem) (top nodes : ℕ) (t : SetTree) (old : List Row) (told : Told) →
     IsSetTree p top nodes t → old ≡ map (whole_row t.members.items) t.pool.rows →
-    IsPrinted old t.tree told.rows told.tree → told.members ≡ t.members.items → IsTold p top nodes t told
+    IsTreePrinted old t.tree told.rows told.tree → told.members ≡ t.members.items → IsSetTreeTold p top nodes t told
 told_of_set p top nodes t old told is same printed same_members =
     let whole = map (whole_row t.members.items) t.pool.rows in
-    let named = is_named t.tree in
-    let sheet : IsPrinted whole t.tree told.rows told.tree = subst (λ (rs : List Row). IsPrinted rs t.tree told.rows told.tree) same printed in
+    let named = is_row_named t.tree in
+    let sheet : IsTreePrinted whole t.tree told.rows told.tree = subst (λ (rs : List Row). IsTreePrinted rs t.tree told.rows told.tree) same printed in
     let copy : IsCopy named whole told.rows t.tree told.tree = printed_copy whole told.rows t.tree told.tree sheet (tree_names p top nodes t whole is refl) in
     record {
       members = same_members;

@@ -3,27 +3,28 @@ use Rattle.std.specs.Prelude.{◌≡◌, ◌⊎◌, ℕ, ◌^◌, ◌<◌, List,
 use Rattle.std.specs.List.{remove}
 use Rattle.std.specs.List.Sorted.{IsStrictlyIncreasing}
 use Rattle.cost_base.specs.Lists.{numbers_from}
-use Rattle.path_rows.specs.declared.form.Row.{Row}
-use Rattle.path_rows.specs.declared.tree.Entry.{Entry}
-use Rattle.path_rows.specs.declared.tree.Entry.TheVariants.{Undone}
-use Rattle.path_rows.specs.Problems.{DesignProblem, restricted}
-use Rattle.path_rows.specs.Rows.{IsFit, IsRow, LeadsEach, forms_of_rows}
-use Rattle.path_rows.specs.Trees.{IsClosed, entry_count}
-use Rattle.path_rows.specs.Earnest.{IsFormOfRow}
-use Rattle.path_rows.specs.Answers.{whole_box}
-use Rattle.path_rows.specs.ProblemLaws.{HasNoFit}
+use Rattle.design_problem.specs.declared.form.Row.{Row}
+use Rattle.design_problem.specs.declared.tree.Entry.{Entry}
+use Rattle.design_problem.specs.declared.tree.Entry.TheVariants.{Undone}
+use Rattle.design_problem.specs.Problems.{DesignProblem, restricted}
+use Rattle.design_problem.specs.Rows.{IsFit, IsRow, LeadsEach, forms_of_rows}
+use Rattle.design_problem.specs.Trees.{IsClosed, entry_count}
+use Rattle.design_problem.specs.Earnest.{IsFormOfRow}
+use Rattle.design_problem.specs.Answers.{whole_box}
+use Rattle.design_problem.specs.ProblemLaws.{HasNoFit}
 use Rattle.form_search.specs.Finds.{IsShort}
-use Rattle.printed_rows.specs.NamedRows.{NamesBelow}
-use Rattle.printed_rows.specs.NewNumbers.{IsPrinted}
 use Rattle.printed_rows.specs.PrintedTrees.{IsPrintedOver}
+use Rattle.printed_rows.specs.Sheets.{IsSheet}
+use Rattle.cost_branching.specs.Pools.{Differ}
 use Rattle.conflict_core.specs.declared.conflict.Conflict.{Conflict}
-use Rattle.conflict_core.specs.declared.conflict.Conflict.TheVariants.{Fits, Core, Unknown}
+use Rattle.conflict_core.specs.declared.conflict.Conflict.TheVariants.{Fits, Core, Undecided}
 
 -- numbers of requests, in rising order
 pub record IsRequestSet (p : DesignProblem) (members : List ℕ) : Type 0 where
   pub rising : IsStrictlyIncreasing members
   pub known : All (λ m. m < length p.paths) members
 
+-- the numbers of all requests
 abbrev pub all_requests : DesignProblem → List ℕ
 all_requests p = numbers_from 0 (length p.paths)
 
@@ -37,21 +38,13 @@ pub record IsLeastConflict (p : DesignProblem) (members : List ℕ) : Type 0 whe
   pub conflict : IsConflict p members
   pub least : (k : ℕ) → k < length members → (w : List ℕ) × IsFit (restricted p (remove members k)) w
 
--- the rows are those of a pool that its tree names, in their order, and the tree names them by their new numbers
-pub record IsSheet (rows : List Row) (tree : List Entry) : Type 0 where
-  pub pool : List Row
-  pub searched : List Entry
-  pub printed : IsPrinted pool searched rows tree
-
--- Rows and a tree that are told of a set of requests. The rows are rows of the whole problem, each of a member; the tree
--- stands over the box at the greatest upper bound, is earnest for the restricted problem, and names just these rows. Each of
--- its entries fits the text, and a Refute names at most one row more than there are variables.
+-- Rows and a tree that are told of a set of requests: a sheet of rows of the whole problem, each of a member. The tree
+-- stands over the box at the greatest upper bound, and is earnest for the restricted problem. Each of its entries fits the
+-- text, and a Refute names at most one row more than there are variables.
 pub record IsTreeOfSet (p : DesignProblem) (top nodes : ℕ) (members : List ℕ) (rows : List Row) (tree : List Entry) : Type 0 where
-  pub true_rows : All (IsRow p) rows
+  pub sheet : IsSheet (IsRow p) Differ 0 rows tree
   pub of_members : All (λ row. Contains members row.request) rows
   pub printed : IsPrintedOver (LeadsEach (restricted p members)) (IsFormOfRow (restricted p members)) top nodes (forms_of_rows p rows) (whole_box p) tree
-  pub names : All (NamesBelow (length rows)) tree
-  pub sheet : IsSheet rows tree
   pub few : length rows < 2 ^ 64
   pub short : All (IsShort (length p.low)) tree
 
@@ -72,8 +65,8 @@ pub record IsConflictLessOne (p : DesignProblem) (members : List ℕ) : Type 0 w
   pub known : place < length larger
   pub same : members ≡ remove larger place
 
--- the budget was used up at this set: all requests, or a conflict without one of its members
-pub record IsUnknown (p : DesignProblem) (top nodes : ℕ) (members : List ℕ) (rows : List Row) (tree : List Entry) : Type 0 where
+-- undecided: the budget was used up at this set, which is all requests, or a conflict without one of its members
+pub record IsUndecidedConflict (p : DesignProblem) (top nodes : ℕ) (members : List ℕ) (rows : List Row) (tree : List Entry) : Type 0 where
   pub set : IsRequestSet p members
   pub tried : (members ≡ all_requests p) ⊎ IsConflictLessOne p members
   pub told : IsTreeOfSet p top nodes members rows tree
@@ -84,4 +77,4 @@ pub record IsUnknown (p : DesignProblem) (top nodes : ℕ) (members : List ℕ) 
 abbrev pub IsConflictFound : DesignProblem → ℕ → ℕ → Conflict → Type 0
 IsConflictFound p top nodes (Fits costs) = IsFit p costs
 IsConflictFound p top nodes (Core members rows tree without) = IsCore p top nodes members rows tree without
-IsConflictFound p top nodes (Unknown members rows tree) = IsUnknown p top nodes members rows tree
+IsConflictFound p top nodes (Undecided members rows tree) = IsUndecidedConflict p top nodes members rows tree

@@ -1,17 +1,17 @@
 -- What is decided of one set of requests, and of one after the other. No public clause cites it.
 use Rattle.std.specs.Prelude.{◌≡◌, ℕ, ◌+◌, ◌<◌, ◌≤◌, List, [], length, slice_index, slice_index_or, Contains}
 use Rattle.std.specs.List.{remove}
-use Rattle.path_rows.specs.declared.form.Row.{Row}
-use Rattle.path_rows.specs.declared.tree.Entry.TheVariants.{Undone}
-use Rattle.path_rows.specs.Problems.{DesignProblem, restricted}
-use Rattle.path_rows.specs.Rows.{IsFit}
-use Rattle.path_rows.specs.Trees.{IsClosed, entry_count}
-use Rattle.path_rows.specs.Answers.{greatest_bound}
-use Rattle.cost_branching.specs.Pools.{IsPool}
+use Rattle.design_problem.specs.declared.form.Row.{Row}
+use Rattle.design_problem.specs.declared.tree.Entry.TheVariants.{Undone}
+use Rattle.design_problem.specs.Problems.{DesignProblem, restricted}
+use Rattle.design_problem.specs.Rows.{IsFit}
+use Rattle.design_problem.specs.Trees.{IsClosed, entry_count}
+use Rattle.design_problem.specs.Answers.{greatest_bound}
+use Rattle.cost_branching.specs.Pools.{IsRowPool}
 use Rattle.cost_branching.specs.Decisions.{IsTreeAt}
 use Rattle.conflict_core.specs.declared.deciding.SetTree.{SetTree}
 use Rattle.conflict_core.specs.declared.deciding.Decided.{Decided}
-use Rattle.conflict_core.specs.declared.deciding.Decided.TheVariants.{Costs, Refuted, Spent}
+use Rattle.conflict_core.specs.declared.deciding.Decided.TheVariants.{Costs, Refuted, Undecided}
 use Rattle.conflict_core.specs.declared.shrinking.Shrunk.{Shrunk}
 use Rattle.conflict_core.specs.declared.shrinking.Tried.{Tried}
 use Rattle.conflict_core.specs.declared.shrinking.Tried.TheVariants.{On, Stuck}
@@ -21,25 +21,26 @@ use Rattle.conflict_core.specs.Conflicts.{IsConflictLessOne, IsRequestSet, IsTre
 -- a tree of the set's restricted problem, by the rows of its pool
 pub record IsSetTree (p : DesignProblem) (top nodes : ℕ) (t : SetTree) : Type 0 where
   pub set : IsRequestSet p t.members.items
-  pub is_pool : IsPool (restricted p t.members.items) t.pool
+  pub is_pool : IsRowPool (restricted p t.members.items) t.pool
   pub tree : IsTreeAt (restricted p t.members.items) top (greatest_bound p) t.pool t.tree
   pub few : entry_count t.tree ≤ nodes
 
--- a closed one
+-- a set's closed tree
 pub record IsRefutedSet (p : DesignProblem) (top nodes : ℕ) (t : SetTree) : Type 0 where
   pub tree : IsSetTree p top nodes t
   pub closed : IsClosed t.tree
 
--- one with an Undone and exactly N entries
-pub record IsSpentSet (p : DesignProblem) (top nodes : ℕ) (t : SetTree) : Type 0 where
+-- a set's tree that used up the budget: it has an Undone and exactly N entries
+pub record IsUndecidedSet (p : DesignProblem) (top nodes : ℕ) (t : SetTree) : Type 0 where
   pub tree : IsSetTree p top nodes t
   pub undone : Contains t.tree Undone
   pub spent : entry_count t.tree ≡ nodes
 
+-- what is decided of a set: fit costs of its restricted problem, a closed tree, or a tree of a used-up budget
 abbrev pub IsSetDecided : DesignProblem → ℕ → ℕ → List ℕ → Decided → Type 0
 IsSetDecided p top nodes members (Costs w) = IsFit (restricted p members) w
 IsSetDecided p top nodes members (Refuted t) = (t.members.items ≡ members) × IsRefutedSet p top nodes t
-IsSetDecided p top nodes members (Spent t) = (t.members.items ≡ members) × IsSpentSet p top nodes t
+IsSetDecided p top nodes members (Undecided t) = (t.members.items ≡ members) × IsUndecidedSet p top nodes t
 
 -- a conflict, and costs for each of its first members that are fit without it
 pub record IsShrunk (p : DesignProblem) (top nodes : ℕ) (s : Shrunk) : Type 0 where
@@ -49,17 +50,17 @@ pub record IsShrunk (p : DesignProblem) (top nodes : ℕ) (s : Shrunk) : Type 0 
 
 -- The next member was left out: it stays out, or there are costs without it, so fewer members are left to try; or the
 -- budget was used up.
-abbrev pub IsTurned : DesignProblem → ℕ → ℕ → Shrunk → Tried → Type 0
-IsTurned p top nodes old (On new) =
+abbrev pub IsMemberTried : DesignProblem → ℕ → ℕ → Shrunk → Tried → Type 0
+IsMemberTried p top nodes old (On new) =
     IsShrunk p top nodes new × (length new.conflict.members.items + length old.without.items < length old.conflict.members.items + length new.without.items)
-IsTurned p top nodes old (Stuck t) = IsSpentSet p top nodes t × IsConflictLessOne p t.members.items
+IsMemberTried p top nodes old (Stuck t) = IsUndecidedSet p top nodes t × IsConflictLessOne p t.members.items
 
 -- the row with its request's number in the whole problem
 abbrev pub whole_row : List ℕ → Row → Row
 whole_row members row = record { request = slice_index members row.request; rival = row.rival }
 
 -- what is told of a set's tree: the rows and the tree as they are printed, which is closed or not as it was
-pub record IsTold (p : DesignProblem) (top nodes : ℕ) (t : SetTree) (told : Told) : Type 0 where
+pub record IsSetTreeTold (p : DesignProblem) (top nodes : ℕ) (t : SetTree) (told : Told) : Type 0 where
   pub members : told.members ≡ t.members.items
   pub of_set : IsTreeOfSet p top nodes told.members told.rows told.tree
   pub closed : IsClosed t.tree → IsClosed told.tree

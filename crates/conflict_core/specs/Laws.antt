@@ -1,19 +1,39 @@
 -- When the budget can't be used up.
-use Rattle.std.specs.Prelude.{ℕ, ◌+◌, ◌*◌, ◌≤◌}
-use Rattle.path_rows.specs.Problems.{DesignProblem, IsProblem}
-use Rattle.path_rows.specs.Boxes.{points}
-use Rattle.path_rows.specs.Answers.{whole_box}
+use Rattle.std.specs.Prelude.{◌≡◌, ℕ, ◌+◌, ◌*◌, ◌≤◌, List, All, Contains}
+use Rattle.design_problem.specs.declared.form.Row.{Row}
+use Rattle.design_problem.specs.declared.tree.Entry.{Entry}
+use Rattle.design_problem.specs.declared.tree.Entry.TheVariants.{Undone}
+use Rattle.design_problem.specs.Problems.{DesignProblem, IsProblem, restricted}
+use Rattle.design_problem.specs.Boxes.{points}
+use Rattle.design_problem.specs.Rows.{IsRow, LeadsEach, forms_of_rows}
+use Rattle.design_problem.specs.Trees.{entry_count}
+use Rattle.design_problem.specs.Earnest.{IsEarnestOver, IsFormOfRow}
+use Rattle.design_problem.specs.Answers.{whole_box}
 use Rattle.conflict_core.specs.declared.conflict.Conflict.{Conflict}
-use Rattle.conflict_core.specs.declared.conflict.Conflict.TheVariants.{Fits, Core, Unknown}
-use Rattle.conflict_core.specs.Conflicts.{IsConflictFound}
+use Rattle.conflict_core.specs.declared.conflict.Conflict.TheVariants.{Fits, Core, Undecided}
+use Rattle.conflict_core.specs.Conflicts.{IsConflictFound, IsRequestSet}
 
 -- fit costs, or a least conflict
-abbrev pub IsSettled : Conflict → Type 0
-IsSettled (Fits w) = Unit {0}
-IsSettled (Core members rows tree without) = Unit {0}
-IsSettled (Unknown members rows tree) = ⊥
+abbrev pub IsConflictSettled : Conflict → Type 0
+IsConflictSettled (Fits w) = Unit {0}
+IsConflictSettled (Core members rows tree without) = Unit {0}
+IsConflictSettled (Undecided members rows tree) = ⊥
 
-abbrev pub LargeBudgetsSettle : Type 0
-LargeBudgetsSettle =
-    (p : DesignProblem) (top nodes : ℕ) (conflict : Conflict) → IsProblem p → 2 * points (whole_box p) ≤ nodes + 1 →
-    IsConflictFound p top nodes conflict → IsSettled conflict
+-- The budget can't be used up: for no set of requests has an earnest tree over the box at the greatest upper bound an Undone
+-- and just as many entries as the budget.
+abbrev pub CannotSpendOnSets : DesignProblem → ℕ → ℕ → Type 0
+CannotSpendOnSets p top nodes =
+    (members : List ℕ) (rows : List Row) (tree : List Entry) → IsRequestSet p members → All (IsRow p) rows →
+    IsEarnestOver (LeadsEach (restricted p members)) (IsFormOfRow (restricted p members)) top (forms_of_rows p rows) (whole_box p) tree →
+    Contains tree Undone → entry_count tree ≡ nodes → ⊥
+
+-- where it can't, the requests are settled
+abbrev pub ConflictSettlesUnspent : Type 0
+ConflictSettlesUnspent =
+    (p : DesignProblem) (top nodes : ℕ) (conflict : Conflict) → CannotSpendOnSets p top nodes →
+    IsConflictFound p top nodes conflict → IsConflictSettled conflict
+
+-- a budget of twice as many entries as the box at the greatest upper bound has points, less one, can't be used up
+abbrev pub ConflictUnspentIfLarge : Type 0
+ConflictUnspentIfLarge =
+    (p : DesignProblem) (top nodes : ℕ) → IsProblem p → 2 * points (whole_box p) ≤ nodes + 1 → CannotSpendOnSets p top nodes

@@ -1,6 +1,6 @@
 //! What is found of the conflicts among requests.
 use cost_base::Listed;
-use path_rows::{CostList, Row, Tree};
+use design_problem::{CostList, Row, Tree};
 
 /// What is found of the conflicts among a problem's requests. Numbers of requests are the whole problem's, in rows too.
 #[derive(Drop)]
@@ -22,7 +22,7 @@ pub enum Conflict {
         without: Listed<CostList>,
     },
     /// The node budget was used up.
-    Unknown {
+    Undecided {
         /// The requests at which it was used up, in rising order: all of them, or a conflict without one of its members.
         members: Listed<u32>,
         /// The rows that the tree uses.

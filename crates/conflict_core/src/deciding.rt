@@ -4,10 +4,10 @@ ghost use Rattle.form_search.specs.Advised.{AreCalled};
 ghost use Rattle.conflict_core.specs.Conflicts.{IsRequestSet};
 ghost use Rattle.conflict_core.specs.Deciding.{IsSetDecided};
 
-use advisor_box::Advisor;
 use cost_base::OutOfMemory;
 use cost_branching::{Found, Pool, decide, keeps_conditions};
-use path_rows::{CostList, Problem, Tree, greatest_of};
+use cut_advisors::Advisor;
+use design_problem::{CostList, Problem, Tree, greatest_of};
 use std::alloc::Global;
 use wide_fraction::Limits;
 
@@ -28,7 +28,7 @@ pub(crate) enum Decided {
     /// The requests are a conflict.
     Refuted(SetTree),
     /// The node budget was used up.
-    Spent(SetTree),
+    Undecided(SetTree),
 }
 
 /// Decides a set of requests at the greatest upper bound, with a pool of its own.
@@ -54,7 +54,7 @@ pub(crate) fn decide_set(
             pool,
             tree,
         })),
-        Found::Spent(tree) => Ok(Decided::Spent(SetTree {
+        Found::Undecided(tree) => Ok(Decided::Undecided(SetTree {
             members,
             pool,
             tree,

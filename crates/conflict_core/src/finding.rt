@@ -2,32 +2,32 @@
 ghost use Rattle.std.specs.Prelude.{◌≡◌, ◌⊎◌, ℕ, ◌≤◌, length, IfOk};
 ghost use Rattle.form_search.specs.Advised.{AreCalled};
 ghost use Rattle.conflict_core.specs.Conflicts.{IsConflictFound, IsConflictLessOne, all_requests};
-ghost use Rattle.conflict_core.specs.Deciding.{IsRefutedSet, IsShrunk, IsSpentSet};
+ghost use Rattle.conflict_core.specs.Deciding.{IsRefutedSet, IsShrunk, IsUndecidedSet};
 
 use crate::conflict::Conflict;
 use crate::deciding::{Decided, SetTree, decide_set};
 use crate::members::all_requests;
 use crate::shrinking::{Shrunk, Tried, leave_out};
 use crate::telling::{Told, tell};
-use advisor_box::Advisor;
 use cost_base::{Listed, OutOfMemory};
 use cost_branching::keeps_conditions;
-use path_rows::Problem;
+use cut_advisors::Advisor;
+use design_problem::Problem;
 use std::alloc::Global;
 use wide_fraction::Limits;
 
 /// That the node budget was used up at a set.
 fn unknown(alloc: Global, problem: &Problem, set: SetTree) -> Result<Conflict, OutOfMemory>
-    requires spent { (top : ℕ) × (nodes : ℕ) × IsSpentSet problem.now top nodes set }
+    requires spent { (top : ℕ) × (nodes : ℕ) × IsUndecidedSet problem.now top nodes set }
     requires tried { (set.members.items ≡ all_requests problem.now) ⊎ IsConflictLessOne problem.now set.members.items }
-    ensures { (top nodes : ℕ) → IsSpentSet problem.now top nodes set → IfOk result (IsConflictFound problem.now top nodes) }
+    ensures { (top nodes : ℕ) → IsUndecidedSet problem.now top nodes set → IfOk result (IsConflictFound problem.now top nodes) }
 {
     let Told {
         members,
         rows,
         tree,
     } = tell(alloc, problem, set)?;
-    Ok(Conflict::Unknown {
+    Ok(Conflict::Undecided {
         members,
         rows,
         tree,
@@ -104,6 +104,6 @@ pub fn find_conflict(
     match decide_set(alloc, problem, all, limits, advisors)? {
         Decided::Costs(costs) => Ok(Conflict::Fits { costs }),
         Decided::Refuted(conflict) => shrink(alloc, problem, limits, conflict, advisors),
-        Decided::Spent(set) => unknown(alloc, problem, set),
+        Decided::Undecided(set) => unknown(alloc, problem, set),
     }
 }

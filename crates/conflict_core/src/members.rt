@@ -4,7 +4,7 @@ ghost use Rattle.std.specs.List.{remove};
 ghost use Rattle.conflict_core.specs.Conflicts.{all_requests};
 
 use cost_base::OutOfMemory;
-use path_rows::Problem;
+use design_problem::Problem;
 use std::alloc::Global;
 
 /// The numbers of all requests of a problem, in rising order.

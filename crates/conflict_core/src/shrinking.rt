@@ -2,14 +2,14 @@
 ghost use Rattle.std.specs.Prelude.{◌≡◌, ◌<◌, ◌++◌, ◌∷◌, [], length, IfOk};
 ghost use Rattle.std.specs.List.{remove};
 ghost use Rattle.form_search.specs.Advised.{AreCalled};
-ghost use Rattle.conflict_core.specs.Deciding.{IsShrunk, IsTurned};
+ghost use Rattle.conflict_core.specs.Deciding.{IsShrunk, IsMemberTried};
 
 use crate::deciding::{Decided, SetTree, decide_set};
 use crate::members::without_one;
-use advisor_box::Advisor;
 use cost_base::OutOfMemory;
 use cost_branching::keeps_conditions;
-use path_rows::{CostList, Problem};
+use cut_advisors::Advisor;
+use design_problem::{CostList, Problem};
 use std::alloc::Global;
 use wide_fraction::Limits;
 
@@ -77,7 +77,7 @@ pub(crate) fn leave_out(
 ) -> Result<Tried, OutOfMemory>
     requires shrunk { IsShrunk problem.now limits.now.top limits.now.nodes shrunk }
     requires left { length shrunk.without.items < length shrunk.conflict.members.items }
-    ensures turned { IfOk result (IsTurned problem.now limits.now.top limits.now.nodes shrunk) }
+    ensures turned { IfOk result (IsMemberTried problem.now limits.now.top limits.now.nodes shrunk) }
     ensures advisors { AreCalled ⟦<dyn Advisor as Advisor>⟧ (λ b. b.vtable) (λ b. state b) advisors.old.items advisors.new.items }
 {
     keeps_conditions(problem);
@@ -85,6 +85,6 @@ pub(crate) fn leave_out(
     match decide_set(alloc, problem, others, limits, advisors)? {
         Decided::Costs(costs) => Ok(Tried::On(shrunk.with_costs(costs)?)),
         Decided::Refuted(conflict) => Ok(Tried::On(shrunk.with_conflict(conflict))),
-        Decided::Spent(set) => Ok(Tried::Stuck(set)),
+        Decided::Undecided(set) => Ok(Tried::Stuck(set)),
     }
 }

@@ -1,11 +1,11 @@
 //! What is told of a set of requests: the rows and the tree as they are printed.
 ghost use Rattle.std.specs.Prelude.{◌≡◌, ℕ, ◌<◌, length, map, slice_index, All, IfOk};
-ghost use Rattle.conflict_core.specs.Deciding.{IsSetTree, IsTold, whole_row};
+ghost use Rattle.conflict_core.specs.Deciding.{IsSetTree, IsSetTreeTold, whole_row};
 
 use crate::deciding::SetTree;
 use cost_base::{Listed, OutOfMemory};
 use cost_branching::keeps_conditions;
-use path_rows::{Problem, Row, Tree};
+use design_problem::{Problem, Row, Tree};
 use printed_rows::{PrintedTree, printed};
 use std::alloc::Global;
 
@@ -43,7 +43,7 @@ fn whole_rows(alloc: Global, rows: Vec<Row>, members: &[u32]) -> Result<Vec<Row>
 /// What is told of a set's tree: the rows that it names, and the tree with their new numbers.
 pub(crate) fn tell(alloc: Global, problem: &Problem, set: SetTree) -> Result<Told, OutOfMemory>
     requires { (top : ℕ) × (nodes : ℕ) × IsSetTree problem.now top nodes set }
-    ensures { (top nodes : ℕ) → IsSetTree problem.now top nodes set → IfOk result (IsTold problem.now top nodes set) }
+    ensures { (top nodes : ℕ) → IsSetTree problem.now top nodes set → IfOk result (IsSetTreeTold problem.now top nodes set) }
 {
     keeps_conditions(problem);
     let SetTree {

@@ -17,5 +17,5 @@ abbrev pub sure_file : List (List ℕ × List ℕ) → List ℕ → Option (List
 sure_file files name = Some (or_empty (first_file files name))
 
 -- how often a name stands in a list of names
-abbrev pub times : List (List ℕ) → List ℕ → ℕ
-times names name = count_by (λ other. bytes_eq other name) names
+abbrev pub count_of_name : List (List ℕ) → List ℕ → ℕ
+count_of_name names name = count_by (λ other. bytes_eq other name) names

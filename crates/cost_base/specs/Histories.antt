@@ -2,7 +2,7 @@
 use Rattle.std.specs.Prelude.{◌≡◌, ℕ, ◌≤◌, ◌<◌, List, [], ◌∷◌, ◌++◌, take, length, Option, Result, Ok, Err}
 use Rattle.cost_base.specs.declared.ShelfStop.{ShelfStop}
 use Rattle.cost_base.specs.declared.ShelfStop.TheVariants.{Failed, TooLong, OutOfMemory}
-use Rattle.cost_base.specs.Files.{times}
+use Rattle.cost_base.specs.Files.{count_of_name}
 use Rattle.cost_base.specs.Outside.{IsFile, IsLonger}
 
 -- a file that was asked for, up to so many bytes, and what came of it: its bytes, or why not
@@ -28,6 +28,7 @@ abbrev pub AreTold : (List ℕ → Option (List ℕ)) → List Taken → Type 0
 AreTold held [] = Unit {0}
 AreTold held (taken ∷ more) = IsToldAs (held taken.name) taken.most taken.came × AreTold held more
 
+-- the name of the file, where the call failed; no name where bytes came, the file was too long, or memory was wanting
 abbrev pub failure : List ℕ → Result (List ℕ) ShelfStop → List (List ℕ)
 failure name (Ok bytes) = []
 failure name (Err TooLong) = []
@@ -41,8 +42,8 @@ failures (taken ∷ more) = failure taken.name taken.came ++ failures more
 
 -- exactly the counts of the files that failed rose
 pub record CountsFailures (before now : List ℕ → ℕ) (came : List Taken) : Type 0 where
-  pub failed : (name : List ℕ) → 0 < times (failures came) name → before name < now name
-  pub kept : (name : List ℕ) → times (failures came) name ≡ 0 → now name ≡ before name
+  pub failed : (name : List ℕ) → 0 < count_of_name (failures came) name → before name < now name
+  pub kept : (name : List ℕ) → count_of_name (failures came) name ≡ 0 → now name ≡ before name
 
 -- what a shelf gave that notes the name of each file that failed: it holds what it held, and what came is true to it
 pub record HasGiven (held_before held_now : List ℕ → Option (List ℕ)) (noted_before noted_now : List (List ℕ)) (came : List Taken) : Type 0 where

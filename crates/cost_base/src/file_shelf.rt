@@ -1,10 +1,10 @@
 //! The files of the machine.
 
-ghost use Rattle.std.specs.Prelude.{◌≡◌, ℕ, List, [], ◌∷◌, ◌+◌, ◌^◌, ◌<◌, ◌≤◌, OnOk, OnErr, IsErrOf, Option, None, vec_len};
+ghost use Rattle.std.specs.Prelude.{◌≡◌, ℕ, List, [], ◌∷◌, ◌+◌, ◌^◌, ◌<◌, ◌≤◌, OnOk, OnErr, IsErrOf, Option, None, vec_len, refl};
 ghost use Rattle.cost_base.specs.Outside.{IsFile, IsLonger, CountsFaults};
 ghost use Rattle.cost_base.specs.Histories.{HasGiven, came_of};
-ghost use Rattle.cost_base.specs.HistoryLaws.{given_none, given_more, given_counts};
-ghost use Rattle.cost_base.specs.Files.{times};
+ghost use Rattle.cost_base.specs.HistoryLaws.{given_none, given_more, given_counts, same_after};
+ghost use Rattle.cost_base.specs.Files.{count_of_name};
 
 use crate::failed_calls::FailedCalls;
 use crate::{Shelf, ShelfStop};
@@ -36,19 +36,23 @@ impl<R: Files> FileShelf<R> {
 impl<R: Files> Shelf for FileShelf<R> {
     ghost held = { λ shelf name. None };
 
-    ghost faults = { λ shelf name. times shelf.failed.names.items name };
+    ghost faults = { λ shelf name. count_of_name shelf.failed.names.items name };
 
-    ghost gave = { λ before now came. HasGiven (λ name. None) (λ name. None) before.failed.names.items now.failed.names.items came };
+    ghost gave = { λ before now came. (now.files ≡ before.files)
+        × HasGiven (λ name. None) (λ name. None) before.failed.names.items now.failed.names.items came };
 
     #[tactic(auto, using(crate::proofs::FaultCounts::noted))]
     fn take(&mut self, name: &str, most: usize, into: &mut Vec<u8>) -> Result<(), ShelfStop>
         requires empty { into.old.items ≡ [] }
         requires most { most < 2 ^ 31 }
+        ensures read { OnOk result ((file : R.File) × IsFile (R.File.remaining file) into.new.items) }
         ensures within { OnOk result (vec_len into.new ≤ most) }
+        ensures too_long { IsErrOf result ShelfStop.TooLong → (file : R.File) × IsLonger (R.File.remaining file) most }
         ensures cut { IsErrOf result ShelfStop.TooLong → vec_len into.new ≡ most + 1 }
         ensures refused { OnErr result (vec_len into.new ≤ most + 1) }
-        ensures faults { CountsFaults (times self.old.failed.names.items) (times self.new.failed.names.items) name.now result }
-        ensures gave { HasGiven (λ other. None) (λ other. None) self.old.failed.names.items self.new.failed.names.items
+        ensures faults { CountsFaults (count_of_name self.old.failed.names.items) (count_of_name self.new.failed.names.items) name.now result }
+        ensures gave { (self.new.files ≡ self.old.files) × HasGiven (λ other. None) (λ other. None)
+            self.old.failed.names.items self.new.failed.names.items
             (record { name = name.now; most = most; came = came_of result into.new.items } ∷ []) }
     {
         let Ok(copy) = self.failed.make_room(name.as_bytes()) else {
@@ -63,17 +67,20 @@ impl<R: Files> Shelf for FileShelf<R> {
         }
     }
 
-    ghost gave_none = { λ a. given_none (λ name. None) a.failed.names.items };
+    ghost gave_none = { λ a. (refl, given_none (λ name. None) a.failed.names.items) };
 
-    ghost gave_more = { λ a b c first later.
-        given_more (λ name. None) (λ name. None) (λ name. None)
-        a.failed.names.items b.failed.names.items c.failed.names.items first later };
+    ghost gave_more = { λ a b c first later one two. (
+      same_after a.files b.files c.files one.0 two.0,
+      given_more (λ name. None) (λ name. None) (λ name. None)
+          a.failed.names.items b.failed.names.items c.failed.names.items first later one.1 two.1,
+    ) };
 
-    ghost gave_held = { λ a b came given. given.held };
+    ghost gave_held = { λ a b came given. given.1.held };
 
-    ghost gave_told = { λ a b came given. given.told };
+    ghost gave_told = { λ a b came given. given.1.told };
 
-    ghost gave_counted = { λ a b came given. given_counts (λ name. None) (λ name. None) a.failed.names.items b.failed.names.items came given };
+    ghost gave_counted = { λ a b came given. given_counts (λ name. None) (λ name. None)
+        a.failed.names.items b.failed.names.items came given.1 };
 }
 
 /// Reads the file at a path, or the first `most + 1` bytes of it where it has more than `most`.
@@ -85,7 +92,9 @@ fn read_file<R: Files>(
 ) -> Result<(), ShelfStop>
     requires empty { into.old.items ≡ [] }
     requires most { most < 2 ^ 31 }
+    ensures read { OnOk result ((file : R.File) × IsFile (R.File.remaining file) into.new.items) }
     ensures within { OnOk result (vec_len into.new ≤ most) }
+    ensures too_long { IsErrOf result ShelfStop.TooLong → (file : R.File) × IsLonger (R.File.remaining file) most }
     ensures cut { IsErrOf result ShelfStop.TooLong → vec_len into.new ≡ most + 1 }
     ensures refused { OnErr result (vec_len into.new ≤ most + 1) }
 {

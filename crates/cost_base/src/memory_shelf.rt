@@ -4,7 +4,7 @@ ghost use Rattle.std.specs.Prelude.{◌≡◌, ◌⊎◌, ℕ, List, [], ◌∷�
 ghost use Rattle.cost_base.specs.Outside.{IsLonger, CountsFaults};
 ghost use Rattle.cost_base.specs.Histories.{HasGiven, came_of};
 ghost use Rattle.cost_base.specs.HistoryLaws.{given_none, given_more, given_counts};
-ghost use Rattle.cost_base.specs.Files.{first_file, times};
+ghost use Rattle.cost_base.specs.Files.{first_file, count_of_name};
 ghost use Rattle.cost_base.specs.Fakes.{IsListed, FailsOrLacksMemory};
 
 use crate::content::{copy_within, find_first};
@@ -69,7 +69,7 @@ impl MemoryShelf {
 impl Shelf for MemoryShelf {
     ghost held = { λ shelf name. first_file shelf.files.items name };
 
-    ghost faults = { λ shelf name. times shelf.failed.names.items name };
+    ghost faults = { λ shelf name. count_of_name shelf.failed.names.items name };
 
     ghost gave = { λ before now came.
         HasGiven (first_file before.files.items) (first_file now.files.items) before.failed.names.items now.failed.names.items came };
@@ -84,7 +84,7 @@ impl Shelf for MemoryShelf {
         ensures cut { IsErrOf result ShelfStop.TooLong → vec_len into.new ≡ most + 1 }
         ensures refused { OnErr result (vec_len into.new ≤ most + 1) }
         ensures files { self.new.files.items ≡ self.old.files.items }
-        ensures faults { CountsFaults (times self.old.failed.names.items) (times self.new.failed.names.items) name.now result }
+        ensures faults { CountsFaults (count_of_name self.old.failed.names.items) (count_of_name self.new.failed.names.items) name.now result }
         ensures cause { IsErrOf result ShelfStop.Failed → IsListed self.old.fail.items self.old.calls ⊎ (first_file self.old.files.items name.now ≡ None) }
         ensures listed { IsListed self.old.fail.items self.old.calls → FailsOrLacksMemory result }
         ensures missing { first_file self.old.files.items name.now ≡ None → FailsOrLacksMemory result }

@@ -1,7 +1,7 @@
 //! A sink in memory that fails where it is told to.
 
 ghost use Rattle.std.specs.Prelude.{◌≡◌, ◌<◌, ◌≤◌, ◌+◌, ◌-◌, ◌^◌, ◌++◌, [], min, length, take, IfOk, IsOk, OnOk, Some, None, vec_len, vec_capacity};
-ghost use Rattle.cost_base.specs.Outside.{HasCause, GotWhole};
+ghost use Rattle.cost_base.specs.Outside.{HasCause, GotAll};
 ghost use Rattle.cost_base.specs.Histories.{Hands};
 ghost use Rattle.cost_base.specs.HistoryLaws.{handed_none, handed_more};
 ghost use Rattle.cost_base.specs.Fakes.{kept_at, kept_or_all};
@@ -76,7 +76,7 @@ impl Sink for MemorySink {
 
     ghost faults = { λ sink. sink.faults };
 
-    ghost handed = { λ before now bytes. GotWhole (Some before.bytes.items) (Some now.bytes.items) bytes };
+    ghost handed = { λ before now bytes. GotAll (Some before.bytes.items) (Some now.bytes.items) bytes };
 
     fn put(&mut self, piece: &[u8]) -> Result<(), PutFailed>
         ensures whole { OnOk result (self.new.bytes.items ≡ self.old.bytes.items ++ piece.now) }

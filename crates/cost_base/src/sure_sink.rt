@@ -1,7 +1,7 @@
 //! A sink in memory that never fails.
 
 ghost use Rattle.std.specs.Prelude.{◌≡◌, ◌<◌, ◌≤◌, ◌+◌, ◌++◌, [], length, true, false, IfOk, IsOk, Some, None, if◌then◌else◌, vec_len, vec_capacity};
-ghost use Rattle.cost_base.specs.Outside.{GotWhole};
+ghost use Rattle.cost_base.specs.Outside.{GotAll};
 ghost use Rattle.cost_base.specs.Histories.{Hands};
 ghost use Rattle.cost_base.specs.HistoryLaws.{handed_none, handed_more};
 ghost use Rattle.cost_base.specs.Fakes.{unless_lost};
@@ -62,7 +62,7 @@ impl Sink for SureSink {
 
     ghost faults = { λ sink. 0 };
 
-    ghost handed = { λ before now bytes. GotWhole (unless_lost before.lost before.bytes.items) (unless_lost now.lost now.bytes.items) bytes };
+    ghost handed = { λ before now bytes. GotAll (unless_lost before.lost before.bytes.items) (unless_lost now.lost now.bytes.items) bytes };
 
     fn put(&mut self, piece: &[u8]) -> Result<(), PutFailed>
         ensures sure { IsOk result }

@@ -10,22 +10,22 @@ use Rattle.std.proofs.lemmas.List.Quantifiers.{all_pairs_push}
 use Rattle.area_graph.specs.declared.Point.{Point}
 use Rattle.area_graph.specs.Area.{Area}
 use Rattle.area_graph.specs.Costs.{LeadsBy, cost}
-use Rattle.path_rows.specs.declared.form.Row.{Row}
-use Rattle.path_rows.specs.declared.problem.Request.{Request}
-use Rattle.path_rows.specs.Forms.{Form, AreMet}
-use Rattle.path_rows.specs.Forms.{no_form, value_at}
-use Rattle.path_rows.specs.Problems.{DesignProblem, IsProblem, ends_of, no_request, request_at}
-use Rattle.path_rows.specs.Rows.{IsRivalOf, IsRow, LeadsEach, form_of_row, forms_of_rows, path_edges}
+use Rattle.design_problem.specs.declared.form.Row.{Row}
+use Rattle.design_problem.specs.declared.problem.Request.{Request}
+use Rattle.design_problem.specs.Forms.{Form, AreMet}
+use Rattle.design_problem.specs.Forms.{no_form, value_at}
+use Rattle.design_problem.specs.Problems.{DesignProblem, IsProblem, request_ends, no_request, request_at}
+use Rattle.design_problem.specs.Rows.{IsRivalOf, IsRow, LeadsEach, form_of_row, forms_of_rows, path_edges}
 use Rattle.rival_separation.specs.Askers.{RequestLeads}
-use Rattle.rival_separation.specs.Rivals.{IsCheapest}
-use Rattle.form_search.specs.Sources.{Grows, IsAnswered}
+use Rattle.rival_separation.specs.Rivals.{IsCheapestRival}
+use Rattle.form_search.specs.Sources.{Grows, IsSourceAnswer}
 use Rattle.form_search.specs.declared.source.Asked.{Asked}
 use Rattle.form_search.specs.declared.source.Asked.TheVariants.{Nothing, Added}
 use Rattle.form_search.proofs.SourceLaws.{grows_none}
-use Rattle.cost_branching.specs.Pools.{AreRows, Differ, IsPool}
-use Rattle.cost_branching.specs.Rivals.{BeginWith, IsKept, IsTooCheap, IsTrueOf, KnownRows, LeadsAt}
-use Rattle.cost_branching.specs.Asking.{AnswersBelow, AreAllAsked, AreAsked, AreAskedAmong, IsAskedOf, NoRow, OneRow}
-use Rattle.cost_branching.specs.SourceLaws.{row_met}
+use Rattle.cost_branching.specs.Pools.{ArePoolRows, Differ, IsRowPool}
+use Rattle.cost_branching.specs.Rivals.{BeginWith, IsProblemOnGraph, IsRivalTooCheap, IsTrueRowForm, KnownRows, LeadsAt}
+use Rattle.cost_branching.specs.Asking.{AnswersRequestsBelow, AreAllRequestsAsked, AreRequestsAsked, AreAskedAmong, IsRequestAsked, NoRivalRow, OneRivalRow}
+use Rattle.cost_branching.specs.SourceLaws.{rival_row_met}
 use Rattle.cost_branching.proofs.NewForms.{between_negative, grows_more, new_rival}
 
 -- where the forms of rows are at least 0, each of them is
@@ -37,20 +37,20 @@ rows_met p rows forms point same met k d k_in =
 
 -- no request was asked yet
 pub none_asked : (point : Point) (old : KnownRows) (forms : List Form) →
-    IsPool old.problem (record { rows = old.rows; forms = forms }) → AreMet forms point →
-    AreAsked point 0 old forms old forms Nothing
+    IsRowPool old.problem (record { rows = old.rows; forms = forms }) → AreMet forms point →
+    AreRequestsAsked point 0 old forms old forms Nothing
 none_asked point old forms in_step met = record {
   problem = refl;
   in_step = in_step;
-  grows = grows_none (IsTrueOf old.problem) forms;
+  grows = grows_none (IsTrueRowForm old.problem) forms;
   apart = λ k d k_in. inr (rows_met old.problem old.rows forms point in_step.forms met k d k_in);
   answer = (refl, λ k k_in. absurd (omega arith));
 }
 
 -- one request more, whose path leads
 answers_more : (p : DesignProblem) (point : Point) (requests : ℕ) (old_forms forms : List Form) (asked : Asked) →
-    AnswersBelow p point requests old_forms forms asked → LeadsAt p point requests →
-    AnswersBelow p point (requests + 1) old_forms forms asked
+    AnswersRequestsBelow p point requests old_forms forms asked → LeadsAt p point requests →
+    AnswersRequestsBelow p point (requests + 1) old_forms forms asked
 answers_more p point requests old_forms forms Nothing answer leads = (
   answer.0,
   λ k k_in. elim (cases_lt k requests) [
@@ -69,11 +69,11 @@ apart_more p point requests row (inr met) = inr met
 
 pub more_lead : (point : Point) (requests : ℕ) (old : KnownRows) (old_forms : List Form) (now : KnownRows)
     (forms : List Form) (new : KnownRows) (new_forms : List Form) (asked : Asked) →
-    AreAsked point requests old old_forms now forms asked → NoRow point requests now forms new new_forms →
-    AreAsked point (requests + 1) old old_forms new new_forms asked
+    AreRequestsAsked point requests old old_forms now forms asked → NoRivalRow point requests now forms new new_forms →
+    AreRequestsAsked point (requests + 1) old old_forms new new_forms asked
 more_lead point requests old old_forms now forms new new_forms asked are one =
-    subst (λ (s : KnownRows). AreAsked point (requests + 1) old old_forms s new_forms asked) (sym one.rows)
-    (subst (λ (fs : List Form). AreAsked point (requests + 1) old old_forms now fs asked) (sym one.forms)
+    subst (λ (s : KnownRows). AreRequestsAsked point (requests + 1) old old_forms s new_forms asked) (sym one.rows)
+    (subst (λ (fs : List Form). AreRequestsAsked point (requests + 1) old old_forms now fs asked) (sym one.forms)
     (record {
       problem = are.problem;
       in_step = are.in_step;
@@ -87,14 +87,14 @@ more_lead point requests old old_forms now forms new new_forms asked are one =
 
 -- the same request and edges under other names
 pub too_cheap_as : (p : DesignProblem) (point : Point) (k l : ℕ) (edges others : List ℕ) → l ≡ k → others ≡ edges →
-    IsTooCheap p point k edges → IsTooCheap p point l others
+    IsRivalTooCheap p point k edges → IsRivalTooCheap p point l others
 too_cheap_as p point k l edges others same_request same_edges too_cheap =
-    subst (λ (i : ℕ). IsTooCheap p point i others) (sym same_request) (subst (λ (es : List ℕ). IsTooCheap p point k es) (sym same_edges) too_cheap)
+    subst (λ (i : ℕ). IsRivalTooCheap p point i others) (sym same_request) (subst (λ (es : List ℕ). IsRivalTooCheap p point k es) (sym same_edges) too_cheap)
 
 -- the cheapest rival of a request's path, where it is cheap
 too_cheap_of : (p : DesignProblem) (point : Point) (k : ℕ) (es : List ℕ) → k < length p.paths →
-    IsCheapest p.graph point (ends_of (request_at p.paths k)) (request_at p.paths k).path.edges es →
-    IsTooCheap p point k es
+    IsCheapestRival p.graph point (request_ends (request_at p.paths k)) (request_at p.paths k).path.edges es →
+    IsRivalTooCheap p point k es
 too_cheap_of p point k es known cheapest =
     let here : slice_get p.paths k ≡ Some (request_at p.paths k) = slice_get-get_or p.paths k no_request known in
     record {
@@ -103,29 +103,29 @@ too_cheap_of p point k es known cheapest =
     }
 
 either_too_cheap : (p : DesignProblem) (point : Point) (k : ℕ) (es : List ℕ) (beaten : Bool) → k < length p.paths →
-    MatchBool beaten (IsCheapest p.graph point (ends_of (request_at p.paths k)) (request_at p.paths k).path.edges es)
-    (LeadsAt p point k) → MatchBool beaten (IsTooCheap p point k es) (LeadsAt p point k)
+    MatchBool beaten (IsCheapestRival p.graph point (request_ends (request_at p.paths k)) (request_at p.paths k).path.edges es)
+    (LeadsAt p point k) → MatchBool beaten (IsRivalTooCheap p point k es) (LeadsAt p point k)
 either_too_cheap p point k es true known cheapest = too_cheap_of p point k es known cheapest
 either_too_cheap p point k es false known leads = leads
 
 -- so it is with the graph and the paths under other names
 pub too_cheap_or_leads : (p : DesignProblem) (g : Area) (paths : List Request) (point : Point) (k : ℕ) (es : List ℕ)
     (beaten : Bool) → g ≡ p.graph → paths ≡ p.paths → k < length p.paths →
-    MatchBool beaten (IsCheapest g point (ends_of (request_at paths k)) (request_at paths k).path.edges es)
-    (RequestLeads g point (request_at paths k)) → MatchBool beaten (IsTooCheap p point k es) (LeadsAt p point k)
+    MatchBool beaten (IsCheapestRival g point (request_ends (request_at paths k)) (request_at paths k).path.edges es)
+    (RequestLeads g point (request_at paths k)) → MatchBool beaten (IsRivalTooCheap p point k es) (LeadsAt p point k)
 too_cheap_or_leads p g paths point k es beaten same_graph same_paths known is =
     let by_graph = subst (λ (h : Area).
-    MatchBool beaten (IsCheapest h point (ends_of (request_at paths k)) (request_at paths k).path.edges es)
+    MatchBool beaten (IsCheapestRival h point (request_ends (request_at paths k)) (request_at paths k).path.edges es)
     (RequestLeads h point (request_at paths k))) same_graph is in
     let by_paths = subst (λ (rs : List Request).
-    MatchBool beaten (IsCheapest p.graph point (ends_of (request_at rs k)) (request_at rs k).path.edges es)
+    MatchBool beaten (IsCheapestRival p.graph point (request_ends (request_at rs k)) (request_at rs k).path.edges es)
     (RequestLeads p.graph point (request_at rs k))) same_paths by_graph in
     either_too_cheap p point k es beaten known by_paths
 
 -- the rows still begin with those
 pub begun_more : (first : List Row) (point : Point) (request : ℕ) (old : KnownRows) (forms : List Form)
     (new : KnownRows) (new_forms : List Form) (asked : Bool) → BeginWith first old.rows →
-    IsAskedOf point request old forms new new_forms asked → BeginWith first new.rows
+    IsRequestAsked point request old forms new new_forms asked → BeginWith first new.rows
 begun_more first point request old forms new new_forms true begun one = record {
   more = begun.more ++ one.row ∷ [];
   same = ap (λ (s : KnownRows). s.rows) one.rows ∙ ap (λ (rows : List Row). rows ++ one.row ∷ []) begun.same ∙ append_assoc first begun.more (one.row ∷ []);
@@ -134,7 +134,7 @@ begun_more first point request old forms new new_forms false begun one =
     record { more = begun.more; same = ap (λ (s : KnownRows). s.rows) one.rows ∙ begun.same }
 
 row_negative : (p : DesignProblem) (point : Point) (row : Row) → IsProblem p → length point.values ≡ length p.low →
-    IsTooCheap p point row.request row.rival.edges → value_at (form_of_row p row) point <ℤ pos 0
+    IsRivalTooCheap p point row.request row.rival.edges → value_at (form_of_row p row) point <ℤ pos 0
 row_negative p point row kept count cheap =
     between_negative p point (path_edges (slice_get p.paths row.request)) row.rival.edges kept count cheap.cheap
 
@@ -150,9 +150,9 @@ differs p point requests a row here negative (inr met) same_request same_edges =
 
 -- a pool with one row more
 pool_more : (p : DesignProblem) (point : Point) (requests : ℕ) (rows : List Row) (forms : List Form) (row : Row) →
-    IsPool p (record { rows = rows; forms = forms }) → All (Apart p point requests) rows → row.request ≡ requests →
-    IsTooCheap p point row.request row.rival.edges → value_at (form_of_row p row) point <ℤ pos 0 →
-    IsPool p (record { rows = rows ++ row ∷ []; forms = forms ++ form_of_row p row ∷ [] })
+    IsRowPool p (record { rows = rows; forms = forms }) → All (Apart p point requests) rows → row.request ≡ requests →
+    IsRivalTooCheap p point row.request row.rival.edges → value_at (form_of_row p row) point <ℤ pos 0 →
+    IsRowPool p (record { rows = rows ++ row ∷ []; forms = forms ++ form_of_row p row ∷ [] })
 pool_more p point requests rows forms row pool apart here cheap negative = record {
   rows = All-push (IsRow p) rows row pool.rows cheap.rival;
   once = all_pairs_push Differ rows row pool.once (λ k d k_in. differs p point requests (get_or rows k d) row here negative (apart k d k_in));
@@ -160,10 +160,10 @@ pool_more p point requests rows forms row pool apart here cheap negative = recor
 }
 
 row_added : (point : Point) (requests : ℕ) (old : KnownRows) (old_forms : List Form) (now : KnownRows)
-    (forms : List Form) (asked : Asked) (row : Row) → AreAsked point requests old old_forms now forms asked →
-    AreMet old_forms point → length point.values ≡ length old.problem.low → IsKept old.problem →
-    row.request ≡ requests → IsTooCheap old.problem point row.request row.rival.edges →
-    AreAsked point (requests + 1) old old_forms (record now { rows = now.rows ++ row ∷ [] })
+    (forms : List Form) (asked : Asked) (row : Row) → AreRequestsAsked point requests old old_forms now forms asked →
+    AreMet old_forms point → length point.values ≡ length old.problem.low → IsProblemOnGraph old.problem →
+    row.request ≡ requests → IsRivalTooCheap old.problem point row.request row.rival.edges →
+    AreRequestsAsked point (requests + 1) old old_forms (record now { rows = now.rows ++ row ∷ [] })
     (forms ++ form_of_row old.problem row ∷ []) Added
 row_added point requests old old_forms now forms asked row are met count kept here cheap =
     let p = old.problem in
@@ -171,66 +171,66 @@ row_added point requests old old_forms now forms asked row are met count kept he
     record {
       problem = are.problem;
       in_step = pool_more p point requests now.rows forms row are.in_step are.apart here cheap negative;
-      grows = grows_more (IsTrueOf p) old_forms forms (form_of_row p row) are.grows
+      grows = grows_more (IsTrueRowForm p) old_forms forms (form_of_row p row) are.grows
           (record { kept = kept; of_row = record { row = row; is_row = cheap.rival; same = refl } });
       apart = All-push (Apart p point (requests + 1)) now.rows row
           (All-weaker (Apart p point requests) (Apart p point (requests + 1)) (apart_more p point requests) now.rows
           are.apart) (inl (omega arith));
       answer = (
-        λ leads. clash_ℤ negative (row_met p point row kept.problem count cheap.rival leads),
+        λ leads. clash_ℤ negative (rival_row_met p point row kept.problem count cheap.rival leads),
         new_rival point old_forms forms (form_of_row p row) met negative,
       );
     }
 
 pub one_added : (point : Point) (requests : ℕ) (old : KnownRows) (old_forms : List Form) (now : KnownRows)
     (forms : List Form) (new : KnownRows) (new_forms : List Form) (asked : Asked) →
-    AreAsked point requests old old_forms now forms asked → AreMet old_forms point →
-    length point.values ≡ length old.problem.low → OneRow point requests now forms new new_forms →
-    AreAsked point (requests + 1) old old_forms new new_forms Added
+    AreRequestsAsked point requests old old_forms now forms asked → AreMet old_forms point →
+    length point.values ≡ length old.problem.low → OneRivalRow point requests now forms new new_forms →
+    AreRequestsAsked point (requests + 1) old old_forms new new_forms Added
 one_added point requests old old_forms now forms new new_forms asked are met count one =
-    subst (λ (s : KnownRows). AreAsked point (requests + 1) old old_forms s new_forms Added) (sym one.rows)
-    (subst (λ (fs : List Form). AreAsked point (requests + 1) old old_forms (record now { rows = now.rows ++ one.row ∷ [] }) fs Added)
+    subst (λ (s : KnownRows). AreRequestsAsked point (requests + 1) old old_forms s new_forms Added) (sym one.rows)
+    (subst (λ (fs : List Form). AreRequestsAsked point (requests + 1) old old_forms (record now { rows = now.rows ++ one.row ∷ [] }) fs Added)
     (sym (one.forms ∙ ap (λ (p : DesignProblem). forms ++ form_of_row p one.row ∷ []) are.problem))
-    (row_added point requests old old_forms now forms asked one.row are met count (subst IsKept are.problem one.kept)
-    one.request_is (subst (λ (p : DesignProblem). IsTooCheap p point one.row.request one.row.rival.edges)
+    (row_added point requests old old_forms now forms asked one.row are met count (subst IsProblemOnGraph are.problem one.kept)
+    one.request_is (subst (λ (p : DesignProblem). IsRivalTooCheap p point one.row.request one.row.rival.edges)
     are.problem one.cheap)))
 
 -- where the paths of all requests lead, each path leads
 pub all_lead : (p : DesignProblem) (point : Point) (requests : ℕ) → length p.paths ≤ requests → ((k : ℕ) → k < requests → LeadsAt p point k) → LeadsEach p point
 all_lead p point requests all lead =
-    All-from_get_or (λ r. LeadsBy point.scale p.graph point (ends_of r) r.path.edges) p.paths no_request (λ k k_in. lead k (omega arith))
+    All-from_get_or (λ r. LeadsBy point.scale p.graph point (request_ends r) r.path.edges) p.paths no_request (λ k k_in. lead k (omega arith))
 
 -- all requests were asked
 pub all_asked : (point : Point) (requests : ℕ) (old : KnownRows) (old_forms : List Form) (new : KnownRows)
     (new_forms : List Form) (asked : Asked) → length old.problem.paths ≤ requests →
-    AreAsked point requests old old_forms new new_forms asked →
-    IsAnswered (LeadsEach old.problem) point old_forms new_forms asked
+    AreRequestsAsked point requests old old_forms new new_forms asked →
+    IsSourceAnswer (LeadsEach old.problem) point old_forms new_forms asked
 all_asked point requests old old_forms new new_forms asked all are = by_answer asked are.answer
   where
-    by_answer : (asked : Asked) → AnswersBelow old.problem point requests old_forms new_forms asked →
-        IsAnswered (LeadsEach old.problem) point old_forms new_forms asked
+    by_answer : (asked : Asked) → AnswersRequestsBelow old.problem point requests old_forms new_forms asked →
+        IsSourceAnswer (LeadsEach old.problem) point old_forms new_forms asked
     by_answer Nothing answer = (all_lead old.problem point requests all answer.1, answer.0)
     by_answer Added answer = answer
 
 -- Requests that are asked where the pool may hold other forms besides those of the rows.
 
 -- the rows, with their own forms
-pub pool_of_rows : (p : DesignProblem) (rows : List Row) → AreRows p rows → IsPool p (record { rows = rows; forms = forms_of_rows p rows })
+pub pool_of_rows : (p : DesignProblem) (rows : List Row) → ArePoolRows p rows → IsRowPool p (record { rows = rows; forms = forms_of_rows p rows })
 pool_of_rows p rows are = record { rows = are.0; once = are.1; forms = refl }
 
-pub none_asked_among : (point : Point) (old : KnownRows) (forms : List Form) → AreRows old.problem old.rows →
+pub none_asked_among : (point : Point) (old : KnownRows) (forms : List Form) → ArePoolRows old.problem old.rows →
     AreMet (forms_of_rows old.problem old.rows) point → AreAskedAmong point 0 old forms old forms Nothing
 none_asked_among point old forms are met = record {
   own = none_asked point old (forms_of_rows old.problem old.rows) (pool_of_rows old.problem old.rows are) met;
   more = [];
   rows = sym (append-nil (forms_of_rows old.problem old.rows));
   forms = sym (append-nil forms);
-  grows = grows_none (IsTrueOf old.problem) forms;
+  grows = grows_none (IsTrueRowForm old.problem) forms;
 }
 
 pub more_lead_among : (point : Point) (requests : ℕ) (old : KnownRows) (old_forms : List Form) (now : KnownRows)
     (forms : List Form) (new : KnownRows) (new_forms : List Form) (asked : Asked) →
-    AreAskedAmong point requests old old_forms now forms asked → NoRow point requests now forms new new_forms →
+    AreAskedAmong point requests old old_forms now forms asked → NoRivalRow point requests now forms new new_forms →
     AreAskedAmong point (requests + 1) old old_forms new new_forms asked
 more_lead_among point requests old old_forms now forms new new_forms asked are one =
     let own = forms_of_rows old.problem now.rows in
@@ -242,13 +242,13 @@ more_lead_among point requests old old_forms now forms new new_forms asked are o
       more = are.more;
       rows = same ∙ are.rows;
       forms = one.forms ∙ are.forms;
-      grows = subst (λ (fs : List Form). Grows (IsTrueOf old.problem) old_forms fs) (sym one.forms) are.grows;
+      grows = subst (λ (fs : List Form). Grows (IsTrueRowForm old.problem) old_forms fs) (sym one.forms) are.grows;
     }
 
 pub one_added_among : (point : Point) (requests : ℕ) (old : KnownRows) (old_forms : List Form) (now : KnownRows)
     (forms : List Form) (new : KnownRows) (new_forms : List Form) (asked : Asked) →
     AreAskedAmong point requests old old_forms now forms asked → AreMet (forms_of_rows old.problem old.rows) point →
-    length point.values ≡ length old.problem.low → OneRow point requests now forms new new_forms →
+    length point.values ≡ length old.problem.low → OneRivalRow point requests now forms new new_forms →
     AreAskedAmong point (requests + 1) old old_forms new new_forms Added
 one_added_among point requests old old_forms now forms new new_forms asked are met count one =
     let p = old.problem in
@@ -271,13 +271,13 @@ one_added_among point requests old old_forms now forms new new_forms asked are m
       rows = grown ∙ ap (λ (fs : List Form). fs ++ form ∷ []) are.rows ∙ append_assoc (forms_of_rows p old.rows) are.more (form ∷ []);
       forms = one.forms ∙ ap (λ (f : Form). forms ++ f ∷ []) row_form
           ∙ ap (λ (fs : List Form). fs ++ form ∷ []) are.forms ∙ append_assoc old_forms are.more (form ∷ []);
-      grows = subst (λ (fs : List Form). Grows (IsTrueOf p) old_forms fs) (sym (one.forms ∙ ap (λ (f : Form). forms ++ f ∷ []) row_form))
-          (grows_more (IsTrueOf p) old_forms forms form are.grows
+      grows = subst (λ (fs : List Form). Grows (IsTrueRowForm p) old_forms fs) (sym (one.forms ∙ ap (λ (f : Form). forms ++ f ∷ []) row_form))
+          (grows_more (IsTrueRowForm p) old_forms forms form are.grows
           (record {
-            kept = subst IsKept are.own.problem one.kept;
+            kept = subst IsProblemOnGraph are.own.problem one.kept;
             of_row = record {
               row = one.row;
-              is_row = (subst (λ (q : DesignProblem). IsTooCheap q point one.row.request one.row.rival.edges)
+              is_row = (subst (λ (q : DesignProblem). IsRivalTooCheap q point one.row.request one.row.rival.edges)
                   are.own.problem one.cheap).rival;
               same = refl;
             };
@@ -286,7 +286,7 @@ one_added_among point requests old old_forms now forms new new_forms asked are m
 
 pub all_asked_among : (point : Point) (requests : ℕ) (old : KnownRows) (old_forms : List Form) (new : KnownRows)
     (new_forms : List Form) (asked : Asked) → length old.problem.paths ≤ requests →
-    AreAskedAmong point requests old old_forms new new_forms asked → AreAllAsked point old old_forms new new_forms asked
+    AreAskedAmong point requests old old_forms new new_forms asked → AreAllRequestsAsked point old old_forms new new_forms asked
 all_asked_among point requests old old_forms new new_forms asked all are = record {
   problem = are.own.problem;
   are_rows = (are.own.in_step.rows, are.own.in_step.once);

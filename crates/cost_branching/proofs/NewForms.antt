@@ -6,9 +6,9 @@ use Rattle.std.proofs.lemmas.Int.{ints}
 use Rattle.std.proofs.lemmas.List.Elements.{All-contains, All-push, Contains-push}
 use Rattle.area_graph.specs.declared.Point.{Point}
 use Rattle.area_graph.specs.Costs.{cost}
-use Rattle.path_rows.specs.Forms.{AreMet, Form, value_at}
-use Rattle.path_rows.specs.Problems.{DesignProblem, IsProblem}
-use Rattle.path_rows.specs.Rows.{form_between}
+use Rattle.design_problem.specs.Forms.{AreMet, Form, value_at}
+use Rattle.design_problem.specs.Problems.{DesignProblem, IsProblem}
+use Rattle.design_problem.specs.Rows.{form_between}
 use Rattle.form_search.specs.Sources.{Grows, HasNewRival}
 use Rattle.cost_branching.specs.SourceLaws.{value_between}
 

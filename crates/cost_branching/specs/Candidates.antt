@@ -1,10 +1,10 @@
 -- The forms that the rows of a problem can have: finitely many, since a simple path has fewer edges than the graph has vertices.
 use Rattle.std.specs.Prelude.{ℕ, zero, suc, List, [], ◌∷◌, ◌++◌, map, length}
 use Rattle.cost_base.specs.Lists.{numbers_from}
-use Rattle.path_rows.specs.Forms.{Form}
-use Rattle.path_rows.specs.declared.problem.Request.{Request}
-use Rattle.path_rows.specs.Problems.{DesignProblem}
-use Rattle.path_rows.specs.Rows.{form_between}
+use Rattle.design_problem.specs.Forms.{Form}
+use Rattle.design_problem.specs.declared.problem.Request.{Request}
+use Rattle.design_problem.specs.Problems.{DesignProblem}
+use Rattle.design_problem.specs.Rows.{form_between}
 
 -- each of the lists behind each of the numbers
 abbrev pub begun_by : List ℕ → List (List ℕ) → List (List ℕ)
@@ -25,5 +25,6 @@ abbrev pub forms_of_requests : DesignProblem → List Request → List Form
 forms_of_requests p [] = []
 forms_of_requests p (r ∷ rs) = map (form_between p.graph (length p.low) r.path.edges) (edge_lists p) ++ forms_of_requests p rs
 
+-- the forms that rows of a problem can have
 abbrev pub candidate_forms : DesignProblem → List Form
 candidate_forms p = forms_of_requests p p.paths

@@ -1,9 +1,9 @@
 -- Pools of rows.
 use Rattle.std.specs.Prelude.{◌≡◌, List, ◌++◌, All, AllPairs}
-use Rattle.path_rows.specs.Forms.{Form}
-use Rattle.path_rows.specs.declared.form.Row.{Row}
-use Rattle.path_rows.specs.Problems.{DesignProblem}
-use Rattle.path_rows.specs.Rows.{IsRow, forms_of_rows}
+use Rattle.design_problem.specs.Forms.{Form}
+use Rattle.design_problem.specs.declared.form.Row.{Row}
+use Rattle.design_problem.specs.Problems.{DesignProblem}
+use Rattle.design_problem.specs.Rows.{IsRow, forms_of_rows}
 
 -- the rows, and a form for each
 pub record Pooled : Type 0 where
@@ -15,11 +15,11 @@ abbrev pub Differ : Row → Row → Type 0
 Differ a b = a.request ≡ b.request → a.rival.edges ≡ b.rival.edges → ⊥
 
 -- rows of a problem, none twice
-abbrev pub AreRows : DesignProblem → List Row → Type 0
-AreRows p rows = All (IsRow p) rows × AllPairs Differ rows
+abbrev pub ArePoolRows : DesignProblem → List Row → Type 0
+ArePoolRows p rows = All (IsRow p) rows × AllPairs Differ rows
 
 -- a pool of a problem: each row is a row of the problem, none comes twice, and the forms are theirs, in order
-pub record IsPool (p : DesignProblem) (pool : Pooled) : Type 0 where
+pub record IsRowPool (p : DesignProblem) (pool : Pooled) : Type 0 where
   pub rows : All (IsRow p) pool.rows
   pub once : AllPairs Differ pool.rows
   pub forms : pool.forms ≡ forms_of_rows p pool.rows

@@ -3,11 +3,11 @@ use Rattle.std.specs.Prelude.{◌≡◌, ℕ, ◌+◌, ◌<◌, List, [], ◌++�
 use Rattle.area_graph.specs.declared.Point.{Point}
 use Rattle.area_graph.specs.Area.{FitsGraph, HasMetrics}
 use Rattle.area_graph.specs.Costs.{LeadsBy, cost}
-use Rattle.path_rows.specs.Forms.{Form}
-use Rattle.path_rows.specs.declared.form.Row.{Row}
-use Rattle.path_rows.specs.Problems.{DesignProblem, IsProblem, ends_of, request_at}
-use Rattle.path_rows.specs.Rows.{IsRivalOf, path_edges}
-use Rattle.path_rows.specs.Earnest.{IsFormOfRow}
+use Rattle.design_problem.specs.Forms.{Form}
+use Rattle.design_problem.specs.declared.form.Row.{Row}
+use Rattle.design_problem.specs.Problems.{DesignProblem, IsProblem, request_ends, request_at}
+use Rattle.design_problem.specs.Rows.{IsRivalOf, path_edges}
+use Rattle.design_problem.specs.Earnest.{IsFormOfRow}
 
 -- a problem, and the rows that are known of it
 pub record KnownRows : Type 0 where
@@ -19,22 +19,22 @@ abbrev pub no_problem : DesignProblem
 no_problem = record { graph = record { vertices = []; edges = [] }; vars = []; low = []; high = []; paths = [] }
 
 -- what every problem and its graph keep
-pub record IsKept (p : DesignProblem) : Type 0 where
+pub record IsProblemOnGraph (p : DesignProblem) : Type 0 where
   pub problem : IsProblem p
   pub graph : FitsGraph p.graph
   pub metrics : HasMetrics p.graph
 
 -- a true form: that of a row of the problem
-pub record IsTrueOf (p : DesignProblem) (form : Form) : Type 0 where
-  pub kept : IsKept p
+pub record IsTrueRowForm (p : DesignProblem) (form : Form) : Type 0 where
+  pub kept : IsProblemOnGraph p
   pub of_row : IsFormOfRow p form
 
 -- the path of a request leads at a point by the scale
 abbrev pub LeadsAt : DesignProblem → Point → ℕ → Type 0
-LeadsAt p point k = LeadsBy point.scale p.graph point (ends_of (request_at p.paths k)) (request_at p.paths k).path.edges
+LeadsAt p point k = LeadsBy point.scale p.graph point (request_ends (request_at p.paths k)) (request_at p.paths k).path.edges
 
 -- a rival of a request that costs less at a point than its path and the scale
-pub record IsTooCheap (p : DesignProblem) (point : Point) (request : ℕ) (edges : List ℕ) : Type 0 where
+pub record IsRivalTooCheap (p : DesignProblem) (point : Point) (request : ℕ) (edges : List ℕ) : Type 0 where
   pub rival : IsRivalOf p.graph (slice_get p.paths request) edges
   pub cheap : cost p.graph point edges < cost p.graph point (path_edges (slice_get p.paths request)) + point.scale
 

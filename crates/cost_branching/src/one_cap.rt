@@ -1,20 +1,20 @@
 //! One cap decided.
 ghost use Rattle.std.specs.Prelude.{◌≡◌, ◌≤◌, length, All, IfOk, OnOk};
-ghost use Rattle.path_rows.specs.Boxes.{IsBox};
-ghost use Rattle.path_rows.specs.Rows.{LeadsEach};
+ghost use Rattle.design_problem.specs.Boxes.{IsBox};
+ghost use Rattle.design_problem.specs.Rows.{LeadsEach};
 ghost use Rattle.form_search.specs.Advised.{AreCalled};
-ghost use Rattle.form_search.specs.Finds.{IsFound};
+ghost use Rattle.form_search.specs.Finds.{IsSearchResult};
 ghost use Rattle.form_search.specs.Sources.{Grows};
-ghost use Rattle.cost_branching.specs.Pools.{IsPool, MoreRows};
+ghost use Rattle.cost_branching.specs.Pools.{IsRowPool, MoreRows};
 ghost use Rattle.cost_branching.specs.Decisions.{IsDecided};
-ghost use Rattle.cost_branching.specs.Rivals.{IsTrueOf};
+ghost use Rattle.cost_branching.specs.Rivals.{IsTrueRowForm};
 
 use crate::rivals::{Begun, Rivals, keeps_conditions};
 use crate::{Found, Pool};
-use advisor_box::Advisor;
 use cost_base::OutOfMemory;
+use cut_advisors::Advisor;
+use design_problem::{CostBox, Problem, box_at};
 use form_search::search;
-use path_rows::{CostBox, Problem, box_at};
 use rival_separation::Asker;
 use std::alloc::Global;
 use std::marker::Brand;
@@ -31,14 +31,14 @@ fn search_rivals<B: Begun>(
     advisors: &mut Vec<Box<dyn Advisor>>,
 ) -> Result<Found, OutOfMemory>
     requires problem { problem.now ≡ B.problem }
-    requires pool { IsPool problem.now pool.old }
+    requires pool { IsRowPool problem.now pool.old }
     requires begun { pool.old.rows ≡ B.rows }
     requires ranges { IsBox (length problem.now.low) costs.now }
     requires lows { All (λ low. 1 ≤ low) costs.now.low }
-    ensures found { IfOk result (IsFound (LeadsEach problem.now) limits.now.top limits.now.nodes pool.new.forms costs.now) }
-    ensures pool { OnOk result (IsPool problem.now pool.new) }
+    ensures found { IfOk result (IsSearchResult (LeadsEach problem.now) limits.now.top limits.now.nodes pool.new.forms costs.now) }
+    ensures pool { OnOk result (IsRowPool problem.now pool.new) }
     ensures rows { MoreRows pool.old pool.new }
-    ensures forms { Grows (IsTrueOf problem.now) pool.old.forms pool.new.forms }
+    ensures forms { Grows (IsTrueRowForm problem.now) pool.old.forms pool.new.forms }
     ensures advisors { AreCalled ⟦<dyn Advisor as Advisor>⟧ (λ b. b.vtable) (λ b. state b) advisors.old.items advisors.new.items }
 {
     keeps_conditions(problem);
@@ -68,9 +68,9 @@ pub fn decide(
     advisors: &mut Vec<Box<dyn Advisor>>,
 ) -> Result<Found, OutOfMemory>
     requires cap { All (λ low. low ≤ cap) problem.now.low }
-    requires pool { IsPool problem.now pool.old }
+    requires pool { IsRowPool problem.now pool.old }
     ensures decided { IfOk result (IsDecided problem.now limits.now.top limits.now.nodes cap pool.new) }
-    ensures pool { IsPool problem.now pool.new }
+    ensures pool { IsRowPool problem.now pool.new }
     ensures more { MoreRows pool.old pool.new }
     ensures advisors { AreCalled ⟦<dyn Advisor as Advisor>⟧ (λ b. b.vtable) (λ b. state b) advisors.old.items advisors.new.items }
 {

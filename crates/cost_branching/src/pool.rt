@@ -1,8 +1,8 @@
 //! The pool of rows.
 ghost use Rattle.std.specs.Prelude.{◌≡◌, [], take};
 
+use design_problem::Row;
 use form_search::FormPool;
-use path_rows::Row;
 use std::alloc::Global;
 use std::marker::Model;
 

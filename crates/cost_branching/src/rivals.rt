@@ -1,17 +1,17 @@
 //! The rivals of a problem's wanted paths, as the source of a search.
 ghost use Rattle.std.specs.Prelude.{◌≡◌, ◌<◌, ◌++◌, ◌∷◌, [], length, IfOk, IsTrue, MatchBool, OnErr, OnOk, ◌↔◌};
-ghost use Rattle.path_rows.specs.Rows.{IsRow, LeadsEach, form_of_row, forms_of_rows};
-ghost use Rattle.path_rows.specs.Forms.{AreMet};
+ghost use Rattle.design_problem.specs.Rows.{IsRow, LeadsEach, form_of_row, forms_of_rows};
+ghost use Rattle.design_problem.specs.Forms.{AreMet};
 ghost use Rattle.rival_separation.specs.Askers.{IsAskerFor};
 ghost use Rattle.form_search.specs.Sources.{Grows, IsCostPoint};
-ghost use Rattle.cost_branching.specs.Pools.{AreRows};
-ghost use Rattle.cost_branching.specs.Rivals.{BeginWith, IsKept, IsTooCheap, IsTrueOf, LeadsAt};
-ghost use Rattle.cost_branching.specs.Asking.{AreAllAsked, AreMarkedAt, IsAskedOf};
+ghost use Rattle.cost_branching.specs.Pools.{ArePoolRows};
+ghost use Rattle.cost_branching.specs.Rivals.{BeginWith, IsProblemOnGraph, IsRivalTooCheap, IsTrueRowForm, LeadsAt};
+ghost use Rattle.cost_branching.specs.Asking.{AreAllRequestsAsked, AreMarkedAt, IsRequestAsked};
 
 use area_graph::{Path, Point};
 use cost_base::{Listed, OutOfMemory};
+use design_problem::{Problem, Row, form_of};
 use form_search::{Asked, FormPool, RowSource};
-use path_rows::{Problem, Row, form_of};
 use rival_separation::Asker;
 use std::alloc::Global;
 use std::marker::{Brand, Model, PhantomData};
@@ -19,8 +19,8 @@ use std::marker::{Brand, Model, PhantomData};
 /// The problem of a search, and the rows with which it begins, for proofs alone: each call of a search picks its own.
 pub trait Begun {
     ghost use Rattle.std.specs.Prelude.{List};
-    ghost use Rattle.path_rows.specs.declared.form.Row.{Row};
-    ghost use Rattle.path_rows.specs.Problems.{DesignProblem};
+    ghost use Rattle.design_problem.specs.declared.form.Row.{Row};
+    ghost use Rattle.design_problem.specs.Problems.{DesignProblem};
 
     ghost problem: { DesignProblem };
 
@@ -67,7 +67,7 @@ impl<'a, B: Begun> Model for Rivals<'a, B> {
 
 /// A problem keeps its conditions, and so does its graph.
 pub fn keeps_conditions(problem: &Problem)
-    ensures { IsKept problem.now }
+    ensures { IsProblemOnGraph problem.now }
 {
     problem.graph.keeps_conditions();
 }
@@ -132,7 +132,7 @@ fn is_beaten(problem: &Problem, asker: &mut Asker, request: u32, point: &Point) 
     requires request { request < length problem.now.paths }
     ensures asker { IsAskerFor problem.now.graph problem.now.paths asker.new }
     ensures marks { asker.new.marks ≡ asker.old.marks }
-    ensures rival { MatchBool result (IsTooCheap problem.now point.now request asker.new.room.path) (LeadsAt problem.now point.now request) }
+    ensures rival { MatchBool result (IsRivalTooCheap problem.now point.now request asker.new.room.path) (LeadsAt problem.now point.now request) }
 {
     keeps_conditions(problem);
     asker.find_rival(&problem.graph, problem.paths.as_slice(), request, point)
@@ -178,7 +178,7 @@ fn ask_one(
     requires marks { AreMarkedAt problem.now point.now asker.old.marks }
     ensures asker { IsAskerFor problem.now.graph problem.now.paths asker.new }
     ensures marks { AreMarkedAt problem.now point.now asker.new.marks }
-    ensures one { IfOk result (IsAskedOf point.now request (record { problem = problem.now; rows = rows.old.items }) pool.old
+    ensures one { IfOk result (IsRequestAsked point.now request (record { problem = problem.now; rows = rows.old.items }) pool.old
         (record { problem = problem.now; rows = rows.new.items }) pool.new) }
     ensures same_rows { OnErr result (rows.new.items ≡ rows.old.items) }
     ensures same_forms { OnErr result (pool.new ≡ pool.old) }
@@ -206,14 +206,14 @@ fn ask_marked(
 ) -> Result<Asked, OutOfMemory>
     requires asker { IsAskerFor problem.now.graph problem.now.paths asker.old }
     requires marks { AreMarkedAt problem.now point.now asker.old.marks }
-    requires rows { AreRows problem.now rows.old.items }
+    requires rows { ArePoolRows problem.now rows.old.items }
     requires point { IsCostPoint (length problem.now.low) point.now }
     requires met { AreMet (forms_of_rows problem.now rows.old.items) point.now }
     ensures asker { IsAskerFor problem.now.graph problem.now.paths asker.new }
-    ensures asked { IfOk result (AreAllAsked point.now (record { problem = problem.now; rows = rows.old.items }) pool.old
+    ensures asked { IfOk result (AreAllRequestsAsked point.now (record { problem = problem.now; rows = rows.old.items }) pool.old
         (record { problem = problem.now; rows = rows.new.items }) pool.new) }
     ensures more { BeginWith rows.old.items rows.new.items }
-    ensures grows { Grows (IsTrueOf problem.now) pool.old pool.new }
+    ensures grows { Grows (IsTrueRowForm problem.now) pool.old pool.new }
 {
     let count = path_count(problem);
     let mut asked = Asked::Nothing;
@@ -292,12 +292,12 @@ impl<'a, B: Begun> Rivals<'a, B> {
         point: &Point,
         pool: &mut FormPool,
     ) -> Result<Asked, OutOfMemory>
-        requires rows { AreRows self.old.problem self.old.rows }
+        requires rows { ArePoolRows self.old.problem self.old.rows }
         requires point { IsCostPoint (length self.old.problem.low) point.now }
         requires met { AreMet (forms_of_rows self.old.problem self.old.rows) point.now }
-        ensures asked { IfOk result (AreAllAsked point.now self.old pool.old self.new pool.new) }
+        ensures asked { IfOk result (AreAllRequestsAsked point.now self.old pool.old self.new pool.new) }
         ensures problem { self.new.problem ≡ self.old.problem }
-        ensures grows { Grows (IsTrueOf self.old.problem) pool.old pool.new }
+        ensures grows { Grows (IsTrueRowForm self.old.problem) pool.old pool.new }
     {
         let problem = self.problem;
         mark_beaten(problem, &mut self.asker, point);
@@ -307,19 +307,19 @@ impl<'a, B: Begun> Rivals<'a, B> {
 
 impl<'a, B: Begun> RowSource for Rivals<'a, B> {
     ghost use Rattle.std.specs.Prelude.{length};
-    ghost use Rattle.path_rows.specs.Rows.{LeadsEach};
-    ghost use Rattle.cost_branching.specs.Pools.{IsPool};
+    ghost use Rattle.design_problem.specs.Rows.{LeadsEach};
+    ghost use Rattle.cost_branching.specs.Pools.{IsRowPool};
     ghost use Rattle.cost_branching.specs.Candidates.{candidate_forms};
-    ghost use Rattle.cost_branching.specs.Rivals.{IsTrueOf};
-    ghost use Rattle.cost_branching.specs.SourceLaws.{scale_is_free, true_forms_hold, true_forms_listed};
+    ghost use Rattle.cost_branching.specs.Rivals.{IsTrueRowForm};
+    ghost use Rattle.cost_branching.specs.SourceLaws.{rival_scale_is_free, rival_forms_hold, rival_forms_listed};
 
     ghost count = { λ s. length s.problem.low };
 
     ghost accepted = { λ s. LeadsEach s.problem };
 
-    ghost true_form = { λ s. IsTrueOf s.problem };
+    ghost true_form = { λ s. IsTrueRowForm s.problem };
 
-    ghost in_step = { λ s forms. IsPool s.problem (record { rows = s.rows; forms = forms }) };
+    ghost in_step = { λ s forms. IsRowPool s.problem (record { rows = s.rows; forms = forms }) };
 
     ghost candidates = { λ s. candidate_forms s.problem };
 
@@ -340,9 +340,9 @@ impl<'a, B: Begun> RowSource for Rivals<'a, B> {
         self.each_leads(point)
     }
 
-    ghost true_forms_hold = { λ s. true_forms_hold s.problem };
+    ghost true_forms_hold = { λ s. rival_forms_hold s.problem };
 
-    ghost true_forms_listed = { λ s. true_forms_listed s.problem };
+    ghost true_forms_listed = { λ s. rival_forms_listed s.problem };
 
-    ghost scale_is_free = { λ s. scale_is_free s.problem };
+    ghost scale_is_free = { λ s. rival_scale_is_free s.problem };
 }

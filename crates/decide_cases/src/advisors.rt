@@ -1,7 +1,7 @@
 //! An advisor that counts what it is told.
 
-use advisor_box::{Advisor, Candidate};
-use path_rows::Entry;
+use cut_advisors::{Advisor, Candidate};
+use design_problem::Entry;
 
 /// Picks the first of fewer than 100 choices; of 100 or more the position that is the number of entries that it was told.
 #[derive(Drop)]

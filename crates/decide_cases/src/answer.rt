@@ -7,7 +7,7 @@ use crate::draft::Draft;
 use crate::problem_text::{box_text, problem_text};
 use crate::stop::Stop;
 use cost_base::OutOfMemory;
-use path_rows::{Problem, box_at};
+use design_problem::{Problem, box_at};
 use std::alloc::{AllocError, Global};
 use std::mem;
 

@@ -3,7 +3,7 @@
 use crate::stop::Stop;
 use area_graph::{Edge, Path, Price};
 use cost_base::{Listed, Name};
-use path_rows::Request;
+use design_problem::Request;
 use std::alloc::Global;
 use std::str::SplitWhitespace;
 
@@ -116,18 +116,18 @@ fn edge(words: &mut SplitWhitespace<'_>) -> Result<Command, Stop> {
 }
 
 /// A wanted path.
-fn wish(alloc: Global, words: &mut SplitWhitespace<'_>) -> Result<Command, Stop> {
+fn directive(alloc: Global, words: &mut SplitWhitespace<'_>) -> Result<Command, Stop> {
     let start = number(words)?;
     let end = number(words)?;
     let edges = numbers(alloc, words, "without")?;
-    let gone = numbers(alloc, words, "")?;
+    let excluded = numbers(alloc, words, "")?;
     Ok(Command::Wish(Request {
         path: Path {
             start,
             edges: Listed::from_items(edges),
         },
         end,
-        gone: Listed::from_items(gone),
+        excluded: Listed::from_items(excluded),
     }))
 }
 
@@ -156,7 +156,7 @@ fn network_line(
         return edge(words);
     }
     if first == "path" {
-        return wish(alloc, words);
+        return directive(alloc, words);
     }
     Err(Stop::Unread)
 }

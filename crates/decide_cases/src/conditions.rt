@@ -5,11 +5,11 @@ ghost use Rattle.cost_base.specs.Words.{IsWord, ends_a_word};
 ghost use Rattle.area_graph.specs.Area.{Area};
 ghost use Rattle.area_graph.specs.Costs.{IsPriced};
 ghost use Rattle.area_graph.specs.Paths.{IsPathOf};
-ghost use Rattle.path_rows.specs.Problems.{IsProblem, TakesAway, ends_of};
+ghost use Rattle.design_problem.specs.Problems.{IsProblem, TakesAway, request_ends};
 
 use area_graph::{Graph, Price, is_path_of};
 use cost_base::Listed;
-use path_rows::{Request, VarName};
+use design_problem::{Request, VarName};
 
 /// Whether numbers rise strictly and are below a count.
 pub(crate) fn are_members(numbers: &[u32], count: usize) -> bool
@@ -109,10 +109,11 @@ fn is_priced(price: Price, count: usize) -> bool
 
 /// Whether a wanted path is a simple path of its request, which takes away edges of the graph.
 fn is_request(graph: &Graph, request: &Request) -> bool
-    ensures { IsTrue result → IsPathOf graph.now (ends_of request.now) request.now.path.edges × TakesAway graph.now request.now.gone }
+    ensures { IsTrue result → IsPathOf graph.now (request_ends request.now) request.now.path.edges × TakesAway graph.now request.now.excluded }
 {
-    let gone = request.gone.as_slice();
-    is_path_of(graph, &request.path, request.end, gone) && are_members(gone, graph.edges().len())
+    let excluded = request.excluded.as_slice();
+    is_path_of(graph, &request.path, request.end, excluded)
+        && are_members(excluded, graph.edges().len())
 }
 
 /// Whether each edge has a price of a variable below the count, or none of a variable.
@@ -128,7 +129,7 @@ fn are_priced(graph: &Graph, count: usize) -> bool
 /// Whether there are at most 10,000 wanted paths, each one of its request.
 fn are_requests(graph: &Graph, paths: &[Request]) -> bool
     ensures few { IsTrue result → length paths.now ≤ 10000 }
-    ensures each { IsTrue result → All (λ r. IsPathOf graph.now (ends_of r) r.path.edges × TakesAway graph.now r.gone) paths.now }
+    ensures each { IsTrue result → All (λ r. IsPathOf graph.now (request_ends r) r.path.edges × TakesAway graph.now r.excluded) paths.now }
 {
     paths.len() <= 10_000 && paths.iter().all(|request| is_request(graph, request))
 }

@@ -4,13 +4,13 @@ ghost use Rattle.std.specs.Prelude.{◌≤◌, All};
 use crate::advisors::Counting;
 use crate::command::Budget;
 use crate::conditions::are_below;
-use advisor_box::{Advisor, Candidate, choose};
+use case_scripts::Line;
 use cost_base::{MemorySink, OutOfMemory};
 use cost_branching::{Found, Pool, decide};
-use entry_words::Line;
+use cut_advisors::{Advisor, Candidate, choose};
+use design_problem::{Problem, Row, Tree};
 use evidence_text::put_answer;
 use least_bound::least;
-use path_rows::{Problem, Row, Tree};
 use std::alloc::{AllocError, Global};
 use wide_fraction::{Limits, Top};
 
@@ -62,7 +62,7 @@ fn found_text(alloc: Global, found: &Found, rows: &[Row]) -> Result<String, Allo
     match found {
         Found::Costs(costs) => costs_text(alloc, costs.as_slice()),
         Found::Refuted(tree) => tree_text(alloc, "refuted", rows, tree),
-        Found::Spent(tree) => tree_text(alloc, "spent", rows, tree),
+        Found::Undecided(tree) => tree_text(alloc, "spent", rows, tree),
     }
 }
 

@@ -3,7 +3,7 @@
 use crate::conditions::is_problem;
 use area_graph::{Edge, Graph, Vertex, fits_graph};
 use cost_base::{Listed, Name, OutOfMemory};
-use path_rows::{Problem, Request, VarName};
+use design_problem::{Problem, Request, VarName};
 use std::alloc::Global;
 
 /// The vertices, edges, free interfaces, bounds and wanted paths that lines say.

@@ -2,7 +2,7 @@
 
 use area_graph::{Edge, Graph, Price, Vertex};
 use cost_base::{Name, OutOfMemory};
-use path_rows::{CostBox, Problem, Request, VarName};
+use design_problem::{CostBox, Problem, Request, VarName};
 use std::alloc::{AllocError, Global};
 use std::fmt;
 
@@ -75,12 +75,12 @@ fn put_path(alloc: Global, request: &Request, text: &mut String) -> Result<(), A
     let line = format!(in alloc; "\n  path {} {}", request.path.start, request.end)?;
     text.push_str(line.as_str())?;
     put_numbers(alloc, request.path.edges.as_slice(), text)?;
-    let gone = request.gone.as_slice();
-    if gone.is_empty() {
+    let excluded = request.excluded.as_slice();
+    if excluded.is_empty() {
         return Ok(());
     }
     text.push_str(" without")?;
-    put_numbers(alloc, gone, text)
+    put_numbers(alloc, excluded, text)
 }
 
 /// Puts ranges.

@@ -7,37 +7,38 @@ use Rattle.cost_base.specs.declared.ShelfStop.{ShelfStop}
 use Rattle.cost_base.specs.declared.ShelfStop.TheVariants as stop
 use Rattle.cost_base.specs.declared.Status.{Status}
 use Rattle.cost_base.specs.declared.Status.TheVariants as status
-use Rattle.cost_base.specs.Files.{times}
+use Rattle.cost_base.specs.Files.{count_of_name}
 use Rattle.cost_base.specs.Outside.{Rose}
 use Rattle.cost_base.specs.Histories.{Taken, CountsFailures, failure, failures}
-use Rattle.path_rows.specs.declared.answer.CapTree.{CapTree}
-use Rattle.path_rows.specs.declared.answer.Costs.{Costs}
-use Rattle.path_rows.specs.Problems.{DesignProblem}
-use Rattle.path_rows.specs.Rows.{IsBest}
-use Rattle.path_rows.specs.Answers.{AnswerParts}
-use Rattle.path_rows.specs.ProblemLaws.{HasNoFit}
-use Rattle.path_rows.specs.Text.{text}
+use Rattle.design_problem.specs.declared.answer.CapTree.{CapTree}
+use Rattle.design_problem.specs.declared.answer.Costs.{Costs}
+use Rattle.design_problem.specs.Problems.{DesignProblem}
+use Rattle.design_problem.specs.Rows.{AreBestCosts}
+use Rattle.design_problem.specs.Answers.{AnswerParts}
+use Rattle.design_problem.specs.ProblemLaws.{HasNoFit}
+use Rattle.design_problem.specs.Text.{text}
 use Rattle.answer_lines.specs.Grammar.{AtHead}
-use Rattle.evidence_reader.specs.Refusals.{IsRefused}
-use Rattle.answer_laws.specs.Laws.{IsAnswerValue}
-use Rattle.answer_laws.proofs.OneAnswer.{texts_tell}
-use Rattle.answer_laws.proofs.NoRefusal.{texts_read}
+use Rattle.evidence_reader.specs.Refusals.{IsTextRefused}
+use Rattle.evidence_text.specs.AnswerValues.{IsAnswerValue}
+use Rattle.evidence_reader.proofs.OneAnswer.{texts_tell}
+use Rattle.evidence_reader.proofs.NoRefusal.{texts_read}
 use Rattle.least_bound.specs.Answered.{UnfinishedAt}
 use Rattle.config_writer.specs.Rewriting.{first_missing}
 use Rattle.command_words.specs.Jobs.{Bounds, JobRead}
 use Rattle.command_words.specs.Jobs as read
 use Rattle.command_words.specs.Commands.{job_of}
-use Rattle.case_maker.specs.Cases.{made_case}
+use Rattle.trial_maker.specs.TrialTexts.{made_trial}
 use Rattle.input_files.specs.Readings.{Reading, Take, Refused, Ready, End, Says, Faulty, Failed, too_long, OnCame, EndsAs}
 use Rattle.input_files.specs.Outcomes.{Input}
 use Rattle.input_files.proofs.Readings.{failed, faulty_failed, file_as, said_failed}
-use Rattle.answer_commands.specs.declared.rejection.Rejection.{Rejection}
-use Rattle.answer_commands.specs.Checks.{IsTextOf}
-use Rattle.answer_commands.specs.Rewrites.{IsUnfit, new_costs}
-use Rattle.designer_command.specs.Designs.{IsDesigned, IsShownImpossible, IsShownUndecided}
-use Rattle.designer_command.specs.Trials.{MayTry, MayTryEnd, case_end, trial_limits}
-use Rattle.designer_command.specs.Runs.{MayAudit, MayCheck, MayDesign, MayRewrite, MayWrite, OnFailure, RunMeets, Writes}
-use Rattle.designer_command.specs.Completeness.{CannotSpend, DesignsAreAccepted, HeadedCostsAreWritten, IsSettled, MadeCasesAreDesigned, ValidAnswersAreAccepted, WellFormedInputIsAudited, WellFormedInputIsDesigned}
+use Rattle.evidence_commands.specs.declared.rejection.Rejection.{Rejection}
+use Rattle.evidence_commands.specs.Checks.{IsTextOf, MayCheck}
+use Rattle.evidence_commands.specs.Rewrites.{IsUnfit, new_costs, MayRewrite}
+use Rattle.design_commands.specs.Designs.{IsDesigned, IsShownImpossible, IsShownUndecided, MayDesign}
+use Rattle.design_commands.specs.Trials.{MayTry, MayTryEnd, trial_end, trial_limits}
+use Rattle.path_commands.specs.Audits.{MayAudit}
+use Rattle.designer_command.specs.Runs.{MayWrite, OnFailure, RunMeets, Writes}
+use Rattle.designer_command.specs.Completeness.{CannotBeUndecided, DesignsAreAccepted, HeadedCostsAreWritten, IsRunSettled, TrialsAreDesigned, ValidAnswersAreAccepted, WellFormedInputIsAudited, WellFormedInputIsDesigned}
 use Rattle.designer_command.proofs.OwnStatuses.{only_done, own_audit, own_check, own_design, own_end, own_rewrite, own_try, said_end}
 
 pub audited : WellFormedInputIsAudited
@@ -48,14 +49,14 @@ accepted names answer came claim a end bytes ends value spelled valid h =
     only_done _ MayCheck came claim end bytes own_check (λ h. h) (λ h. h) (λ h. h.1.never a value spelled valid) ends h
 
 -- best costs settle a problem, and so does that there are no fit ones
-pub best_settles : (p : DesignProblem) (w : List ℕ) → IsBest p w → IsSettled p status.Done
+pub best_settles : (p : DesignProblem) (w : List ℕ) → AreBestCosts p w → IsRunSettled p status.Done
 best_settles p w best = record {
   either = inl refl;
   fit = λ other fits. refl;
   unfit = λ none. absurd (none w best.fit);
 }
 
-pub none_settles : (p : DesignProblem) → HasNoFit p → IsSettled p status.Impossible
+pub none_settles : (p : DesignProblem) → HasNoFit p → IsRunSettled p status.Impossible
 none_settles p none = record {
   either = inr refl;
   fit = λ other fits. absurd (none other fits);
@@ -63,7 +64,7 @@ none_settles p none = record {
 }
 
 -- where the budget can't be used up, no text shows that it was
-pub never_undecided : (limits : Bounds) (p : DesignProblem) (bytes : List ℕ) → CannotSpend limits p → IsShownUndecided limits p bytes → ⊥
+pub never_undecided : (limits : Bounds) (p : DesignProblem) (bytes : List ℕ) → CannotBeUndecided limits p → IsShownUndecided limits p bytes → ⊥
 never_undecided limits p bytes never shown = by_tree shown.answer.unfinished shown.undecided.unfinished
   where
     by_tree : (t : Option CapTree) → UnfinishedAt p limits.top limits.nodes shown.answer.rows shown.cap t → ⊥
@@ -75,7 +76,7 @@ never_undecided limits p bytes never shown = by_tree shown.answer.unfinished sho
 
 pub designed : WellFormedInputIsDesigned
 designed limits names came d end bytes ends never h =
-    said_end _ (MayDesign limits) came d end bytes (IsSettled d.problem) (own_design limits)
+    said_end _ (MayDesign limits) came d end bytes (IsRunSettled d.problem) (own_design limits)
     (record {
       done = λ h. best_settles d.problem h.costs h.best;
       impossible = λ h. none_settles d.problem h.none;
@@ -83,9 +84,9 @@ designed limits names came d end bytes ends never h =
       rejected = λ h. absurd h;
     }) ends h
 
-pub cases_designed : MadeCasesAreDesigned
+pub cases_designed : TrialsAreDesigned
 cases_designed blocks start d end bytes says never h =
-    own_end (MayTry blocks start) d end bytes (IsSettled d.problem) (own_try blocks start)
+    own_end (MayTry blocks start) d end bytes (IsRunSettled d.problem) (own_try blocks start)
     (record {
       done = λ h. best_settles d.problem h.costs h.best;
       impossible = λ h. none_settles d.problem h.is_text.none;
@@ -117,7 +118,7 @@ written config answer came r a costs end bytes ends value spelled printed headed
   where
     fit : (rejection : Rejection) → IsUnfit r rejection → ⊥
     fit rejection (inl off) = texts_read a off.fault rejection.place value
-        (subst (λ (bs : List ℕ). IsRefused AtHead 0 bs off.fault rejection.place) spelled off.refused)
+        (subst (λ (bs : List ℕ). IsTextRefused AtHead 0 bs off.fault rejection.place) spelled off.refused)
     fit rejection (inr (inl without)) = none_some costs (sym without.none ∙ same_costs r.bytes a without.answer value spelled without.said ∙ printed)
     fit rejection (inr (inr missing)) =
         missing.missing
@@ -128,10 +129,10 @@ abbrev mark : Bool → ℕ
 mark b = cond b 1 0
 
 -- a file that failed is counted
-one_failed : (name file : List ℕ) (names : List (List ℕ)) → name ≡ file → 0 < times (name ∷ names) file
+one_failed : (name file : List ℕ) (names : List (List ℕ)) → name ≡ file → 0 < count_of_name (name ∷ names) file
 one_failed name file names same =
     let here : bytes_eq name file ≡ true = (bytes_eq-Decides name file).1 same in
-    let counted : times (name ∷ names) file ≡ mark (bytes_eq name file) + times names file = sum_by-cons (λ (x : List ℕ). mark (bytes_eq x file)) name names in
+    let counted : count_of_name (name ∷ names) file ≡ mark (bytes_eq name file) + count_of_name names file = sum_by-cons (λ (x : List ℕ). mark (bytes_eq x file)) name names in
     let one : mark (bytes_eq name file) ≡ mark true = ap mark here in
     omega (arith, counted, one)
 
@@ -143,7 +144,7 @@ failed_here : {A : Type 0} (taken_name name : List ℕ) (next : List ℕ → Rea
     (came : Result (List ℕ) ShelfStop) → taken_name ≡ name →
     OnCame came (λ bytes. EndsAs (next bytes) more (Failed file))
     ((more ≡ []) × (failed A file ≡ Faulty (too_long name))) ((more ≡ []) × (failed A file ≡ Failed name)) →
-    ((bytes : List ℕ) → EndsAs (next bytes) more (Failed file) → 0 < times (failures more) file) → 0 < times (failure taken_name came ++ failures more) file
+    ((bytes : List ℕ) → EndsAs (next bytes) more (Failed file) → 0 < count_of_name (failures more) file) → 0 < count_of_name (failure taken_name came ++ failures more) file
 failed_here taken_name name next more file (Ok bytes) is then rest = rest bytes then
 failed_here {A = A} taken_name name next more file (Err stop.TooLong) is then rest = absurd (faulty_failed {A = A} (too_long name) file (sym then.1))
 failed_here {A = A} taken_name name next more file (Err stop.Failed) is then rest =
@@ -152,7 +153,7 @@ failed_here {A = A} taken_name name next more file (Err stop.Failed) is then res
 failed_here taken_name name next more file (Err stop.OutOfMemory) is then rest = absurd then
 
 -- the file that failed is among those that failed
-failed_among : {A : Type 0} (reading : Reading A) (came : List Taken) (file : List ℕ) → EndsAs reading came (Failed file) → 0 < times (failures came) file
+failed_among : {A : Type 0} (reading : Reading A) (came : List Taken) (file : List ℕ) → EndsAs reading came (Failed file) → 0 < count_of_name (failures came) file
 failed_among (Ready x) [] file is = absurd (said_failed x file (sym is))
 failed_among (Ready x) (taken ∷ more) file is = absurd is
 failed_among {A = A} (Refused r) [] file is = absurd (faulty_failed {A = A} r file (sym is))
@@ -176,14 +177,14 @@ try_failed blocks start (Failed file) bytes h = h
 no_read_fault : (job : Option JobRead) (came : List Taken) (bytes : List ℕ) →
     CountsFailures (λ name. 0) (λ name. 0) came → MayWrite job came status.ReadFault bytes → ⊥
 no_read_fault None came bytes counted h = h
-no_read_fault (Some (read.Design request limits configs)) came bytes counted h = none_failed _ came bytes counted h
+no_read_fault (Some (read.Design s)) came bytes counted h = none_failed _ came bytes counted h
 no_read_fault (Some (read.Check request answer configs)) came bytes counted h = none_failed _ came bytes counted h
 no_read_fault (Some (read.Audit request configs)) came bytes counted h = none_failed _ came bytes counted h
 no_read_fault (Some (read.Rewrite answer config)) came bytes counted h = none_failed _ came bytes counted h
-no_read_fault (Some (read.Trial blocks start)) came bytes counted h = try_failed blocks start (case_end (made_case blocks start)) bytes h.1
-no_read_fault (Some (read.Conflict request limits configs)) came bytes counted h = none_failed _ came bytes counted h
-no_read_fault (Some (read.Spread request sets limits configs)) came bytes counted h = none_failed _ came bytes counted h
-no_read_fault (Some (read.Total request limits configs)) came bytes counted h = none_failed _ came bytes counted h
+no_read_fault (Some (read.Trial blocks start)) came bytes counted h = try_failed blocks start (trial_end (made_trial blocks start)) bytes h.1
+no_read_fault (Some (read.Conflict s)) came bytes counted h = none_failed _ came bytes counted h
+no_read_fault (Some (read.Spread s sets)) came bytes counted h = none_failed _ came bytes counted h
+no_read_fault (Some (read.Total s)) came bytes counted h = none_failed _ came bytes counted h
 no_read_fault (Some (read.Lsas request configs)) came bytes counted h = none_failed _ came bytes counted h
 no_read_fault (Some (read.Route lsas from to)) came bytes counted h = none_failed _ came bytes counted h
 

@@ -1,16 +1,36 @@
 -- A budget of about twice as many entries as there are points can't be used up.
-use Rattle.std.proofs.Common.{◌≡◌, ℕ, suc, ◌+◌, ◌-◌, ◌*◌, ◌<◌, ◌≤◌, sym, ◌∙◌, arith, List, [], ◌∷◌, length, map}
-use Rattle.std.specs.Prelude.{slice_index, min}
+use Rattle.std.proofs.Common.{◌≡◌, ℕ, suc, ◌+◌, ◌-◌, ◌*◌, ◌<◌, ◌≤◌, sym, ◌∙◌, ap, subst, arith, List, [], ◌∷◌, length, map}
+use Rattle.std.specs.Prelude.{slice_index, min, All, Contains, Option, None, Some}
 use Rattle.std.proofs.Math.Nat.{mul-le-mul_left, mul-le-mul_right}
 use Rattle.std.proofs.lemmas.List.{length-map, get_or-map}
-use Rattle.path_rows.specs.Problems.{DesignProblem}
-use Rattle.path_rows.specs.Boxes.{capped, points, points_of}
-use Rattle.path_rows.specs.Rows.{box_of, forms_of_rows}
-use Rattle.path_rows.specs.Answers.{greatest_bound}
-use Rattle.path_rows.proofs.ProblemTrees.{le_greatest}
-use Rattle.path_rows.proofs.TreeShapes.{few_entries}
+use Rattle.design_problem.specs.declared.form.Form.{Form}
+use Rattle.design_problem.specs.declared.tree.Entry.{Entry}
+use Rattle.design_problem.specs.declared.tree.Entry.TheVariants.{Undone}
+use Rattle.design_problem.specs.Problems.{DesignProblem, IsProblem}
+use Rattle.design_problem.specs.Boxes.{capped, points, points_of}
+use Rattle.design_problem.specs.Rows.{box_of, forms_of_rows, greatest_cost}
+use Rattle.design_problem.specs.Trees.{IsSoundTree, entry_count}
+use Rattle.design_problem.specs.Answers.{greatest_bound}
+use Rattle.design_problem.proofs.ProblemTrees.{le_greatest}
+use Rattle.design_problem.proofs.TreeShapes.{few_entries}
 use Rattle.printed_rows.proofs.CapBoxes.{capped_box}
-use Rattle.designer_command.specs.Completeness.{LargeBudgetsSuffice}
+use Rattle.command_words.specs.Jobs.{Bounds}
+use Rattle.conflict_core.proofs.LargeBudgets.{large_suffice as conflict_large}
+use Rattle.spread_sets.proofs.PrintedSets.{large_suffice as spread_large}
+use Rattle.least_total.specs.Totals.{forms_within}
+use Rattle.least_total.proofs.RoundLaws.{lows_below}
+use Rattle.cost_base.specs.Histories.{Taken}
+use Rattle.text_lines.specs.LineFaults.{FaultyLine}
+use Rattle.set_reader.specs.declared.stop.SetFault.{SetFault}
+use Rattle.set_reader.specs.Reading.{set_fault}
+use Rattle.input_files.specs.declared.problem.View.TheVariants.{AsRequested}
+use Rattle.input_files.specs.Inputs.{InputFiles}
+use Rattle.input_files.specs.Readings.{EndsAs, Says}
+use Rattle.input_files.specs.Outcomes.{outcome}
+use Rattle.input_files.proofs.Readings.{one_said, said_faulty, was_read}
+use Rattle.input_files.proofs.ReadyInputs.{came_whole, ready_is}
+use Rattle.path_commands.specs.SetFiles.{Sharing, if_sets, sets_read, spread_read}
+use Rattle.designer_command.specs.Completeness.{IsLarge, LargeBudgetIsEnough, LargeBudgetsSuffice}
 
 product_le : (a b c d : ℕ) → a ≤ b → c ≤ d → a * c ≤ b * d
 product_le a b c d first second = omega (arith, mul-le-mul_right c first, mul-le-mul_left b second)
@@ -38,8 +58,48 @@ capped-le p cap =
     let most : slice_index p.high k ≤ greatest_bound p = le_greatest p.high k inside in
     omega arith)
 
+-- no tree over the box at such a cap has an Undone and just as many entries
+never_spent : (limits : Bounds) (p : DesignProblem) (cap : ℕ) (forms : List Form) (tree : List Entry) → IsProblem p →
+    IsLarge limits p → All (λ low. low ≤ cap) p.low → IsSoundTree forms (capped (box_of p) cap) tree → Contains tree Undone →
+    entry_count tree ≡ limits.nodes → ⊥
+never_spent limits p cap forms tree kept large no_higher sound undone spent =
+    let few = (few_entries (length p.low) forms (capped (box_of p) cap) tree (capped_box p cap kept no_higher) sound).unfinished undone in
+    omega (arith, few, large, spent, capped-le p cap)
+
+-- for a problem a large budget is enough
+enough : (limits : Bounds) (p : DesignProblem) → IsProblem p → IsLarge limits p → LargeBudgetIsEnough limits p
+enough limits p kept large = record {
+  design = λ cap rows tree no_higher true_rows earnest undone spent.
+      never_spent limits p cap (forms_of_rows p rows) tree kept large no_higher earnest.sound undone spent;
+  conflict = conflict_large p limits.top limits.nodes kept large;
+  spread = λ sets. spread_large p sets limits.top limits.nodes kept large;
+  total = λ w bound rows tree best true_rows earnest undone spent.
+      never_spent limits p (greatest_cost w) (forms_within p bound rows) tree kept large (lows_below p w best.fit) earnest.sound undone spent;
+}
+
+-- the problem that is read before a file of sets
+sets_of : (file bytes : List ℕ) (p : DesignProblem) (o : Option (FaultyLine SetFault)) (came : List Taken) (sharing : Sharing) →
+    EndsAs (if_sets file p bytes o) came (Says sharing) → sharing.problem ≡ p
+sets_of file bytes p (Some faulty) [] sharing is = absurd (said_faulty sharing _ is)
+sets_of file bytes p (Some faulty) (taken ∷ more) sharing is = absurd is
+sets_of file bytes p None [] sharing is = ap (λ (s : Sharing). s.problem) (one_said sharing (record { problem = p; bytes = bytes }) is)
+sets_of file bytes p None (taken ∷ more) sharing is = absurd is
+
+sharing_of : (file : List ℕ) (p : DesignProblem) (came : List Taken) (sharing : Sharing) → EndsAs (sets_read file p) came (Says sharing) → sharing.problem ≡ p
+sharing_of file p [] sharing is = absurd is
+sharing_of file p (taken ∷ more) sharing is =
+    came_whole taken.came (λ bytes. if_sets file p bytes (set_fault p bytes)) more sharing file is.2
+    (λ bytes ends. sets_of file bytes p (set_fault p bytes) more sharing ends)
+
+sharing_kept : (names : InputFiles) (file : List ℕ) (came : List Taken) (sharing : Sharing) →
+    EndsAs (spread_read names file) came (Says sharing) → IsProblem sharing.problem
+sharing_kept names file came sharing is =
+    let read = was_read (outcome AsRequested names) (λ d. sets_read file d.problem) came sharing is in
+    subst IsProblem (sym (sharing_of file read.value.problem read.later sharing read.then_said)) (ready_is names read.value read.first read.said).kept
+
 pub large_suffice : LargeBudgetsSuffice
-large_suffice limits p kept enough cap rows tree no_higher true_rows earnest undone spent =
-    let few = (few_entries (length p.low) (forms_of_rows p rows) (capped (box_of p) cap) tree
-    (capped_box p cap kept no_higher) earnest.sound).unfinished undone in
-    omega (arith, few, enough, spent, capped-le p cap)
+large_suffice = (
+  λ limits names came d ends large. enough limits d.problem (ready_is names d came ends).kept large,
+  λ limits names file came sharing ends large.
+      λ sets said. (enough limits sharing.problem (sharing_kept names file came sharing ends) large).spread sets,
+)

@@ -1,19 +1,5 @@
-pub mod PresentCosts
-pub mod CheapestWith
-pub mod PrintedText
-pub mod PrintedSections
-pub mod LineRuns
-pub mod ReadBackLaws
-pub mod DesignedLaws
-pub mod DesignRuns
 pub mod OwnStatuses
 pub mod Runs
-pub mod Audits
-pub mod OnlyCheapest
-mod Examples
-pub mod MadeNames
-pub mod Trials
-pub mod TotalRuns
 pub mod LargeBudgets
 pub mod CompletenessLaws
 pub mod FurtherCommands

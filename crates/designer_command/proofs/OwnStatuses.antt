@@ -6,13 +6,17 @@ use Rattle.cost_base.specs.Histories.{Taken}
 use Rattle.command_words.specs.Jobs.{Bounds}
 use Rattle.input_files.specs.Readings.{Reading, Says, Faulty, Failed, EndsAs}
 use Rattle.input_files.proofs.Readings.{one_end, one_said, said_faulty, said_failed}
-use Rattle.lsa_commands.specs.Lsas.{MayLsas}
-use Rattle.lsa_commands.specs.Routes.{MayRoute}
-use Rattle.wish_commands.specs.Conflicts.{MayConflict}
-use Rattle.wish_commands.specs.Spreads.{MaySpread}
-use Rattle.designer_command.specs.TotalRuns.{MayTotal}
-use Rattle.designer_command.specs.Trials.{MayTry}
-use Rattle.designer_command.specs.Runs.{OnSaid, MayAfter, MayAudit, MayCheck, MayDesign, MayRewrite}
+use Rattle.database_commands.specs.Lsas.{MayLsas}
+use Rattle.database_commands.specs.Routes.{MayRoute}
+use Rattle.path_commands.specs.Conflicts.{MayConflict}
+use Rattle.path_commands.specs.Spreads.{MaySpread}
+use Rattle.design_commands.specs.TotalRuns.{MayTotal}
+use Rattle.design_commands.specs.Trials.{MayTry}
+use Rattle.designer_command.specs.Runs.{OnSaid, MayAfter}
+use Rattle.path_commands.specs.Audits.{MayAudit}
+use Rattle.evidence_commands.specs.Checks.{MayCheck}
+use Rattle.design_commands.specs.Designs.{MayDesign}
+use Rattle.evidence_commands.specs.Rewrites.{MayRewrite}
 
 -- what a command may write of what its files say goes with no other status than its own
 pub record SaysItsOwn {A : Type 0} (may : A → Status → List ℕ → Type 0) : Type 0 where

@@ -4,7 +4,7 @@ use Rattle.std.specs.Prelude.{Option, Result, Ok, Err, Some, None, IfOk, MatchRe
 use Rattle.cost_base.specs.declared.OutOfMemory.{OutOfMemory}
 use Rattle.cost_base.specs.declared.Status.{Status}
 use Rattle.cost_base.specs.declared.Status.TheVariants as status
-use Rattle.cost_base.specs.Outside.{GotWhole}
+use Rattle.cost_base.specs.Outside.{GotAll}
 use Rattle.cost_base.specs.Histories.{Taken}
 use Rattle.command_words.specs.declared.job.Job.{Job}
 use Rattle.command_words.specs.Jobs.{JobRead, seen}
@@ -15,11 +15,21 @@ use Rattle.input_files.specs.Readings.{Reading, Gave, End, Says, Faulty, Failed}
 use Rattle.input_files.specs.Stops.{StopsAs, IsReadAs, refusal_in}
 use Rattle.report_writer.specs.declared.report.Report.{Report}
 use Rattle.report_writer.specs.Reports.{ReportsStop, ReportsAny, IsWritten, bytes_in}
+use Rattle.input_files.specs.Inputs.{InputFiles}
 use Rattle.input_files.specs.Outcomes.{Input}
-use Rattle.case_maker.specs.Cases.{made_case}
-use Rattle.designer_command.specs.Trials.{MayTryEnd, case_end}
-use Rattle.designer_command.specs.Runs.{OnSaid, MayAfter, MayWrite, ReportsJob, WritesNothing, WritesWhole, Writes}
-use Rattle.designer_command.proofs.OwnStatuses.{SaysItsOwn}
+use Rattle.database_commands.specs.Lsas.{MayLsas}
+use Rattle.database_commands.specs.Routes.{MayRoute}
+use Rattle.path_commands.specs.Audits.{MayAudit}
+use Rattle.path_commands.specs.Conflicts.{MayConflict}
+use Rattle.path_commands.specs.Spreads.{MaySpread}
+use Rattle.evidence_commands.specs.Checks.{MayCheck}
+use Rattle.evidence_commands.specs.Rewrites.{MayRewrite}
+use Rattle.design_commands.specs.Designs.{MayDesign}
+use Rattle.design_commands.specs.TotalRuns.{MayTotal}
+use Rattle.trial_maker.specs.TrialTexts.{made_trial}
+use Rattle.design_commands.specs.Trials.{MayTryEnd, trial_end}
+use Rattle.designer_command.specs.Runs.{IsMadeAs, IsTried, OnSaid, MayAfter, MayReport, MayWrite, ReportsJob, WritesNothing, WritesAll, Writes}
+use Rattle.designer_command.proofs.OwnStatuses.{SaysItsOwn, own_audit, own_check, own_conflict, own_design, own_lsas, own_rewrite, own_route, own_spread, own_total}
 
 said_after : {A : Type 0} (reading : Reading A) (may : A → Status → List ℕ → Type 0) (came : List Taken) (s : Status)
     (bytes : List ℕ) → SaysItsOwn may → OnSaid reading came may s bytes → MayAfter reading may came s bytes
@@ -53,13 +63,39 @@ report_after reading may came (Ok report) result own h same =
     (said_after reading may came report.status (bytes_in report.text) own (record { said = h.said; ends = h.ends; allowed = h.fits }))
 report_after reading may came (Err stop) result own h r = stop_after reading may came stop result h r
 
--- what a command reports is what it may write
-pub reported : {A : Type 0} (Given : List Taken → Type 0) (reading : Reading A) (may : A → Status → List ℕ → Type 0)
-    (made : Result Report Stop) (result : Result Report OutOfMemory) → SaysItsOwn may →
-    Gave Given (λ came. IsReadAs reading came (λ report x. may x report.status (bytes_in report.text)) made) →
-    ReportsAny made result → Gave Given
-    (λ came. IfOk result (λ report. MayAfter reading may came report.status (bytes_in report.text)))
-reported Given reading may made result own a r = record { came = a.came; given = a.given; so = report_after reading may a.came made result own a.so r }
+trial_after : (blocks start : ℕ) (came : List Taken) (made : Result Report Stop) (result : Result Report OutOfMemory) →
+    (came ≡ []) × IsTried blocks start made → ReportsAny made result →
+    IfOk result (λ report. MayWrite (Some (read.Trial blocks start)) came report.status (bytes_in report.text))
+trial_after blocks start came (Ok report) result h same =
+    subst (λ (r : Result Report OutOfMemory). IfOk r (λ made. MayWrite (Some (read.Trial blocks start)) came made.status (bytes_in made.text)))
+    (sym same) (h.0, h.1)
+trial_after blocks start came (Err stop) (Err e) h r = tt
+trial_after blocks start came (Err stop) (Ok report) h r = absurd (subst (λ (s : Stop). ReportsStop s (Ok report)) h.1 r)
+
+-- what the command of a job makes is, once it is a report, what the job may write
+done_after : (job : JobRead) (came : List Taken) (made : Result Report Stop) (result : Result Report OutOfMemory) →
+    IsMadeAs job came made → ReportsAny made result → IfOk result (λ report. MayWrite (Some job) came report.status (bytes_in report.text))
+done_after (read.Design s) came made result h r = report_after _ (MayDesign s.limits) came made result (own_design s.limits) h r
+done_after (read.Check request answer configs) came made result h r = report_after _ MayCheck came made result own_check h r
+done_after (read.Audit request configs) came made result h r = report_after _ MayAudit came made result own_audit h r
+done_after (read.Rewrite answer config) came made result h r = report_after _ MayRewrite came made result own_rewrite h r
+done_after (read.Trial blocks start) came made result h r = trial_after blocks start came made result h r
+done_after (read.Conflict s) came made result h r = report_after _ (MayConflict s.limits) came made result (own_conflict s.limits) h r
+done_after (read.Spread s sets) came made result h r = report_after _ (MaySpread s.limits) came made result (own_spread s.limits) h r
+done_after (read.Total s) came made result h r = report_after _ (MayTotal s.limits) came made result (own_total s.limits) h r
+done_after (read.Lsas request configs) came made result h r = report_after _ MayLsas came made result own_lsas h r
+done_after (read.Route lsas from to) came made result h r = report_after _ (MayRoute from to) came made result (own_route from to) h r
+
+pub job_done : (Given : List Taken → Type 0) (job : JobRead) (made : Result Report Stop) (result : Result Report OutOfMemory) →
+    Gave Given (λ came. IsMadeAs job came made) → ReportsAny made result → ReportsJob Given job result
+job_done Given job made result a r = record { came = a.came; given = a.given; so = done_after job a.came made result a.so r }
+
+-- files by another name make the same
+pub files_made : {A : Type 0} (Given : List Taken → Type 0) (reading : InputFiles → Reading A) (may : A → Status → List ℕ → Type 0)
+    (made : Result Report Stop) (names other : InputFiles) → names ≡ other →
+    Gave Given (λ came. IsReadAs (reading names) came (MayReport may) made) → Gave Given (λ came. IsReadAs (reading other) came (MayReport may) made)
+files_made Given reading may made names other same a =
+    subst (λ (n : InputFiles). Gave Given (λ came. IsReadAs (reading n) came (MayReport may) made)) same a
 
 -- statuses with which no whole text is written
 abbrev pub WritesNone : (Status → List ℕ → Type 0) → Type 0
@@ -78,24 +114,24 @@ try_wanting blocks start (Failed file) bytes h = h
 -- no whole text goes with a fault of writing or with want of memory
 pub writes_none : (job : Option JobRead) (came : List Taken) → WritesNone (MayWrite job came)
 writes_none None came = (λ bytes h. h, λ bytes h. h)
-writes_none (Some (read.Design request limits configs)) came = (λ bytes h. h, λ bytes h. h)
+writes_none (Some (read.Design s)) came = (λ bytes h. h, λ bytes h. h)
 writes_none (Some (read.Check request answer configs)) came = (λ bytes h. h, λ bytes h. h)
 writes_none (Some (read.Audit request configs)) came = (λ bytes h. h, λ bytes h. h)
 writes_none (Some (read.Rewrite answer config)) came = (λ bytes h. h, λ bytes h. h)
 writes_none (Some (read.Trial blocks start)) came = (
-  λ bytes h. try_unwritten blocks start (case_end (made_case blocks start)) bytes h.1,
-  λ bytes h. try_wanting blocks start (case_end (made_case blocks start)) bytes h.1,
+  λ bytes h. try_unwritten blocks start (trial_end (made_trial blocks start)) bytes h.1,
+  λ bytes h. try_wanting blocks start (trial_end (made_trial blocks start)) bytes h.1,
 )
-writes_none (Some (read.Conflict request limits configs)) came = (λ bytes h. h, λ bytes h. h)
-writes_none (Some (read.Spread request sets limits configs)) came = (λ bytes h. h, λ bytes h. h)
-writes_none (Some (read.Total request limits configs)) came = (λ bytes h. h, λ bytes h. h)
+writes_none (Some (read.Conflict s)) came = (λ bytes h. h, λ bytes h. h)
+writes_none (Some (read.Spread s sets)) came = (λ bytes h. h, λ bytes h. h)
+writes_none (Some (read.Total s)) came = (λ bytes h. h, λ bytes h. h)
 writes_none (Some (read.Lsas request configs)) came = (λ bytes h. h, λ bytes h. h)
 writes_none (Some (read.Route lsas from to)) came = (λ bytes h. h, λ bytes h. h)
 
 -- a text that may be written, written whole
 whole_meets : (may : Status → List ℕ → Type 0) (handed : List ℕ → Type 0) (got_before got_now : Option (List ℕ))
     (count_before count_now : ℕ) (aim : Status) → WritesNone may →
-    WritesWhole may handed got_before got_now aim → Writes may handed got_before got_now count_before count_now aim
+    WritesAll may handed got_before got_now aim → Writes may handed got_before got_now count_before count_now aim
 whole_meets may handed got_before got_now count_before count_now status.Done none h = h
 whole_meets may handed got_before got_now count_before count_now status.Impossible none h = h
 whole_meets may handed got_before got_now count_before count_now status.Undecided none h = h
@@ -109,7 +145,7 @@ whole_meets may handed got_before got_now count_before count_now status.Evidence
 -- what was put of a report that may be written ends a run
 pub written_meets : (may : Status → List ℕ → Type 0) (handed : List ℕ → Type 0) (got_before got_now : Option (List ℕ))
     (count_before count_now : ℕ) (aim : Status) (bytes : List ℕ) (end : Status) → WritesNone may →
-    ((some : List ℕ) → handed some → GotWhole got_before got_now some) → may aim bytes →
+    ((some : List ℕ) → handed some → GotAll got_before got_now some) → may aim bytes →
     IsWritten aim bytes handed count_before count_now end →
     Writes may handed got_before got_now count_before count_now end
 written_meets may handed got_before got_now count_before count_now aim bytes end none got allowed (inl h) =
@@ -124,7 +160,7 @@ written_meets may handed got_before got_now count_before count_now aim bytes end
 pub made_meets : (Same : Type 0) (may : Status → List ℕ → Type 0) (handed : List ℕ → Type 0)
     (got_before got_now : Option (List ℕ)) (count_before count_now : ℕ) (made : Result Report OutOfMemory)
     (end : Status) → WritesNone may →
-    ((some : List ℕ) → handed some → GotWhole got_before got_now some) →
+    ((some : List ℕ) → handed some → GotAll got_before got_now some) →
     (Same → WritesNothing handed got_before got_now) →
     IfOk made (λ report. may report.status (bytes_in report.text)) →
     MatchResult made (λ report. IsWritten report.status (bytes_in report.text) handed count_before count_now end)
@@ -134,13 +170,7 @@ made_meets Same may handed got_before got_now count_before count_now (Ok report)
 made_meets Same may handed got_before got_now count_before count_now (Err e) end none got same allowed h =
     subst (λ (s : Status). Writes may handed got_before got_now count_before count_now s) (sym h.0) (same h.1)
 
--- a job with these words reports what a command with them does
-pub job_reported : (Given : List Taken → Type 0) (job : Job) (said : JobRead) (result : Result Report OutOfMemory) →
-    seen job ≡ said → ReportsJob Given said result → ReportsJob Given (seen job) result
-job_reported Given job said result is made = subst (λ (j : JobRead). ReportsJob Given j result) (sym is) made
-
--- a trial asks for no file
-pub trial_reported : (Given : List Taken → Type 0) (blocks start : ℕ) (result : Result Report OutOfMemory) → Given [] →
-    IfOk result (λ report. MayWrite (Some (read.Trial blocks start)) [] report.status (bytes_in report.text)) →
-    ReportsJob Given (read.Trial blocks start) result
-trial_reported Given blocks start result none tried = record { came = []; given = none; so = tried }
+-- a job with these words makes what a command with them does
+pub job_made : (Given : List Taken → Type 0) (job : Job) (said : JobRead) (made : Result Report Stop) →
+    seen job ≡ said → Gave Given (λ came. IsMadeAs said came made) → Gave Given (λ came. IsMadeAs (seen job) came made)
+job_made Given job said made is a = subst (λ (j : JobRead). Gave Given (λ came. IsMadeAs j came made)) (sym is) a

@@ -7,45 +7,52 @@ use Rattle.input_files.specs.declared.problem.View.TheVariants.{AsRequested, AtP
 use Rattle.input_files.specs.Inputs.{InputFiles}
 use Rattle.input_files.specs.Readings.{Says, EndsAs}
 use Rattle.input_files.specs.Outcomes.{Input, outcome}
-use Rattle.path_rows.specs.declared.tree.Entry.{Entry}
-use Rattle.path_rows.specs.declared.tree.Entry.TheVariants.{Undone}
-use Rattle.path_rows.specs.declared.answer.Costs.{Costs}
-use Rattle.path_rows.specs.declared.form.Row.{Row}
-use Rattle.path_rows.specs.Problems.{DesignProblem, IsProblem}
-use Rattle.path_rows.specs.Boxes.{capped, points}
-use Rattle.path_rows.specs.Rows.{IsFit, IsRow, box_of}
-use Rattle.path_rows.specs.Trees.{entry_count}
-use Rattle.path_rows.specs.Earnest.{IsEarnestFor}
-use Rattle.path_rows.specs.Answers.{AnswerParts, IsValid, whole_box}
-use Rattle.path_rows.specs.ProblemLaws.{HasNoFit}
-use Rattle.path_rows.specs.Text.{text}
-use Rattle.answer_laws.specs.Laws.{IsAnswerValue}
+use Rattle.design_problem.specs.declared.tree.Entry.{Entry}
+use Rattle.design_problem.specs.declared.tree.Entry.TheVariants.{Undone}
+use Rattle.design_problem.specs.declared.answer.Costs.{Costs}
+use Rattle.design_problem.specs.declared.form.Row.{Row}
+use Rattle.design_problem.specs.Problems.{DesignProblem}
+use Rattle.design_problem.specs.Boxes.{capped, points}
+use Rattle.design_problem.specs.Rows.{AreBestCosts, IsFit, IsRow, box_of, greatest_cost}
+use Rattle.design_problem.specs.Trees.{entry_count}
+use Rattle.design_problem.specs.Earnest.{IsEarnestFor, IsEarnestOver}
+use Rattle.design_problem.specs.Answers.{AnswerParts, IsValid, whole_box}
+use Rattle.design_problem.specs.ProblemLaws.{HasNoFit}
+use Rattle.design_problem.specs.Text.{text}
+use Rattle.evidence_text.specs.AnswerValues.{IsAnswerValue}
 use Rattle.command_words.specs.Jobs.{Bounds}
-use Rattle.case_maker.specs.Cases.{made_case}
+use Rattle.trial_maker.specs.TrialTexts.{made_trial}
 use Rattle.config_writer.specs.Rewriting.{first_missing}
-use Rattle.answer_commands.specs.Checks.{Claim, claim_read}
-use Rattle.answer_commands.specs.Rewrites.{Revision, new_costs, revision_read}
-use Rattle.wish_commands.specs.Conflicts.{MayConflict}
-use Rattle.wish_commands.specs.SetFiles.{AreSetsIn, Sharing, spread_read}
-use Rattle.wish_commands.specs.Spreads.{MaySpread}
+use Rattle.evidence_commands.specs.Checks.{Claim, claim_read}
+use Rattle.evidence_commands.specs.Rewrites.{Revision, new_costs, revision_read}
+use Rattle.path_commands.specs.Conflicts.{MayConflict}
+use Rattle.path_commands.specs.SetFiles.{AreSetsIn, Sharing, spread_read}
+use Rattle.path_commands.specs.Spreads.{MaySpread}
 use Rattle.spread_sets.specs.Spreads.{IsSpreadFit, all_sets}
 use Rattle.spread_sets.specs.Answers.{HasNoSpread}
+use Rattle.spread_sets.specs.Laws.{CannotSpendOnSpread}
+use Rattle.conflict_core.specs.Laws.{CannotSpendOnSets}
+use Rattle.least_total.specs.Totals.{IsFormWithin, LeadsWithin, forms_within}
 use Rattle.lsa_bytes.specs.declared.Lsa.{Lsa}
-use Rattle.lsa_commands.specs.Lsas.{MayLsas, identified_read}
-use Rattle.lsa_commands.specs.Routes.{MayRoute, route_read}
-use Rattle.designer_command.specs.TotalRuns.{MayTotal}
-use Rattle.designer_command.specs.Trials.{MayTrial, case_end, trial_limits}
-use Rattle.designer_command.specs.Runs.{MayAfter, MayAudit, MayCheck, MayDesign, MayRewrite}
+use Rattle.database_commands.specs.Lsas.{MayLsas, identified_read}
+use Rattle.database_commands.specs.Routes.{MayRoute, route_read}
+use Rattle.design_commands.specs.TotalRuns.{MayTotal}
+use Rattle.design_commands.specs.Trials.{MayTrial, trial_end, trial_limits}
+use Rattle.designer_command.specs.Runs.{MayAfter}
+use Rattle.path_commands.specs.Audits.{MayAudit}
+use Rattle.evidence_commands.specs.Checks.{MayCheck}
+use Rattle.design_commands.specs.Designs.{MayDesign}
+use Rattle.evidence_commands.specs.Rewrites.{MayRewrite}
 
 -- The budget can't be used up: over the box at any cap that isn't below a lower bound no earnest tree has an Undone and
 -- just as many entries as the budget.
-abbrev pub CannotSpend : Bounds → DesignProblem → Type 0
-CannotSpend limits p =
+abbrev pub CannotBeUndecided : Bounds → DesignProblem → Type 0
+CannotBeUndecided limits p =
     (cap : ℕ) (rows : List Row) (tree : List Entry) → All (λ low. low ≤ cap) p.low → All (IsRow p) rows →
     IsEarnestFor p limits.top rows (capped (box_of p) cap) tree → Contains tree Undone → entry_count tree ≡ limits.nodes → ⊥
 
 -- Done where there are fit costs, Impossible where there are none, and nothing else
-pub record IsSettled (p : DesignProblem) (end : Status) : Type 0 where
+pub record IsRunSettled (p : DesignProblem) (end : Status) : Type 0 where
   pub either : (end ≡ status.Done) ⊎ (end ≡ status.Impossible)
   pub fit : (w : List ℕ) → IsFit p w → end ≡ status.Done
   pub unfit : HasNoFit p → end ≡ status.Impossible
@@ -54,19 +61,14 @@ pub record IsSettled (p : DesignProblem) (end : Status) : Type 0 where
 abbrev pub WellFormedInputIsDesigned : Type 0
 WellFormedInputIsDesigned =
     (limits : Bounds) (names : InputFiles) (came : List Taken) (d : Input) (end : Status) (bytes : List ℕ) →
-    EndsAs (outcome AsRequested names) came (Says d) → CannotSpend limits d.problem →
-    MayAfter (outcome AsRequested names) (MayDesign limits) came end bytes → IsSettled d.problem end
+    EndsAs (outcome AsRequested names) came (Says d) → CannotBeUndecided limits d.problem →
+    MayAfter (outcome AsRequested names) (MayDesign limits) came end bytes → IsRunSettled d.problem end
 
 -- So is a trial whose texts have no fault.
-abbrev pub MadeCasesAreDesigned : Type 0
-MadeCasesAreDesigned =
+abbrev pub TrialsAreDesigned : Type 0
+TrialsAreDesigned =
     (blocks start : ℕ) (d : Input) (end : Status) (bytes : List ℕ) →
-    case_end (made_case blocks start) ≡ Says d → CannotSpend trial_limits d.problem → MayTrial blocks start end bytes → IsSettled d.problem end
-
--- A budget of twice as many entries as the box at the greatest upper bound has points, less one, can't be used up.
-abbrev pub LargeBudgetsSuffice : Type 0
-LargeBudgetsSuffice =
-    (limits : Bounds) (p : DesignProblem) → IsProblem p → 2 * points (whole_box p) ≤ limits.nodes + 1 → CannotSpend limits p
+    trial_end (made_trial blocks start) ≡ Says d → CannotBeUndecided trial_limits d.problem → MayTrial blocks start end bytes → IsRunSettled d.problem end
 
 -- Where the files of a check say a problem and the text of a valid answer, nothing may be written but that it is accepted.
 abbrev pub ValidAnswersAreAccepted : Type 0
@@ -103,12 +105,13 @@ HeadedCostsAreWritten =
 abbrev pub IsLarge : Bounds → DesignProblem → Type 0
 IsLarge limits p = 2 * points (whole_box p) ≤ limits.nodes + 1
 
--- Where its files say a problem, `conflict` may write nothing but what it found: that is settled where the budget is large.
+-- Where its files say a problem, `conflict` may write nothing but what it found: that is settled where the budget can't be
+-- used up for a set of requests.
 abbrev pub ConflictsAreFound : Type 0
 ConflictsAreFound =
     (limits : Bounds) (names : InputFiles) (came : List Taken) (d : Input) (end : Status) (bytes : List ℕ) →
     EndsAs (outcome AsRequested names) came (Says d) → MayAfter (outcome AsRequested names) (MayConflict limits) came end bytes →
-    ((end ≡ status.Done) ⊎ (end ≡ status.Undecided)) × (IsProblem d.problem → IsLarge limits d.problem → end ≡ status.Done)
+    ((end ≡ status.Done) ⊎ (end ≡ status.Undecided)) × (CannotSpendOnSets d.problem limits.top limits.nodes → end ≡ status.Done)
 
 -- Done where some costs are spread-fit for the sets that the file says, Impossible where none are, and nothing else
 pub record IsSpreadSettled (sharing : Sharing) (end : Status) : Type 0 where
@@ -118,21 +121,50 @@ pub record IsSpreadSettled (sharing : Sharing) (end : Status) : Type 0 where
   pub fit : (w : List ℕ) → IsSpreadFit sharing.problem (all_sets sharing.problem sets) w → end ≡ status.Done
   pub unfit : HasNoSpread sharing.problem (all_sets sharing.problem sets) → end ≡ status.Impossible
 
+-- the budget can't be used up for any sets of wanted paths that the file may say
+abbrev pub CannotSpendOnSharing : Bounds → Sharing → Type 0
+CannotSpendOnSharing limits sharing =
+    (sets : List (List ℕ)) → AreSetsIn sets sharing → CannotSpendOnSpread sharing.problem sets limits.top limits.nodes
+
 -- Where its files say a problem and sets of its wanted paths, `spread` may write nothing but what it found: that is settled
--- where the budget is large.
+-- where the budget can't be used up.
 abbrev pub SpreadsAreFound : Type 0
 SpreadsAreFound =
     (limits : Bounds) (names : InputFiles) (file : List ℕ) (came : List Taken) (sharing : Sharing) (end : Status) (bytes : List ℕ) →
     EndsAs (spread_read names file) came (Says sharing) → MayAfter (spread_read names file) (MaySpread limits) came end bytes →
     ((end ≡ status.Done) ⊎ (end ≡ status.Impossible) ⊎ (end ≡ status.Undecided))
-    × (IsProblem sharing.problem → IsLarge limits sharing.problem → IsSpreadSettled sharing end)
+    × (CannotSpendOnSharing limits sharing → IsSpreadSettled sharing end)
+
+-- The budget can't be used up for a bound of the total: over the box at the greatest of best costs no earnest tree, by rivals
+-- and the form of the total, has an Undone and just as many entries as the budget.
+abbrev pub CannotSpendOnTotal : Bounds → DesignProblem → Type 0
+CannotSpendOnTotal limits p =
+    (w : List ℕ) (bound : ℕ) (rows : List Row) (tree : List Entry) → AreBestCosts p w → All (IsRow p) rows →
+    IsEarnestOver (LeadsWithin p bound) (IsFormWithin p bound) limits.top (forms_within p bound rows) (capped (box_of p) (greatest_cost w)) tree →
+    Contains tree Undone → entry_count tree ≡ limits.nodes → ⊥
 
 -- So with `total`: Done where there are fit costs, and Impossible where there are none.
 abbrev pub TotalsAreFound : Type 0
 TotalsAreFound =
     (limits : Bounds) (names : InputFiles) (came : List Taken) (d : Input) (end : Status) (bytes : List ℕ) →
     EndsAs (outcome AsRequested names) came (Says d) → MayAfter (outcome AsRequested names) (MayTotal limits) came end bytes →
-    ((end ≡ status.Done) ⊎ (end ≡ status.Impossible) ⊎ (end ≡ status.Undecided)) × (IsProblem d.problem → IsLarge limits d.problem → IsSettled d.problem end)
+    ((end ≡ status.Done) ⊎ (end ≡ status.Impossible) ⊎ (end ≡ status.Undecided))
+    × (CannotBeUndecided limits d.problem → CannotSpendOnTotal limits d.problem → IsRunSettled d.problem end)
+
+-- A large budget can't be used up for any of these.
+pub record LargeBudgetIsEnough (limits : Bounds) (p : DesignProblem) : Type 0 where
+  pub design : CannotBeUndecided limits p
+  pub conflict : CannotSpendOnSets p limits.top limits.nodes
+  pub spread : (sets : List (List ℕ)) → CannotSpendOnSpread p sets limits.top limits.nodes
+  pub total : CannotSpendOnTotal limits p
+
+-- For well-formed input a large budget can't be used up; nor for the sets that a file of well-formed input says.
+abbrev pub LargeBudgetsSuffice : Type 0
+LargeBudgetsSuffice =
+    ((limits : Bounds) (names : InputFiles) (came : List Taken) (d : Input) →
+    EndsAs (outcome AsRequested names) came (Says d) → IsLarge limits d.problem → LargeBudgetIsEnough limits d.problem)
+    × ((limits : Bounds) (names : InputFiles) (file : List ℕ) (came : List Taken) (sharing : Sharing) →
+    EndsAs (spread_read names file) came (Says sharing) → IsLarge limits sharing.problem → CannotSpendOnSharing limits sharing)
 
 -- Where the files of `lsas` say a problem, and each configuration a router ID of its own, nothing may be written but the LSAs.
 abbrev pub IdentifiedInputIsWritten : Type 0

@@ -2,6 +2,7 @@
 use Rattle.std.specs.Prelude.{ℕ, List, [], ◌∷◌, codes}
 use Rattle.text_lines.specs.Lines.{with_ends}
 
+-- a line for each command
 abbrev pub usage_lines : List (List ℕ)
 usage_lines =
     codes "usage: ospfcost design --request F [--nodes N] [--bits B] CONFIG.."
@@ -16,5 +17,6 @@ usage_lines =
     ∷ codes "       ospfcost route --lsas L --from A.B.C.D --to A.B.C.D"
     ∷ []
 
+-- the text that tells how the program is called
 abbrev pub usage : List ℕ
 usage = with_ends usage_lines

@@ -1,12 +1,12 @@
 //! When a run has to answer: each law is the contract of a function, most of them of one that does nothing.
 ghost use Rattle.std.specs.Prelude.{◌≢◌};
 ghost use Rattle.designer_command.specs.Completeness.{ConflictsAreFound, DesignsAreAccepted, HeadedCostsAreWritten, IdentifiedInputIsWritten};
-ghost use Rattle.designer_command.specs.Completeness.{KnownRoutersAreRouted, LargeBudgetsSuffice, MadeCasesAreDesigned, SpreadsAreFound, TotalsAreFound};
+ghost use Rattle.designer_command.specs.Completeness.{KnownRoutersAreRouted, LargeBudgetsSuffice, TrialsAreDesigned, SpreadsAreFound, TotalsAreFound};
 ghost use Rattle.designer_command.specs.Completeness.{ValidAnswersAreAccepted, WellFormedInputIsAudited, WellFormedInputIsDesigned};
 
 use crate::run;
-use advisor_box::Advisor;
 use cost_base::{Status, SureShelf, SureSink};
+use cut_advisors::Advisor;
 use std::alloc::Global;
 
 /// A design of well-formed input answers that there are fit costs, or that there are none, as it is, where the budget can't
@@ -17,10 +17,11 @@ pub fn well_formed_input_is_designed()
 
 /// So does a trial whose texts have no fault.
 pub fn made_cases_are_designed()
-    ensures { MadeCasesAreDesigned }
+    ensures { TrialsAreDesigned }
 {}
 
-/// A budget of twice as many entries as the box at the greatest upper bound has points, less one, can't be used up.
+/// For well-formed input a budget of twice as many entries as the box at the greatest upper bound has points, less one, can't
+/// be used up: by `design`, `conflict`, `spread` or `total`.
 pub fn large_budgets_suffice()
     ensures { LargeBudgetsSuffice }
 {}
@@ -45,18 +46,19 @@ pub fn headed_costs_are_written()
     ensures { HeadedCostsAreWritten }
 {}
 
-/// `conflict` on well-formed input may write nothing but what it found, and that it is undecided not with a large budget.
+/// `conflict` on well-formed input may write nothing but what it found, and not that it is undecided where the budget can't
+/// be used up.
 pub fn conflicts_are_found()
     ensures { ConflictsAreFound }
 {}
 
-/// `spread` on well-formed input and sets without a fault may write nothing but what it found: with a large budget it writes
-/// spread-fit costs where there are such, and that there are none exactly where there are none.
+/// `spread` on well-formed input and sets without a fault may write nothing but what it found: where the budget can't be
+/// used up it writes spread-fit costs where there are such, and that there are none exactly where there are none.
 pub fn spreads_are_found()
     ensures { SpreadsAreFound }
 {}
 
-/// So with `total`: with a large budget it writes that there are no fit costs exactly where there are none.
+/// So with `total`: where the budget can't be used up it writes that there are no fit costs exactly where there are none.
 pub fn totals_are_found()
     ensures { TotalsAreFound }
 {}

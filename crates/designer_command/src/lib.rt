@@ -1,18 +1,10 @@
-//! The top call: from words and files to printed costs.
+//! The top call: from words and files to what is written, and what each status means.
 #![tactic(auto)]
 
-mod audit;
-mod check;
 pub mod completeness;
-mod design;
-mod job_reports;
-mod least_sum;
-mod made_files;
-mod rewrite;
-mod rivals;
-mod summary;
+mod dispatch;
+mod edge;
 mod top_call;
-mod total;
-mod trial;
 
+pub use edge::{recorded_run, run_to_exit};
 pub use top_call::run;

@@ -1,20 +1,17 @@
 //! The top call.
 ghost use Rattle.std.specs.Prelude.{◌≡◌, ℕ, List, MatchResult};
 ghost use Rattle.form_search.specs.Advised.{AreCalled};
-ghost use Rattle.command_words.specs.Words.{texts};
-ghost use Rattle.command_words.specs.Jobs.{IsInRange, seen};
+ghost use Rattle.text_lines.specs.Arguments.{texts};
+ghost use Rattle.report_writer.specs.Cutting.{PutsByPieces, PutsPieces, size_in};
 ghost use Rattle.report_writer.specs.Reports.{IsWritten, Reports, bytes_in};
-ghost use Rattle.designer_command.specs.Runs.{ReportsJob, RunMeets};
+ghost use Rattle.designer_command.specs.Runs.{RunMeets};
 ghost use Rattle.designer_command.specs.Usage.{usage};
 
-use crate::job_reports::{
-    of_audit, of_check, of_conflict, of_design, of_lsas, of_rewrite, of_route, of_spread, of_total,
-    of_trial,
-};
-use advisor_box::Advisor;
-use command_words::{Job, WordsStop, read_words};
+use crate::dispatch::job_report;
+use command_words::{WordsStop, read_words};
 use cost_base::{OutOfMemory, Shelf, Sink, Status};
-use report_writer::{Report, Text, write_report};
+use cut_advisors::Advisor;
+use report_writer::{Report, Text, report_of, write_report};
 use std::alloc::Global;
 
 /// The lines that tell how the program is called, each with its LF.
@@ -41,57 +38,15 @@ fn usage_report() -> Report
     }
 }
 
-/// The report of a job.
-fn job_report<S: Shelf>(
-    alloc: Global,
-    job: &Job,
-    shelf: &mut S,
-    advisors: &mut Vec<Box<dyn Advisor>>,
-) -> Result<Report, OutOfMemory>
-    requires { IsInRange (seen job.now) }
-    ensures reported { ReportsJob (S.gave shelf.old shelf.new) (seen job.now) result }
-    ensures advisors { AreCalled ⟦<dyn Advisor as Advisor>⟧ (λ b. b.vtable) (λ b. state b) advisors.old.items advisors.new.items }
-{
-    match job {
-        Job::Design {
-            request,
-            limits,
-            configs,
-        } => of_design(alloc, request, limits, configs, shelf, advisors),
-        Job::Check {
-            request,
-            answer,
-            configs,
-        } => of_check(alloc, request, answer, configs, shelf),
-        Job::Audit { request, configs } => of_audit(alloc, request, configs, shelf),
-        Job::Rewrite { answer, config } => of_rewrite(alloc, answer, config, shelf),
-        Job::Trial { blocks, start } => of_trial(alloc, *blocks, *start, advisors),
-        Job::Conflict {
-            request,
-            limits,
-            configs,
-        } => of_conflict(alloc, request, limits, configs, shelf, advisors),
-        Job::Spread {
-            request,
-            sets,
-            limits,
-            configs,
-        } => of_spread(alloc, request, sets, limits, configs, shelf),
-        Job::Total {
-            request,
-            limits,
-            configs,
-        } => of_total(alloc, request, limits, configs, shelf, advisors),
-        Job::Lsas { request, configs } => of_lsas(alloc, request, configs, shelf),
-        Job::Route { lsas, from, to } => of_route(alloc, lsas, *from, *to, shelf),
-    }
-}
-
 /// Writes a report, where memory sufficed to make it, and tells how the run ends.
 fn write_made<K: Sink>(made: Result<Report, OutOfMemory>, out: &mut K) -> Status
-    ensures { MatchResult made (λ report. IsWritten report.status (bytes_in report.text) (K.handed out.old out.new) (K.faults out.old)
-        (K.faults out.new) result)
+    ensures written { MatchResult made
+        (λ report. IsWritten report.status (bytes_in report.text)
+        (K.handed out.old out.new) (K.faults out.old) (K.faults out.new) result)
         (λ _. (result ≡ Status.OutOfMemory) × (out.new ≡ out.old)) }
+    ensures pieces { MatchResult made
+        (λ report. PutsPieces K.handed out.old out.new (size_in report.text) (bytes_in report.text) result)
+        (λ _. out.new ≡ out.old) }
 {
     match made {
         Ok(report) => write_report(&report, out),
@@ -108,7 +63,7 @@ fn write_made<K: Sink>(made: Result<Report, OutOfMemory>, out: &mut K) -> Status
 /// `trial --blocks T` makes a case and designs it with a budget of 100,000 entries. It writes a summary line and, with
 /// `Impossible` and `Undecided`, the answer's text behind it. No file is read.
 ///
-/// `audit --request F CONFIG..` writes a line for each requested path, with status `Done`.
+/// `audit --request F CONFIG..` writes a line for each wanted path, with status `Done`.
 ///
 /// `check --request F --answer A CONFIG..` reads the answer's file after the other files. It writes `accepted optimal K` or
 /// `accepted impossible`, with status `Done`, where the file's bytes are the text of a valid answer; else
@@ -154,11 +109,15 @@ pub fn run<S: Shelf, K: Sink>(
 ) -> Status
     ensures meets { RunMeets (texts words.now) (S.gave shelf.old shelf.new) (S.held shelf.old) (S.faults shelf.old) (S.faults shelf.new)
         (K.handed out.old out.new) (K.got out.old) (K.got out.new) (K.faults out.old) (K.faults out.new) result }
+    ensures pieces { PutsByPieces K.handed out.old out.new result }
     ensures held { (name : List ℕ) → S.held shelf.new name ≡ S.held shelf.old name }
     ensures advisors { AreCalled ⟦<dyn Advisor as Advisor>⟧ (λ b. b.vtable) (λ b. state b) advisors.old.items advisors.new.items }
 {
     match read_words(alloc, words) {
-        Ok(job) => write_made(job_report(alloc, &job, shelf, advisors), out),
+        Ok(job) => {
+            let made = job_report(alloc, &job, shelf, advisors);
+            write_made(report_of(alloc, made), out)
+        }
         Err(WordsStop::Refused) => write_report(&usage_report(), out),
         Err(WordsStop::OutOfMemory) => Status::OutOfMemory,
     }

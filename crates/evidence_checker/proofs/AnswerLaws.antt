@@ -6,31 +6,31 @@ use native.Mathlib.Decide.{ℕ_discrete}
 use Rattle.std.proofs.lemmas.List.Elements.{All-tail}
 use Rattle.std.proofs.lemmas.Bool.{cases_lt}
 use Rattle.cost_base.specs.Order.{NoneOf}
-use Rattle.path_rows.specs.declared.answer.Verdict.{Verdict}
-use Rattle.path_rows.specs.declared.answer.Verdict.TheVariants.{Optimal, Impossible, Budget}
-use Rattle.path_rows.specs.declared.answer.Costs.{Costs}
-use Rattle.path_rows.specs.declared.answer.CostLine.{CostLine}
-use Rattle.path_rows.specs.declared.answer.Floor.{Floor}
-use Rattle.path_rows.specs.declared.answer.Floor.TheVariants.{Absent, Empty, Var}
-use Rattle.path_rows.specs.declared.answer.CapTree.{CapTree}
-use Rattle.path_rows.specs.Forms.{Form}
-use Rattle.path_rows.specs.declared.form.CostBox.{CostBox}
-use Rattle.path_rows.specs.declared.form.Row.{Row}
-use Rattle.path_rows.specs.declared.problem.VarName.{VarName}
-use Rattle.path_rows.specs.declared.tree.Entry.{Entry}
-use Rattle.path_rows.specs.Problems.{DesignProblem, IsProblem}
-use Rattle.path_rows.specs.Boxes.{capped}
-use Rattle.path_rows.proofs.ProblemTrees.{low_below}
-use Rattle.path_rows.specs.Rows.{IsRow, box_of, forms_of_rows}
-use Rattle.path_rows.specs.Trees.{Sound, IsSoundTree, IsClosed, subboxes}
-use Rattle.path_rows.specs.Answers.{AnswerParts, Proves, ShowsLeast, ClaimHolds, IsValid, greatest_bound}
+use Rattle.design_problem.specs.declared.answer.Verdict.{Verdict}
+use Rattle.design_problem.specs.declared.answer.Verdict.TheVariants.{Optimal, Impossible, Undecided}
+use Rattle.design_problem.specs.declared.answer.Costs.{Costs}
+use Rattle.design_problem.specs.declared.answer.CostLine.{CostLine}
+use Rattle.design_problem.specs.declared.answer.Floor.{Floor}
+use Rattle.design_problem.specs.declared.answer.Floor.TheVariants.{Absent, Empty, Var}
+use Rattle.design_problem.specs.declared.answer.CapTree.{CapTree}
+use Rattle.design_problem.specs.Forms.{Form}
+use Rattle.design_problem.specs.declared.form.CostBox.{CostBox}
+use Rattle.design_problem.specs.declared.form.Row.{Row}
+use Rattle.design_problem.specs.declared.problem.VarName.{VarName}
+use Rattle.design_problem.specs.declared.tree.Entry.{Entry}
+use Rattle.design_problem.specs.Problems.{DesignProblem, IsProblem}
+use Rattle.design_problem.specs.Boxes.{capped}
+use Rattle.design_problem.proofs.ProblemTrees.{low_below}
+use Rattle.design_problem.specs.Rows.{IsRow, box_of, forms_of_rows}
+use Rattle.design_problem.specs.Trees.{Sound, IsSoundTree, IsClosed, subboxes}
+use Rattle.design_problem.specs.Answers.{AnswerParts, Proves, ShowsLeastGreatest, ClaimHolds, IsValid, greatest_bound}
 use Rattle.evidence_checker.specs.declared.stop.Accepted.{Accepted}
 use Rattle.evidence_checker.specs.declared.stop.CheckStop.{CheckStop}
 use Rattle.evidence_checker.specs.declared.stop.CheckStop.TheVariants.{Refused, OutOfMemory}
-use Rattle.evidence_checker.specs.Refusals.{Fault, OnWhole, AtFirstItem, StopsBy}
+use Rattle.evidence_checker.specs.Refusals.{Fault, AtNoPlace, AtFirstItem, StopsBy}
 use Rattle.evidence_checker.specs.Laws.{IsAcceptedAs, RefusesInvalid, CostsHold, ProofHolds}
 use Rattle.evidence_checker.specs.Tests.{ClaimsNothing, ShapeOfLeast, ShapeOfClaim, HasWrongShape, NamesPlaces, IsFalseFloor, cost_tests, row_tests, line_tests, AtFirstLine, proof_tests, tests}
-use Rattle.path_rows.proofs.GivenCosts.{names_written}
+use Rattle.design_problem.proofs.GivenCosts.{names_written}
 use Rattle.evidence_checker.proofs.CostTests.{TestsAt, passes}
 use Rattle.evidence_checker.proofs.LineLaws.{sound_meets_none}
 use Rattle.evidence_checker.proofs.RowLaws.{row_meets_none}
@@ -38,7 +38,7 @@ use Rattle.evidence_checker.proofs.StopLaws.{none_first, none_left_right, none_r
 
 least_is_shown : (p : DesignProblem) (rows : List Row) (k : ℕ) (floor : Floor) (proof : Option CapTree) →
     ShapeOfLeast p k floor proof → (IsFalseFloor p k floor → ⊥) → ProofHolds p rows proof →
-    ShowsLeast p rows k floor proof
+    ShowsLeastGreatest p rows k floor proof
 least_is_shown p rows k Absent (Some proof) shape true_floor holds =
     (proof.cap, shape.0, record { at_cap = refl; no_higher = shape.1; sound = holds.0; closed = holds.1 })
 least_is_shown p rows k Absent None shape true_floor holds = absurd shape
@@ -68,7 +68,7 @@ claim_of p rows Impossible None Absent None kept shape costs_hold holds = absurd
 claim_of p rows Impossible None Empty proof kept shape costs_hold holds = absurd shape
 claim_of p rows Impossible None (Var v) proof kept shape costs_hold holds = absurd shape
 claim_of p rows Impossible (Some costs) floor proof kept shape costs_hold holds = absurd shape
-claim_of p rows (Budget cap) costs floor proof kept shape costs_hold holds = absurd shape
+claim_of p rows (Undecided cap) costs floor proof kept shape costs_hold holds = absurd shape
 
 pub valid_of : (p : DesignProblem) (a : AnswerParts) → IsProblem p → ShapeOfClaim p a.verdict a.costs a.floor a.proof
     × (a.unfinished ≡ None) → CostsHold p a.verdict a.costs a.floor → All (IsRow p) a.rows →
@@ -84,10 +84,10 @@ claims_something : (p : DesignProblem) (rows : List Row) (verdict : Verdict) (co
     (proof : Option CapTree) → ClaimHolds p rows verdict costs floor proof → ClaimsNothing verdict → ⊥
 claims_something p rows (Optimal k) costs floor proof claim nothing = nothing
 claims_something p rows Impossible costs floor proof claim nothing = nothing
-claims_something p rows (Budget cap) costs floor proof claim nothing = claim
+claims_something p rows (Undecided cap) costs floor proof claim nothing = claim
 
 shape_of_least : (p : DesignProblem) (rows : List Row) (k : ℕ) (floor : Floor) (proof : Option CapTree) →
-    ShowsLeast p rows k floor proof → ShapeOfLeast p k floor proof
+    ShowsLeastGreatest p rows k floor proof → ShapeOfLeast p k floor proof
 shape_of_least p rows k Absent (Some proof) shows = (
   ap (λ (cap : ℕ). cap + 1) shows.2.at_cap ∙ shows.1,
   subst (λ (cap : ℕ). All (λ low. low ≤ cap) p.low) (sym shows.2.at_cap) shows.2.no_higher,
@@ -107,10 +107,10 @@ shape_of p rows Impossible None Absent None claim = absurd claim
 shape_of p rows Impossible None Empty proof claim = absurd claim
 shape_of p rows Impossible None (Var v) proof claim = absurd claim
 shape_of p rows Impossible (Some costs) floor proof claim = absurd claim
-shape_of p rows (Budget cap) costs floor proof claim = absurd claim
+shape_of p rows (Undecided cap) costs floor proof claim = absurd claim
 
 true_floor_of : (p : DesignProblem) (rows : List Row) (k : ℕ) (floor : Floor) (proof : Option CapTree) →
-    ShowsLeast p rows k floor proof → IsFalseFloor p k floor → ⊥
+    ShowsLeastGreatest p rows k floor proof → IsFalseFloor p k floor → ⊥
 true_floor_of p rows k Absent proof shows is_false = is_false
 true_floor_of p rows k Empty None shows is_false = is_false shows
 true_floor_of p rows k Empty (Some proof) shows is_false = shows
@@ -122,7 +122,7 @@ sound_at p rows cap proof proves =
     (subst (λ (c : ℕ). IsSoundTree (forms_of_rows p rows) (capped (box_of p) c) proof.tree) (sym proves.at_cap) proves.sound, proves.closed)
 
 proof_of_least : (p : DesignProblem) (rows : List Row) (k : ℕ) (floor : Floor) (proof : Option CapTree) →
-    ShowsLeast p rows k floor proof → ProofHolds p rows proof
+    ShowsLeastGreatest p rows k floor proof → ProofHolds p rows proof
 proof_of_least p rows k Absent (Some proof) shows = sound_at p rows shows.0 proof shows.2
 proof_of_least p rows k Absent None shows = tt
 proof_of_least p rows k Empty None shows = tt
@@ -139,7 +139,7 @@ proof_of p rows Impossible None Absent None claim = tt
 proof_of p rows Impossible None Empty proof claim = absurd claim
 proof_of p rows Impossible None (Var v) proof claim = absurd claim
 proof_of p rows Impossible (Some costs) floor proof claim = absurd claim
-proof_of p rows (Budget cap) costs floor proof claim = absurd claim
+proof_of p rows (Undecided cap) costs floor proof claim = absurd claim
 
 places_of : (w : List ℕ) (names : List VarName) (lines : List CostLine) →
     AllZip (λ name line. (line.router ≡ name.router) × (line.interface ≡ name.interface)
@@ -154,7 +154,7 @@ costs_of : (p : DesignProblem) (rows : List Row) (verdict : Verdict) (costs : Op
 costs_of p rows (Optimal k) (Some costs) floor proof claim = (claim.0, true_floor_of p rows k floor proof claim.1)
 costs_of p rows (Optimal k) None floor proof claim = tt
 costs_of p rows Impossible costs floor proof claim = tt
-costs_of p rows (Budget cap) costs floor proof claim = tt
+costs_of p rows (Undecided cap) costs floor proof claim = tt
 
 -- costs that hold meet no test
 costs_met : (p : DesignProblem) (verdict : Verdict) (costs : Option Costs) (floor : Floor) → IsProblem p →
@@ -168,7 +168,7 @@ costs_met p (Optimal k) (Some costs) floor kept holds =
     gives.fit.within (gives.printed, gives.greatest) gives.fit.only holds.1)
 costs_met p (Optimal k) None floor kept holds = tt
 costs_met p Impossible costs floor kept holds = tt
-costs_met p (Budget cap) costs floor kept holds = tt
+costs_met p (Undecided cap) costs floor kept holds = tt
 
 rows_met : (p : DesignProblem) (place : ℕ) (rows : List Row) (f : Fault) → All (IsRow p) rows → AtFirstItem (row_tests p) place rows f → ⊥
 rows_met p place [] f true_rows met = met
@@ -194,7 +194,7 @@ proof_met p rows (Some proof) holds = (λ f met. lines_met (forms_of_rows p rows
 
 -- the tests before those of the rows
 abbrev pub EarlyTests : DesignProblem → AnswerParts → List (Fault → Type 0)
-EarlyTests p a = OnWhole 49 (ClaimsNothing a.verdict) ∷ OnWhole 51 (HasWrongShape p a) ∷ cost_tests p a.verdict a.costs a.floor
+EarlyTests p a = AtNoPlace 49 (ClaimsNothing a.verdict) ∷ AtNoPlace 51 (HasWrongShape p a) ∷ cost_tests p a.verdict a.costs a.floor
 
 early_met : (p : DesignProblem) (a : AnswerParts) → IsProblem p → (ClaimsNothing a.verdict → ⊥) →
     ShapeOfClaim p a.verdict a.costs a.floor a.proof × (a.unfinished ≡ None) → CostsHold p a.verdict a.costs a.floor →
@@ -220,7 +220,7 @@ refuses p a OutOfMemory kept stops = tt
 accepted_claims : (verdict : Verdict) (accepted : Accepted) → IsAcceptedAs verdict accepted → ClaimsNothing verdict → ⊥
 accepted_claims (Optimal k) accepted is nothing = nothing
 accepted_claims Impossible accepted is nothing = nothing
-accepted_claims (Budget cap) accepted is nothing = is
+accepted_claims (Undecided cap) accepted is nothing = is
 
 -- a test of the costs, after the verdict and the shape
 pub stops_costs : (p : DesignProblem) (a : AnswerParts) (accepted : Accepted) (s : CheckStop) →
@@ -229,7 +229,7 @@ pub stops_costs : (p : DesignProblem) (a : AnswerParts) (accepted : Accepted) (s
 stops_costs p a accepted s is shape stops =
     let costs = cost_tests p a.verdict a.costs a.floor in
     let others = AtFirstItem (row_tests p) 0 a.rows ∷ proof_tests p a.rows a.proof in
-    stop_right (OnWhole 49 (ClaimsNothing a.verdict) ∷ OnWhole 51 (HasWrongShape p a) ∷ []) (costs ++ others) s
+    stop_right (AtNoPlace 49 (ClaimsNothing a.verdict) ∷ AtNoPlace 51 (HasWrongShape p a) ∷ []) (costs ++ others) s
     (λ f met. accepted_claims a.verdict accepted is met.2, (λ f met. met.2 shape, tt))
     (stop_left costs others s stops)
 

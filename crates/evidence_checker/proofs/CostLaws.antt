@@ -5,13 +5,13 @@ use Rattle.std.specs.List.{AllZip}
 use Rattle.std.proofs.lemmas.List.{length-replicate}
 use native.Mathlib.Decide.{ℕ_discrete}
 use Rattle.std.proofs.lemmas.List.Elements.{All-tail}
-use Rattle.path_rows.specs.declared.answer.CostLine.{CostLine}
-use Rattle.path_rows.specs.declared.problem.VarName.{VarName}
-use Rattle.path_rows.specs.Answers.{Names}
-use Rattle.path_rows.specs.Problems.{DesignProblem}
-use Rattle.evidence_checker.specs.Refusals.{IsFirst}
-use Rattle.path_rows.specs.GivenCosts.{GivesCost, written, costs_given}
-use Rattle.path_rows.proofs.GivenCosts.{given_is, length-written, written_of_line}
+use Rattle.design_problem.specs.declared.answer.CostLine.{CostLine}
+use Rattle.design_problem.specs.declared.problem.VarName.{VarName}
+use Rattle.design_problem.specs.Answers.{Names}
+use Rattle.design_problem.specs.Problems.{DesignProblem}
+use Rattle.evidence_checker.specs.Refusals.{IsFirstPlace}
+use Rattle.design_problem.specs.GivenCosts.{GivesCost, written, costs_given}
+use Rattle.design_problem.proofs.GivenCosts.{given_is, length-written, written_of_line}
 use Rattle.evidence_checker.specs.Tests.{HasUnequalEnds, NamesPlaces}
 use Rattle.evidence_checker.specs.Costs.{lesser_of}
 
@@ -169,7 +169,7 @@ nothing_off costs (name ∷ names) (line ∷ lines) (suc k) var past off = nothi
 -- at the end it is the first variable with unequal ends
 pub off_ends : (n : ℕ) (costs : List ℕ) (names : List VarName) (lines : List CostLine) (k : ℕ) (least : Option ℕ) →
     All (λ name. name.var < length costs) names → costs ≡ written (replicate n 0) names lines → length names ≤ k →
-    LeastOff costs names lines k least → IsFirst (HasUnequalEnds names lines) least
+    LeastOff costs names lines k least → IsFirstPlace (HasUnequalEnds names lines) least
 off_ends n costs names lines k None known is past so_far = λ var unequal.
     elim (so_far.others var (unequal_off costs names lines var unequal)) [
       | inl most ↦ most
@@ -219,7 +219,7 @@ names_given w (name ∷ names) (line ∷ lines) named none = (
 
 pub ends_equal : (p : DesignProblem) (xs : List VarName) (lines : List CostLine) (costs : List ℕ) → xs ≡ p.vars →
     All (λ name. name.var < length p.low) p.vars → NamesPlaces p.vars lines → costs ≡ costs_given p lines →
-    IsFirst (HasUnequalEnds xs lines) None → Names p lines costs
+    IsFirstPlace (HasUnequalEnds xs lines) None → Names p lines costs
 ends_equal p xs lines costs same known named is none =
     let count = given_count (length p.low) costs p.vars lines is in
     names_given costs p.vars lines named

@@ -2,20 +2,20 @@
 use Rattle.std.proofs.Common.{◌≡◌, ℕ, subst, List, [], ◌∷◌, arith, inl, inr}
 use Rattle.std.specs.Prelude.{Some, All, Result, IfErr, IsErrAnd}
 use Rattle.cost_base.specs.Order.{FirstOf, NoneOf}
-use Rattle.path_rows.specs.declared.answer.Verdict.TheVariants.{Optimal}
-use Rattle.path_rows.specs.declared.answer.Costs.{Costs}
-use Rattle.path_rows.specs.declared.answer.CostLine.{CostLine}
-use Rattle.path_rows.specs.declared.answer.Floor.{Floor}
-use Rattle.path_rows.specs.Answers.{Names}
-use Rattle.path_rows.specs.Boxes.{IsInBox}
-use Rattle.path_rows.specs.Problems.{DesignProblem, no_request}
-use Rattle.path_rows.specs.Rows.{box_of, greatest_cost}
+use Rattle.design_problem.specs.declared.answer.Verdict.TheVariants.{Optimal}
+use Rattle.design_problem.specs.declared.answer.Costs.{Costs}
+use Rattle.design_problem.specs.declared.answer.CostLine.{CostLine}
+use Rattle.design_problem.specs.declared.answer.Floor.{Floor}
+use Rattle.design_problem.specs.Answers.{Names}
+use Rattle.design_problem.specs.Boxes.{IsInBox}
+use Rattle.design_problem.specs.Problems.{DesignProblem, no_request}
+use Rattle.design_problem.specs.Rows.{box_of, greatest_cost}
 use Rattle.evidence_checker.specs.Numbers.{number_of}
 use Rattle.evidence_checker.specs.declared.stop.CheckStop.{CheckStop}
 use Rattle.evidence_checker.specs.declared.stop.CheckStop.TheVariants.{Refused, OutOfMemory}
-use Rattle.path_rows.specs.GivenCosts.{costs_given}
+use Rattle.design_problem.specs.GivenCosts.{costs_given}
 use Rattle.evidence_checker.specs.Costs.{IsOnlyAt}
-use Rattle.evidence_checker.specs.Refusals.{Fault, OnWhole, AtFirst, StopsBy}
+use Rattle.evidence_checker.specs.Refusals.{Fault, AtNoPlace, AtFirst, StopsBy}
 use Rattle.evidence_checker.specs.Tests.{NamesPlaces, HasUnequalEnds, IsOutside, HasWrongGreatest, IsNotOnly, IsFalseFloor, cost_tests}
 use Rattle.evidence_checker.proofs.CostLaws.{names_equal}
 use Rattle.evidence_checker.proofs.StopLaws.{only_test, err_tells}
@@ -23,12 +23,12 @@ use Rattle.evidence_checker.proofs.StopLaws.{only_test, err_tells}
 -- the tests, at the costs
 abbrev pub TestsAt : DesignProblem → ℕ → ℕ → List CostLine → Floor → List ℕ → List (Fault → Type 0)
 TestsAt p k printed lines floor w =
-    OnWhole 50 (NamesPlaces p.vars lines → ⊥)
+    AtNoPlace 50 (NamesPlaces p.vars lines → ⊥)
     ∷ AtFirst 53 (HasUnequalEnds p.vars lines)
     ∷ AtFirst 45 (IsOutside p.low p.high w)
-    ∷ OnWhole 47 (HasWrongGreatest k printed w)
+    ∷ AtNoPlace 47 (HasWrongGreatest k printed w)
     ∷ AtFirst 46 (IsNotOnly p w)
-    ∷ OnWhole 52 (IsFalseFloor p k floor)
+    ∷ AtNoPlace 52 (IsFalseFloor p k floor)
     ∷ []
 
 moved : (p : DesignProblem) (k : ℕ) (costs : Costs) (floor : Floor) (lines : List CostLine) (w : List ℕ)
@@ -38,7 +38,7 @@ moved p k costs floor lines w s lines_are given stops =
     subst (λ (ls : List CostLine). StopsBy (TestsAt p k costs.greatest ls floor (costs_given p ls)) s) lines_are
     (subst (λ (v : List ℕ). StopsBy (TestsAt p k costs.greatest lines floor v) s) given stops)
 
-no_places : (p : DesignProblem) (lines : List CostLine) → NamesPlaces p.vars lines → (f : Fault) → OnWhole 50 (NamesPlaces p.vars lines → ⊥) f → ⊥
+no_places : (p : DesignProblem) (lines : List CostLine) → NamesPlaces p.vars lines → (f : Fault) → AtNoPlace 50 (NamesPlaces p.vars lines → ⊥) f → ⊥
 no_places p lines named f met = met.2 named
 
 no_ends : (p : DesignProblem) (lines : List CostLine) (w : List ℕ) → Names p lines w → (f : Fault) → AtFirst 53 (HasUnequalEnds p.vars lines) f → ⊥
@@ -53,19 +53,19 @@ inside p w k within outside =
 no_bounds : (p : DesignProblem) (w : List ℕ) → IsInBox (box_of p) w → (f : Fault) → AtFirst 45 (IsOutside p.low p.high w) f → ⊥
 no_bounds p w within f met = inside p w f.place within met.1
 
-no_greatest : (k printed : ℕ) (w : List ℕ) → (printed ≡ k) × (greatest_cost w ≡ k) → (f : Fault) → OnWhole 47 (HasWrongGreatest k printed w) f → ⊥
+no_greatest : (k printed : ℕ) (w : List ℕ) → (printed ≡ k) × (greatest_cost w ≡ k) → (f : Fault) → AtNoPlace 47 (HasWrongGreatest k printed w) f → ⊥
 no_greatest k printed w same f met = met.2 same
 
 no_paths : (p : DesignProblem) (w : List ℕ) → All (IsOnlyAt p.graph w) p.paths → (f : Fault) → AtFirst 46 (IsNotOnly p w) f → ⊥
 no_paths p w only f met = met.1.1 (only f.place no_request met.1.0)
 
-no_floor : (p : DesignProblem) (k : ℕ) (floor : Floor) → (IsFalseFloor p k floor → ⊥) → (f : Fault) → OnWhole 52 (IsFalseFloor p k floor) f → ⊥
+no_floor : (p : DesignProblem) (k : ℕ) (floor : Floor) → (IsFalseFloor p k floor → ⊥) → (f : Fault) → AtNoPlace 52 (IsFalseFloor p k floor) f → ⊥
 no_floor p k floor true_floor f met = true_floor met.2
 
 -- the first test that is met stands behind that of the bounds
 behind_bounds : (p : DesignProblem) (k printed : ℕ) (lines : List CostLine) (floor : Floor) (w : List ℕ) (f : Fault) →
     NamesPlaces p.vars lines → Names p lines w → IsInBox (box_of p) w →
-    FirstOf (OnWhole 47 (HasWrongGreatest k printed w) ∷ AtFirst 46 (IsNotOnly p w) ∷ OnWhole 52 (IsFalseFloor p k floor) ∷ []) f →
+    FirstOf (AtNoPlace 47 (HasWrongGreatest k printed w) ∷ AtFirst 46 (IsNotOnly p w) ∷ AtNoPlace 52 (IsFalseFloor p k floor) ∷ []) f →
     FirstOf (TestsAt p k printed lines floor w) f
 behind_bounds p k printed lines floor w f named names_lines within rest =
     inr (no_places p lines named, inr (no_ends p lines w names_lines, inr (no_bounds p w within, rest)))
@@ -90,14 +90,14 @@ stops_bounds p k costs floor lines w (Refused fault place) lines_are given named
 
 pub stops_greatest : (p : DesignProblem) (k : ℕ) (costs : Costs) (floor : Floor) (lines : List CostLine) (w : List ℕ)
     (s : CheckStop) → lines ≡ costs.lines → w ≡ costs_given p lines → NamesPlaces p.vars lines → Names p lines w →
-    IsInBox (box_of p) w → StopsBy (OnWhole 47 (HasWrongGreatest k costs.greatest w) ∷ []) s →
+    IsInBox (box_of p) w → StopsBy (AtNoPlace 47 (HasWrongGreatest k costs.greatest w) ∷ []) s →
     StopsBy (cost_tests p (Optimal k) (Some costs) floor) s
 stops_greatest p k costs floor lines w OutOfMemory lines_are given named names_lines within stops = tt
 stops_greatest p k costs floor lines w (Refused fault place) lines_are given named names_lines within stops =
     let f : Fault = record { number = number_of fault; place = place } in
     moved p k costs floor lines w (Refused fault place) lines_are given
     (behind_bounds p k costs.greatest lines floor w f named names_lines within
-    (inl (only_test (OnWhole 47 (HasWrongGreatest k costs.greatest w)) f stops)))
+    (inl (only_test (AtNoPlace 47 (HasWrongGreatest k costs.greatest w)) f stops)))
 
 pub stops_paths : (p : DesignProblem) (k : ℕ) (costs : Costs) (floor : Floor) (lines : List CostLine) (w : List ℕ)
     (s : CheckStop) → lines ≡ costs.lines → w ≡ costs_given p lines → NamesPlaces p.vars lines → Names p lines w →
@@ -113,7 +113,7 @@ stops_paths p k costs floor lines w (Refused fault place) lines_are given named 
 pub stops_floor : (p : DesignProblem) (k : ℕ) (costs : Costs) (floor : Floor) (lines : List CostLine) (w : List ℕ)
     (s : CheckStop) → lines ≡ costs.lines → w ≡ costs_given p lines → NamesPlaces p.vars lines → Names p lines w →
     IsInBox (box_of p) w → (costs.greatest ≡ k) × (greatest_cost w ≡ k) → All (IsOnlyAt p.graph w) p.paths →
-    StopsBy (OnWhole 52 (IsFalseFloor p k floor) ∷ []) s → StopsBy (cost_tests p (Optimal k) (Some costs) floor) s
+    StopsBy (AtNoPlace 52 (IsFalseFloor p k floor) ∷ []) s → StopsBy (cost_tests p (Optimal k) (Some costs) floor) s
 stops_floor p k costs floor lines w OutOfMemory lines_are given named names_lines within same only stops = tt
 stops_floor p k costs floor lines w (Refused fault place) lines_are given named names_lines within same only stops =
     let f : Fault = record { number = number_of fault; place = place } in
@@ -121,7 +121,7 @@ stops_floor p k costs floor lines w (Refused fault place) lines_are given named 
     (behind_bounds p k costs.greatest lines floor w f named names_lines within
     (inr (
       no_greatest k costs.greatest w same,
-      inr (no_paths p w only, inl (only_test (OnWhole 52 (IsFalseFloor p k floor)) f stops)),
+      inr (no_paths p w only, inl (only_test (AtNoPlace 52 (IsFalseFloor p k floor)) f stops)),
     )))
 
 -- none is met

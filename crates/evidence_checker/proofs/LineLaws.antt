@@ -3,14 +3,14 @@ use Rattle.std.proofs.Common.{◌≡◌, ℕ, ◌^◌, ◌<◌, ◌≤◌, refl,
 use Rattle.std.specs.Prelude.{IsTrue, Option, None, Some, MatchOption, ◌⊎◌, ℤ, pos, ◌≤ℤ◌, ◌<ℤ◌, All, Any, sum_by, false, true}
 use Rattle.std.proofs.lemmas.Int.{ints}
 use Rattle.cost_base.specs.Order.{FirstOf, NoneOf}
-use Rattle.path_rows.specs.Forms.{Form}
-use Rattle.path_rows.specs.declared.form.CostBox.{CostBox}
-use Rattle.path_rows.specs.declared.tree.Entry.{Entry}
-use Rattle.path_rows.specs.declared.tree.Entry.TheVariants.{Tighten, Split, Halve, Refute, Undone}
-use Rattle.path_rows.specs.Boxes.{greatest, Refutes}
-use Rattle.path_rows.specs.Forms.{weighted, form_at}
-use Rattle.path_rows.specs.declared.tree.Side.{Side}
-use Rattle.path_rows.specs.Trees.{IsSmaller, SoundAt, TightensAt, is_undone, removed}
+use Rattle.design_problem.specs.Forms.{Form}
+use Rattle.design_problem.specs.declared.form.CostBox.{CostBox}
+use Rattle.design_problem.specs.declared.tree.Entry.{Entry}
+use Rattle.design_problem.specs.declared.tree.Entry.TheVariants.{Tighten, Split, Halve, Refute, Undone}
+use Rattle.design_problem.specs.Boxes.{greatest, Refutes}
+use Rattle.design_problem.specs.Forms.{weighted, form_at}
+use Rattle.design_problem.specs.declared.tree.Side.{Side}
+use Rattle.design_problem.specs.Trees.{IsSmaller, SoundAt, TightensAt, is_undone, removed}
 use lib.Signed.{lt_z}
 use Rattle.evidence_checker.proofs.Sizes.{negative_iff}
 use Rattle.evidence_checker.specs.declared.fault.CheckFault.{CheckFault}

@@ -5,9 +5,9 @@ use Rattle.std.proofs.Math.Nat.{mul-le-mul_left}
 use Rattle.std.proofs.lemmas.Int.{ints}
 use Rattle.std.proofs.lemmas.List.{get_or_default, length-map}
 use Rattle.std.proofs.lemmas.List.Sums.{sum_by_more, sum_by_more_le, sum_by-cons}
-use Rattle.path_rows.specs.Boxes.{upper, upper_sum}
-use Rattle.path_rows.specs.Forms.{Form, IsSmallForm, added, weighted, form_at, no_form, size_of}
-use Rattle.path_rows.proofs.FormSizes.{weighted_fits}
+use Rattle.design_problem.specs.Boxes.{upper_term, upper_sum}
+use Rattle.design_problem.specs.Forms.{Form, IsSmallForm, added, weighted, form_at, no_form, size_of_form}
+use Rattle.design_problem.proofs.FormSizes.{weighted_fits}
 use Rattle.whole_numbers.proofs.Sizes.{scaled_size, sum_size}
 
 pub get_or-added : (cs ds : List ℤ) (i : ℕ) → get_or (added cs ds) i (pos 0) ≡ (get_or cs i (pos 0) +ℤ get_or ds i (pos 0))
@@ -99,7 +99,7 @@ zero_terms [] ls hs zeros = refl
 zero_terms (d ∷ ds) [] hs zeros = refl
 zero_terms (d ∷ ds) (l ∷ ls) [] zeros = refl
 zero_terms (d ∷ ds) (l ∷ ls) (h ∷ hs) zeros =
-    let here = ap (λ (z : ℤ). upper z l h) (zeros 0 (omega arith)) in
+    let here = ap (λ (z : ℤ). upper_term z l h) (zeros 0 (omega arith)) in
     let rest = zero_terms ds ls hs (λ i i_in. zeros (suc i) (omega arith)) in
     omega (arith, ints, here, rest)
 
@@ -110,7 +110,7 @@ padded_upper (c ∷ cs) [] ls hs short same = absurd (omega arith)
 padded_upper (c ∷ cs) (d ∷ ds) [] hs short same = refl
 padded_upper (c ∷ cs) (d ∷ ds) (l ∷ ls) [] short same = refl
 padded_upper (c ∷ cs) (d ∷ ds) (l ∷ ls) (h ∷ hs) short same =
-    let here = ap (λ (z : ℤ). upper z l h) (same 0 (omega arith)) in
+    let here = ap (λ (z : ℤ). upper_term z l h) (same 0 (omega arith)) in
     let rest = padded_upper cs ds ls hs (omega arith) (λ i i_in. same (suc i) (omega arith)) in
     omega (arith, ints, here, rest)
 
@@ -150,7 +150,7 @@ weighted_length n forms (part ∷ parts) small =
     length-added n (map (λ c. pos part.1 *ℤ c) f.coefficients) (weighted forms parts).coefficients (omega arith) (weighted_length n forms parts small)
 
 -- what each form of the list keeps
-smalls : (n : ℕ) (forms : List Form) → All (IsSmallForm n) forms → All (λ f. size_of f < 2 ^ 27) forms
+smalls : (n : ℕ) (forms : List Form) → All (IsSmallForm n) forms → All (λ f. size_of_form f < 2 ^ 27) forms
 smalls n forms small row d row_in = (small row d row_in).size
 
 -- the sums that were made fit 127 bits, times the most that an end can be

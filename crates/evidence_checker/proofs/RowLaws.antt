@@ -2,14 +2,14 @@
 use Rattle.std.proofs.Common.{◌≡◌, ℕ, ◌+◌, ◌<◌, refl, sym, ◌∙◌, ap, subst, List, [], ◌∷◌, length, drop, get_or, add-one, drop-cons, inl, inr, map, take, ◌++◌, below_more}
 use Rattle.std.specs.Prelude.{slice_get, Option, Some, None, MatchOption}
 use Rattle.std.proofs.lemmas.List.{take_more, map-append, get_or_default}
-use Rattle.path_rows.specs.Forms.{Form}
+use Rattle.design_problem.specs.Forms.{Form}
 use Rattle.cost_base.specs.Order.{FirstOf, NoneOf}
 use Rattle.area_graph.specs.Area.{Area}
-use Rattle.path_rows.specs.declared.form.Row.{Row}
-use Rattle.path_rows.specs.declared.problem.Request.{Request}
-use Rattle.path_rows.specs.Problems.{DesignProblem}
-use Rattle.path_rows.specs.Rows.{IsRow, IsRivalOf, path_edges}
-use Rattle.path_rows.proofs.RowForms.{route_of_rival}
+use Rattle.design_problem.specs.declared.form.Row.{Row}
+use Rattle.design_problem.specs.declared.problem.Request.{Request}
+use Rattle.design_problem.specs.Problems.{DesignProblem}
+use Rattle.design_problem.specs.Rows.{IsRow, IsRivalOf, path_edges}
+use Rattle.design_problem.proofs.RowForms.{route_of_rival}
 use Rattle.evidence_checker.specs.Refusals.{Fault, AtFirstItem}
 use Rattle.evidence_checker.specs.Tests.{row_tests}
 

@@ -7,14 +7,14 @@ use Rattle.std.proofs.Math.Nat.{mul-le-mul_left}
 use Rattle.std.proofs.Math.Facts.{sfits_widen}
 use Rattle.std.proofs.lemmas.Int.{ints, to_z_pos, to_z-of_z}
 use Rattle.whole_numbers.proofs.Sizes.{scaled_size, sum_size}
-use Rattle.path_rows.specs.Boxes.{upper}
+use Rattle.design_problem.specs.Boxes.{upper_term}
 
 pub fits_size : (z : ℤ) → nat_abs z < 2 ^ 127 → SFits w128 z
 fits_size (pos n) size = omega (arith, ints)
 fits_size (negsuc n) size = omega (arith, ints)
 
 -- a term is within its coefficient's size, times the most that an end can be
-pub upper_size : (c : ℤ) (l h : ℕ) → l ≤ 65535 → h ≤ 65535 → nat_abs (upper c l h) ≤ nat_abs c * 65535
+pub upper_size : (c : ℤ) (l h : ℕ) → l ≤ 65535 → h ≤ 65535 → nat_abs (upper_term c l h) ≤ nat_abs c * 65535
 upper_size (pos c) l h low high = omega (arith, ints, mul-le-mul_left c high)
 upper_size (negsuc c) l h low high = omega (arith, ints, mul-le-mul_left (suc c) low)
 
@@ -44,7 +44,7 @@ negative_size c l low size = fits_size (negsuc c *ℤ pos l) (omega (arith, ints
 -- the term of a negative coefficient, as it is computed
 pub negative_is : (c r : ℤ) (l h : ℕ) → c <ℤ pos 0 → SFits w128 c → r ≡ pos l → l ≤ 65535 →
     nat_abs c * 65535 < 2 ^ 127 → to_z w128 (of_z w128 (to_z w128 (of_z w128 c) *ℤ to_z w128 (of_z w128 r)))
-    ≡ upper c l h
+    ≡ upper_term c l h
 negative_is (pos c) r l h negative fits e low size = absurd (omega (arith, ints))
 negative_is (negsuc c) r l h negative fits e low size =
     let small : SFits w128 (pos l) = fits_size (pos l) (omega (arith, ints)) in

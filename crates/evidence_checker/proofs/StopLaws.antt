@@ -6,10 +6,10 @@ use Rattle.evidence_checker.specs.declared.fault.CheckFault.{CheckFault}
 use Rattle.evidence_checker.specs.Numbers.{number_of}
 use Rattle.evidence_checker.specs.declared.stop.CheckStop.{CheckStop}
 use Rattle.evidence_checker.specs.declared.stop.CheckStop.TheVariants.{Refused, OutOfMemory}
-use Rattle.evidence_checker.specs.Refusals.{Fault, AtFirst, IsFirst, StopsBy}
+use Rattle.evidence_checker.specs.Refusals.{Fault, AtFirst, IsFirstPlace, StopsBy}
 
 -- the refusal at the first place
-pub stop_at : (Met : ℕ → Type 0) (number var place : ℕ) → place ≡ var → IsFirst Met (Some var) →
+pub stop_at : (Met : ℕ → Type 0) (number var place : ℕ) → place ≡ var → IsFirstPlace Met (Some var) →
     FirstOf (AtFirst number Met ∷ []) (record { number = number; place = place })
 stop_at Met number var place e first = inl (refl, subst Met (sym e) first.0, λ k before. first.1 k (subst (λ (n : ℕ). k < n) e before))
 

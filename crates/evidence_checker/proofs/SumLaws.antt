@@ -7,9 +7,9 @@ use Rattle.std.proofs.lemmas.Grind.{get_or-set_at}
 use Rattle.std.proofs.lemmas.Int.{ints}
 use Rattle.std.proofs.lemmas.List.Sums.{sum_by-drop_more}
 use Rattle.whole_numbers.proofs.Laws.{mul-add}
-use Rattle.path_rows.specs.declared.form.Term.{Term}
-use Rattle.path_rows.specs.Forms.{terms_from}
-use Rattle.path_rows.proofs.TermLaws.{total, total_from, total_is, total_more}
+use Rattle.design_problem.specs.declared.form.Term.{Term}
+use Rattle.design_problem.specs.Forms.{terms_from}
+use Rattle.design_problem.proofs.TermLaws.{total, total_from, total_is, total_more}
 use Rattle.whole_numbers.proofs.Sizes.{scaled_size, sum_size}
 
 -- a coefficient, where it is that of the variable

@@ -2,15 +2,15 @@
 use Rattle.std.proofs.Common.{◌≡◌, ℕ, suc, ◌+◌, refl, sym, ◌∙◌, ap, subst, List, [], ◌∷◌, ◌++◌, length, drop, get_or, add-one, drop-cons, ◌<◌, length-set, arith, inl, inr}
 use Rattle.std.specs.Prelude.{false, Result, IfErr, All}
 use Rattle.std.proofs.lemmas.List.Elements.{All-nil, All-cons, All-head, All-tail, All-append, All-same}
-use Rattle.path_rows.specs.declared.tree.Side.TheVariants.{Low, High}
-use Rattle.path_rows.specs.Boxes.{with_low, with_high}
+use Rattle.design_problem.specs.declared.tree.Side.TheVariants.{Low, High}
+use Rattle.design_problem.specs.Boxes.{with_low, with_high}
 use Rattle.evidence_checker.specs.declared.stop.CheckStop.{CheckStop}
 use Rattle.cost_base.specs.Order.{FirstOf}
-use Rattle.path_rows.specs.Forms.{Form}
-use Rattle.path_rows.specs.declared.form.CostBox.{CostBox}
-use Rattle.path_rows.specs.declared.tree.Entry.{Entry}
-use Rattle.path_rows.specs.declared.tree.Entry.TheVariants.{Tighten, Split, Halve, Refute, Undone}
-use Rattle.path_rows.specs.Trees.{Sound, SoundAt, IsClosed, WholeTrees, subboxes, subtree_count, is_undone}
+use Rattle.design_problem.specs.Forms.{Form}
+use Rattle.design_problem.specs.declared.form.CostBox.{CostBox}
+use Rattle.design_problem.specs.declared.tree.Entry.{Entry}
+use Rattle.design_problem.specs.declared.tree.Entry.TheVariants.{Tighten, Split, Halve, Refute, Undone}
+use Rattle.design_problem.specs.Trees.{Sound, SoundAt, IsClosed, AreSeveralTrees, subboxes, subtree_count, is_undone}
 use Rattle.evidence_checker.specs.Refusals.{Fault, StopsBy}
 use Rattle.evidence_checker.specs.Tests.{line_tests, AtFirstLine}
 use Rattle.evidence_checker.proofs.LineLaws.{sound_meets_none}
@@ -21,9 +21,9 @@ pub record Walks (forms : List Form) (start : List CostBox) (whole : List Entry)
   pub sound : Sound forms (box ∷ boxes) rest → Sound forms start whole
   pub closed : IsClosed rest → IsClosed whole
   pub first : (f : Fault) → AtFirstLine forms (box ∷ boxes) place rest f → AtFirstLine forms start 0 whole f
-  pub trees : WholeTrees (suc (length boxes)) rest
+  pub trees : AreSeveralTrees (suc (length boxes)) rest
 
-pub walk_begins : (forms : List Form) (box : CostBox) (whole : List Entry) → WholeTrees 1 whole → Walks forms (box ∷ []) whole box [] 0 whole
+pub walk_begins : (forms : List Form) (box : CostBox) (whole : List Entry) → AreSeveralTrees 1 whole → Walks forms (box ∷ []) whole box [] 0 whole
 walk_begins forms box whole trees = record { sound = λ s. s; closed = λ c. c; first = λ f met. met; trees = trees }
 
 subbox_count : (box : CostBox) (entry : Entry) (boxes : List CostBox) → length (subboxes box entry ++ boxes) ≡ subtree_count entry + length boxes
@@ -46,10 +46,10 @@ walk_goes_on forms start whole box boxes place entry rest next others walks here
         sound_meets_none forms box entry here closed,
         subst (λ (bs : List CostBox). AtFirstLine forms bs (place + 1) rest f) (sym e) met,
       ));
-  trees = subst (λ (n : ℕ). WholeTrees n rest) (sym (subbox_count box entry boxes) ∙ ap length e) walks.trees;
+  trees = subst (λ (n : ℕ). AreSeveralTrees n rest) (sym (subbox_count box entry boxes) ∙ ap length e) walks.trees;
 }
 
-nothing_left : (rest : List Entry) → WholeTrees 0 rest → rest ≡ []
+nothing_left : (rest : List Entry) → AreSeveralTrees 0 rest → rest ≡ []
 nothing_left [] trees = refl
 nothing_left (entry ∷ rest) trees = absurd trees
 
@@ -59,7 +59,7 @@ pub walk_ends : (forms : List Form) (start : List CostBox) (whole : List Entry) 
     SoundAt forms box entry → is_undone entry ≡ false → subboxes box entry ++ boxes ≡ [] →
     Sound forms start whole × IsClosed whole
 walk_ends forms start whole box boxes place entry rest walks here closed e =
-    let last = nothing_left rest (subst (λ (n : ℕ). WholeTrees n rest) (sym (subbox_count box entry boxes) ∙ ap length e) walks.trees) in (
+    let last = nothing_left rest (subst (λ (n : ℕ). AreSeveralTrees n rest) (sym (subbox_count box entry boxes) ∙ ap length e) walks.trees) in (
       walks.sound (here, subst (λ (bs : List CostBox). Sound forms bs rest) (sym e) (subst (λ (es : List Entry). Sound forms [] es) (sym last) tt)),
       walks.closed (closed, subst IsClosed (sym last) tt),
     )

@@ -2,8 +2,8 @@
 use Rattle.std.specs.Prelude.{ℕ, ◌<◌, min, List, length, All, Option, Some, None}
 use Rattle.area_graph.specs.Area.{Area}
 use Rattle.area_graph.specs.Costs.{at_costs, IsOnlyCheapest}
-use Rattle.path_rows.specs.declared.problem.Request.{Request}
-use Rattle.path_rows.specs.Problems.{ends_of, request_at}
+use Rattle.design_problem.specs.declared.problem.Request.{Request}
+use Rattle.design_problem.specs.Problems.{request_ends, request_at}
 
 -- the lesser of a variable and the least so far, if any
 abbrev pub lesser_of : Option ℕ → ℕ → ℕ
@@ -12,7 +12,7 @@ lesser_of (Some least) var = min least var
 
 -- the request's path is only cheapest at the costs
 abbrev pub IsOnlyAt : Area → List ℕ → Request → Type 0
-IsOnlyAt g w r = IsOnlyCheapest g (at_costs w) (ends_of r) r.path.edges
+IsOnlyAt g w r = IsOnlyCheapest g (at_costs w) (request_ends r) r.path.edges
 
 -- the path of the request with this number isn't
 abbrev pub IsNotOnlyAt : Area → List Request → List ℕ → ℕ → Type 0

@@ -1,16 +1,16 @@
 -- What the answers of `check` mean.
 use Rattle.std.specs.Prelude.{◌≡◌, List, Option, Some, None}
-use Rattle.path_rows.specs.declared.answer.Verdict.{Verdict}
-use Rattle.path_rows.specs.declared.answer.Verdict.TheVariants.{Optimal, Impossible, Budget}
-use Rattle.path_rows.specs.Problems.{DesignProblem}
-use Rattle.path_rows.specs.declared.answer.Costs.{Costs}
-use Rattle.path_rows.specs.declared.answer.Floor.{Floor}
-use Rattle.path_rows.specs.declared.answer.CapTree.{CapTree}
-use Rattle.path_rows.specs.declared.form.Row.{Row}
-use Rattle.path_rows.specs.Boxes.{capped}
-use Rattle.path_rows.specs.Rows.{box_of, forms_of_rows}
-use Rattle.path_rows.specs.Trees.{IsSoundTree, IsClosed}
-use Rattle.path_rows.specs.Answers.{AnswerParts, IsValid, GivesCosts}
+use Rattle.design_problem.specs.declared.answer.Verdict.{Verdict}
+use Rattle.design_problem.specs.declared.answer.Verdict.TheVariants.{Optimal, Impossible, Undecided}
+use Rattle.design_problem.specs.Problems.{DesignProblem}
+use Rattle.design_problem.specs.declared.answer.Costs.{Costs}
+use Rattle.design_problem.specs.declared.answer.Floor.{Floor}
+use Rattle.design_problem.specs.declared.answer.CapTree.{CapTree}
+use Rattle.design_problem.specs.declared.form.Row.{Row}
+use Rattle.design_problem.specs.Boxes.{capped}
+use Rattle.design_problem.specs.Rows.{box_of, forms_of_rows}
+use Rattle.design_problem.specs.Trees.{IsSoundTree, IsClosed}
+use Rattle.design_problem.specs.Answers.{AnswerParts, IsValid, GivesCosts}
 use Rattle.evidence_checker.specs.declared.stop.Accepted.{Accepted}
 use Rattle.evidence_checker.specs.declared.stop.Accepted.TheVariants.{Optimal as OptimalAccepted, Impossible as ImpossibleAccepted}
 use Rattle.evidence_checker.specs.declared.stop.CheckStop.{CheckStop}
@@ -21,7 +21,7 @@ use Rattle.evidence_checker.specs.Tests.{IsFalseFloor}
 abbrev pub IsAcceptedAs : Verdict → Accepted → Type 0
 IsAcceptedAs (Optimal k) accepted = accepted ≡ OptimalAccepted k
 IsAcceptedAs Impossible accepted = accepted ≡ ImpossibleAccepted
-IsAcceptedAs (Budget cap) accepted = ⊥
+IsAcceptedAs (Undecided cap) accepted = ⊥
 
 -- a refused answer isn't valid; want of memory says nothing
 abbrev pub RefusesInvalid : DesignProblem → AnswerParts → CheckStop → Type 0
@@ -33,7 +33,7 @@ abbrev pub CostsHold : DesignProblem → Verdict → Option Costs → Floor → 
 CostsHold p (Optimal k) (Some costs) floor = GivesCosts p k costs × (IsFalseFloor p k floor → ⊥)
 CostsHold p (Optimal k) None floor = Unit {0}
 CostsHold p Impossible costs floor = Unit {0}
-CostsHold p (Budget cap) costs floor = Unit {0}
+CostsHold p (Undecided cap) costs floor = Unit {0}
 
 -- a proof that stands is a closed sound tree over the box at its cap
 abbrev pub ProofHolds : DesignProblem → List Row → Option CapTree → Type 0

@@ -3,6 +3,7 @@ use Rattle.std.specs.Prelude.{ℕ}
 use Rattle.evidence_checker.specs.declared.fault.CheckFault.{CheckFault}
 use Rattle.evidence_checker.specs.declared.fault.CheckFault.TheVariants.{NothingClaimed, WrongShape, WrongPlaces, UnequalEnds, OutOfBounds, WrongGreatest, NotOnlyCheapest, FalseFloor, NotAPath, NotARival, GreatMultipliers, NothingRefuted, WeakStep, OpenLeaf}
 
+-- the number by which a failed test is printed
 abbrev pub number_of : CheckFault → ℕ
 number_of NothingClaimed = 49
 number_of WrongShape = 51

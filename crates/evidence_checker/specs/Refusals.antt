@@ -5,22 +5,23 @@ use Rattle.evidence_checker.specs.Numbers.{number_of}
 use Rattle.evidence_checker.specs.declared.stop.CheckStop.{CheckStop}
 use Rattle.evidence_checker.specs.declared.stop.CheckStop.TheVariants.{Refused, OutOfMemory}
 
+-- the number of a test, and the place where it is met: 0, or that of a variable, a request, a row or a line of a tree
 pub record Fault : Type 0 where
   pub number : ℕ
   pub place : ℕ
 
--- a test of the answer as a whole is met
-abbrev pub OnWhole : ℕ → Type 0 → Fault → Type 0
-OnWhole number Met f = (f.number ≡ number) × (f.place ≡ 0) × Met
+-- a test of the answer that has no place is met
+abbrev pub AtNoPlace : ℕ → Type 0 → Fault → Type 0
+AtNoPlace number Met f = (f.number ≡ number) × (f.place ≡ 0) × Met
 
 -- a test of numbered things is met at a place, and at none before
 abbrev pub AtFirst : ℕ → (ℕ → Type 0) → Fault → Type 0
 AtFirst number Met f = (f.number ≡ number) × Met f.place × ((k : ℕ) → k < f.place → Met k → ⊥)
 
 -- the first place at which a test is met, if any
-abbrev pub IsFirst : (ℕ → Type 0) → Option ℕ → Type 0
-IsFirst Met None = (k : ℕ) → Met k → ⊥
-IsFirst Met (Some place) = Met place × ((k : ℕ) → k < place → Met k → ⊥)
+abbrev pub IsFirstPlace : (ℕ → Type 0) → Option ℕ → Type 0
+IsFirstPlace Met None = (k : ℕ) → Met k → ⊥
+IsFirstPlace Met (Some place) = Met place × ((k : ℕ) → k < place → Met k → ⊥)
 
 -- a test of one item of a list is met
 abbrev pub OnItem : ℕ → Type 0 → ℕ → Type 0

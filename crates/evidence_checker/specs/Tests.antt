@@ -3,35 +3,35 @@ use Rattle.std.specs.Prelude.{◌≡◌, ℕ, ◌+◌, ◌^◌, ◌<◌, ◌≤�
 use Rattle.std.specs.List.{AllZip}
 use Rattle.cost_base.specs.Order.{FirstOf, NoneOf}
 use Rattle.area_graph.specs.Costs.{at_costs, IsOnlyCheapest}
-use Rattle.path_rows.specs.declared.answer.Verdict.{Verdict}
-use Rattle.path_rows.specs.declared.answer.Verdict.TheVariants.{Optimal, Impossible, Budget}
-use Rattle.path_rows.specs.declared.answer.Costs.{Costs}
-use Rattle.path_rows.specs.declared.answer.CostLine.{CostLine}
-use Rattle.path_rows.specs.declared.answer.Floor.{Floor}
-use Rattle.path_rows.specs.declared.answer.Floor.TheVariants.{Absent, Empty, Var}
-use Rattle.path_rows.specs.declared.answer.CapTree.{CapTree}
-use Rattle.path_rows.specs.declared.form.Form.{Form}
-use Rattle.path_rows.specs.declared.form.CostBox.{CostBox}
-use Rattle.path_rows.specs.declared.form.Row.{Row}
-use Rattle.path_rows.specs.declared.problem.VarName.{VarName}
-use Rattle.path_rows.specs.declared.tree.Entry.{Entry}
-use Rattle.path_rows.specs.declared.tree.Entry.TheVariants.{Tighten, Split, Halve, Refute, Undone}
-use Rattle.path_rows.specs.Problems.{DesignProblem, ends_of, request_at}
-use Rattle.path_rows.specs.Boxes.{capped, greatest}
-use Rattle.path_rows.specs.Forms.{weighted}
-use Rattle.path_rows.specs.Trees.{TightensAt, CutsAt, subboxes}
-use Rattle.path_rows.specs.Rows.{HasRoute, path_edges, box_of, forms_of_rows, greatest_cost}
-use Rattle.path_rows.specs.Answers.{AnswerParts, greatest_bound}
-use Rattle.path_rows.specs.GivenCosts.{GivesCost, costs_given}
+use Rattle.design_problem.specs.declared.answer.Verdict.{Verdict}
+use Rattle.design_problem.specs.declared.answer.Verdict.TheVariants.{Optimal, Impossible, Undecided}
+use Rattle.design_problem.specs.declared.answer.Costs.{Costs}
+use Rattle.design_problem.specs.declared.answer.CostLine.{CostLine}
+use Rattle.design_problem.specs.declared.answer.Floor.{Floor}
+use Rattle.design_problem.specs.declared.answer.Floor.TheVariants.{Absent, Empty, Var}
+use Rattle.design_problem.specs.declared.answer.CapTree.{CapTree}
+use Rattle.design_problem.specs.declared.form.Form.{Form}
+use Rattle.design_problem.specs.declared.form.CostBox.{CostBox}
+use Rattle.design_problem.specs.declared.form.Row.{Row}
+use Rattle.design_problem.specs.declared.problem.VarName.{VarName}
+use Rattle.design_problem.specs.declared.tree.Entry.{Entry}
+use Rattle.design_problem.specs.declared.tree.Entry.TheVariants.{Tighten, Split, Halve, Refute, Undone}
+use Rattle.design_problem.specs.Problems.{DesignProblem, request_ends, request_at}
+use Rattle.design_problem.specs.Boxes.{capped, greatest}
+use Rattle.design_problem.specs.Forms.{weighted}
+use Rattle.design_problem.specs.Trees.{TightensAt, CutsAt, subboxes}
+use Rattle.design_problem.specs.Rows.{HasRoute, path_edges, box_of, forms_of_rows, greatest_cost}
+use Rattle.design_problem.specs.Answers.{AnswerParts, greatest_bound}
+use Rattle.design_problem.specs.GivenCosts.{GivesCost, costs_given}
 use Rattle.evidence_checker.specs.declared.fault.CheckFault.TheVariants.{NothingClaimed, WrongShape, WrongPlaces, UnequalEnds, OutOfBounds, WrongGreatest, NotOnlyCheapest, FalseFloor, NotAPath, NotARival, GreatMultipliers, NothingRefuted, WeakStep, OpenLeaf}
 use Rattle.evidence_checker.specs.Numbers.{number_of}
-use Rattle.evidence_checker.specs.Refusals.{Fault, OnWhole, AtFirst, OnItem, AtFirstItem}
+use Rattle.evidence_checker.specs.Refusals.{Fault, AtNoPlace, AtFirst, OnItem, AtFirstItem}
 
 -- 49: the verdict claims nothing
 abbrev pub ClaimsNothing : Verdict → Type 0
 ClaimsNothing (Optimal k) = ⊥
 ClaimsNothing Impossible = ⊥
-ClaimsNothing (Budget cap) = Unit {0}
+ClaimsNothing (Undecided cap) = Unit {0}
 
 -- exactly one of floor and proof stands; a proof is at the cap below k, and no lower bound is above that cap
 abbrev pub ShapeOfLeast : DesignProblem → ℕ → Floor → Option CapTree → Type 0
@@ -55,7 +55,7 @@ ShapeOfClaim p (Optimal k) (Some costs) floor proof = ShapeOfLeast p k floor pro
 ShapeOfClaim p (Optimal k) None floor proof = ⊥
 ShapeOfClaim p Impossible None floor proof = ShapeOfNone p floor proof
 ShapeOfClaim p Impossible (Some costs) floor proof = ⊥
-ShapeOfClaim p (Budget cap) costs floor proof = ⊥
+ShapeOfClaim p (Undecided cap) costs floor proof = ⊥
 
 -- 51: the answer lacks the shape of its verdict, or an unfinished tree stands
 abbrev pub HasWrongShape : DesignProblem → AnswerParts → Type 0
@@ -80,7 +80,7 @@ HasWrongGreatest k printed w = (printed ≡ k) × (greatest_cost w ≡ k) → �
 -- 46: the request's path isn't the only cheapest among the simple paths of the request
 abbrev pub IsNotOnly : DesignProblem → List ℕ → ℕ → Type 0
 IsNotOnly p w request =
-    (request < length p.paths) × (IsOnlyCheapest p.graph (at_costs w) (ends_of (request_at p.paths request)) (request_at p.paths request).path.edges → ⊥)
+    (request < length p.paths) × (IsOnlyCheapest p.graph (at_costs w) (request_ends (request_at p.paths request)) (request_at p.paths request).path.edges → ⊥)
 
 -- 52: the floor is no variable whose lower bound is k, or says that there is no variable where there is one
 abbrev pub IsFalseFloor : DesignProblem → ℕ → Floor → Type 0
@@ -91,18 +91,18 @@ IsFalseFloor p k (Var v) = (v < length p.low) × (slice_index p.low v ≡ k) →
 -- the tests of the costs and the floor of an optimal answer; an impossible one has nothing to speak of
 abbrev pub cost_tests : DesignProblem → Verdict → Option Costs → Floor → List (Fault → Type 0)
 cost_tests p (Optimal k) (Some costs) floor =
-    OnWhole (number_of WrongPlaces) (NamesPlaces p.vars costs.lines → ⊥)
+    AtNoPlace (number_of WrongPlaces) (NamesPlaces p.vars costs.lines → ⊥)
     ∷ AtFirst (number_of UnequalEnds) (HasUnequalEnds p.vars costs.lines)
     ∷ AtFirst (number_of OutOfBounds) (IsOutside p.low p.high (costs_given p costs.lines))
-    ∷ OnWhole (number_of WrongGreatest) (HasWrongGreatest k costs.greatest (costs_given p costs.lines))
+    ∷ AtNoPlace (number_of WrongGreatest) (HasWrongGreatest k costs.greatest (costs_given p costs.lines))
     ∷ AtFirst (number_of NotOnlyCheapest) (IsNotOnly p (costs_given p costs.lines))
-    ∷ OnWhole (number_of FalseFloor) (IsFalseFloor p k floor)
+    ∷ AtNoPlace (number_of FalseFloor) (IsFalseFloor p k floor)
     ∷ []
 cost_tests p (Optimal k) None floor = []
 cost_tests p Impossible costs floor = []
-cost_tests p (Budget cap) costs floor = []
+cost_tests p (Undecided cap) costs floor = []
 
--- of a row: 40, its number is no request's, or its edges aren't a simple path of that request; 41, its path is the requested one
+-- the tests of a row: 40, it is no simple path of a request; 41, it is the wanted path
 abbrev pub row_tests : DesignProblem → Row → List (ℕ → Type 0)
 row_tests p row =
     OnItem (number_of NotAPath) (HasRoute p row → ⊥)
@@ -141,7 +141,7 @@ IsOpenLeaf (Halve var value wide) = ⊥
 IsOpenLeaf (Refute parts) = ⊥
 IsOpenLeaf Undone = Unit {0}
 
--- of a line of a tree, at its box
+-- the tests of a line of a tree, at its box
 abbrev pub line_tests : List Form → CostBox → Entry → List (ℕ → Type 0)
 line_tests forms box entry =
     OnItem (number_of GreatMultipliers) (HasGreatSum entry)
@@ -158,6 +158,7 @@ AtFirstLine forms (box ∷ boxes) place (entry ∷ entries) f =
     ((f.place ≡ place) × FirstOf (line_tests forms box entry) f.number)
     ⊎ (NoneOf (line_tests forms box entry) × AtFirstLine forms (subboxes box entry ++ boxes) (place + 1) entries f)
 
+-- the tests of the proof, where there is one: those of its lines, over the box at its cap
 abbrev pub proof_tests : DesignProblem → List Row → Option CapTree → List (Fault → Type 0)
 proof_tests p rows None = []
 proof_tests p rows (Some proof) = AtFirstLine (forms_of_rows p rows) (capped (box_of p) proof.cap ∷ []) 0 proof.tree ∷ []
@@ -165,8 +166,8 @@ proof_tests p rows (Some proof) = AtFirstLine (forms_of_rows p rows) (capped (bo
 -- all tests, in their order
 abbrev pub tests : DesignProblem → AnswerParts → List (Fault → Type 0)
 tests p a =
-    OnWhole (number_of NothingClaimed) (ClaimsNothing a.verdict)
-    ∷ OnWhole (number_of WrongShape) (HasWrongShape p a)
+    AtNoPlace (number_of NothingClaimed) (ClaimsNothing a.verdict)
+    ∷ AtNoPlace (number_of WrongShape) (HasWrongShape p a)
     ∷ cost_tests p a.verdict a.costs a.floor
     ++ AtFirstItem (row_tests p) 0 a.rows
     ∷ proof_tests p a.rows a.proof

@@ -3,11 +3,11 @@ ghost use Rattle.evidence_checker.specs.declared.fault.CheckFault.TheVariants.{W
 ghost use Rattle.evidence_checker.specs.Numbers.{number_of};
 ghost use Rattle.std.specs.Prelude.{◌≡◌, [], ◌∷◌, All, IfOk, IfErr};
 ghost use Rattle.std.specs.Option.{option_copied};
-ghost use Rattle.path_rows.specs.Answers.{IsValid};
-ghost use Rattle.path_rows.specs.ProblemLaws.{IsTrueVerdict};
-ghost use Rattle.path_rows.specs.Rows.{IsRow};
+ghost use Rattle.design_problem.specs.Answers.{IsValid};
+ghost use Rattle.design_problem.specs.ProblemLaws.{IsTrueVerdict};
+ghost use Rattle.design_problem.specs.Rows.{IsRow};
 ghost use Rattle.evidence_checker.specs.Laws.{IsAcceptedAs, RefusesInvalid, CostsHold, ProofHolds};
-ghost use Rattle.evidence_checker.specs.Refusals.{OnWhole, AtFirstItem, StopsBy};
+ghost use Rattle.evidence_checker.specs.Refusals.{AtNoPlace, AtFirstItem, StopsBy};
 ghost use Rattle.evidence_checker.specs.Tests.{ShapeOfClaim, HasWrongShape, cost_tests, row_tests, proof_tests, tests};
 
 use crate::cost_tests::check_costs;
@@ -16,14 +16,14 @@ use crate::rows::forms_of;
 use crate::shape::{claimed, fits_claim};
 use crate::tree::check_cap_tree;
 use crate::{Accepted, CheckFault, CheckStop};
-use path_rows::{Answer, CapTree, Costs, Floor, Problem, Row, Verdict};
+use design_problem::{Answer, CapTree, Costs, Floor, Problem, Row, Verdict};
 use std::alloc::Global;
 
 /// Tests that an answer has the parts that its verdict needs, and no others.
 fn check_shape(problem: &Problem, answer: &Answer) -> Result<(), CheckStop>
     ensures shape { IfOk result (λ _.
         ShapeOfClaim problem.now answer.now.verdict answer.now.costs answer.now.floor answer.now.proof × (answer.now.unfinished ≡ None)) }
-    ensures first { IfErr result (StopsBy (OnWhole (number_of WrongShape) (HasWrongShape problem.now answer.now) ∷ [])) }
+    ensures first { IfErr result (StopsBy (AtNoPlace (number_of WrongShape) (HasWrongShape problem.now answer.now) ∷ [])) }
 {
     let costs = answer.costs.as_ref();
     let proof = answer.proof.as_ref();
@@ -53,7 +53,7 @@ fn check_claim(
         (Verdict::Optimal(greatest), Some(costs)) => {
             check_costs(alloc, problem, greatest, costs, floor)
         }
-        (Verdict::Optimal(_), None) | (Verdict::Impossible | Verdict::Budget(_), _) => Ok(()),
+        (Verdict::Optimal(_), None) | (Verdict::Impossible | Verdict::Undecided(_), _) => Ok(()),
     }
 }
 

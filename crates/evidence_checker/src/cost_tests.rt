@@ -3,13 +3,13 @@ ghost use Rattle.evidence_checker.specs.declared.fault.CheckFault.TheVariants.{F
 ghost use Rattle.evidence_checker.specs.declared.fault.CheckFault.TheVariants.{WrongPlaces};
 ghost use Rattle.evidence_checker.specs.Numbers.{number_of};
 ghost use Rattle.std.specs.Prelude.{◌≡◌, ℕ, ◌≤◌, [], ◌∷◌, length, All, IfOk, IfErr};
-ghost use Rattle.path_rows.specs.Answers.{Names, GivesCosts};
-ghost use Rattle.path_rows.specs.Boxes.{IsInBox};
-ghost use Rattle.path_rows.specs.GivenCosts.{costs_given};
-ghost use Rattle.path_rows.specs.Rows.{box_of, greatest_cost};
-ghost use Rattle.path_rows.specs.declared.answer.Verdict.TheVariants.{Optimal};
+ghost use Rattle.design_problem.specs.Answers.{Names, GivesCosts};
+ghost use Rattle.design_problem.specs.Boxes.{IsInBox};
+ghost use Rattle.design_problem.specs.GivenCosts.{costs_given};
+ghost use Rattle.design_problem.specs.Rows.{box_of, greatest_cost};
+ghost use Rattle.design_problem.specs.declared.answer.Verdict.TheVariants.{Optimal};
 ghost use Rattle.evidence_checker.specs.Costs.{IsOnlyAt};
-ghost use Rattle.evidence_checker.specs.Refusals.{OnWhole, AtFirst, StopsBy};
+ghost use Rattle.evidence_checker.specs.Refusals.{AtNoPlace, AtFirst, StopsBy};
 ghost use Rattle.evidence_checker.specs.Tests.{NamesPlaces, HasUnequalEnds, IsOutside, HasWrongGreatest, IsNotOnly, IsFalseFloor, cost_tests};
 
 use crate::costs::{first_outside, first_unequal, names_places};
@@ -18,13 +18,13 @@ use crate::problem_parts::{high_of, keeps, low_of, names_of};
 use crate::shape::is_false_floor;
 use crate::{CheckFault, CheckStop};
 use cost_base::OutOfMemory;
-use path_rows::{CostLine, Costs, Floor, Problem, costs_given, greatest_of};
+use design_problem::{CostLine, Costs, Floor, Problem, costs_given, greatest_of};
 use std::alloc::Global;
 
 /// Tests that the lines name the free interfaces, each once, in their order.
 fn check_places(problem: &Problem, lines: &[CostLine]) -> Result<(), CheckStop>
     ensures named { IfOk result (λ _. NamesPlaces problem.now.vars lines.now) }
-    ensures first { IfErr result (StopsBy (OnWhole (number_of WrongPlaces) (NamesPlaces problem.now.vars lines.now → ⊥) ∷ [])) }
+    ensures first { IfErr result (StopsBy (AtNoPlace (number_of WrongPlaces) (NamesPlaces problem.now.vars lines.now → ⊥) ∷ [])) }
 {
     if names_places(names_of(problem), lines) {
         return Ok(());
@@ -80,7 +80,7 @@ fn check_bounds(problem: &Problem, costs: &[u16]) -> Result<(), CheckStop>
 /// Tests that the claimed, the printed and the true greatest cost are one number.
 fn check_greatest(greatest: u16, printed: u16, costs: &[u16]) -> Result<(), CheckStop>
     ensures same { IfOk result (λ _. (printed ≡ greatest) × (greatest_cost costs.now ≡ greatest)) }
-    ensures first { IfErr result (StopsBy (OnWhole (number_of WrongGreatest) (HasWrongGreatest greatest printed costs.now) ∷ [])) }
+    ensures first { IfErr result (StopsBy (AtNoPlace (number_of WrongGreatest) (HasWrongGreatest greatest printed costs.now) ∷ [])) }
 {
     if printed == greatest && greatest_of(costs) == greatest {
         return Ok(());
@@ -91,7 +91,7 @@ fn check_greatest(greatest: u16, printed: u16, costs: &[u16]) -> Result<(), Chec
     })
 }
 
-/// Tests that each requested path is the only cheapest among the simple paths of its request.
+/// Tests that each wanted path is the only cheapest among the simple paths of its request.
 fn check_paths(alloc: Global, problem: &Problem, costs: &[u16]) -> Result<(), CheckStop>
     requires { IsInBox (box_of problem.now) costs.now }
     ensures only { IfOk result (λ _. All (IsOnlyAt problem.now.graph costs.now) problem.now.paths) }
@@ -109,7 +109,7 @@ fn check_paths(alloc: Global, problem: &Problem, costs: &[u16]) -> Result<(), Ch
 /// Tests the floor.
 fn check_floor(problem: &Problem, greatest: u16, floor: Floor) -> Result<(), CheckStop>
     ensures true_floor { IfOk result (λ _. IsFalseFloor problem.now greatest floor → ⊥) }
-    ensures first { IfErr result (StopsBy (OnWhole (number_of FalseFloor) (IsFalseFloor problem.now greatest floor) ∷ [])) }
+    ensures first { IfErr result (StopsBy (AtNoPlace (number_of FalseFloor) (IsFalseFloor problem.now greatest floor) ∷ [])) }
 {
     if is_false_floor(problem, greatest, floor) {
         return Err(CheckStop::Refused {

@@ -1,14 +1,14 @@
 //! The tests of the costs and the floor of an optimal answer.
 ghost use Rattle.std.specs.Prelude.{◌≡◌, ◌↔◌, ◌⊎◌, ℕ, ◌^◌, ◌<◌, ◌≤◌, MatchBool, max, fold, length, replicate, slice_index, All, IsTrue, IfOk, MatchOption};
 ghost use Rattle.area_graph.specs.Costs.{at_costs, IsOnlyCheapest, FitsPoint};
-ghost use Rattle.path_rows.specs.Problems.{ends_of};
-ghost use Rattle.path_rows.specs.Rows.{greatest_cost};
-ghost use Rattle.evidence_checker.specs.Refusals.{IsFirst};
+ghost use Rattle.design_problem.specs.Problems.{request_ends};
+ghost use Rattle.design_problem.specs.Rows.{greatest_cost};
+ghost use Rattle.evidence_checker.specs.Refusals.{IsFirstPlace};
 ghost use Rattle.evidence_checker.specs.Costs.{lesser_of};
 ghost use Rattle.evidence_checker.specs.Tests.{NamesPlaces, HasUnequalEnds, IsOutside};
-ghost use Rattle.path_rows.specs.GivenCosts.{written};
+ghost use Rattle.design_problem.specs.GivenCosts.{written};
 
-use path_rows::{CostLine, VarName};
+use design_problem::{CostLine, VarName};
 
 /// Whether a line names a free interface.
 fn names_place(name: &VarName, line: &CostLine) -> bool
@@ -56,7 +56,7 @@ pub(crate) fn first_unequal(names: &[VarName], lines: &[CostLine], costs: &[u16]
     requires counts { length names.now ≡ length lines.now }
     requires known { All (λ name. name.var < length costs.now) names.now }
     requires given { costs.now ≡ written (replicate (length costs.now) 0) names.now lines.now }
-    ensures { IsFirst (HasUnequalEnds names.now lines.now) result }
+    ensures { IsFirstPlace (HasUnequalEnds names.now lines.now) result }
 {
     let mut least = None;
     for (index, name) in names.iter().enumerate() {
@@ -79,7 +79,7 @@ pub(crate) fn first_outside(low: &[u16], high: &[u16], costs: &[u16]) -> Option<
     requires low { length low.now ≡ length costs.now }
     requires high { length high.now ≡ length costs.now }
     requires count { length costs.now < 2 ^ 32 }
-    ensures { IsFirst (IsOutside low.now high.now costs.now) result }
+    ensures { IsFirstPlace (IsOutside low.now high.now costs.now) result }
 {
     for var in 0..costs.len() {
         if is_out(costs[var], low[var], high[var]) {

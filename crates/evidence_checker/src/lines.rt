@@ -1,16 +1,16 @@
 //! The tests of one line of a tree, at its box.
 ghost use Rattle.std.specs.Prelude.{◌≡◌, ◌↔◌, ◌<◌, false, length, All, IsTrue, MatchOption};
 ghost use Rattle.cost_base.specs.Order.{FirstOf};
-ghost use Rattle.path_rows.specs.declared.tree.Entry.TheVariants.{Refute};
-ghost use Rattle.path_rows.specs.Boxes.{Refutes};
-ghost use Rattle.path_rows.specs.Forms.{IsSmallForm};
-ghost use Rattle.path_rows.specs.Trees.{CutsAt, IsSmaller, TightensAt, SoundAt, is_undone};
+ghost use Rattle.design_problem.specs.declared.tree.Entry.TheVariants.{Refute};
+ghost use Rattle.design_problem.specs.Boxes.{Refutes};
+ghost use Rattle.design_problem.specs.Forms.{IsSmallForm};
+ghost use Rattle.design_problem.specs.Trees.{CutsAt, IsSmaller, TightensAt, SoundAt, is_undone};
 ghost use Rattle.evidence_checker.specs.Numbers.{number_of};
 ghost use Rattle.evidence_checker.specs.Tests.{line_tests};
 
 use crate::CheckFault;
 use crate::sums::{refutes, rows_are_known, sum_is_small};
-use path_rows::{CostBox, Entry, Form, Side, greatest_removed};
+use design_problem::{CostBox, Entry, Form, Side, greatest_removed};
 
 /// Whether a new bound makes a variable's range smaller, and not empty.
 fn is_smaller(costs: &CostBox, var: usize, side: Side, value: u16) -> bool

@@ -1,13 +1,13 @@
-//! The test of the requested paths.
+//! The test of the wanted paths.
 ghost use Rattle.std.specs.Prelude.{◌≡◌, ◌↔◌, ℕ, All, IsTrue, IfOk, IfNone};
 ghost use Rattle.area_graph.specs.Costs.{at_costs, IsOnlyCheapest, FitsPoint};
 ghost use Rattle.area_graph.specs.Paths.{IsPathOf};
-ghost use Rattle.path_rows.specs.Problems.{ends_of};
+ghost use Rattle.design_problem.specs.Problems.{request_ends};
 ghost use Rattle.evidence_checker.specs.Costs.{IsFirstTied};
 
 use area_graph::{Graph, Point, is_only_cheapest};
 use cost_base::{Listed, OutOfMemory};
-use path_rows::Request;
+use design_problem::Request;
 use std::alloc::Global;
 
 /// Costs as a point of scale 1.
@@ -32,8 +32,8 @@ fn is_only(
     request: &Request,
 ) -> Result<bool, OutOfMemory>
     requires fits { FitsPoint graph.now point.now }
-    requires path { IsPathOf graph.now (ends_of request.now) request.now.path.edges }
-    ensures { IfOk result (λ yes. IsTrue yes ↔ IsOnlyCheapest graph.now point.now (ends_of request.now) request.now.path.edges) }
+    requires path { IsPathOf graph.now (request_ends request.now) request.now.path.edges }
+    ensures { IfOk result (λ yes. IsTrue yes ↔ IsOnlyCheapest graph.now point.now (request_ends request.now) request.now.path.edges) }
 {
     is_only_cheapest(
         alloc,
@@ -41,7 +41,7 @@ fn is_only(
         point,
         &request.path,
         request.end,
-        request.gone.as_slice(),
+        request.excluded.as_slice(),
     )
 }
 
@@ -53,7 +53,7 @@ pub(crate) fn first_not_only(
     costs: &[u16],
 ) -> Result<Option<u64>, OutOfMemory>
     requires fits { FitsPoint graph.now (at_costs costs.now) }
-    requires paths { All (λ r. IsPathOf graph.now (ends_of r) r.path.edges) paths.now }
+    requires paths { All (λ r. IsPathOf graph.now (request_ends r) r.path.edges) paths.now }
     ensures { IfOk result (λ first. IsFirstTied graph.now paths.now costs.now first) }
 {
     let point = point_of(alloc, costs)?;

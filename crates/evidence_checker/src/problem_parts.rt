@@ -1,8 +1,8 @@
 //! The parts of a problem, as slices.
 ghost use Rattle.std.specs.Prelude.{◌≡◌};
-ghost use Rattle.path_rows.specs.Problems.{IsProblem};
+ghost use Rattle.design_problem.specs.Problems.{IsProblem};
 
-use path_rows::{Problem, VarName};
+use design_problem::{Problem, VarName};
 
 /// What the type of a problem keeps.
 pub(crate) fn keeps(problem: &Problem)

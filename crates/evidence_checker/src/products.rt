@@ -1,6 +1,6 @@
 //! Products of numbers within 127 bits.
 ghost use Rattle.std.specs.Prelude.{◌≡◌, ◌+◌, ◌*◌, ◌^◌, ◌<◌, ◌≤◌, pos, ◌+ℤ◌, ◌*ℤ◌, nat_abs};
-ghost use Rattle.path_rows.specs.Boxes.{upper};
+ghost use Rattle.design_problem.specs.Boxes.{upper_term};
 
 /// A sum, and a product with a multiplier.
 pub(crate) fn plus_product(sum: i128, multiplier: u128, factor: i64) -> i128
@@ -14,7 +14,7 @@ pub(crate) fn plus_product(sum: i128, multiplier: u128, factor: i64) -> i128
 /// A coefficient times the end of a range at which that is greatest.
 pub(crate) fn greatest_term(coefficient: i128, low: u16, high: u16) -> i128
     requires { nat_abs coefficient * 65535 < 2 ^ 127 }
-    ensures value { result ≡ upper coefficient low high }
+    ensures value { result ≡ upper_term coefficient low high }
     ensures size { nat_abs result ≤ nat_abs coefficient * 65535 }
 {
     if coefficient >= 0 {

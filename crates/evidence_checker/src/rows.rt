@@ -2,18 +2,18 @@
 ghost use Rattle.std.specs.Prelude.{◌≡◌, ◌↔◌, ℕ, [], ◌∷◌, length, map, slice_get, All, IsTrue, ◌++◌, IfOk, IfErr, OnOk, MatchOption};
 ghost use Rattle.cost_base.specs.Order.{FirstOf};
 ghost use Rattle.area_graph.specs.Paths.{IsPathOf};
-ghost use Rattle.path_rows.specs.Forms.{IsSmallForm};
-ghost use Rattle.path_rows.specs.Problems.{ends_of};
-ghost use Rattle.path_rows.specs.Rows.{IsRow, forms_of_rows, form_of_row};
+ghost use Rattle.design_problem.specs.Forms.{IsSmallForm};
+ghost use Rattle.design_problem.specs.Problems.{request_ends};
+ghost use Rattle.design_problem.specs.Rows.{IsRow, forms_of_rows, form_of_row};
 ghost use Rattle.evidence_checker.specs.Refusals.{StopsBy, AtFirstItem};
 ghost use Rattle.evidence_checker.specs.Numbers.{number_of};
 ghost use Rattle.evidence_checker.specs.Tests.{row_tests};
-ghost use Rattle.evidence_checker.specs.Routes.{route_tests, IsRival};
+ghost use Rattle.evidence_checker.specs.Routes.{route_tests, IsRivalRoute};
 
 use crate::{CheckFault, CheckStop};
 use area_graph::{Graph, Path, is_path_of};
 use cost_base::{Listed, OutOfMemory};
-use path_rows::{Form, Problem, Request, Row, form_of};
+use design_problem::{Form, Problem, Request, Row, form_of};
 use std::alloc::Global;
 
 /// The same numbers.
@@ -30,12 +30,12 @@ fn is_route(
     request: &Request,
     edges: &[u32],
 ) -> Result<bool, OutOfMemory>
-    ensures { IfOk result (λ yes. IsTrue yes ↔ IsPathOf graph.now (ends_of request.now) edges.now) }
+    ensures { IfOk result (λ yes. IsTrue yes ↔ IsPathOf graph.now (request_ends request.now) edges.now) }
 {
     let start = request.path.start;
     let edges = copied(alloc, edges)?;
     let path = Path { start, edges };
-    Ok(is_path_of(graph, &path, request.end, request.gone.as_slice()))
+    Ok(is_path_of(graph, &path, request.end, request.excluded.as_slice()))
 }
 
 /// The first test that edges meet as a rival of a request's path.
@@ -46,7 +46,7 @@ fn route_fault(
     edges: &[u32],
 ) -> Result<Option<CheckFault>, OutOfMemory>
     ensures { IfOk result (λ fault. MatchOption fault
-        (IsRival graph.now request.now edges.now)
+        (IsRivalRoute graph.now request.now edges.now)
         (λ f. FirstOf (route_tests graph.now request.now edges.now) (number_of f))) }
 {
     if !is_route(alloc, graph, request, edges)? {

@@ -3,23 +3,23 @@ ghost use Rattle.evidence_checker.specs.declared.fault.CheckFault.TheVariants.{N
 ghost use Rattle.evidence_checker.specs.Numbers.{number_of};
 ghost use Rattle.std.specs.Prelude.{◌≡◌, ◌↔◌, [], ◌∷◌, ◌≤◌, All, IsTrue, IfOk, IfErr};
 ghost use Rattle.std.specs.Option.{option_copied};
-ghost use Rattle.path_rows.specs.Answers.{greatest_bound};
+ghost use Rattle.design_problem.specs.Answers.{greatest_bound};
 ghost use Rattle.evidence_checker.specs.Laws.{IsAcceptedAs};
-ghost use Rattle.evidence_checker.specs.Refusals.{OnWhole, StopsBy};
+ghost use Rattle.evidence_checker.specs.Refusals.{AtNoPlace, StopsBy};
 ghost use Rattle.evidence_checker.specs.Tests.{ClaimsNothing, ShapeOfClaim, ShapeOfLeast, ShapeOfNone, IsFalseFloor};
 
 use crate::{Accepted, CheckFault, CheckStop};
-use path_rows::{CapTree, Costs, Floor, Problem, Verdict, greatest_of};
+use design_problem::{CapTree, Costs, Floor, Problem, Verdict, greatest_of};
 
 /// What a verdict claims.
 pub(crate) fn claimed(verdict: Verdict) -> Result<Accepted, CheckStop>
     ensures claim { IfOk result (IsAcceptedAs verdict) }
-    ensures first { IfErr result (StopsBy (OnWhole (number_of NothingClaimed) (ClaimsNothing verdict) ∷ [])) }
+    ensures first { IfErr result (StopsBy (AtNoPlace (number_of NothingClaimed) (ClaimsNothing verdict) ∷ [])) }
 {
     match verdict {
         Verdict::Optimal(greatest) => Ok(Accepted::Optimal(greatest)),
         Verdict::Impossible => Ok(Accepted::Impossible),
-        Verdict::Budget(_) => Err(CheckStop::Refused {
+        Verdict::Undecided(_) => Err(CheckStop::Refused {
             fault: CheckFault::NothingClaimed,
             place: 0,
         }),
@@ -69,9 +69,8 @@ pub(crate) fn fits_claim(
     match (verdict, costs) {
         (Verdict::Optimal(greatest), Some(_)) => shows_least(problem, greatest, floor, proof),
         (Verdict::Impossible, None) => shows_none(problem, floor, proof),
-        (Verdict::Optimal(_), None) | (Verdict::Impossible, Some(_)) | (Verdict::Budget(_), _) => {
-            false
-        }
+        (Verdict::Optimal(_), None) | (Verdict::Impossible, Some(_)) | (Verdict::Undecided(_), _) =>
+            { false }
     }
 }
 

@@ -1,11 +1,11 @@
 //! Weighted sums of forms, and whether they are negative over a whole box.
 ghost use Rattle.std.specs.Prelude.{◌≡◌, ◌↔◌, ℕ, ◌+◌, ◌*◌, ◌^◌, ◌<◌, ◌≤◌, ℤ, pos, ◌+ℤ◌, ◌*ℤ◌, ◌<ℤ◌, nat_abs, length, map, slice_index_or, All, Any, IsTrue};
 ghost use Rattle.std.specs.Prelude.{MatchBool, sum_by};
-ghost use Rattle.path_rows.specs.Boxes.{upper_sum, greatest};
-ghost use Rattle.path_rows.specs.Forms.{weighted, IsSmallForm};
+ghost use Rattle.design_problem.specs.Boxes.{upper_sum, greatest};
+ghost use Rattle.design_problem.specs.Forms.{weighted, IsSmallForm};
 
 use crate::products::{greatest_term, plus_product};
-use path_rows::{CostBox, Form};
+use design_problem::{CostBox, Form};
 
 /// The sum of a Refute's multipliers is below this.
 const MOST: u128 = 1 << 100;

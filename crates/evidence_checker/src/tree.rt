@@ -1,8 +1,8 @@
 //! The lines of a tree, gone through in order.
 ghost use Rattle.std.specs.Prelude.{◌≡◌, ℕ, List, [], ◌∷◌, ◌++◌, length, map, min, All, IfOk, IfErr, false, MatchBool, MatchOption};
-ghost use Rattle.path_rows.specs.Boxes.{capped};
-ghost use Rattle.path_rows.specs.Forms.{Form, IsSmallForm};
-ghost use Rattle.path_rows.specs.Trees.{IsSoundTree, IsClosed, IsWholeTree, SoundAt, is_undone, subboxes};
+ghost use Rattle.design_problem.specs.Boxes.{capped};
+ghost use Rattle.design_problem.specs.Forms.{Form, IsSmallForm};
+ghost use Rattle.design_problem.specs.Trees.{IsSoundTree, IsClosed, IsSingleTree, SoundAt, is_undone, subboxes};
 ghost use Rattle.evidence_checker.specs.Refusals.{StopsBy};
 ghost use Rattle.cost_base.specs.Order.{FirstOf};
 ghost use Rattle.evidence_checker.specs.Numbers.{number_of};
@@ -11,7 +11,7 @@ ghost use Rattle.evidence_checker.specs.Tests.{AtFirstLine, line_tests};
 use crate::lines::line_fault;
 use crate::{CheckFault, CheckStop};
 use cost_base::OutOfMemory;
-use path_rows::{CapTree, CostBox, Entry, Form, OpenBoxes, capped_box};
+use design_problem::{CapTree, CostBox, Entry, Form, OpenBoxes, capped_box};
 use std::alloc::Global;
 
 /// Room for the sums of so many variables.
@@ -70,7 +70,7 @@ pub(crate) fn check_tree(
 ) -> Result<(), CheckStop>
     requires count { length costs.low ≡ length costs.high }
     requires forms { All (IsSmallForm (length costs.low)) forms.now }
-    requires whole { IsWholeTree entries.now }
+    requires whole { IsSingleTree entries.now }
     ensures sound { IfOk result (λ _. IsSoundTree forms.now costs entries.now × IsClosed entries.now) }
     ensures first { IfErr result (StopsBy (AtFirstLine forms.now (costs ∷ []) 0 entries.now ∷ [])) }
 {

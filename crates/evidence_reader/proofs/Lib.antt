@@ -4,3 +4,13 @@ pub mod NextPlaces
 pub mod SectionLines
 pub mod TreeLines
 pub mod WholeText
+pub mod WholeWords
+pub mod AnswerLines
+pub mod SameWords
+pub mod SameLines
+pub mod OneAnswer
+pub mod OnePlace
+pub mod GrammarLines
+pub mod Lawful
+pub mod NoRefusal
+pub mod ValidAnswers

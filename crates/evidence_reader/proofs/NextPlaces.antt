@@ -1,15 +1,15 @@
 -- Going on from place to place.
 use Rattle.std.proofs.Common.{◌≡◌, ℕ, List, [], ◌∷◌, ◌++◌, sym, ap, subst, ◌∙◌, arith, append_assoc, length-append}
 use Rattle.text_lines.specs.Lines.{with_ends}
-use Rattle.answer_lines.specs.Grammar.{Place}
+use Rattle.answer_lines.specs.Grammar.{TextPlace}
 use Rattle.answer_lines.specs.Lawful.{LeadOn, IsRead}
 use Rattle.evidence_reader.specs.declared.stop.AnswerFault.{AnswerFault}
 use Rattle.evidence_reader.specs.declared.stop.AnswerStop.{AnswerStop}
 use Rattle.evidence_reader.specs.declared.stop.AnswerStop.TheVariants.{Refused, OutOfMemory}
 use Rattle.text_lines.proofs.LineLaws.{with_ends-append}
-use Rattle.evidence_reader.specs.Refusals.{IsRefused, IsStop}
+use Rattle.evidence_reader.specs.Refusals.{IsTextRefused, IsReaderStop}
 
-lead-then : (from mid to : Place) (xs ys : List (List ℕ)) → LeadOn from xs mid → LeadOn mid ys to → LeadOn from (xs ++ ys) to
+lead-then : (from mid to : TextPlace) (xs ys : List (List ℕ)) → LeadOn from xs mid → LeadOn mid ys to → LeadOn from (xs ++ ys) to
 lead-then from mid to [] ys first second = subst (λ p. LeadOn p ys to) (sym first) second
 lead-then from mid to (x ∷ xs) ys first second = (first.0, first.1, lead-then first.0 mid to xs ys first.2 second)
 
@@ -19,7 +19,7 @@ parts-then bytes middle left xs ys first second =
     first ∙ ap (λ t. with_ends xs ++ t) second ∙ sym (append_assoc (with_ends xs) (with_ends ys) left) ∙ ap (λ t. t ++ left) (sym (with_ends-append xs ys))
 
 -- more lines are read behind some
-pub read-then : (from mid to : Place) (b0 b1 b2 : ℕ) (bytes middle left : List ℕ) (xs ys : List (List ℕ)) →
+pub read-then : (from mid to : TextPlace) (b0 b1 b2 : ℕ) (bytes middle left : List ℕ) (xs ys : List (List ℕ)) →
     IsRead from b0 bytes xs mid b1 middle → IsRead mid b1 middle ys to b2 left →
     IsRead from b0 bytes (xs ++ ys) to b2 left
 read-then from mid to b0 b1 b2 bytes middle left xs ys first second =
@@ -30,9 +30,9 @@ read-then from mid to b0 b1 b2 bytes middle left xs ys first second =
     }
 
 -- a refusal behind lines that were read
-pub refused-then : (from mid : Place) (b0 b1 : ℕ) (bytes middle : List ℕ) (xs : List (List ℕ)) (kind : AnswerFault)
-    (line : ℕ) → IsRead from b0 bytes xs mid b1 middle → IsRefused mid b1 middle kind line →
-    IsRefused from b0 bytes kind line
+pub refused-then : (from mid : TextPlace) (b0 b1 : ℕ) (bytes middle : List ℕ) (xs : List (List ℕ)) (kind : AnswerFault)
+    (line : ℕ) → IsRead from b0 bytes xs mid b1 middle → IsTextRefused mid b1 middle kind line →
+    IsTextRefused from b0 bytes kind line
 refused-then from mid b0 b1 bytes middle xs kind line first second =
     record {
       lines = xs ++ second.lines;
@@ -45,13 +45,13 @@ refused-then from mid b0 b1 bytes middle xs kind line first second =
     }
 
 -- a stop behind lines that were read
-pub stop-then : {from mid : Place} {b0 b1 : ℕ} {bytes middle : List ℕ} {xs : List (List ℕ)} (stop : AnswerStop) →
-    IsRead from b0 bytes xs mid b1 middle → IsStop mid b1 middle stop → IsStop from b0 bytes stop
+pub stop-then : {from mid : TextPlace} {b0 b1 : ℕ} {bytes middle : List ℕ} {xs : List (List ℕ)} (stop : AnswerStop) →
+    IsRead from b0 bytes xs mid b1 middle → IsReaderStop mid b1 middle stop → IsReaderStop from b0 bytes stop
 stop-then {from} {mid} {b0} {b1} {bytes} {middle} {xs} (Refused kind line) first second = refused-then from mid b0 b1 bytes middle xs kind line first second
 stop-then OutOfMemory first second = tt
 
 -- more lines are read behind some
-pub go-then : {from mid to : Place} {b0 b1 b2 : ℕ} {bytes middle left : List ℕ} {xs ys : List (List ℕ)} →
+pub go-then : {from mid to : TextPlace} {b0 b1 b2 : ℕ} {bytes middle left : List ℕ} {xs ys : List (List ℕ)} →
     IsRead from b0 bytes xs mid b1 middle → IsRead mid b1 middle ys to b2 left →
     IsRead from b0 bytes (xs ++ ys) to b2 left
 go-then {from} {mid} {to} {b0} {b1} {b2} {bytes} {middle} {left} {xs} {ys} first second = read-then from mid to b0 b1 b2 bytes middle left xs ys first second

@@ -3,13 +3,13 @@ use Rattle.std.proofs.Common.{◌≡◌, ◌≢◌, ℕ, ◌<◌, List, [], ◌�
 use Rattle.std.specs.Cmp.Lexicographic.{pointwise_decides}
 use Rattle.std.proofs.lemmas.Bool.Decides.{Decides-eqb}
 use Rattle.cost_base.specs.Lists.{same_bytes}
-use Rattle.path_rows.specs.declared.answer.CostLine.{CostLine}
-use Rattle.path_rows.specs.declared.answer.Floor.{Floor}
-use Rattle.path_rows.specs.Bounds.{BoundsFloor}
-use Rattle.path_rows.specs.Text.{router_lines, cost_lines}
-use Rattle.answer_lines.specs.Grammar.{Place, Next, IsRouterNext, IsInterfaceNext, IsInterfaceAgain, AtSections, AtInterface, AtCost, router_line}
+use Rattle.design_problem.specs.declared.answer.CostLine.{CostLine}
+use Rattle.design_problem.specs.declared.answer.Floor.{Floor}
+use Rattle.design_problem.specs.Bounds.{BoundsFloor}
+use Rattle.design_problem.specs.Text.{router_lines, cost_lines}
+use Rattle.answer_lines.specs.Grammar.{TextPlace, Next, IsRouterNext, IsInterfaceNext, IsInterfaceAgain, AtSections, AtInterface, AtCost, router_line}
 use Rattle.text_lines.specs.Lines.{with_ends}
-use Rattle.evidence_text.specs.Parts.{interface_line, cost_line, interface_lines, floor_line}
+use Rattle.evidence_text.specs.Parts.{interface_line, answer_cost_line, interface_lines, floor_line}
 use Rattle.answer_lines.specs.Lawful.{IsRead}
 use Rattle.evidence_reader.specs.Stages.{IsSectionLine, behind_section_line, words_lines}
 use Rattle.evidence_reader.specs.declared.stage_sections.SectionLine.{SectionLine}
@@ -33,8 +33,8 @@ cost_lines-more before (first ∷ lines) line =
     let front : List (List ℕ) = router_lines before first.router in
     let others : List (List ℕ) = cost_lines (Some first.router) lines in
     let last : List (List ℕ) = router_lines (router_before (Some first.router) lines) line.router ++ interface_lines line in
-    ap (λ rest. front ++ (interface_line first.interface ∷ cost_line first.cost ∷ codes "exit" ∷ rest)) (cost_lines-more (Some first.router) lines line)
-    ∙ sym (append_assoc front (interface_line first.interface ∷ cost_line first.cost ∷ codes "exit" ∷ others) last)
+    ap (λ rest. front ++ (interface_line first.interface ∷ answer_cost_line first.cost ∷ codes "exit" ∷ rest)) (cost_lines-more (Some first.router) lines line)
+    ∙ sym (append_assoc front (interface_line first.interface ∷ answer_cost_line first.cost ∷ codes "exit" ∷ others) last)
 
 -- the lines of one more cost
 pub cost_more : (before : Option (List ℕ)) (lines more : List CostLine) (line : CostLine) (words : CostWords) →
@@ -74,14 +74,14 @@ router_section before name line words {b0} {b1} {b2} {bytes} {middle} {left} oth
     (subst (λ front. IsRead (AtSections before) b0 bytes (front ++ words_lines words) (AtSections (Some name)) b2 left) lines (go-then first second))
 
 -- a cost behind the line of its interface
-pub words_read : {from : Place} (name interface line : List ℕ) (words : CostWords) {b0 b1 b2 : ℕ}
+pub words_read : {from : TextPlace} (name interface line : List ℕ) (words : CostWords) {b0 b1 b2 : ℕ}
     {bytes middle left : List ℕ} → line ≡ interface_line interface → words.interface.now ≡ interface →
     IsRead from b0 bytes (line ∷ []) (AtCost name) b1 middle →
-    IsRead (AtCost name) b1 middle (cost_line words.cost ∷ codes "exit" ∷ []) (AtSections (Some name)) b2 left →
+    IsRead (AtCost name) b1 middle (answer_cost_line words.cost ∷ codes "exit" ∷ []) (AtSections (Some name)) b2 left →
     IsRead from b0 bytes (words_lines words) (AtSections (Some name)) b2 left
 words_read {from} name interface line words {b0} {b1} {b2} {bytes} {middle} {left} is named first second =
-    let lines : line ∷ cost_line words.cost ∷ codes "exit" ∷ [] ≡ words_lines words =
-    ap (λ l. l ∷ cost_line words.cost ∷ codes "exit" ∷ []) (is ∙ ap interface_line (sym named)) in
+    let lines : line ∷ answer_cost_line words.cost ∷ codes "exit" ∷ [] ≡ words_lines words =
+    ap (λ l. l ∷ answer_cost_line words.cost ∷ codes "exit" ∷ []) (is ∙ ap interface_line (sym named)) in
     subst (λ l. IsRead from b0 bytes l (AtSections (Some name)) b2 left) lines (go-then first second)
 
 -- a cost of the router before
@@ -89,7 +89,7 @@ pub interface_section : (before : Option (List ℕ)) (name interface line : List
     {bytes middle left : List ℕ} → before ≡ Some name → line ≡ interface_line interface →
     words.router.now ≡ name → words.interface.now ≡ interface →
     IsRead (AtSections before) b0 bytes (line ∷ []) (AtCost name) b1 middle →
-    IsRead (AtCost name) b1 middle (cost_line words.cost ∷ codes "exit" ∷ []) (AtSections (Some name)) b2 left →
+    IsRead (AtCost name) b1 middle (answer_cost_line words.cost ∷ codes "exit" ∷ []) (AtSections (Some name)) b2 left →
     IsRead (AtSections before) b0 bytes (router_lines before words.router.now ++ words_lines words) (AtSections (Some words.router.now)) b2 left
 interface_section before name interface line words {b0} {b1} {b2} {bytes} {middle} {left} again is same named first second =
     subst (λ r. IsRead (AtSections before) b0 bytes (router_lines before r ++ words_lines words) (AtSections (Some r)) b2 left) (sym same)
@@ -107,17 +107,17 @@ section_says before line (FloorLine floor) h = inr (inr (record { floor = floor;
 -- what isn't one of the three lines isn't in the grammar
 pub no_section : (before : Option (List ℕ)) (line : List ℕ) →
     ((floor : Floor) → BoundsFloor floor → line ≢ floor_line floor) →
-    ((next : Place) → IsRouterNext before line next → ⊥) →
-    ((next : Place) → IsInterfaceAgain before line next → ⊥) → (next : Place) → Next (AtSections before) line next → ⊥
+    ((next : TextPlace) → IsRouterNext before line next → ⊥) →
+    ((next : TextPlace) → IsInterfaceAgain before line next → ⊥) → (next : TextPlace) → Next (AtSections before) line next → ⊥
 no_section before line no_floor no_router no_interface next (inl is) = no_router next is
 no_section before line no_floor no_router no_interface next (inr (inl is)) = no_interface next is
 no_section before line no_floor no_router no_interface next (inr (inr is)) = no_floor is.floor is.bounds is.is
 
 -- without a router before no further interface stands
-pub none_again : (before : Option (List ℕ)) (line : List ℕ) (next : Place) → before ≡ None → IsInterfaceAgain before line next → ⊥
+pub none_again : (before : Option (List ℕ)) (line : List ℕ) (next : TextPlace) → before ≡ None → IsInterfaceAgain before line next → ⊥
 none_again before line next none is = subst (λ (b : Option (List ℕ)). IsInterfaceAgain b line next) none is
 
-pub again_said : (before : Option (List ℕ)) (router line : List ℕ) (next : Place) → before ≡ Some router →
+pub again_said : (before : Option (List ℕ)) (router line : List ℕ) (next : TextPlace) → before ≡ Some router →
     IsInterfaceAgain before line next → IsInterfaceNext router line next
 again_said before router line next some is = subst (λ (b : Option (List ℕ)). IsInterfaceAgain b line next) some is
 
@@ -126,7 +126,7 @@ pub some_lines : (before : Option (List ℕ)) (words : CostWords) → 0 < length
 some_lines before words = omega (arith, length-append (router_lines before words.router.now) (words_lines words))
 
 -- what is left behind some lines is shorter
-pub read-shorter : {from to : Place} {b0 b1 : ℕ} {bytes left : List ℕ} (lines : List (List ℕ)) → 0 < length lines →
+pub read-shorter : {from to : TextPlace} {b0 b1 : ℕ} {bytes left : List ℕ} (lines : List (List ℕ)) → 0 < length lines →
     IsRead from b0 bytes lines to b1 left → length left < length bytes
 read-shorter [] some read = absurd (omega (arith, some))
 read-shorter {from} {to} {b0} {b1} {bytes} {left} (line ∷ lines) some read =

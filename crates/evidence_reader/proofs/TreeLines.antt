@@ -3,14 +3,14 @@ use Rattle.std.proofs.Common.{◌≡◌, ◌≢◌, ℕ, zero, suc, ◌+◌, ◌
 use Rattle.std.specs.Prelude.{IsTrue, ◌↔◌}
 use Rattle.std.proofs.lemmas.Bool.{true≢false}
 use Rattle.std.proofs.lemmas.List.{map-append}
-use Rattle.path_rows.specs.declared.tree.Entry.{Entry}
-use Rattle.path_rows.specs.Text.{entry_line, tree_lines}
-use Rattle.path_rows.specs.Trees.{subtree_count, WholeTrees, IsWholeTree}
-use Rattle.answer_lines.specs.Grammar.{Place, Next, IsPartNext, AtTree}
+use Rattle.design_problem.specs.declared.tree.Entry.{Entry}
+use Rattle.design_problem.specs.Text.{entry_line, tree_lines}
+use Rattle.design_problem.specs.Trees.{subtree_count, AreSeveralTrees, IsSingleTree}
+use Rattle.answer_lines.specs.Grammar.{TextPlace, Next, IsPartNext, AtTree}
 use Rattle.evidence_text.specs.Parts.{part_word, tree_line}
-use Rattle.answer_lines.specs.Places.{LacksLawful, Begins}
+use Rattle.answer_lines.specs.Places.{LacksLawful, BeginsLawful}
 use Rattle.answer_lines.specs.Lawful.{IsRead}
-use Rattle.evidence_reader.specs.Refusals.{IsStop}
+use Rattle.evidence_reader.specs.Refusals.{IsReaderStop}
 use Rattle.evidence_reader.specs.Stages.{before_part}
 use Rattle.evidence_text.specs.declared.TreePart.{TreePart}
 use Rattle.evidence_text.specs.declared.TreePart.TheVariants.{Proof, Unfinished}
@@ -20,17 +20,17 @@ use Rattle.evidence_reader.proofs.NextPlaces.{go-then, stop-then}
 use Rattle.evidence_reader.proofs.CountedLines.{one_left}
 
 -- the lines before a part are those that it begins with
-pub part_said : (part : TreePart) (line : List ℕ) (next : Place) → Next (before_part part) line next → IsPartNext part line next
+pub part_said : (part : TreePart) (line : List ℕ) (next : TextPlace) → Next (before_part part) line next → IsPartNext part line next
 part_said Proof line next is = is
 part_said Unfinished line next is = is
 
-pub part_says : (part : TreePart) (line : List ℕ) (next : Place) → IsPartNext part line next → Next (before_part part) line next
+pub part_says : (part : TreePart) (line : List ℕ) (next : TextPlace) → IsPartNext part line next → Next (before_part part) line next
 part_says Proof line next is = is
 part_says Unfinished line next is = is
 
 -- no line is in the grammar here
-abbrev pub IsShut : Place → List ℕ → Type 0
-IsShut place bytes = LacksLawful place bytes × (IsTrue false ↔ Begins place bytes)
+abbrev pub IsShut : TextPlace → List ℕ → Type 0
+IsShut place bytes = LacksLawful place bytes × (IsTrue false ↔ BeginsLawful place bytes)
 
 -- lines left over, and no open place
 pub shut_full : (part : TreePart) (places left : ℕ) (bytes : List ℕ) → places ≡ 0 → IsShut (AtTree part places (suc left)) bytes
@@ -65,16 +65,16 @@ pub entry_more : (part : TreePart) (count i places : ℕ) (entries more : List E
     (AtTree part (subtree_count entry + (places - 1)) (count - (i + 1))) b2 left →
     IsRead (AtTree part 1 count) b0 bytes (map entry_line more) (AtTree part (subtree_count entry + (places - 1)) (count - (i + 1))) b2 left
 entry_more part count i places entries more entry {b0} {b1} {b2} {bytes} {middle} {left} within grown first second =
-    let to : Place = AtTree part (subtree_count entry + (places - 1)) (count - (i + 1)) in
+    let to : TextPlace = AtTree part (subtree_count entry + (places - 1)) (count - (i + 1)) in
     subst (λ lines. IsRead (AtTree part 1 count) b0 bytes lines to b2 left) (sym (map-append entry_line entries (entry ∷ [])) ∙ ap (map entry_line) (sym grown))
     (go-then first (subst (λ n. IsRead (AtTree part places n) b1 middle (entry_line entry ∷ []) to b2 left) (one_left count i within) second))
 
 -- the next tree line stops the reader
 pub entry_stop : (part : TreePart) (count i places : ℕ) (entries : List Entry) {b0 b1 : ℕ} {bytes middle : List ℕ} (stop : AnswerStop) → i < count →
     IsRead (AtTree part 1 count) b0 bytes (map entry_line entries) (AtTree part places (count - i)) b1 middle →
-    IsStop (AtTree part places (suc (count - (i + 1)))) b1 middle stop → IsStop (AtTree part 1 count) b0 bytes stop
+    IsReaderStop (AtTree part places (suc (count - (i + 1)))) b1 middle stop → IsReaderStop (AtTree part 1 count) b0 bytes stop
 entry_stop part count i places entries {b0} {b1} {bytes} {middle} stop within first second =
-    stop-then stop first (subst (λ n. IsStop (AtTree part places n) b1 middle stop) (one_left count i within) second)
+    stop-then stop first (subst (λ n. IsReaderStop (AtTree part places n) b1 middle stop) (one_left count i within) second)
 
 -- every tree line was read, and no place is open
 pub entries_done : (part : TreePart) (count i places : ℕ) (entries : List Entry) {b0 b1 : ℕ} {bytes left : List ℕ} → count ≤ i → places ≡ 0 →
@@ -87,7 +87,7 @@ entries_done part count i places entries {b0} {b1} {bytes} {left} past full read
 
 -- entries that leave so many places open: with as many whole trees behind them they are one
 abbrev pub LeavesOpen : ℕ → List Entry → Type 0
-LeavesOpen places entries = (rest : List Entry) → WholeTrees places rest → IsWholeTree (entries ++ rest)
+LeavesOpen places entries = (rest : List Entry) → AreSeveralTrees places rest → IsSingleTree (entries ++ rest)
 
 pub open_none : (entries : List Entry) → entries ≡ [] → LeavesOpen 1 entries
 open_none entries none = subst (λ (l : List Entry). LeavesOpen 1 l) (sym none) (λ rest whole. whole)
@@ -98,13 +98,13 @@ open_more zero entries more entry some grown before = absurd (some refl)
 open_more (suc places) entries more entry some grown before =
     λ rest whole.
     let others : suc places - 1 ≡ places = omega arith in
-    let behind : WholeTrees (subtree_count entry + places) rest = subst (λ n. WholeTrees (subtree_count entry + n) rest) others whole in
-    subst (λ (l : List Entry). IsWholeTree l) (sym (append_assoc entries (entry ∷ []) rest)
+    let behind : AreSeveralTrees (subtree_count entry + places) rest = subst (λ n. AreSeveralTrees (subtree_count entry + n) rest) others whole in
+    subst (λ (l : List Entry). IsSingleTree l) (sym (append_assoc entries (entry ∷ []) rest)
     ∙ ap (λ (l : List Entry). l ++ rest) (sym grown)) (before (entry ∷ rest) behind)
 
 -- entries that leave none open are a whole tree
-pub open_done : (places : ℕ) (entries : List Entry) → places ≡ 0 → LeavesOpen places entries → IsWholeTree entries
-open_done zero entries none before = subst (λ (l : List Entry). IsWholeTree l) (append-nil entries) (before [] tt)
+pub open_done : (places : ℕ) (entries : List Entry) → places ≡ 0 → LeavesOpen places entries → IsSingleTree entries
+open_done zero entries none before = subst (λ (l : List Entry). IsSingleTree l) (append-nil entries) (before [] tt)
 open_done (suc places) entries none before = absurd (omega (arith, none))
 
 -- the lines of a tree behind its head

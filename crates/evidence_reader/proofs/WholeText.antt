@@ -1,14 +1,14 @@
 -- The parts of an answer that were read, as its whole text.
 use Rattle.std.proofs.Common.{◌≡◌, ℕ, ◌≤◌, List, [], ◌∷◌, ◌++◌, length, codes, sym, ap, subst, ◌∙◌, append_assoc, append-nil}
 use Rattle.std.proofs.lemmas.List.Elements.{All-nil, All-cons}
-use Rattle.path_rows.specs.Answers.{AnswerParts}
-use Rattle.path_rows.specs.Text.{costs_lines, tree_lines, text, FitsCosts, FitsTree, IsAnswer}
-use Rattle.answer_lines.specs.Grammar.{Place, AtHead, AtCosts, AtRows, AtRow, AtTree, AfterEnd}
+use Rattle.design_problem.specs.Answers.{AnswerParts}
+use Rattle.design_problem.specs.Text.{costs_lines, tree_lines, text, FitsCosts, FitsTree, FitsAnswer}
+use Rattle.answer_lines.specs.Grammar.{TextPlace, AtHead, AtCosts, AtRows, AtRow, AtTree, AfterEnd}
 use Rattle.text_lines.specs.Lines.{with_ends}
 use Rattle.evidence_text.specs.Lines.{AreShort}
 use Rattle.evidence_text.specs.Parts.{head_lines, floor_line, rows_lines, end_lines}
 use Rattle.answer_lines.specs.Lawful.{LeadOn, IsRead}
-use Rattle.evidence_reader.specs.Refusals.{IsStop}
+use Rattle.evidence_reader.specs.Refusals.{IsReaderStop}
 use Rattle.evidence_text.specs.declared.TreePart.TheVariants.{Proof, Unfinished}
 use Rattle.evidence_reader.specs.declared.stop.AnswerStop.{AnswerStop}
 use Rattle.evidence_text.proofs.AnswerOrder.{ordered, after_floor, answer_lines-ordered}
@@ -16,8 +16,8 @@ use Rattle.evidence_reader.proofs.NextPlaces.{go-then}
 
 -- a stop in the text as it was when nothing was read
 pub stop_at_start : (before : ℕ) (bytes whole : List ℕ) (stop : AnswerStop) → before ≡ 0 → bytes ≡ whole →
-    IsStop AtHead before bytes stop → IsStop AtHead 0 whole stop
-stop_at_start before bytes whole stop none same h = subst (λ b. IsStop AtHead 0 b stop) same (subst (λ n. IsStop AtHead n bytes stop) none h)
+    IsReaderStop AtHead before bytes stop → IsReaderStop AtHead 0 whole stop
+stop_at_start before bytes whole stop none same h = subst (λ b. IsReaderStop AtHead 0 b stop) same (subst (λ n. IsReaderStop AtHead n bytes stop) none h)
 
 -- the parts of an answer, one behind another
 pub parts_read : (a : AnswerParts) {b0 b1 b2 b3 b4 b5 b6 : ℕ} {bytes behind_head behind_costs behind_rows behind_proof behind_trees : List ℕ} →
@@ -35,7 +35,7 @@ parts_read a {b0} {b1} {b2} {b3} {b4} {b5} {b6} {bytes} {behind_head} head costs
     (append_assoc (costs_lines a.costs) (floor_line a.floor ∷ []) (after_floor a)) (go-then costs others))
 
 -- lawful lines are short
-lead-short : (from to : Place) (lines : List (List ℕ)) → LeadOn from lines to → AreShort lines
+lead-short : (from to : TextPlace) (lines : List (List ℕ)) → LeadOn from lines to → AreShort lines
 lead-short from to [] lead = All-nil (λ (line : List ℕ). length line ≤ 65536)
 lead-short from to (line ∷ lines) lead = All-cons (λ (l : List ℕ). length l ≤ 65536) line lines lead.1.short (lead-short lead.0 to lines lead.2)
 
@@ -46,7 +46,7 @@ text_read a before bytes whole same read = sym same ∙ read.parts ∙ append-ni
 
 -- an answer whose lines were read keeps what every answer keeps
 pub answer_kept : (a : AnswerParts) {b0 b : ℕ} {bytes : List ℕ} → FitsCosts a.costs → FitsTree a.proof →
-    FitsTree a.unfinished → IsRead AtHead b0 bytes (ordered a) AfterEnd b [] → IsAnswer a
+    FitsTree a.unfinished → IsRead AtHead b0 bytes (ordered a) AfterEnd b [] → FitsAnswer a
 answer_kept a costs proof unfinished read =
     record {
       costs = costs;

@@ -1,7 +1,7 @@
 -- Refusals of texts that are no answer's.
 use Rattle.std.specs.Prelude.{◌≡◌, ◌≢◌, ℕ, ◌+◌, ◌⊎◌, List, [], ◌∷◌, ◌++◌, length}
 use Rattle.text_lines.specs.Lines.{IsOneLine, with_ends}
-use Rattle.answer_lines.specs.Grammar.{Place, AfterEnd}
+use Rattle.answer_lines.specs.Grammar.{TextPlace, AfterEnd}
 use Rattle.answer_lines.specs.Lawful.{LeadOn, IsLawful}
 use Rattle.evidence_reader.specs.declared.stop.AnswerFault.{AnswerFault}
 use Rattle.evidence_reader.specs.declared.stop.AnswerFault.TheVariants.{BadAnswerLine, EarlyEnd, AfterEnd as BehindEnd}
@@ -15,25 +15,25 @@ number_of EarlyEnd = 31
 number_of BehindEnd = 32
 
 -- a line with its LF that isn't lawful, or a last line without an LF that no lawful line begins with
-abbrev pub IsBadLine : Place → List ℕ → Type 0
+abbrev pub IsBadLine : TextPlace → List ℕ → Type 0
 IsBadLine place rest =
     ((line more : List ℕ) × (rest ≡ line ++ 10 ∷ more) × IsOneLine line × (IsLawful place line → ⊥))
     ⊎ ((rest ≢ []) × IsOneLine rest × ((more : List ℕ) → IsLawful place (rest ++ more) → ⊥))
 
 -- no further line, or a last line without an LF that a lawful line begins with
-abbrev pub IsEarlyEnd : Place → List ℕ → Type 0
+abbrev pub IsEarlyEnd : TextPlace → List ℕ → Type 0
 IsEarlyEnd place rest = (rest ≡ []) ⊎ (IsOneLine rest × (more : List ℕ) × IsLawful place (rest ++ more))
 
 -- what is wrong with the text that is left at a place
-pub data IsFault (place : Place) (rest : List ℕ) : AnswerFault → Type 0 where
+pub data IsFault (place : TextPlace) (rest : List ℕ) : AnswerFault → Type 0 where
   bad_line : place ≢ AfterEnd → IsBadLine place rest → IsFault place rest BadAnswerLine
   early_end : place ≢ AfterEnd → IsEarlyEnd place rest → IsFault place rest EarlyEnd
   after_end : place ≡ AfterEnd → rest ≢ [] → IsFault place rest BehindEnd
 
 -- from a place with so many lines before it, lawful lines lead as far as the fault, whose line is counted from 1
-pub record IsRefused (from : Place) (before : ℕ) (bytes : List ℕ) (kind : AnswerFault) (line : ℕ) : Type 0 where
+pub record IsTextRefused (from : TextPlace) (before : ℕ) (bytes : List ℕ) (kind : AnswerFault) (line : ℕ) : Type 0 where
   pub lines : List (List ℕ)
-  pub place : Place
+  pub place : TextPlace
   pub rest : List ℕ
   pub lead : LeadOn from lines place
   pub parts : bytes ≡ with_ends lines ++ rest
@@ -41,6 +41,6 @@ pub record IsRefused (from : Place) (before : ℕ) (bytes : List ℕ) (kind : An
   pub fault : IsFault place rest kind
 
 -- a stop of a reader that begins at a place: a refusal is the text's own, and want of memory says nothing
-abbrev pub IsStop : Place → ℕ → List ℕ → AnswerStop → Type 0
-IsStop from before bytes (Refused fault line) = IsRefused from before bytes fault line
-IsStop from before bytes OutOfMemory = Unit {0}
+abbrev pub IsReaderStop : TextPlace → ℕ → List ℕ → AnswerStop → Type 0
+IsReaderStop from before bytes (Refused fault line) = IsTextRefused from before bytes fault line
+IsReaderStop from before bytes OutOfMemory = Unit {0}

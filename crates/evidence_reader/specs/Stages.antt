@@ -1,10 +1,10 @@
 -- What the stages of a reader find, and where each leads. No public clause cites it.
 use Rattle.std.specs.Prelude.{◌≡◌, ◌≢◌, ℕ, zero, ◌<◌, List, [], ◌∷◌, ◌++◌, codes, Option, Some, None}
 use Rattle.cost_base.specs.Words.{IsOneWord}
-use Rattle.path_rows.specs.Bounds.{BoundsFloor}
-use Rattle.path_rows.specs.Text.{router_lines}
-use Rattle.evidence_text.specs.Parts.{costs_line, interface_line, cost_line, floor_line, no_tree_line, tree_line}
-use Rattle.answer_lines.specs.Grammar.{Place, AtSections, AtInterface, AtCost, AtFloor, AtRows, AtRow, AtTree, router_line}
+use Rattle.design_problem.specs.Bounds.{BoundsFloor}
+use Rattle.design_problem.specs.Text.{router_lines}
+use Rattle.evidence_text.specs.Parts.{costs_line, interface_line, answer_cost_line, floor_line, no_tree_line, tree_line}
+use Rattle.answer_lines.specs.Grammar.{TextPlace, AtSections, AtInterface, AtCost, AtFloor, AtRows, AtRow, AtTree, router_line}
 use Rattle.evidence_text.specs.declared.TreePart.{TreePart}
 use Rattle.evidence_text.specs.declared.TreePart.TheVariants.{Proof, Unfinished}
 use Rattle.evidence_reader.specs.declared.stage_costs.CostsHead.{CostsHead}
@@ -22,7 +22,8 @@ abbrev pub costs_head_line : CostsHead → List ℕ
 costs_head_line NoCosts = codes "costs none"
 costs_head_line (Greatest greatest) = costs_line greatest
 
-abbrev pub behind_costs_head : CostsHead → Place
+-- the place behind the line that costs begin with
+abbrev pub behind_costs_head : CostsHead → TextPlace
 behind_costs_head NoCosts = AtFloor
 behind_costs_head (Greatest greatest) = AtSections None
 
@@ -32,14 +33,15 @@ IsSectionLine before line (Router name) = IsOneWord name.now × (before ≢ Some
 IsSectionLine before line (Interface router name) = (before ≡ Some router.now) × IsOneWord name.now × (line ≡ interface_line name.now)
 IsSectionLine before line (FloorLine floor) = BoundsFloor floor × (line ≡ floor_line floor)
 
-abbrev pub behind_section_line : SectionLine → Place
+-- the place behind such a line
+abbrev pub behind_section_line : SectionLine → TextPlace
 behind_section_line (Router name) = AtInterface name.now
 behind_section_line (Interface router name) = AtCost router.now
 behind_section_line (FloorLine floor) = AtRows
 
 -- the lines of a cost behind its router
 abbrev pub words_lines : CostWords → List (List ℕ)
-words_lines words = interface_line words.interface.now ∷ cost_line words.cost ∷ codes "exit" ∷ []
+words_lines words = interface_line words.interface.now ∷ answer_cost_line words.cost ∷ codes "exit" ∷ []
 
 -- a cost line has names of one word, and a cost from 1
 pub record FitsWords (words : CostWords) : Type 0 where
@@ -48,27 +50,31 @@ pub record FitsWords (words : CostWords) : Type 0 where
   pub cost : 0 < words.cost
 
 -- what stands next among the sections, and the place behind it
-abbrev pub section_lines : Option (List ℕ) → Section → List (List ℕ)
-section_lines before (Cost words) = router_lines before words.router.now ++ words_lines words
-section_lines before (FloorSection floor) = floor_line floor ∷ []
+abbrev pub lines_of_section : Option (List ℕ) → Section → List (List ℕ)
+lines_of_section before (Cost words) = router_lines before words.router.now ++ words_lines words
+lines_of_section before (FloorSection floor) = floor_line floor ∷ []
 
-abbrev pub behind_section : Section → Place
+-- the place behind what stands among the sections
+abbrev pub behind_section : Section → TextPlace
 behind_section (Cost words) = AtSections (Some words.router.now)
 behind_section (FloorSection floor) = AtRows
 
+-- the names and the cost of a section can be printed
 abbrev pub FitsSection : Section → Type 0
 FitsSection (Cost words) = FitsWords words
 FitsSection (FloorSection floor) = Unit {0}
 
 -- the place before a part with a tree, its first line, and the place behind that
-abbrev pub before_part : TreePart → Place
+abbrev pub before_part : TreePart → TextPlace
 before_part Proof = AtRow zero
 before_part Unfinished = AtTree Proof zero zero
 
+-- the first line of a part: without a tree, or with a tree's cap and count
 abbrev pub part_head_line : TreePart → PartHead → List ℕ
 part_head_line part NoTree = no_tree_line part
 part_head_line part (TreeHead cap count) = tree_line part cap count
 
-abbrev pub behind_part_head : TreePart → PartHead → Place
+-- the place behind that line
+abbrev pub behind_part_head : TreePart → PartHead → TextPlace
 behind_part_head part NoTree = AtTree part 0 0
 behind_part_head part (TreeHead cap count) = AtTree part 1 count

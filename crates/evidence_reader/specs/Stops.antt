@@ -1,9 +1,9 @@
 -- Where the stages of a reader stop. No public clause cites it.
-use Rattle.answer_lines.specs.Grammar.{Place}
+use Rattle.answer_lines.specs.Grammar.{TextPlace}
 use Rattle.answer_lines.specs.declared.text_left.TextLeft.{TextLeft}
-use Rattle.evidence_reader.specs.Refusals.{IsStop}
+use Rattle.evidence_reader.specs.Refusals.{IsReaderStop}
 use Rattle.evidence_reader.specs.declared.stop.AnswerStop.{AnswerStop}
 
 -- a stop of a reader that begins at a place, with the text that is left there
-abbrev pub Stops : Place → TextLeft → AnswerStop → Type 0
-Stops from text stop = IsStop from text.read text.left.now stop
+abbrev pub StopsReader : TextPlace → TextLeft → AnswerStop → Type 0
+StopsReader from text stop = IsReaderStop from text.read text.left.now stop

@@ -1,9 +1,9 @@
 //! What is wrong with a text where no lawful line stands first.
 ghost use Rattle.std.specs.Prelude.{◌≡◌, ◌≢◌, [], IsTrue, ◌↔◌, MatchResult};
-ghost use Rattle.answer_lines.specs.Grammar.{Place, AfterEnd};
+ghost use Rattle.answer_lines.specs.Grammar.{TextPlace, AfterEnd};
 ghost use Rattle.evidence_reader.specs.Refusals.{IsFault};
-ghost use Rattle.answer_lines.specs.Places.{LacksLawful, Begins};
-ghost use Rattle.evidence_reader.specs.Stops.{Stops};
+ghost use Rattle.answer_lines.specs.Places.{LacksLawful, BeginsLawful};
+ghost use Rattle.evidence_reader.specs.Stops.{StopsReader};
 
 use crate::stop::{AnswerFault, AnswerStop};
 use answer_lines::TextLeft;
@@ -11,8 +11,8 @@ use text_lines::cut;
 
 /// The refusal of a text where no lawful line stands first, of which it is known whether a lawful line begins with it.
 pub(crate) fn fault_at(text: TextLeft<'_>, begins: bool) -> AnswerStop
-    ensures { (place : Place) → place ≢ AfterEnd → LacksLawful place text.entry.left.now → (IsTrue begins ↔ Begins place text.entry.left.now) →
-        Stops place text.entry result }
+    ensures { (place : TextPlace) → place ≢ AfterEnd → LacksLawful place text.entry.left.now → (IsTrue begins ↔ BeginsLawful place text.entry.left.now) →
+        StopsReader place text.entry result }
 {
     AnswerStop::Refused {
         fault: fault_kind(text.left, begins),
@@ -22,7 +22,7 @@ pub(crate) fn fault_at(text: TextLeft<'_>, begins: bool) -> AnswerStop
 
 /// Whether a line is at fault or the end of the text comes too early.
 fn fault_kind(rest: &[u8], begins: bool) -> AnswerFault
-    ensures { (place : Place) → place ≢ AfterEnd → LacksLawful place rest.now → (IsTrue begins ↔ Begins place rest.now) → IsFault place rest.now result }
+    ensures { (place : TextPlace) → place ≢ AfterEnd → LacksLawful place rest.now → (IsTrue begins ↔ BeginsLawful place rest.now) → IsFault place rest.now result }
 {
     match cut(rest, b'\n') {
         Some(_) => AnswerFault::BadAnswerLine,
@@ -42,7 +42,7 @@ fn fault_kind(rest: &[u8], begins: bool) -> AnswerFault
 ///
 /// `Refused` where something does.
 pub(crate) fn nothing_left(text: TextLeft<'_>) -> Result<(), AnswerStop>
-    ensures { MatchResult result (λ _. text.entry.left.now ≡ []) (Stops AfterEnd text.entry) }
+    ensures { MatchResult result (λ _. text.entry.left.now ≡ []) (StopsReader AfterEnd text.entry) }
 {
     if text.left.is_empty() {
         Ok(())

@@ -1,8 +1,11 @@
-//! Reading the text of an answer, stage by stage. A text that is no answer's is refused by its first fault.
+//! Reading the text of an answer, stage by stage. A text that is no answer's is refused by its first fault. The laws of
+//! answers' texts, each the contract of a function that does nothing, stand in `one_answer`, `reading` and `validity`.
 #![tactic(auto)]
 
 mod faults;
+pub mod one_answer;
 mod reader;
+pub mod reading;
 mod stage_costs;
 mod stage_end;
 mod stage_head;
@@ -10,6 +13,7 @@ mod stage_rows;
 mod stage_sections;
 mod stage_trees;
 mod stop;
+pub mod validity;
 
 pub use reader::read_answer;
 pub use stop::{AnswerFault, AnswerStop};

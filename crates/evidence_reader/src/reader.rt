@@ -1,7 +1,7 @@
 //! Reading the text of an answer.
 ghost use Rattle.std.specs.Prelude.{◌≡◌, ◌-◌, ◌^◌, ◌<◌, All, IfOk, IfErr, length};
-ghost use Rattle.path_rows.specs.Text.{text};
-ghost use Rattle.evidence_reader.specs.Refusals.{IsStop};
+ghost use Rattle.design_problem.specs.Text.{text};
+ghost use Rattle.evidence_reader.specs.Refusals.{IsReaderStop};
 ghost use Rattle.answer_lines.specs.Grammar.{AtHead};
 
 use crate::stage_costs::read_costs;
@@ -12,8 +12,8 @@ use crate::stage_trees::read_tree;
 use crate::stop::AnswerStop;
 use answer_lines::TextLeft;
 use cost_base::Listed;
+use design_problem::Answer;
 use evidence_text::TreePart;
-use path_rows::Answer;
 use std::alloc::Global;
 
 /// The answer whose text this is. Its rows' rivals start at 0, since a text says no start.
@@ -26,7 +26,7 @@ pub fn read_answer(alloc: Global, bytes: &[u8]) -> Result<Answer, AnswerStop>
     requires { length bytes.now < 2 ^ 32 - 1 }
     ensures read { IfOk result (λ answer. bytes.now ≡ text answer) }
     ensures starts { IfOk result (λ answer. All (λ row. row.rival.start ≡ 0) answer.rows) }
-    ensures stopped { IfErr result (IsStop AtHead 0 bytes.now) }
+    ensures stopped { IfErr result (IsReaderStop AtHead 0 bytes.now) }
 {
     let text = TextLeft::new(bytes);
     let (verdict, behind_head) = read_head(text)?;

@@ -1,11 +1,11 @@
 //! The stage of the costs, with the floor behind them.
 ghost use Rattle.std.specs.Prelude.{◌≡◌, [], ◌∷◌, ◌++◌, List, None, Some, All, MatchOption, MatchResult};
-ghost use Rattle.path_rows.specs.Text.{cost_lines, costs_lines, FitsCostLine, FitsCosts};
-ghost use Rattle.path_rows.specs.declared.answer.CostLine.{CostLine};
-ghost use Rattle.answer_lines.specs.Grammar.{Place, Next, AtCosts, AtSections, AtFloor, AtRows};
+ghost use Rattle.design_problem.specs.Text.{cost_lines, costs_lines, FitsCostLine, FitsCosts};
+ghost use Rattle.design_problem.specs.declared.answer.CostLine.{CostLine};
+ghost use Rattle.answer_lines.specs.Grammar.{TextPlace, Next, AtCosts, AtSections, AtFloor, AtRows};
 ghost use Rattle.evidence_text.specs.Parts.{floor_line};
 ghost use Rattle.answer_lines.specs.Places.{LacksLawful};
-ghost use Rattle.evidence_reader.specs.Stops.{Stops};
+ghost use Rattle.evidence_reader.specs.Stops.{StopsReader};
 ghost use Rattle.answer_lines.specs.Going.{Goes};
 ghost use Rattle.evidence_reader.specs.Stages.{costs_head_line, behind_costs_head};
 
@@ -15,7 +15,7 @@ use crate::stop::AnswerStop;
 use answer_lines::{TextLeft, floor_next, number_after};
 use begun_lines::{begins_costs, begins_floor};
 use cost_base::Listed;
-use path_rows::{Costs, Floor};
+use design_problem::{Costs, Floor};
 use std::alloc::Global;
 
 /// The costs and the floor of an answer.
@@ -45,7 +45,7 @@ pub(crate) fn read_costs(
     text: TextLeft<'_>,
 ) -> Result<(CostsPart, TextLeft<'_>), AnswerStop>
     ensures { MatchResult result (λ r. FitsCosts r.0.costs × Goes AtCosts text.entry (costs_lines r.0.costs ++ floor_line r.0.floor ∷ []) AtRows r.1)
-        (Stops AtCosts text.entry) }
+        (StopsReader AtCosts text.entry) }
 {
     let (head, rest) = costs_head(text)?;
     match head {
@@ -56,7 +56,7 @@ pub(crate) fn read_costs(
 
 /// What the line that costs begin with says, where it has to be the next.
 fn costs_head(text: TextLeft<'_>) -> Result<(CostsHead, TextLeft<'_>), AnswerStop>
-    ensures { MatchResult result (λ r. Goes AtCosts text.entry (costs_head_line r.0 ∷ []) (behind_costs_head r.0) r.1) (Stops AtCosts text.entry) }
+    ensures { MatchResult result (λ r. Goes AtCosts text.entry (costs_head_line r.0 ∷ []) (behind_costs_head r.0) r.1) (StopsReader AtCosts text.entry) }
 {
     match costs_head_next(text) {
         Some(found) => Ok(found),
@@ -76,7 +76,7 @@ fn costs_head_next(text: TextLeft<'_>) -> Option<(CostsHead, TextLeft<'_>)>
 
 /// What a line that costs begin with says.
 fn costs_head_of(line: &[u8]) -> Option<CostsHead>
-    ensures { MatchOption result ((next : Place) → Next AtCosts line.now next → ⊥)
+    ensures { MatchOption result ((next : TextPlace) → Next AtCosts line.now next → ⊥)
         (λ head. Next AtCosts line.now (behind_costs_head head) × (line.now ≡ costs_head_line head)) }
 {
     if line == b"costs none".as_slice() {
@@ -88,7 +88,7 @@ fn costs_head_of(line: &[u8]) -> Option<CostsHead>
 
 /// The floor, where there are no costs.
 fn no_costs(text: TextLeft<'_>) -> Result<(CostsPart, TextLeft<'_>), AnswerStop>
-    ensures { MatchResult result (λ r. (r.0.costs ≡ None) × Goes AtFloor text.entry (floor_line r.0.floor ∷ []) AtRows r.1) (Stops AtFloor text.entry) }
+    ensures { MatchResult result (λ r. (r.0.costs ≡ None) × Goes AtFloor text.entry (floor_line r.0.floor ∷ []) AtRows r.1) (StopsReader AtFloor text.entry) }
 {
     match floor_next(text) {
         Some((floor, rest)) => Ok((CostsPart { costs: None, floor }, rest)),
@@ -104,7 +104,7 @@ fn some_costs(
 ) -> Result<(CostsPart, TextLeft<'_>), AnswerStop>
     ensures { MatchResult result (λ r. (lines : List CostLine) × (r.0.costs ≡ Some (record { greatest = greatest; lines = lines })) ×
         All FitsCostLine lines × Goes (AtSections None) text.entry (cost_lines None lines ++ floor_line r.0.floor ∷ []) AtRows r.1)
-        (Stops (AtSections None) text.entry) }
+        (StopsReader (AtSections None) text.entry) }
 {
     let (sections, rest) = read_sections(alloc, text)?;
     let costs = Costs {

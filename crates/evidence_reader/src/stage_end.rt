@@ -3,7 +3,7 @@ ghost use Rattle.std.specs.Prelude.{ℕ, zero, [], ◌∷◌, MatchResult, codes
 ghost use Rattle.answer_lines.specs.Grammar.{AtTree, AtEnd, AfterEnd};
 ghost use Rattle.answer_lines.specs.Lawful.{IsRead};
 ghost use Rattle.evidence_text.specs.Parts.{end_lines};
-ghost use Rattle.evidence_reader.specs.Stops.{Stops};
+ghost use Rattle.evidence_reader.specs.Stops.{StopsReader};
 ghost use Rattle.answer_lines.specs.Going.{Goes};
 
 use crate::faults::{fault_at, nothing_left};
@@ -20,7 +20,7 @@ use evidence_text::TreePart;
 pub(crate) fn read_end(text: TextLeft<'_>) -> Result<(), AnswerStop>
     ensures { MatchResult result (λ _. (after : ℕ) ×
         IsRead (AtTree TreePart.Unfinished zero zero) text.entry.read text.entry.left.now end_lines AfterEnd after [])
-        (Stops (AtTree TreePart.Unfinished zero zero) text.entry) }
+        (StopsReader (AtTree TreePart.Unfinished zero zero) text.entry) }
 {
     let wide = wide_line(text)?;
     let end = end_line(wide)?;
@@ -30,7 +30,7 @@ pub(crate) fn read_end(text: TextLeft<'_>) -> Result<(), AnswerStop>
 /// The text behind the line of the wide part.
 fn wide_line(text: TextLeft<'_>) -> Result<TextLeft<'_>, AnswerStop>
     ensures { MatchResult result (λ rest. Goes (AtTree TreePart.Unfinished zero zero) text.entry (codes "wide none" ∷ []) AtEnd rest)
-        (Stops (AtTree TreePart.Unfinished zero zero) text.entry) }
+        (StopsReader (AtTree TreePart.Unfinished zero zero) text.entry) }
 {
     match text.behind(b"wide none") {
         Some(rest) => Ok(rest),
@@ -40,7 +40,7 @@ fn wide_line(text: TextLeft<'_>) -> Result<TextLeft<'_>, AnswerStop>
 
 /// The text behind the `end` line.
 fn end_line(text: TextLeft<'_>) -> Result<TextLeft<'_>, AnswerStop>
-    ensures { MatchResult result (λ rest. Goes AtEnd text.entry (codes "end" ∷ []) AfterEnd rest) (Stops AtEnd text.entry) }
+    ensures { MatchResult result (λ rest. Goes AtEnd text.entry (codes "end" ∷ []) AfterEnd rest) (StopsReader AtEnd text.entry) }
 {
     match text.behind(b"end") {
         Some(rest) => Ok(rest),

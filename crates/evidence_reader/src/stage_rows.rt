@@ -1,10 +1,10 @@
 //! The stage of the rows.
 ghost use Rattle.std.specs.Prelude.{◌≡◌, ℕ, zero, suc, [], ◌∷◌, All, MatchResult, IfOk, MatchOption, length, map};
-ghost use Rattle.path_rows.specs.Text.{row_line};
+ghost use Rattle.design_problem.specs.Text.{row_line};
 ghost use Rattle.answer_lines.specs.Grammar.{AtRows, AtRow};
 ghost use Rattle.evidence_text.specs.Parts.{rows_line, rows_lines};
 ghost use Rattle.answer_lines.specs.Places.{LacksLawful};
-ghost use Rattle.evidence_reader.specs.Stops.{Stops};
+ghost use Rattle.evidence_reader.specs.Stops.{StopsReader};
 ghost use Rattle.answer_lines.specs.Going.{Goes};
 
 use crate::faults::fault_at;
@@ -12,7 +12,7 @@ use crate::stop::AnswerStop;
 use answer_lines::{TextLeft, row_of, rows_next};
 use begun_lines::{begins_row, begins_rows};
 use cost_base::OutOfMemory;
-use path_rows::Row;
+use design_problem::Row;
 use std::alloc::Global;
 
 /// The rows, and the text behind them. Their rivals start at 0.
@@ -26,7 +26,7 @@ pub(crate) fn read_rows(
     text: TextLeft<'_>,
 ) -> Result<(Vec<Row>, TextLeft<'_>), AnswerStop>
     ensures { MatchResult result (λ r. Goes AtRows text.entry (rows_lines r.0.items) (AtRow zero) r.1 × All (λ row. row.rival.start ≡ 0) r.0.items)
-        (Stops AtRows text.entry) }
+        (StopsReader AtRows text.entry) }
 {
     let (count, rest) = rows_count(text)?;
     each_row(alloc, rest, count)
@@ -34,7 +34,7 @@ pub(crate) fn read_rows(
 
 /// How many rows there are, where the line of that has to be the next.
 fn rows_count(text: TextLeft<'_>) -> Result<(u64, TextLeft<'_>), AnswerStop>
-    ensures { MatchResult result (λ r. Goes AtRows text.entry (rows_line r.0 ∷ []) (AtRow r.0) r.1) (Stops AtRows text.entry) }
+    ensures { MatchResult result (λ r. Goes AtRows text.entry (rows_line r.0 ∷ []) (AtRow r.0) r.1) (StopsReader AtRows text.entry) }
 {
     match rows_next(text) {
         Some(found) => Ok(found),
@@ -49,7 +49,7 @@ fn each_row(
     count: u64,
 ) -> Result<(Vec<Row>, TextLeft<'_>), AnswerStop>
     ensures { MatchResult result (λ r. (length r.0.items ≡ count) × Goes (AtRow count) text.entry (map row_line r.0.items) (AtRow zero) r.1 ×
-        All (λ row. row.rival.start ≡ 0) r.0.items) (Stops (AtRow count) text.entry) }
+        All (λ row. row.rival.start ≡ 0) r.0.items) (StopsReader (AtRow count) text.entry) }
 {
     let mut rows = Vec::new(alloc);
     let mut left = text;
@@ -64,7 +64,7 @@ fn each_row(
 /// The row whose line has to be the next.
 fn row_at(alloc: Global, text: TextLeft<'_>) -> Result<(Row, TextLeft<'_>), AnswerStop>
     ensures { (left : ℕ) → MatchResult result (λ r. Goes (AtRow (suc left)) text.entry (row_line r.0 ∷ []) (AtRow left) r.1 × (r.0.rival.start ≡ 0))
-        (Stops (AtRow (suc left)) text.entry) }
+        (StopsReader (AtRow (suc left)) text.entry) }
 {
     let found = row_next(alloc, text)?;
     match found {

@@ -2,21 +2,21 @@
 ghost use Rattle.std.specs.Prelude.{◌≡◌, ◌≢◌, ℕ, ◌<◌, List, [], ◌∷◌, ◌++◌, None, Some, All, MatchOption, MatchResult, IfOk, IfSome, IsTrue, ◌↔◌, codes};
 ghost use Rattle.std.specs.Option.{option_copied};
 ghost use Rattle.cost_base.specs.Words.{IsOneWord};
-ghost use Rattle.path_rows.specs.Text.{cost_lines, FitsCostLine};
-ghost use Rattle.answer_lines.specs.Grammar.{Place, Next, IsRouterNext, router_line, AtSections, AtInterface, AtCost, AtExit, AtRows};
-ghost use Rattle.path_rows.specs.Bounds.{IsCost};
-ghost use Rattle.evidence_text.specs.Parts.{interface_line, cost_line, floor_line};
+ghost use Rattle.design_problem.specs.Text.{cost_lines, FitsCostLine};
+ghost use Rattle.answer_lines.specs.Grammar.{TextPlace, Next, IsRouterNext, router_line, AtSections, AtInterface, AtCost, AtExit, AtRows};
+ghost use Rattle.design_problem.specs.Bounds.{IsCost};
+ghost use Rattle.evidence_text.specs.Parts.{interface_line, answer_cost_line, floor_line};
 ghost use Rattle.answer_lines.specs.Places.{LacksLawful};
-ghost use Rattle.evidence_reader.specs.Stops.{Stops};
+ghost use Rattle.evidence_reader.specs.Stops.{StopsReader};
 ghost use Rattle.answer_lines.specs.Going.{Goes};
-ghost use Rattle.evidence_reader.specs.Stages.{IsSectionLine, behind_section_line, words_lines, FitsWords, section_lines, behind_section, FitsSection};
+ghost use Rattle.evidence_reader.specs.Stages.{IsSectionLine, behind_section_line, words_lines, FitsWords, lines_of_section, behind_section, FitsSection};
 
 use crate::faults::fault_at;
 use crate::stop::AnswerStop;
 use answer_lines::{TextLeft, floor_of, name_after, number_after};
 use begun_lines::{begins_cost, begins_exit, begins_interface, begins_section};
 use cost_base::{Name, OutOfMemory};
-use path_rows::{CostLine, Floor};
+use design_problem::{CostLine, Floor};
 use std::alloc::Global;
 
 /// The cost lines of an answer, and the floor behind them.
@@ -65,7 +65,7 @@ pub(crate) fn read_sections(
     text: TextLeft<'_>,
 ) -> Result<(Sections, TextLeft<'_>), AnswerStop>
     ensures { MatchResult result (λ r. All FitsCostLine r.0.lines.items ×
-        Goes (AtSections None) text.entry (cost_lines None r.0.lines.items ++ floor_line r.0.floor ∷ []) AtRows r.1) (Stops (AtSections None) text.entry) }
+        Goes (AtSections None) text.entry (cost_lines None r.0.lines.items ++ floor_line r.0.floor ∷ []) AtRows r.1) (StopsReader (AtSections None) text.entry) }
 {
     let mut lines = Vec::new(alloc);
     let mut before = None;
@@ -103,8 +103,8 @@ fn next_section<'a>(
 ) -> Result<(Section<'a>, TextLeft<'a>), AnswerStop>
     requires { IfSome (option_copied before) IsOneWord }
     ensures { MatchResult result (λ r. FitsSection r.0 ×
-        Goes (AtSections (option_copied before.entry)) text.entry (section_lines (option_copied before.entry) r.0) (behind_section r.0) r.1)
-        (Stops (AtSections (option_copied before.entry)) text.entry) }
+        Goes (AtSections (option_copied before.entry)) text.entry (lines_of_section (option_copied before.entry) r.0) (behind_section r.0) r.1)
+        (StopsReader (AtSections (option_copied before.entry)) text.entry) }
 {
     let (line, rest) = section_line_at(text, before)?;
     match line {
@@ -127,7 +127,7 @@ fn section_line_at<'a>(
 ) -> Result<(SectionLine<'a>, TextLeft<'a>), AnswerStop>
     ensures { MatchResult result (λ r. (line : List ℕ) × IsSectionLine (option_copied before.entry) line r.0 ×
         Goes (AtSections (option_copied before.entry)) text.entry (line ∷ []) (behind_section_line r.0) r.1)
-        (Stops (AtSections (option_copied before.entry)) text.entry) }
+        (StopsReader (AtSections (option_copied before.entry)) text.entry) }
 {
     match section_line_next(text, before) {
         Some(found) => Ok(found),
@@ -151,7 +151,7 @@ fn section_line_next<'a>(
 
 /// What a line among the sections says behind the cost line of this router.
 fn section_line_of<'a>(line: &'a [u8], before: Option<&'a [u8]>) -> Option<SectionLine<'a>>
-    ensures { MatchOption result ((next : Place) → Next (AtSections (option_copied before.entry)) line.now next → ⊥)
+    ensures { MatchOption result ((next : TextPlace) → Next (AtSections (option_copied before.entry)) line.now next → ⊥)
         (IsSectionLine (option_copied before.entry) line.now) }
 {
     if let Some(floor) = floor_of(line) {
@@ -167,7 +167,7 @@ fn section_line_of<'a>(line: &'a [u8], before: Option<&'a [u8]>) -> Option<Secti
 
 /// The router of a line, where it isn't the one before.
 fn router_of<'a>(line: &'a [u8], before: Option<&'a [u8]>) -> Option<&'a [u8]>
-    ensures { MatchOption result ((next : Place) → IsRouterNext (option_copied before.entry) line.now next → ⊥)
+    ensures { MatchOption result ((next : TextPlace) → IsRouterNext (option_copied before.entry) line.now next → ⊥)
         (λ name. IsOneWord name.now × (option_copied before.entry ≢ Some name.now) × (line.now ≡ router_line name.now)) }
 {
     let router = name_after(line, b"router ")?;
@@ -195,7 +195,7 @@ fn cost_of_router<'a>(
 ) -> Result<(CostWords<'a>, TextLeft<'a>), AnswerStop>
     requires { IsOneWord router.now }
     ensures { MatchResult result (λ r. (r.0.router.now ≡ router.now) × FitsWords r.0 ×
-        Goes (AtInterface router.now) text.entry (words_lines r.0) (AtSections (Some router.now)) r.1) (Stops (AtInterface router.now) text.entry) }
+        Goes (AtInterface router.now) text.entry (words_lines r.0) (AtSections (Some router.now)) r.1) (StopsReader (AtInterface router.now) text.entry) }
 {
     let (interface, rest) = interface_at(text)?;
     cost_of_interface(router, interface, rest)
@@ -210,8 +210,8 @@ fn cost_of_interface<'a>(
     requires router { IsOneWord router.now }
     requires interface { IsOneWord interface.now }
     ensures { MatchResult result (λ r. (r.0.router.now ≡ router.now) × (r.0.interface.now ≡ interface.now) × FitsWords r.0 ×
-        Goes (AtCost router.now) text.entry (cost_line r.0.cost ∷ codes "exit" ∷ []) (AtSections (Some router.now)) r.1)
-        (Stops (AtCost router.now) text.entry) }
+        Goes (AtCost router.now) text.entry (answer_cost_line r.0.cost ∷ codes "exit" ∷ []) (AtSections (Some router.now)) r.1)
+        (StopsReader (AtCost router.now) text.entry) }
 {
     let (cost, rest) = cost_at(text)?;
     let rest = exit_at(rest)?;
@@ -227,7 +227,7 @@ fn cost_of_interface<'a>(
 fn interface_at(text: TextLeft<'_>) -> Result<(&[u8], TextLeft<'_>), AnswerStop>
     ensures { (router : List ℕ) → MatchResult result
         (λ r. IsOneWord r.0.now × Goes (AtInterface router) text.entry (interface_line r.0.now ∷ []) (AtCost router) r.1)
-        (Stops (AtInterface router) text.entry) }
+        (StopsReader (AtInterface router) text.entry) }
 {
     match interface_next(text) {
         Some(found) => Ok(found),
@@ -247,8 +247,8 @@ fn interface_next(text: TextLeft<'_>) -> Option<(&[u8], TextLeft<'_>)>
 
 /// The cost whose line has to be the next, and the text behind it.
 fn cost_at(text: TextLeft<'_>) -> Result<(u16, TextLeft<'_>), AnswerStop>
-    ensures { (router : List ℕ) → MatchResult result (λ r. (0 < r.0) × Goes (AtCost router) text.entry (cost_line r.0 ∷ []) (AtExit router) r.1)
-        (Stops (AtCost router) text.entry) }
+    ensures { (router : List ℕ) → MatchResult result (λ r. (0 < r.0) × Goes (AtCost router) text.entry (answer_cost_line r.0 ∷ []) (AtExit router) r.1)
+        (StopsReader (AtCost router) text.entry) }
 {
     match cost_next(text) {
         Some(found) => Ok(found),
@@ -259,7 +259,7 @@ fn cost_at(text: TextLeft<'_>) -> Result<(u16, TextLeft<'_>), AnswerStop>
 /// The cost whose line is the next, and the text behind it.
 fn cost_next(text: TextLeft<'_>) -> Option<(u16, TextLeft<'_>)>
     ensures { (router : List ℕ) → MatchOption result (LacksLawful (AtCost router) text.entry.left.now)
-        (λ r. (0 < r.0) × Goes (AtCost router) text.entry (cost_line r.0 ∷ []) (AtExit router) r.1) }
+        (λ r. (0 < r.0) × Goes (AtCost router) text.entry (answer_cost_line r.0 ∷ []) (AtExit router) r.1) }
 {
     let (line, rest) = text.line()?;
     let cost = cost_of(line)?;
@@ -268,7 +268,7 @@ fn cost_next(text: TextLeft<'_>) -> Option<(u16, TextLeft<'_>)>
 
 /// The cost that a line says.
 fn cost_of(line: &[u8]) -> Option<u16>
-    ensures { MatchOption result ((cost : ℕ) → 0 < cost → IsCost cost → line.now ≢ cost_line cost) (λ cost. (0 < cost) × (line.now ≡ cost_line cost)) }
+    ensures { MatchOption result ((cost : ℕ) → 0 < cost → IsCost cost → line.now ≢ answer_cost_line cost) (λ cost. (0 < cost) × (line.now ≡ answer_cost_line cost)) }
 {
     let cost = number_after(line, b" ip ospf cost ", 65_535)?;
     if cost == 0 { None } else { Some(cost as u16) }
@@ -277,7 +277,7 @@ fn cost_of(line: &[u8]) -> Option<u16>
 /// The text behind the line that closes an interface.
 fn exit_at(text: TextLeft<'_>) -> Result<TextLeft<'_>, AnswerStop>
     ensures { (router : List ℕ) → MatchResult result (λ rest. Goes (AtExit router) text.entry (codes "exit" ∷ []) (AtSections (Some router)) rest)
-        (Stops (AtExit router) text.entry) }
+        (StopsReader (AtExit router) text.entry) }
 {
     match text.behind(b"exit") {
         Some(rest) => Ok(rest),

@@ -1,11 +1,11 @@
 //! The stage of a part with a tree.
 ghost use Rattle.std.specs.Prelude.{◌≡◌, ℕ, zero, suc, ◌+◌, ◌-◌, ◌<◌, ◌≤◌, [], ◌∷◌, All, MatchOption, MatchResult, IfOk, IsTrue, ◌↔◌, length, map};
-ghost use Rattle.path_rows.specs.Text.{entry_line, tree_lines, FitsEntry, FitsTree};
-ghost use Rattle.path_rows.specs.Trees.{subtree_count};
-ghost use Rattle.answer_lines.specs.Grammar.{Place, IsPartNext, AtTree};
+ghost use Rattle.design_problem.specs.Text.{entry_line, tree_lines, FitsEntry, FitsTree};
+ghost use Rattle.design_problem.specs.Trees.{subtree_count};
+ghost use Rattle.answer_lines.specs.Grammar.{TextPlace, IsPartNext, AtTree};
 ghost use Rattle.evidence_text.specs.Parts.{part_word};
-ghost use Rattle.answer_lines.specs.Places.{LacksLawful, Begins};
-ghost use Rattle.evidence_reader.specs.Stops.{Stops};
+ghost use Rattle.answer_lines.specs.Places.{LacksLawful, BeginsLawful};
+ghost use Rattle.evidence_reader.specs.Stops.{StopsReader};
 ghost use Rattle.answer_lines.specs.Going.{Goes};
 ghost use Rattle.evidence_reader.specs.Stages.{before_part, part_head_line, behind_part_head};
 
@@ -14,8 +14,8 @@ use crate::stop::AnswerStop;
 use answer_lines::{TextLeft, entry_of, tree_head_of};
 use begun_lines::{begins_entry, begins_open, begins_proof};
 use cost_base::OutOfMemory;
+use design_problem::{CapTree, Entry, Tree};
 use evidence_text::{TreePart, no_tree_line};
-use path_rows::{CapTree, Entry, Tree};
 use std::alloc::Global;
 
 /// What the line that a part with a tree begins with says.
@@ -39,7 +39,7 @@ pub(crate) fn read_tree(
     text: TextLeft<'_>,
 ) -> Result<(Option<CapTree>, TextLeft<'_>), AnswerStop>
     ensures { MatchResult result (λ r. FitsTree r.0 × Goes (before_part part) text.entry (tree_lines (part_word part) r.0) (AtTree part zero zero) r.1)
-        (Stops (before_part part) text.entry) }
+        (StopsReader (before_part part) text.entry) }
 {
     let (head, rest) = part_head(part, text)?;
     match head {
@@ -54,7 +54,7 @@ pub(crate) fn read_tree(
 /// What the line that a part begins with says, where it has to be the next.
 fn part_head(part: TreePart, text: TextLeft<'_>) -> Result<(PartHead, TextLeft<'_>), AnswerStop>
     ensures { MatchResult result (λ r. Goes (before_part part) text.entry (part_head_line part r.0 ∷ []) (behind_part_head part r.0) r.1)
-        (Stops (before_part part) text.entry) }
+        (StopsReader (before_part part) text.entry) }
 {
     match part_head_next(part, text) {
         Some(found) => Ok(found),
@@ -64,7 +64,7 @@ fn part_head(part: TreePart, text: TextLeft<'_>) -> Result<(PartHead, TextLeft<'
 
 /// Whether the first line of a part begins with this.
 fn begins_part(part: TreePart, rest: &[u8]) -> bool
-    ensures { IsTrue result ↔ Begins (before_part part) rest.now }
+    ensures { IsTrue result ↔ BeginsLawful (before_part part) rest.now }
 {
     match part {
         TreePart::Proof => begins_proof(rest),
@@ -84,7 +84,7 @@ fn part_head_next(part: TreePart, text: TextLeft<'_>) -> Option<(PartHead, TextL
 
 /// What a line that a part begins with says.
 fn part_head_of(part: TreePart, line: &[u8]) -> Option<PartHead>
-    ensures { MatchOption result ((next : Place) → IsPartNext part line.now next → ⊥)
+    ensures { MatchOption result ((next : TextPlace) → IsPartNext part line.now next → ⊥)
         (λ head. IsPartNext part line.now (behind_part_head part head) × (line.now ≡ part_head_line part head)) }
 {
     if line == no_tree_line(part) {
@@ -102,7 +102,7 @@ fn tree_behind(
 ) -> Result<(Tree, TextLeft<'_>), AnswerStop>
     ensures { (part : TreePart) → MatchResult result
         (λ r. (length r.0 ≡ count) × All FitsEntry r.0 × Goes (AtTree part 1 count) text.entry (map entry_line r.0) (AtTree part zero zero) r.1)
-        (Stops (AtTree part 1 count) text.entry) }
+        (StopsReader (AtTree part 1 count) text.entry) }
 {
     let mut entries = Vec::new(alloc);
     let mut places = 1;
@@ -140,7 +140,7 @@ fn entry_at(
 ) -> Result<(Entry, TextLeft<'_>), AnswerStop>
     ensures { (part : TreePart) (left : ℕ) → MatchResult result
         (λ r. (0 < places) × FitsEntry r.0 × Goes (AtTree part places (suc left)) text.entry (entry_line r.0 ∷ [])
-        (AtTree part (subtree_count r.0 + (places - 1)) left) r.1) (Stops (AtTree part places (suc left)) text.entry) }
+        (AtTree part (subtree_count r.0 + (places - 1)) left) r.1) (StopsReader (AtTree part places (suc left)) text.entry) }
 {
     if places == 0 {
         return Err(fault_at(text, false));
@@ -152,7 +152,7 @@ fn entry_at(
 fn entry_in_place(alloc: Global, text: TextLeft<'_>) -> Result<(Entry, TextLeft<'_>), AnswerStop>
     ensures { (part : TreePart) (places left : ℕ) →
         MatchResult result (λ r. FitsEntry r.0 × Goes (AtTree part (suc places) (suc left)) text.entry (entry_line r.0 ∷ [])
-        (AtTree part (subtree_count r.0 + places) left) r.1) (Stops (AtTree part (suc places) (suc left)) text.entry) }
+        (AtTree part (subtree_count r.0 + places) left) r.1) (StopsReader (AtTree part (suc places) (suc left)) text.entry) }
 {
     let found = entry_next(alloc, text)?;
     match found {

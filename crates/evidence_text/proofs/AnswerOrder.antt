@@ -1,11 +1,11 @@
 -- The parts of an answer's text, in their order.
 use Rattle.std.proofs.Common.{◌≡◌, ℕ, List, [], ◌∷◌, ◌++◌, codes, append_assoc, ◌∙◌, sym, ap, subst, Option}
-use Rattle.path_rows.specs.declared.answer.Answer.TheInside.{Inside}
-use Rattle.path_rows.specs.declared.answer.CapTree.{CapTree}
-use Rattle.path_rows.specs.declared.answer.Costs.{Costs}
-use Rattle.path_rows.specs.declared.form.Row.{Row}
-use Rattle.path_rows.specs.Answers.{AnswerParts}
-use Rattle.path_rows.specs.Text.{costs_lines, tree_lines, answer_lines, text}
+use Rattle.design_problem.specs.declared.answer.Answer.TheInside.{Inside}
+use Rattle.design_problem.specs.declared.answer.CapTree.{CapTree}
+use Rattle.design_problem.specs.declared.answer.Costs.{Costs}
+use Rattle.design_problem.specs.declared.form.Row.{Row}
+use Rattle.design_problem.specs.Answers.{AnswerParts}
+use Rattle.design_problem.specs.Text.{costs_lines, tree_lines, answer_lines, text}
 use Rattle.text_lines.specs.Lines.{with_ends}
 use Rattle.evidence_text.specs.Lines.{AreShort}
 use Rattle.evidence_text.specs.Parts.{head_lines, floor_line, rows_lines, end_lines}

@@ -4,11 +4,11 @@ use Rattle.std.proofs.lemmas.Bool.{false≢true}
 use Rattle.std.specs.Result.{IsErr}
 use Rattle.cost_base.specs.HistoryLaws.{handed_more}
 use Rattle.cost_base.proofs.PutPieces.{whole_part, part_more}
-use Rattle.evidence_text.specs.Lines.{IsPut}
+use Rattle.evidence_text.specs.Lines.{IsPieceHanded}
 
 -- a text was put, and then another one is put or refused
 pub put-then : {T E : Type 0} {a b c : Option (List ℕ)} {f0 f1 f2 : ℕ} {x : T} {xs ys : List ℕ} (result : Result T E) →
-    IsPut {T = T} {E = E} a b f0 f1 xs (Ok x) → IsPut b c f1 f2 ys result → IsPut a c f0 f2 (xs ++ ys) result
+    IsPieceHanded {T = T} {E = E} a b f0 f1 xs (Ok x) → IsPieceHanded b c f1 f2 ys result → IsPieceHanded a c f0 f2 (xs ++ ys) result
 put-then {T} {E} {a} {b} {c} {f0} {f1} {f2} {x} {xs} {ys} (Ok y) p q =
     record {
       whole = handed_more a b c xs ys p.whole q.whole;
@@ -24,8 +24,8 @@ put-then {T} {E} {a} {b} {c} {f0} {f1} {f2} {x} {xs} {ys} (Err y) p q =
 
 -- at the exit of a `?`: a text was refused, and what would have followed isn't put
 pub put-cut : {T E F : Type 0} {a b : Option (List ℕ)} {f0 f1 : ℕ} {x : E} {xs : List ℕ} (ys : List ℕ)
-    (result : Result T F) → IsErr result → IsPut {T = T} {E = E} a b f0 f1 xs (Err x) →
-    IsPut a b f0 f1 (xs ++ ys) result
+    (result : Result T F) → IsErr result → IsPieceHanded {T = T} {E = E} a b f0 f1 xs (Err x) →
+    IsPieceHanded a b f0 f1 (xs ++ ys) result
 put-cut {T} {E} {F} {a} {b} {f0} {f1} {x} {xs} ys (Ok y) h p = absurd (false≢true h)
 put-cut {T} {E} {F} {a} {b} {f0} {f1} {x} {xs} ys (Err y) h p =
     record {
@@ -36,5 +36,5 @@ put-cut {T} {E} {F} {a} {b} {f0} {f1} {x} {xs} ys (Err y) h p =
 
 -- a text under its other name
 pub put-as : {T E : Type 0} {a b : Option (List ℕ)} {f0 f1 : ℕ} {xs ys : List ℕ} {result : Result T E} → ys ≡ xs →
-    IsPut a b f0 f1 xs result → IsPut a b f0 f1 ys result
-put-as {T} {E} {a} {b} {f0} {f1} {xs} {ys} {result} e p = subst (λ (bytes : List ℕ). IsPut a b f0 f1 bytes result) (sym e) p
+    IsPieceHanded a b f0 f1 xs result → IsPieceHanded a b f0 f1 ys result
+put-as {T} {E} {a} {b} {f0} {f1} {xs} {ys} {result} e p = subst (λ (bytes : List ℕ). IsPieceHanded a b f0 f1 bytes result) (sym e) p

@@ -3,24 +3,24 @@ use Rattle.std.proofs.Common.{◌≡◌, ℕ, ◌+◌, ◌<◌, ◌≤◌, List,
 use Rattle.std.proofs.lemmas.List.{at_drop_more}
 use Rattle.std.proofs.lemmas.Bool.{false≢true}
 use Rattle.std.specs.Result.{IsErr}
-use Rattle.cost_base.specs.Outside.{GotWhole, GotPart}
+use Rattle.cost_base.specs.Outside.{GotAll, GotPart}
 use Rattle.cost_base.specs.HistoryLaws.{handed_more, handed_none}
 use Rattle.cost_base.proofs.PutPieces.{whole_part, part_more}
-use Rattle.path_rows.specs.declared.answer.CostLine.{CostLine}
-use Rattle.path_rows.specs.declared.answer.CapTree.{CapTree}
-use Rattle.path_rows.specs.declared.tree.Entry.{Entry}
-use Rattle.path_rows.specs.Text.{router_lines, cost_lines, tree_lines, entry_line}
+use Rattle.design_problem.specs.declared.answer.CostLine.{CostLine}
+use Rattle.design_problem.specs.declared.answer.CapTree.{CapTree}
+use Rattle.design_problem.specs.declared.tree.Entry.{Entry}
+use Rattle.design_problem.specs.Text.{router_lines, cost_lines, tree_lines, entry_line}
 use Rattle.evidence_text.specs.declared.TreePart.{TreePart}
 use Rattle.evidence_text.specs.Parts.{interface_lines, tree_line, part_word}
 use Rattle.text_lines.specs.Lines.{with_ends}
-use Rattle.evidence_text.specs.Lines.{AreShort, IsPut}
+use Rattle.evidence_text.specs.Lines.{AreShort, IsPieceHanded}
 use Rattle.text_lines.proofs.LineLaws.{with_ends-append}
 use Rattle.evidence_text.proofs.TextLaws.{short_front, short_rest}
 
 -- of the whole text the sink got all but the lines that are left, which are short
 pub record IsUnderway (before now : Option (List ℕ)) (faults_before faults_now : ℕ) (left : List (List ℕ)) (total : List ℕ) : Type 0 where
   pub so_far : List ℕ
-  pub got : GotWhole before now so_far
+  pub got : GotAll before now so_far
   pub later : faults_before ≤ faults_now
   pub same : so_far ++ with_ends left ≡ total
   pub short : AreShort left
@@ -45,7 +45,7 @@ joined so_far total left lines rest e same =
 -- the next lines were put
 pub turn : {T E : Type 0} {a b c : Option (List ℕ)} {f0 f1 f2 : ℕ} {left : List (List ℕ)} {total : List ℕ} {x : T}
     (lines rest : List (List ℕ)) → left ≡ lines ++ rest → IsUnderway a b f0 f1 left total →
-    IsPut {T = T} {E = E} b c f1 f2 (with_ends lines) (Ok x) → IsUnderway a c f0 f2 rest total
+    IsPieceHanded {T = T} {E = E} b c f1 f2 (with_ends lines) (Ok x) → IsUnderway a c f0 f2 rest total
 turn {T} {E} {a} {b} {c} {f0} {f1} {f2} {left} {total} {x} lines rest e u p =
     record {
       so_far = u.so_far ++ with_ends lines;
@@ -58,7 +58,7 @@ turn {T} {E} {a} {b} {c} {f0} {f1} {f2} {left} {total} {x} lines rest e u p =
 -- the sink refused one of the next lines
 pub stop : {T E F : Type 0} {a b c : Option (List ℕ)} {f0 f1 f2 : ℕ} {left : List (List ℕ)} {total : List ℕ} {x : E}
     {y : F} (lines rest : List (List ℕ)) → left ≡ lines ++ rest → IsUnderway a b f0 f1 left total →
-    IsPut {T = T} {E = E} b c f1 f2 (with_ends lines) (Err x) → IsPut {T = T} {E = F} a c f0 f2 total (Err y)
+    IsPieceHanded {T = T} {E = E} b c f1 f2 (with_ends lines) (Err x) → IsPieceHanded {T = T} {E = F} a c f0 f2 total (Err y)
 stop {T} {E} {F} {a} {b} {c} {f0} {f1} {f2} {left} {total} {x} {y} lines rest e u p =
     record {
       whole = tt;
@@ -70,10 +70,10 @@ stop {T} {E} {F} {a} {b} {c} {f0} {f1} {f2} {left} {total} {x} {y} lines rest e 
 
 -- every line was put
 pub finish : {T E : Type 0} {a b : Option (List ℕ)} {f0 f1 : ℕ} {total : List ℕ} {x : T} →
-    IsUnderway a b f0 f1 [] total → IsPut {T = T} {E = E} a b f0 f1 total (Ok x)
+    IsUnderway a b f0 f1 [] total → IsPieceHanded {T = T} {E = E} a b f0 f1 total (Ok x)
 finish {T} {E} {a} {b} {f0} {f1} {total} {x} u =
     record {
-      whole = subst (λ bytes. GotWhole a b bytes) (sym (append-nil u.so_far) ∙ u.same) u.got;
+      whole = subst (λ bytes. GotAll a b bytes) (sym (append-nil u.so_far) ∙ u.same) u.got;
       part = tt;
       cause = record { later = u.later; failed = tt };
     }
@@ -81,22 +81,22 @@ finish {T} {E} {a} {b} {f0} {f1} {total} {x} u =
 -- the last lines are put, or refused
 pub last : {T E : Type 0} {a b c : Option (List ℕ)} {f0 f1 f2 : ℕ} {left : List (List ℕ)} {total : List ℕ}
     (result : Result T E) (lines : List (List ℕ)) → left ≡ lines → IsUnderway a b f0 f1 left total →
-    IsPut b c f1 f2 (with_ends lines) result → IsPut a c f0 f2 total result
+    IsPieceHanded b c f1 f2 (with_ends lines) result → IsPieceHanded a c f0 f2 total result
 last (Ok x) lines e u p = finish (turn lines [] (e ∙ sym (append-nil lines)) u p)
 last (Err x) lines e u p = stop lines [] (e ∙ sym (append-nil lines)) u p
 
 -- at the exit of a `?`: the sink refused one of the next lines
 pub stop_at : {T E F : Type 0} {a b c : Option (List ℕ)} {f0 f1 f2 : ℕ} {left : List (List ℕ)} {total : List ℕ} {x : E}
     (result : Result T F) → IsErr result → (lines rest : List (List ℕ)) → left ≡ lines ++ rest →
-    IsUnderway a b f0 f1 left total → IsPut {T = T} {E = E} b c f1 f2 (with_ends lines) (Err x) →
-    IsPut a c f0 f2 total result
+    IsUnderway a b f0 f1 left total → IsPieceHanded {T = T} {E = E} b c f1 f2 (with_ends lines) (Err x) →
+    IsPieceHanded a c f0 f2 total result
 stop_at (Ok x) h lines rest e u p = absurd (false≢true h)
 stop_at (Err y) h lines rest e u p = stop lines rest e u p
 
 -- a line under its other name
 pub put_as : {T E : Type 0} {a b : Option (List ℕ)} {f0 f1 : ℕ} {written line : List ℕ} {result : Result T E} →
-    written ≡ line → IsPut a b f0 f1 (with_ends (written ∷ [])) result → IsPut a b f0 f1 (with_ends (line ∷ [])) result
-put_as {T} {E} {a} {b} {f0} {f1} {written} {line} {result} e p = subst (λ (bytes : List ℕ). IsPut a b f0 f1 (with_ends (bytes ∷ [])) result) e p
+    written ≡ line → IsPieceHanded a b f0 f1 (with_ends (written ∷ [])) result → IsPieceHanded a b f0 f1 (with_ends (line ∷ [])) result
+put_as {T} {E} {a} {b} {f0} {f1} {written} {line} {result} e p = subst (λ (bytes : List ℕ). IsPieceHanded a b f0 f1 (with_ends (bytes ∷ [])) result) e p
 
 -- the lines of the items that are left, one more item taken
 pub items_turn : {X : Type 0} (f : X → List ℕ) (xs : List X) (i : ℕ) (item : X) → i < length xs →

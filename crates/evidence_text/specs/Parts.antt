@@ -1,39 +1,47 @@
 -- The parts of an answer's text, each by its lines.
 use Rattle.std.specs.Prelude.{ℕ, List, [], ◌∷◌, map, length, codes}
 use Rattle.cost_base.specs.Decimal.{decimal}
-use Rattle.path_rows.specs.declared.form.Row.{Row}
-use Rattle.path_rows.specs.declared.answer.Verdict.{Verdict}
-use Rattle.path_rows.specs.declared.answer.CostLine.{CostLine}
-use Rattle.path_rows.specs.declared.answer.Floor.{Floor}
-use Rattle.path_rows.specs.Text.{spaced, verdict_words, floor_word, row_line}
+use Rattle.design_problem.specs.declared.form.Row.{Row}
+use Rattle.design_problem.specs.declared.answer.Verdict.{Verdict}
+use Rattle.design_problem.specs.declared.answer.CostLine.{CostLine}
+use Rattle.design_problem.specs.declared.answer.Floor.{Floor}
+use Rattle.design_problem.specs.Text.{spaced, verdict_words, floor_word, row_line}
 use Rattle.evidence_text.specs.declared.TreePart.{TreePart}
 use Rattle.evidence_text.specs.declared.TreePart.TheVariants.{Proof, Unfinished}
 
+-- the line of the verdict
 abbrev pub verdict_line : Verdict → List ℕ
 verdict_line verdict = spaced (codes "verdict" ∷ verdict_words verdict)
 
+-- the first two lines of an answer: its header and its verdict
 abbrev pub head_lines : Verdict → List (List ℕ)
 head_lines verdict = codes "ospfcost answer 1" ∷ verdict_line verdict ∷ []
 
+-- `costs K`
 abbrev pub costs_line : ℕ → List ℕ
 costs_line greatest = spaced (codes "costs" ∷ decimal greatest ∷ [])
 
+-- `interface IF`
 abbrev pub interface_line : List ℕ → List ℕ
 interface_line name = spaced (codes "interface" ∷ name ∷ [])
 
-abbrev pub cost_line : ℕ → List ℕ
-cost_line cost = spaced (codes " ip" ∷ codes "ospf" ∷ codes "cost" ∷ decimal cost ∷ [])
+-- ` ip ospf cost N`
+abbrev pub answer_cost_line : ℕ → List ℕ
+answer_cost_line cost = spaced (codes " ip" ∷ codes "ospf" ∷ codes "cost" ∷ decimal cost ∷ [])
 
 -- what a cost line prints behind its router
 abbrev pub interface_lines : CostLine → List (List ℕ)
-interface_lines line = interface_line line.interface ∷ cost_line line.cost ∷ codes "exit" ∷ []
+interface_lines line = interface_line line.interface ∷ answer_cost_line line.cost ∷ codes "exit" ∷ []
 
+-- the line of the floor
 abbrev pub floor_line : Floor → List ℕ
 floor_line floor = spaced (codes "floor" ∷ floor_word floor ∷ [])
 
+-- `rows N`
 abbrev pub rows_line : ℕ → List ℕ
 rows_line count = spaced (codes "rows" ∷ decimal count ∷ [])
 
+-- the line that counts the rows, and the rows
 abbrev pub rows_lines : List Row → List (List ℕ)
 rows_lines rows = rows_line (length rows) ∷ map row_line rows
 
@@ -42,11 +50,14 @@ abbrev pub part_word : TreePart → List ℕ
 part_word Proof = codes "proof"
 part_word Unfinished = codes "open"
 
+-- the line of a part that has no tree: its word and `none`
 abbrev pub no_tree_line : TreePart → List ℕ
 no_tree_line part = spaced (part_word part ∷ codes "none" ∷ [])
 
+-- the first line of a part with a tree: its word, the cap, and how many lines follow
 abbrev pub tree_line : TreePart → ℕ → ℕ → List ℕ
 tree_line part cap count = spaced (part_word part ∷ decimal cap ∷ decimal count ∷ [])
 
+-- the last two lines of an answer
 abbrev pub end_lines : List (List ℕ)
 end_lines = codes "wide none" ∷ codes "end" ∷ []

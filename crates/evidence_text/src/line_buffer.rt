@@ -1,9 +1,9 @@
 //! A line that is gathered, and then put in one piece.
 ghost use Rattle.std.specs.Prelude.{◌≡◌, ℕ, ◌+◌, ◌<◌, ◌≤◌, List, [], ◌∷◌, ◌++◌, length, take};
 ghost use Rattle.cost_base.specs.Decimal.{decimal};
-ghost use Rattle.path_rows.specs.Text.{integer};
+ghost use Rattle.design_problem.specs.Text.{integer};
 ghost use Rattle.text_lines.specs.Lines.{with_ends};
-ghost use Rattle.evidence_text.specs.Lines.{IsPut};
+ghost use Rattle.evidence_text.specs.Lines.{IsPieceHanded};
 
 use cost_base::{PutFailed, Sink};
 use std::marker::Model;
@@ -89,7 +89,7 @@ impl LineBuffer {
 
     /// Puts the line with its LF into the sink, in one piece.
     pub(crate) fn put<K: Sink>(&mut self, out: &mut K) -> Result<(), PutFailed>
-        ensures { IsPut (K.got out.old) (K.got out.new) (K.faults out.old) (K.faults out.new) (with_ends (self.old ∷ [])) result }
+        ensures { IsPieceHanded (K.got out.old) (K.got out.new) (K.faults out.old) (K.faults out.new) (with_ends (self.old ∷ [])) result }
     {
         self.bytes[self.count] = b'\n';
         out.put(&self.bytes[..self.count + 1])

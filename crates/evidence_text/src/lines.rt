@@ -1,14 +1,14 @@
 //! The lines of an answer, each written into a buffer.
 ghost use Rattle.std.specs.Prelude.{◌≡◌, ℕ, ◌+◌, ◌≤◌, List, [], ◌∷◌, ◌++◌, length, map, codes};
 ghost use Rattle.cost_base.specs.Decimal.{decimal};
-ghost use Rattle.path_rows.specs.Text.{row_line, entry_line, side_word, step_word, ratio_word, member_words, members_words, part_words};
+ghost use Rattle.design_problem.specs.Text.{row_line, entry_line, side_word, step_word, ratio_word, member_words, members_words, part_words};
 ghost use Rattle.evidence_text.specs.Lines.{with_words};
-ghost use Rattle.evidence_text.specs.Parts.{verdict_line, costs_line, interface_line, cost_line, floor_line, rows_line, part_word, no_tree_line, tree_line};
+ghost use Rattle.evidence_text.specs.Parts.{verdict_line, costs_line, interface_line, answer_cost_line, floor_line, rows_line, part_word, no_tree_line, tree_line};
 
 use crate::TreePart;
 use crate::line_buffer::LineBuffer;
 use cost_base::Name;
-use path_rows::{Entry, Floor, Member, Ratio, Row, Side, StepName, Verdict, WideAt};
+use design_problem::{Entry, Floor, Member, Ratio, Row, Side, StepName, Verdict, WideAt};
 
 /// What is printed as one line.
 pub(crate) trait Printed {
@@ -22,7 +22,7 @@ pub(crate) trait Printed {
 }
 
 impl Printed for Row {
-    ghost use Rattle.path_rows.specs.Text.{row_line};
+    ghost use Rattle.design_problem.specs.Text.{row_line};
 
     ghost printed = { row_line };
 
@@ -32,7 +32,7 @@ impl Printed for Row {
 }
 
 impl Printed for Entry {
-    ghost use Rattle.path_rows.specs.Text.{entry_line};
+    ghost use Rattle.design_problem.specs.Text.{entry_line};
 
     ghost printed = { entry_line };
 
@@ -52,7 +52,7 @@ pub(crate) fn write_verdict(verdict: Verdict, line: &mut LineBuffer)
             line.push_number(u128::from(greatest));
         }
         Verdict::Impossible => line.start(b"verdict impossible"),
-        Verdict::Budget(cap) => {
+        Verdict::Undecided(cap) => {
             line.start(b"verdict undecided budget");
             line.push_number(u128::from(cap));
         }
@@ -79,8 +79,8 @@ pub(crate) fn write_interface(name: &Name, line: &mut LineBuffer)
 
 /// Writes the line that sets the cost of an interface.
 pub(crate) fn write_cost(cost: u16, line: &mut LineBuffer)
-    requires { length (cost_line cost) ≤ 65536 }
-    ensures { line.new ≡ cost_line cost }
+    requires { length (answer_cost_line cost) ≤ 65536 }
+    ensures { line.new ≡ answer_cost_line cost }
 {
     line.start(b" ip ospf cost");
     line.push_number(u128::from(cost));

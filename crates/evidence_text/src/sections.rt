@@ -1,10 +1,10 @@
 //! The parts of an answer's text, put line by line.
 ghost use Rattle.std.specs.Prelude.{◌≡◌, ℕ, ◌+◌, ◌≤◌, List, [], ◌∷◌, ◌++◌, length, map, codes, OnOk, OnErr};
 ghost use Rattle.std.specs.Option.{option_copied};
-ghost use Rattle.cost_base.specs.Outside.{GotWhole, GotPart, HasCause};
-ghost use Rattle.path_rows.specs.Text.{text, router_lines, cost_lines, costs_lines, row_line, entry_line, tree_lines};
+ghost use Rattle.cost_base.specs.Outside.{GotAll, GotPart, HasCause};
+ghost use Rattle.design_problem.specs.Text.{text, router_lines, cost_lines, costs_lines, row_line, entry_line, tree_lines};
 ghost use Rattle.text_lines.specs.Lines.{with_ends};
-ghost use Rattle.evidence_text.specs.Lines.{AreShort, IsPut};
+ghost use Rattle.evidence_text.specs.Lines.{AreShort, IsPieceHanded};
 ghost use Rattle.evidence_text.specs.Parts.{head_lines, interface_lines, floor_line, rows_lines, part_word, end_lines};
 
 use crate::TreePart;
@@ -14,7 +14,7 @@ use crate::lines::{
     write_tree, write_verdict,
 };
 use cost_base::{Name, PutFailed, Sink};
-use path_rows::{Answer, CapTree, CostLine, Costs, Entry, Floor, Row, Verdict};
+use design_problem::{Answer, CapTree, CostLine, Costs, Entry, Floor, Row, Verdict};
 
 /// Puts the text of an answer, each line with its LF by one `put`. It takes no memory.
 ///
@@ -22,7 +22,7 @@ use path_rows::{Answer, CapTree, CostLine, Costs, Entry, Floor, Row, Verdict};
 ///
 /// `PutFailed` where the sink refused a line: a prefix of the text was put.
 pub fn put_answer<K: Sink>(answer: &Answer, out: &mut K) -> Result<(), PutFailed>
-    ensures whole { OnOk result (GotWhole (K.got out.old) (K.got out.new) (text answer.now)) }
+    ensures whole { OnOk result (GotAll (K.got out.old) (K.got out.new) (text answer.now)) }
     ensures part { OnErr result (GotPart (K.got out.old) (K.got out.new) (text answer.now)) }
     ensures cause { HasCause (K.faults out.old) (K.faults out.new) result }
 {
@@ -48,7 +48,7 @@ pub fn put_answer<K: Sink>(answer: &Answer, out: &mut K) -> Result<(), PutFailed
 /// `PutFailed` where the sink refused a line: a prefix of these lines was put.
 pub fn put_costs<K: Sink>(costs: Option<&Costs>, out: &mut K) -> Result<(), PutFailed>
     requires { AreShort (costs_lines (option_copied costs)) }
-    ensures whole { OnOk result (GotWhole (K.got out.old) (K.got out.new) (with_ends (costs_lines (option_copied costs.entry)))) }
+    ensures whole { OnOk result (GotAll (K.got out.old) (K.got out.new) (with_ends (costs_lines (option_copied costs.entry)))) }
     ensures part { OnErr result (GotPart (K.got out.old) (K.got out.new) (with_ends (costs_lines (option_copied costs.entry)))) }
     ensures cause { HasCause (K.faults out.old) (K.faults out.new) result }
 {
@@ -63,7 +63,7 @@ pub fn put_costs<K: Sink>(costs: Option<&Costs>, out: &mut K) -> Result<(), PutF
 /// `PutFailed` where the sink refused a line: a prefix of these lines was put.
 pub fn put_rows<K: Sink>(rows: &[Row], out: &mut K) -> Result<(), PutFailed>
     requires { AreShort (rows_lines rows.now) }
-    ensures whole { OnOk result (GotWhole (K.got out.old) (K.got out.new) (with_ends (rows_lines rows.now))) }
+    ensures whole { OnOk result (GotAll (K.got out.old) (K.got out.new) (with_ends (rows_lines rows.now))) }
     ensures part { OnErr result (GotPart (K.got out.old) (K.got out.new) (with_ends (rows_lines rows.now))) }
     ensures cause { HasCause (K.faults out.old) (K.faults out.new) result }
 {
@@ -82,7 +82,7 @@ pub fn put_tree<K: Sink>(
     out: &mut K,
 ) -> Result<(), PutFailed>
     requires { AreShort (tree_lines (part_word part) (option_copied tree)) }
-    ensures whole { OnOk result (GotWhole (K.got out.old) (K.got out.new) (with_ends (tree_lines (part_word part) (option_copied tree.entry)))) }
+    ensures whole { OnOk result (GotAll (K.got out.old) (K.got out.new) (with_ends (tree_lines (part_word part) (option_copied tree.entry)))) }
     ensures part { OnErr result (GotPart (K.got out.old) (K.got out.new) (with_ends (tree_lines (part_word part) (option_copied tree.entry)))) }
     ensures cause { HasCause (K.faults out.old) (K.faults out.new) result }
 {
@@ -92,7 +92,7 @@ pub fn put_tree<K: Sink>(
 
 fn put_head<K: Sink>(verdict: Verdict, line: &mut LineBuffer, out: &mut K) -> Result<(), PutFailed>
     requires { AreShort (head_lines verdict) }
-    ensures { IsPut (K.got out.old) (K.got out.new) (K.faults out.old) (K.faults out.new) (with_ends (head_lines verdict)) result }
+    ensures { IsPieceHanded (K.got out.old) (K.got out.new) (K.faults out.old) (K.faults out.new) (with_ends (head_lines verdict)) result }
 {
     line.start(b"ospfcost answer 1");
     line.put(out)?;
@@ -106,7 +106,7 @@ fn put_costs_part<K: Sink>(
     out: &mut K,
 ) -> Result<(), PutFailed>
     requires { AreShort (costs_lines (option_copied costs)) }
-    ensures { IsPut (K.got out.old) (K.got out.new) (K.faults out.old) (K.faults out.new) (with_ends (costs_lines (option_copied costs.entry))) result }
+    ensures { IsPieceHanded (K.got out.old) (K.got out.new) (K.faults out.old) (K.faults out.new) (with_ends (costs_lines (option_copied costs.entry))) result }
 {
     match costs {
         None => {
@@ -123,7 +123,7 @@ fn put_some_costs<K: Sink>(
     out: &mut K,
 ) -> Result<(), PutFailed>
     requires { AreShort (costs_lines (Some costs.now)) }
-    ensures { IsPut (K.got out.old) (K.got out.new) (K.faults out.old) (K.faults out.new) (with_ends (costs_lines (Some costs.now))) result }
+    ensures { IsPieceHanded (K.got out.old) (K.got out.new) (K.faults out.old) (K.faults out.new) (with_ends (costs_lines (Some costs.now))) result }
 {
     write_costs(costs.greatest, line);
     line.put(out)?;
@@ -136,7 +136,7 @@ fn put_cost_lines<K: Sink>(
     out: &mut K,
 ) -> Result<(), PutFailed>
     requires { AreShort (cost_lines None costs.now) }
-    ensures { IsPut (K.got out.old) (K.got out.new) (K.faults out.old) (K.faults out.new) (with_ends (cost_lines None costs.now)) result }
+    ensures { IsPieceHanded (K.got out.old) (K.got out.new) (K.faults out.old) (K.faults out.new) (with_ends (cost_lines None costs.now)) result }
 {
     let mut before = None;
     for cost in costs {
@@ -154,7 +154,7 @@ fn put_cost_line<K: Sink>(
     out: &mut K,
 ) -> Result<(), PutFailed>
     requires { AreShort (router_lines (option_copied before) cost.now.router ++ interface_lines cost.now) }
-    ensures { IsPut (K.got out.old) (K.got out.new) (K.faults out.old) (K.faults out.new)
+    ensures { IsPieceHanded (K.got out.old) (K.got out.new) (K.faults out.old) (K.faults out.new)
         (with_ends (router_lines (option_copied before.entry) cost.now.router ++ interface_lines cost.now)) result }
 {
     put_router(before, &cost.router, line, out)?;
@@ -169,7 +169,7 @@ fn put_router<K: Sink>(
     out: &mut K,
 ) -> Result<(), PutFailed>
     requires { AreShort (router_lines (option_copied before) router.now) }
-    ensures { IsPut (K.got out.old) (K.got out.new) (K.faults out.old) (K.faults out.new)
+    ensures { IsPieceHanded (K.got out.old) (K.got out.new) (K.faults out.old) (K.faults out.new)
         (with_ends (router_lines (option_copied before.entry) router.now)) result }
 {
     if let Some(name) = before {
@@ -188,7 +188,7 @@ fn put_interface<K: Sink>(
     out: &mut K,
 ) -> Result<(), PutFailed>
     requires { AreShort (interface_lines cost.now) }
-    ensures { IsPut (K.got out.old) (K.got out.new) (K.faults out.old) (K.faults out.new) (with_ends (interface_lines cost.now)) result }
+    ensures { IsPieceHanded (K.got out.old) (K.got out.new) (K.faults out.old) (K.faults out.new) (with_ends (interface_lines cost.now)) result }
 {
     write_interface(&cost.interface, line);
     line.put(out)?;
@@ -200,7 +200,7 @@ fn put_interface<K: Sink>(
 
 fn put_floor<K: Sink>(floor: Floor, line: &mut LineBuffer, out: &mut K) -> Result<(), PutFailed>
     requires { AreShort (floor_line floor ∷ []) }
-    ensures { IsPut (K.got out.old) (K.got out.new) (K.faults out.old) (K.faults out.new) (with_ends (floor_line floor ∷ [])) result }
+    ensures { IsPieceHanded (K.got out.old) (K.got out.new) (K.faults out.old) (K.faults out.new) (with_ends (floor_line floor ∷ [])) result }
 {
     write_floor(floor, line);
     line.put(out)
@@ -208,7 +208,7 @@ fn put_floor<K: Sink>(floor: Floor, line: &mut LineBuffer, out: &mut K) -> Resul
 
 fn put_rows_part<K: Sink>(rows: &[Row], line: &mut LineBuffer, out: &mut K) -> Result<(), PutFailed>
     requires { AreShort (rows_lines rows.now) }
-    ensures { IsPut (K.got out.old) (K.got out.new) (K.faults out.old) (K.faults out.new) (with_ends (rows_lines rows.now)) result }
+    ensures { IsPieceHanded (K.got out.old) (K.got out.new) (K.faults out.old) (K.faults out.new) (with_ends (rows_lines rows.now)) result }
 {
     write_rows(rows.len(), line);
     line.put(out)?;
@@ -222,7 +222,7 @@ fn put_tree_part<K: Sink>(
     out: &mut K,
 ) -> Result<(), PutFailed>
     requires { AreShort (tree_lines (part_word part) (option_copied tree)) }
-    ensures { IsPut (K.got out.old) (K.got out.new) (K.faults out.old) (K.faults out.new)
+    ensures { IsPieceHanded (K.got out.old) (K.got out.new) (K.faults out.old) (K.faults out.new)
         (with_ends (tree_lines (part_word part) (option_copied tree.entry))) result }
 {
     match tree {
@@ -241,7 +241,7 @@ fn put_some_tree<K: Sink>(
     out: &mut K,
 ) -> Result<(), PutFailed>
     requires { AreShort (tree_lines (part_word part) (Some tree.now)) }
-    ensures { IsPut (K.got out.old) (K.got out.new) (K.faults out.old) (K.faults out.new) (with_ends (tree_lines (part_word part) (Some tree.now))) result }
+    ensures { IsPieceHanded (K.got out.old) (K.got out.new) (K.faults out.old) (K.faults out.new) (with_ends (tree_lines (part_word part) (Some tree.now))) result }
 {
     let entries = tree.tree.as_slice();
     write_tree(part, tree.cap, entries.len(), line);
@@ -256,7 +256,7 @@ fn put_each<T: Printed, K: Sink>(
     out: &mut K,
 ) -> Result<(), PutFailed>
     requires { AreShort (map T.printed items.now) }
-    ensures { IsPut (K.got out.old) (K.got out.new) (K.faults out.old) (K.faults out.new) (with_ends (map T.printed items.now)) result }
+    ensures { IsPieceHanded (K.got out.old) (K.got out.new) (K.faults out.old) (K.faults out.new) (with_ends (map T.printed items.now)) result }
 {
     for item in items {
         item.write(line);
@@ -267,7 +267,7 @@ fn put_each<T: Printed, K: Sink>(
 
 fn put_end<K: Sink>(line: &mut LineBuffer, out: &mut K) -> Result<(), PutFailed>
     requires { AreShort end_lines }
-    ensures { IsPut (K.got out.old) (K.got out.new) (K.faults out.old) (K.faults out.new) (with_ends end_lines) result }
+    ensures { IsPieceHanded (K.got out.old) (K.got out.new) (K.faults out.old) (K.faults out.new) (with_ends end_lines) result }
 {
     line.start(b"wide none");
     line.put(out)?;

@@ -5,28 +5,28 @@ use Rattle.std.specs.Prelude.{Result, IfOk, OnErr, OnOk, ◌^◌, ◌<◌, ◌�
 use Rattle.std.proofs.lemmas.List.{get_or_default}
 use Rattle.whole_numbers.specs.Fractions.{Fraction}
 use Rattle.whole_numbers.specs.Lists.{number_at}
-use Rattle.path_rows.specs.Basis.{IsBasis}
-use Rattle.path_rows.specs.Steps.{IsTooWide}
+use Rattle.design_problem.specs.Basis.{IsBasis}
+use Rattle.design_problem.specs.Steps.{IsStepTooWide}
 use Rattle.wide_fraction.specs.declared.steps.Wide.{Wide}
 use Rattle.fraction_table.specs.declared.stage.Stage.{Stage}
 use Rattle.fraction_table.specs.declared.stage.Stage.TheVariants.{Ended, Open, Stopped}
 use Rattle.fraction_table.specs.declared.stage.Solved.{Solved}
 use Rattle.fraction_rows.proofs.RowLaws.{number_at as number_there}
-use Rattle.path_rows.specs.declared.form.Form.{Form}
-use Rattle.path_rows.specs.declared.form.CostBox.{CostBox}
-use Rattle.path_rows.specs.declared.tree.Member.{Member}
+use Rattle.design_problem.specs.declared.form.Form.{Form}
+use Rattle.design_problem.specs.declared.form.CostBox.{CostBox}
+use Rattle.design_problem.specs.declared.tree.Member.{Member}
 use Rattle.fraction_table.specs.declared.table.Table.{Table}
-use Rattle.path_rows.specs.Basis.{entry, member_form}
-use Rattle.fraction_table.specs.Pivots.{AreHigh, KeepsForms, line_at, line_numbers, member_at}
+use Rattle.design_problem.specs.Basis.{entry, member_form}
+use Rattle.fraction_table.specs.Pivots.{AreHigh, KeepsBoxAndRows, line_at, numbers_of_line, member_at}
 use Rattle.fraction_table.specs.Tableaus.{IsAmongForms, IsGoing, IsSolved, wide_at}
-use Rattle.fraction_table.specs.Wholes.{HasRoom, IsShown, IsSound, IsWhole, IsWholeTable}
+use Rattle.fraction_table.specs.ValidTables.{HasRoom, IsShown, IsSound, IsTableauOf, IsTableau}
 use Rattle.fraction_table.proofs.Pivots.{line_long, whole_line}
 use Rattle.fraction_table.proofs.Solutions.{high_number, settled_among, settled_solves}
-use Rattle.fraction_table.proofs.WholeTurns.{stand_at}
+use Rattle.fraction_table.proofs.IntegralTurns.{stand_at}
 use Rattle.fraction_table.proofs.theory.TurnedNumbers.{numbers_long}
 use Rattle.fraction_table.proofs.Bases.{whole_basis}
 use Rattle.table_kernel.specs.declared.kernel.Kernel.{Kernel}
-use Rattle.table_kernel.specs.Kernels.{IsKernel, lines_of, stated}
+use Rattle.table_kernel.specs.Kernels.{IsKernel, kernel_lines, stated}
 use Rattle.table_kernel.specs.declared.kernel.OutOfRange.{OutOfRange}
 use Rattle.table_kernel.specs.Turnings.{IsHeldUp}
 use Rattle.table_kernel.specs.Turns.{HoldsNumbers}
@@ -60,7 +60,7 @@ shown_beside false k found is shown = shown
 
 -- a kernel that stopped was held up
 pub was_held_up : (old new : Kernel) (found : Result Solved OutOfRange) (out : OutOfRange) → found ≡ Err out →
-    IsKernel new → KeepsForms (stated old) (stated new) → OnErr found (IsHeldUp new) → WasHeldUp old.table
+    IsKernel new → KeepsBoxAndRows (stated old) (stated new) → OnErr found (IsHeldUp new) → WasHeldUp old.table
 was_held_up old new found out is kernel keeps held =
     record {
       kernel = new;
@@ -71,7 +71,7 @@ was_held_up old new found out is kernel keeps held =
 
 -- a kernel's answer is shown by the table that it stands for
 pub kernel_shown : (b : Bool) (k : Kernel) (solved : Solved) → b ≡ true → IsKernel k →
-    IsShown k.table.basis.items (lines_of k) (Ended solved) →
+    IsShown k.table.basis.items (kernel_lines k) (Ended solved) →
     IsShown k.table.basis.items (table_in b k).lines.items (Ended solved)
 kernel_shown true k solved is kernel shown =
     subst (λ (lines : List (List Fraction)). IsShown k.table.basis.items lines (Ended solved)) (sym (stated_lines k kernel.shaped)) shown
@@ -85,14 +85,14 @@ kernel_high true k is kernel high place d place_in =
     let line_in : place < length t.lines.items = omega (arith, stated_many k (kernel_moves k kernel), place_in) in
     let l = whole_line t w place line_in in
     let first = number_there t.top (line_at t place) 0 l.numbers (omega (arith, line_long t w place line_in)) in
-    let stands = stand_at w.unboxed.common (line_at t place) (line_numbers t w place) 0 l.stand
+    let stands = stand_at w.unboxed.common (line_at t place) (numbers_of_line t w place) 0 l.stand
     (omega (
       arith,
       numbers_long (length t.costs.low) w.unboxed.common t.costs.low w.unboxed.lows
           (member_form (length t.costs.low) t.rows.items (member_at t place)),
     )) in
     subst (λ z. pos 0 ≤ℤ z) (sym (kernel.numbers.constants place place_in) ∙ get_or_default k.constants.items place (pos 0) d place_in)
-    (high_number (entry (line_at t place) 0).numerator (number_at (line_numbers t w place) 0)
+    (high_number (entry (line_at t place) 0).numerator (number_at (numbers_of_line t w place) 0)
     (entry (line_at t place) 0).denominator w.unboxed.common first.lowest.positive w.unboxed.positive stands
     (high place [] line_in))
 kernel_high false k is kernel high place d place_in = absurd (clash is)
@@ -103,7 +103,7 @@ kernel_many true k line is kernel line_in = omega (arith, stated_many k (kernel_
 kernel_many false k line is kernel line_in = absurd (clash is)
 
 -- an active table has a basis, in either representation
-active_basis : (b : Bool) (k : Kernel) → IsWholeTable (table_in b k) → IsBasis k.table.costs k.table.rows.items k.table.basis.items
+active_basis : (b : Bool) (k : Kernel) → IsTableau (table_in b k) → IsBasis k.table.costs k.table.rows.items k.table.basis.items
 active_basis true k w = whole_basis k.table.top k.table.costs k.table.rows.items k.table.basis.items (stated k).lines.items w
 active_basis false k w = whole_basis k.table.top k.table.costs k.table.rows.items k.table.basis.items k.table.lines.items w
 
@@ -117,7 +117,7 @@ ended a solved active shown =
     record { active = λ going. active; shown = shown; basis = active_basis a.in_kernel a.kernel active.whole; room = active.room }
 
 pub stopped : (a : ActiveTable) (wide : Wide) →
-    IsTooWide a.kernel.table.top a.kernel.table.costs a.kernel.table.rows.items
+    IsStepTooWide a.kernel.table.top a.kernel.table.costs a.kernel.table.rows.items
     (wide_at wide a.kernel.table.basis.items) → HasRoom a.kernel.table → IsSoundActive a (Stopped wide)
 stopped a wide too_wide room =
     record { active = λ going. absurd going; shown = tt; basis = (too_wide.lows, too_wide.table); room = room }
@@ -126,13 +126,13 @@ shown_same : (basis other : List Member) (table lines : List (List Fraction)) (s
     lines ≡ table → IsShown basis table stage → IsShown other lines stage
 shown_same basis other table lines stage basis_is lines_are shown = rw (basis_is, lines_are) shown
 
-whole_same : (old new : Table) → HoldsSame old new → IsWholeTable old → IsWholeTable new
+whole_same : (old new : Table) → HoldsSame old new → IsTableau old → IsTableau new
 whole_same old new t w = same old.top new.top old.costs new.costs old.rows.items new.rows.items old.basis.items
     new.basis.items old.lines.items new.lines.items t.top t.costs t.rows t.basis t.lines w
   where
     same : (top atop : ℕ) (costs acosts : CostBox) (rows arows : List Form) (basis abasis : List Member)
         (table atable : List (List Fraction)) → atop ≡ top → acosts ≡ costs → arows ≡ rows → abasis ≡ basis →
-        atable ≡ table → IsWhole top costs rows basis table → IsWhole atop acosts arows abasis atable
+        atable ≡ table → IsTableauOf top costs rows basis table → IsTableauOf atop acosts arows abasis atable
     same top atop costs acosts rows arows basis abasis table atable top_is costs_are rows_are basis_is table_is w =
         rw (top_is, costs_are, rows_are, basis_is, table_is) w
 
@@ -177,12 +177,12 @@ shown_in true k solved shown = shown
 shown_in false k solved shown = shown
 
 -- an active table of the same forms
-forms_in : (b : Bool) (k : Kernel) (old : Table) → KeepsForms old k.table → KeepsForms old (table_in b k)
+forms_in : (b : Bool) (k : Kernel) (old : Table) → KeepsBoxAndRows old k.table → KeepsBoxAndRows old (table_in b k)
 forms_in true k old keeps = record { top = keeps.top; costs = keeps.costs; rows = keeps.rows }
 forms_in false k old keeps = keeps
 
 -- what an active table shows is an answer
-pub settled_rightly : (old : Table) (a : ActiveTable) (found : Result Solved Wide) → KeepsForms old a.kernel.table →
+pub settled_rightly : (old : Table) (a : ActiveTable) (found : Result Solved Wide) → KeepsBoxAndRows old a.kernel.table →
     OnOk found (IsActive a) → IfOk found
     (λ solved. IsShown a.kernel.table.basis.items (table_of a).lines.items (Ended solved)) →
     IfOk found (λ solved. IsSolved old.costs old.rows.items solved)
@@ -190,7 +190,7 @@ settled_rightly old a (Ok solved) keeps active shown =
     settled_solves old (table_of a) (Ok solved) (forms_in a.in_kernel a.kernel old keeps) active.whole (shown_in a.in_kernel a.kernel solved shown)
 settled_rightly old a (Err wide) keeps active shown = tt
 
-pub settled_among_forms : (old : Table) (a : ActiveTable) (found : Result Solved Wide) → KeepsForms old a.kernel.table →
+pub settled_among_forms : (old : Table) (a : ActiveTable) (found : Result Solved Wide) → KeepsBoxAndRows old a.kernel.table →
     OnOk found (IsActive a) → IfOk found
     (λ solved. IsShown a.kernel.table.basis.items (table_of a).lines.items (Ended solved)) →
     IfOk found (IsAmongForms old.costs old.rows.items)

@@ -1,11 +1,11 @@
 -- The table that a tableau works on, and what it keeps.
 use Rattle.std.specs.Prelude.{◌≡◌, Bool, true, false}
-use Rattle.path_rows.specs.Basis.{IsBasis}
+use Rattle.design_problem.specs.Basis.{IsBasis}
 use Rattle.fraction_table.specs.declared.stage.Stage.{Stage}
 use Rattle.fraction_table.specs.declared.table.Table.{Table}
-use Rattle.fraction_table.specs.Pivots.{KeepsForms}
+use Rattle.fraction_table.specs.Pivots.{KeepsBoxAndRows}
 use Rattle.fraction_table.specs.Tableaus.{IsGoing}
-use Rattle.fraction_table.specs.Wholes.{HasRoom, IsShown, IsWholeTable}
+use Rattle.fraction_table.specs.ValidTables.{HasRoom, IsShown, IsTableau}
 use Rattle.table_kernel.specs.declared.kernel.Kernel.{Kernel}
 use Rattle.table_kernel.specs.Kernels.{IsKernel, stated}
 use Rattle.table_kernel.specs.Turnings.{IsHeldUp}
@@ -22,7 +22,7 @@ table_of a = table_in a.in_kernel a.kernel
 
 -- A table that is worked on is whole; where the kernel works, it is one.
 pub record IsActive (a : ActiveTable) : Type 0 where
-  pub whole : IsWholeTable (table_of a)
+  pub whole : IsTableau (table_of a)
   pub kernel : a.in_kernel ≡ true → IsKernel a.kernel
   pub room : HasRoom a.kernel.table
 
@@ -30,7 +30,7 @@ pub record IsActive (a : ActiveTable) : Type 0 where
 pub record WasHeldUp (table : Table) : Type 0 where
   pub kernel : Kernel
   pub whole : IsKernel kernel
-  pub keeps : KeepsForms table kernel.table
+  pub keeps : KeepsBoxAndRows table kernel.table
   pub held_up : IsHeldUp kernel
 
 -- What a tableau keeps: until it stops its table is whole; and at all times its basis is one, and there is room.

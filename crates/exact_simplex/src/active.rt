@@ -1,25 +1,25 @@
 //! The table that a tableau works on: the kernel, and from the first step that its bounds don't cover the table in
 //! fractions.
 ghost use Rattle.std.specs.Prelude.{◌≡◌, ℕ, suc, ◌^◌, ◌<◌, ◌≤◌, ◌↔◌, ◌++◌, [], ◌∷◌, length, true, false, All, IfErr, IfOk, IsTrue, OnErr, OnOk};
-ghost use Rattle.path_rows.specs.Boxes.{IsBox, Refutes};
-ghost use Rattle.path_rows.specs.Earnest.{IsLeast};
-ghost use Rattle.path_rows.specs.Steps.{IsStuck, IsTooWide};
-ghost use Rattle.path_rows.specs.Forms.{AreMet};
+ghost use Rattle.design_problem.specs.Boxes.{IsBox, Refutes};
+ghost use Rattle.design_problem.specs.Earnest.{IsLeastPoint};
+ghost use Rattle.design_problem.specs.Steps.{IsStuck, IsStepTooWide};
+ghost use Rattle.design_problem.specs.Forms.{AreMet};
 ghost use Rattle.fraction_rows.specs.TableRows.{blank_row};
 ghost use Rattle.fraction_table.specs.declared.stage.Stage.{Stage};
 ghost use Rattle.fraction_table.specs.declared.stage.Stage.TheVariants.{Ended, Open};
 ghost use Rattle.fraction_table.specs.Multipliers.{IsToldOf};
-ghost use Rattle.fraction_table.specs.Pivots.{AreHigh, KeepsForms, line_at};
+ghost use Rattle.fraction_table.specs.Pivots.{AreHigh, KeepsBoxAndRows, line_at};
 ghost use Rattle.fraction_table.specs.RowLines.{HasPlace};
 ghost use Rattle.fraction_table.specs.Tableaus.{FitsBox, IsRebased, starting, wide_at};
-ghost use Rattle.fraction_table.specs.Wholes.{HasRoom, IsShown, held_of};
+ghost use Rattle.fraction_table.specs.ValidTables.{HasRoom, IsShown, held_of};
 ghost use Rattle.table_kernel.specs.Turns.{HasRowPlace, IsCovered, MayMove, box_distance};
 ghost use Rattle.exact_simplex.specs.Actives.{IsActive, IsSoundActive, WasHeldUp, table_of};
 
 use area_graph::Point;
 use cost_base::OutOfMemory;
+use design_problem::{CostBox, Form, Parts};
 use fraction_table::{BlankRow, SimplexStop, Solved};
-use path_rows::{CostBox, Form, Parts};
 use std::alloc::Global;
 use table_kernel::{Kernel, starting_kernel};
 use wide_fraction::{Top, Wide};
@@ -83,7 +83,7 @@ impl ActiveTable {
         requires kernel { self.old.in_kernel ≡ true }
         ensures active { IsActive self.new }
         ensures left { self.new.in_kernel ≡ false }
-        ensures keeps { KeepsForms self.old.kernel.table self.new.kernel.table }
+        ensures keeps { KeepsBoxAndRows self.old.kernel.table self.new.kernel.table }
         ensures basis { self.new.kernel.table.basis.items ≡ self.old.kernel.table.basis.items }
         ensures place { HasPlace self.old.kernel.table → HasPlace self.new.kernel.table }
     {
@@ -112,7 +112,7 @@ impl ActiveTable {
         ensures stays { self.old.in_kernel ≡ true → IsCovered self.old.kernel row.form → self.new.in_kernel ≡ true }
         ensures room { HasRoom self.new.kernel.table }
         ensures wide { IfErr result (λ wide.
-            IsTooWide self.new.kernel.table.top self.new.kernel.table.costs self.new.kernel.table.rows.items (wide_at wide self.new.kernel.table.basis.items)) }
+            IsStepTooWide self.new.kernel.table.top self.new.kernel.table.costs self.new.kernel.table.rows.items (wide_at wide self.new.kernel.table.basis.items)) }
     {
         if self.in_kernel {
             if self.kernel.covers(&row.form) {
@@ -133,11 +133,11 @@ impl ActiveTable {
         requires active { IsActive self.old }
         ensures active { OnOk result (IsActive self.new) }
         ensures shown { IfOk result (λ solved. IsShown self.new.kernel.table.basis.items (table_of self.new).lines.items (Ended solved)) }
-        ensures keeps { KeepsForms self.old.kernel.table self.new.kernel.table }
+        ensures keeps { KeepsBoxAndRows self.old.kernel.table self.new.kernel.table }
         ensures left { self.old.in_kernel ≡ true → self.new.in_kernel ≡ false → WasHeldUp self.old.kernel.table }
         ensures room { HasRoom self.new.kernel.table }
         ensures wide { IfErr result (λ wide.
-            IsTooWide self.new.kernel.table.top self.new.kernel.table.costs self.new.kernel.table.rows.items (wide_at wide self.new.kernel.table.basis.items)) }
+            IsStepTooWide self.new.kernel.table.top self.new.kernel.table.costs self.new.kernel.table.rows.items (wide_at wide self.new.kernel.table.basis.items)) }
     {
         if self.in_kernel {
             match self.kernel.settle() {
@@ -157,11 +157,11 @@ impl ActiveTable {
         requires active { IsActive self.now }
         requires high { AreHigh (table_of self.now) }
         requires places { length into.old.values ≡ length self.now.kernel.table.costs.low }
-        ensures least { OnOk result (IsLeast (AreMet self.now.kernel.table.rows.items) self.now.kernel.table.costs into.new) }
+        ensures least { OnOk result (IsLeastPoint (AreMet self.now.kernel.table.rows.items) self.now.kernel.table.costs into.new) }
         ensures small { OnOk result (into.new.scale < 2 ^ 100) }
         ensures kept { OnErr result (into.new ≡ into.old) }
         ensures wide { IfErr result (λ wide.
-            IsTooWide self.now.kernel.table.top self.now.kernel.table.costs self.now.kernel.table.rows.items (wide_at wide self.now.kernel.table.basis.items)) }
+            IsStepTooWide self.now.kernel.table.top self.now.kernel.table.costs self.now.kernel.table.rows.items (wide_at wide self.now.kernel.table.basis.items)) }
     {
         if self.in_kernel {
             self.kernel.put_corner(into);

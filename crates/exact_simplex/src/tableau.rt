@@ -1,19 +1,19 @@
 //! The tableau: a table, and how far the work on it is.
 ghost use Rattle.std.specs.Prelude.{◌≡◌, ℕ, suc, ◌^◌, ◌<◌, ◌≤◌, ◌↔◌, ◌++◌, [], ◌∷◌, length, All, IfErr, IfOk, IsTrue, OnErr, OnOk};
-ghost use Rattle.path_rows.specs.Basis.{IsBasis};
-ghost use Rattle.path_rows.specs.Boxes.{IsBox, Refutes};
-ghost use Rattle.path_rows.specs.Earnest.{IsLeast};
-ghost use Rattle.path_rows.specs.Steps.{IsTooWide};
-ghost use Rattle.path_rows.specs.Forms.{AreMet};
+ghost use Rattle.design_problem.specs.Basis.{IsBasis};
+ghost use Rattle.design_problem.specs.Boxes.{IsBox, Refutes};
+ghost use Rattle.design_problem.specs.Earnest.{IsLeastPoint};
+ghost use Rattle.design_problem.specs.Steps.{IsStepTooWide};
+ghost use Rattle.design_problem.specs.Forms.{AreMet};
 ghost use Rattle.fraction_table.specs.declared.stage.Solved.TheVariants.{Feasible, Refuted};
 ghost use Rattle.fraction_table.specs.declared.stage.Stage.TheVariants.{Ended, Stopped};
-ghost use Rattle.fraction_table.specs.Tableaus.{FitsBox, IsAmongForms, IsGoing, IsRebased, IsRefused, IsSolved, IsStop, IsTold, starting, wide_at};
+ghost use Rattle.fraction_table.specs.Tableaus.{FitsBox, IsAmongForms, IsGoing, IsRebased, IsRowRefused, IsSolved, IsTableauStopped, IsTableauTold, starting, wide_at};
 
 use crate::active::ActiveTable;
 use area_graph::Point;
 use cost_base::OutOfMemory;
+use design_problem::{CostBox, Form, Member, Parts};
 use fraction_table::{SimplexStop, Solved, Stage, fit_box, fits_box, is_box};
-use path_rows::{CostBox, Form, Member, Parts};
 use std::alloc::Global;
 use std::marker::Model;
 use wide_fraction::{Top, Wide};
@@ -31,7 +31,7 @@ impl Model for Tableau {
 
     ghost Value = { Held };
 
-    ghost use Rattle.fraction_table.specs.Wholes.{held_of};
+    ghost use Rattle.fraction_table.specs.ValidTables.{held_of};
     ghost use Rattle.exact_simplex.specs.Actives.{IsSoundActive};
 
     ghost view = { λ t. held_of t.table.kernel.table t.stage };
@@ -118,7 +118,7 @@ impl Tableau {
         ensures going { OnOk result (IsGoing self.old.stage) }
         ensures added { OnOk result (self.new ≡
             record { top = self.old.top; costs = self.old.costs; rows = self.old.rows ++ form.now ∷ []; basis = self.old.basis; stage = Stage.Open }) }
-        ensures refused { IfErr result (IsRefused self.old form.now self.new) }
+        ensures refused { IfErr result (IsRowRefused self.old form.now self.new) }
     {
         self.going()?;
         let row = self.table.make_room(alloc, form)?;
@@ -142,7 +142,7 @@ impl Tableau {
         ensures among { IfOk result (IsAmongForms self.old.costs self.old.rows) }
         ensures left { IfOk result (λ solved. self.new ≡
             record { top = self.old.top; costs = self.old.costs; rows = self.old.rows; basis = self.new.basis; stage = Ended solved }) }
-        ensures stop { IfErr result (λ wide. IsStop self.old self.old.rows self.new wide) }
+        ensures stop { IfErr result (λ wide. IsTableauStopped self.old self.old.rows self.new wide) }
     {
         self.going()?;
         let settled = self.table.settle();
@@ -161,10 +161,10 @@ impl Tableau {
     pub fn point(&self, into: &mut Point) -> Result<(), Wide>
         requires solved { self.now.stage ≡ Ended Feasible }
         requires places { length into.old.values ≡ length self.now.costs.low }
-        ensures least { OnOk result (IsLeast (AreMet self.now.rows) self.now.costs into.new) }
+        ensures least { OnOk result (IsLeastPoint (AreMet self.now.rows) self.now.costs into.new) }
         ensures small { OnOk result (into.new.scale < 2 ^ 100) }
         ensures kept { OnErr result (into.new ≡ into.old) }
-        ensures wide { IfErr result (λ wide. IsTooWide self.now.top self.now.costs self.now.rows (wide_at wide self.now.basis)) }
+        ensures wide { IfErr result (λ wide. IsStepTooWide self.now.top self.now.costs self.now.rows (wide_at wide self.now.basis)) }
     {
         self.table.put_corner(into)
     }
@@ -182,7 +182,7 @@ impl Tableau {
         ensures refutes { OnOk result (Refutes self.now.rows into.new self.now.costs) }
         ensures few { OnOk result (length into.new ≤ suc (length self.now.costs.low)) }
         ensures kept { OnErr result (into.new ≡ into.old) }
-        ensures told { IfErr result (IsTold self.now) }
+        ensures told { IfErr result (IsTableauTold self.now) }
     {
         *into = self.table.multipliers(alloc, form as usize)?;
         Ok(())

@@ -7,14 +7,14 @@ use Rattle.std.proofs.lemmas.Bool.{cases_lt}
 use lib.IntN.{+ℤ_idr}
 use Rattle.area_graph.specs.declared.Point.{Point}
 use Rattle.area_graph.specs.Costs.{at_costs}
-use Rattle.path_rows.specs.Forms.{Form, AreMet}
-use Rattle.path_rows.specs.declared.form.CostBox.{CostBox}
-use Rattle.path_rows.specs.Forms.{added, dot, form_at, value_at, weighted}
-use Rattle.path_rows.specs.Boxes.{IsBox, IsInBox, IsPointOf, Refutes, greatest, upper, upper_sum}
-use Rattle.path_rows.specs.Trees.{CutsAt}
-use Rattle.path_rows.specs.Earnest.{IsLeast, SplitsFraction}
-use Rattle.path_rows.proofs.AtCosts.{value_at_costs}
-use Rattle.advisor_box.specs.declared.candidate.Candidate.{Candidate}
+use Rattle.design_problem.specs.Forms.{Form, AreMet}
+use Rattle.design_problem.specs.declared.form.CostBox.{CostBox}
+use Rattle.design_problem.specs.Forms.{added, dot, form_at, value_at, weighted}
+use Rattle.design_problem.specs.Boxes.{IsBox, IsInBox, IsPointOf, Refutes, greatest, upper_term, upper_sum}
+use Rattle.design_problem.specs.Trees.{CutsAt}
+use Rattle.design_problem.specs.Earnest.{IsLeastPoint, SplitsFraction}
+use Rattle.design_problem.proofs.AtCosts.{value_at_costs}
+use Rattle.cut_advisors.specs.declared.candidate.Candidate.{Candidate}
 use Rattle.form_search.specs.Sources.{IsCostPoint}
 use Rattle.form_search.specs.Points.{IsCostsBox, IsFractional}
 
@@ -89,7 +89,7 @@ candidate_cuts n box point candidate kept inside fractional = record {
 
 -- and the least accepted point is fractional there
 pub candidate_splits : (accepted : Point → Type 0) (box : CostBox) (point : Point) (candidate : Candidate) →
-    IsLeast accepted box point → IsFractional box point candidate →
+    IsLeastPoint accepted box point → IsFractional box point candidate →
     SplitsFraction accepted box candidate.var candidate.floor
 candidate_splits accepted box point candidate least fractional = record { point = point; least = least; above = fractional.above; below = fractional.below }
 
@@ -101,7 +101,7 @@ inside_most n box w kept inside = each_at (λ x. x ≤ 65535) w (λ k k_in.
     omega arith)
 
 -- at a box of one point the greatest value is the value there
-one_term : (c : ℤ) (x : ℕ) → upper c x x ≡ (c *ℤ pos x)
+one_term : (c : ℤ) (x : ℕ) → upper_term c x x ≡ (c *ℤ pos x)
 one_term (pos c) x = refl
 one_term (negsuc c) x = refl
 

@@ -5,34 +5,34 @@ use Rattle.std.proofs.lemmas.List.{append-nil, get_or_default, length-append}
 use Rattle.std.specs.Prelude.{All, Contains, slice_index}
 use Rattle.std.proofs.lemmas.List.Elements.{Contains-append_right}
 use Rattle.area_graph.specs.declared.Point.{Point}
-use Rattle.path_rows.specs.Forms.{Form}
-use Rattle.path_rows.specs.declared.form.CostBox.{CostBox}
-use Rattle.path_rows.specs.declared.tree.Entry.{Entry}
-use Rattle.path_rows.specs.declared.tree.Entry.TheVariants.{Undone}
-use Rattle.path_rows.specs.Boxes.{IsBox, IsInBox}
-use Rattle.path_rows.specs.Trees.{IsClosed, IsWholeTree, entry_count}
-use Rattle.path_rows.specs.Earnest.{IsEarnestTree, Place}
-use Rattle.path_rows.specs.OpenPlaces.{Growing, Opens, first_place, fresh, grown, places_after, undones}
-use Rattle.path_rows.proofs.OpenPlaces.{closed_count, closed_more, earnest_tree_sound, opens_ends, opens_more, opens_undone, undone_count, undone_last}
-use Rattle.path_rows.proofs.BoxParts.{IsBoxIn, in_part, open_boxes_in}
-use Rattle.path_rows.proofs.Renumbering.{opens_kept}
-use Rattle.path_rows.proofs.TreeShapes.{sound_whole}
+use Rattle.design_problem.specs.Forms.{Form}
+use Rattle.design_problem.specs.declared.form.CostBox.{CostBox}
+use Rattle.design_problem.specs.declared.tree.Entry.{Entry}
+use Rattle.design_problem.specs.declared.tree.Entry.TheVariants.{Undone}
+use Rattle.design_problem.specs.Boxes.{IsBox, IsInBox}
+use Rattle.design_problem.specs.Trees.{IsClosed, IsSingleTree, entry_count}
+use Rattle.design_problem.specs.Earnest.{IsEarnestTree, OpenPlace}
+use Rattle.design_problem.specs.OpenPlaces.{Growing, LeavesPlacesOpen, first_place, fresh, grown, places_after, undones}
+use Rattle.design_problem.proofs.OpenPlaces.{closed_count, closed_more, earnest_tree_sound, opens_ends, opens_more, opens_undone, undone_count, undone_last}
+use Rattle.design_problem.proofs.BoxParts.{IsBoxIn, in_part, open_boxes_in}
+use Rattle.design_problem.proofs.Renumbering.{opens_kept}
+use Rattle.design_problem.proofs.TreeShapes.{sound_whole}
 use Rattle.form_search.specs.Sources.{Grows, SameFor}
 use Rattle.form_search.specs.Points.{IsCostsBox}
 use Rattle.form_search.specs.Finds.{IsSearchTree, IsShort}
 use Rattle.form_search.specs.declared.found.Found.{Found}
-use Rattle.form_search.specs.declared.found.Found.TheVariants.{Spent}
+use Rattle.form_search.specs.declared.found.Found.TheVariants.{Undecided}
 use Rattle.form_search.specs.declared.turn.Next.{Next}
 use Rattle.form_search.specs.declared.turn.Next.TheVariants.{Forms, Costs, Entry as ByEntry}
-use Rattle.form_search.specs.Finds.{IsFound}
-use Rattle.form_search.specs.Turns.{IsNext, IsNextEntry, turned}
+use Rattle.form_search.specs.Finds.{IsSearchResult}
+use Rattle.form_search.specs.Turns.{IsNextStep, IsNextEntry, turned}
 use Rattle.form_search.proofs.MissingForms.{missing, missing_few}
 use Rattle.form_search.proofs.Relaxing.{new_falls}
 use Rattle.form_search.proofs.OtherSources.{next_same}
 
 -- a tree over a box that grew by entries that might come next, at most so many
 pub record IsGrowing (accepted : Point → Type 0) (top nodes : ℕ) (forms : List Form) (box : CostBox) (tree : Growing) : Type 0 where
-  pub opens : Opens accepted top forms (fresh box ∷ []) tree.entries tree.places
+  pub opens : LeavesPlacesOpen accepted top forms (fresh box ∷ []) tree.entries tree.places
   pub closed : IsClosed tree.entries
   pub short : All (IsShort (length box.low)) tree.entries
   pub few : length tree.entries ≤ nodes
@@ -46,7 +46,7 @@ pub growing_kept : (IsTrue : Form → Type 0) (accepted : Point → Type 0) (top
     (box : CostBox) (tree : Growing) → Grows IsTrue old new → IsGrowing accepted top nodes old box tree →
     IsGrowing accepted top nodes new box tree
 growing_kept IsTrue accepted top nodes old new box tree grows growing = record {
-  opens = subst (λ (fs : List Form). Opens accepted top fs (fresh box ∷ []) tree.entries tree.places) (sym grows.same)
+  opens = subst (λ (fs : List Form). LeavesPlacesOpen accepted top fs (fresh box ∷ []) tree.entries tree.places) (sym grows.same)
       (opens_kept accepted top old grows.more (fresh box ∷ []) tree.entries tree.places growing.opens);
   closed = growing.closed;
   short = growing.short;
@@ -55,7 +55,7 @@ growing_kept IsTrue accepted top nodes old new box tree grows growing = record {
 
 -- the first open box
 pub first_in : (accepted : Point → Type 0) (top n : ℕ) (forms : List Form) (box : CostBox) (entries : List Entry)
-    (places : List Place) → IsBox n box → 0 < length places → Opens accepted top forms (fresh box ∷ []) entries places →
+    (places : List OpenPlace) → IsBox n box → 0 < length places → LeavesPlacesOpen accepted top forms (fresh box ∷ []) entries places →
     IsBoxIn n box (first_place places).box
 first_in accepted top n forms box entries [] kept some opens = absurd (omega arith)
 first_in accepted top n forms box entries (place ∷ places) kept some opens = (open_boxes_in accepted top n forms box entries (place ∷ places) kept opens).0
@@ -103,10 +103,10 @@ growing_more accepted top nodes forms box tree entry kept growing some left next
   few = let longer = length-append tree.entries (entry ∷ []) in let few = growing.few in omega arith;
 }
   where
-    at_first : (places : List Place) → 0 < length places →
-        Opens accepted top forms (fresh box ∷ []) tree.entries places →
+    at_first : (places : List OpenPlace) → 0 < length places →
+        LeavesPlacesOpen accepted top forms (fresh box ∷ []) tree.entries places →
         IsNextEntry accepted top forms (first_place places) entry →
-        Opens accepted top forms (fresh box ∷ []) (tree.entries ++ entry ∷ []) (places_after places entry)
+        LeavesPlacesOpen accepted top forms (fresh box ∷ []) (tree.entries ++ entry ∷ []) (places_after places entry)
     at_first [] some_place opens is_next = absurd (omega arith)
     at_first (place ∷ places) some_place opens is_next =
         opens_more accepted top forms (fresh box ∷ []) tree.entries place places entry opens is_next.sound
@@ -121,7 +121,7 @@ first_found accepted top nodes forms box tree w kept growing some inside =
     (first_in accepted top (length box.low) forms box tree.entries tree.places kept some
     growing.opens).is_part inside
 
-none_left : (places : List Place) → (0 < length places → ⊥) → places ≡ []
+none_left : (places : List OpenPlace) → (0 < length places → ⊥) → places ≡ []
 none_left [] none = refl
 none_left (place ∷ places) none = absurd (none (omega arith))
 
@@ -132,7 +132,7 @@ pub growing_ends : (accepted : Point → Type 0) (top nodes : ℕ) (forms : List
 growing_ends accepted top nodes forms box tree growing none = (
   record {
     earnest = opens_ends accepted top forms (fresh box ∷ []) tree.entries
-        (subst (λ (ps : List Place). Opens accepted top forms (fresh box ∷ []) tree.entries ps)
+        (subst (λ (ps : List OpenPlace). LeavesPlacesOpen accepted top forms (fresh box ∷ []) tree.entries ps)
         (none_left tree.places none) growing.opens);
     last = record { done = tree.entries; closed = growing.closed; undone = 0; same = sym (append-nil tree.entries) };
     short = growing.short;
@@ -170,32 +170,32 @@ growing_undone accepted top nodes forms box tree growing some full = (
 
 -- the entries are one whole tree
 pub earnest_whole : (accepted : Point → Type 0) (top : ℕ) (forms : List Form) (box : CostBox) (tree : List Entry) →
-    IsEarnestTree accepted top forms box tree → IsWholeTree tree
+    IsEarnestTree accepted top forms box tree → IsSingleTree tree
 earnest_whole accepted top forms box tree earnest = sound_whole forms box tree (earnest_tree_sound accepted top forms box tree earnest)
 
 -- a tree whose open places are undone is one whole tree
 pub undone_whole : (accepted : Point → Type 0) (top nodes : ℕ) (forms : List Form) (box : CostBox) (tree : Growing) →
-    IsGrowing accepted top nodes forms box tree → IsWholeTree (tree.entries ++ undones (length tree.places))
+    IsGrowing accepted top nodes forms box tree → IsSingleTree (tree.entries ++ undones (length tree.places))
 undone_whole accepted top nodes forms box tree growing =
     earnest_whole accepted top forms box (tree.entries ++ undones (length tree.places))
     (opens_undone accepted top forms (fresh box ∷ []) tree.entries tree.places growing.opens)
 
 -- so is one with no open place
 pub ended_whole : (accepted : Point → Type 0) (top nodes : ℕ) (forms : List Form) (box : CostBox) (tree : Growing) →
-    IsGrowing accepted top nodes forms box tree → (0 < length tree.places → ⊥) → IsWholeTree tree.entries
+    IsGrowing accepted top nodes forms box tree → (0 < length tree.places → ⊥) → IsSingleTree tree.entries
 ended_whole accepted top nodes forms box tree growing none =
     earnest_whole accepted top forms box tree.entries (growing_ends accepted top nodes forms box tree growing none).0.earnest
 
 -- the tree goes on growing, or shows what was found
 abbrev pub IsTurned : (Point → Type 0) → ℕ → ℕ → List Form → CostBox → ControlFlow Found Growing → Type 0
 IsTurned accepted top nodes forms box (Continue tree) = IsGrowing accepted top nodes forms box tree
-IsTurned accepted top nodes forms box (Break found) = IsFound accepted top nodes forms box found
+IsTurned accepted top nodes forms box (Break found) = IsSearchResult accepted top nodes forms box found
 
 -- by what may come next
 turned_growing : (IsTrue : Form → Type 0) (accepted : Point → Type 0) (top nodes : ℕ) (old new : List Form)
     (box : CostBox) (tree : Growing) (next : Next) → IsBox (length box.low) box → Grows IsTrue old new →
     IsGrowing accepted top nodes old box tree → 0 < length tree.places →
-    IsNext accepted top old new (first_place tree.places) next →
+    IsNextStep accepted top old new (first_place tree.places) next →
     IsTurned accepted top nodes new box (turned nodes tree next)
 turned_growing IsTrue accepted top nodes old new box tree Forms kept grows growing some is =
     growing_kept IsTrue accepted top nodes old new box tree grows growing
@@ -208,7 +208,7 @@ turned_growing IsTrue accepted top nodes old new box tree (ByEntry entry) kept g
 
     by : (full : Bool) → (length tree.entries == nodes) ≡ full →
         IsTurned accepted top nodes new box
-        (if full then Break (Spent (tree.entries ++ undones (length tree.places))) else Continue (grown tree entry))
+        (if full then Break (Undecided (tree.entries ++ undones (length tree.places))) else Continue (grown tree entry))
     by true full = growing_undone accepted top nodes new box tree after some (eqb-true (length tree.entries) nodes full)
     by false left = growing_more accepted top nodes new box tree entry kept after some (eqb-false (length tree.entries) nodes left) is
 
@@ -216,7 +216,7 @@ turned_growing IsTrue accepted top nodes old new box tree (ByEntry entry) kept g
 pub turn_shown : (IsTrue : Form → Type 0) (accepted other : Point → Type 0) (top nodes n : ℕ) (old new : List Form)
     (box : CostBox) (tree : Growing) (next : Next) (turn shown : ControlFlow Found Growing) → IsBox n box →
     SameFor accepted other → Grows IsTrue old new → IsGrowing accepted top nodes old box tree → 0 < length tree.places →
-    IsNext other top old new (first_place tree.places) next → turn ≡ turned nodes tree next → turn ≡ shown →
+    IsNextStep other top old new (first_place tree.places) next → turn ≡ turned nodes tree next → turn ≡ shown →
     IsTurned accepted top nodes new box shown
 turn_shown IsTrue accepted other top nodes n old new box tree next turn shown kept same grows growing some is outcome said =
     let is_box : IsBox (length box.low) box = subst (λ (m : ℕ). IsBox m box) (sym kept.low_count) kept in
@@ -227,13 +227,13 @@ turn_shown IsTrue accepted other top nodes n old new box tree next turn shown ke
 -- the tree has as many entries as it may have
 pub turned_full : (nodes : ℕ) (tree : Growing) (entry : Entry) (next : Next) (whole : List Entry) →
     next ≡ ByEntry entry → length tree.entries ≡ nodes → whole ≡ tree.entries ++ undones (length tree.places) →
-    Break (Spent whole) ≡ turned nodes tree next
+    Break (Undecided whole) ≡ turned nodes tree next
 turned_full nodes tree entry next whole is full same =
-    subst (λ (n : Next). Break (Spent whole) ≡ turned nodes tree n) (sym is)
-    (subst (λ (b : Bool). Break (Spent whole)
-    ≡ (if b then Break (Spent (tree.entries ++ undones (length tree.places))) else Continue (grown tree entry)))
+    subst (λ (n : Next). Break (Undecided whole) ≡ turned nodes tree n) (sym is)
+    (subst (λ (b : Bool). Break (Undecided whole)
+    ≡ (if b then Break (Undecided (tree.entries ++ undones (length tree.places))) else Continue (grown tree entry)))
     (sym (eq-eqb (length tree.entries) nodes full))
-    (ap (λ (es : List Entry). Break (Spent es)) same))
+    (ap (λ (es : List Entry). Break (Undecided es)) same))
 
 -- how much is left of a search: the entries that the tree may still get, and the forms that the pool may
 abbrev pub left_of : ℕ → List Form → List Form → Growing → ℕ
@@ -253,8 +253,8 @@ same_tree t u e = cc
 
 -- each turn leaves less
 turned_falls : (IsTrue : Form → Type 0) (accepted : Point → Type 0) (top nodes : ℕ) (candidates old new : List Form)
-    (place : Place) (tree longer : Growing) (next : Next) → ((form : Form) → IsTrue form → Contains candidates form) →
-    Grows IsTrue old new → length tree.entries ≤ nodes → IsNext accepted top old new place next →
+    (place : OpenPlace) (tree longer : Growing) (next : Next) → ((form : Form) → IsTrue form → Contains candidates form) →
+    Grows IsTrue old new → length tree.entries ≤ nodes → IsNextStep accepted top old new place next →
     Continue longer ≡ turned nodes tree next → left_of nodes candidates new longer < left_of nodes candidates old tree
 turned_falls IsTrue accepted top nodes candidates old new place tree longer Forms listed grows few is goes =
     subst (λ (t : Growing). left_of nodes candidates new t < left_of nodes candidates old tree) (same_tree tree longer goes)
@@ -264,7 +264,7 @@ turned_falls IsTrue accepted top nodes candidates old new place tree longer (ByE
     by (length tree.entries == nodes) refl goes
   where
     by : (full : Bool) → (length tree.entries == nodes) ≡ full →
-        Continue longer ≡ (if full then Break (Spent (tree.entries ++ undones (length tree.places))) else
+        Continue longer ≡ (if full then Break (Undecided (tree.entries ++ undones (length tree.places))) else
         Continue (grown tree entry)) → left_of nodes candidates new longer < left_of nodes candidates old tree
     by true full goes_on = absurd (cc)
     by false left goes_on =
@@ -274,9 +274,9 @@ turned_falls IsTrue accepted top nodes candidates old new place tree longer (ByE
         eqb-false (length tree.entries) nodes left in omega arith) (missing_few candidates new))
 
 pub turn_falls : (IsTrue : Form → Type 0) (accepted : Point → Type 0) (top nodes : ℕ)
-    (candidates listed old new : List Form) (place : Place) (tree longer : Growing) (next : Next)
+    (candidates listed old new : List Form) (place : OpenPlace) (tree longer : Growing) (next : Next)
     (turn : ControlFlow Found Growing) → ((form : Form) → IsTrue form → Contains listed form) → listed ≡ candidates →
-    Grows IsTrue old new → length tree.entries ≤ nodes → IsNext accepted top old new place next →
+    Grows IsTrue old new → length tree.entries ≤ nodes → IsNextStep accepted top old new place next →
     turn ≡ turned nodes tree next → turn ≡ Continue longer →
     left_of nodes candidates new longer < left_of nodes candidates old tree
 turn_falls IsTrue accepted top nodes candidates listed old new place tree longer next turn stands same grows few is outcome said =

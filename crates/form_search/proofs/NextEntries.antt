@@ -2,25 +2,25 @@
 use Rattle.std.proofs.Common.{◌≡◌, ℕ, zero, suc, ◌^◌, ◌<◌, refl, sym, subst, List, [], ◌∷◌, length, take, drop, arith, take-append-drop}
 use Rattle.std.specs.Prelude.{pos, ◌<ℤ◌, All}
 use Rattle.area_graph.specs.declared.Point.{Point}
-use Rattle.path_rows.specs.Forms.{Form}
-use Rattle.path_rows.specs.declared.form.CostBox.{CostBox}
-use Rattle.path_rows.specs.declared.tree.WideAt.{WideAt}
-use Rattle.path_rows.specs.declared.tree.Entry.{Entry}
-use Rattle.path_rows.specs.declared.tree.Entry.TheVariants.{Tighten, Split, Halve, Refute, Undone}
-use Rattle.path_rows.specs.Forms.{form_at}
-use Rattle.path_rows.specs.Boxes.{IsBox, greatest}
-use Rattle.path_rows.specs.Steps.{IsTooWide}
-use Rattle.path_rows.specs.Earnest.{IsLeast, Place}
-use Rattle.path_rows.proofs.Renumbering.{too_wide_kept}
+use Rattle.design_problem.specs.Forms.{Form}
+use Rattle.design_problem.specs.declared.form.CostBox.{CostBox}
+use Rattle.design_problem.specs.declared.tree.WideAt.{WideAt}
+use Rattle.design_problem.specs.declared.tree.Entry.{Entry}
+use Rattle.design_problem.specs.declared.tree.Entry.TheVariants.{Tighten, Split, Halve, Refute, Undone}
+use Rattle.design_problem.specs.Forms.{form_at}
+use Rattle.design_problem.specs.Boxes.{IsBox, greatest}
+use Rattle.design_problem.specs.Steps.{IsStepTooWide}
+use Rattle.design_problem.specs.Earnest.{IsLeastPoint, OpenPlace}
+use Rattle.design_problem.proofs.Renumbering.{too_wide_kept}
 use Rattle.form_search.specs.declared.table.HeldTableau.{HeldTableau}
-use Rattle.advisor_box.specs.declared.candidate.Candidate.{Candidate}
+use Rattle.cut_advisors.specs.declared.candidate.Candidate.{Candidate}
 use Rattle.form_search.specs.Points.{IsFractional}
 use Rattle.form_search.specs.Tables.{IsHeld, IsPrintedWide}
 use Rattle.form_search.specs.Turns.{IsNextEntry, IsNextRow, IsSplitAt}
 use Rattle.form_search.proofs.CostPoints.{candidate_cuts, candidate_splits, refutes_one}
 
 -- the Refute by one form
-pub next_refute : (forms : List Form) (row : ℕ) (place : Place) (form : Form) (costs : CostBox) (entry : Entry) →
+pub next_refute : (forms : List Form) (row : ℕ) (place : OpenPlace) (form : Form) (costs : CostBox) (entry : Entry) →
     row < length forms → form_at forms row ≡ form → costs ≡ place.box → greatest form costs <ℤ pos 0 →
     entry ≡ Refute ((row, 1) ∷ []) → IsNextRow forms place entry
 next_refute forms row place form costs entry row_in same there negative is =
@@ -36,7 +36,7 @@ next_refute forms row place form costs entry row_in same there negative is =
     small (suc k) d k_in = absurd (omega arith)
 
 -- an entry by one form may come next, whatever is accepted
-pub row_next : (accepted : Point → Type 0) (top : ℕ) (forms : List Form) (place : Place) (entry : Entry) →
+pub row_next : (accepted : Point → Type 0) (top : ℕ) (forms : List Form) (place : OpenPlace) (entry : Entry) →
     IsNextRow forms place entry → IsNextEntry accepted top forms place entry
 row_next accepted top forms place (Tighten var side value row) next = record { sound = next.0; earnest = next.1; short = (tt, tt); closed = refl }
 row_next accepted top forms place (Split var value) next = absurd next
@@ -56,19 +56,19 @@ pub printed_held : (top n : ℕ) (box : CostBox) (forms : List Form) (table : He
     IsPrintedWide table.tableau.top table.tableau.costs table.tableau.rows wide → IsPrintedWide top box forms wide
 printed_held top n box forms table wide is_held costs printed = record {
   too_wide =
-      subst (λ (fs : List Form). IsTooWide top box fs wide) (take-append-drop is_held.taken forms)
+      subst (λ (fs : List Form). IsStepTooWide top box fs wide) (take-append-drop is_held.taken forms)
       (too_wide_kept top box (take is_held.taken forms) (drop is_held.taken forms) wide
-      (subst (λ (fs : List Form). IsTooWide top box fs wide) is_held.rows
-      (subst (λ (b : CostBox). IsTooWide top b table.tableau.rows wide) costs
-      (subst (λ (t : ℕ). IsTooWide t table.tableau.costs table.tableau.rows wide) is_held.same_top printed.too_wide))));
+      (subst (λ (fs : List Form). IsStepTooWide top box fs wide) is_held.rows
+      (subst (λ (b : CostBox). IsStepTooWide top b table.tableau.rows wide) costs
+      (subst (λ (t : ℕ). IsStepTooWide t table.tableau.costs table.tableau.rows wide) is_held.same_top printed.too_wide))));
   left = printed.left;
   right = printed.right;
   some = printed.some;
 }
 
 -- the Split at a candidate of the least accepted point
-pub next_split : (accepted : Point → Type 0) (top n : ℕ) (forms : List Form) (place : Place) (point : Point)
-    (candidate : Candidate) → IsBox n place.box → IsLeast accepted place.box point →
+pub next_split : (accepted : Point → Type 0) (top n : ℕ) (forms : List Form) (place : OpenPlace) (point : Point)
+    (candidate : Candidate) → IsBox n place.box → IsLeastPoint accepted place.box point →
     IsFractional place.box point candidate → IsNextEntry accepted top forms place (Split candidate.var candidate.floor)
 next_split accepted top n forms place point candidate kept least fractional = record {
   sound = candidate_cuts n place.box point candidate kept least.inside fractional;
@@ -77,8 +77,8 @@ next_split accepted top n forms place point candidate kept least fractional = re
   closed = refl;
 }
 
-pub next_split_at : (accepted : Point → Type 0) (top n : ℕ) (forms : List Form) (place : Place) (point : Point)
-    (entry : Entry) → IsBox n place.box → IsLeast accepted place.box point → IsSplitAt place.box point entry →
+pub next_split_at : (accepted : Point → Type 0) (top n : ℕ) (forms : List Form) (place : OpenPlace) (point : Point)
+    (entry : Entry) → IsBox n place.box → IsLeastPoint accepted place.box point → IsSplitAt place.box point entry →
     IsNextEntry accepted top forms place entry
 next_split_at accepted top n forms place point entry kept least split =
     subst (IsNextEntry accepted top forms place) (sym split.same) (next_split accepted top n forms place point split.candidate kept least split.fractional)

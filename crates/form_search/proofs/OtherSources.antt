@@ -2,17 +2,17 @@
 use Rattle.std.proofs.Common.{ℕ, List}
 use Rattle.area_graph.specs.declared.Point.{Point}
 use Rattle.area_graph.specs.Costs.{at_costs}
-use Rattle.path_rows.specs.Forms.{Form}
-use Rattle.path_rows.specs.declared.form.CostBox.{CostBox}
-use Rattle.path_rows.specs.declared.tree.Entry.{Entry}
-use Rattle.path_rows.specs.declared.tree.Entry.TheVariants.{Tighten, Split, Halve, Refute, Undone}
-use Rattle.path_rows.specs.Earnest.{EarnestAt, IsLeast, Place}
+use Rattle.design_problem.specs.Forms.{Form}
+use Rattle.design_problem.specs.declared.form.CostBox.{CostBox}
+use Rattle.design_problem.specs.declared.tree.Entry.{Entry}
+use Rattle.design_problem.specs.declared.tree.Entry.TheVariants.{Tighten, Split, Halve, Refute, Undone}
+use Rattle.design_problem.specs.Earnest.{EarnestAt, IsLeastPoint, OpenPlace}
 use Rattle.form_search.specs.declared.turn.Next.{Next}
 use Rattle.form_search.specs.declared.turn.Next.TheVariants.{Forms, Costs, Entry as ByEntry}
 use Rattle.form_search.specs.Sources.{SameFor}
-use Rattle.form_search.specs.Turns.{IsNext}
+use Rattle.form_search.specs.Turns.{IsNextStep}
 
-least_same : (accepted other : Point → Type 0) (box : CostBox) (point : Point) → SameFor accepted other → IsLeast accepted box point → IsLeast other box point
+least_same : (accepted other : Point → Type 0) (box : CostBox) (point : Point) → SameFor accepted other → IsLeastPoint accepted box point → IsLeastPoint other box point
 least_same accepted other box point same least = record {
   inside = least.inside;
   accepted = (same point).0 least.accepted;
@@ -22,7 +22,7 @@ least_same accepted other box point same least = record {
 swapped : (accepted other : Point → Type 0) → SameFor accepted other → SameFor other accepted
 swapped accepted other same = λ x. ((same x).1, (same x).0)
 
-earnest_same : (accepted other : Point → Type 0) (top : ℕ) (forms : List Form) (place : Place) (entry : Entry) →
+earnest_same : (accepted other : Point → Type 0) (top : ℕ) (forms : List Form) (place : OpenPlace) (entry : Entry) →
     SameFor accepted other → EarnestAt accepted top forms place entry → EarnestAt other top forms place entry
 earnest_same accepted other top forms place (Tighten var side value row) same earnest = earnest
 earnest_same accepted other top forms place (Split var value) same earnest = record {
@@ -36,8 +36,8 @@ earnest_same accepted other top forms place (Refute parts) same earnest = earnes
 earnest_same accepted other top forms place Undone same earnest = earnest
 
 -- what comes next by a source that accepts the same points
-pub next_same : (accepted other : Point → Type 0) (top : ℕ) (old new : List Form) (place : Place) (next : Next) →
-    SameFor accepted other → IsNext other top old new place next → IsNext accepted top old new place next
+pub next_same : (accepted other : Point → Type 0) (top : ℕ) (old new : List Form) (place : OpenPlace) (next : Next) →
+    SameFor accepted other → IsNextStep other top old new place next → IsNextStep accepted top old new place next
 next_same accepted other top old new place Forms same is = is
 next_same accepted other top old new place (Costs w) same is = (is.0, (same (at_costs w)).1 is.1)
 next_same accepted other top old new place (ByEntry entry) same is = record {

@@ -5,13 +5,13 @@ use Rattle.std.specs.Prelude.{All, Contains}
 use Rattle.std.proofs.lemmas.List.{length-append, take-append-le}
 use Rattle.std.proofs.lemmas.List.Elements.{Contains-append_cases}
 use Rattle.area_graph.specs.declared.Point.{Point}
-use Rattle.path_rows.specs.Forms.{Form}
-use Rattle.path_rows.specs.declared.form.CostBox.{CostBox}
+use Rattle.design_problem.specs.Forms.{Form}
+use Rattle.design_problem.specs.declared.form.CostBox.{CostBox}
 use Rattle.fraction_table.specs.Tableaus.{FitsBox}
 use Rattle.form_search.specs.declared.table.HeldTableau.{HeldTableau}
 use Rattle.form_search.specs.Sources.{Grows, IsTrueForm}
 use Rattle.form_search.specs.Points.{IsCostsBox}
-use Rattle.form_search.specs.Tables.{IsHeld, IsKept, StandsAt}
+use Rattle.form_search.specs.Tables.{IsHeld, IsTableauKept, StandsAt}
 use Rattle.form_search.specs.Turns.{HasNew}
 use Rattle.form_search.proofs.CostPoints.{low_values}
 use Rattle.form_search.proofs.MissingForms.{missing, missing_falls}
@@ -39,7 +39,7 @@ held_more top n old new more table same held = subst (λ (forms : List Form). Is
 })
 
 -- so does one that is kept
-pub kept_more : (top n : ℕ) (old new more : List Form) (kept : Option HeldTableau) → new ≡ old ++ more → IsKept top n old kept → IsKept top n new kept
+pub kept_more : (top n : ℕ) (old new more : List Form) (kept : Option HeldTableau) → new ≡ old ++ more → IsTableauKept top n old kept → IsTableauKept top n new kept
 kept_more top n old new more None same is = tt
 kept_more top n old new more (Some table) same is = held_more top n old new more table same is
 
@@ -49,9 +49,9 @@ stands_own top box forms table stands = subst (λ (t : ℕ). StandsAt t box form
 
 -- what was kept in n variables, at a box of n variables
 pub kept_there : (top n : ℕ) (box : CostBox) (forms : List Form) (kept taken : Option HeldTableau) → IsCostsBox n box →
-    taken ≡ kept → IsKept top n forms kept → IsKept top (length box.low) forms taken
+    taken ≡ kept → IsTableauKept top n forms kept → IsTableauKept top (length box.low) forms taken
 kept_there top n box forms kept taken costs same is =
-    subst (λ (m : ℕ). IsKept top m forms taken) (sym costs.is_box.low_count) (subst (λ (o : Option HeldTableau). IsKept top n forms o) (sym same) is)
+    subst (λ (m : ℕ). IsTableauKept top m forms taken) (sym costs.is_box.low_count) (subst (λ (o : Option HeldTableau). IsTableauKept top n forms o) (sym same) is)
 
 -- what a call brought is a true form
 pub new_true : (IsTrue : Form → Type 0) (old new : List Form) (form : Form) → Grows IsTrue old new → Contains new form → (Contains old form → ⊥) → IsTrue form

@@ -3,7 +3,7 @@ use Rattle.std.proofs.Common.{ℕ, refl, sym, ◌∙◌, ap, subst, List, [], �
 use Rattle.std.specs.Prelude.{All}
 use Rattle.std.proofs.lemmas.List.Elements.{All-append, All-nil}
 use Rattle.area_graph.specs.declared.Point.{Point}
-use Rattle.path_rows.specs.Forms.{Form}
+use Rattle.design_problem.specs.Forms.{Form}
 use Rattle.form_search.specs.Sources.{Grows, SameFor, SameSource}
 
 module _ {X : Type 0} where

@@ -2,17 +2,17 @@
 use Rattle.std.specs.Prelude.{◌≡◌, ℕ, ◌+◌, ◌≤◌, List, length, All, Contains}
 use Rattle.area_graph.specs.declared.Point.{Point}
 use Rattle.area_graph.specs.Costs.{at_costs}
-use Rattle.path_rows.specs.Forms.{Form}
-use Rattle.path_rows.specs.declared.form.CostBox.{CostBox}
-use Rattle.path_rows.specs.declared.tree.Entry.{Entry}
-use Rattle.path_rows.specs.declared.tree.Entry.TheVariants.{Tighten, Split, Halve, Refute, Undone}
-use Rattle.path_rows.specs.Boxes.{IsInBox}
-use Rattle.path_rows.specs.Trees.{IsClosed, entry_count}
-use Rattle.path_rows.specs.Earnest.{IsEarnestTree}
-use Rattle.path_rows.specs.OpenPlaces.{UndoneLast}
-use Rattle.path_rows.specs.Text.{FitsEntry}
+use Rattle.design_problem.specs.Forms.{Form}
+use Rattle.design_problem.specs.declared.form.CostBox.{CostBox}
+use Rattle.design_problem.specs.declared.tree.Entry.{Entry}
+use Rattle.design_problem.specs.declared.tree.Entry.TheVariants.{Tighten, Split, Halve, Refute, Undone}
+use Rattle.design_problem.specs.Boxes.{IsInBox}
+use Rattle.design_problem.specs.Trees.{IsClosed, entry_count}
+use Rattle.design_problem.specs.Earnest.{IsEarnestTree}
+use Rattle.design_problem.specs.OpenPlaces.{UndoneLast}
+use Rattle.design_problem.specs.Text.{FitsEntry}
 use Rattle.form_search.specs.declared.found.Found.{Found}
-use Rattle.form_search.specs.declared.found.Found.TheVariants.{Costs, Refuted, Spent}
+use Rattle.form_search.specs.declared.found.Found.TheVariants.{Costs, Refuted, Undecided}
 
 -- a Refute names at most one form more than there are variables
 abbrev pub HasFewParts : ℕ → Entry → Type 0
@@ -35,7 +35,7 @@ pub record IsSearchTree (accepted : Point → Type 0) (top : ℕ) (forms : List 
 
 -- What a search over a box finds: costs of the box that are accepted; a closed tree of at most N entries; or, where the
 -- budget was used up, a tree with an Undone and exactly N entries.
-abbrev pub IsFound : (Point → Type 0) → ℕ → ℕ → List Form → CostBox → Found → Type 0
-IsFound accepted top nodes forms box (Costs w) = IsInBox box w × accepted (at_costs w)
-IsFound accepted top nodes forms box (Refuted tree) = IsSearchTree accepted top forms box tree × IsClosed tree × (entry_count tree ≤ nodes)
-IsFound accepted top nodes forms box (Spent tree) = IsSearchTree accepted top forms box tree × Contains tree Undone × (entry_count tree ≡ nodes)
+abbrev pub IsSearchResult : (Point → Type 0) → ℕ → ℕ → List Form → CostBox → Found → Type 0
+IsSearchResult accepted top nodes forms box (Costs w) = IsInBox box w × accepted (at_costs w)
+IsSearchResult accepted top nodes forms box (Refuted tree) = IsSearchTree accepted top forms box tree × IsClosed tree × (entry_count tree ≤ nodes)
+IsSearchResult accepted top nodes forms box (Undecided tree) = IsSearchTree accepted top forms box tree × Contains tree Undone × (entry_count tree ≡ nodes)

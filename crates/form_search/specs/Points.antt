@@ -1,14 +1,14 @@
 -- Points of a box, whole and fractional. No public clause cites it.
 use Rattle.std.specs.Prelude.{◌≡◌, ℕ, ◌+◌, ◌*◌, ◌^◌, ◌<◌, ◌≤◌, ◌%◌, slice_index, All, length}
 use Rattle.area_graph.specs.declared.Point.{Point}
-use Rattle.path_rows.specs.declared.form.CostBox.{CostBox}
-use Rattle.path_rows.specs.Boxes.{IsBox}
-use Rattle.path_rows.specs.Earnest.{IsLeast}
-use Rattle.advisor_box.specs.declared.candidate.Candidate.{Candidate}
+use Rattle.design_problem.specs.declared.form.CostBox.{CostBox}
+use Rattle.design_problem.specs.Boxes.{IsBox}
+use Rattle.design_problem.specs.Earnest.{IsLeastPoint}
+use Rattle.cut_advisors.specs.declared.candidate.Candidate.{Candidate}
 
 -- every value is whole
-abbrev pub IsWholePoint : Point → Type 0
-IsWholePoint point = All (λ x. x % point.scale ≡ 0) point.values
+abbrev pub IsIntegralPoint : Point → Type 0
+IsIntegralPoint point = All (λ x. x % point.scale ≡ 0) point.values
 
 -- a box of costs from 1 on in n variables
 pub record IsCostsBox (n : ℕ) (box : CostBox) : Type 0 where
@@ -19,7 +19,7 @@ pub record IsCostsBox (n : ℕ) (box : CostBox) : Type 0 where
 
 -- the least accepted point of a box, of a scale below 2^100
 pub record IsLeastOf (accepted : Point → Type 0) (box : CostBox) (point : Point) : Type 0 where
-  pub least : IsLeast accepted box point
+  pub least : IsLeastPoint accepted box point
   pub small : point.scale < 2 ^ 100
 
 -- the candidate's variable is fractional at the point, between its floor and the next whole number, and its range is the box's

@@ -1,8 +1,8 @@
 -- Sources of forms: the points that they accept, and the forms that are true of these.
 use Rattle.std.specs.Prelude.{◌≡◌, ℕ, ◌*◌, ◌^◌, ◌<◌, ◌≤◌, ◌↔◌, List, ◌++◌, pos, ◌<ℤ◌, ◌≤ℤ◌, nat_abs, map, length, All, Contains}
 use Rattle.area_graph.specs.declared.Point.{Point}
-use Rattle.path_rows.specs.Forms.{Form}
-use Rattle.path_rows.specs.Forms.{value, value_at}
+use Rattle.design_problem.specs.Forms.{Form}
+use Rattle.design_problem.specs.Forms.{value_for_costs, value_at}
 use Rattle.form_search.specs.declared.source.Asked.{Asked}
 use Rattle.form_search.specs.declared.source.Asked.TheVariants.{Nothing, Added}
 
@@ -10,7 +10,7 @@ use Rattle.form_search.specs.declared.source.Asked.TheVariants.{Nothing, Added}
 pub record IsTrueForm (n : ℕ) (accepted : Point → Type 0) (form : Form) : Type 0 where
   pub count : length form.coefficients ≡ n
   pub sizes : All (λ c. nat_abs c ≤ 2 ^ 26) form.coefficients
-  pub values : (w : List ℕ) → length w ≡ n → All (λ x. (1 ≤ x) × (x ≤ 65535)) w → nat_abs (value form w) < 2 ^ 27
+  pub values : (w : List ℕ) → length w ≡ n → All (λ x. (1 ≤ x) × (x ≤ 65535)) w → nat_abs (value_for_costs form w) < 2 ^ 27
   pub met : (point : Point) → length point.values ≡ n → accepted point → pos 0 ≤ℤ value_at form point
 
 -- a point of costs: a value for each of n variables, from 1 to 65,535, times the scale
@@ -51,6 +51,6 @@ pub record HasNewRival (point : Point) (old new : List Form) : Type 0 where
   pub negative : value_at form point <ℤ pos 0
 
 -- Nothing exactly where the point is accepted; then the pool is as before
-abbrev pub IsAnswered : (Point → Type 0) → Point → List Form → List Form → Asked → Type 0
-IsAnswered accepted point old new Nothing = accepted point × (new ≡ old)
-IsAnswered accepted point old new Added = (accepted point → ⊥) × HasNewRival point old new
+abbrev pub IsSourceAnswer : (Point → Type 0) → Point → List Form → List Form → Asked → Type 0
+IsSourceAnswer accepted point old new Nothing = accepted point × (new ≡ old)
+IsSourceAnswer accepted point old new Added = (accepted point → ⊥) × HasNewRival point old new

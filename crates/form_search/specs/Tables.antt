@@ -1,13 +1,13 @@
 -- What a tableau that is kept holds, and what it tells of a box. No public clause cites it.
 use Rattle.std.specs.Prelude.{◌≡◌, ◌≢◌, ℕ, ◌+◌, ◌^◌, ◌<◌, ◌≤◌, List, [], length, take, Option, Some, None}
 use Rattle.area_graph.specs.declared.Point.{Point}
-use Rattle.path_rows.specs.Forms.{Form, AreMet}
-use Rattle.path_rows.specs.declared.form.CostBox.{CostBox}
-use Rattle.path_rows.specs.declared.tree.WideAt.{WideAt}
-use Rattle.path_rows.specs.Boxes.{Refutes}
-use Rattle.path_rows.specs.Steps.{IsTooWide}
-use Rattle.path_rows.specs.Earnest.{IsLeast}
-use Rattle.path_rows.specs.Text.{IsPrinted}
+use Rattle.design_problem.specs.Forms.{Form, AreMet}
+use Rattle.design_problem.specs.declared.form.CostBox.{CostBox}
+use Rattle.design_problem.specs.declared.tree.WideAt.{WideAt}
+use Rattle.design_problem.specs.Boxes.{Refutes}
+use Rattle.design_problem.specs.Steps.{IsStepTooWide}
+use Rattle.design_problem.specs.Earnest.{IsLeastPoint}
+use Rattle.design_problem.specs.Text.{IsPrintedRatio}
 use Rattle.fraction_table.specs.Tableaus.{Held, IsGoing, wide_at}
 use Rattle.fraction_table.specs.declared.stage.SimplexStop.{SimplexStop}
 use Rattle.fraction_table.specs.declared.stage.SimplexStop.TheVariants.{TooWide as StepTooWide, OutOfMemory}
@@ -27,12 +27,12 @@ pub record IsHeld (top n : ℕ) (forms : List Form) (table : HeldTableau) : Type
   pub rows : table.tableau.rows ≡ take taken forms
   pub all : IsGoing table.tableau.stage → taken ≡ table.held
 
--- one that is kept, if there is one
-abbrev pub IsKept : ℕ → ℕ → List Form → Option HeldTableau → Type 0
-IsKept top n forms None = Unit {0}
-IsKept top n forms (Some table) = IsHeld top n forms table
+-- a tableau that is kept from box to box, if there is one
+abbrev pub IsTableauKept : ℕ → ℕ → List Form → Option HeldTableau → Type 0
+IsTableauKept top n forms None = Unit {0}
+IsTableauKept top n forms (Some table) = IsHeld top n forms table
 
--- it stands over the box, and goes
+-- the tableau stands over the box, and no step has stopped it
 pub record StandsAt (top : ℕ) (box : CostBox) (forms : List Form) (table : HeldTableau) : Type 0 where
   pub is_held : IsHeld top (length box.low) forms table
   pub costs : table.tableau.costs ≡ box
@@ -40,9 +40,9 @@ pub record StandsAt (top : ℕ) (box : CostBox) (forms : List Form) (table : Hel
 
 -- a step that is too wide, as it is printed
 pub record IsPrintedWide (top : ℕ) (box : CostBox) (forms : List Form) (wide : WideAt) : Type 0 where
-  pub too_wide : IsTooWide top box forms wide
-  pub left : IsPrinted wide.left
-  pub right : IsPrinted wide.right
+  pub too_wide : IsStepTooWide top box forms wide
+  pub left : IsPrintedRatio wide.left
+  pub right : IsPrintedRatio wide.right
   pub some : wide.basis ≢ []
 
 -- multipliers that refute the box, of few forms
@@ -51,18 +51,18 @@ pub record RefutesBy (box : CostBox) (forms : List Form) (parts : List (ℕ × �
   pub few : length parts ≤ length box.low + 1
 
 -- what the tableau tells: the least point of the box that meets the forms, multipliers, or a step that is too wide
-abbrev pub IsTold : ℕ → CostBox → List Form → Point → Least → Type 0
-IsTold top box forms point AtPoint = IsLeast (AreMet forms) box point × (point.scale < 2 ^ 100)
-IsTold top box forms point (Refuted parts) = RefutesBy box forms parts
-IsTold top box forms point (Wide wide) = IsPrintedWide top box forms wide
+abbrev pub IsLeastTold : ℕ → CostBox → List Form → Point → Least → Type 0
+IsLeastTold top box forms point AtPoint = IsLeastPoint (AreMet forms) box point × (point.scale < 2 ^ 100)
+IsLeastTold top box forms point (Refuted parts) = RefutesBy box forms parts
+IsLeastTold top box forms point (Wide wide) = IsPrintedWide top box forms wide
 
 -- the step that stopped the work is too wide at the tableau's basis, with the forms that it holds
 abbrev pub IsStepTold : CostBox → List Form → Held → SimplexStop → Type 0
-IsStepTold box forms held (StepTooWide wide) = IsTooWide held.top box held.rows (wide_at wide held.basis)
+IsStepTold box forms held (StepTooWide wide) = IsStepTooWide held.top box held.rows (wide_at wide held.basis)
 IsStepTold box forms held OutOfMemory = Unit {0}
 
 -- what the relaxation of a box comes to: its least accepted point, multipliers that refute it, or a step that is too wide
-abbrev pub IsRelaxed : (Point → Type 0) → ℕ → CostBox → List Form → Point → Relaxed → Type 0
-IsRelaxed accepted top box forms point Accepted = IsLeastOf accepted box point
-IsRelaxed accepted top box forms point (NoneIsMet parts) = RefutesBy box forms parts
-IsRelaxed accepted top box forms point (TooWide wide) = IsPrintedWide top box forms wide
+abbrev pub IsRelaxation : (Point → Type 0) → ℕ → CostBox → List Form → Point → Relaxed → Type 0
+IsRelaxation accepted top box forms point Accepted = IsLeastOf accepted box point
+IsRelaxation accepted top box forms point (NoneIsMet parts) = RefutesBy box forms parts
+IsRelaxation accepted top box forms point (TooWide wide) = IsPrintedWide top box forms wide

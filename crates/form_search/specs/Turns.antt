@@ -4,27 +4,27 @@ use Rattle.std.specs.declared.ops.ControlFlow.{ControlFlow}
 use Rattle.std.specs.declared.ops.ControlFlow.TheVariants.{Break, Continue}
 use Rattle.area_graph.specs.declared.Point.{Point}
 use Rattle.area_graph.specs.Costs.{at_costs}
-use Rattle.path_rows.specs.Forms.{Form}
-use Rattle.path_rows.specs.declared.form.CostBox.{CostBox}
-use Rattle.path_rows.specs.declared.tree.Entry.{Entry}
-use Rattle.path_rows.specs.declared.tree.Entry.TheVariants.{Tighten, Split, Halve, Refute, Undone}
-use Rattle.path_rows.specs.Boxes.{IsInBox, Refutes}
-use Rattle.path_rows.specs.Trees.{SoundAt, TightensAt, is_undone}
-use Rattle.path_rows.specs.Earnest.{EarnestAt, Place}
-use Rattle.path_rows.specs.OpenPlaces.{Growing, grown, undones}
+use Rattle.design_problem.specs.Forms.{Form}
+use Rattle.design_problem.specs.declared.form.CostBox.{CostBox}
+use Rattle.design_problem.specs.declared.tree.Entry.{Entry}
+use Rattle.design_problem.specs.declared.tree.Entry.TheVariants.{Tighten, Split, Halve, Refute, Undone}
+use Rattle.design_problem.specs.Boxes.{IsInBox, Refutes}
+use Rattle.design_problem.specs.Trees.{SoundAt, TightensAt, is_undone}
+use Rattle.design_problem.specs.Earnest.{EarnestAt, OpenPlace}
+use Rattle.design_problem.specs.OpenPlaces.{Growing, grown, undones}
 use Rattle.form_search.specs.declared.found.Found.{Found}
-use Rattle.form_search.specs.declared.found.Found.TheVariants.{Costs as FoundCosts, Spent}
+use Rattle.form_search.specs.declared.found.Found.TheVariants.{Costs as FoundCosts, Undecided}
 use Rattle.form_search.specs.declared.turn.Next.{Next}
 use Rattle.form_search.specs.declared.turn.Next.TheVariants.{Forms, Costs, Entry as ByEntry}
 use Rattle.form_search.specs.declared.turn.Desk.{Desk}
 use Rattle.form_search.specs.declared.watch.Watch.{Watch}
-use Rattle.advisor_box.specs.declared.candidate.Candidate.{Candidate}
+use Rattle.cut_advisors.specs.declared.candidate.Candidate.{Candidate}
 use Rattle.form_search.specs.Finds.{IsShort}
 use Rattle.form_search.specs.Points.{IsFractional}
-use Rattle.form_search.specs.Tables.{IsKept}
+use Rattle.form_search.specs.Tables.{IsTableauKept}
 
 -- an entry that may come next at the place, over the pool's forms
-pub record IsNextEntry (accepted : Point → Type 0) (top : ℕ) (forms : List Form) (place : Place) (entry : Entry) : Type 0 where
+pub record IsNextEntry (accepted : Point → Type 0) (top : ℕ) (forms : List Form) (place : OpenPlace) (entry : Entry) : Type 0 where
   pub sound : SoundAt forms place.box entry
   pub earnest : EarnestAt accepted top forms place entry
   pub short : IsShort (length place.box.low) entry
@@ -35,11 +35,12 @@ pub record IsFormIn (n : ℕ) (form : Form) : Type 0 where
   pub count : length form.coefficients ≡ n
   pub sizes : All (λ c. nat_abs c ≤ 2 ^ 26) form.coefficients
 
+-- forms in n variables, with coefficients of at most 2^26
 abbrev pub AreFormsOf : ℕ → List Form → Type 0
 AreFormsOf n forms = All (IsFormIn n) forms
 
 -- the entry by one form: it may come next whatever the points that are accepted
-abbrev pub IsNextRow : List Form → Place → Entry → Type 0
+abbrev pub IsNextRow : List Form → OpenPlace → Entry → Type 0
 IsNextRow forms place (Tighten var side value row) = TightensAt forms place.box side var value row
     × EarnestAt (λ point. ⊥) 0 forms place (Tighten var side value row)
 IsNextRow forms place (Split var value) = ⊥
@@ -60,10 +61,10 @@ pub record HasNew (old new : List Form) : Type 0 where
   pub not_old : Contains old form → ⊥
 
 -- what may come next at the place: new forms, costs of its box that are accepted, or an entry
-abbrev pub IsNext : (Point → Type 0) → ℕ → List Form → List Form → Place → Next → Type 0
-IsNext accepted top old new place Forms = HasNew old new
-IsNext accepted top old new place (Costs w) = IsInBox place.box w × accepted (at_costs w)
-IsNext accepted top old new place (ByEntry entry) = IsNextEntry accepted top new place entry
+abbrev pub IsNextStep : (Point → Type 0) → ℕ → List Form → List Form → OpenPlace → Next → Type 0
+IsNextStep accepted top old new place Forms = HasNew old new
+IsNextStep accepted top old new place (Costs w) = IsInBox place.box w × accepted (at_costs w)
+IsNextStep accepted top old new place (ByEntry entry) = IsNextEntry accepted top new place entry
 
 -- a watch over n variables
 pub record IsWatch (n : ℕ) (watch : Watch) : Type 0 where
@@ -74,7 +75,7 @@ pub record IsWatch (n : ℕ) (watch : Watch) : Type 0 where
 -- what is kept from box to box, in n variables
 pub record IsDesk (top n : ℕ) (forms : List Form) (desk : Desk) : Type 0 where
   pub watch : IsWatch n desk.watch
-  pub table : IsKept top n forms desk.table
+  pub table : IsTableauKept top n forms desk.table
   pub point : length desk.point.values ≡ n
 
 -- an entry that comes next is sound over some forms
@@ -89,4 +90,4 @@ abbrev pub turned : ℕ → Growing → Next → ControlFlow Found Growing
 turned nodes tree Forms = Continue tree
 turned nodes tree (Costs w) = Break (FoundCosts w)
 turned nodes tree (ByEntry entry) =
-    if length tree.entries == nodes then Break (Spent (tree.entries ++ undones (length tree.places))) else Continue (grown tree entry)
+    if length tree.entries == nodes then Break (Undecided (tree.entries ++ undones (length tree.places))) else Continue (grown tree entry)

@@ -2,15 +2,15 @@
 ghost use Rattle.std.specs.Prelude.{◌≡◌, ◌≢◌, ℕ, ◌<◌, List, length, All, IfOk, IfSome, OnOk};
 ghost use Rattle.area_graph.specs.declared.Point.{Point};
 ghost use Rattle.area_graph.specs.Costs.{at_costs};
-ghost use Rattle.path_rows.specs.declared.form.CostBox.{CostBox};
-ghost use Rattle.path_rows.specs.declared.tree.Side.{Side};
-ghost use Rattle.path_rows.specs.Forms.{Form};
-ghost use Rattle.path_rows.specs.Boxes.{IsInBox, IsPointOf};
-ghost use Rattle.path_rows.specs.OpenPlaces.{first_place};
+ghost use Rattle.design_problem.specs.declared.form.CostBox.{CostBox};
+ghost use Rattle.design_problem.specs.declared.tree.Side.{Side};
+ghost use Rattle.design_problem.specs.Forms.{Form};
+ghost use Rattle.design_problem.specs.Boxes.{IsInBox, IsPointOf};
+ghost use Rattle.design_problem.specs.OpenPlaces.{first_place};
 ghost use Rattle.form_search.specs.Advised.{AreCalled};
 ghost use Rattle.form_search.specs.Sources.{Grows, SameFor, SameSource};
-ghost use Rattle.form_search.specs.Points.{IsCostsBox, IsFractional, IsLeastOf, IsWholePoint};
-ghost use Rattle.form_search.specs.Turns.{IsDesk, IsNext, IsSplitAt};
+ghost use Rattle.form_search.specs.Points.{IsCostsBox, IsFractional, IsLeastOf, IsIntegralPoint};
+ghost use Rattle.form_search.specs.Turns.{IsDesk, IsNextStep, IsSplitAt};
 
 use crate::candidates::candidates_of;
 use crate::one_point::{at_one_point, is_one_point};
@@ -20,10 +20,10 @@ use crate::relaxation::{Relaxed, relax};
 use crate::turn::{Desk, Next, halved};
 use crate::watch::Watch;
 use crate::{FormPool, RowSource};
-use advisor_box::{Advisor, Candidate, choose};
 use area_graph::Point;
 use cost_base::OutOfMemory;
-use path_rows::{CostBox, CostList, Entry, TreeBuilder};
+use cut_advisors::{Advisor, Candidate, choose};
+use design_problem::{CostBox, CostList, Entry, TreeBuilder};
 use std::alloc::Global;
 use wide_fraction::Top;
 
@@ -38,7 +38,7 @@ fn costs_there<S: RowSource>(
     requires ranges { IsCostsBox (S.count source.old) costs.now }
     requires least { IsLeastOf (S.accepted source.old) costs.now point.old }
     ensures found { IfOk result (λ found. IfSome found (λ w. IsInBox costs.now w × S.accepted source.old (at_costs w))) }
-    ensures fractional { result ≡ Ok None → IsWholePoint point.old → ⊥ }
+    ensures fractional { result ≡ Ok None → IsIntegralPoint point.old → ⊥ }
     ensures point { point.new ≡ point.old }
     ensures in_step { SameFor (S.in_step source.old) (S.in_step source.new) }
     ensures same { SameSource S.count S.accepted S.true_form S.candidates source.old source.new }
@@ -74,7 +74,7 @@ fn split_there(
 ) -> Result<Entry, OutOfMemory>
     requires ranges { IsCostsBox (length costs.now.low) costs.now }
     requires inside { IsPointOf costs.now point.now }
-    requires fractional { IsWholePoint point.now → ⊥ }
+    requires fractional { IsIntegralPoint point.now → ⊥ }
     ensures split { IfOk result (IsSplitAt costs.now point.now) }
     ensures advisors { AreCalled ⟦<dyn Advisor as Advisor>⟧ (λ b. b.vtable) (λ b. state b) advisors.old.items advisors.new.items }
 {
@@ -95,7 +95,7 @@ fn at_least_point<S: RowSource>(
     requires ranges { IsCostsBox (S.count source.old) costs.now }
     requires least { IsLeastOf (S.accepted source.old) costs.now point.old }
     ensures next { IfOk result (λ next. (top : ℕ) (old new : List Form) (since : List (ℕ × Side)) →
-        IsNext (S.accepted source.old) top old new (record { box = costs.now; since = since }) next) }
+        IsNextStep (S.accepted source.old) top old new (record { box = costs.now; since = since }) next) }
     ensures point { point.new ≡ point.old }
     ensures in_step { SameFor (S.in_step source.old) (S.in_step source.new) }
     ensures same { SameSource S.count S.accepted S.true_form S.candidates source.old source.new }
@@ -124,7 +124,7 @@ fn at_box<S: RowSource>(
     requires more { costs.now.low ≢ costs.now.high }
     requires desk { IsDesk top (S.count source.old) pool.old desk.old }
     ensures next { IfOk result (λ next. (since : List (ℕ × Side)) →
-        IsNext (S.accepted source.old) top pool.old pool.new (record { box = costs.now; since = since }) next) }
+        IsNextStep (S.accepted source.old) top pool.old pool.new (record { box = costs.now; since = since }) next) }
     ensures desk { OnOk result (IsDesk top (S.count source.old) pool.new desk.new) }
     ensures grows { Grows (S.true_form source.old) pool.old pool.new }
     ensures in_step { OnOk result (S.in_step source.new pool.new) }
@@ -169,7 +169,7 @@ pub(crate) fn next_at<S: RowSource>(
     requires open { 0 < length tree.now.places }
     requires ranges { IsCostsBox (S.count source.old) (first_place tree.now.places).box }
     requires desk { IsDesk top (S.count source.old) pool.old desk.old }
-    ensures next { IfOk result (IsNext (S.accepted source.old) top pool.old pool.new (first_place tree.now.places)) }
+    ensures next { IfOk result (IsNextStep (S.accepted source.old) top pool.old pool.new (first_place tree.now.places)) }
     ensures desk { OnOk result (IsDesk top (S.count source.old) pool.new desk.new) }
     ensures grows { Grows (S.true_form source.old) pool.old pool.new }
     ensures in_step { OnOk result (S.in_step source.new pool.new) }

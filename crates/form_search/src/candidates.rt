@@ -1,13 +1,13 @@
 //! The variables at which a box may be split.
 ghost use Rattle.std.specs.Prelude.{◌≡◌, ℕ, ◌%◌, ◌^◌, ◌<◌, ◌≤◌, length, slice_index, All, IfOk, OnOk};
-ghost use Rattle.path_rows.specs.Boxes.{IsPointOf};
-ghost use Rattle.form_search.specs.Points.{IsCostsBox, IsFractional, IsWholePoint};
+ghost use Rattle.design_problem.specs.Boxes.{IsPointOf};
+ghost use Rattle.form_search.specs.Points.{IsCostsBox, IsFractional, IsIntegralPoint};
 
 use crate::watch::Watch;
-use advisor_box::Candidate;
 use area_graph::Point;
 use cost_base::OutOfMemory;
-use path_rows::CostBox;
+use cut_advisors::Candidate;
+use design_problem::CostBox;
 use std::alloc::Global;
 
 /// Where a candidate stands: first those of wide ranges, the widest first; then the others, those in more forms first;
@@ -71,7 +71,7 @@ fn fractional(alloc: Global, point: &Point, costs: &CostBox) -> Result<Vec<Candi
     requires ranges { IsCostsBox (length costs.now.low) costs.now }
     requires inside { IsPointOf costs.now point.now }
     ensures fractional { IfOk result (λ found. All (IsFractional costs.now point.now) found.items) }
-    ensures some { (IsWholePoint point.now → ⊥) → IfOk result (λ found. 0 < length found.items) }
+    ensures some { (IsIntegralPoint point.now → ⊥) → IfOk result (λ found. 0 < length found.items) }
 {
     let mut candidates = Vec::new(alloc);
     for var in 0..point.values.as_slice().len() {
@@ -90,7 +90,7 @@ pub(crate) fn candidates_of(
     requires ranges { IsCostsBox (length costs.now.low) costs.now }
     requires inside { IsPointOf costs.now point.now }
     ensures fractional { IfOk result (λ found. All (IsFractional costs.now point.now) found.items) }
-    ensures some { (IsWholePoint point.now → ⊥) → IfOk result (λ found. 0 < length found.items) }
+    ensures some { (IsIntegralPoint point.now → ⊥) → IfOk result (λ found. 0 < length found.items) }
 {
     let mut candidates = fractional(alloc, point, costs)?;
     candidates.sort_unstable_by_key(|candidate| rank_of(

@@ -1,5 +1,5 @@
 //! What a search finds.
-use path_rows::{CostList, Tree};
+use design_problem::{CostList, Tree};
 
 /// What a search over a box found.
 #[derive(Drop)]
@@ -9,5 +9,5 @@ pub enum Found {
     /// No costs of the box are accepted, as this closed tree shows.
     Refuted(Tree),
     /// The budget was used up by this tree, which has boxes left that nothing is said of.
-    Spent(Tree),
+    Undecided(Tree),
 }

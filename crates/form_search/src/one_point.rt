@@ -1,10 +1,10 @@
 //! Boxes of one point.
 ghost use Rattle.std.specs.Prelude.{◌≡◌, ℕ, pos, ◌≤ℤ◌, List, length, All, IfOk, IsTrue, OnOk, ◌↔◌};
-ghost use Rattle.path_rows.specs.declared.tree.Side.{Side};
-ghost use Rattle.path_rows.specs.Boxes.{greatest};
+ghost use Rattle.design_problem.specs.declared.tree.Side.{Side};
+ghost use Rattle.design_problem.specs.Boxes.{greatest};
 ghost use Rattle.form_search.specs.Sources.{Grows, SameSource};
 ghost use Rattle.form_search.specs.Points.{IsCostsBox};
-ghost use Rattle.form_search.specs.Turns.{IsNext};
+ghost use Rattle.form_search.specs.Turns.{IsNextStep};
 
 use crate::points::{low_costs, put_costs};
 use crate::propagation::{first_negative, refute_by};
@@ -12,7 +12,7 @@ use crate::turn::Next;
 use crate::{Asked, FormPool, RowSource};
 use area_graph::Point;
 use cost_base::OutOfMemory;
-use path_rows::CostBox;
+use design_problem::CostBox;
 use std::alloc::Global;
 
 /// Whether the box has one point.
@@ -36,7 +36,7 @@ fn ask_there<S: RowSource>(
     requires met { All (λ form. pos 0 ≤ℤ greatest form costs.now) pool.old }
     requires places { length point.old.values ≡ S.count source.old }
     ensures next { (top : ℕ) (since : List (ℕ × Side)) →
-        IfOk result (IsNext (S.accepted source.old) top pool.old pool.new (record { box = costs.now; since = since })) }
+        IfOk result (IsNextStep (S.accepted source.old) top pool.old pool.new (record { box = costs.now; since = since })) }
     ensures places { length point.new.values ≡ length point.old.values }
     ensures grows { Grows (S.true_form source.old) pool.old pool.new }
     ensures in_step { OnOk result (S.in_step source.new pool.new) }
@@ -63,7 +63,7 @@ pub(crate) fn at_one_point<S: RowSource>(
     requires one { costs.now.low ≡ costs.now.high }
     requires places { length point.old.values ≡ S.count source.old }
     ensures next { (top : ℕ) (since : List (ℕ × Side)) →
-        IfOk result (IsNext (S.accepted source.old) top pool.old pool.new (record { box = costs.now; since = since })) }
+        IfOk result (IsNextStep (S.accepted source.old) top pool.old pool.new (record { box = costs.now; since = since })) }
     ensures places { length point.new.values ≡ length point.old.values }
     ensures grows { Grows (S.true_form source.old) pool.old pool.new }
     ensures in_step { OnOk result (S.in_step source.new pool.new) }

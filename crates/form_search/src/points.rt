@@ -1,14 +1,14 @@
 //! Points and costs.
 ghost use Rattle.std.specs.Prelude.{◌≡◌, ℕ, ◌*◌, ◌≤◌, ◌<◌, length, slice_index, All, IfOk, IsTrue, ◌↔◌};
 ghost use Rattle.area_graph.specs.Costs.{at_costs};
-ghost use Rattle.path_rows.specs.Boxes.{IsInBox, IsPointOf};
+ghost use Rattle.design_problem.specs.Boxes.{IsInBox, IsPointOf};
 ghost use Rattle.form_search.specs.Sources.{SameFor, SameSource, scaled};
-ghost use Rattle.form_search.specs.Points.{IsCostsBox, IsWholePoint};
+ghost use Rattle.form_search.specs.Points.{IsCostsBox, IsIntegralPoint};
 
 use crate::RowSource;
 use area_graph::Point;
 use cost_base::{Listed, OutOfMemory};
-use path_rows::{CostBox, CostList};
+use design_problem::{CostBox, CostList};
 use std::alloc::Global;
 
 /// A point with a place for each variable.
@@ -37,7 +37,7 @@ pub(crate) fn put_costs(point: &mut Point, costs: &CostBox)
 /// Whether every value of the point is whole.
 pub(crate) fn is_whole(point: &Point) -> bool
     requires { 0 < point.now.scale }
-    ensures { IsTrue result ↔ IsWholePoint point.now }
+    ensures { IsTrue result ↔ IsIntegralPoint point.now }
 {
     let scale = point.scale;
     point.values.as_slice().iter().all(|x| *x % scale == 0)
@@ -47,7 +47,7 @@ pub(crate) fn is_whole(point: &Point) -> bool
 pub(crate) fn whole_costs(alloc: Global, point: &Point) -> Result<CostList, OutOfMemory>
     requires scale { 0 < point.now.scale }
     requires most { All (λ x. x ≤ 65535 * point.now.scale) point.now.values }
-    requires whole { IsWholePoint point.now }
+    requires whole { IsIntegralPoint point.now }
     ensures { IfOk result (λ costs. scaled costs point.now.scale ≡ point.now) }
 {
     let scale = point.scale;

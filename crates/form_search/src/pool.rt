@@ -2,7 +2,7 @@
 ghost use Rattle.std.specs.Prelude.{◌≡◌, ◌++◌, [], ◌∷◌, take, OnOk, OnErr};
 
 use cost_base::OutOfMemory;
-use path_rows::Form;
+use design_problem::Form;
 use std::alloc::Global;
 use std::marker::Model;
 
@@ -14,7 +14,7 @@ pub struct FormPool {
 
 impl Model for FormPool {
     ghost use Rattle.std.specs.Prelude.{List};
-    ghost use Rattle.path_rows.specs.Forms.{Form};
+    ghost use Rattle.design_problem.specs.Forms.{Form};
 
     ghost Value = { List Form };
 

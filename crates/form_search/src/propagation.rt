@@ -1,10 +1,10 @@
 //! What the forms say of a box, one by one.
 ghost use Rattle.std.specs.Prelude.{◌≡◌, ℕ, ◌<◌, ◌^◌, ◌≤◌, [], ◌∷◌, ◌<ℤ◌, ◌≤ℤ◌, pos, List, length, nat_abs, All, IfOk, IfSome, MatchOption, None, OnOk};
-ghost use Rattle.path_rows.specs.declared.tree.Entry.TheVariants.{Refute};
-ghost use Rattle.path_rows.specs.Forms.{Form};
-ghost use Rattle.path_rows.specs.Boxes.{greatest};
-ghost use Rattle.path_rows.specs.Forms.{form_at};
-ghost use Rattle.path_rows.specs.OpenPlaces.{first_place};
+ghost use Rattle.design_problem.specs.declared.tree.Entry.TheVariants.{Refute};
+ghost use Rattle.design_problem.specs.Forms.{Form};
+ghost use Rattle.design_problem.specs.Boxes.{greatest};
+ghost use Rattle.design_problem.specs.Forms.{form_at};
+ghost use Rattle.design_problem.specs.OpenPlaces.{first_place};
 ghost use Rattle.form_search.specs.Points.{IsCostsBox};
 ghost use Rattle.form_search.specs.Turns.{AreFormsOf, IsFormIn, IsNextRow, IsWatch};
 
@@ -12,7 +12,7 @@ use crate::FormPool;
 use crate::watch::Watch;
 use bound_propagation::tighten;
 use cost_base::OutOfMemory;
-use path_rows::{CostBox, Entry, Form, Parts, TreeBuilder, greatest_over};
+use design_problem::{CostBox, Entry, Form, Parts, TreeBuilder, greatest_over};
 use std::alloc::Global;
 
 /// The Refute by one form.

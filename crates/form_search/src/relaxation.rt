@@ -1,17 +1,17 @@
 //! The relaxation of a box: its least accepted point, or why there is none.
 ghost use Rattle.std.specs.Prelude.{◌≡◌, ℕ, ◌^◌, ◌<◌, length, All, IfOk, IfSome, None, OnOk};
-ghost use Rattle.path_rows.specs.Earnest.{IsLeast};
-ghost use Rattle.path_rows.specs.Forms.{AreMet};
+ghost use Rattle.design_problem.specs.Earnest.{IsLeastPoint};
+ghost use Rattle.design_problem.specs.Forms.{AreMet};
 ghost use Rattle.form_search.specs.Sources.{Grows, SameSource};
 ghost use Rattle.form_search.specs.Points.{IsCostsBox};
-ghost use Rattle.form_search.specs.Tables.{IsHeld, IsKept, IsRelaxed, StandsAt};
+ghost use Rattle.form_search.specs.Tables.{IsHeld, IsTableauKept, IsRelaxation, StandsAt};
 ghost use Rattle.form_search.specs.Turns.{HasNew};
 
 use crate::table::{HeldTableau, Least, moved};
 use crate::{Asked, FormPool, RowSource};
 use area_graph::Point;
 use cost_base::OutOfMemory;
-use path_rows::{CostBox, Parts, WideAt};
+use design_problem::{CostBox, Parts, WideAt};
 use std::alloc::Global;
 use wide_fraction::Top;
 
@@ -37,9 +37,9 @@ fn ask_least<S: RowSource>(
     requires in_step { S.in_step source.old pool.old }
     requires true_forms { All (S.true_form source.old) pool.old }
     requires ranges { IsCostsBox (S.count source.old) costs.now }
-    requires least { IsLeast (AreMet pool.old) costs.now point.now }
+    requires least { IsLeastPoint (AreMet pool.old) costs.now point.now }
     requires small { point.now.scale < 2 ^ 100 }
-    ensures relaxed { (top : ℕ) → IfOk result (λ found. IfSome found (IsRelaxed (S.accepted source.old) top costs.now pool.new point.now)) }
+    ensures relaxed { (top : ℕ) → IfOk result (λ found. IfSome found (IsRelaxation (S.accepted source.old) top costs.now pool.new point.now)) }
     ensures more { result ≡ Ok None → HasNew pool.old pool.new }
     ensures grows { Grows (S.true_form source.old) pool.old pool.new }
     ensures in_step { OnOk result (S.in_step source.new pool.new) }
@@ -66,7 +66,7 @@ fn relax_once<S: RowSource>(
     requires some { 0 < S.count source.old }
     requires stands { StandsAt table.old.tableau.top costs.now pool.old table.old }
     requires places { length point.old.values ≡ S.count source.old }
-    ensures relaxed { IfOk result (λ found. IfSome found (IsRelaxed (S.accepted source.old) table.old.tableau.top costs.now pool.new point.new)) }
+    ensures relaxed { IfOk result (λ found. IfSome found (IsRelaxation (S.accepted source.old) table.old.tableau.top costs.now pool.new point.new)) }
     ensures more { result ≡ Ok None → HasNew pool.old pool.new }
     ensures stands { result ≡ Ok None → StandsAt table.old.tableau.top costs.now pool.new table.new }
     ensures held { OnOk result (IsHeld table.old.tableau.top (length costs.now.low) pool.new table.new) }
@@ -97,7 +97,7 @@ fn relax_by<S: RowSource>(
     requires some { 0 < S.count source.old }
     requires stands { StandsAt table.old.tableau.top costs.now pool.old table.old }
     requires places { length point.old.values ≡ S.count source.old }
-    ensures relaxed { IfOk result (IsRelaxed (S.accepted source.old) table.old.tableau.top costs.now pool.new point.new) }
+    ensures relaxed { IfOk result (IsRelaxation (S.accepted source.old) table.old.tableau.top costs.now pool.new point.new) }
     ensures held { OnOk result (IsHeld table.old.tableau.top (length costs.now.low) pool.new table.new) }
     ensures places { length point.new.values ≡ length point.old.values }
     ensures grows { Grows (S.true_form source.old) pool.old pool.new }
@@ -126,10 +126,10 @@ pub(crate) fn relax<S: RowSource>(
     requires true_forms { All (S.true_form source.old) pool.old }
     requires ranges { IsCostsBox (S.count source.old) costs.now }
     requires some { 0 < S.count source.old }
-    requires kept { IsKept top (S.count source.old) pool.old kept.old }
+    requires kept { IsTableauKept top (S.count source.old) pool.old kept.old }
     requires places { length point.old.values ≡ S.count source.old }
-    ensures relaxed { IfOk result (IsRelaxed (S.accepted source.old) top costs.now pool.new point.new) }
-    ensures kept { OnOk result (IsKept top (S.count source.old) pool.new kept.new) }
+    ensures relaxed { IfOk result (IsRelaxation (S.accepted source.old) top costs.now pool.new point.new) }
+    ensures kept { OnOk result (IsTableauKept top (S.count source.old) pool.new kept.new) }
     ensures places { length point.new.values ≡ length point.old.values }
     ensures grows { Grows (S.true_form source.old) pool.old pool.new }
     ensures in_step { OnOk result (S.in_step source.new pool.new) }

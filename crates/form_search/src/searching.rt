@@ -1,12 +1,12 @@
-//! The search: boxes in preorder, with a tree of cases as its evidence.
+//! The search: boxes in preorder, with a branching tree as its evidence.
 ghost use Rattle.std.specs.Prelude.{◌≡◌, ℕ, ◌<◌, ◌≤◌, ◌++◌, List, [], ◌∷◌, length, All, IfOk, OnOk};
 ghost use Rattle.std.specs.List.{AllZip};
-ghost use Rattle.path_rows.specs.Forms.{Form};
-ghost use Rattle.path_rows.specs.Boxes.{IsBox};
-ghost use Rattle.path_rows.specs.Trees.{IsWholeTree, SoundAt};
-ghost use Rattle.path_rows.specs.OpenPlaces.{first_place, fresh, grown, undones};
+ghost use Rattle.design_problem.specs.Forms.{Form};
+ghost use Rattle.design_problem.specs.Boxes.{IsBox};
+ghost use Rattle.design_problem.specs.Trees.{IsSingleTree, SoundAt};
+ghost use Rattle.design_problem.specs.OpenPlaces.{first_place, fresh, grown, undones};
 ghost use Rattle.form_search.specs.Advised.{AreCalled};
-ghost use Rattle.form_search.specs.Finds.{IsFound};
+ghost use Rattle.form_search.specs.Finds.{IsSearchResult};
 ghost use Rattle.form_search.specs.Points.{IsCostsBox};
 ghost use Rattle.form_search.specs.Sources.{Grows, SameSource};
 ghost use Rattle.form_search.specs.Turns.{IsSoundNext, turned};
@@ -14,9 +14,9 @@ ghost use Rattle.form_search.specs.Turns.{IsSoundNext, turned};
 use crate::at_box::next_at;
 use crate::turn::{Desk, Next};
 use crate::{FormPool, Found, RowSource};
-use advisor_box::{Advisor, tell};
 use cost_base::{Listed, OutOfMemory};
-use path_rows::{CostBox, Entry, TreeBuilder};
+use cut_advisors::{Advisor, tell};
+use design_problem::{CostBox, Entry, TreeBuilder};
 use std::alloc::Global;
 use std::ops::ControlFlow;
 use wide_fraction::Limits;
@@ -60,7 +60,7 @@ fn turn(
 ) -> Result<ControlFlow<Found, TreeBuilder>, OutOfMemory>
     requires open { 0 < length tree.places }
     requires sound { IsSoundNext (first_place tree.places).box next }
-    requires whole { IsWholeTree (tree.entries ++ undones (length tree.places)) }
+    requires whole { IsSingleTree (tree.entries ++ undones (length tree.places)) }
     ensures outcome { IfOk result (λ outcome. outcome ≡ turned nodes tree next) }
     ensures advisors { AreCalled ⟦<dyn Advisor as Advisor>⟧ (λ b. b.vtable) (λ b. state b) advisors.old.items advisors.new.items }
 {
@@ -69,7 +69,7 @@ fn turn(
         Next::Costs(costs) => Ok(ControlFlow::Break(Found::Costs(costs))),
         Next::Entry(entry) => {
             if tree.entries().len() as u64 == nodes {
-                return Ok(ControlFlow::Break(Found::Spent(tree.undone()?.into_tree())));
+                return Ok(ControlFlow::Break(Found::Undecided(tree.undone()?.into_tree())));
             }
             Ok(ControlFlow::Continue(with_told(tree, entry, advisors)?))
         }
@@ -99,7 +99,7 @@ pub fn search<S: RowSource>(
     requires true_forms { All (S.true_form source.old) pool.old }
     requires ranges { IsBox (S.count source.old) costs.now }
     requires lows { All (λ low. 1 ≤ low) costs.now.low }
-    ensures found { IfOk result (IsFound (S.accepted source.old) limits.now.top limits.now.nodes pool.new costs.now) }
+    ensures found { IfOk result (IsSearchResult (S.accepted source.old) limits.now.top limits.now.nodes pool.new costs.now) }
     ensures grows { Grows (S.true_form source.old) pool.old pool.new }
     ensures in_step { OnOk result (S.in_step source.new pool.new) }
     ensures same { SameSource S.count S.accepted S.true_form S.candidates source.old source.new }

@@ -1,7 +1,7 @@
 //! Sources of forms.
 ghost use Rattle.std.specs.Prelude.{◌≡◌, IfOk, OnOk, IsTrue, ◌↔◌};
-ghost use Rattle.path_rows.specs.Forms.{AreMet};
-ghost use Rattle.form_search.specs.Sources.{Grows, IsAnswered, IsCostPoint, SameFor, SameSource};
+ghost use Rattle.design_problem.specs.Forms.{AreMet};
+ghost use Rattle.form_search.specs.Sources.{Grows, IsSourceAnswer, IsCostPoint, SameFor, SameSource};
 
 use crate::FormPool;
 use area_graph::Point;
@@ -26,7 +26,7 @@ pub trait RowSource {
     ghost use Rattle.std.specs.Prelude.{◌≡◌, ℕ, ◌*◌, ◌<◌, List, map, Contains};
     ghost use Rattle.area_graph.specs.declared.Point.{Point};
     ghost use Rattle.area_graph.specs.Costs.{at_costs};
-    ghost use Rattle.path_rows.specs.Forms.{Form};
+    ghost use Rattle.design_problem.specs.Forms.{Form};
     ghost use Rattle.form_search.specs.Sources.{IsTrueForm, scaled};
 
     ghost count: { Self → ℕ };
@@ -58,7 +58,7 @@ pub trait RowSource {
         requires in_step { in_step self.old pool.old }
         requires point { IsCostPoint (count self.old) point.now }
         requires met { AreMet pool.old point.now }
-        ensures answer { IfOk result (λ asked. IsAnswered (accepted self.old) point.now pool.old pool.new asked) }
+        ensures answer { IfOk result (λ asked. IsSourceAnswer (accepted self.old) point.now pool.old pool.new asked) }
         ensures grows { Grows (true_form self.old) pool.old pool.new }
         ensures in_step { OnOk result (in_step self.new pool.new) }
         ensures same { SameSource count accepted true_form candidates self.old self.new };

@@ -1,17 +1,17 @@
 //! The tableau that is kept from box to box.
 ghost use Rattle.std.specs.Prelude.{◌≡◌, ℕ, ◌^◌, ◌<◌, List, length, All, IfErr, IfOk, OnErr, OnOk};
-ghost use Rattle.path_rows.specs.Forms.{Form};
-ghost use Rattle.path_rows.specs.Boxes.{IsBox};
-ghost use Rattle.path_rows.specs.Steps.{IsTooWide, ratio_of};
-ghost use Rattle.path_rows.specs.Text.{IsPrinted};
+ghost use Rattle.design_problem.specs.Forms.{Form};
+ghost use Rattle.design_problem.specs.Boxes.{IsBox};
+ghost use Rattle.design_problem.specs.Steps.{IsStepTooWide, ratio_of};
+ghost use Rattle.design_problem.specs.Text.{IsPrintedRatio};
 ghost use Rattle.fraction_table.specs.Tableaus.{FitsBox, IsGoing, wide_at};
-ghost use Rattle.form_search.specs.Tables.{IsHeld, IsKept, IsPrintedWide, IsStepTold, IsTold, StandsAt};
+ghost use Rattle.form_search.specs.Tables.{IsHeld, IsTableauKept, IsPrintedWide, IsStepTold, IsLeastTold, StandsAt};
 
 use area_graph::Point;
 use cost_base::{Listed, OutOfMemory, Ratio};
+use design_problem::{CostBox, Form, Parts, WideAt};
 use exact_simplex::Tableau;
 use fraction_table::{SimplexStop, Solved};
-use path_rows::{CostBox, Form, Parts, WideAt};
 use std::alloc::Global;
 use wide_fraction::{Frac, Top, Wide};
 
@@ -43,8 +43,8 @@ pub(crate) fn moved(
 ) -> Result<HeldTableau, OutOfMemory>
     requires ranges { IsBox (length costs.now.low) costs.now }
     requires few { length costs.now.low < 2 ^ 32 }
-    requires fits { (forms : List Form) × IsKept top (length costs.now.low) forms kept × All (FitsBox costs.now) forms }
-    ensures { (forms : List Form) → IsKept top (length costs.now.low) forms kept → IfOk result (StandsAt top costs.now forms) }
+    requires fits { (forms : List Form) × IsTableauKept top (length costs.now.low) forms kept × All (FitsBox costs.now) forms }
+    ensures { (forms : List Form) → IsTableauKept top (length costs.now.low) forms kept → IfOk result (StandsAt top costs.now forms) }
 {
     if let Some(mut table) = kept {
         if table.tableau.rebase(costs).is_ok() {
@@ -60,7 +60,7 @@ pub(crate) fn moved(
 /// The fraction as it is printed.
 fn ratio_of(fraction: Frac) -> Ratio
     ensures ratio { result ≡ ratio_of fraction }
-    ensures printed { IsPrinted result }
+    ensures printed { IsPrintedRatio result }
 {
     Ratio {
         numerator: fraction.numerator(),
@@ -96,7 +96,7 @@ impl HeldTableau {
         requires stands { StandsAt self.old.tableau.top self.old.tableau.costs forms.now self.old }
         requires fits { All (FitsBox self.old.tableau.costs) forms.now }
         requires places { length point.old.values ≡ length self.old.tableau.costs.low }
-        ensures told { IfOk result (IsTold self.old.tableau.top self.old.tableau.costs forms.now point.new) }
+        ensures told { IfOk result (IsLeastTold self.old.tableau.top self.old.tableau.costs forms.now point.new) }
         ensures stands { OnOk result (StandsAt self.old.tableau.top self.old.tableau.costs forms.now self.new) }
         ensures held { IsHeld self.old.tableau.top (length self.old.tableau.costs.low) forms.now self.new }
         ensures costs { self.new.tableau.costs ≡ self.old.tableau.costs }
@@ -119,7 +119,7 @@ impl HeldTableau {
 
     /// The step that was too wide, with the basis at which it was taken.
     fn wide_at(&self, alloc: Global, wide: Wide) -> Result<WideAt, OutOfMemory>
-        requires wide { IsTooWide self.now.tableau.top self.now.tableau.costs self.now.tableau.rows (wide_at wide self.now.tableau.basis) }
+        requires wide { IsStepTooWide self.now.tableau.top self.now.tableau.costs self.now.tableau.rows (wide_at wide self.now.tableau.basis) }
         requires some { 0 < length self.now.tableau.costs.low }
         ensures { IfOk result (IsPrintedWide self.now.tableau.top self.now.tableau.costs self.now.tableau.rows) }
     {
@@ -143,7 +143,7 @@ impl HeldTableau {
         requires fits { All (FitsBox self.old.tableau.costs) forms.now }
         requires some { 0 < length self.old.tableau.costs.low }
         requires places { length point.old.values ≡ length self.old.tableau.costs.low }
-        ensures told { IfOk result (IsTold self.old.tableau.top self.old.tableau.costs forms.now point.new) }
+        ensures told { IfOk result (IsLeastTold self.old.tableau.top self.old.tableau.costs forms.now point.new) }
         ensures stands { result ≡ Ok Least.Point → StandsAt self.old.tableau.top self.old.tableau.costs forms.now self.new }
         ensures held { IsHeld self.old.tableau.top (length self.old.tableau.costs.low) forms.now self.new }
         ensures costs { self.new.tableau.costs ≡ self.old.tableau.costs }

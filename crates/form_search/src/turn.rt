@@ -1,9 +1,9 @@
 //! What comes next at the open box.
 ghost use Rattle.std.specs.Prelude.{◌≡◌, ◌≢◌, ℕ, ◌^◌, ◌<◌, ◌≤◌, List, length, slice_index, IfOk};
-ghost use Rattle.path_rows.specs.Forms.{Form};
-ghost use Rattle.path_rows.specs.Boxes.{IsBox};
-ghost use Rattle.path_rows.specs.declared.tree.Entry.TheVariants.{Halve};
-ghost use Rattle.path_rows.specs.Trees.{CutsAt};
+ghost use Rattle.design_problem.specs.Forms.{Form};
+ghost use Rattle.design_problem.specs.Boxes.{IsBox};
+ghost use Rattle.design_problem.specs.declared.tree.Entry.TheVariants.{Halve};
+ghost use Rattle.design_problem.specs.Trees.{CutsAt};
 ghost use Rattle.form_search.specs.Turns.{IsDesk};
 
 use crate::points::blank_point;
@@ -11,7 +11,7 @@ use crate::table::HeldTableau;
 use crate::watch::Watch;
 use area_graph::Point;
 use cost_base::OutOfMemory;
-use path_rows::{CostBox, CostList, Entry, WideAt};
+use design_problem::{CostBox, CostList, Entry, WideAt};
 use std::alloc::Global;
 
 /// What comes next at a box.

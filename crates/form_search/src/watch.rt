@@ -3,7 +3,7 @@ ghost use Rattle.std.specs.Prelude.{◌≡◌, ℕ, ◌<◌, ◌≤◌, ◌++◌
 ghost use Rattle.form_search.specs.Turns.{IsWatch};
 
 use cost_base::OutOfMemory;
-use path_rows::{CostBox, Form};
+use design_problem::{CostBox, Form};
 use std::alloc::Global;
 
 /// The forms of a pool that may say something about the box at work. A form that was looked at without a step leaves

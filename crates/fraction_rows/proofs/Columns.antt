@@ -5,8 +5,8 @@ use Rattle.std.proofs.lemmas.Bool.{cases_lt}
 use Rattle.std.proofs.lemmas.Bool.Decides.{nat_tests}
 use Rattle.cost_base.proofs.ListLemmas.{each_append}
 use Rattle.whole_numbers.specs.Fractions.{Fraction, IsLowest}
-use Rattle.fraction_rows.specs.TableRows.{IsNumber, Rises, fraction_at, nothing}
-use Rattle.fraction_rows.specs.Entries.{AllNumbers, IsPut, head_column, head_fraction, after_column, replaced}
+use Rattle.fraction_rows.specs.TableRows.{IsTableNumber, Rises, fraction_at, nothing}
+use Rattle.fraction_rows.specs.Entries.{AllNumbers, IsPutAtEnd, head_column, head_fraction, after_column, replaced}
 use Rattle.fraction_rows.proofs.ZeroFractions.{lowest_zero}
 
 pub same_test : (a b : ℕ) → a ≡ b → (a == b) ≡ true
@@ -130,40 +130,40 @@ pub ends_empty : (low high : ℕ) (es : List (ℕ × Fraction)) → Rises low hi
 ends_empty low high [] rises ended = refl
 ends_empty low high (e ∷ es) rises ended = absurd (omega (arith, rises.1))
 
-pub head_number : (top : ℕ) (es : List (ℕ × Fraction)) (c : ℕ) → IsNumber top nothing → AllNumbers top es → IsNumber top (head_fraction es c)
+pub head_number : (top : ℕ) (es : List (ℕ × Fraction)) (c : ℕ) → IsTableNumber top nothing → AllNumbers top es → IsTableNumber top (head_fraction es c)
 head_number top [] c zero_is numbers = zero_is
-head_number top (e ∷ es) c zero_is numbers = test_cases (IsNumber top) e.0 c e.1 nothing (λ same. numbers.0) (λ other. zero_is)
+head_number top (e ∷ es) c zero_is numbers = test_cases (IsTableNumber top) e.0 c e.1 nothing (λ same. numbers.0) (λ other. zero_is)
 
 pub after_numbers : (top : ℕ) (es : List (ℕ × Fraction)) (c : ℕ) → AllNumbers top es → AllNumbers top (after_column es c)
 after_numbers top [] c numbers = tt
 after_numbers top (e ∷ es) c numbers = test_cases (AllNumbers top) e.0 c es (e ∷ es) (λ same. numbers.1) (λ other. numbers)
 
-pub put_rises : (mid c : ℕ) (q : Fraction) (old new : List (ℕ × Fraction)) → Rises 0 mid old → mid ≤ c → IsPut old c q new → Rises 0 (suc c) new
+pub put_rises : (mid c : ℕ) (q : Fraction) (old new : List (ℕ × Fraction)) → Rises 0 mid old → mid ≤ c → IsPutAtEnd old c q new → Rises 0 (suc c) new
 put_rises mid c q old new rises after put =
     elim put [
       | inl none ↦ subst (λ (es : List (ℕ × Fraction)). Rises 0 (suc c) es) (sym none.1) (rises_widen 0 mid (suc c) old rises (omega arith))
       | inr some ↦ subst (λ (es : List (ℕ × Fraction)). Rises 0 (suc c) es) (sym some.1) (rises_push 0 mid c q old rises after (omega arith) some.0)
     ]
 
-pub put_here : (mid c : ℕ) (q : Fraction) (old new : List (ℕ × Fraction)) → IsLowest q → Rises 0 mid old → mid ≤ c → IsPut old c q new → fraction_at new c ≡ q
+pub put_here : (mid c : ℕ) (q : Fraction) (old new : List (ℕ × Fraction)) → IsLowest q → Rises 0 mid old → mid ≤ c → IsPutAtEnd old c q new → fraction_at new c ≡ q
 put_here mid c q old new q_lowest rises after put =
     elim put [
       | inl none ↦ ap (λ (es : List (ℕ × Fraction)). fraction_at es c) none.1 ∙ at_above 0 mid old c rises after ∙ sym (lowest_zero q q_lowest none.0)
       | inr some ↦ ap (λ (es : List (ℕ × Fraction)). fraction_at es c) some.1 ∙ push_here 0 mid c q old rises after
     ]
 
-pub put_other : (c k : ℕ) (q : Fraction) (old new : List (ℕ × Fraction)) → c ≢ k → IsPut old c q new → fraction_at new k ≡ fraction_at old k
+pub put_other : (c k : ℕ) (q : Fraction) (old new : List (ℕ × Fraction)) → c ≢ k → IsPutAtEnd old c q new → fraction_at new k ≡ fraction_at old k
 put_other c k q old new other put =
     elim put [
       | inl none ↦ ap (λ (es : List (ℕ × Fraction)). fraction_at es k) none.1
       | inr some ↦ ap (λ (es : List (ℕ × Fraction)). fraction_at es k) some.1 ∙ push_other c k q old other
     ]
 
-pub put_numbers : (top c : ℕ) (q : Fraction) (old new : List (ℕ × Fraction)) → AllNumbers top old → IsNumber top q → IsPut old c q new → AllNumbers top new
+pub put_numbers : (top c : ℕ) (q : Fraction) (old new : List (ℕ × Fraction)) → AllNumbers top old → IsTableNumber top q → IsPutAtEnd old c q new → AllNumbers top new
 put_numbers top c q old new numbers q_is put =
     elim put [
       | inl none ↦ subst (AllNumbers top) (sym none.1) numbers
-      | inr some ↦ subst (AllNumbers top) (sym some.1) (each_append (λ (e : ℕ × Fraction). IsNumber top e.1) old ((c, q) ∷ []) numbers (q_is, tt))
+      | inr some ↦ subst (AllNumbers top) (sym some.1) (each_append (λ (e : ℕ × Fraction). IsTableNumber top e.1) old ((c, q) ∷ []) numbers (q_is, tt))
     ]
 
 -- each column of a list from some place on is at least the list's least

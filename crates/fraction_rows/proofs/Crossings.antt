@@ -3,7 +3,7 @@ use Rattle.std.proofs.Common.{◌≡◌, ◌≢◌, ℕ, suc, ◌<◌, ◌≤◌
 use Rattle.std.proofs.lemmas.Bool.{cases_lt}
 use Rattle.whole_numbers.specs.Fractions.{Fraction, IsLowest}
 use Rattle.fraction_rows.specs.TableRows.{Rises, fraction_at, nothing}
-use Rattle.fraction_rows.specs.Entries.{IsMade, IsPut, head_column, head_fraction, after_column}
+use Rattle.fraction_rows.specs.Entries.{IsMade, IsPutAtEnd, head_column, head_fraction, after_column}
 use Rattle.fraction_rows.proofs.Columns.{at_above, rises_widen, head_at, after_rises, after_at, before_head, head_from, ends_empty, rises_length, put_rises, put_here, put_other}
 
 abbrev pub Entries : Type 0
@@ -32,7 +32,7 @@ pub crossing_turns : (width : ℕ) (target : ℕ → Fraction → Fraction → F
     ((k : ℕ) → target k nothing nothing ≡ nothing) → IsLowest value →
     Crossing width target first second olds quotients made →
     c ≡ min (head_column olds width) (head_column quotients width) → c < width →
-    value ≡ target c (head_fraction olds c) (head_fraction quotients c) → IsPut made c value new_made →
+    value ≡ target c (head_fraction olds c) (head_fraction quotients c) → IsPutAtEnd made c value new_made →
     Crossing width target first second (after_column olds c) (after_column quotients c) new_made
 crossing_turns width target first second olds quotients made new_made c value keeps value_lowest crossing c_is c_in value_is put =
     let olds_first : c ≤ head_column olds width = omega arith in

@@ -7,8 +7,8 @@ use Rattle.cost_base.specs.declared.StepName.TheVariants.{Sub, Mul, Div}
 use Rattle.cost_base.proofs.ListLemmas.{length-map-numbers_from, map-numbers_from-agree, get_or-map-numbers_from, each_mapped}
 use Rattle.whole_numbers.specs.Fractions.{Fraction, minus, times, divided}
 use Rattle.wide_fraction.specs.declared.steps.Wide.{Wide}
-use Rattle.path_rows.specs.Basis.{entry}
-use Rattle.fraction_rows.specs.TableRows.{AreNumbers, IsCrossStep, IsDivideStep, IsNumber, IsWideStep, Rises, crossed_by, divided_without, filled, fraction_at, nothing}
+use Rattle.design_problem.specs.Basis.{entry}
+use Rattle.fraction_rows.specs.TableRows.{AreTableNumbers, IsCrossStep, IsDivideStep, IsTableNumber, IsWideStep, Rises, crossed_by, divided_without, filled, fraction_at, nothing}
 use Rattle.fraction_rows.specs.TableRows.IsCrossStep.{product, difference}
 use Rattle.fraction_rows.specs.TableRows.IsDivideStep.{quotient}
 use Rattle.fraction_rows.specs.Entries.{AllNumbers, IsMade, IsPassing, IsQuotientStep, IsTermStep, crossed_at, divided_at}
@@ -84,36 +84,36 @@ row_divided left_out divisor c w es new made =
     (map-numbers_from-agree (fraction_at new) (λ k. divided_at left_out divisor k (fraction_at es k) nothing) 0 w (λ k from k_in. made k (omega arith))
     ∙ divided_mapped left_out divisor (fraction_at es) 0 w)
 
-mapped_number : (top : ℕ) (f : ℕ → Fraction) (a n k : ℕ) → AreNumbers top (map f (numbers_from a n)) → k < n → IsNumber top (f (a + k))
+mapped_number : (top : ℕ) (f : ℕ → Fraction) (a n k : ℕ) → AreTableNumbers top (map f (numbers_from a n)) → k < n → IsTableNumber top (f (a + k))
 mapped_number top f a zero k numbers k_in = absurd (omega arith)
-mapped_number top f a (suc n) zero numbers k_in = subst (λ (m : ℕ). IsNumber top (f m)) (sym (add-zero a)) numbers.0
+mapped_number top f a (suc n) zero numbers k_in = subst (λ (m : ℕ). IsTableNumber top (f m)) (sym (add-zero a)) numbers.0
 mapped_number top f a (suc n) (suc k) numbers k_in =
     let e : (a + 1) + k ≡ a + suc k = omega arith in
-    subst (λ (m : ℕ). IsNumber top (f m)) e (mapped_number top f (a + 1) n k numbers.1 (omega arith))
+    subst (λ (m : ℕ). IsTableNumber top (f m)) e (mapped_number top f (a + 1) n k numbers.1 (omega arith))
 
-all_at : (top : ℕ) (es : List (ℕ × Fraction)) (k : ℕ) → IsNumber top nothing → AllNumbers top es → IsNumber top (fraction_at es k)
+all_at : (top : ℕ) (es : List (ℕ × Fraction)) (k : ℕ) → IsTableNumber top nothing → AllNumbers top es → IsTableNumber top (fraction_at es k)
 all_at top [] k zero_is numbers = zero_is
-all_at top (e ∷ es) k zero_is numbers = test_cases (IsNumber top) e.0 k e.1 (fraction_at es k) (λ same. numbers.0) (λ other. all_at top es k zero_is numbers.1)
+all_at top (e ∷ es) k zero_is numbers = test_cases (IsTableNumber top) e.0 k e.1 (fraction_at es k) (λ same. numbers.0) (λ other. all_at top es k zero_is numbers.1)
 
 each_at : (top low high : ℕ) (es : List (ℕ × Fraction)) → Rises low high es →
-    ((k : ℕ) → low ≤ k → k < high → IsNumber top (fraction_at es k)) → AllNumbers top es
+    ((k : ℕ) → low ≤ k → k < high → IsTableNumber top (fraction_at es k)) → AllNumbers top es
 each_at top low high [] rises each = tt
 each_at top low high (e ∷ es) rises each = (
-  subst (IsNumber top) (fraction_here e es e.0 refl) (each e.0 rises.0 rises.1),
-  each_at top (suc e.0) high es rises.3 (λ k from k_in. subst (IsNumber top) (fraction_there e es k (apart k from)) (each k (omega (arith, rises.0)) k_in)),
+  subst (IsTableNumber top) (fraction_here e es e.0 refl) (each e.0 rises.0 rises.1),
+  each_at top (suc e.0) high es rises.3 (λ k from k_in. subst (IsTableNumber top) (fraction_there e es k (apart k from)) (each k (omega (arith, rises.0)) k_in)),
 )
   where
     apart : (k : ℕ) → suc e.0 ≤ k → e.0 ≢ k
     apart k h = omega arith
 
 -- the fractions of a row are numbers of the table where its constant and its entries are
-pub row_numbers : (top : ℕ) (c : Fraction) (w : ℕ) (es : List (ℕ × Fraction)) → IsNumber top c → AllNumbers top es → AreNumbers top (c ∷ filled w es)
+pub row_numbers : (top : ℕ) (c : Fraction) (w : ℕ) (es : List (ℕ × Fraction)) → IsTableNumber top c → AllNumbers top es → AreTableNumbers top (c ∷ filled w es)
 row_numbers top c w es c_is numbers =
-    (c_is, each_mapped (IsNumber top) (fraction_at es) (numbers_from 0 w) (λ k. all_at top es k (nothing_number top c c_is) numbers))
+    (c_is, each_mapped (IsTableNumber top) (fraction_at es) (numbers_from 0 w) (λ k. all_at top es k (nothing_number top c c_is) numbers))
 
-pub entry_numbers : (top : ℕ) (c : Fraction) (w : ℕ) (es : List (ℕ × Fraction)) → Rises 0 w es → AreNumbers top (c ∷ filled w es) → AllNumbers top es
+pub entry_numbers : (top : ℕ) (c : Fraction) (w : ℕ) (es : List (ℕ × Fraction)) → Rises 0 w es → AreTableNumbers top (c ∷ filled w es) → AllNumbers top es
 entry_numbers top c w es rises numbers =
-    each_at top 0 w es rises (λ k from k_in. subst (λ (m : ℕ). IsNumber top (fraction_at es m)) (zero-add k)
+    each_at top 0 w es rises (λ k from k_in. subst (λ (m : ℕ). IsTableNumber top (fraction_at es m)) (zero-add k)
     (mapped_number top (fraction_at es) 0 w k numbers.1 k_in))
 
 -- a step on the fractions of a place is a step of the rows

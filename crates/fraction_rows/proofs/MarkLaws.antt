@@ -7,29 +7,29 @@ use mir.Syntax.{w128}
 use Rattle.std.proofs.lemmas.List.Elements.{All-nil, All-cons, All-head, All-tail, All-push, All-weaker}
 use Rattle.whole_numbers.specs.Fractions.{Fraction}
 use Rattle.fraction_rows.specs.TableRows.{fraction_at, nothing}
-use Rattle.fraction_rows.specs.Entries.{IsPut, replaced}
+use Rattle.fraction_rows.specs.Entries.{IsPutAtEnd, replaced}
 use Rattle.fraction_rows.specs.declared.marks.Marks.{Marks}
-use Rattle.fraction_rows.specs.Marks.{AllMarked, IsMarked, IsSet}
+use Rattle.fraction_rows.specs.Marks.{AllMarked, IsColumnMarked, IsSet}
 use Rattle.fraction_rows.proofs.Columns.{fraction_there, test_cases}
 
 abbrev HasMark : Marks → (ℕ × Fraction) → Type 0
-HasMark marks e = IsMarked marks e.0
+HasMark marks e = IsColumnMarked marks e.0
 
 -- a column without a mark has 0
-pub unmarked_nothing : (marks : Marks) (es : List (ℕ × Fraction)) (k : ℕ) → AllMarked marks es → (IsMarked marks k → ⊥) → fraction_at es k ≡ nothing
+pub unmarked_nothing : (marks : Marks) (es : List (ℕ × Fraction)) (k : ℕ) → AllMarked marks es → (IsColumnMarked marks k → ⊥) → fraction_at es k ≡ nothing
 unmarked_nothing marks [] k marked none = refl
 unmarked_nothing marks (e ∷ es) k marked none =
-    fraction_there e es k (λ same. none (subst (IsMarked marks) same (All-head (HasMark marks) e es marked)))
+    fraction_there e es k (λ same. none (subst (IsColumnMarked marks) same (All-head (HasMark marks) e es marked)))
     ∙ unmarked_nothing marks es k (All-tail (HasMark marks) e es marked) none
 
 -- marks that are kept
-pub more_marks : (marks more : Marks) (es : List (ℕ × Fraction)) → ((k : ℕ) → IsMarked marks k → IsMarked more k) → AllMarked marks es → AllMarked more es
+pub more_marks : (marks more : Marks) (es : List (ℕ × Fraction)) → ((k : ℕ) → IsColumnMarked marks k → IsColumnMarked more k) → AllMarked marks es → AllMarked more es
 more_marks marks more es kept marked = All-weaker (HasMark marks) (HasMark more) (λ e here. kept e.0 here) es marked
 
 -- a column that is put
 pub put_marked : (marks more : Marks) (column : ℕ) (value : Fraction) (old new : List (ℕ × Fraction)) →
-    ((k : ℕ) → IsMarked marks k → IsMarked more k) → IsMarked more column → AllMarked marks old →
-    IsPut old column value new → AllMarked more new
+    ((k : ℕ) → IsColumnMarked marks k → IsColumnMarked more k) → IsColumnMarked more column → AllMarked marks old →
+    IsPutAtEnd old column value new → AllMarked more new
 put_marked marks more column value old new kept here marked (inl same) =
     subst (AllMarked more) (sym same.1) (more_marks marks more old kept marked)
 put_marked marks more column value old new kept here marked (inr put) =

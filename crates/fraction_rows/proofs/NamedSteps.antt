@@ -2,7 +2,7 @@
 use Rattle.std.proofs.Common.{◌≡◌, ◌<◌, ℕ, sym, subst}
 use Rattle.std.specs.Prelude.{Result, Ok, Err, IfErr, OnErr, Any}
 use Rattle.cost_base.specs.declared.StepName.{StepName}
-use Rattle.whole_numbers.specs.Fractions.{Fraction, listed}
+use Rattle.whole_numbers.specs.Fractions.{Fraction, numbers_of_step}
 use Rattle.wide_fraction.specs.declared.steps.Wide.{Wide}
 use Rattle.wide_fraction.specs.Widths.{Passes}
 use Rattle.fraction_rows.specs.Entries.{IsPassing}
@@ -12,4 +12,4 @@ pub named_passes : {X : Type 0} (r : Result X Wide) (top : ℕ) (step : StepName
     IfErr r (λ wide. IsPassing top wide)
 named_passes (Ok q) top step left right named passes = tt
 named_passes (Err wide) top step left right named passes =
-    subst (λ (w : Wide). Any (λ n. top < n) (listed w.step w.left w.right)) (sym named) passes
+    subst (λ (w : Wide). Any (λ n. top < n) (numbers_of_step w.step w.left w.right)) (sym named) passes

@@ -6,10 +6,10 @@ use native.Mathlib.Nat.{div-one, mul-one, mul-zero, zero-div, zero-mod}
 use Rattle.std.proofs.Math.Nat.{div_self}
 use Rattle.cost_base.specs.declared.StepName.TheVariants.{Mul, Sub}
 use Rattle.cost_base.proofs.ListLemmas.{all_from_each}
-use Rattle.whole_numbers.specs.Fractions.{Fraction, gcd, gcd_within, listed}
+use Rattle.whole_numbers.specs.Fractions.{Fraction, gcd, gcd_within, numbers_of_step}
 use Rattle.whole_numbers.proofs.Divisors.{gcd-one}
 use Rattle.whole_numbers.proofs.Ring.{var, num, ◌⊗◌, ring}
-use Rattle.fraction_rows.specs.TableRows.{IsNumber, nothing}
+use Rattle.fraction_rows.specs.TableRows.{IsTableNumber, nothing}
 
 none_passes : (top : ℕ) (ns : List ℕ) → AllByRecursion (λ n. n ≤ top) ns → Any (λ n. top < n) ns → ⊥
 none_passes top ns most any =
@@ -26,9 +26,9 @@ product_most top x d g h g_is h_is positive one_in =
     let second : (d / h) * (1 / g) ≡ 1 = ap (λ k. (d / k) * (1 / g)) h_is ∙ ap (λ k. (d / d) * (1 / k)) g_is ∙ ap (λ n. n * (1 / 1)) (div_self positive) in
     (omega (arith, first), (omega (arith, second, one_in), tt))
 
-pub no_product : (top : ℕ) (p : Fraction) → IsNumber top p → Any (λ n. top < n) (listed Mul p nothing) → ⊥
+pub no_product : (top : ℕ) (p : Fraction) → IsTableNumber top p → Any (λ n. top < n) (numbers_of_step Mul p nothing) → ⊥
 no_product top p is any =
-    none_passes top (listed Mul p nothing)
+    none_passes top (numbers_of_step Mul p nothing)
     (product_most top (nat_abs p.numerator) p.denominator (gcd (nat_abs p.numerator) 1) (gcd 0 p.denominator)
     (gcd-one (nat_abs p.numerator)) (zero-gcd p.denominator) is.lowest.positive
     (omega (arith, is.lowest.positive, is.within.denominator)))
@@ -52,8 +52,8 @@ sum_most top d g a g_is a_in d_in =
       (omega (arith, ap nat_abs v_is), (omega (arith, ap nat_abs s_is, a_in), (omega (arith, last_is, d_in), tt))),
     )
 
-pub no_difference : (top : ℕ) (p : Fraction) → IsNumber top p → Any (λ n. top < n) (listed Sub p nothing) → ⊥
+pub no_difference : (top : ℕ) (p : Fraction) → IsTableNumber top p → Any (λ n. top < n) (numbers_of_step Sub p nothing) → ⊥
 no_difference top p is any =
-    none_passes top (listed Sub p nothing)
+    none_passes top (numbers_of_step Sub p nothing)
     (sum_most top p.denominator (gcd p.denominator 1) p.numerator (gcd-one p.denominator) is.within.numerator is.within.denominator)
     any

@@ -4,14 +4,14 @@ use Rattle.std.specs.Prelude.{pos, ◌==◌, Any}
 use Rattle.std.proofs.lemmas.Bool.{cases_eq}
 use Rattle.cost_base.specs.declared.StepName.{StepName}
 use Rattle.cost_base.specs.declared.StepName.TheVariants.{Sub, Mul, Div}
-use Rattle.whole_numbers.specs.Fractions.{Fraction, divided, listed, times, whole}
-use Rattle.path_rows.specs.declared.form.Form.{Form}
-use Rattle.path_rows.specs.declared.form.CostBox.{CostBox}
-use Rattle.path_rows.specs.declared.tree.Member.{Member}
-use Rattle.path_rows.specs.Basis.{HasEntries, IsFormOf, entry}
-use Rattle.path_rows.specs.Steps.{IsPivot, IsStep}
-use Rattle.path_rows.specs.Steps.IsStep.{pivot_quotient, pivot_inverse, pivot_product, pivot_inverse_product, pivot_difference}
-use Rattle.fraction_rows.specs.TableRows.{AreNumbers, IsCrossStep, IsDivideStep, divided_without, nothing}
+use Rattle.whole_numbers.specs.Fractions.{Fraction, divided, numbers_of_step, times, whole}
+use Rattle.design_problem.specs.declared.form.Form.{Form}
+use Rattle.design_problem.specs.declared.form.CostBox.{CostBox}
+use Rattle.design_problem.specs.declared.tree.Member.{Member}
+use Rattle.design_problem.specs.Basis.{HasEntries, IsFormOf, entry}
+use Rattle.design_problem.specs.Steps.{IsPivot, IsTableStep}
+use Rattle.design_problem.specs.Steps.IsTableStep.{pivot_quotient, pivot_inverse, pivot_product, pivot_inverse_product, pivot_difference}
+use Rattle.fraction_rows.specs.TableRows.{AreTableNumbers, IsCrossStep, IsDivideStep, divided_without, nothing}
 use Rattle.fraction_rows.specs.TableRows.IsCrossStep.{product, difference}
 use Rattle.fraction_rows.specs.TableRows.IsDivideStep.{quotient}
 use Rattle.fraction_rows.specs.Turns.{IsQuotientStepOf, IsTurnStep}
@@ -27,17 +27,17 @@ pub record IsFormLine (top : ℕ) (costs : CostBox) (rows : List Form) (basis : 
   pub form : IsFormOf costs rows member
   pub entries : HasEntries costs rows basis member line
   pub count : length line ≡ suc (length basis)
-  pub numbers : AreNumbers top line
+  pub numbers : AreTableNumbers top line
 
 -- a division of the pivot's line
 pub quotient_is_step : (top : ℕ) (costs : CostBox) (rows : List Form) (basis : List Member)
     (lows : List (List Fraction)) (r : Member) (es : List Fraction) (j : ℕ) → IsFormLine top costs rows basis r es →
     IsPivot basis es j → (step : StepName) (left right : Fraction) → IsQuotientStepOf es j step left right →
-    IsStep costs rows basis lows step left right
+    IsTableStep costs rows basis lows step left right
 quotient_is_step top costs rows basis lows r es j l p Div left right inverting = pivot_inverse r es j l.form l.entries p
 quotient_is_step top costs rows basis lows r es j l p step left right (dividing s a b is) = divide_is s a b is
   where
-    divide_is : (made : StepName) (p' q' : Fraction) → IsDivideStep (entry es j) es made p' q' → IsStep costs rows basis lows made p' q'
+    divide_is : (made : StepName) (p' q' : Fraction) → IsDivideStep (entry es j) es made p' q' → IsTableStep costs rows basis lows made p' q'
     divide_is made p' q' (quotient place place_in) = pivot_quotient r es j place l.form l.entries p (omega (arith, l.count, place_in))
 
 -- the quotients at a place
@@ -67,15 +67,15 @@ crossing_is_step : (top : ℕ) (costs : CostBox) (rows : List Form) (basis : Lis
     (r f : Member) (es fs : List Fraction) (j : ℕ) → IsFormLine top costs rows basis r es → IsPivot basis es j →
     IsFormLine top costs rows basis f fs → (step : StepName) (left right : Fraction) →
     IsCrossStep (entry fs j) fs (divided_without j (entry es j) es 0) step left right →
-    Any (λ n. top < n) (listed step left right) → IsStep costs rows basis lows step left right
+    Any (λ n. top < n) (numbers_of_step step left right) → IsTableStep costs rows basis lows step left right
 crossing_is_step top costs rows basis lows r f es fs j l p m step left right (product place place_in) passes =
     elim (cases_eq place j) [
       | inl same ↦
           absurd (no_product top (entry fs j) (number_at top fs j m.numbers (omega (arith, m.count, p.column)))
-          (subst (λ (q : Fraction). Any (λ n. top < n) (listed Mul (entry fs j) q))
+          (subst (λ (q : Fraction). Any (λ n. top < n) (numbers_of_step Mul (entry fs j) q))
           (ap (entry (divided_without j (entry es j) es 0)) same ∙ quotient_own j (entry es j) es (omega (arith, l.count, p.column))) passes))
       | inr other ↦
-          subst (λ (q : Fraction). IsStep costs rows basis lows Mul (entry fs j) q)
+          subst (λ (q : Fraction). IsTableStep costs rows basis lows Mul (entry fs j) q)
           (sym (quotient_other j place (entry es j) es other (omega (arith, l.count, m.count, place_in))))
           (pivot_product r f es fs j place l.form l.entries p m.form m.entries (omega (arith, m.count, place_in)))
     ]
@@ -83,12 +83,12 @@ crossing_is_step top costs rows basis lows r f es fs j l p m step left right (di
     elim (cases_eq place j) [
       | inl same ↦
           absurd (no_difference top (entry fs place) (number_at top fs place m.numbers place_in)
-          (subst (λ (q : Fraction). Any (λ n. top < n) (listed Sub (entry fs place) q))
+          (subst (λ (q : Fraction). Any (λ n. top < n) (numbers_of_step Sub (entry fs place) q))
           (ap (λ (q : Fraction). times (entry fs j) q) (ap (entry (divided_without j (entry es j) es 0)) same
           ∙ quotient_own j (entry es j) es (omega (arith, l.count, p.column)))
           ∙ times_nothing (entry fs j) (number_at top fs j m.numbers (omega (arith, m.count, p.column))).lowest.positive) passes))
       | inr other ↦
-          subst (λ (q : Fraction). IsStep costs rows basis lows Sub (entry fs place) (times (entry fs j) q))
+          subst (λ (q : Fraction). IsTableStep costs rows basis lows Sub (entry fs place) (times (entry fs j) q))
           (sym (quotient_other j place (entry es j) es other (omega (arith, l.count, m.count, place_in))))
           (pivot_difference r f es fs j place l.form l.entries p m.form m.entries (omega (arith, m.count, place_in)))
     ]
@@ -97,7 +97,7 @@ pub turn_is_step : (top : ℕ) (costs : CostBox) (rows : List Form) (basis : Lis
     (r f : Member) (es fs : List Fraction) (j : ℕ) → IsFormLine top costs rows basis r es → IsPivot basis es j →
     IsFormLine top costs rows basis f fs → (step : StepName) (left right : Fraction) →
     IsTurnStep fs (divided_without j (entry es j) es 0) j (divided (whole (pos 1)) (entry es j)) step left right →
-    Any (λ n. top < n) (listed step left right) → IsStep costs rows basis lows step left right
+    Any (λ n. top < n) (numbers_of_step step left right) → IsTableStep costs rows basis lows step left right
 turn_is_step top costs rows basis lows r f es fs j l p m step left right entering passes = pivot_inverse_product r f es fs j l.form l.entries p m.form m.entries
 turn_is_step top costs rows basis lows r f es fs j l p m step left right (crossing s a b is) passes =
     crossing_is_step top costs rows basis lows r f es fs j l p m s a b is passes

@@ -11,17 +11,17 @@ use Rattle.whole_numbers.proofs.FractionLaws.{cancel, product_positive, times_st
 use Rattle.whole_numbers.proofs.Sizes.{negated_size}
 use Rattle.wide_fraction.specs.Widths.{IsTop, IsWithin}
 use Rattle.wide_fraction.proofs.Quotients.{zero_stands}
-use Rattle.path_rows.specs.Basis.{entry}
-use Rattle.fraction_rows.specs.TableRows.{AreNumbers, IsNumber, crossed_by, nothing}
+use Rattle.design_problem.specs.Basis.{entry}
+use Rattle.fraction_rows.specs.TableRows.{AreTableNumbers, IsTableNumber, crossed_by, nothing}
 use Rattle.fraction_rows.specs.Sums.{ArePut}
-use Rattle.fraction_rows.specs.Turns.{AreRows}
+use Rattle.fraction_rows.specs.Turns.{AreTableRows}
 use Rattle.fraction_rows.proofs.ZeroFractions.{times_lowest, crossed_nothing}
 use Rattle.fraction_rows.proofs.SmallNumbers.{whole_number}
 
-pub number_at : (top : ℕ) (qs : List Fraction) (k : ℕ) → AreNumbers top qs → k < length qs → IsNumber top (entry qs k)
-number_at top qs k numbers k_in = all_from_each (IsNumber top) qs numbers k nothing k_in
+pub number_at : (top : ℕ) (qs : List Fraction) (k : ℕ) → AreTableNumbers top qs → k < length qs → IsTableNumber top (entry qs k)
+number_at top qs k numbers k_in = all_from_each (IsTableNumber top) qs numbers k nothing k_in
 
-pub written_numbers : (top : ℕ) (qs : List Fraction) (k : ℕ) (q : Fraction) → AreNumbers top qs → IsNumber top q → AreNumbers top (slice_set qs k q)
+pub written_numbers : (top : ℕ) (qs : List Fraction) (k : ℕ) (q : Fraction) → AreTableNumbers top qs → IsTableNumber top q → AreTableNumbers top (slice_set qs k q)
 written_numbers top [] k q numbers q_is = tt
 written_numbers top (p ∷ qs) zero q numbers q_is = (q_is, numbers.1)
 written_numbers top (p ∷ qs) (suc k) q numbers q_is = (numbers.0, written_numbers top qs k q numbers.1 q_is)
@@ -35,7 +35,7 @@ crossed_entry factor (f ∷ fs) (t ∷ ts) (suc k) same k_in = crossed_entry fac
 
 -- where the quotient is 0 a row keeps its fraction
 pub crossed_keeps : (factor : Fraction) (fs ts : List Fraction) (k : ℕ) (top : ℕ) → length ts ≡ length fs →
-    k < length fs → IsNumber top (entry fs k) → 0 < factor.denominator → entry ts k ≡ nothing →
+    k < length fs → IsTableNumber top (entry fs k) → 0 < factor.denominator → entry ts k ≡ nothing →
     entry (crossed_by factor fs ts) k ≡ entry fs k
 crossed_keeps factor fs ts k top same k_in own positive none =
     crossed_entry factor fs ts k same k_in
@@ -60,12 +60,12 @@ times_not_zero p q p_positive q_positive p_not q_not e =
     (product_positive p.denominator q.denominator p_positive q_positive) stands in
     p_not (product_zero p.numerator q.numerator q_not (zeros.0 e))
 
-pub times_number : (top : ℕ) (p q r : Fraction) → 0 < p.denominator → 0 < q.denominator → r ≡ times p q → IsWithin top r → IsNumber top r
+pub times_number : (top : ℕ) (p q r : Fraction) → 0 < p.denominator → 0 < q.denominator → r ≡ times p q → IsWithin top r → IsTableNumber top r
 times_number top p q r p_positive q_positive r_is r_within =
     record { lowest = subst IsLowest (sym r_is) (times_lowest p q p_positive q_positive); within = r_within }
 
 -- 1 is a number of the table, wherever there is one
-pub one_within : (top : ℕ) (q : Fraction) → IsNumber top q → IsWithin top (whole (pos 1))
+pub one_within : (top : ℕ) (q : Fraction) → IsTableNumber top q → IsWithin top (whole (pos 1))
 one_within top q q_is =
     record {
       numerator = omega (arith, q_is.lowest.positive, q_is.within.denominator);
@@ -73,14 +73,14 @@ one_within top q q_is =
     }
 
 -- each of the rows has their length, and numbers of the table
-pub rows_at : (top count : ℕ) (rows : List (List Fraction)) (k : ℕ) (d : List Fraction) → AreRows top count rows →
-    k < length rows → (length (slice_index_or rows k d) ≡ count) × AreNumbers top (slice_index_or rows k d)
+pub rows_at : (top count : ℕ) (rows : List (List Fraction)) (k : ℕ) (d : List Fraction) → AreTableRows top count rows →
+    k < length rows → (length (slice_index_or rows k d) ≡ count) × AreTableNumbers top (slice_index_or rows k d)
 rows_at top count [] k d are k_in = absurd (omega arith)
 rows_at top count (fs ∷ rows) zero d are k_in = (are.0, are.1)
 rows_at top count (fs ∷ rows) (suc k) d are k_in = rows_at top count rows k d are.2 (omega arith)
 
-pub rows_set : (top count : ℕ) (rows : List (List Fraction)) (k : ℕ) (line : List Fraction) → AreRows top count rows →
-    length line ≡ count → AreNumbers top line → AreRows top count (slice_set rows k line)
+pub rows_set : (top count : ℕ) (rows : List (List Fraction)) (k : ℕ) (line : List Fraction) → AreTableRows top count rows →
+    length line ≡ count → AreTableNumbers top line → AreTableRows top count (slice_set rows k line)
 rows_set top count [] k line fit counted numbers = tt
 rows_set top count (fs ∷ rows) zero line fit counted numbers = (counted, numbers, fit.2)
 rows_set top count (fs ∷ rows) (suc k) line fit counted numbers = (fit.0, fit.1, rows_set top count rows k line fit.2 counted numbers)
@@ -121,6 +121,6 @@ crossed_put factor c fs ts new factor_is same new_is place place_in =
     ∙ minus_negated (entry fs place) (entry ts place) c
 
 -- a small coefficient with the other sign is a number of the table
-pub negated_number : (top : ℕ) (factor : Fraction) (c : ℤ) → IsTop top → nat_abs c ≤ 2 ^ 26 → factor ≡ whole (neg_ℤ c) → IsNumber top factor
+pub negated_number : (top : ℕ) (factor : Fraction) (c : ℤ) → IsTop top → nat_abs c ≤ 2 ^ 26 → factor ≡ whole (neg_ℤ c) → IsTableNumber top factor
 negated_number top factor c is_top small factor_is =
-    subst (IsNumber top) (sym factor_is) (whole_number top (neg_ℤ c) is_top (omega (arith, negated_size c, small)))
+    subst (IsTableNumber top) (sym factor_is) (whole_number top (neg_ℤ c) is_top (omega (arith, negated_size c, small)))

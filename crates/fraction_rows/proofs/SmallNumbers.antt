@@ -5,7 +5,7 @@ use Rattle.std.proofs.Math.Pow.{pow_mono}
 use Rattle.whole_numbers.specs.Fractions.{whole}
 use Rattle.whole_numbers.proofs.Divisors.{gcd-one}
 use Rattle.wide_fraction.specs.Widths.{IsTop}
-use Rattle.fraction_rows.specs.TableRows.{IsNumber}
+use Rattle.fraction_rows.specs.TableRows.{IsTableNumber}
 
 -- a top has at most 127 bits, and isn't 0
 pub top_small : (top : ℕ) → IsTop top → top < 2 ^ 127
@@ -19,7 +19,7 @@ top_some top is_top =
     omega (arith, is_top.3)
 
 -- a whole number below 2^27 is a number of each table
-pub whole_number : (top : ℕ) (m : ℤ) → IsTop top → nat_abs m < 2 ^ 27 → IsNumber top (whole m)
+pub whole_number : (top : ℕ) (m : ℤ) → IsTop top → nat_abs m < 2 ^ 27 → IsTableNumber top (whole m)
 whole_number top m is_top small =
     let most : 2 ^ 28 ≤ 2 ^ is_top.0 = pow_mono is_top.1 in
     record {

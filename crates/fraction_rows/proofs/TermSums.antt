@@ -8,14 +8,14 @@ use Rattle.std.proofs.lemmas.Option.{get_or_from_slice_get, slice_get_within}
 use Rattle.cost_base.specs.declared.StepName.TheVariants.{Add, Mul}
 use Rattle.whole_numbers.specs.Fractions.{Fraction, plus, times, whole}
 use Rattle.wide_fraction.specs.declared.steps.Wide.{Wide}
-use Rattle.path_rows.specs.declared.form.Term.{Term}
-use Rattle.path_rows.specs.Basis.{entry}
-use Rattle.path_rows.specs.Forms.{terms_from, no_term}
-use Rattle.path_rows.specs.Steps.{terms}
-use Rattle.path_rows.proofs.TermLaws.{each_term, moved}
-use Rattle.fraction_rows.specs.TableRows.{AreNumbers}
-use Rattle.fraction_rows.specs.Turns.{AreRows}
-use Rattle.fraction_rows.specs.Sums.{IsSumStep, IsTermSum, product, sum, sum_from}
+use Rattle.design_problem.specs.declared.form.Term.{Term}
+use Rattle.design_problem.specs.Basis.{entry}
+use Rattle.design_problem.specs.Forms.{terms_from, no_term}
+use Rattle.design_problem.specs.Steps.{terms}
+use Rattle.design_problem.proofs.TermLaws.{each_term, moved}
+use Rattle.fraction_rows.specs.TableRows.{AreTableNumbers}
+use Rattle.fraction_rows.specs.Turns.{AreTableRows}
+use Rattle.fraction_rows.specs.Sums.{IsSumStep, IsTermSum, product, sum, sum_of_terms}
 use Rattle.fraction_rows.proofs.RowLaws.{rows_at}
 
 abbrev pub term_in : List Term → ℕ → Term
@@ -86,11 +86,11 @@ term_read cs lines place ts index ts_are many index_in =
 pub record IsLineOf (top count : ℕ) (lines : List (List Fraction)) (t : Term) (line : List Fraction) : Type 0 where
   pub line_is : line ≡ slice_index_or lines t.var []
   pub counted : length line ≡ count
-  pub numbers : AreNumbers top line
+  pub numbers : AreTableNumbers top line
   pub small : nat_abs t.coefficient ≤ 2 ^ 26
 
 pub line_read : (top count : ℕ) (cs : List ℤ) (lines : List (List Fraction)) (ts : List Term) (index : ℕ)
-    (line : List Fraction) → ts ≡ terms_from 0 cs → All (λ z. nat_abs z ≤ 2 ^ 26) cs → AreRows top count lines →
+    (line : List Fraction) → ts ≡ terms_from 0 cs → All (λ z. nat_abs z ≤ 2 ^ 26) cs → AreTableRows top count lines →
     length cs ≤ length lines → index < length ts → line ≡ slice_index_or lines (term_in ts index).var line →
     IsLineOf top count lines (term_in ts index) line
 line_read top count cs lines ts index line ts_are small rows many index_in read_is =
@@ -102,7 +102,7 @@ line_read top count cs lines ts index line ts_are small rows many index_in read_
     record {
       line_is = line_is;
       counted = ap length line_is ∙ row.0;
-      numbers = subst (AreNumbers top) (sym line_is) row.1;
+      numbers = subst (AreTableNumbers top) (sym line_is) row.1;
       small = All-same (λ (u : Term). nat_abs u.coefficient ≤ 2 ^ 26) ts (terms_from 0 cs) ts_are
           (each_term (λ z. nat_abs z ≤ 2 ^ 26) 0 cs small) index no_term index_in;
     }
@@ -137,7 +137,7 @@ sum_next start so_far new value c cs lines place ts index ts_are many index_in c
 -- the sum of all terms
 pub sum_whole : (start so_far : Fraction) (cs : List ℤ) (lines : List (List Fraction)) (place : ℕ) (ts : List Term)
     (index : ℕ) → ts ≡ terms_from 0 cs → length cs ≤ length lines → length ts ≤ index →
-    so_far ≡ fold plus start (take index (terms cs lines place)) → so_far ≡ sum_from start cs lines place
+    so_far ≡ fold plus start (take index (terms cs lines place)) → so_far ≡ sum_of_terms start cs lines place
 sum_whole start so_far cs lines place ts index ts_are many past so_far_is =
     so_far_is ∙ ap (fold plus start) (take_all index (terms cs lines place) (omega (arith, terms_counted 0 cs lines place many, ap length ts_are, past)))
 

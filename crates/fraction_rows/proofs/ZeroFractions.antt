@@ -8,7 +8,7 @@ use Rattle.whole_numbers.proofs.FractionLaws.{reduced_lowest, product_positive, 
 use Rattle.whole_numbers.proofs.Multiples.{minus_stands_over}
 use Rattle.wide_fraction.specs.Widths.{IsWithin}
 use Rattle.wide_fraction.proofs.Quotients.{zero_stands}
-use Rattle.fraction_rows.specs.TableRows.{nothing, IsNumber}
+use Rattle.fraction_rows.specs.TableRows.{nothing, IsTableNumber}
 
 pub nothing_lowest : IsLowest nothing
 nothing_lowest = record { positive = omega arith; lowest = refl }
@@ -57,7 +57,7 @@ crossed_nothing old factor old_lowest factor_positive =
     ap (λ (t : Fraction). minus old t) (times_nothing factor factor_positive) ∙ minus_nothing old old_lowest
 
 -- 0 is a number of the table, wherever there is one
-pub nothing_number : (top : ℕ) (q : Fraction) → IsNumber top q → IsNumber top nothing
+pub nothing_number : (top : ℕ) (q : Fraction) → IsTableNumber top q → IsTableNumber top nothing
 nothing_number top q q_is =
     record {
       lowest = nothing_lowest;
@@ -76,7 +76,7 @@ pub divided_lowest : (p q : Fraction) → 0 < p.denominator → IsLowest (divide
 divided_lowest p q p_positive = times_lowest p (inverse q) p_positive (inverse_positive q.numerator q.denominator)
 
 -- a quotient that is within the top is a number of the table
-pub divided_number : (top : ℕ) (p q r : Fraction) → 0 < p.denominator → r ≡ divided p q → IsWithin top r → IsNumber top r
+pub divided_number : (top : ℕ) (p q r : Fraction) → 0 < p.denominator → r ≡ divided p q → IsWithin top r → IsTableNumber top r
 divided_number top p q r p_positive r_is r_within =
     record { lowest = subst IsLowest (sym r_is) (divided_lowest p q p_positive); within = r_within }
 
@@ -90,14 +90,14 @@ whole_crossed a b c =
     (minus_lowest (whole a) (times (whole b) (whole c)) (omega arith) t_lowest.positive) (whole_lowest (a -ℤ (b *ℤ c))) stands
 
 -- a whole number within the top
-pub whole_within : (top : ℕ) (n : ℤ) → 1 ≤ top → nat_abs n ≤ top → IsNumber top (whole n)
+pub whole_within : (top : ℕ) (n : ℤ) → 1 ≤ top → nat_abs n ≤ top → IsTableNumber top (whole n)
 whole_within top n some small =
     record { lowest = whole_lowest n; within = record { numerator = small; denominator = some } }
 
 -- what the short way makes
 pub short_value : (top size : ℕ) (a b c p v w : ℤ) (q : Fraction) → q ≡ whole v → p ≡ (b *ℤ c) → v ≡ (w -ℤ p) → w ≡ a →
-    nat_abs v ≤ size → size ≡ top → 1 ≤ top → (q ≡ minus (whole a) (times (whole b) (whole c))) × IsNumber top q
+    nat_abs v ≤ size → size ≡ top → 1 ≤ top → (q ≡ minus (whole a) (times (whole b) (whole c))) × IsTableNumber top q
 short_value top size a b c p v w q q_is p_is v_is w_is small size_is some = (
   q_is ∙ ap (λ (z : ℤ). whole z) (v_is ∙ ap (λ (z : ℤ). z -ℤ p) w_is ∙ ap (λ (z : ℤ). a -ℤ z) p_is) ∙ sym (whole_crossed a b c),
-  subst (IsNumber top) (sym q_is) (whole_within top v some (subst (λ (n : ℕ). nat_abs v ≤ n) size_is small)),
+  subst (IsTableNumber top) (sym q_is) (whole_within top v some (subst (λ (n : ℕ). nat_abs v ≤ n) size_is small)),
 )

@@ -2,13 +2,13 @@
 use Rattle.std.specs.Prelude.{◌≡◌, ◌≢◌, ◌⊎◌, ℕ, ◌==◌, ◌<◌, ◌≤◌, List, [], ◌∷◌, ◌++◌, length, pos, if◌then◌else◌, All, Any}
 use Rattle.std.specs.List.{AllByRecursion}
 use Rattle.cost_base.specs.declared.StepName.TheVariants.{Sub, Mul, Div}
-use Rattle.whole_numbers.specs.Fractions.{Fraction, minus, times, divided, listed}
+use Rattle.whole_numbers.specs.Fractions.{Fraction, minus, times, divided, numbers_of_step}
 use Rattle.wide_fraction.specs.declared.steps.Wide.{Wide}
-use Rattle.fraction_rows.specs.TableRows.{IsNumber, Rises, fraction_at, nothing}
+use Rattle.fraction_rows.specs.TableRows.{IsTableNumber, Rises, fraction_at, nothing}
 
 -- the list with the fraction put at its end, unless that is 0
-abbrev pub IsPut : List (ℕ × Fraction) → ℕ → Fraction → List (ℕ × Fraction) → Type 0
-IsPut old column value new =
+abbrev pub IsPutAtEnd : List (ℕ × Fraction) → ℕ → Fraction → List (ℕ × Fraction) → Type 0
+IsPutAtEnd old column value new =
     ((value.numerator ≡ pos 0) × (new ≡ old)) ⊎ ((value.numerator ≢ pos 0) × (new ≡ old ++ (column, value) ∷ []))
 
 -- the first column, or `past` where there is none
@@ -21,7 +21,7 @@ abbrev pub head_fraction : List (ℕ × Fraction) → ℕ → Fraction
 head_fraction [] column = nothing
 head_fraction (e ∷ es) column = if e.0 == column then e.1 else nothing
 
--- the list without that one
+-- the list without its first fraction, where that is of the column
 abbrev pub after_column : List (ℕ × Fraction) → ℕ → List (ℕ × Fraction)
 after_column [] column = []
 after_column (e ∷ es) column = if e.0 == column then es else e ∷ es
@@ -37,7 +37,7 @@ IsQuotientStep value divisor wide = wide ≡ record { step = Div; left = value; 
 
 -- each fraction is a number of the table
 abbrev pub AllNumbers : ℕ → List (ℕ × Fraction) → Type 0
-AllNumbers top es = AllByRecursion (λ e. IsNumber top e.1) es
+AllNumbers top es = AllByRecursion (λ e. IsTableNumber top e.1) es
 
 -- the new list has at each column what the target makes of the fractions that the two have there
 abbrev pub IsMade : ℕ → (ℕ → Fraction → Fraction → Fraction) → List (ℕ × Fraction) → List (ℕ × Fraction) → List (ℕ × Fraction) → Type 0
@@ -54,7 +54,7 @@ divided_at left_out divisor column value other = if column == left_out then noth
 
 -- the step makes a whole number that passes the top
 abbrev pub IsPassing : ℕ → Wide → Type 0
-IsPassing top wide = Any (λ n. top < n) (listed wide.step wide.left wide.right)
+IsPassing top wide = Any (λ n. top < n) (numbers_of_step wide.step wide.left wide.right)
 
 -- the columns rise, and none is 0
 abbrev pub AreRising : List (ℕ × Fraction) → Type 0

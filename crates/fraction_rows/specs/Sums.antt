@@ -3,8 +3,8 @@ use Rattle.std.specs.Prelude.{◌≡◌, ◌⊎◌, ℕ, ◌<◌, List, [], ℤ,
 use Rattle.cost_base.specs.declared.StepName.TheVariants.{Add, Mul}
 use Rattle.whole_numbers.specs.Fractions.{Fraction, plus, times, whole}
 use Rattle.wide_fraction.specs.declared.steps.Wide.{Wide}
-use Rattle.path_rows.specs.Basis.{entry}
-use Rattle.path_rows.specs.Steps.{terms}
+use Rattle.design_problem.specs.Basis.{entry}
+use Rattle.design_problem.specs.Steps.{terms}
 
 -- the steps by which a coefficient's term is put to a sum
 abbrev pub IsTermSum : Fraction → ℤ → Fraction → Wide → Type 0
@@ -12,8 +12,8 @@ IsTermSum sum c q wide =
     (wide ≡ record { step = Mul; left = whole c; right = q }) ⊎ (wide ≡ record { step = Add; left = sum; right = times (whole c) q })
 
 -- the sum of the terms of some coefficients, from a start on
-abbrev pub sum_from : Fraction → List ℤ → List (List Fraction) → ℕ → Fraction
-sum_from start cs lines place = fold plus start (terms cs lines place)
+abbrev pub sum_of_terms : Fraction → List ℤ → List (List Fraction) → ℕ → Fraction
+sum_of_terms start cs lines place = fold plus start (terms cs lines place)
 
 -- the steps by which the whole sum is made
 pub data IsSumStep (start : Fraction) (cs : List ℤ) (lines : List (List Fraction)) (place : ℕ) (wide : Wide) : Type 0 where

@@ -4,21 +4,22 @@ use Rattle.std.specs.List.{AllByRecursion}
 use Rattle.cost_base.specs.Lists.{numbers_from}
 use Rattle.cost_base.specs.declared.StepName.{StepName}
 use Rattle.cost_base.specs.declared.StepName.TheVariants.{Sub, Mul, Div}
-use Rattle.whole_numbers.specs.Fractions.{Fraction, IsLowest, whole, minus, times, divided, listed}
+use Rattle.whole_numbers.specs.Fractions.{Fraction, IsLowest, whole, minus, times, divided, numbers_of_step}
 use Rattle.wide_fraction.specs.Widths.{IsWithin}
-use Rattle.path_rows.specs.Basis.{entry}
+use Rattle.design_problem.specs.Basis.{entry}
 
+-- the fraction 0
 abbrev pub nothing : Fraction
 nothing = whole (pos 0)
 
 -- a number of the table: in lowest terms, and within the top
-pub record IsNumber (top : ℕ) (q : Fraction) : Type 0 where
+pub record IsTableNumber (top : ℕ) (q : Fraction) : Type 0 where
   pub lowest : IsLowest q
   pub within : IsWithin top q
 
--- each fraction of a row is
-abbrev pub AreNumbers : ℕ → List Fraction → Type 0
-AreNumbers top qs = AllByRecursion (IsNumber top) qs
+-- each fraction of a row is a number of the table
+abbrev pub AreTableNumbers : ℕ → List Fraction → Type 0
+AreTableNumbers top qs = AllByRecursion (IsTableNumber top) qs
 
 -- the fraction that a list of pairs gives a column, and 0 where it gives none
 abbrev pub fraction_at : List (ℕ × Fraction) → ℕ → Fraction
@@ -61,4 +62,4 @@ pub data IsDivideStep (divisor : Fraction) (qs : List Fraction) : StepName → F
 
 -- the step makes a whole number that passes the top
 abbrev pub IsWideStep : ℕ → (StepName → Fraction → Fraction → Type 0) → StepName → Fraction → Fraction → Type 0
-IsWideStep top IsStepOf step left right = IsStepOf step left right × Any (λ n. top < n) (listed step left right)
+IsWideStep top IsStepOf step left right = IsStepOf step left right × Any (λ n. top < n) (numbers_of_step step left right)

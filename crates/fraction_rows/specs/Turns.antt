@@ -3,9 +3,10 @@ use Rattle.std.specs.Prelude.{◌≡◌, ℕ, zero, suc, ◌<◌, List, [], ◌�
 use Rattle.cost_base.specs.declared.StepName.{StepName}
 use Rattle.cost_base.specs.declared.StepName.TheVariants.{Div, Mul}
 use Rattle.whole_numbers.specs.Fractions.{Fraction, times, whole}
-use Rattle.path_rows.specs.Basis.{entry}
-use Rattle.fraction_rows.specs.TableRows.{AreNumbers, IsCrossStep, IsDivideStep, IsWideStep, crossed_by}
+use Rattle.design_problem.specs.Basis.{entry}
+use Rattle.fraction_rows.specs.TableRows.{AreTableNumbers, IsCrossStep, IsDivideStep, IsWideStep, crossed_by}
 
+-- one list where a number is 0, and another where it isn't
 abbrev pub unless_none : ℤ → List Fraction → List Fraction → List Fraction
 unless_none (pos zero) kept turned = kept
 unless_none (pos (suc n)) kept turned = turned
@@ -28,9 +29,9 @@ pub data IsQuotientStepOf (rs : List Fraction) (place : ℕ) : StepName → Frac
   inverting : IsQuotientStepOf rs place Div (whole (pos 1)) (entry rs place)
 
 -- rows of one length, of numbers of the table
-abbrev pub AreRows : ℕ → ℕ → List (List Fraction) → Type 0
-AreRows top count [] = Unit {0}
-AreRows top count (fs ∷ rows) = (length fs ≡ count) × AreNumbers top fs × AreRows top count rows
+abbrev pub AreTableRows : ℕ → ℕ → List (List Fraction) → Type 0
+AreTableRows top count [] = Unit {0}
+AreTableRows top count (fs ∷ rows) = (length fs ≡ count) × AreTableNumbers top fs × AreTableRows top count rows
 
 -- a step by which some row is turned makes a whole number that passes the top
 pub record TurnsWide (top : ℕ) (rows : List (List Fraction)) (ts : List Fraction) (place : ℕ) (inverse : Fraction)

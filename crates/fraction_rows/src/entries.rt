@@ -2,8 +2,8 @@
 ghost use Rattle.std.specs.Prelude.{◌≡◌, ◌≢◌, ℕ, ◌<◌, ◌≤◌, [], length, map, min, nat_abs, pos, ◌-ℤ◌, ◌*ℤ◌, vec_len, IfOk, IfErr, IfSome, OnOk};
 ghost use Rattle.std.specs.Vec.{vec_capacity};
 ghost use Rattle.whole_numbers.specs.Fractions.{minus, times, whole};
-ghost use Rattle.fraction_rows.specs.TableRows.{IsNumber, Rises, fraction_at, nothing};
-ghost use Rattle.fraction_rows.specs.Entries.{AllNumbers, AreRising, IsHalfOf, IsMade, IsPassing, IsPlaceOf, IsPut, IsQuotientStep, IsTermStep, after_column};
+ghost use Rattle.fraction_rows.specs.TableRows.{IsTableNumber, Rises, fraction_at, nothing};
+ghost use Rattle.fraction_rows.specs.Entries.{AllNumbers, AreRising, IsHalfOf, IsMade, IsPassing, IsPlaceOf, IsPutAtEnd, IsQuotientStep, IsTermStep, after_column};
 ghost use Rattle.fraction_rows.specs.Entries.{crossed_at, divided_at, head_column, head_fraction, replaced};
 
 use wide_fraction::{Frac, Top, Wide, div, mul, sub};
@@ -11,7 +11,7 @@ use wide_fraction::{Frac, Top, Wide, div, mul, sub};
 /// Puts a fraction at the end, unless it is 0. There is room for it.
 pub fn put_entry(entries: &mut Vec<(u32, Frac)>, column: u32, value: Frac)
     requires room { vec_len entries.old < vec_capacity entries.old }
-    ensures put { IsPut entries.old.items column value entries.new.items }
+    ensures put { IsPutAtEnd entries.old.items column value entries.new.items }
     ensures capacity { vec_capacity entries.old ≤ vec_capacity entries.new }
 {
     if value.is_zero() {
@@ -98,7 +98,7 @@ fn bounded_difference(left: i128, right: i128, most: u128) -> Option<i128>
 /// A word less the product of two, where both this and the product are within `top`.
 #[inline]
 fn word_crossed(old: i64, factor: i64, quotient: i64, top: Top) -> Option<Frac>
-    ensures { IfSome result (λ q. (q ≡ minus (whole old) (times (whole factor) (whole quotient))) × IsNumber top q) }
+    ensures { IfSome result (λ q. (q ≡ minus (whole old) (times (whole factor) (whole quotient))) × IsTableNumber top q) }
 {
     let _ = top.value();
     match bounded_product(factor, quotient, top.size()) {
@@ -113,7 +113,7 @@ fn word_crossed(old: i64, factor: i64, quotient: i64, top: Top) -> Option<Frac>
 /// A fraction less the factor times another one, where all three are words and no number on the way passes `top`.
 #[inline]
 fn short_crossed(old: Frac, factor: Frac, quotient: Frac, top: Top) -> Option<Frac>
-    ensures { IfSome result (λ q. (q ≡ minus old (times factor quotient)) × IsNumber top q) }
+    ensures { IfSome result (λ q. (q ≡ minus old (times factor quotient)) × IsTableNumber top q) }
 {
     match (word_of(old), word_of(factor), word_of(quotient)) {
         (Some(old), Some(factor), Some(quotient)) => word_crossed(old, factor, quotient, top),
@@ -123,11 +123,11 @@ fn short_crossed(old: Frac, factor: Frac, quotient: Frac, top: Top) -> Option<Fr
 
 /// A fraction less the factor times another one, by the short way where there is one.
 pub fn crossed(old: Frac, factor: Frac, quotient: Frac, top: Top) -> Result<Frac, Wide>
-    requires old { IsNumber top old }
-    requires factor { IsNumber top factor }
-    requires quotient { IsNumber top quotient }
+    requires old { IsTableNumber top old }
+    requires factor { IsTableNumber top factor }
+    requires quotient { IsTableNumber top quotient }
     ensures exact { IfOk result (λ q. q ≡ minus old (times factor quotient)) }
-    ensures number { IfOk result (λ q. IsNumber top q) }
+    ensures number { IfOk result (λ q. IsTableNumber top q) }
     ensures step { IfErr result (λ wide. IsTermStep old factor quotient wide) }
     ensures passes { IfErr result (λ wide. IsPassing top wide) }
 {
@@ -154,7 +154,7 @@ pub fn cross_entries(
     requires quotients { Rises 0 width quotients.now }
     requires old_numbers { AllNumbers top olds.now }
     requires quotient_numbers { AllNumbers top quotients.now }
-    requires factor { IsNumber top factor }
+    requires factor { IsTableNumber top factor }
     requires empty { made.old.items ≡ [] }
     requires room { width ≤ vec_capacity made.old }
     ensures made { OnOk result (IsMade width (crossed_at factor) olds.now quotients.now made.new.items) }
@@ -194,11 +194,11 @@ fn quotient_at(
     value: Frac,
     top: Top,
 ) -> Result<Frac, Wide>
-    requires value { IsNumber top value }
-    requires divisor { IsNumber top divisor }
+    requires value { IsTableNumber top value }
+    requires divisor { IsTableNumber top divisor }
     requires not_zero { divisor.numerator ≢ pos 0 }
     ensures exact { IfOk result (λ q. q ≡ divided_at left_out divisor column value nothing) }
-    ensures number { IfOk result (λ q. IsNumber top q) }
+    ensures number { IfOk result (λ q. IsTableNumber top q) }
     ensures step { IfErr result (λ wide. IsQuotientStep value divisor wide) }
     ensures passes { IfErr result (λ wide. IsPassing top wide) }
 {
@@ -219,7 +219,7 @@ pub fn divide_entries(
 ) -> Result<(), Wide>
     requires olds { Rises 0 width olds.now }
     requires old_numbers { AllNumbers top olds.now }
-    requires divisor { IsNumber top divisor }
+    requires divisor { IsTableNumber top divisor }
     requires not_zero { divisor.numerator ≢ pos 0 }
     requires empty { made.old.items ≡ [] }
     requires room { width ≤ vec_capacity made.old }

@@ -1,7 +1,7 @@
 //! Marks of columns: a column without them isn't in the list.
 ghost use Rattle.std.specs.Prelude.{◌≡◌, ◌≢◌, ℕ, ◌%◌, false};
 ghost use Rattle.std.specs.Int.{bit_at};
-ghost use Rattle.fraction_rows.specs.Marks.{AllMarked, IsMarked, IsSet};
+ghost use Rattle.fraction_rows.specs.Marks.{AllMarked, IsColumnMarked, IsSet};
 
 use wide_fraction::Frac;
 
@@ -32,7 +32,7 @@ fn has_bit(bits: u128, number: u32) -> bool
 
 /// No marks.
 pub fn no_marks() -> Marks
-    ensures { (column : ℕ) → IsMarked result column → ⊥ }
+    ensures { (column : ℕ) → IsColumnMarked result column → ⊥ }
 {
     Marks { near: 0, far: 0 }
 }
@@ -40,8 +40,8 @@ pub fn no_marks() -> Marks
 /// The marks with those of one more column.
 #[inline]
 pub fn marked(marks: Marks, column: u32) -> Marks
-    ensures here { IsMarked result column }
-    ensures kept { (k : ℕ) → IsMarked marks k → IsMarked result k }
+    ensures here { IsColumnMarked result column }
+    ensures kept { (k : ℕ) → IsColumnMarked marks k → IsColumnMarked result k }
 {
     Marks {
         near: with_bit(marks.near, column),
@@ -52,7 +52,7 @@ pub fn marked(marks: Marks, column: u32) -> Marks
 /// Whether a column may be in the list.
 #[inline]
 pub fn is_marked(marks: Marks, column: u32) -> bool
-    ensures { result ≡ false → IsMarked marks column → ⊥ }
+    ensures { result ≡ false → IsColumnMarked marks column → ⊥ }
 {
     if has_bit(marks.near, column) {
         has_bit(marks.far, column / 5)

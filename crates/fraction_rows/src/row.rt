@@ -1,8 +1,8 @@
 //! A row of the table: a constant, and the columns in which it has another number than 0, in rising order.
 ghost use Rattle.std.specs.Prelude.{◌≡◌, ◌≢◌, ℕ, suc, true, ◌<◌, ◌≤◌, ◌-◌, ◌∷◌, length, pos, slice_set, IfOk, IfErr, OnOk};
 ghost use Rattle.whole_numbers.specs.Fractions.{IsLowest};
-ghost use Rattle.path_rows.specs.Basis.{entry};
-ghost use Rattle.fraction_rows.specs.TableRows.{AreNumbers, IsCrossStep, IsDivideStep, IsNumber, IsWideStep, Rises, crossed_by, divided_without, filled};
+ghost use Rattle.design_problem.specs.Basis.{entry};
+ghost use Rattle.fraction_rows.specs.TableRows.{AreTableNumbers, IsCrossStep, IsDivideStep, IsTableNumber, IsWideStep, Rises, crossed_by, divided_without, filled};
 ghost use Rattle.fraction_rows.specs.TableRows.{blank_row, nothing};
 
 use crate::entries::{
@@ -160,11 +160,11 @@ impl TableRow {
     ) -> Result<(), Wide>
         requires quotients { length quotients.now ≡ length self.now }
         requires into { length into.old ≡ length self.now }
-        requires numbers { AreNumbers top self.now }
-        requires quotient_numbers { AreNumbers top quotients.now }
-        requires factor { IsNumber top factor }
+        requires numbers { AreTableNumbers top self.now }
+        requires quotient_numbers { AreTableNumbers top quotients.now }
+        requires factor { IsTableNumber top factor }
         ensures crossed { OnOk result (into.new ≡ crossed_by factor self.now quotients.now) }
-        ensures numbers { OnOk result (AreNumbers top into.new) }
+        ensures numbers { OnOk result (AreTableNumbers top into.new) }
         ensures width { length into.new ≡ length into.old }
         ensures wide { IfErr result (λ wide. IsWideStep top (IsCrossStep factor self.now quotients.now) wide.step wide.left wide.right) }
     {
@@ -196,11 +196,11 @@ impl TableRow {
         top: Top,
     ) -> Result<(), Wide>
         requires into { length into.old ≡ length self.now }
-        requires numbers { AreNumbers top self.now }
-        requires divisor { IsNumber top divisor }
+        requires numbers { AreTableNumbers top self.now }
+        requires divisor { IsTableNumber top divisor }
         requires not_zero { divisor.numerator ≢ pos 0 }
         ensures divided { OnOk result (into.new ≡ divided_without (suc left_out) divisor self.now 0) }
-        ensures numbers { OnOk result (AreNumbers top into.new) }
+        ensures numbers { OnOk result (AreTableNumbers top into.new) }
         ensures width { length into.new ≡ length into.old }
         ensures wide { IfErr result (λ wide. IsWideStep top (IsDivideStep divisor self.now) wide.step wide.left wide.right) }
     {

@@ -1,14 +1,14 @@
 //! The sum of a row's terms at a place of the table.
 ghost use Rattle.std.specs.Prelude.{◌≡◌, ℕ, ◌^◌, ◌<◌, ◌≤◌, length, nat_abs, All, IfErr, IfOk, OnOk};
 ghost use Rattle.whole_numbers.specs.Fractions.{plus, times, whole};
-ghost use Rattle.path_rows.specs.Basis.{entry};
+ghost use Rattle.design_problem.specs.Basis.{entry};
 ghost use Rattle.fraction_rows.specs.Entries.{IsPassing};
-ghost use Rattle.fraction_rows.specs.Sums.{ArePut, IsSumStep, IsTermSum, sum_from};
-ghost use Rattle.fraction_rows.specs.TableRows.{AreNumbers, IsNumber};
-ghost use Rattle.fraction_rows.specs.Turns.{AreRows};
+ghost use Rattle.fraction_rows.specs.Sums.{ArePut, IsSumStep, IsTermSum, sum_of_terms};
+ghost use Rattle.fraction_rows.specs.TableRows.{AreTableNumbers, IsTableNumber};
+ghost use Rattle.fraction_rows.specs.Turns.{AreTableRows};
 
 use crate::row::TableRow;
-use path_rows::Form;
+use design_problem::Form;
 use std::mem;
 use wide_fraction::{Frac, Top, Wide, add, mul};
 
@@ -21,12 +21,12 @@ fn add_term(
     place: u32,
     top: Top,
 ) -> Result<Frac, Wide>
-    requires sum { IsNumber top sum }
-    requires line { AreNumbers top line.now }
+    requires sum { IsTableNumber top sum }
+    requires line { AreTableNumbers top line.now }
     requires place { place < length line.now }
     requires small { nat_abs coefficient ≤ 2 ^ 26 }
     ensures exact { IfOk result (λ q. q ≡ plus sum (times (whole coefficient) (entry line.now place))) }
-    ensures number { IfOk result (λ q. IsNumber top q) }
+    ensures number { IfOk result (λ q. IsTableNumber top q) }
     ensures step { IfErr result (λ wide. IsTermSum sum coefficient (entry line.now place) wide) }
     ensures passes { IfErr result (λ wide. IsPassing top wide) }
 {
@@ -52,12 +52,12 @@ pub fn sum_at(
     place: u32,
     top: Top,
 ) -> Result<Frac, Wide>
-    requires start { IsNumber top start }
+    requires start { IsTableNumber top start }
     requires small { All (λ c. nat_abs c ≤ 2 ^ 26) form.now.coefficients }
-    requires lines { (count : ℕ) × (place < count) × AreRows top count lines.now }
+    requires lines { (count : ℕ) × (place < count) × AreTableRows top count lines.now }
     requires many { length form.now.coefficients ≤ length lines.now }
-    ensures exact { IfOk result (λ q. q ≡ sum_from start form.now.coefficients lines.now place) }
-    ensures number { IfOk result (λ q. IsNumber top q) }
+    ensures exact { IfOk result (λ q. q ≡ sum_of_terms start form.now.coefficients lines.now place) }
+    ensures number { IfOk result (λ q. IsTableNumber top q) }
     ensures step { IfErr result (λ wide. IsSumStep start form.now.coefficients lines.now place wide) }
     ensures passes { IfErr result (λ wide. IsPassing top wide) }
 {
@@ -85,11 +85,11 @@ fn put_line(
 ) -> Result<(), Wide>
     requires line { length line.now ≡ length row.old }
     requires scratch { length scratch.old ≡ length row.old }
-    requires numbers { AreNumbers top row.old }
-    requires line_numbers { AreNumbers top line.now }
+    requires numbers { AreTableNumbers top row.old }
+    requires line_numbers { AreTableNumbers top line.now }
     requires small { nat_abs coefficient ≤ 2 ^ 26 }
     ensures sums { OnOk result (ArePut (whole coefficient) line.now row.old row.new) }
-    ensures numbers { OnOk result (AreNumbers top row.new) }
+    ensures numbers { OnOk result (AreTableNumbers top row.new) }
     ensures width { length row.new ≡ length row.old }
     ensures scratch_width { length scratch.new ≡ length scratch.old }
 {
@@ -113,13 +113,13 @@ pub fn sum_lines(
     top: Top,
 ) -> Result<(), Wide>
     requires small { All (λ c. nat_abs c ≤ 2 ^ 26) form.now.coefficients }
-    requires lines { AreRows top (length row.old) lines.now }
+    requires lines { AreTableRows top (length row.old) lines.now }
     requires many { length form.now.coefficients ≤ length lines.now }
     requires scratch { length scratch.old ≡ length row.old }
-    requires numbers { AreNumbers top row.old }
+    requires numbers { AreTableNumbers top row.old }
     ensures sums { OnOk result ((place : ℕ) → place < length row.old →
-        entry row.new place ≡ sum_from (entry row.old place) form.now.coefficients lines.now place) }
-    ensures numbers { OnOk result (AreNumbers top row.new) }
+        entry row.new place ≡ sum_of_terms (entry row.old place) form.now.coefficients lines.now place) }
+    ensures numbers { OnOk result (AreTableNumbers top row.new) }
     ensures width { length row.new ≡ length row.old }
     ensures scratch_width { length scratch.new ≡ length scratch.old }
 {

@@ -1,9 +1,9 @@
 //! One row's part in a pivot.
 ghost use Rattle.std.specs.Prelude.{◌≡◌, ◌≢◌, suc, ◌<◌, length, map, pos, IfErr, IfOk, OnOk};
 ghost use Rattle.whole_numbers.specs.Fractions.{divided, whole};
-ghost use Rattle.path_rows.specs.Basis.{entry};
-ghost use Rattle.fraction_rows.specs.TableRows.{AreNumbers, IsNumber, IsWideStep, divided_without, nothing};
-ghost use Rattle.fraction_rows.specs.Turns.{AreRows, IsQuotientStepOf, IsTurnStep, TurnsWide, turned_by};
+ghost use Rattle.design_problem.specs.Basis.{entry};
+ghost use Rattle.fraction_rows.specs.TableRows.{AreTableNumbers, IsTableNumber, IsWideStep, divided_without, nothing};
+ghost use Rattle.fraction_rows.specs.Turns.{AreTableRows, IsQuotientStepOf, IsTurnStep, TurnsWide, turned_by};
 
 use crate::row::TableRow;
 use std::mem;
@@ -27,13 +27,13 @@ pub fn turn_row(
     requires column { suc column < length row.old }
     requires quotients { length quotients.now ≡ length row.old }
     requires scratch { length scratch.old ≡ length row.old }
-    requires numbers { AreNumbers top row.old }
-    requires quotient_numbers { AreNumbers top quotients.now }
+    requires numbers { AreTableNumbers top row.old }
+    requires quotient_numbers { AreTableNumbers top quotients.now }
     requires none_there { entry quotients.now (suc column) ≡ nothing }
-    requires inverse { IsNumber top inverse }
+    requires inverse { IsTableNumber top inverse }
     requires not_zero { inverse.numerator ≢ pos 0 }
     ensures turned { OnOk result (row.new ≡ turned_by row.old quotients.now (suc column) inverse) }
-    ensures numbers { OnOk result (AreNumbers top row.new) }
+    ensures numbers { OnOk result (AreTableNumbers top row.new) }
     ensures width { length row.new ≡ length row.old }
     ensures scratch_width { length scratch.new ≡ length scratch.old }
     ensures wide { IfErr result (λ wide. IsWideStep top (IsTurnStep row.old quotients.now (suc column) inverse) wide.step wide.left wide.right) }
@@ -66,12 +66,12 @@ pub fn take_quotients(
 ) -> Result<Frac, Wide>
     requires column { suc column < length row.now }
     requires width { length quotients.old ≡ length row.now }
-    requires numbers { AreNumbers top row.now }
+    requires numbers { AreTableNumbers top row.now }
     requires not_zero { (entry row.now (suc column)).numerator ≢ pos 0 }
     ensures quotients { OnOk result (quotients.new ≡ divided_without (suc column) (entry row.now (suc column)) row.now 0) }
-    ensures quotient_numbers { OnOk result (AreNumbers top quotients.new) }
+    ensures quotient_numbers { OnOk result (AreTableNumbers top quotients.new) }
     ensures inverse { IfOk result (λ inverse. inverse ≡ divided (whole (pos 1)) (entry row.now (suc column))) }
-    ensures number { IfOk result (λ inverse. IsNumber top inverse) }
+    ensures number { IfOk result (λ inverse. IsTableNumber top inverse) }
     ensures width { length quotients.new ≡ length quotients.old }
     ensures wide { IfErr result (λ wide. IsWideStep top (IsQuotientStepOf row.now (suc column)) wide.step wide.left wide.right) }
 {
@@ -94,14 +94,14 @@ pub fn turn_rows(
     top: Top,
 ) -> Result<(), Wide>
     requires column { suc column < length quotients.now }
-    requires rows { AreRows top (length quotients.now) rows.old }
+    requires rows { AreTableRows top (length quotients.now) rows.old }
     requires scratch { length scratch.old ≡ length quotients.now }
-    requires quotient_numbers { AreNumbers top quotients.now }
+    requires quotient_numbers { AreTableNumbers top quotients.now }
     requires none_there { entry quotients.now (suc column) ≡ nothing }
-    requires inverse { IsNumber top inverse }
+    requires inverse { IsTableNumber top inverse }
     requires not_zero { inverse.numerator ≢ pos 0 }
     ensures turned { OnOk result (rows.new ≡ map (λ fs. turned_by fs quotients.now (suc column) inverse) rows.old) }
-    ensures numbers { OnOk result (AreRows top (length quotients.now) rows.new) }
+    ensures numbers { OnOk result (AreTableRows top (length quotients.now) rows.new) }
     ensures scratch_width { length scratch.new ≡ length scratch.old }
     ensures wide { IfErr result (λ wide. TurnsWide top rows.old quotients.now (suc column) inverse wide.step wide.left wide.right) }
 {

@@ -8,22 +8,22 @@ use Rattle.cost_base.specs.Lists.{numbers_from}
 use Rattle.cost_base.proofs.ListLemmas.{length-map-numbers_from, get_or-map-numbers_from, length_zip}
 use Rattle.whole_numbers.specs.Fractions.{Fraction, StandsFor}
 use Rattle.whole_numbers.specs.Lists.{number_at}
-use Rattle.path_rows.specs.declared.form.Form.{Form}
-use Rattle.path_rows.specs.declared.form.CostBox.{CostBox}
-use Rattle.path_rows.specs.declared.tree.Member.{Member}
-use Rattle.path_rows.specs.declared.tree.Member.TheVariants.{Low, Row}
-use Rattle.path_rows.specs.Basis.{HasEntries, IsBasis, IsFormOf, IsTable, LeadsPositive, column, entry, forms_of, low_member, member_form}
-use Rattle.fraction_table.specs.Wholes.{IsLine, IsWhole, high_member, low_forms, members_of}
+use Rattle.design_problem.specs.declared.form.Form.{Form}
+use Rattle.design_problem.specs.declared.form.CostBox.{CostBox}
+use Rattle.design_problem.specs.declared.tree.Member.{Member}
+use Rattle.design_problem.specs.declared.tree.Member.TheVariants.{Low, Row}
+use Rattle.design_problem.specs.Basis.{HasEntries, IsBasis, IsFormOf, IsTable, LeadsPositive, column, entry, forms_of, low_member, member_form}
+use Rattle.fraction_table.specs.ValidTables.{IsTableLine, IsTableauOf, high_member, low_forms, members_of_box}
 use Rattle.fraction_rows.proofs.RowLaws.{number_at as number_there}
 use Rattle.fraction_table.proofs.theory.Resolved.{are_entries, stand_length}
 use Rattle.fraction_table.proofs.theory.Units.{long_at, low_numbers}
-use Rattle.fraction_table.proofs.WholeTurns.{coefficients_long, stand_at}
+use Rattle.fraction_table.proofs.IntegralTurns.{coefficients_long, stand_at}
 use Rattle.fraction_table.proofs.theory.Zips.{zip_at, zip_from}
 
 -- a line has the entries of its form
 pub line_entries : (top : ℕ) (costs : CostBox) (rows : List Form) (basis : List Member) (table : List (List Fraction))
-    (w : IsWhole top costs rows basis table) (member : Member) (line : List Fraction) → IsFormOf costs rows member →
-    IsLine top w.unboxed.common costs rows w.unboxed.lows member line → HasEntries costs rows basis member line
+    (w : IsTableauOf top costs rows basis table) (member : Member) (line : List Fraction) → IsFormOf costs rows member →
+    IsTableLine top w.unboxed.common costs rows w.unboxed.lows member line → HasEntries costs rows basis member line
 line_entries top costs rows basis table w member line is l =
     are_entries top w.unboxed.common costs.low w.unboxed.lows (forms_of costs rows basis) (member_form (length costs.low) rows member) line w.unboxed.positive
     (length-map basis (member_form (length costs.low) rows) ∙ w.unboxed.count)
@@ -63,12 +63,12 @@ low_forms_long n a [] = refl
 low_forms_long n a (l ∷ ls) = ap suc (low_forms_long n (a + 1) ls)
 
 pub lows_counted : (top : ℕ) (costs : CostBox) (rows : List Form) (basis : List Member) (table : List (List Fraction))
-    (w : IsWhole top costs rows basis table) → length costs.low ≡ length w.unboxed.lows
+    (w : IsTableauOf top costs rows basis table) → length costs.low ≡ length w.unboxed.lows
 lows_counted top costs rows basis table w =
     sym (low_forms_long (length costs.low) 0 costs.low) ∙ length_zip _ (low_forms (length costs.low) 0 costs.low) w.unboxed.lows w.unboxed.mixtures
 
 -- the members of a box begin with x - low for each variable
-pub members_begin : (costs : CostBox) (rows v : ℕ) (d : Member) → v < length costs.low → slice_index_or (members_of costs rows) v d ≡ low_member costs v
+pub members_begin : (costs : CostBox) (rows v : ℕ) (d : Member) → v < length costs.low → slice_index_or (members_of_box costs rows) v d ≡ low_member costs v
 members_begin costs rows v d v_in =
     let n = length costs.low in
     let lows = map (low_member costs) (numbers_from 0 n) in
@@ -79,7 +79,7 @@ members_begin costs rows v d v_in =
     ∙ get_or-map-numbers_from (low_member costs) 0 n v d v_in
     ∙ ap (low_member costs) (zero-add v)
 
-members_many : (costs : CostBox) (rows : ℕ) → length costs.low ≤ length (members_of costs rows)
+members_many : (costs : CostBox) (rows : ℕ) → length costs.low ≤ length (members_of_box costs rows)
 members_many costs rows =
     let n = length costs.low in
     let lows = map (low_member costs) (numbers_from 0 n) in
@@ -89,17 +89,17 @@ members_many costs rows =
 
 -- the line of x - low
 pub low_line : (top : ℕ) (costs : CostBox) (rows : List Form) (basis : List Member) (table : List (List Fraction))
-    (w : IsWhole top costs rows basis table) (v : ℕ) → v < length costs.low →
-    IsLine top w.unboxed.common costs rows w.unboxed.lows (low_member costs v) (slice_index_or table v [])
+    (w : IsTableauOf top costs rows basis table) (v : ℕ) → v < length costs.low →
+    IsTableLine top w.unboxed.common costs rows w.unboxed.lows (low_member costs v) (slice_index_or table v [])
 low_line top costs rows basis table w v v_in =
-    subst (λ (m : Member). IsLine top w.unboxed.common costs rows w.unboxed.lows m (slice_index_or table v []))
+    subst (λ (m : Member). IsTableLine top w.unboxed.common costs rows w.unboxed.lows m (slice_index_or table v []))
     (members_begin costs (length rows) v (Low 0 0) v_in)
-    (zip_at (IsLine top w.unboxed.common costs rows w.unboxed.lows) (members_of costs (length rows)) table v
+    (zip_at (IsTableLine top w.unboxed.common costs rows w.unboxed.lows) (members_of_box costs (length rows)) table v
     (Low 0 0) [] w.unboxed.lines (omega (arith, members_many costs (length rows), v_in)))
 
 -- its fractions stand for the numbers of the row of its variable
 pub low_line_stands : (top : ℕ) (costs : CostBox) (rows : List Form) (basis : List Member)
-    (table : List (List Fraction)) (w : IsWhole top costs rows basis table) (v place : ℕ) → v < length costs.low →
+    (table : List (List Fraction)) (w : IsTableauOf top costs rows basis table) (v place : ℕ) → v < length costs.low →
     place < suc (length costs.low) → (0 < (entry (slice_index_or table v []) place).denominator)
     × StandsFor (entry (slice_index_or table v []) place) (number_at (slice_index_or w.unboxed.lows v []) place)
     w.unboxed.common
@@ -116,18 +116,18 @@ low_line_stands top costs rows basis table w v place v_in place_in =
 
 -- it has a line for each variable at least
 pub table_long : (top : ℕ) (costs : CostBox) (rows : List Form) (basis : List Member) (table : List (List Fraction))
-    (w : IsWhole top costs rows basis table) → length costs.low ≤ length table
+    (w : IsTableauOf top costs rows basis table) → length costs.low ≤ length table
 table_long top costs rows basis table w =
     omega (
       arith,
       members_many costs (length rows),
-      length_zip (IsLine top w.unboxed.common costs rows w.unboxed.lows) (members_of costs (length rows)) table
+      length_zip (IsTableLine top w.unboxed.common costs rows w.unboxed.lows) (members_of_box costs (length rows)) table
           w.unboxed.lines,
     )
 
 -- the first lines are the entries of x - low for each variable
 pub whole_table : (top : ℕ) (costs : CostBox) (rows : List Form) (basis : List Member) (table : List (List Fraction)) →
-    IsWhole top costs rows basis table → IsTable costs rows basis (take (length costs.low) table)
+    IsTableauOf top costs rows basis table → IsTable costs rows basis (take (length costs.low) table)
 whole_table top costs rows basis table w =
     let n = length costs.low in
     let counted = lows_counted top costs rows basis table w in
@@ -156,6 +156,6 @@ whole_table top costs rows basis table w =
     }
 
 pub whole_basis : (top : ℕ) (costs : CostBox) (rows : List Form) (basis : List Member) (table : List (List Fraction)) →
-    IsWhole top costs rows basis table → IsBasis costs rows basis
+    IsTableauOf top costs rows basis table → IsBasis costs rows basis
 whole_basis top costs rows basis table w =
     (take (length costs.low) table, whole_table top costs rows basis table w)

@@ -2,20 +2,20 @@
 use Rattle.std.proofs.Common.{◌≡◌, ℕ, zero, suc, ◌+◌, ◌<◌, ◌≤◌, refl, sym, ◌∙◌, ap, subst, List, [], ◌∷◌, ◌++◌, take, drop, length, arith, inl, inr}
 use Rattle.std.specs.Prelude.{pos, ◌-ℤ◌, slice_get, slice_index, slice_index_or, slice_set, Any}
 use Rattle.cost_base.specs.declared.StepName.{StepName}
-use Rattle.whole_numbers.specs.Fractions.{Fraction, listed}
+use Rattle.whole_numbers.specs.Fractions.{Fraction, numbers_of_step}
 use Rattle.wide_fraction.specs.declared.steps.Wide.{Wide}
-use Rattle.path_rows.specs.declared.form.Form.{Form}
-use Rattle.path_rows.specs.declared.form.CostBox.{CostBox}
-use Rattle.path_rows.specs.declared.tree.Member.{Member}
-use Rattle.path_rows.specs.declared.tree.Member.TheVariants.{Low, High, Row}
-use Rattle.path_rows.specs.Boxes.{with_high, with_low}
-use Rattle.path_rows.specs.Basis.{HasEntries}
+use Rattle.design_problem.specs.declared.form.Form.{Form}
+use Rattle.design_problem.specs.declared.form.CostBox.{CostBox}
+use Rattle.design_problem.specs.declared.tree.Member.{Member}
+use Rattle.design_problem.specs.declared.tree.Member.TheVariants.{Low, High, Row}
+use Rattle.design_problem.specs.Boxes.{with_high, with_low}
+use Rattle.design_problem.specs.Basis.{HasEntries}
 use Rattle.fraction_table.specs.declared.table.Table.{Table}
 use Rattle.fraction_table.specs.declared.stage.Stage.TheVariants.{Open}
-use Rattle.fraction_table.specs.Tableaus.{IsShiftStep, IsWideMove, Shift, between, high_shift, low_shift, moved}
+use Rattle.fraction_table.specs.Tableaus.{IsShiftStep, IsWideMove, Shift, between, high_shift, low_shift, moved_basis}
 use Rattle.fraction_table.specs.Tableaus.IsShiftStep.{constant, product, sum}
-use Rattle.fraction_table.specs.Wholes.{held_of}
-use Rattle.fraction_table.specs.Moves.{IsMoved, IsWideShift, KeepsRows, high_shift_of, low_shift_of}
+use Rattle.fraction_table.specs.ValidTables.{held_of}
+use Rattle.fraction_table.specs.Moves.{IsMoved, IsWideShift, KeepsTableRows, high_shift_of, low_shift_of}
 
 -- one more place of a list is written, after those before it
 set_between : {X : Type 0} (xs ys : List X) (v : ℕ) (d : X) → v < length xs → v < length ys →
@@ -63,7 +63,7 @@ length-written (x ∷ xs) [] (suc v) same = absurd (omega arith)
 length-written (x ∷ xs) (y ∷ ys) (suc v) same = ap suc (length-written xs ys v (omega arith))
 
 -- members with the bounds of one box after another have those of the last
-pub moved_twice : (first last : CostBox) (basis : List Member) → moved last (moved first basis) ≡ moved last basis
+pub moved_twice : (first last : CostBox) (basis : List Member) → moved_basis last (moved_basis first basis) ≡ moved_basis last basis
 moved_twice first last [] = refl
 moved_twice first last (Low v bound ∷ basis) = ap (λ ms. Low v (slice_index last.low v) ∷ ms) (moved_twice first last basis)
 moved_twice first last (High v bound ∷ basis) = ap (λ ms. High v (slice_index last.high v) ∷ ms) (moved_twice first last basis)
@@ -76,7 +76,7 @@ pub record AreAlike (old new : CostBox) : Type 0 where
   pub new_high : length new.high ≡ length old.low
 
 -- where no bound has moved
-pub none_moved : (t : Table) (costs : CostBox) → t.basis.items ≡ moved t.costs t.basis.items → IsMoved t (between t.costs costs 0 0) t
+pub none_moved : (t : Table) (costs : CostBox) → t.basis.items ≡ moved_basis t.costs t.basis.items → IsMoved t (between t.costs costs 0 0) t
 none_moved t costs same = record { costs_are = refl; basis = same }
 
 -- one more lower bound, and one more upper one
@@ -90,8 +90,8 @@ low_step old t s costs v bound alike v_in bound_is before after =
     (set_between old.costs.low costs.low v 0 v_in (omega (arith, alike.new_low, v_in))) in
     record {
       costs_are = after.costs_are ∙ next_is;
-      basis = after.basis ∙ ap (λ (c : CostBox). moved c t.basis.items) next_is
-          ∙ ap (moved (between old.costs costs (suc v) v)) before.basis
+      basis = after.basis ∙ ap (λ (c : CostBox). moved_basis c t.basis.items) next_is
+          ∙ ap (moved_basis (between old.costs costs (suc v) v)) before.basis
           ∙ moved_twice (between old.costs costs v v) (between old.costs costs (suc v) v) old.basis.items;
     }
 
@@ -106,8 +106,8 @@ high_step old t s costs v bound alike v_in bound_is before after =
     (omega (arith, alike.new_high, v_in))) in
     record {
       costs_are = after.costs_are ∙ next_is;
-      basis = after.basis ∙ ap (λ (c : CostBox). moved c t.basis.items) next_is
-          ∙ ap (moved (between old.costs costs (suc v) (suc v))) before.basis
+      basis = after.basis ∙ ap (λ (c : CostBox). moved_basis c t.basis.items) next_is
+          ∙ ap (moved_basis (between old.costs costs (suc v) (suc v))) before.basis
           ∙ moved_twice (between old.costs costs (suc v) v) (between old.costs costs (suc v) (suc v)) old.basis.items;
     }
 
@@ -124,7 +124,7 @@ all_moved old t costs n alike n_is is =
 
 -- the steps of a shift know the basis by its members in the box alone
 step_from : (rows : List Form) (basis other : List Member) (shift : Shift) →
-    moved shift.costs basis ≡ moved shift.costs other → (step : StepName) (left right : Fraction) →
+    moved_basis shift.costs basis ≡ moved_basis shift.costs other → (step : StepName) (left right : Fraction) →
     IsShiftStep rows basis shift step left right → IsShiftStep rows other shift step left right
 step_from rows basis other shift same _ _ _ (constant es has) =
     constant es (subst (λ (ms : List Member). HasEntries shift.costs rows ms shift.member es) same has)
@@ -133,21 +133,21 @@ step_from rows basis other shift same _ _ _ (product j f fs there is has) =
 step_from rows basis other shift same _ _ _ (sum j f fs there is has) =
     sum j f fs (ap (λ ms. slice_get ms j) (sym same) ∙ there) is (subst (λ (ms : List Member). HasEntries shift.costs rows ms f fs) same has)
 
-step_of : (old t : Table) (costs : CostBox) (here other : Shift) → KeepsRows old t → IsMoved old costs t →
+step_of : (old t : Table) (costs : CostBox) (here other : Shift) → KeepsTableRows old t → IsMoved old costs t →
     here ≡ other → other.costs ≡ costs → (step : StepName) (left right : Fraction) →
     IsShiftStep t.rows.items t.basis.items here step left right →
     IsShiftStep old.rows.items old.basis.items other step left right
 step_of old t costs here other keeps is same over step left right s =
     step_from old.rows.items t.basis.items old.basis.items other
-    (ap (λ (c : CostBox). moved c t.basis.items) over ∙ ap (moved costs) is.basis
-    ∙ moved_twice costs costs old.basis.items ∙ ap (λ (c : CostBox). moved c old.basis.items) (sym over))
+    (ap (λ (c : CostBox). moved_basis c t.basis.items) over ∙ ap (moved_basis costs) is.basis
+    ∙ moved_twice costs costs old.basis.items ∙ ap (λ (c : CostBox). moved_basis c old.basis.items) (sym over))
     step left right
     (subst (λ (rows : List Form). IsShiftStep rows t.basis.items other step left right) keeps.rows
     (subst (λ (shift : Shift). IsShiftStep t.rows.items t.basis.items shift step left right) same s))
 
 -- a step of a bound's move that is too wide is one of the whole move
 pub low_move : (old t : Table) (costs : CostBox) (v bound : ℕ) (wide : Wide) → AreAlike old.costs costs →
-    v < length old.costs.low → bound ≡ slice_index costs.low v → KeepsRows old t →
+    v < length old.costs.low → bound ≡ slice_index costs.low v → KeepsTableRows old t →
     IsMoved old (between old.costs costs v v) t → IsWideShift t (low_shift_of t v bound) wide →
     IsWideMove (held_of old Open) costs
 low_move old t costs v bound wide alike v_in bound_is keeps is w =
@@ -166,11 +166,11 @@ low_move old t costs v bound wide alike v_in bound_is keeps is w =
       right = wide.right;
       is_step = inl (step_of old t (between old.costs costs v v) (low_shift_of t v bound) (low_shift old.costs costs v)
           keeps is same refl wide.step wide.left wide.right w.0);
-      passes = subst (λ (top : ℕ). Any (λ n. top < n) (listed wide.step wide.left wide.right)) keeps.top w.1;
+      passes = subst (λ (top : ℕ). Any (λ n. top < n) (numbers_of_step wide.step wide.left wide.right)) keeps.top w.1;
     }
 
 pub high_move : (old t : Table) (costs : CostBox) (v bound : ℕ) (wide : Wide) → AreAlike old.costs costs →
-    v < length old.costs.low → bound ≡ slice_index costs.high v → KeepsRows old t →
+    v < length old.costs.low → bound ≡ slice_index costs.high v → KeepsTableRows old t →
     IsMoved old (between old.costs costs (suc v) v) t → IsWideShift t (high_shift_of t v bound) wide →
     IsWideMove (held_of old Open) costs
 high_move old t costs v bound wide alike v_in bound_is keeps is w =
@@ -191,10 +191,10 @@ high_move old t costs v bound wide alike v_in bound_is keeps is w =
       right = wide.right;
       is_step = inr (step_of old t (between old.costs costs (suc v) v) (high_shift_of t v bound)
           (high_shift old.costs costs v) keeps is same refl wide.step wide.left wide.right w.0);
-      passes = subst (λ (top : ℕ). Any (λ n. top < n) (listed wide.step wide.left wide.right)) keeps.top w.1;
+      passes = subst (λ (top : ℕ). Any (λ n. top < n) (numbers_of_step wide.step wide.left wide.right)) keeps.top w.1;
     }
 
 -- what two tables in a row keep
-pub keeps_both : (old t s : Table) → KeepsRows old t → KeepsRows t s → KeepsRows old s
+pub keeps_both : (old t s : Table) → KeepsTableRows old t → KeepsTableRows t s → KeepsTableRows old s
 keeps_both old t s first second =
     record { top = second.top ∙ first.top; rows = second.rows ∙ first.rows; width = second.width ∙ first.width }

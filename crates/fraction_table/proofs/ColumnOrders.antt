@@ -9,14 +9,14 @@ use Rattle.whole_numbers.proofs.FractionLaws.{divided_stands, product_positive, 
 use Rattle.whole_numbers.proofs.Orders.{order_ranks, order_stands, scaled_cmp}
 use Rattle.whole_numbers.proofs.Ring.{var, num, ◌⊖◌, ◌⊗◌, ring, ring_by, using, nothing}
 use Rattle.whole_numbers.specs.Lists.{number_at}
-use Rattle.path_rows.specs.Basis.{entry, member_form}
+use Rattle.design_problem.specs.Basis.{entry, member_form}
 use Rattle.fraction_table.specs.declared.table.Table.{Table}
-use Rattle.fraction_table.specs.Wholes.{IsWholeTable}
-use Rattle.fraction_table.specs.Pivots.{LeadsNoNegative, entries_order, line_at, line_numbers, member_at, numbers_in, turned_column}
+use Rattle.fraction_table.specs.ValidTables.{IsTableau}
+use Rattle.fraction_table.specs.Pivots.{LeadsNoNegative, entries_order, line_at, numbers_of_line, member_at, numbers_in_column, turned_column}
 use Rattle.fraction_rows.proofs.ZeroFractions.{divided_lowest, times_lowest}
 use Rattle.fraction_rows.proofs.RowLaws.{number_at as number_there}
 use Rattle.fraction_table.proofs.theory.TurnedNumbers.{numbers_long}
-use Rattle.fraction_table.proofs.WholeTurns.{stand_at}
+use Rattle.fraction_table.proofs.IntegralTurns.{stand_at}
 use Rattle.fraction_table.proofs.Bases.{low_line_stands, lows_counted}
 use Rattle.fraction_table.proofs.Pivots.{line_long, whole_line}
 
@@ -42,13 +42,13 @@ zeros_lead (negsuc n ∷ zs) zeros = absurd (below (zeros 0 (omega arith)))
     below same = omega (arith, ints)
 
 pub column_at : (a : ℕ) (b : ℤ) (k j : ℕ) (lows : List (List ℤ)) (u : ℕ) → u < length lows →
-    number_at (turned_column a (numbers_in k lows) b (numbers_in j lows)) u
+    number_at (turned_column a (numbers_in_column k lows) b (numbers_in_column j lows)) u
     ≡ ((pos a *ℤ number_at (slice_index_or lows u []) k) -ℤ (b *ℤ number_at (slice_index_or lows u []) j))
 column_at a b k j [] u u_in = absurd (omega arith)
 column_at a b k j (ts ∷ lows) zero u_in = refl
 column_at a b k j (ts ∷ lows) (suc u) u_in = column_at a b k j lows u (omega arith)
 
-pub column_long : (a : ℕ) (b : ℤ) (k j : ℕ) (lows : List (List ℤ)) → length (turned_column a (numbers_in k lows) b (numbers_in j lows)) ≡ length lows
+pub column_long : (a : ℕ) (b : ℤ) (k j : ℕ) (lows : List (List ℤ)) → length (turned_column a (numbers_in_column k lows) b (numbers_in_column j lows)) ≡ length lows
 column_long a b k j [] = refl
 column_long a b k j (ts ∷ lows) = ap suc (column_long a b k j lows)
 
@@ -60,17 +60,17 @@ same_numbers r x y e =
     (order_ranks (whole x) (whole y) r (e ∙ scaled_cmp x y 1 (omega arith))))
 
 -- What a comparison of two columns needs: the numbers a and b of the pivot's form in them, both positive.
-pub record AreCompared (t : Table) (w : IsWholeTable t) (line column other a b : ℕ) : Type 0 where
+pub record AreCompared (t : Table) (w : IsTableau t) (line column other a b : ℕ) : Type 0 where
   pub line_in : line < length t.lines.items
   pub column_in : column < length t.costs.low
   pub other_in : other < length t.costs.low
-  pub at_column : number_at (line_numbers t w line) (suc column) ≡ pos a
-  pub at_other : number_at (line_numbers t w line) (suc other) ≡ pos b
+  pub at_column : number_at (numbers_of_line t w line) (suc column) ≡ pos a
+  pub at_other : number_at (numbers_of_line t w line) (suc other) ≡ pos b
   pub a_positive : 0 < a
   pub b_positive : 0 < b
 
 -- the entries of a line of x - low are ordered as their numbers, crosswise
-order_numbers : (t : Table) (w : IsWholeTable t) (line column other a b u : ℕ) → AreCompared t w line column other a b →
+order_numbers : (t : Table) (w : IsTableau t) (line column other a b u : ℕ) → AreCompared t w line column other a b →
     u < length t.costs.low → entries_order (line_at t u) column other
     (divided (entry (line_at t line) (suc other)) (entry (line_at t line) (suc column)))
     ≡ int_cmp (number_at (slice_index_or w.unboxed.lows u []) (suc other) *ℤ pos a)
@@ -85,10 +85,10 @@ order_numbers t w line column other a b u c u_in =
     let own = number_there t.top es (suc column) l.numbers (omega (arith, long, c.column_in)) in
     let others = number_there t.top es (suc other) l.numbers (omega (arith, long, c.other_in)) in
     let own_stands = subst (λ z. StandsFor (entry es (suc column)) z D) c.at_column
-    (stand_at D es (line_numbers t w line) (suc column) l.stand
+    (stand_at D es (numbers_of_line t w line) (suc column) l.stand
     (omega (arith, numbers_long n D t.costs.low w.unboxed.lows f, c.column_in))) in
     let other_stands = subst (λ z. StandsFor (entry es (suc other)) z D) c.at_other
-    (stand_at D es (line_numbers t w line) (suc other) l.stand
+    (stand_at D es (numbers_of_line t w line) (suc other) l.stand
     (omega (arith, numbers_long n D t.costs.low w.unboxed.lows f, c.other_in))) in
     let q = divided (entry es (suc other)) (entry es (suc column)) in
     let q_lowest = divided_lowest (entry es (suc other)) (entry es (suc column)) others.lowest.positive in
@@ -121,7 +121,7 @@ greater_rise x y a b less =
     less_rise (x *ℤ pos b) (y *ℤ pos a) _ less (ring (x ∷ y ∷ pos a ∷ pos b ∷ []) ((var 2 ⊗ var 1) ⊖ (var 3 ⊗ var 0)) ((var 1 ⊗ var 2) ⊖ (var 0 ⊗ var 3)) refl)
 
 -- the differences of two columns at the lines that show none
-level_at : (t : Table) (w : IsWholeTable t) (line column other a b v u : ℕ) → AreCompared t w line column other a b →
+level_at : (t : Table) (w : IsTableau t) (line column other a b v u : ℕ) → AreCompared t w line column other a b →
     v ≤ length t.costs.low → AreLevel t line column other v → u < v →
     (number_at (slice_index_or w.unboxed.lows u []) (suc other) *ℤ pos a)
     ≡ (number_at (slice_index_or w.unboxed.lows u []) (suc column) *ℤ pos b)
@@ -131,29 +131,29 @@ level_at t w line column other a b v u c v_in level u_in =
     (sym (level u u_in) ∙ order_numbers t w line column other a b u c (omega (arith, u_in, v_in)))
 
 -- the column stays first where the lines show no difference, or the first difference shows it less
-pub stays_first : (t : Table) (w : IsWholeTable t) (line column other a b : ℕ) → AreCompared t w line column other a b →
+pub stays_first : (t : Table) (w : IsTableau t) (line column other a b : ℕ) → AreCompared t w line column other a b →
     AreLevel t line column other (length t.costs.low) →
-    LeadsNoNegative (turned_column a (numbers_in (suc other) w.unboxed.lows) (pos b)
-    (numbers_in (suc column) w.unboxed.lows))
+    LeadsNoNegative (turned_column a (numbers_in_column (suc other) w.unboxed.lows) (pos b)
+    (numbers_in_column (suc column) w.unboxed.lows))
 stays_first t w line column other a b c level =
     let counted = lows_counted t.top t.costs t.rows.items t.basis.items t.lines.items w in
-    zeros_lead (turned_column a (numbers_in (suc other) w.unboxed.lows) (pos b) (numbers_in (suc column) w.unboxed.lows))
+    zeros_lead (turned_column a (numbers_in_column (suc other) w.unboxed.lows) (pos b) (numbers_in_column (suc column) w.unboxed.lows))
     (λ u u_in.
     (let within : u < length w.unboxed.lows = omega (arith, column_long a (pos b) (suc other) (suc column) w.unboxed.lows, u_in) in
     column_at a (pos b) (suc other) (suc column) w.unboxed.lows u within
     ∙ level_zero _ _ a b (level_at t w line column other a b (length t.costs.low) u c (omega arith) level (omega (arith, counted, within)))))
 
-pub less_first : (t : Table) (w : IsWholeTable t) (line column other a b v : ℕ) →
+pub less_first : (t : Table) (w : IsTableau t) (line column other a b v : ℕ) →
     AreCompared t w line column other a b → v < length t.costs.low → AreLevel t line column other v →
     entries_order (line_at t v) column other
     (divided (entry (line_at t line) (suc other)) (entry (line_at t line) (suc column))) ≡ Greater →
-    LeadsNoNegative (turned_column a (numbers_in (suc other) w.unboxed.lows) (pos b)
-    (numbers_in (suc column) w.unboxed.lows))
+    LeadsNoNegative (turned_column a (numbers_in_column (suc other) w.unboxed.lows) (pos b)
+    (numbers_in_column (suc column) w.unboxed.lows))
 less_first t w line column other a b v c v_in level greater =
     let counted = lows_counted t.top t.costs t.rows.items t.basis.items t.lines.items w in
     let x = number_at (slice_index_or w.unboxed.lows v []) (suc column) in
     let y = number_at (slice_index_or w.unboxed.lows v []) (suc other) in
-    prefix_leads (turned_column a (numbers_in (suc other) w.unboxed.lows) (pos b) (numbers_in (suc column) w.unboxed.lows)) v
+    prefix_leads (turned_column a (numbers_in_column (suc other) w.unboxed.lows) (pos b) (numbers_in_column (suc column) w.unboxed.lows)) v
     (λ u u_in. column_at a (pos b) (suc other) (suc column) w.unboxed.lows u (omega (arith, counted, u_in, v_in))
     ∙ level_zero _ _ a b (level_at t w line column other a b v u c (omega (arith, v_in)) level u_in))
     (omega (arith, column_long a (pos b) (suc other) (suc column) w.unboxed.lows, counted, v_in))
@@ -161,17 +161,17 @@ less_first t w line column other a b v c v_in level greater =
     (greater_rise x y a b (same_numbers Greater (y *ℤ pos a) (x *ℤ pos b) (sym greater ∙ order_numbers t w line column other a b v c v_in))))
 
 -- and the other column comes first where the first difference shows it less
-pub other_first : (t : Table) (w : IsWholeTable t) (line column other a b v : ℕ) →
+pub other_first : (t : Table) (w : IsTableau t) (line column other a b v : ℕ) →
     AreCompared t w line column other a b → v < length t.costs.low → AreLevel t line column other v →
     entries_order (line_at t v) column other
     (divided (entry (line_at t line) (suc other)) (entry (line_at t line) (suc column))) ≡ Less →
-    LeadsNoNegative (turned_column b (numbers_in (suc column) w.unboxed.lows) (pos a)
-    (numbers_in (suc other) w.unboxed.lows))
+    LeadsNoNegative (turned_column b (numbers_in_column (suc column) w.unboxed.lows) (pos a)
+    (numbers_in_column (suc other) w.unboxed.lows))
 other_first t w line column other a b v c v_in level less =
     let counted = lows_counted t.top t.costs t.rows.items t.basis.items t.lines.items w in
     let x = number_at (slice_index_or w.unboxed.lows v []) (suc column) in
     let y = number_at (slice_index_or w.unboxed.lows v []) (suc other) in
-    prefix_leads (turned_column b (numbers_in (suc column) w.unboxed.lows) (pos a) (numbers_in (suc other) w.unboxed.lows)) v
+    prefix_leads (turned_column b (numbers_in_column (suc column) w.unboxed.lows) (pos a) (numbers_in_column (suc other) w.unboxed.lows)) v
     (λ u u_in. column_at b (pos a) (suc column) (suc other) w.unboxed.lows u (omega (arith, counted, u_in, v_in))
     ∙ level_zero _ _ b a (sym (level_at t w line column other a b v u c (omega (arith, v_in)) level u_in)))
     (omega (arith, column_long b (pos a) (suc column) (suc other) w.unboxed.lows, counted, v_in))

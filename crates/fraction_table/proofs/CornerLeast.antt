@@ -7,13 +7,13 @@ use Rattle.std.proofs.lemmas.List.{length-map}
 use Rattle.whole_numbers.proofs.Ring.{var, num, ◌⊕◌, ◌⊗◌, ring}
 use Rattle.area_graph.specs.declared.Point.{Point}
 use Rattle.whole_numbers.specs.Lists.{number_at}
-use Rattle.path_rows.specs.declared.form.Form.{Form}
-use Rattle.path_rows.specs.declared.tree.Member.TheVariants.{Low}
-use Rattle.path_rows.specs.Forms.{value_at, AreMet}
-use Rattle.path_rows.specs.Earnest.{IsLeast}
-use Rattle.path_rows.specs.Basis.{forms_of, member_form, one_form}
+use Rattle.design_problem.specs.declared.form.Form.{Form}
+use Rattle.design_problem.specs.declared.tree.Member.TheVariants.{Low}
+use Rattle.design_problem.specs.Forms.{value_at, AreMet}
+use Rattle.design_problem.specs.Earnest.{IsLeastPoint}
+use Rattle.design_problem.specs.Basis.{forms_of, member_form, one_form}
 use Rattle.fraction_table.specs.declared.table.Table.{Table}
-use Rattle.fraction_table.specs.Wholes.{AreMixtures, IsWholeTable, low_forms}
+use Rattle.fraction_table.specs.ValidTables.{AreMixtures, IsTableau, low_forms}
 use Rattle.fraction_table.specs.Pivots.{AreHigh}
 use Rattle.fraction_table.proofs.theory.Points.{equation_at, mixed_at}
 use Rattle.fraction_table.proofs.theory.Corner.{one_value, row_sum}
@@ -65,7 +65,7 @@ resolves n a D basis p (l ∷ low) (ts ∷ rows) (y ∷ ys) met are same there =
   resolves n (a + 1) D basis p low rows ys met are.1 (omega arith) (λ u v m u_is v_in. there u (suc v) m (omega arith) (omega arith)),
 )
 
-pub corner_is_least : (t : Table) (w : IsWholeTable t) → AreHigh t → IsLeast (AreMet t.rows.items) t.costs (corner_point t w)
+pub corner_is_least : (t : Table) (w : IsTableau t) → AreHigh t → IsLeastPoint (AreMet t.rows.items) t.costs (corner_point t w)
 corner_is_least t w high =
     let n = length t.costs.low in
     let p = corner_point t w in

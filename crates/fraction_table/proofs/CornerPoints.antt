@@ -6,10 +6,10 @@ use Rattle.std.specs.List.{AllZip}
 use Rattle.cost_base.proofs.ListLemmas.{length_zip}
 use Rattle.whole_numbers.proofs.Ring.{var, num, ◌⊕◌, ◌⊗◌, ring, ring_by, nothing, using}
 use Rattle.area_graph.specs.declared.Point.{Point}
-use Rattle.path_rows.specs.declared.form.Form.{Form}
-use Rattle.path_rows.specs.declared.form.CostBox.{CostBox}
-use Rattle.path_rows.specs.Forms.{dot, value_at, AreMet}
-use Rattle.path_rows.specs.Earnest.{IsLeast, LexLess}
+use Rattle.design_problem.specs.declared.form.Form.{Form}
+use Rattle.design_problem.specs.declared.form.CostBox.{CostBox}
+use Rattle.design_problem.specs.Forms.{dot, value_at, AreMet}
+use Rattle.design_problem.specs.Earnest.{IsLeastPoint, LexLess}
 use Rattle.fraction_table.proofs.Solutions.{high_number}
 use Rattle.fraction_table.proofs.theory.Zips.{zip_at}
 
@@ -73,7 +73,7 @@ same_before e d o (x ∷ xs) (y ∷ ys) (z ∷ zs) e_positive d_positive same be
     ]
 
 pub same_point : (costs : CostBox) (rows : List Form) (p q : Point) → 0 < p.scale → IsSamePoint p q →
-    IsLeast (AreMet rows) costs q → IsLeast (AreMet rows) costs p
+    IsLeastPoint (AreMet rows) costs q → IsLeastPoint (AreMet rows) costs p
 same_point costs rows p q positive same least =
     let long = length_zip (λ y z. y * q.scale ≡ z * p.scale) p.values q.values same in
     let q_positive = least.inside.scale in

@@ -17,16 +17,16 @@ use Rattle.wide_fraction.specs.Widths.{IsTop}
 use Rattle.wide_fraction.specs.declared.steps.Wide.{Wide}
 use Rattle.area_graph.specs.declared.Point.{Point}
 use Rattle.whole_numbers.specs.Lists.{number_at}
-use Rattle.path_rows.specs.Basis.{entry}
-use Rattle.path_rows.specs.Earnest.{IsLeast}
-use Rattle.path_rows.specs.Steps.{IsStep, IsTooWide, lcm_of, two_to_27}
-use Rattle.path_rows.specs.Steps.IsStep.{corner_multiple, corner_scale}
-use Rattle.path_rows.specs.Forms.{AreMet}
+use Rattle.design_problem.specs.Basis.{entry}
+use Rattle.design_problem.specs.Earnest.{IsLeastPoint}
+use Rattle.design_problem.specs.Steps.{IsTableStep, IsStepTooWide, lcm_of, two_to_27}
+use Rattle.design_problem.specs.Steps.IsTableStep.{corner_multiple, corner_scale}
+use Rattle.design_problem.specs.Forms.{AreMet}
 use Rattle.fraction_table.specs.declared.table.Table.{Table}
 use Rattle.fraction_table.specs.Corners.{constant_at, corner_entry, denominators_of, raised_by}
 use Rattle.fraction_rows.specs.Entries.{IsPassing}
 use Rattle.fraction_table.specs.Tableaus.{wide_at}
-use Rattle.fraction_table.specs.Wholes.{IsWholeTable}
+use Rattle.fraction_table.specs.ValidTables.{IsTableau}
 use Rattle.fraction_table.specs.Pivots.{AreHigh, line_at}
 use Rattle.fraction_table.proofs.Bases.{low_line_stands}
 use Rattle.fraction_rows.proofs.RowLaws.{number_at as number_there}
@@ -51,22 +51,22 @@ fold_positive a (d ∷ ds) a_positive positive =
 pub next_multiple : (ds : List ℕ) (k : ℕ) → k < length ds → lcm_of (take (k + 1) ds) ≡ lcm (lcm_of (take k ds)) (slice_index_or ds k 0)
 next_multiple ds k k_in = ap lcm_of (take_more ds k 0 k_in) ∙ fold-append lcm 1 (take k ds) (slice_index_or ds k 0 ∷ [])
 
-pub denominators_long : (t : Table) (w : IsWholeTable t) → length (denominators_of t) ≡ length t.costs.low
+pub denominators_long : (t : Table) (w : IsTableau t) → length (denominators_of t) ≡ length t.costs.low
 denominators_long t w =
     length-map (take (length t.costs.low) t.lines.items) (λ (line : List Fraction). (entry line 0).denominator)
     ∙ length-take-le (length t.costs.low) t.lines.items (omega (arith, lines_long t w))
 
-pub denominator_at : (t : Table) (w : IsWholeTable t) (k : ℕ) → k < length t.costs.low → slice_index_or (denominators_of t) k 0 ≡ (constant_at t k).denominator
+pub denominator_at : (t : Table) (w : IsTableau t) (k : ℕ) → k < length t.costs.low → slice_index_or (denominators_of t) k 0 ≡ (constant_at t k).denominator
 denominator_at t w k k_in =
     get_or-map (λ (line : List Fraction). (entry line 0).denominator) (take (length t.costs.low) t.lines.items) k [] 0
     (omega (arith, length-take-le (length t.costs.low) t.lines.items (omega (arith, lines_long t w)), k_in))
     ∙ ap (λ (line : List Fraction). (entry line 0).denominator) (get_or-take (length t.costs.low) t.lines.items k [] k_in)
 
-pub constant_positive : (t : Table) (w : IsWholeTable t) (k : ℕ) → k < length t.costs.low → 0 < (constant_at t k).denominator
+pub constant_positive : (t : Table) (w : IsTableau t) (k : ℕ) → k < length t.costs.low → 0 < (constant_at t k).denominator
 constant_positive t w k k_in = (low_line_stands t.top t.costs t.rows.items t.basis.items t.lines.items w k 0 k_in (omega arith)).0
 
 -- the multiples on the way are positive
-pub taken_positive : (t : Table) (w : IsWholeTable t) (k : ℕ) → k ≤ length t.costs.low → 0 < lcm_of (take k (denominators_of t))
+pub taken_positive : (t : Table) (w : IsTableau t) (k : ℕ) → k ≤ length t.costs.low → 0 < lcm_of (take k (denominators_of t))
 taken_positive t w k k_in =
     let ds = denominators_of t in
     let taken : length (take k ds) ≡ k = length-take-le k ds (omega (arith, denominators_long t w, k_in)) in
@@ -75,13 +75,13 @@ taken_positive t w k k_in =
     (let inside : j < length t.costs.low = omega (arith, taken, j_in, k_in) in
     subst (λ (d : ℕ). 0 < d) (sym (get_or-take k ds j 0 (omega (arith, taken, j_in)) ∙ denominator_at t w j inside)) (constant_positive t w j inside)))
 
-pub scale_positive : (t : Table) (w : IsWholeTable t) → 0 < lcm_of (denominators_of t)
+pub scale_positive : (t : Table) (w : IsTableau t) → 0 < lcm_of (denominators_of t)
 scale_positive t w =
     subst (λ (ds : List ℕ). 0 < lcm_of ds) (take_all (length t.costs.low) (denominators_of t) (omega (arith, denominators_long t w)))
     (taken_positive t w (length t.costs.low) (omega arith))
 
 -- one more denominator
-pub multiple_more : (t : Table) (w : IsWholeTable t) (k : ℕ) (old right new : ℤ) → k < length t.costs.low →
+pub multiple_more : (t : Table) (w : IsTableau t) (k : ℕ) (old right new : ℤ) → k < length t.costs.low →
     old ≡ pos (lcm_of (take k (denominators_of t))) → right ≡ pos (constant_at t k).denominator →
     new ≡ pos (lcm (nat_abs old) (nat_abs right)) → new ≡ pos (lcm_of (take (k + 1) (denominators_of t)))
 multiple_more t w k old right new k_in old_is right_is new_is =
@@ -92,13 +92,13 @@ multiple_more t w k old right new k_in old_is right_is new_is =
     ∙ ap pos (sym (next_multiple ds k (omega (arith, denominators_long t w, k_in))))
 
 -- a constant that is read from a line
-pub constant_read : (t : Table) (w : IsWholeTable t) (k : ℕ) (q : Fraction) (row : List Fraction) →
+pub constant_read : (t : Table) (w : IsTableau t) (k : ℕ) (q : Fraction) (row : List Fraction) →
     k < length t.costs.low → q ≡ entry row 0 → row ≡ slice_index_or t.lines.items k row → q ≡ constant_at t k
 constant_read t w k q row k_in q_is row_is =
     q_is ∙ ap (λ (line : List Fraction). entry line 0) (line_read t k row row_is (omega (arith, lines_long t w, k_in)))
 
 -- its denominator is a number of the table
-pub denominator_within : (t : Table) (w : IsWholeTable t) (k : ℕ) → k < length t.costs.low → (constant_at t k).denominator ≤ t.top
+pub denominator_within : (t : Table) (w : IsTableau t) (k : ℕ) → k < length t.costs.low → (constant_at t k).denominator ≤ t.top
 denominator_within t w k k_in =
     let line_in : k < length t.lines.items = omega (arith, lines_long t w, k_in) in
     (number_there t.top (line_at t k) 0 (whole_line t w k line_in).numbers (omega (arith, line_long t w k line_in))).within.denominator
@@ -109,7 +109,7 @@ top_bounds top is =
     let most : 2 ^ is.0 ≤ 2 ^ 127 = pow_mono is.2 in
     (omega (arith, is.3, least), omega (arith, is.3, least, most))
 
-divides_scale : (t : Table) (w : IsWholeTable t) (k : ℕ) → k < length t.costs.low → (constant_at t k).denominator ∣ lcm_of (denominators_of t)
+divides_scale : (t : Table) (w : IsTableau t) (k : ℕ) → k < length t.costs.low → (constant_at t k).denominator ∣ lcm_of (denominators_of t)
 divides_scale t w k k_in =
     subst (λ (d : ℕ). d ∣ lcm_of (denominators_of t)) (denominator_at t w k k_in)
     (each_divides 1 (denominators_of t) k (omega (arith, denominators_long t w, k_in)))
@@ -136,7 +136,7 @@ same_sum l n part den m D d parts stands =
     (using (var 2) (var 1 ⊗ var 5) (var 4 ⊗ var 3) (ap pos stands) nothing)) refl)
 
 -- the value of a variable over the scale is that of the corner over the common denominator
-same_entry : (t : Table) (w : IsWholeTable t) → AreHigh t → (scale k : ℕ) → scale ≡ lcm_of (denominators_of t) →
+same_entry : (t : Table) (w : IsTableau t) → AreHigh t → (scale k : ℕ) → scale ≡ lcm_of (denominators_of t) →
     k < length t.costs.low → corner_entry t scale k * w.unboxed.common
     ≡ slice_index (corner_of w.unboxed.common t.costs.low w.unboxed.lows) k * scale
 same_entry t w high scale k scale_is k_in =
@@ -150,7 +150,7 @@ same_entry t w high scale k scale_is k_in =
     ∙ ap (λ (x : ℕ). x * scale) (sym (corner_at w.unboxed.common t.costs.low w.unboxed.lows k k_in (counted_lows t w)))
 
 -- it isn't above the high bound
-pub entry_within : (t : Table) (w : IsWholeTable t) → AreHigh t → (scale k : ℕ) → scale ≡ lcm_of (denominators_of t) →
+pub entry_within : (t : Table) (w : IsTableau t) → AreHigh t → (scale k : ℕ) → scale ≡ lcm_of (denominators_of t) →
     k < length t.costs.low → corner_entry t scale k ≤ slice_index t.costs.high k * scale
 entry_within t w high scale k scale_is k_in =
     let fits = corner_fits t w high in
@@ -162,10 +162,10 @@ entry_within t w high scale k scale_is k_in =
     (same_entry t w high scale k scale_is k_in) (fits.0.below k (omega (arith, counted, k_in)))
 
 -- the point of these values is least
-pub values_least : (t : Table) (w : IsWholeTable t) → AreHigh t → (p : Point) → p.scale ≡ lcm_of (denominators_of t) →
+pub values_least : (t : Table) (w : IsTableau t) → AreHigh t → (p : Point) → p.scale ≡ lcm_of (denominators_of t) →
     length p.values ≡ length t.costs.low →
     ((k : ℕ) → k < length t.costs.low → slice_index p.values k ≡ corner_entry t p.scale k) →
-    IsLeast (AreMet t.rows.items) t.costs p
+    IsLeastPoint (AreMet t.rows.items) t.costs p
 values_least t w high p scale_is counted values =
     let q = corner_point t w in
     let long : length q.values ≡ length t.costs.low = corner_long w.unboxed.common t.costs.low w.unboxed.lows (counted_lows t w) in
@@ -177,10 +177,10 @@ values_least t w high p scale_is counted values =
     (corner_is_least t w high)
 
 -- a multiple that is too wide is a step of the basis
-pub multiple_wide : (t : Table) (w : IsWholeTable t) (k : ℕ) (left right : ℤ) (wide : Wide) → k < length t.costs.low →
+pub multiple_wide : (t : Table) (w : IsTableau t) (k : ℕ) (left right : ℤ) (wide : Wide) → k < length t.costs.low →
     left ≡ pos (lcm_of (take k (denominators_of t))) → right ≡ pos (constant_at t k).denominator →
     wide ≡ record { step = Lcm; left = whole left; right = whole right } → IsPassing t.top wide →
-    IsTooWide t.top t.costs t.rows.items (wide_at wide t.basis.items)
+    IsStepTooWide t.top t.costs t.rows.items (wide_at wide t.basis.items)
 multiple_wide t w k left right wide k_in left_is right_is wide_is passes =
     let ds = denominators_of t in
     let there : slice_get ds k ≡ Some (constant_at t k).denominator =
@@ -190,23 +190,23 @@ multiple_wide t w k left right wide k_in left_is right_is wide_is passes =
     ∙ ap {B = Wide} (λ (z : ℤ). record { step = Lcm; left = whole z; right = whole right }) left_is
     ∙ ap {B = Wide} (λ (z : ℤ). record { step = Lcm; left = whole (pos (lcm_of (take k ds))); right = whole z }) right_is in
     wide_step t w wide (subst (λ (s : Wide).
-    IsStep t.costs t.rows.items t.basis.items (take (length t.costs.low) t.lines.items) s.step s.left s.right)
+    IsTableStep t.costs t.rows.items t.basis.items (take (length t.costs.low) t.lines.items) s.step s.left s.right)
     (sym is) (corner_multiple k (constant_at t k).denominator there)) passes
 
 -- and so is a scale that is
-pub scale_wide : (t : Table) (w : IsWholeTable t) (multiple : ℤ) (wide : Wide) →
+pub scale_wide : (t : Table) (w : IsTableau t) (multiple : ℤ) (wide : Wide) →
     multiple ≡ pos (lcm_of (denominators_of t)) →
     wide ≡ record { step = Scale; left = whole multiple; right = two_to_27 } → IsPassing t.top wide →
-    IsTooWide t.top t.costs t.rows.items (wide_at wide t.basis.items)
+    IsStepTooWide t.top t.costs t.rows.items (wide_at wide t.basis.items)
 scale_wide t w multiple wide multiple_is wide_is passes =
     let is : wide ≡ record { step = Scale; left = whole (pos (lcm_of (denominators_of t))); right = two_to_27 } =
     wide_is ∙ ap {B = Wide} (λ (z : ℤ). record { step = Scale; left = whole z; right = two_to_27 }) multiple_is in
     wide_step t w wide (subst (λ (s : Wide).
-    IsStep t.costs t.rows.items t.basis.items (take (length t.costs.low) t.lines.items) s.step s.left s.right)
+    IsTableStep t.costs t.rows.items t.basis.items (take (length t.costs.low) t.lines.items) s.step s.left s.right)
     (sym is) corner_scale) passes
 
 -- it fits 128 bits
-pub entry_small : (t : Table) (w : IsWholeTable t) → AreHigh t → (scale k : ℕ) → scale ≡ lcm_of (denominators_of t) →
+pub entry_small : (t : Table) (w : IsTableau t) → AreHigh t → (scale k : ℕ) → scale ≡ lcm_of (denominators_of t) →
     scale < 2 ^ 100 → k < length t.costs.low → slice_index t.costs.high k < 65536 → corner_entry t scale k < 2 ^ 128
 entry_small t w high scale k scale_is scale_small k_in high_small =
     let within = entry_within t w high scale k scale_is k_in in
@@ -237,10 +237,10 @@ values_more t scale k value old new k_in before value_is new_is j j_in =
     earlier other = elim (cases_lt j k) [ inl less ↦ less | inr more ↦ absurd (other (omega (arith, more, j_in))) ]
 
 -- what a test of the scale answers
-pub tested_wide : (t : Table) (w : IsWholeTable t) (multiple : ℤ) (tested : Result ℕ Wide) →
+pub tested_wide : (t : Table) (w : IsTableau t) (multiple : ℤ) (tested : Result ℕ Wide) →
     multiple ≡ pos (lcm_of (denominators_of t)) →
     IfErr tested (λ wide. wide ≡ record { step = Scale; left = whole multiple; right = two_to_27 }) →
     IfErr tested (λ wide. IsPassing t.top wide) →
-    IfErr tested (λ wide. IsTooWide t.top t.costs t.rows.items (wide_at wide t.basis.items))
+    IfErr tested (λ wide. IsStepTooWide t.top t.costs t.rows.items (wide_at wide t.basis.items))
 tested_wide t w multiple (Ok scale) multiple_is named passes = tt
 tested_wide t w multiple (Err wide) multiple_is named passes = scale_wide t w multiple wide multiple_is named passes

@@ -1,6 +1,6 @@
 pub mod theory
 pub mod StandingRows
-pub mod WholeTurns
+pub mod IntegralTurns
 pub mod Bases
 pub mod StartingTables
 pub mod StartLines

@@ -8,15 +8,15 @@ use Rattle.std.proofs.lemmas.List.Elements.{All-append}
 use Rattle.cost_base.specs.Lists.{numbers_from}
 use Rattle.whole_numbers.specs.Fractions.{Fraction}
 use Rattle.cost_base.proofs.ListLemmas.{numbers_from-push, zip_push}
-use Rattle.path_rows.specs.declared.form.Form.{Form}
-use Rattle.path_rows.specs.declared.form.CostBox.{CostBox}
-use Rattle.path_rows.specs.declared.tree.Member.{Member}
-use Rattle.path_rows.specs.declared.tree.Member.TheVariants.{Low, High, Row}
-use Rattle.path_rows.specs.Forms.{no_form}
-use Rattle.path_rows.specs.Basis.{IsFormOf, forms_of, low_member, member_form}
-use Rattle.fraction_rows.specs.TableRows.{AreNumbers}
+use Rattle.design_problem.specs.declared.form.Form.{Form}
+use Rattle.design_problem.specs.declared.form.CostBox.{CostBox}
+use Rattle.design_problem.specs.declared.tree.Member.{Member}
+use Rattle.design_problem.specs.declared.tree.Member.TheVariants.{Low, High, Row}
+use Rattle.design_problem.specs.Forms.{no_form}
+use Rattle.design_problem.specs.Basis.{IsFormOf, forms_of, low_member, member_form}
+use Rattle.fraction_rows.specs.TableRows.{AreTableNumbers}
 use Rattle.fraction_table.specs.Tableaus.{FitsBox}
-use Rattle.fraction_table.specs.Wholes.{AreMixtures, IsLine, IsWhole, Stand, high_member, low_forms, members_of, number_of, numbers_of}
+use Rattle.fraction_table.specs.ValidTables.{AreMixtures, IsTableLine, IsTableauOf, Stand, high_member, low_forms, members_of_box, number_of_form, numbers_of_form}
 use Rattle.fraction_table.proofs.StartingTables.{members_are}
 
 pub one_all : {X : Type 0} (P : X → Type 0) (x : X) → P x → All P (x ∷ [])
@@ -45,19 +45,19 @@ forms_kept costs rows f (member ∷ members) are =
     )
 
 line_kept : (top D : ℕ) (costs : CostBox) (rows : List Form) (f : Form) (lows : List (List ℤ)) (member : Member)
-    (line : List Fraction) → IsFormOf costs rows member → IsLine top D costs rows lows member line →
-    IsLine top D costs (rows ++ f ∷ []) lows member line
+    (line : List Fraction) → IsFormOf costs rows member → IsTableLine top D costs rows lows member line →
+    IsTableLine top D costs (rows ++ f ∷ []) lows member line
 line_kept top D costs rows f lows member line is l =
     record {
       numbers = l.numbers;
-      stand = subst (λ (g : Form). Stand D line (numbers_of (length costs.low) D costs.low lows g))
+      stand = subst (λ (g : Form). Stand D line (numbers_of_form (length costs.low) D costs.low lows g))
           (sym (form_kept (length costs.low) costs rows f member is)) l.stand;
     }
 
 lines_kept : (top D : ℕ) (costs : CostBox) (rows : List Form) (f : Form) (lows : List (List ℤ)) (members : List Member)
     (table : List (List Fraction)) → All (IsFormOf costs rows) members →
-    AllZip (IsLine top D costs rows lows) members table →
-    AllZip (IsLine top D costs (rows ++ f ∷ []) lows) members table
+    AllZip (IsTableLine top D costs rows lows) members table →
+    AllZip (IsTableLine top D costs (rows ++ f ∷ []) lows) members table
 lines_kept top D costs rows f lows [] [] are all = tt
 lines_kept top D costs rows f lows [] (line ∷ table) are all = absurd all
 lines_kept top D costs rows f lows (member ∷ members) [] are all = absurd all
@@ -67,7 +67,7 @@ lines_kept top D costs rows f lows (member ∷ members) (line ∷ table) are all
 )
 
 -- the row's member comes last
-pub members_more : (costs : CostBox) (rows : ℕ) → members_of costs (rows + 1) ≡ members_of costs rows ++ Row rows ∷ []
+pub members_more : (costs : CostBox) (rows : ℕ) → members_of_box costs (rows + 1) ≡ members_of_box costs rows ++ Row rows ∷ []
 members_more costs rows =
     let lows = map (low_member costs) (numbers_from 0 (length costs.low)) in
     let highs = map (high_member costs) (numbers_from 0 (length costs.low)) in
@@ -79,19 +79,19 @@ members_more costs rows =
 
 -- With a form that fits, and with its line, the table is whole.
 pub whole_more : (top : ℕ) (costs : CostBox) (rows : List Form) (basis : List Member) (table : List (List Fraction))
-    (f : Form) (line : List Fraction) (w : IsWhole top costs rows basis table) → FitsBox costs f → AreNumbers top line →
-    Stand w.unboxed.common line (numbers_of (length costs.low) w.unboxed.common costs.low w.unboxed.lows f) →
-    IsWhole top costs (rows ++ f ∷ []) basis (table ++ line ∷ [])
+    (f : Form) (line : List Fraction) (w : IsTableauOf top costs rows basis table) → FitsBox costs f → AreTableNumbers top line →
+    Stand w.unboxed.common line (numbers_of_form (length costs.low) w.unboxed.common costs.low w.unboxed.lows f) →
+    IsTableauOf top costs (rows ++ f ∷ []) basis (table ++ line ∷ [])
 whole_more top costs rows basis table f line w fits numbers stand =
     let n = length costs.low in
     let more = rows ++ f ∷ [] in
     let same = sym (forms_kept costs rows f basis w.unboxed.members) in
     let counted : length rows + 1 ≡ length more = omega (arith, length-append rows (f ∷ [])) in
-    let last : IsLine top w.unboxed.common costs more w.unboxed.lows (Row (length rows)) line =
+    let last : IsTableLine top w.unboxed.common costs more w.unboxed.lows (Row (length rows)) line =
     record {
       numbers = numbers;
       stand = subst
-          (λ (g : Form). Stand w.unboxed.common line (numbers_of n w.unboxed.common costs.low w.unboxed.lows g))
+          (λ (g : Form). Stand w.unboxed.common line (numbers_of_form n w.unboxed.common costs.low w.unboxed.lows g))
           (sym (get_or-append_seam rows f [] no_form)) stand;
     } in
     record {
@@ -109,16 +109,16 @@ whole_more top costs rows basis table f line w fits numbers stand =
         long = w.unboxed.long;
         mixtures = subst (λ (bs : List Form). AreMixtures w.unboxed.common bs (low_forms n 0 costs.low) w.unboxed.lows) same w.unboxed.mixtures;
         own = subst (λ (bs : List Form). (k : ℕ) → k < n →
-            number_of w.unboxed.common costs.low w.unboxed.lows (slice_index_or bs k no_form) (suc k)
+            number_of_form w.unboxed.common costs.low w.unboxed.lows (slice_index_or bs k no_form) (suc k)
             ≡ pos w.unboxed.common) same w.unboxed.own;
         elsewhere = subst (λ (bs : List Form). (k place : ℕ) → k < n → place ≤ n → place ≢ suc k →
-            number_of w.unboxed.common costs.low w.unboxed.lows (slice_index_or bs k no_form) place ≡ pos 0) same
+            number_of_form w.unboxed.common costs.low w.unboxed.lows (slice_index_or bs k no_form) place ≡ pos 0) same
             w.unboxed.elsewhere;
         lead = w.unboxed.lead;
         lines =
-            subst (λ (members : List Member). AllZip (IsLine top w.unboxed.common costs more w.unboxed.lows) members
-            (table ++ line ∷ [])) (sym (members_more costs (length rows)) ∙ ap (members_of costs) counted)
-            (zip_push (IsLine top w.unboxed.common costs more w.unboxed.lows) (members_of costs (length rows)) table (Row (length rows)) line
-            (lines_kept top w.unboxed.common costs rows f w.unboxed.lows (members_of costs (length rows)) table (members_are costs rows) w.unboxed.lines) last);
+            subst (λ (members : List Member). AllZip (IsTableLine top w.unboxed.common costs more w.unboxed.lows) members
+            (table ++ line ∷ [])) (sym (members_more costs (length rows)) ∙ ap (members_of_box costs) counted)
+            (zip_push (IsTableLine top w.unboxed.common costs more w.unboxed.lows) (members_of_box costs (length rows)) table (Row (length rows)) line
+            (lines_kept top w.unboxed.common costs rows f w.unboxed.lows (members_of_box costs (length rows)) table (members_are costs rows) w.unboxed.lines) last);
       };
     }

@@ -8,10 +8,10 @@ use Rattle.whole_numbers.proofs.Sums.{lowest_unique}
 use Rattle.whole_numbers.proofs.FractionLaws.{product_positive, reduced_lowest}
 use Rattle.whole_numbers.proofs.Multiples.{plus_stands_over}
 use Rattle.wide_fraction.specs.Widths.{IsWithin}
-use Rattle.path_rows.specs.Basis.{entry}
-use Rattle.fraction_rows.specs.TableRows.{AreNumbers, IsNumber, nothing}
-use Rattle.fraction_rows.specs.Turns.{AreRows}
-use Rattle.path_rows.specs.declared.tree.Member.{Member}
+use Rattle.design_problem.specs.Basis.{entry}
+use Rattle.fraction_rows.specs.TableRows.{AreTableNumbers, IsTableNumber, nothing}
+use Rattle.fraction_rows.specs.Turns.{AreTableRows}
+use Rattle.design_problem.specs.declared.tree.Member.{Member}
 use Rattle.fraction_table.specs.Moves.{IsColumnOf, put_at, raised_line}
 use Rattle.fraction_rows.proofs.ZeroFractions.{lowest_zero, nothing_number, nothing_times, times_lowest}
 use Rattle.fraction_rows.proofs.RowLaws.{number_at, rows_at, rows_set, written_numbers}
@@ -33,7 +33,7 @@ first_put (q ∷ line) some = refl
 
 -- where the entry is 0 the line stays as it is
 pub none_raised : (top : ℕ) (line : List Fraction) (column : ℕ) (fall value : Fraction) → suc column < length line →
-    AreNumbers top line → IsNumber top fall → value ≡ entry line (suc column) → value.numerator ≡ pos 0 →
+    AreTableNumbers top line → IsTableNumber top fall → value ≡ entry line (suc column) → value.numerator ≡ pos 0 →
     line ≡ raised_line column fall line
 none_raised top line column fall value column_in numbers fall_is value_is none =
     let here = number_at top line (suc column) numbers column_in in
@@ -56,30 +56,30 @@ raised_is line now column fall value first product constant value_is first_is pr
 
 -- its numbers are ones of the table
 pub raised_numbers : (top : ℕ) (line now : List Fraction) (fall value first product constant : Fraction) →
-    AreNumbers top line → IsNumber top first → IsNumber top value → IsNumber top fall → product ≡ times value fall →
-    constant ≡ plus first product → IsWithin top constant → now ≡ slice_set line 0 constant → AreNumbers top now
+    AreTableNumbers top line → IsTableNumber top first → IsTableNumber top value → IsTableNumber top fall → product ≡ times value fall →
+    constant ≡ plus first product → IsWithin top constant → now ≡ slice_set line 0 constant → AreTableNumbers top now
 raised_numbers top line now fall value first product constant numbers first_is value_is fall_is product_is constant_is within now_is =
     let product_lowest : IsLowest product = subst IsLowest (sym product_is) (times_lowest value fall value_is.lowest.positive fall_is.lowest.positive) in
-    let constant_number : IsNumber top constant =
+    let constant_number : IsTableNumber top constant =
     record {
       lowest = subst IsLowest (sym constant_is)
           (plus_lowest first product first_is.lowest.positive product_lowest.positive);
       within = within;
     } in
-    subst (AreNumbers top) (sym now_is) (written_numbers top line 0 constant numbers constant_number)
+    subst (AreTableNumbers top) (sym now_is) (written_numbers top line 0 constant numbers constant_number)
 
 -- a line whose constant is made 0
 pub zeroed : (top count : ℕ) (lines : List (List Fraction)) (own : ℕ) (d now : List Fraction) (value : Fraction) →
-    AreRows top count lines → own < length lines → value ≡ nothing →
-    now ≡ slice_set (slice_index_or lines own d) 0 value → AreRows top count (slice_set lines own now)
+    AreTableRows top count lines → own < length lines → value ≡ nothing →
+    now ≡ slice_set (slice_index_or lines own d) 0 value → AreTableRows top count (slice_set lines own now)
 zeroed top count lines own d now value rows own_in value_is now_is =
     let here = rows_at top count lines own d rows own_in in
     let line = slice_index_or lines own d in
-    let put : AreNumbers top (slice_set line 0 nothing) = none_put line here.1 in
+    let put : AreTableNumbers top (slice_set line 0 nothing) = none_put line here.1 in
     rows_set top count lines own now rows (ap length now_is ∙ length-set line 0 value ∙ here.0)
-    (subst (AreNumbers top) (sym (now_is ∙ ap (λ (q : Fraction). slice_set line 0 q) value_is)) put)
+    (subst (AreTableNumbers top) (sym (now_is ∙ ap (λ (q : Fraction). slice_set line 0 q) value_is)) put)
   where
-    none_put : (line : List Fraction) → AreNumbers top line → AreNumbers top (slice_set line 0 nothing)
+    none_put : (line : List Fraction) → AreTableNumbers top line → AreTableNumbers top (slice_set line 0 nothing)
     none_put [] numbers = tt
     none_put (q ∷ line) numbers = (nothing_number top q numbers.0, numbers.1)
 

@@ -16,16 +16,16 @@ use Rattle.whole_numbers.proofs.Sizes.{negated_size}
 use Rattle.whole_numbers.proofs.Sums.{lowest_unique}
 use Rattle.wide_fraction.specs.Widths.{IsWithin}
 use Rattle.wide_fraction.proofs.Quotients.{zero_stands}
-use Rattle.path_rows.specs.declared.form.Form.{Form}
-use Rattle.path_rows.specs.declared.form.CostBox.{CostBox}
-use Rattle.path_rows.specs.declared.tree.Member.{Member}
-use Rattle.path_rows.specs.declared.tree.Member.TheVariants.{Low, High, Row}
-use Rattle.path_rows.specs.Basis.{IsFormOf, entry}
-use Rattle.path_rows.specs.Steps.{column_part, column_parts, denominators, made_whole, multipliers, own_part, unless_zero}
+use Rattle.design_problem.specs.declared.form.Form.{Form}
+use Rattle.design_problem.specs.declared.form.CostBox.{CostBox}
+use Rattle.design_problem.specs.declared.tree.Member.{Member}
+use Rattle.design_problem.specs.declared.tree.Member.TheVariants.{Low, High, Row}
+use Rattle.design_problem.specs.Basis.{IsFormOf, entry}
+use Rattle.design_problem.specs.Steps.{column_part, column_parts, denominators, made_whole, refuting_multipliers, own_part, unless_zero}
 use Rattle.fraction_rows.specs.Entries.{AllNumbers}
-use Rattle.fraction_rows.specs.TableRows.{AreNumbers, IsNumber}
-use Rattle.fraction_table.specs.Wholes.{Stand}
-use Rattle.fraction_table.specs.Multipliers.{IsPart, columns_numbered, common_of, fractions, fractions_of, numbered, whole_part, whole_parts, wholes}
+use Rattle.fraction_rows.specs.TableRows.{AreTableNumbers, IsTableNumber}
+use Rattle.fraction_table.specs.ValidTables.{Stand}
+use Rattle.fraction_table.specs.Multipliers.{IsMultiplier, columns_numbered, common_of, fractions, fractions_of, numbered, whole_part, whole_parts, wholes}
 use Rattle.fraction_rows.proofs.ZeroFractions.{times_lowest}
 use Rattle.fraction_table.proofs.Solutions.{low_number}
 use Rattle.fraction_table.proofs.MultiplierSums.{AreMade, IsEntry}
@@ -53,7 +53,7 @@ columns_fractions (member ∷ members) (q ∷ qs) =
     ∙ ap (λ ps. ps ++ fractions (columns_numbered members qs)) (column_fractions member q)
     ∙ ap (λ ps. column_part member q ++ ps) (columns_fractions members qs)
 
-pub fractions_are : (basis : List Member) (r : Member) (es : List Fraction) → fractions (fractions_of basis r es) ≡ multipliers basis r es
+pub fractions_are : (basis : List Member) (r : Member) (es : List Fraction) → fractions (fractions_of basis r es) ≡ refuting_multipliers basis r es
 fractions_are basis r es =
     map-append (λ (part : ℕ × Fraction). part.1) (numbered r (whole (pos 1) ∷ [])) (columns_numbered basis (drop 1 es))
     ∙ ap (λ ps. ps ++ fractions (columns_numbered basis (drop 1 es))) (own_fractions r)
@@ -101,26 +101,26 @@ fractions_next basis r es k n member q olds news k_in k_there long olds_are memb
     one_more : (j : ℕ) → suc j ≡ j + 1
     one_more j = omega arith
 
-pub one_number : (top : ℕ) → IsWithin top (whole (pos 1)) → IsNumber top (whole (pos 1))
+pub one_number : (top : ℕ) → IsWithin top (whole (pos 1)) → IsTableNumber top (whole (pos 1))
 one_number top within = record { lowest = record { positive = omega arith; lowest = gcd-one 1 }; within = within }
 
-negated_number : (top : ℕ) (q : Fraction) → IsNumber top q → IsNumber top (negated q)
+negated_number : (top : ℕ) (q : Fraction) → IsTableNumber top q → IsTableNumber top (negated q)
 negated_number top q is =
     record {
       lowest = record { positive = is.lowest.positive; lowest = ap (λ n. gcd n q.denominator) (negated_size q.numerator) ∙ is.lowest.lowest };
       within = record { numerator = omega (arith, negated_size q.numerator, is.within.numerator); denominator = is.within.denominator };
     }
 
-column_is : (top count row : ℕ) (z : ℤ) (q : Fraction) → z ≡ q.numerator → row < count → IsNumber top q →
-    q.numerator ≤ℤ pos 0 → AllByRecursion (IsPart top count) (numbered (Row row) (unless_zero z q))
+column_is : (top count row : ℕ) (z : ℤ) (q : Fraction) → z ≡ q.numerator → row < count → IsTableNumber top q →
+    q.numerator ≤ℤ pos 0 → AllByRecursion (IsMultiplier top count) (numbered (Row row) (unless_zero z q))
 column_is top count row (pos zero) q z_is row_in is low = tt
 column_is top count row (pos (suc n)) q z_is row_in is low = absurd (omega (arith, ints))
 column_is top count row (negsuc n) q z_is row_in is low =
     (record { row = row_in; number = negated_number top q is; positive = subst (λ (z : ℤ). pos 0 <ℤ neg_ℤ z) z_is (omega (arith, ints)) }, tt)
 
 numbered_are : (top : ℕ) (costs : CostBox) (rows : List Form) (member : Member) (q : Fraction) →
-    IsFormOf costs rows member → IsNumber top q → q.numerator ≤ℤ pos 0 →
-    AllByRecursion (IsPart top (length rows)) (numbered member (unless_zero q.numerator q))
+    IsFormOf costs rows member → IsTableNumber top q → q.numerator ≤ℤ pos 0 →
+    AllByRecursion (IsMultiplier top (length rows)) (numbered member (unless_zero q.numerator q))
 numbered_are top costs rows (Low v bound) q is number low = tt
 numbered_are top costs rows (High v bound) q is number low = tt
 numbered_are top costs rows (Row row) q is number low = column_is top (length rows) row q.numerator q refl is number low
@@ -129,22 +129,22 @@ abbrev pub AreLow : List Fraction → Type 0
 AreLow qs = AllByRecursion (λ q. q.numerator ≤ℤ pos 0) qs
 
 pub columns_are : (top : ℕ) (costs : CostBox) (rows : List Form) (members : List Member) (qs : List Fraction) →
-    All (IsFormOf costs rows) members → AreNumbers top qs → AreLow qs →
-    AllByRecursion (IsPart top (length rows)) (columns_numbered members qs)
+    All (IsFormOf costs rows) members → AreTableNumbers top qs → AreLow qs →
+    AllByRecursion (IsMultiplier top (length rows)) (columns_numbered members qs)
 columns_are top costs rows [] qs forms numbers low = tt
 columns_are top costs rows (member ∷ members) [] forms numbers low = tt
 columns_are top costs rows (member ∷ members) (q ∷ qs) forms numbers low =
-    each_append (IsPart top (length rows)) (numbered member (unless_zero q.numerator q)) (columns_numbered members qs)
+    each_append (IsMultiplier top (length rows)) (numbered member (unless_zero q.numerator q)) (columns_numbered members qs)
     (numbered_are top costs rows member q (forms 0 member (omega arith)) numbers.0 low.0)
     (columns_are top costs rows members qs (λ k d k_in. forms (suc k) d (omega arith)) numbers.1 low.1)
 
 pub own_is : (top : ℕ) (costs : CostBox) (rows : List Form) (r : Member) → IsFormOf costs rows r →
-    IsNumber top (whole (pos 1)) → AllByRecursion (IsPart top (length rows)) (numbered r (whole (pos 1) ∷ []))
+    IsTableNumber top (whole (pos 1)) → AllByRecursion (IsMultiplier top (length rows)) (numbered r (whole (pos 1) ∷ []))
 own_is top costs rows (Low v bound) is one = tt
 own_is top costs rows (High v bound) is one = tt
 own_is top costs rows (Row row) is one = (record { row = is; number = one; positive = omega (arith, ints) }, tt)
 
-pub numbers_of_parts : (top count : ℕ) (parts : List (ℕ × Fraction)) → AllByRecursion (IsPart top count) parts → AllNumbers top parts
+pub numbers_of_parts : (top count : ℕ) (parts : List (ℕ × Fraction)) → AllByRecursion (IsMultiplier top count) parts → AllNumbers top parts
 numbers_of_parts top count [] are = tt
 numbers_of_parts top count (part ∷ parts) are = (are.0.number, numbers_of_parts top count parts are.1)
 
@@ -170,9 +170,9 @@ fold_positive : (a : ℕ) (parts : List (ℕ × Fraction)) → 0 < a → AllByRe
 fold_positive a [] positive all = positive
 fold_positive a (part ∷ parts) positive all = fold_positive (lcm a part.1.denominator) parts (lcm_positive a part.1.denominator positive all.0) all.1
 
-pub common_positive : (top count : ℕ) (parts : List (ℕ × Fraction)) → AllByRecursion (IsPart top count) parts → 0 < common_of parts
+pub common_positive : (top count : ℕ) (parts : List (ℕ × Fraction)) → AllByRecursion (IsMultiplier top count) parts → 0 < common_of parts
 common_positive top count parts are =
-    fold_positive 1 parts (omega arith) (each_weaker (IsPart top count) (λ part. 0 < part.1.denominator) parts (λ part is. is.number.lowest.positive) are)
+    fold_positive 1 parts (omega arith) (each_weaker (IsMultiplier top count) (λ part. 0 < part.1.denominator) parts (λ part is. is.number.lowest.positive) are)
 
 -- a fraction in lowest terms that stands for a whole number is that
 pub whole_from : (t : Fraction) (n : ℤ) → IsLowest t → StandsFor t n 1 → t ≡ whole n
@@ -256,7 +256,7 @@ entry_is D L (Row row) q m q_positive D_positive L_positive low stands divides =
     }
 
 pub are_made : (top D L : ℕ) (members : List Member) (qs : List Fraction) (ms : List ℤ) → length members ≡ length qs →
-    0 < D → 0 < L → AreNumbers top qs → AreLow qs → Stand D qs ms →
+    0 < D → 0 < L → AreTableNumbers top qs → AreLow qs → Stand D qs ms →
     AllByRecursion (λ part. part.1.denominator ∣ L) (columns_numbered members qs) → AreMade D L members qs ms
 are_made top D L [] qs ms same D_positive L_positive numbers low stand divides = tt
 are_made top D L (member ∷ members) [] ms same D_positive L_positive numbers low stand divides = absurd (omega arith)
@@ -279,7 +279,7 @@ own_made L (Row row) L_positive =
     one_times n = ring (pos (n / 1) ∷ []) (num (pos 1) ⊗ var 0) (var 0) refl ∙ ap pos (div-one n)
 
 -- all parts are whole and positive
-pub parts_whole : (top count L : ℕ) (parts : List (ℕ × Fraction)) → 0 < L → AllByRecursion (IsPart top count) parts →
+pub parts_whole : (top count L : ℕ) (parts : List (ℕ × Fraction)) → 0 < L → AllByRecursion (IsMultiplier top count) parts →
     AllByRecursion (λ part. part.1.denominator ∣ L) parts →
     AllByRecursion (λ part. (part.0 < count) × (0 < part.1)) (map (whole_part L) parts)
 parts_whole top count L [] L_positive are divide = tt
@@ -289,13 +289,13 @@ parts_whole top count L (part ∷ parts) L_positive are divide = (
 )
 
 -- as fractions they are the multipliers, made whole
-wholes_of : (top count L : ℕ) (parts : List (ℕ × Fraction)) → 0 < L → AllByRecursion (IsPart top count) parts →
+wholes_of : (top count L : ℕ) (parts : List (ℕ × Fraction)) → 0 < L → AllByRecursion (IsMultiplier top count) parts →
     AllByRecursion (λ part. part.1.denominator ∣ L) parts → map (λ q. times q (whole (pos L))) (fractions parts)
     ≡ wholes (map (whole_part L) parts)
 wholes_of top count L [] L_positive are divide = refl
 wholes_of top count L (part ∷ parts) L_positive are divide =
     cc ((made_natural part.1 L are.0.number.lowest.positive L_positive divide.0 are.0.positive).0, wholes_of top count L parts L_positive are.1 divide.1)
 
-pub wholes_are : (top count : ℕ) (parts : List (ℕ × Fraction)) → AllByRecursion (IsPart top count) parts →
+pub wholes_are : (top count : ℕ) (parts : List (ℕ × Fraction)) → AllByRecursion (IsMultiplier top count) parts →
     made_whole (fractions parts) ≡ wholes (whole_parts parts)
 wholes_are top count parts are = wholes_of top count (common_of parts) parts (common_positive top count parts are) are (common_divides parts)

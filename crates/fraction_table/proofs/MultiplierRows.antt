@@ -10,12 +10,12 @@ use Rattle.std.proofs.lemmas.List.Sums.{sum_by-cons}
 use Rattle.cost_base.proofs.ListLemmas.{each_append}
 use borrow.Author.Differences.{up, down}
 use Rattle.whole_numbers.specs.Fractions.{Fraction}
-use Rattle.path_rows.specs.declared.form.Form.{Form}
-use Rattle.path_rows.specs.declared.tree.Member.{Member}
-use Rattle.path_rows.specs.declared.tree.Member.TheVariants.{Low, High, Row}
-use Rattle.path_rows.specs.Forms.{form_at, value, weighted}
-use Rattle.path_rows.specs.Steps.{unless_zero}
-use Rattle.path_rows.proofs.Weighted.{value-weighted}
+use Rattle.design_problem.specs.declared.form.Form.{Form}
+use Rattle.design_problem.specs.declared.tree.Member.{Member}
+use Rattle.design_problem.specs.declared.tree.Member.TheVariants.{Low, High, Row}
+use Rattle.design_problem.specs.Forms.{form_at, value_for_costs, weighted}
+use Rattle.design_problem.specs.Steps.{unless_zero}
+use Rattle.design_problem.proofs.Weighted.{value-weighted}
 use Rattle.fraction_table.specs.Multipliers.{Different, columns_numbered, numbered, whole_part}
 use Rattle.fraction_rows.proofs.Columns.{other_test, same_test}
 
@@ -149,13 +149,13 @@ times_split m (pos n) = omega (arith, ints)
 times_split m (negsuc n) = omega (arith, ints)
 
 abbrev raising : List Form → List ℕ → (ℕ × ℕ) → ℕ
-raising forms w part = part.1 * up (value (form_at forms part.0) w)
+raising forms w part = part.1 * up (value_for_costs (form_at forms part.0) w)
 
 abbrev lowering : List Form → List ℕ → (ℕ × ℕ) → ℕ
-lowering forms w part = part.1 * down (value (form_at forms part.0) w)
+lowering forms w part = part.1 * down (value_for_costs (form_at forms part.0) w)
 
 value_split : (forms : List Form) (w : List ℕ) (parts : List (ℕ × ℕ)) →
-    value (weighted forms parts) w ≡ (pos (sum_by (raising forms w) parts) -ℤ pos (sum_by (lowering forms w) parts))
+    value_for_costs (weighted forms parts) w ≡ (pos (sum_by (raising forms w) parts) -ℤ pos (sum_by (lowering forms w) parts))
 value_split forms w [] = refl
 value_split forms w (part ∷ parts) =
     let a = raising forms w part in
@@ -163,7 +163,7 @@ value_split forms w (part ∷ parts) =
     let c = sum_by (raising forms w) parts in
     let d = sum_by (lowering forms w) parts in
     value-weighted forms part parts w
-    ∙ ap (λ (z : ℤ). z +ℤ value (weighted forms parts) w) (times_split part.1 (value (form_at forms part.0) w))
+    ∙ ap (λ (z : ℤ). z +ℤ value_for_costs (weighted forms parts) w) (times_split part.1 (value_for_costs (form_at forms part.0) w))
     ∙ ap (λ (z : ℤ). (pos a -ℤ pos b) +ℤ z) (value_split forms w parts)
     ∙ regroup a b c d
     ∙ ap (λ (n : ℕ). pos n -ℤ pos (b + d)) (sym (sum_by-cons (raising forms w) part parts))
@@ -173,7 +173,7 @@ value_split forms w (part ∷ parts) =
     regroup a b c d = omega (arith, ints)
 
 -- The weighted sum of forms doesn't depend on the order of the parts.
-pub value_moved : (forms : List Form) (w : List ℕ) (xs ys : List (ℕ × ℕ)) → IsPermutation xs ys → value (weighted forms ys) w ≡ value (weighted forms xs) w
+pub value_moved : (forms : List Form) (w : List ℕ) (xs ys : List (ℕ × ℕ)) → IsPermutation xs ys → value_for_costs (weighted forms ys) w ≡ value_for_costs (weighted forms xs) w
 value_moved forms w xs ys moved =
     value_split forms w ys
     ∙ ap (λ (n : ℕ). pos n -ℤ pos (sum_by (lowering forms w) ys)) (sum_by-IsPermutation (raising forms w) xs ys moved)

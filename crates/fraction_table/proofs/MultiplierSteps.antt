@@ -13,13 +13,13 @@ use Rattle.whole_numbers.proofs.Multiples.{lcm_positive, plus_stands_over}
 use Rattle.whole_numbers.proofs.Sizes.{size_positive}
 use Rattle.wide_fraction.specs.declared.steps.Wide.{Wide}
 use Rattle.wide_fraction.specs.Widths.{IsTop}
-use Rattle.path_rows.specs.Steps.{denominators, lcm_of}
+use Rattle.design_problem.specs.Steps.{denominators, lcm_of}
 use Rattle.fraction_table.specs.declared.stage.SimplexStop.TheVariants.{TooWide}
 use Rattle.fraction_rows.specs.Entries.{AllNumbers, IsPassing}
 use Rattle.fraction_table.specs.Multipliers.{IsMultiplierStep, IsTallyStep, IsWideMultiplier, common_of, fractions, whole_part, wholes}
 use Rattle.fraction_table.specs.Multipliers.IsMultiplierStep.{multiple, product}
 use Rattle.fraction_table.specs.Multipliers.IsTallyStep.{sum, scale}
-use Rattle.fraction_rows.specs.TableRows.{IsNumber}
+use Rattle.fraction_rows.specs.TableRows.{IsTableNumber}
 use Rattle.fraction_table.proofs.MultiplierColumns.{whole_from}
 use Rattle.fraction_rows.proofs.SmallNumbers.{top_small}
 
@@ -33,7 +33,7 @@ pub read_natural : (n : ℕ) → n < 2 ^ 127 → to_z w128 n ≡ pos n
 read_natural n small = to_z_pos w128 n small
 
 pub part_number : (top : ℕ) (parts : List (ℕ × Fraction)) (k : ℕ) (d : ℕ × Fraction) → AllNumbers top parts →
-    k < length parts → IsNumber top (slice_index_or parts k d).1
+    k < length parts → IsTableNumber top (slice_index_or parts k d).1
 part_number top [] k d numbers k_in = absurd (omega arith)
 part_number top (part ∷ parts) zero d numbers k_in = numbers.0
 part_number top (part ∷ parts) (suc k) d numbers k_in = part_number top parts k d numbers.1 (omega arith)
@@ -55,10 +55,10 @@ pub natural_high : (n : ℕ) → 0 < n → pos 0 <ℤ pos n
 natural_high n up = omega (arith, ints)
 
 -- a denominator is within the top, and is read as it is
-pub denominator_within : (top : ℕ) (q : Fraction) (z : ℤ) → IsNumber top q → z ≡ pos q.denominator → nat_abs z ≤ top
+pub denominator_within : (top : ℕ) (q : Fraction) (z : ℤ) → IsTableNumber top q → z ≡ pos q.denominator → nat_abs z ≤ top
 denominator_within top q z is z_is = subst (λ (x : ℤ). nat_abs x ≤ top) (sym z_is) is.within.denominator
 
-pub positive_denominator : (top : ℕ) (q : Fraction) (z : ℤ) → IsNumber top q → z ≡ pos q.denominator → pos 0 <ℤ z
+pub positive_denominator : (top : ℕ) (q : Fraction) (z : ℤ) → IsTableNumber top q → z ≡ pos q.denominator → pos 0 <ℤ z
 positive_denominator top q z is z_is = subst (λ (x : ℤ). pos 0 <ℤ x) (sym z_is) (natural_high q.denominator is.lowest.positive)
 
 pub positive_multiple : (m z n : ℤ) → pos 0 <ℤ m → pos 0 <ℤ z → n ≡ pos (lcm (nat_abs m) (nat_abs z)) → pos 0 <ℤ n

@@ -7,13 +7,13 @@ use Rattle.std.proofs.lemmas.List.{map-append}
 use Rattle.whole_numbers.specs.Fractions.{Fraction, negated, whole}
 use Rattle.whole_numbers.proofs.Ring.{var, num, ◌⊕◌, ◌⊗◌, neg, ring, ring_by, nothing, using}
 use Rattle.whole_numbers.proofs.Orders.{negative_factor, negative_product, opposite_product}
-use Rattle.path_rows.specs.declared.form.Form.{Form}
-use Rattle.path_rows.specs.declared.tree.Member.{Member}
-use Rattle.path_rows.specs.declared.tree.Member.TheVariants.{Low, High, Row}
-use Rattle.path_rows.specs.Forms.{form_at, value, weighted}
-use Rattle.path_rows.specs.Basis.{member_form}
-use Rattle.path_rows.specs.Steps.{unless_zero}
-use Rattle.path_rows.proofs.Weighted.{value-weighted}
+use Rattle.design_problem.specs.declared.form.Form.{Form}
+use Rattle.design_problem.specs.declared.tree.Member.{Member}
+use Rattle.design_problem.specs.declared.tree.Member.TheVariants.{Low, High, Row}
+use Rattle.design_problem.specs.Forms.{form_at, value_for_costs, weighted}
+use Rattle.design_problem.specs.Basis.{member_form}
+use Rattle.design_problem.specs.Steps.{unless_zero}
+use Rattle.design_problem.proofs.Weighted.{value-weighted}
 use Rattle.fraction_table.specs.Multipliers.{columns_numbered, numbered, whole_part}
 use Rattle.fraction_table.proofs.theory.Corner.{sum_low, sum_negative}
 
@@ -21,12 +21,12 @@ use Rattle.fraction_table.proofs.theory.Corner.{sum_low, sum_negative}
 abbrev pub member_sum : ℕ → List Form → List ℕ → List ℤ → List Member → ℤ
 member_sum n rows w [] members = pos 0
 member_sum n rows w (m ∷ ms) [] = pos 0
-member_sum n rows w (m ∷ ms) (member ∷ members) = (m *ℤ value (member_form n rows member) w) +ℤ member_sum n rows w ms members
+member_sum n rows w (m ∷ ms) (member ∷ members) = (m *ℤ value_for_costs (member_form n rows member) w) +ℤ member_sum n rows w ms members
 
 -- a bound's form isn't negative at the costs
 abbrev pub IsHigh : ℕ → List ℕ → Member → Type 0
-IsHigh n w (Low v bound) = pos 0 ≤ℤ value (member_form n [] (Low v bound)) w
-IsHigh n w (High v bound) = pos 0 ≤ℤ value (member_form n [] (High v bound)) w
+IsHigh n w (Low v bound) = pos 0 ≤ℤ value_for_costs (member_form n [] (Low v bound)) w
+IsHigh n w (High v bound) = pos 0 ≤ℤ value_for_costs (member_form n [] (High v bound)) w
 IsHigh n w (Row row) = Unit {0}
 
 abbrev pub AllHigh : ℕ → List ℕ → List Member → Type 0
@@ -77,39 +77,39 @@ zero_more D L s m v r none rest =
 -- a row's column, by the numerator of its entry
 row_column : (D L row : ℕ) (rows : List Form) (w : List ℕ) (z : ℤ) (q : Fraction) (m : ℤ) (rest : List (ℕ × ℕ)) (r : ℤ) → (z ≡ pos 0 → m ≡ pos 0) →
     AllByRecursion (λ part. (pos D *ℤ pos (whole_part L part).1) ≡ neg_ℤ (m *ℤ pos L)) (numbered (Row row) (unless_zero z q)) →
-    ((pos D *ℤ value (weighted rows rest) w) +ℤ (pos L *ℤ r)) ≤ℤ pos 0 →
-    ((pos D *ℤ value (weighted rows (map (whole_part L) (numbered (Row row) (unless_zero z q)) ++ rest)) w)
-    +ℤ (pos L *ℤ ((m *ℤ value (form_at rows row) w) +ℤ r))) ≤ℤ pos 0
+    ((pos D *ℤ value_for_costs (weighted rows rest) w) +ℤ (pos L *ℤ r)) ≤ℤ pos 0 →
+    ((pos D *ℤ value_for_costs (weighted rows (map (whole_part L) (numbered (Row row) (unless_zero z q)) ++ rest)) w)
+    +ℤ (pos L *ℤ ((m *ℤ value_for_costs (form_at rows row) w) +ℤ r))) ≤ℤ pos 0
 row_column D L row rows w (pos zero) q m rest r none made below =
-    zero_more D L (value (weighted rows rest) w) m (value (form_at rows row) w) r (none refl) below
+    zero_more D L (value_for_costs (weighted rows rest) w) m (value_for_costs (form_at rows row) w) r (none refl) below
 row_column D L row rows w (pos (suc k)) q m rest r none made below =
-    subst (λ (z : ℤ). ((pos D *ℤ z) +ℤ (pos L *ℤ ((m *ℤ value (form_at rows row) w) +ℤ r))) ≤ℤ pos 0)
+    subst (λ (z : ℤ). ((pos D *ℤ z) +ℤ (pos L *ℤ ((m *ℤ value_for_costs (form_at rows row) w) +ℤ r))) ≤ℤ pos 0)
     (sym (value-weighted rows (whole_part L (row, negated q)) rest w))
-    (row_more D L (pos (whole_part L (row, negated q)).1) (value (weighted rows rest) w) m (value (form_at rows row) w) r made.0 below)
+    (row_more D L (pos (whole_part L (row, negated q)).1) (value_for_costs (weighted rows rest) w) m (value_for_costs (form_at rows row) w) r made.0 below)
 row_column D L row rows w (negsuc k) q m rest r none made below =
-    subst (λ (z : ℤ). ((pos D *ℤ z) +ℤ (pos L *ℤ ((m *ℤ value (form_at rows row) w) +ℤ r))) ≤ℤ pos 0)
+    subst (λ (z : ℤ). ((pos D *ℤ z) +ℤ (pos L *ℤ ((m *ℤ value_for_costs (form_at rows row) w) +ℤ r))) ≤ℤ pos 0)
     (sym (value-weighted rows (whole_part L (row, negated q)) rest w))
-    (row_more D L (pos (whole_part L (row, negated q)).1) (value (weighted rows rest) w) m (value (form_at rows row) w) r made.0 below)
+    (row_more D L (pos (whole_part L (row, negated q)).1) (value_for_costs (weighted rows rest) w) m (value_for_costs (form_at rows row) w) r made.0 below)
 
 -- The rows' sum, D-fold, and that of all members, times the multiple, are together at most 0.
 pub columns_sum : (D L n : ℕ) (rows : List Form) (w : List ℕ) (members : List Member) (qs : List Fraction)
     (ms : List ℤ) → AllHigh n w members → AreMade D L members qs ms →
-    ((pos D *ℤ value (weighted rows (map (whole_part L) (columns_numbered members qs))) w) +ℤ (pos L *ℤ member_sum n rows w ms members)) ≤ℤ pos 0
+    ((pos D *ℤ value_for_costs (weighted rows (map (whole_part L) (columns_numbered members qs))) w) +ℤ (pos L *ℤ member_sum n rows w ms members)) ≤ℤ pos 0
 columns_sum D L n rows w [] qs [] high made = omega (arith, ints)
 columns_sum D L n rows w [] qs (m ∷ ms) high made = omega (arith, ints)
 columns_sum D L n rows w (member ∷ members) [] ms high made = absurd made
 columns_sum D L n rows w (member ∷ members) (q ∷ qs) [] high made = absurd made
 columns_sum D L n rows w (Low v bound ∷ members) (q ∷ qs) (m ∷ ms) high made =
-    bound_more D L (value (weighted rows (map (whole_part L) (columns_numbered members qs))) w) m
-    (value (member_form n rows (Low v bound)) w) (member_sum n rows w ms members) made.0.low high.0
+    bound_more D L (value_for_costs (weighted rows (map (whole_part L) (columns_numbered members qs))) w) m
+    (value_for_costs (member_form n rows (Low v bound)) w) (member_sum n rows w ms members) made.0.low high.0
     (columns_sum D L n rows w members qs ms high.1 made.1)
 columns_sum D L n rows w (High v bound ∷ members) (q ∷ qs) (m ∷ ms) high made =
-    bound_more D L (value (weighted rows (map (whole_part L) (columns_numbered members qs))) w) m
-    (value (member_form n rows (High v bound)) w) (member_sum n rows w ms members) made.0.low high.0
+    bound_more D L (value_for_costs (weighted rows (map (whole_part L) (columns_numbered members qs))) w) m
+    (value_for_costs (member_form n rows (High v bound)) w) (member_sum n rows w ms members) made.0.low high.0
     (columns_sum D L n rows w members qs ms high.1 made.1)
 columns_sum D L n rows w (Row row ∷ members) (q ∷ qs) (m ∷ ms) high made =
-    subst (λ (ps : List (ℕ × ℕ)). ((pos D *ℤ value (weighted rows ps) w)
-    +ℤ (pos L *ℤ ((m *ℤ value (form_at rows row) w) +ℤ member_sum n rows w ms members))) ≤ℤ pos 0)
+    subst (λ (ps : List (ℕ × ℕ)). ((pos D *ℤ value_for_costs (weighted rows ps) w)
+    +ℤ (pos L *ℤ ((m *ℤ value_for_costs (form_at rows row) w) +ℤ member_sum n rows w ms members))) ≤ℤ pos 0)
     (sym (map-append (whole_part L) (numbered (Row row) (unless_zero q.numerator q)) (columns_numbered members qs)))
     (row_column D L row rows w q.numerator q m (map (whole_part L) (columns_numbered members qs)) (member_sum n rows w ms members) made.0.none made.0.made
     (columns_sum D L n rows w members qs ms high.1 made.1))
@@ -142,22 +142,22 @@ bound_negative D L v s m r L_positive below high equation rest =
 pub parts_negative : (D L n : ℕ) (rows : List Form) (w : List ℕ) (r : Member) (basis : List Member) (qs : List Fraction)
     (m : ℤ) (ms : List ℤ) → 0 < L → m <ℤ pos 0 → IsHigh n w r → AllHigh n w basis → AreMade D L basis qs ms →
     AllByRecursion (λ part. pos (whole_part L part).1 ≡ pos L) (numbered r (whole (pos 1) ∷ [])) →
-    (pos D *ℤ value (member_form n rows r) w) ≡ (m +ℤ member_sum n rows w ms basis) →
-    value (weighted rows (map (whole_part L) (numbered r (whole (pos 1) ∷ []) ++ columns_numbered basis qs))) w <ℤ pos 0
+    (pos D *ℤ value_for_costs (member_form n rows r) w) ≡ (m +ℤ member_sum n rows w ms basis) →
+    value_for_costs (weighted rows (map (whole_part L) (numbered r (whole (pos 1) ∷ []) ++ columns_numbered basis qs))) w <ℤ pos 0
 parts_negative D L n rows w (Low v bound) basis qs m ms L_positive below high all_high made own equation =
-    bound_negative D L (value (member_form n rows (Low v bound)) w)
-    (value (weighted rows (map (whole_part L) (columns_numbered basis qs))) w) m (member_sum n rows w ms basis)
+    bound_negative D L (value_for_costs (member_form n rows (Low v bound)) w)
+    (value_for_costs (weighted rows (map (whole_part L) (columns_numbered basis qs))) w) m (member_sum n rows w ms basis)
     L_positive below high equation
     (columns_sum D L n rows w basis qs ms all_high made)
 parts_negative D L n rows w (High v bound) basis qs m ms L_positive below high all_high made own equation =
-    bound_negative D L (value (member_form n rows (High v bound)) w)
-    (value (weighted rows (map (whole_part L) (columns_numbered basis qs))) w) m (member_sum n rows w ms basis)
+    bound_negative D L (value_for_costs (member_form n rows (High v bound)) w)
+    (value_for_costs (weighted rows (map (whole_part L) (columns_numbered basis qs))) w) m (member_sum n rows w ms basis)
     L_positive below high equation
     (columns_sum D L n rows w basis qs ms all_high made)
 parts_negative D L n rows w (Row row) basis qs m ms L_positive below high all_high made own equation =
     let rest = map (whole_part L) (columns_numbered basis qs) in
     subst (λ (z : ℤ). z <ℤ pos 0)
     (sym (value-weighted rows (whole_part L (row, whole (pos 1))) rest w
-    ∙ ap (λ (z : ℤ). (z *ℤ value (form_at rows row) w) +ℤ value (weighted rows rest) w) own.0))
-    (row_negative D L (value (form_at rows row) w) (value (weighted rows rest) w) m (member_sum n rows w ms basis) L_positive below equation
+    ∙ ap (λ (z : ℤ). (z *ℤ value_for_costs (form_at rows row) w) +ℤ value_for_costs (weighted rows rest) w) own.0))
+    (row_negative D L (value_for_costs (form_at rows row) w) (value_for_costs (weighted rows rest) w) m (member_sum n rows w ms basis) L_positive below equation
     (columns_sum D L n rows w basis qs ms all_high made))

@@ -9,52 +9,52 @@ use Rattle.cost_base.proofs.ListLemmas.{length-map-numbers_from, get_or-map-numb
 use Rattle.whole_numbers.specs.Fractions.{Fraction, divided, inverse, inverted, whole}
 use Rattle.whole_numbers.specs.Lists.{number_at}
 use Rattle.wide_fraction.specs.declared.steps.Wide.{Wide}
-use Rattle.path_rows.specs.declared.form.CostBox.{CostBox}
-use Rattle.path_rows.specs.declared.tree.Member.{Member}
-use Rattle.path_rows.specs.declared.tree.Member.TheVariants.{Low, Row}
-use Rattle.path_rows.specs.Basis.{IsFormOf, entry, low_member, member_form}
-use Rattle.path_rows.specs.Steps.{IsPivot, IsStep, IsTooWide}
+use Rattle.design_problem.specs.declared.form.CostBox.{CostBox}
+use Rattle.design_problem.specs.declared.tree.Member.{Member}
+use Rattle.design_problem.specs.declared.tree.Member.TheVariants.{Low, Row}
+use Rattle.design_problem.specs.Basis.{IsFormOf, entry, low_member, member_form}
+use Rattle.design_problem.specs.Steps.{IsPivot, IsTableStep, IsStepTooWide}
 use Rattle.fraction_table.specs.declared.table.Table.{Table}
 use Rattle.fraction_rows.specs.Entries.{IsPassing}
 use Rattle.fraction_rows.specs.TableRows.{IsWideStep, divided_without}
 use Rattle.fraction_table.specs.Tableaus.{wide_at}
-use Rattle.fraction_rows.specs.Turns.{AreRows, IsQuotientStepOf, IsTurnStep, TurnsWide, turned_by}
-use Rattle.fraction_table.specs.Wholes.{IsLine, IsWhole, IsWholeTable, high_member, members_of, numbers_of}
-use Rattle.fraction_table.specs.Pivots.{IsLeastIn, line_at, line_numbers, member_at}
+use Rattle.fraction_rows.specs.Turns.{AreTableRows, IsQuotientStepOf, IsTurnStep, TurnsWide, turned_by}
+use Rattle.fraction_table.specs.ValidTables.{IsTableLine, IsTableauOf, IsTableau, high_member, members_of_box, numbers_of_form}
+use Rattle.fraction_table.specs.Pivots.{IsLeastIn, line_at, numbers_of_line, member_at}
 use Rattle.fraction_table.proofs.theory.Resolved.{stand_length}
 use Rattle.fraction_rows.proofs.ZeroFractions.{inverse_positive}
 use Rattle.fraction_rows.proofs.RowLaws.{number_at as number_there, times_not_zero}
 use Rattle.fraction_table.proofs.theory.TurnedNumbers.{numbers_at, numbers_long}
-use Rattle.fraction_table.proofs.WholeTurns.{IsPivotOf, stand_at, turned_line, whole_turned}
+use Rattle.fraction_table.proofs.IntegralTurns.{IsPivotOf, stand_at, turned_line, whole_turned}
 use Rattle.fraction_table.proofs.Bases.{line_entries, whole_table}
 use Rattle.fraction_table.proofs.StartingTables.{members_are}
 use Rattle.fraction_rows.proofs.PivotSteps.{IsFormLine, quotient_is_step, turn_is_step}
 use Rattle.fraction_table.proofs.theory.Zips.{zip_at}
 
 -- a line of a whole table is that of its member
-pub whole_line : (t : Table) (w : IsWholeTable t) (line : ℕ) → line < length t.lines.items →
-    IsLine t.top w.unboxed.common t.costs t.rows.items w.unboxed.lows (member_at t line) (line_at t line)
+pub whole_line : (t : Table) (w : IsTableau t) (line : ℕ) → line < length t.lines.items →
+    IsTableLine t.top w.unboxed.common t.costs t.rows.items w.unboxed.lows (member_at t line) (line_at t line)
 whole_line t w line line_in =
-    let members = members_of t.costs (length t.rows.items) in
-    zip_at (IsLine t.top w.unboxed.common t.costs t.rows.items w.unboxed.lows) members t.lines.items line (Low 0 0) [] w.unboxed.lines
-    (omega (arith, length_zip (IsLine t.top w.unboxed.common t.costs t.rows.items w.unboxed.lows) members t.lines.items w.unboxed.lines, line_in))
+    let members = members_of_box t.costs (length t.rows.items) in
+    zip_at (IsTableLine t.top w.unboxed.common t.costs t.rows.items w.unboxed.lows) members t.lines.items line (Low 0 0) [] w.unboxed.lines
+    (omega (arith, length_zip (IsTableLine t.top w.unboxed.common t.costs t.rows.items w.unboxed.lows) members t.lines.items w.unboxed.lines, line_in))
 
-pub member_in : (t : Table) (w : IsWholeTable t) (line : ℕ) → line < length t.lines.items → line < length (members_of t.costs (length t.rows.items))
+pub member_in : (t : Table) (w : IsTableau t) (line : ℕ) → line < length t.lines.items → line < length (members_of_box t.costs (length t.rows.items))
 member_in t w line line_in =
     omega (
       arith,
-      length_zip (IsLine t.top w.unboxed.common t.costs t.rows.items w.unboxed.lows)
-          (members_of t.costs (length t.rows.items)) t.lines.items w.unboxed.lines,
+      length_zip (IsTableLine t.top w.unboxed.common t.costs t.rows.items w.unboxed.lows)
+          (members_of_box t.costs (length t.rows.items)) t.lines.items w.unboxed.lines,
       line_in,
     )
 
-pub member_is : (t : Table) (w : IsWholeTable t) (line : ℕ) → line < length t.lines.items → IsFormOf t.costs t.rows.items (member_at t line)
+pub member_is : (t : Table) (w : IsTableau t) (line : ℕ) → line < length t.lines.items → IsFormOf t.costs t.rows.items (member_at t line)
 member_is t w line line_in = members_are t.costs t.rows.items line (Low 0 0) (member_in t w line line_in)
 
-pub line_long : (t : Table) (w : IsWholeTable t) (line : ℕ) → line < length t.lines.items → length (line_at t line) ≡ suc (length t.costs.low)
+pub line_long : (t : Table) (w : IsTableau t) (line : ℕ) → line < length t.lines.items → length (line_at t line) ≡ suc (length t.costs.low)
 line_long t w line line_in =
     let l = whole_line t w line line_in in
-    stand_length w.unboxed.common (line_at t line) (line_numbers t w line) l.stand
+    stand_length w.unboxed.common (line_at t line) (numbers_of_line t w line) l.stand
     ∙ numbers_long (length t.costs.low) w.unboxed.common t.costs.low w.unboxed.lows (member_form (length t.costs.low) t.rows.items (member_at t line))
 
 -- a line that is read
@@ -62,25 +62,25 @@ pub line_read : (t : Table) (line : ℕ) (row : List Fraction) → row ≡ slice
 line_read t line row is line_in = is ∙ get_or_default t.lines.items line row [] line_in
 
 -- all lines are of the table's width and numbers
-pub whole_rows : (t : Table) (w : IsWholeTable t) → AreRows t.top (suc (length t.costs.low)) t.lines.items
-whole_rows t w = fit (members_of t.costs (length t.rows.items)) t.lines.items w.unboxed.lines
+pub whole_rows : (t : Table) (w : IsTableau t) → AreTableRows t.top (suc (length t.costs.low)) t.lines.items
+whole_rows t w = fit (members_of_box t.costs (length t.rows.items)) t.lines.items w.unboxed.lines
   where
     fit : (members : List Member) (lines : List (List Fraction)) →
-        AllZip (IsLine t.top w.unboxed.common t.costs t.rows.items w.unboxed.lows) members lines →
-        AreRows t.top (suc (length t.costs.low)) lines
+        AllZip (IsTableLine t.top w.unboxed.common t.costs t.rows.items w.unboxed.lows) members lines →
+        AreTableRows t.top (suc (length t.costs.low)) lines
     fit [] [] all = tt
     fit [] (line ∷ lines) all = absurd all
     fit (member ∷ members) [] all = absurd all
     fit (member ∷ members) (line ∷ lines) all = (
       stand_length w.unboxed.common line
-          (numbers_of (length t.costs.low) w.unboxed.common t.costs.low w.unboxed.lows
+          (numbers_of_form (length t.costs.low) w.unboxed.common t.costs.low w.unboxed.lows
           (member_form (length t.costs.low) t.rows.items member)) all.0.stand
           ∙ numbers_long (length t.costs.low) w.unboxed.common t.costs.low w.unboxed.lows (member_form (length t.costs.low) t.rows.items member),
       all.0.numbers,
       fit members lines all.1,
     )
 
-pub form_line : (t : Table) (w : IsWholeTable t) (line : ℕ) → line < length t.lines.items →
+pub form_line : (t : Table) (w : IsTableau t) (line : ℕ) → line < length t.lines.items →
     IsFormLine t.top t.costs t.rows.items t.basis.items (member_at t line) (line_at t line)
 form_line t w line line_in =
     let l = whole_line t w line line_in in
@@ -93,9 +93,9 @@ form_line t w line line_in =
     }
 
 -- a step at the table's own lines that passes the top is too wide at the basis
-pub wide_step : (t : Table) (w : IsWholeTable t) (wide : Wide) →
-    IsStep t.costs t.rows.items t.basis.items (take (length t.costs.low) t.lines.items) wide.step wide.left wide.right →
-    IsPassing t.top wide → IsTooWide t.top t.costs t.rows.items (wide_at wide t.basis.items)
+pub wide_step : (t : Table) (w : IsTableau t) (wide : Wide) →
+    IsTableStep t.costs t.rows.items t.basis.items (take (length t.costs.low) t.lines.items) wide.step wide.left wide.right →
+    IsPassing t.top wide → IsStepTooWide t.top t.costs t.rows.items (wide_at wide t.basis.items)
 wide_step t w wide step passes =
     record {
       lows = take (length t.costs.low) t.lines.items;
@@ -109,10 +109,10 @@ wide_step t w wide step passes =
     }
 
 -- a step of the quotients that is too wide is so at the basis
-pub quotients_wide : (t : Table) (w : IsWholeTable t) (line column : ℕ) → line < length t.lines.items →
+pub quotients_wide : (t : Table) (w : IsTableau t) (line column : ℕ) → line < length t.lines.items →
     IsPivot t.basis.items (line_at t line) (suc column) → (wide : Wide) →
     IsWideStep t.top (IsQuotientStepOf (line_at t line) (suc column)) wide.step wide.left wide.right →
-    IsTooWide t.top t.costs t.rows.items (wide_at wide t.basis.items)
+    IsStepTooWide t.top t.costs t.rows.items (wide_at wide t.basis.items)
 quotients_wide t w line column line_in pivot wide is =
     wide_step t w wide
     (quotient_is_step t.top t.costs t.rows.items t.basis.items (take (length t.costs.low) t.lines.items)
@@ -121,12 +121,12 @@ quotients_wide t w line column line_in pivot wide is =
     is.1
 
 -- and so is one by which a line is turned
-pub turning_wide : (t : Table) (w : IsWholeTable t) (line column : ℕ) (ts : List Fraction) (inverse : Fraction) →
+pub turning_wide : (t : Table) (w : IsTableau t) (line column : ℕ) (ts : List Fraction) (inverse : Fraction) →
     line < length t.lines.items → IsPivot t.basis.items (line_at t line) (suc column) →
     ts ≡ divided_without (suc column) (entry (line_at t line) (suc column)) (line_at t line) 0 →
     inverse ≡ divided (whole (pos 1)) (entry (line_at t line) (suc column)) → (wide : Wide) →
     TurnsWide t.top t.lines.items ts (suc column) inverse wide.step wide.left wide.right →
-    IsTooWide t.top t.costs t.rows.items (wide_at wide t.basis.items)
+    IsStepTooWide t.top t.costs t.rows.items (wide_at wide t.basis.items)
 turning_wide t w line column ts inverse line_in pivot ts_are inverse_is wide is =
     let made = is.wide in
     let turned : IsTurnStep (line_at t is.row)
@@ -156,9 +156,9 @@ positive_number (pos (suc n)) (negsuc a) d D d_positive D_positive is positive =
     absurd (omega (arith, ints))
 
 -- the number of a form in a column in which its entry is positive
-pub entry_number : (t : Table) (w : IsWholeTable t) (line column : ℕ) → line < length t.lines.items →
+pub entry_number : (t : Table) (w : IsTableau t) (line column : ℕ) → line < length t.lines.items →
     IsPivot t.basis.items (line_at t line) (suc column) →
-    (a : ℕ) × (number_at (line_numbers t w line) (suc column) ≡ pos a) × (0 < a)
+    (a : ℕ) × (number_at (numbers_of_line t w line) (suc column) ≡ pos a) × (0 < a)
 entry_number t w line column line_in pivot =
     let n = length t.costs.low in
     let es = line_at t line in
@@ -166,9 +166,9 @@ entry_number t w line column line_in pivot =
     let l = whole_line t w line line_in in
     let column_in : column < n = omega (arith, pivot.column, w.unboxed.count) in
     let here = number_there t.top es (suc column) l.numbers (omega (arith, line_long t w line line_in, column_in)) in
-    let stands = stand_at w.unboxed.common es (line_numbers t w line) (suc column) l.stand
+    let stands = stand_at w.unboxed.common es (numbers_of_line t w line) (suc column) l.stand
     (omega (arith, numbers_long n w.unboxed.common t.costs.low w.unboxed.lows f, column_in)) in
-    positive_number (entry es (suc column)).numerator (number_at (line_numbers t w line) (suc column))
+    positive_number (entry es (suc column)).numerator (number_at (numbers_of_line t w line) (suc column))
     (entry es (suc column)).denominator w.unboxed.common here.lowest.positive w.unboxed.positive stands pivot.above
 
 -- the lines, turned by the quotients and the inverse that were made of a row
@@ -185,9 +185,9 @@ news_turned es row qs place inverse news rows lines news_are rows_are qs_are inv
     (inverse_is ∙ ap (λ (r : List Fraction). divided (whole (pos 1)) (entry r place)) row_is)
 
 -- what a pivot of the table needs
-pub pivot_of : (t : Table) (w : IsWholeTable t) (line column a : ℕ) → line < length t.lines.items →
+pub pivot_of : (t : Table) (w : IsTableau t) (line column a : ℕ) → line < length t.lines.items →
     IsPivot t.basis.items (line_at t line) (suc column) → IsLeastIn t line column →
-    number_at (line_numbers t w line) (suc column) ≡ pos a → 0 < a →
+    number_at (numbers_of_line t w line) (suc column) ≡ pos a → 0 < a →
     IsPivotOf t.top t.costs t.rows.items w.unboxed.common w.unboxed.lows (member_at t line) (line_at t line) column a
 pivot_of t w line column a line_in pivot least at_column positive =
     let n = length t.costs.low in
@@ -203,19 +203,19 @@ pivot_of t w line column a line_in pivot least at_column positive =
     }
 
 -- the table after a pivot is whole
-pub pivot_whole : (t : Table) (w : IsWholeTable t) (line column : ℕ) (news : List (List Fraction)) →
+pub pivot_whole : (t : Table) (w : IsTableau t) (line column : ℕ) (news : List (List Fraction)) →
     line < length t.lines.items → IsPivot t.basis.items (line_at t line) (suc column) → IsLeastIn t line column →
     news ≡ map (turned_line (line_at t line) (suc column)) t.lines.items →
-    AreRows t.top (suc (length t.costs.low)) news →
-    IsWhole t.top t.costs t.rows.items (slice_set t.basis.items column (member_at t line)) news
+    AreTableRows t.top (suc (length t.costs.low)) news →
+    IsTableauOf t.top t.costs t.rows.items (slice_set t.basis.items column (member_at t line)) news
 pivot_whole t w line column news line_in pivot least news_are numbers =
     let n = length t.costs.low in
     let es = line_at t line in
     let positive = entry_number t w line column line_in pivot in
     let p = pivot_of t w line column positive.0 line_in pivot least positive.1 positive.2 in
-    subst (λ (lines : List (List Fraction)). IsWhole t.top t.costs t.rows.items (slice_set t.basis.items column (member_at t line)) lines) (sym news_are)
+    subst (λ (lines : List (List Fraction)). IsTableauOf t.top t.costs t.rows.items (slice_set t.basis.items column (member_at t line)) lines) (sym news_are)
     (whole_turned t.top t.costs t.rows.items t.basis.items t.lines.items (member_at t line) es column positive.0 w p
-    (subst (AreRows t.top (suc n)) news_are numbers))
+    (subst (AreTableRows t.top (suc n)) news_are numbers))
 
 -- the inverse of a positive entry isn't 0
 inverted_not_zero : (z : ℤ) (d : ℕ) → 0 < d → pos 0 <ℤ z → (inverted z d).numerator ≢ pos 0
@@ -230,7 +230,7 @@ inverse_not_zero q d_positive positive =
 
 -- the places of the other members of a box
 pub high_place : (costs : CostBox) (rows k : ℕ) (d : Member) → k < length costs.low →
-    slice_index_or (members_of costs rows) (length costs.low + k) d ≡ high_member costs k
+    slice_index_or (members_of_box costs rows) (length costs.low + k) d ≡ high_member costs k
 high_place costs rows k d k_in =
     let n = length costs.low in
     let lows = map (low_member costs) (numbers_from 0 n) in
@@ -245,7 +245,7 @@ high_place costs rows k d k_in =
     ∙ ap (high_member costs) (zero-add k)
 
 pub row_place : (costs : CostBox) (rows k : ℕ) (d : Member) → k < rows →
-    slice_index_or (members_of costs rows) (length costs.low + length costs.low + k) d ≡ Row k
+    slice_index_or (members_of_box costs rows) (length costs.low + length costs.low + k) d ≡ Row k
 row_place costs rows k d k_in =
     let n = length costs.low in
     let lows = map (low_member costs) (numbers_from 0 n) in
@@ -262,7 +262,7 @@ row_place costs rows k d k_in =
     ∙ get_or-map-numbers_from (λ row. Row row) 0 rows k d k_in
     ∙ ap (λ row. Row row) (zero-add k)
 
-pub members_long : (costs : CostBox) (rows : ℕ) → length (members_of costs rows) ≡ length costs.low + length costs.low + rows
+pub members_long : (costs : CostBox) (rows : ℕ) → length (members_of_box costs rows) ≡ length costs.low + length costs.low + rows
 members_long costs rows =
     let n = length costs.low in
     let lows = map (low_member costs) (numbers_from 0 n) in
@@ -276,8 +276,8 @@ members_long costs rows =
       length-map-numbers_from (λ row. Row row) 0 rows,
     )
 
-pub lines_long : (t : Table) (w : IsWholeTable t) → length t.lines.items ≡ length t.costs.low + length t.costs.low + length t.rows.items
+pub lines_long : (t : Table) (w : IsTableau t) → length t.lines.items ≡ length t.costs.low + length t.costs.low + length t.rows.items
 lines_long t w =
-    sym (length_zip (IsLine t.top w.unboxed.common t.costs t.rows.items w.unboxed.lows) (members_of t.costs (length t.rows.items))
+    sym (length_zip (IsTableLine t.top w.unboxed.common t.costs t.rows.items w.unboxed.lows) (members_of_box t.costs (length t.rows.items))
     t.lines.items w.unboxed.lines)
     ∙ members_long t.costs (length t.rows.items)

@@ -9,22 +9,22 @@ use Rattle.whole_numbers.specs.Fractions.{Fraction, StandsFor}
 use Rattle.whole_numbers.proofs.Ring.{var, ◌⊕◌, ◌⊖◌, ◌⊗◌, ring}
 use Rattle.whole_numbers.proofs.Sums.{lowest_unique}
 use Rattle.whole_numbers.specs.Lists.{number_at}
-use Rattle.path_rows.specs.Basis.{LeadsPositive, entry, member_form}
-use Rattle.path_rows.specs.Earnest.{LexLess}
-use Rattle.path_rows.specs.Steps.{IsPivot}
+use Rattle.design_problem.specs.Basis.{LeadsPositive, entry, member_form}
+use Rattle.design_problem.specs.Earnest.{LexLess}
+use Rattle.design_problem.specs.Steps.{IsPivot}
 use Rattle.fraction_table.specs.declared.table.Table.{Table}
-use Rattle.path_rows.specs.declared.form.CostBox.{CostBox}
-use Rattle.fraction_rows.specs.TableRows.{IsNumber}
-use Rattle.fraction_rows.specs.Turns.{AreRows}
-use Rattle.fraction_table.specs.Wholes.{AllLong, IsWholeTable}
-use Rattle.fraction_table.specs.Pivots.{IsLeastIn, KeepsForms, line_at, line_numbers, member_at, numbers_in, turned_column}
+use Rattle.design_problem.specs.declared.form.CostBox.{CostBox}
+use Rattle.fraction_rows.specs.TableRows.{IsTableNumber}
+use Rattle.fraction_rows.specs.Turns.{AreTableRows}
+use Rattle.fraction_table.specs.ValidTables.{AllLong, IsTableau}
+use Rattle.fraction_table.specs.Pivots.{IsLeastIn, KeepsBoxAndRows, line_at, numbers_of_line, member_at, numbers_in_column, turned_column}
 use Rattle.fraction_table.specs.Ranks.{digits_number, heights, past_heights, raised_height, rank}
 use Rattle.fraction_table.proofs.theory.Height.{digits_number-lt, digits_rise, height_rises}
 use Rattle.fraction_rows.proofs.RowLaws.{number_at as number_there, rows_at}
 use Rattle.fraction_table.proofs.theory.Turns.{turned_rows}
 use Rattle.fraction_table.proofs.theory.TurnedNumbers.{numbers_long}
 use Rattle.fraction_table.proofs.theory.TurnedLeads.{column_other, length-numbers_in}
-use Rattle.fraction_table.proofs.WholeTurns.{IsPivotOf, stand_at, turned_line, whole_turned}
+use Rattle.fraction_table.proofs.IntegralTurns.{IsPivotOf, stand_at, turned_line, whole_turned}
 use Rattle.fraction_table.proofs.Bases.{low_line_stands, lows_counted}
 use Rattle.fraction_table.proofs.Pivots.{entry_number, line_long, lines_long, pivot_of, positive_number, whole_line}
 use Rattle.fraction_table.proofs.theory.Rise.{constants_rise, rise}
@@ -45,7 +45,7 @@ raised_over top d e r z is =
     ∙ ring (z ∷ pos top ∷ pos d ∷ pos e ∷ []) ((var 0 ⊕ (var 1 ⊗ var 2)) ⊗ var 3) ((var 0 ⊗ var 3) ⊕ (var 1 ⊗ (var 2 ⊗ var 3))) refl
 
 -- a lesser fraction has the lesser height
-lesser_lower : (top : ℕ) (p q : Fraction) → IsNumber top p → IsNumber top q →
+lesser_lower : (top : ℕ) (p q : Fraction) → IsTableNumber top p → IsTableNumber top q →
     (p.numerator *ℤ pos q.denominator) <ℤ (q.numerator *ℤ pos p.denominator) → raised_height top p < raised_height top q
 lesser_lower top p q p_is q_is less =
     let b = p.denominator in
@@ -75,8 +75,8 @@ crossed_numbers D a d e p q x y p_is q_is =
 
 -- A constant before and after a pivot, with its numbers over D and over D·a.
 pub record IsConstant (top D a : ℕ) (p q : Fraction) (x y : ℤ) : Type 0 where
-  pub old : IsNumber top p
-  pub new : IsNumber top q
+  pub old : IsTableNumber top p
+  pub new : IsTableNumber top q
   pub old_stands : StandsFor p x D
   pub new_stands : StandsFor q y (D * a)
 
@@ -143,7 +143,7 @@ constants_higher top D a (suc n) (p ∷ olds) (q ∷ news) (x ∷ xs) (y ∷ ys)
     (λ v v_in. each (suc v) (omega (arith, v_in))) later)
 
 -- heights are below their base
-height_small : (top : ℕ) (q : Fraction) → IsNumber top q → raised_height top q < past_heights top
+height_small : (top : ℕ) (q : Fraction) → IsTableNumber top q → raised_height top q < past_heights top
 height_small top q q_is =
     let raised_small : nat_abs (q.numerator +ℤ pos (top * q.denominator)) ≤ top + top * top =
     small top q.denominator q.numerator q_is.within.numerator q_is.within.denominator in
@@ -157,7 +157,7 @@ height_small top q q_is =
     small m d z z_small d_small = size_sum m (m * d) (m * m) z z_small (grind arith)
 
 heights_small : (top n : ℕ) (lines : List (List Fraction)) →
-    ((v : ℕ) → v < n → v < length lines → IsNumber top (entry (slice_index_or lines v []) 0)) →
+    ((v : ℕ) → v < n → v < length lines → IsTableNumber top (entry (slice_index_or lines v []) 0)) →
     AllByRecursion (λ x. x < past_heights top) (heights top n lines)
 heights_small top zero lines each = tt
 heights_small top (suc n) [] each = tt
@@ -170,14 +170,14 @@ heights_long : (top n : ℕ) (lines : List (List Fraction)) → n ≤ length lin
 heights_long top n lines many = length-map (take n lines) (λ line. raised_height top (entry line 0)) ∙ length-take-le n lines many
 
 -- the first lines of a whole table
-pub lines_many : (t : Table) → IsWholeTable t → length t.costs.low ≤ length t.lines.items
+pub lines_many : (t : Table) → IsTableau t → length t.costs.low ≤ length t.lines.items
 lines_many t w = omega (arith, lines_long t w)
 
-constant_number : (t : Table) (w : IsWholeTable t) (v : ℕ) → v < length t.lines.items → IsNumber t.top (entry (line_at t v) 0)
+constant_number : (t : Table) (w : IsTableau t) (v : ℕ) → v < length t.lines.items → IsTableNumber t.top (entry (line_at t v) 0)
 constant_number t w v v_in = number_there t.top (line_at t v) 0 (whole_line t w v v_in).numbers (omega (arith, line_long t w v v_in))
 
 -- the rank of a table is below a bound
-pub rank_small : (t : Table) → IsWholeTable t → rank t < past_heights t.top ^ length t.costs.low
+pub rank_small : (t : Table) → IsTableau t → rank t < past_heights t.top ^ length t.costs.low
 rank_small t w =
     let n = length t.costs.low in
     subst (λ (m : ℕ). rank t < past_heights t.top ^ m) (heights_long t.top n t.lines.items (lines_many t w))
@@ -188,23 +188,23 @@ pub negative_size : (z : ℤ) → z <ℤ pos 0 → (u : ℕ) × (0 < u) × ((z +
 negative_size z negative = (nat_abs z, omega (arith, ints), omega (arith, ints))
 
 first_number : (lows : List (List ℤ)) (place v : ℕ) → v < length lows →
-    slice_index_or (numbers_in place lows) v (pos 0) ≡ number_at (slice_index_or lows v []) place
+    slice_index_or (numbers_in_column place lows) v (pos 0) ≡ number_at (slice_index_or lows v []) place
 first_number lows place v v_in = get_or-map (λ ts. number_at ts place) lows v [] (pos 0) v_in
 
 -- Before and after a pivot the constants of x - low are fractions of numbers in the first column.
-constants_there : (t : Table) (w : IsWholeTable t) (line column a : ℕ) (line_in : line < length t.lines.items) →
+constants_there : (t : Table) (w : IsTableau t) (line column a : ℕ) (line_in : line < length t.lines.items) →
     (p : IsPivotOf t.top t.costs t.rows.items w.unboxed.common w.unboxed.lows (member_at t line) (line_at t line) column
-    a) → (rows : AreRows t.top (suc (length t.costs.low))
+    a) → (rows : AreTableRows t.top (suc (length t.costs.low))
     (map (turned_line (line_at t line) (suc column)) t.lines.items)) → (v : ℕ) → v < length t.costs.low →
     IsConstant t.top w.unboxed.common a (entry (slice_index_or t.lines.items v []) 0)
     (entry (slice_index_or (map (turned_line (line_at t line) (suc column)) t.lines.items) v []) 0)
-    (slice_index_or (numbers_in 0 w.unboxed.lows) v (pos 0))
-    (slice_index_or (numbers_in 0 (turned_rows w.unboxed.lows (line_numbers t w line) (suc column) w.unboxed.common)) v
+    (slice_index_or (numbers_in_column 0 w.unboxed.lows) v (pos 0))
+    (slice_index_or (numbers_in_column 0 (turned_rows w.unboxed.lows (numbers_of_line t w line) (suc column) w.unboxed.common)) v
     (pos 0))
 unfolding whole_turned
 constants_there t w line column a line_in p rows v v_in =
     let news = map (turned_line (line_at t line) (suc column)) t.lines.items in
-    let lows = turned_rows w.unboxed.lows (line_numbers t w line) (suc column) w.unboxed.common in
+    let lows = turned_rows w.unboxed.lows (numbers_of_line t w line) (suc column) w.unboxed.common in
     let basis = slice_set t.basis.items column (member_at t line) in
     let whole = whole_turned t.top t.costs t.rows.items t.basis.items t.lines.items (member_at t line) (line_at t line) column a w p rows in
     let counted = lows_counted t.top t.costs t.rows.items t.basis.items t.lines.items w in
@@ -224,44 +224,44 @@ constants_there t w line column a line_in p rows v v_in =
     }
 
 -- At a pivot the rank rises.
-pub rank_rises : (t : Table) (w : IsWholeTable t) (line column : ℕ) (news : List (List Fraction)) →
+pub rank_rises : (t : Table) (w : IsTableau t) (line column : ℕ) (news : List (List Fraction)) →
     line < length t.lines.items → IsPivot t.basis.items (line_at t line) (suc column) → IsLeastIn t line column →
     news ≡ map (turned_line (line_at t line) (suc column)) t.lines.items →
-    AreRows t.top (suc (length t.costs.low)) news →
+    AreTableRows t.top (suc (length t.costs.low)) news →
     rank t < digits_number (past_heights t.top) (heights t.top (length t.costs.low) news)
 unfolding whole_turned
 rank_rises t w line column news line_in pivot least news_are rows =
     let n = length t.costs.low in
     let es = line_at t line in
-    let rs = line_numbers t w line in
+    let rs = numbers_of_line t w line in
     let turned = map (turned_line es (suc column)) t.lines.items in
     let positive = entry_number t w line column line_in pivot in
     let a = positive.0 in
     let p = pivot_of t w line column a line_in pivot least positive.1 positive.2 in
-    let turned_rows_are : AreRows t.top (suc n) turned = subst (AreRows t.top (suc n)) news_are rows in
+    let turned_rows_are : AreTableRows t.top (suc n) turned = subst (AreTableRows t.top (suc n)) news_are rows in
     let many = lines_many t w in
     let as_many : length turned ≡ length t.lines.items = length-map t.lines.items (turned_line es (suc column)) in
     let counted = lows_counted t.top t.costs t.rows.items t.basis.items t.lines.items w in
     let rs_long : length rs ≡ suc n = numbers_long n w.unboxed.common t.costs.low w.unboxed.lows (member_form n t.rows.items (member_at t line)) in
-    let column_is : numbers_in 0 (turned_rows w.unboxed.lows rs (suc column) w.unboxed.common)
-    ≡ turned_column a (numbers_in 0 w.unboxed.lows) (number_at rs 0) (numbers_in (suc column) w.unboxed.lows) =
+    let column_is : numbers_in_column 0 (turned_rows w.unboxed.lows rs (suc column) w.unboxed.common)
+    ≡ turned_column a (numbers_in_column 0 w.unboxed.lows) (number_at rs 0) (numbers_in_column (suc column) w.unboxed.lows) =
     column_other a w.unboxed.common w.unboxed.lows rs (suc column) 0
     (subst (λ (m : ℕ). AllLong m w.unboxed.lows) (sym rs_long) w.unboxed.long) positive.1
     (λ same. omega (arith, same)) (omega (arith, rs_long)) in
     let below = negative_size (number_at rs 0) (constant_negative t w line line_in pivot.below) in
-    let in_columns : length (numbers_in 0 w.unboxed.lows) ≡ length (numbers_in (suc column) w.unboxed.lows) = length-numbers_in 0 w.unboxed.lows (suc column) in
-    let rises = constants_rise w.unboxed.common a (numbers_in 0 w.unboxed.lows) below.0 (number_at rs 0)
-    (numbers_in (suc column) w.unboxed.lows) w.unboxed.positive below.1 below.2 in_columns
+    let in_columns : length (numbers_in_column 0 w.unboxed.lows) ≡ length (numbers_in_column (suc column) w.unboxed.lows) = length-numbers_in 0 w.unboxed.lows (suc column) in
+    let rises = constants_rise w.unboxed.common a (numbers_in_column 0 w.unboxed.lows) below.0 (number_at rs 0)
+    (numbers_in_column (suc column) w.unboxed.lows) w.unboxed.positive below.1 below.2 in_columns
     (w.unboxed.lead column p.j_in) in
-    let xs_long : length (numbers_in 0 w.unboxed.lows) ≡ n = length-map w.unboxed.lows (λ ts. number_at ts 0) ∙ sym counted in
+    let xs_long : length (numbers_in_column 0 w.unboxed.lows) ≡ n = length-map w.unboxed.lows (λ ts. number_at ts 0) ∙ sym counted in
     let lows = turned_rows w.unboxed.lows rs (suc column) w.unboxed.common in
     let whole = whole_turned t.top t.costs t.rows.items t.basis.items t.lines.items (member_at t line) es column a w p turned_rows_are in
     let counted_after : n ≡ length lows = lows_counted t.top t.costs t.rows.items (slice_set t.basis.items column (member_at t line)) turned whole in
-    let ys_long : length (numbers_in 0 lows) ≡ n = length-map lows (λ ts. number_at ts 0) ∙ sym counted_after in
-    let higher = constants_higher t.top w.unboxed.common a n t.lines.items turned (numbers_in 0 w.unboxed.lows)
-    (numbers_in 0 lows) w.unboxed.positive positive.2 xs_long ys_long many (omega (arith, as_many, many))
+    let ys_long : length (numbers_in_column 0 lows) ≡ n = length-map lows (λ ts. number_at ts 0) ∙ sym counted_after in
+    let higher = constants_higher t.top w.unboxed.common a n t.lines.items turned (numbers_in_column 0 w.unboxed.lows)
+    (numbers_in_column 0 lows) w.unboxed.positive positive.2 xs_long ys_long many (omega (arith, as_many, many))
     (constants_there t w line column a line_in p turned_rows_are)
-    (subst (λ (ys : List ℤ). LeadsPositive (rise w.unboxed.common a ys (numbers_in 0 w.unboxed.lows))) (sym column_is) rises) in
+    (subst (λ (ys : List ℤ). LeadsPositive (rise w.unboxed.common a ys (numbers_in_column 0 w.unboxed.lows))) (sym column_is) rises) in
     subst (λ (lines : List (List Fraction)). rank t < digits_number (past_heights t.top) (heights t.top n lines)) (sym news_are)
     (digits_rise (past_heights t.top) (heights t.top n t.lines.items) (heights t.top n turned)
     (heights_small t.top n t.lines.items (λ v v_in v_there. constant_number t w v v_there))
@@ -271,17 +271,17 @@ rank_rises t w line column news line_in pivot least news_are rows =
     (heights_long t.top n t.lines.items many ∙ sym (heights_long t.top n turned (omega (arith, as_many, many))))
     higher)
   where
-    constant_negative : (t : Table) (w : IsWholeTable t) (line : ℕ) → line < length t.lines.items →
-        (entry (line_at t line) 0).numerator <ℤ pos 0 → number_at (line_numbers t w line) 0 <ℤ pos 0
+    constant_negative : (t : Table) (w : IsTableau t) (line : ℕ) → line < length t.lines.items →
+        (entry (line_at t line) 0).numerator <ℤ pos 0 → number_at (numbers_of_line t w line) 0 <ℤ pos 0
     constant_negative t w line line_in below =
         let l = whole_line t w line line_in in
-        let stands = stand_at w.unboxed.common (line_at t line) (line_numbers t w line) 0 l.stand
+        let stands = stand_at w.unboxed.common (line_at t line) (numbers_of_line t w line) 0 l.stand
         (omega (
           arith,
           numbers_long (length t.costs.low) w.unboxed.common t.costs.low w.unboxed.lows
               (member_form (length t.costs.low) t.rows.items (member_at t line)),
         )) in
-        negative_number (entry (line_at t line) 0).numerator (number_at (line_numbers t w line) 0)
+        negative_number (entry (line_at t line) 0).numerator (number_at (numbers_of_line t w line) 0)
         (entry (line_at t line) 0).denominator w.unboxed.common (constant_number t w line line_in).lowest.positive
         w.unboxed.positive stands below
 
@@ -293,16 +293,16 @@ scaled_stands q m D a stands =
 
 -- The rank rises from one table to another of the same forms, where the constants of the one, each times the other's
 -- denominator, rise.
-pub rank_rises_to : (s t : Table) (w : IsWholeTable s) (v : IsWholeTable t) → KeepsForms s t →
+pub rank_rises_to : (s t : Table) (w : IsTableau s) (v : IsTableau t) → KeepsBoxAndRows s t →
     LeadsPositive (rise w.unboxed.common v.unboxed.common
-    (map (λ z. z *ℤ pos w.unboxed.common) (numbers_in 0 v.unboxed.lows)) (numbers_in 0 w.unboxed.lows)) →
+    (map (λ z. z *ℤ pos w.unboxed.common) (numbers_in_column 0 v.unboxed.lows)) (numbers_in_column 0 w.unboxed.lows)) →
     rank s < rank t
 rank_rises_to s t w v keeps leads =
     let n = length s.costs.low in
     let D = w.unboxed.common in
     let a = v.unboxed.common in
-    let xs = numbers_in 0 w.unboxed.lows in
-    let ms = numbers_in 0 v.unboxed.lows in
+    let xs = numbers_in_column 0 w.unboxed.lows in
+    let ms = numbers_in_column 0 v.unboxed.lows in
     let ys = map (λ z. z *ℤ pos D) ms in
     let wide : length t.costs.low ≡ n = ap (λ (c : CostBox). length c.low) keeps.costs in
     let counted = lows_counted s.top s.costs s.rows.items s.basis.items s.lines.items w in
@@ -322,7 +322,7 @@ rank_rises_to s t w v keeps leads =
     ∙ ap (λ z. z *ℤ pos D) (first_number v.unboxed.lows 0 i (omega (arith, counted_after, wide, i_in))) in
     record {
       old = constant_number s w i (omega (arith, many, i_in));
-      new = subst (λ (top : ℕ). IsNumber top (entry (slice_index_or t.lines.items i []) 0)) keeps.top (constant_number t v i (omega (arith, many_after, i_in)));
+      new = subst (λ (top : ℕ). IsTableNumber top (entry (slice_index_or t.lines.items i []) 0)) keeps.top (constant_number t v i (omega (arith, many_after, i_in)));
       old_stands = subst (λ (z : ℤ). StandsFor (entry (line_at s i) 0) z D) (sym (first_number w.unboxed.lows 0 i (omega (arith, counted, i_in)))) before.1;
       new_stands = subst (λ (z : ℤ). StandsFor (entry (line_at t i) 0) z (D * a)) (sym y_is)
           (scaled_stands (entry (line_at t i) 0) (number_at (slice_index_or v.unboxed.lows i []) 0) D a after.1);
@@ -334,7 +334,7 @@ rank_rises_to s t w v keeps leads =
     digits_rise (past_heights s.top) (heights s.top n s.lines.items) (heights s.top n t.lines.items)
     (heights_small s.top n s.lines.items (λ i i_in i_there. constant_number s w i i_there))
     (heights_small s.top n t.lines.items
-    (λ i i_in i_there. subst (λ (top : ℕ). IsNumber top (entry (slice_index_or t.lines.items i []) 0)) keeps.top
+    (λ i i_in i_there. subst (λ (top : ℕ). IsTableNumber top (entry (slice_index_or t.lines.items i []) 0)) keeps.top
     (constant_number t v i i_there)))
     (heights_long s.top n s.lines.items many ∙ sym (heights_long s.top n t.lines.items many_after))
     higher in
@@ -344,7 +344,7 @@ rank_rises_to s t w v keeps leads =
     rises
 
 -- where the rank rose it is nearer to its bound
-pub nearer : (old new : Table) → IsWholeTable new → KeepsForms old new → rank old < rank new →
+pub nearer : (old new : Table) → IsTableau new → KeepsBoxAndRows old new → rank old < rank new →
     past_heights new.top ^ length new.costs.low - rank new < past_heights old.top ^ length old.costs.low - rank old
 nearer old new w keeps rises =
     let same : past_heights new.top ^ length new.costs.low ≡ past_heights old.top ^ length old.costs.low =

@@ -13,27 +13,27 @@ use Rattle.whole_numbers.specs.Fractions.{Fraction, whole}
 use Rattle.whole_numbers.proofs.Ring.{var, num, ◌⊕◌, ◌⊗◌, ring}
 use Rattle.wide_fraction.specs.declared.steps.Wide.{Wide}
 use Rattle.area_graph.specs.Costs.{at_costs}
-use Rattle.path_rows.specs.declared.form.Form.{Form}
-use Rattle.path_rows.specs.declared.form.CostBox.{CostBox}
-use Rattle.path_rows.specs.declared.tree.Member.{Member}
-use Rattle.path_rows.specs.declared.tree.Member.TheVariants.{Low, High, Row}
-use Rattle.path_rows.specs.Forms.{no_form, value, weighted}
-use Rattle.path_rows.specs.Boxes.{IsInBox, IsPointOf, Refutes}
-use Rattle.path_rows.specs.Basis.{HasEntries, IsFormOf, entry, forms_of, member_form}
-use Rattle.path_rows.specs.Steps.{IsStep, IsStuck, IsTooWide, made_whole, multipliers, unless_zero}
-use Rattle.path_rows.specs.Steps.IsStep.{multiple as multiple_step, multiplier_product, multiplier_sum, multiplier_scale}
-use Rattle.path_rows.proofs.GreatestLaws.{greatest_reached}
-use Rattle.path_rows.proofs.AtCosts.{value_at_costs}
+use Rattle.design_problem.specs.declared.form.Form.{Form}
+use Rattle.design_problem.specs.declared.form.CostBox.{CostBox}
+use Rattle.design_problem.specs.declared.tree.Member.{Member}
+use Rattle.design_problem.specs.declared.tree.Member.TheVariants.{Low, High, Row}
+use Rattle.design_problem.specs.Forms.{no_form, value_for_costs, weighted}
+use Rattle.design_problem.specs.Boxes.{IsInBox, IsPointOf, Refutes}
+use Rattle.design_problem.specs.Basis.{HasEntries, IsFormOf, entry, forms_of, member_form}
+use Rattle.design_problem.specs.Steps.{IsTableStep, IsStuck, IsStepTooWide, made_whole, refuting_multipliers, unless_zero}
+use Rattle.design_problem.specs.Steps.IsTableStep.{multiple as multiple_step, multiplier_product, multiplier_sum, multiplier_scale}
+use Rattle.design_problem.proofs.GreatestLaws.{greatest_reached}
+use Rattle.design_problem.proofs.AtCosts.{value_at_costs}
 use Rattle.fraction_table.specs.declared.table.Table.{Table}
 use Rattle.fraction_table.specs.declared.stage.SimplexStop.{SimplexStop}
 use Rattle.fraction_table.specs.declared.stage.SimplexStop.TheVariants.{TooWide, OutOfMemory}
 use Rattle.fraction_rows.specs.Entries.{IsPassing}
-use Rattle.fraction_table.specs.Multipliers.{AreParts, Different, IsMultiplierStep, IsPart, IsTallyStep, IsToldOf, IsWideMultiplier, columns_numbered, common_of, fractions, fractions_of, numbered, whole_part, whole_parts}
+use Rattle.fraction_table.specs.Multipliers.{AreParts, Different, IsMultiplierStep, IsMultiplier, IsTallyStep, IsToldOf, IsWideMultiplier, columns_numbered, common_of, fractions, fractions_of, numbered, whole_part, whole_parts}
 use Rattle.fraction_table.specs.Multipliers.IsMultiplierStep.{multiple, product, tally}
 use Rattle.fraction_table.specs.Multipliers.IsTallyStep.{sum, scale}
-use Rattle.fraction_rows.specs.TableRows.{AreNumbers}
+use Rattle.fraction_rows.specs.TableRows.{AreTableNumbers}
 use Rattle.fraction_table.specs.Tableaus.{wide_at}
-use Rattle.fraction_table.specs.Wholes.{IsWholeTable, Stand, low_forms, number_of}
+use Rattle.fraction_table.specs.ValidTables.{IsTableau, Stand, low_forms, number_of_form}
 use Rattle.fraction_table.specs.Pivots.{line_at, member_at}
 use Rattle.fraction_table.proofs.theory.Blends.{form_mixture}
 use Rattle.fraction_table.proofs.Pivots.{form_line, line_long, member_is, whole_line, wide_step}
@@ -41,7 +41,7 @@ use Rattle.fraction_table.proofs.theory.Points.{equation_at, mixed_at}
 use Rattle.fraction_table.proofs.theory.Resolved.{resolved}
 use Rattle.fraction_rows.proofs.RowLaws.{number_at as number_there, one_within}
 use Rattle.fraction_table.proofs.Solutions.{member_met, stuck_first}
-use Rattle.fraction_table.proofs.WholeTurns.{coefficients_long}
+use Rattle.fraction_table.proofs.IntegralTurns.{coefficients_long}
 use Rattle.fraction_table.proofs.MultiplierSums.{AllHigh, IsHigh, member_sum, parts_negative}
 use Rattle.fraction_table.proofs.MultiplierColumns.{AreLow, one_number, are_made, columns_are, common_divides, common_positive, fractions_are, own_is, own_made}
 use Rattle.fraction_table.proofs.WholeParts.{each_whole}
@@ -92,7 +92,7 @@ rest_stand : (D : ℕ) (es : List Fraction) (m : ℤ) (ms : List ℤ) → Stand 
 rest_stand D [] m ms stand = absurd stand
 rest_stand D (e ∷ es) m ms stand = stand.1
 
-rest_numbers : (top : ℕ) (es : List Fraction) → AreNumbers top es → AreNumbers top (drop 1 es)
+rest_numbers : (top : ℕ) (es : List Fraction) → AreTableNumbers top es → AreTableNumbers top (drop 1 es)
 rest_numbers top [] numbers = tt
 rest_numbers top (e ∷ es) numbers = numbers.1
 
@@ -102,15 +102,15 @@ rest_long (e ∷ es) n counted = omega arith
 
 -- A line that is stuck, by what the table shows of it.
 pub record IsStuckLine (t : Table) (line : ℕ) : Type 0 where
-  pub whole : IsWholeTable t
+  pub whole : IsTableau t
   pub line_in : line < length t.lines.items
   pub stuck : IsStuck t.basis.items (line_at t line)
 
 abbrev pub parts_at : Table → ℕ → List (ℕ × Fraction)
 parts_at t line = fractions_of t.basis.items (member_at t line) (line_at t line)
 
-abbrev constant_at : (t : Table) (line : ℕ) → IsWholeTable t → ℤ
-constant_at t line w = number_of w.unboxed.common t.costs.low w.unboxed.lows (member_form (length t.costs.low) t.rows.items (member_at t line)) 0
+abbrev constant_at : (t : Table) (line : ℕ) → IsTableau t → ℤ
+constant_at t line w = number_of_form w.unboxed.common t.costs.low w.unboxed.lows (member_form (length t.costs.low) t.rows.items (member_at t line)) 0
 
 constant_low : (t : Table) (line : ℕ) (s : IsStuckLine t line) → constant_at t line s.whole <ℤ pos 0
 constant_low t line s =
@@ -118,11 +118,11 @@ constant_low t line s =
     let f = member_form (length t.costs.low) t.rows.items (member_at t line) in
     let l = whole_line t w line s.line_in in
     stuck_first t.top w.unboxed.common (line_at t line) (constant_at t line w)
-    (map (number_of w.unboxed.common t.costs.low w.unboxed.lows f) (numbers_from 1 (length t.costs.low)))
+    (map (number_of_form w.unboxed.common t.costs.low w.unboxed.lows f) (numbers_from 1 (length t.costs.low)))
     w.unboxed.positive l.numbers l.stand s.stuck.below
 
 -- each part is of a row, and positive
-pub parts_are : (t : Table) (line : ℕ) → IsStuckLine t line → AllByRecursion (IsPart t.top (length t.rows.items)) (parts_at t line)
+pub parts_are : (t : Table) (line : ℕ) → IsStuckLine t line → AllByRecursion (IsMultiplier t.top (length t.rows.items)) (parts_at t line)
 parts_are t line s =
     let w = s.whole in
     let es = line_at t line in
@@ -130,7 +130,7 @@ parts_are t line s =
     let l = whole_line t w line s.line_in in
     let long = line_long t w line s.line_in in
     let first = number_there t.top es 0 l.numbers (omega (arith, long)) in
-    each_append (IsPart t.top (length t.rows.items)) (numbered r (whole (pos 1) ∷ [])) (columns_numbered t.basis.items (drop 1 es))
+    each_append (IsMultiplier t.top (length t.rows.items)) (numbered r (whole (pos 1) ∷ [])) (columns_numbered t.basis.items (drop 1 es))
     (own_is t.top t.costs t.rows.items r (member_is t w line s.line_in) (one_number t.top (one_within t.top (entry es 0) first)))
     (columns_are t.top t.costs t.rows.items t.basis.items (drop 1 es) w.unboxed.members (rest_numbers t.top es l.numbers)
     (rest_low (length t.costs.low) es long (λ k k_from k_in. s.stuck.none_above k k_from (omega (arith, w.unboxed.count, k_in)))))
@@ -139,7 +139,7 @@ parts_are t line s =
 both_numbers : (D : ℕ) (z : ℤ) → 0 < D → z ≡ pos D → z ≡ pos 0 → ⊥
 both_numbers D z positive first second = omega (arith, ints)
 
-basis_apart : (t : Table) → IsWholeTable t → AreApart t.basis.items
+basis_apart : (t : Table) → IsTableau t → AreApart t.basis.items
 basis_apart t w j k before k_in same =
     let n = length t.costs.low in
     let D = w.unboxed.common in
@@ -150,10 +150,10 @@ basis_apart t w j k before k_in same =
     ∙ ap (member_form n t.rows.items) same
     ∙ sym (get_or-map (member_form n t.rows.items) t.basis.items j (Low 0 0) no_form
     (omega (arith, before, k_in))) in
-    both_numbers D (number_of D t.costs.low w.unboxed.lows
+    both_numbers D (number_of_form D t.costs.low w.unboxed.lows
     (slice_index_or (forms_of t.costs t.rows.items t.basis.items) k no_form) (suc k)) w.unboxed.positive
     (w.unboxed.own k k_there)
-    (ap (λ (f : Form). number_of D t.costs.low w.unboxed.lows f (suc k)) forms_same
+    (ap (λ (f : Form). number_of_form D t.costs.low w.unboxed.lows f (suc k)) forms_same
     ∙ w.unboxed.elsewhere j (suc k) (omega (arith, before, k_there)) (omega (arith, k_there))
     (λ e. omega (arith, before, e)))
 
@@ -166,7 +166,7 @@ line_apart t line s k k_in same =
     let form_is : slice_index_or (forms_of t.costs t.rows.items t.basis.items) k no_form ≡ member_form n t.rows.items (member_at t line) =
     get_or-map (member_form n t.rows.items) t.basis.items k (Low 0 0) no_form k_in ∙ ap (member_form n t.rows.items) same in
     not_both (constant_at t line w) (constant_low t line s)
-    (sym (ap (λ (f : Form). number_of D t.costs.low w.unboxed.lows f 0) form_is) ∙ w.unboxed.elsewhere k 0 k_there (omega arith) (λ e. omega (arith, e)))
+    (sym (ap (λ (f : Form). number_of_form D t.costs.low w.unboxed.lows f 0) form_is) ∙ w.unboxed.elsewhere k 0 k_there (omega arith) (λ e. omega (arith, e)))
   where
     not_both : (z : ℤ) → z <ℤ pos 0 → z ≡ pos 0 → ⊥
     not_both z low none = omega (arith, ints)
@@ -211,9 +211,9 @@ parts_long t line s =
 
 -- their sum is negative at each point of the box
 equation_is : (t : Table) (line : ℕ) (s : IsStuckLine t line) (w : List ℕ) →
-    (pos s.whole.unboxed.common *ℤ value (member_form (length t.costs.low) t.rows.items (member_at t line)) w)
+    (pos s.whole.unboxed.common *ℤ value_for_costs (member_form (length t.costs.low) t.rows.items (member_at t line)) w)
     ≡ (constant_at t line s.whole +ℤ member_sum (length t.costs.low) t.rows.items w
-    (map (number_of s.whole.unboxed.common t.costs.low s.whole.unboxed.lows
+    (map (number_of_form s.whole.unboxed.common t.costs.low s.whole.unboxed.lows
     (member_form (length t.costs.low) t.rows.items (member_at t line))) (numbers_from 1 (length t.costs.low)))
     t.basis.items)
 equation_is t line s w =
@@ -224,7 +224,7 @@ equation_is t line s w =
     let f = member_form n t.rows.items member in
     let bs = forms_of t.costs t.rows.items t.basis.items in
     let m = constant_at t line whole in
-    let ms = map (number_of D t.costs.low whole.unboxed.lows f) (numbers_from 1 n) in
+    let ms = map (number_of_form D t.costs.low whole.unboxed.lows f) (numbers_from 1 n) in
     let mixture_is = form_mixture D n t.costs.low (low_forms n 0 t.costs.low) whole.unboxed.lows bs f whole.unboxed.long
     whole.unboxed.mixtures (resolved t.costs.low f
     (coefficients_long t.costs t.rows.items member whole.fit (member_is t whole line s.line_in))) in
@@ -234,7 +234,7 @@ equation_is t line s w =
     ∙ ring (m ∷ member_sum n t.rows.items w ms t.basis.items ∷ []) (var 0 ⊗ num (pos 1) ⊕ var 1) (var 0 ⊕ var 1) refl
 
 pub sum_negative : (t : Table) (line : ℕ) → IsStuckLine t line → (w : List ℕ) → IsInBox t.costs w →
-    value (weighted t.rows.items (whole_parts (parts_at t line))) w <ℤ pos 0
+    value_for_costs (weighted t.rows.items (whole_parts (parts_at t line))) w <ℤ pos 0
 sum_negative t line s w inside =
     let n = length t.costs.low in
     let whole_is = s.whole in
@@ -246,7 +246,7 @@ sum_negative t line s w inside =
     let l = whole_line t whole_is line s.line_in in
     let long = line_long t whole_is line s.line_in in
     let m = constant_at t line whole_is in
-    let ms = map (number_of D t.costs.low whole_is.unboxed.lows f) (numbers_from 1 n) in
+    let ms = map (number_of_form D t.costs.low whole_is.unboxed.lows f) (numbers_from 1 n) in
     let L_positive = common_positive t.top (length t.rows.items) (parts_at t line) (parts_are t line s) in
     let divides = each_right (λ part. part.1.denominator ∣ L) (numbered r (whole (pos 1) ∷ []))
     (columns_numbered t.basis.items (drop 1 es)) (common_divides (parts_at t line)) in
@@ -263,7 +263,7 @@ pub whole_are : (t : Table) (line : ℕ) → IsStuckLine t line →
 whole_are t line s = each_whole t.top (length t.rows.items) (parts_at t line) (parts_are t line s)
 
 -- so there is a part
-none_negative : (rows : List Form) (w : List ℕ) (parts : List (ℕ × Fraction)) → parts ≡ [] → value (weighted rows (whole_parts parts)) w <ℤ pos 0 → ⊥
+none_negative : (rows : List Form) (w : List ℕ) (parts : List (ℕ × Fraction)) → parts ≡ [] → value_for_costs (weighted rows (whole_parts parts)) w <ℤ pos 0 → ⊥
 none_negative rows w [] none negative = omega (arith, ints)
 none_negative rows w (part ∷ parts) none negative = absurd (omega (arith, ap length none))
 
@@ -301,24 +301,24 @@ parts_refute t line parts s moved small =
 -- A step that makes them whole is one of the basis.
 tally_step : (costs : CostBox) (rows : List Form) (basis : List Member) (lows : List (List Fraction)) (r : Member)
     (es : List Fraction) (wide : Wide) → IsFormOf costs rows r → HasEntries costs rows basis r es → IsStuck basis es →
-    IsTallyStep (made_whole (multipliers basis r es)) wide → IsStep costs rows basis lows wide.step wide.left wide.right
+    IsTallyStep (made_whole (refuting_multipliers basis r es)) wide → IsTableStep costs rows basis lows wide.step wide.left wide.right
 tally_step costs rows basis lows r es wide is entries stuck (sum k next there wide_is) =
-    subst (λ (x : Wide). IsStep costs rows basis lows x.step x.left x.right) (sym wide_is) (multiplier_sum r es k next is entries stuck there)
+    subst (λ (x : Wide). IsTableStep costs rows basis lows x.step x.left x.right) (sym wide_is) (multiplier_sum r es k next is entries stuck there)
 tally_step costs rows basis lows r es wide is entries stuck (scale wide_is) =
-    subst (λ (x : Wide). IsStep costs rows basis lows x.step x.left x.right) (sym wide_is) (multiplier_scale r es is entries stuck)
+    subst (λ (x : Wide). IsTableStep costs rows basis lows x.step x.left x.right) (sym wide_is) (multiplier_scale r es is entries stuck)
 
 multiplier_step : (costs : CostBox) (rows : List Form) (basis : List Member) (lows : List (List Fraction)) (r : Member)
     (es : List Fraction) (wide : Wide) → IsFormOf costs rows r → HasEntries costs rows basis r es → IsStuck basis es →
-    IsMultiplierStep (multipliers basis r es) wide → IsStep costs rows basis lows wide.step wide.left wide.right
+    IsMultiplierStep (refuting_multipliers basis r es) wide → IsTableStep costs rows basis lows wide.step wide.left wide.right
 multiplier_step costs rows basis lows r es wide is entries stuck (multiple k d there wide_is) =
-    subst (λ (x : Wide). IsStep costs rows basis lows x.step x.left x.right) (sym wide_is) (multiple_step r es k d is entries stuck there)
+    subst (λ (x : Wide). IsTableStep costs rows basis lows x.step x.left x.right) (sym wide_is) (multiple_step r es k d is entries stuck there)
 multiplier_step costs rows basis lows r es wide is entries stuck (product k q there wide_is) =
-    subst (λ (x : Wide). IsStep costs rows basis lows x.step x.left x.right) (sym wide_is) (multiplier_product r es k q is entries stuck there)
+    subst (λ (x : Wide). IsTableStep costs rows basis lows x.step x.left x.right) (sym wide_is) (multiplier_product r es k q is entries stuck there)
 multiplier_step costs rows basis lows r es wide is entries stuck (tally made) = tally_step costs rows basis lows r es wide is entries stuck made
 
 pub multipliers_wide : (t : Table) (line : ℕ) (wide : Wide) → IsStuckLine t line →
     IsMultiplierStep (fractions (parts_at t line)) wide → IsPassing t.top wide →
-    IsTooWide t.top t.costs t.rows.items (wide_at wide t.basis.items)
+    IsStepTooWide t.top t.costs t.rows.items (wide_at wide t.basis.items)
 multipliers_wide t line wide s made passes =
     let l = form_line t s.whole line s.line_in in
     wide_step t s.whole wide

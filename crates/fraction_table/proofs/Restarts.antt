@@ -5,33 +5,33 @@ use Rattle.std.proofs.lemmas.List.{append_assoc, at_drop_all, get_or-map, get_or
 use Rattle.cost_base.specs.Lists.{numbers_from}
 use Rattle.cost_base.proofs.ListLemmas.{length-map-numbers_from, get_or-map-numbers_from}
 use Rattle.whole_numbers.specs.Fractions.{Fraction, whole}
-use Rattle.path_rows.specs.declared.form.Form.{Form}
-use Rattle.path_rows.specs.declared.form.CostBox.{CostBox}
+use Rattle.design_problem.specs.declared.form.Form.{Form}
+use Rattle.design_problem.specs.declared.form.CostBox.{CostBox}
 use Rattle.wide_fraction.specs.Widths.{IsTop}
-use Rattle.path_rows.specs.declared.tree.Member.{Member}
-use Rattle.path_rows.specs.declared.tree.Member.TheVariants.{Low, High}
-use Rattle.path_rows.specs.declared.form.Term.{Term}
-use Rattle.path_rows.specs.Forms.{terms_from, value, no_term}
-use Rattle.path_rows.proofs.TermLaws.{rising_from}
+use Rattle.design_problem.specs.declared.tree.Member.{Member}
+use Rattle.design_problem.specs.declared.tree.Member.TheVariants.{Low, High}
+use Rattle.design_problem.specs.declared.form.Term.{Term}
+use Rattle.design_problem.specs.Forms.{terms_from, value_for_costs, no_term}
+use Rattle.design_problem.proofs.TermLaws.{rising_from}
 use Rattle.fraction_rows.proofs.TermSums.{term_in}
-use Rattle.path_rows.specs.Basis.{IsFormOf, entry, low_member, member_form, unit}
-use Rattle.fraction_rows.specs.TableRows.{AreNumbers, blank_row, nothing}
+use Rattle.design_problem.specs.Basis.{IsFormOf, entry, low_member, member_form, unit}
+use Rattle.fraction_rows.specs.TableRows.{AreTableNumbers, blank_row, nothing}
 use Rattle.fraction_rows.proofs.BlankRows.{blank_entry, blank_size, cleared_set}
-use Rattle.fraction_table.specs.Tableaus.{FitsBox, Held, IsRebased, moved, rebased, starting}
+use Rattle.fraction_table.specs.Tableaus.{FitsBox, Held, IsRebased, moved_basis, rebased, starting}
 use Rattle.fraction_table.specs.declared.stage.Stage.{Stage}
 use Rattle.fraction_table.specs.declared.stage.Stage.TheVariants.{Open}
 use Rattle.fraction_table.proofs.Pivots.{members_long}
-use Rattle.fraction_table.specs.Wholes.{IsWhole, IsWholeTable, held_of, members_of, starting_line}
-use Rattle.fraction_table.specs.Moves.{HasShape, IsMoved, KeepsAllButLines, KeepsRows}
+use Rattle.fraction_table.specs.ValidTables.{IsTableauOf, IsTableau, held_of, members_of_box, starting_line}
+use Rattle.fraction_table.specs.Moves.{HasShape, IsMoved, KeepsAllButLines, KeepsTableRows}
 use Rattle.fraction_table.specs.Pivots.{member_at}
-use Rattle.fraction_rows.specs.Turns.{AreRows}
+use Rattle.fraction_rows.specs.Turns.{AreTableRows}
 use Rattle.fraction_table.specs.declared.table.Table.{Table}
-use Rattle.path_rows.specs.Boxes.{IsBox}
+use Rattle.design_problem.specs.Boxes.{IsBox}
 use Rattle.fraction_table.proofs.StartingTables.{whole_start}
 use Rattle.fraction_table.proofs.BetweenBoxes.{all_written, written_next}
 use Rattle.fraction_rows.proofs.SmallNumbers.{whole_number}
 use Rattle.fraction_table.proofs.theory.Units.{high_value, low_value}
-use Rattle.fraction_table.proofs.WholeTurns.{coefficients_long}
+use Rattle.fraction_table.proofs.IntegralTurns.{coefficients_long}
 
 -- the line with each of the terms put into its column
 abbrev pub with_terms : List Fraction → List Term → List Fraction
@@ -148,11 +148,11 @@ high_starts costs rows v bound low range now is low_is range_is now_is =
 
 -- the numbers of a form that fits the box are ones of the table
 pub form_numbers : (top : ℕ) (costs : CostBox) (f : Form) (line : List Fraction) → IsTop top → FitsBox costs f →
-    line ≡ whole (value f costs.low) ∷ map whole f.coefficients → AreNumbers top line
+    line ≡ whole (value_for_costs f costs.low) ∷ map whole f.coefficients → AreTableNumbers top line
 form_numbers top costs f line is_top fits line_is =
-    subst (AreNumbers top) (sym line_is) (whole_number top (value f costs.low) is_top fits.corner, all f.coefficients fits.sizes)
+    subst (AreTableNumbers top) (sym line_is) (whole_number top (value_for_costs f costs.low) is_top fits.corner, all f.coefficients fits.sizes)
   where
-    all : (cs : List ℤ) → All (λ c. nat_abs c ≤ 2 ^ 26) cs → AreNumbers top (map whole cs)
+    all : (cs : List ℤ) → All (λ c. nat_abs c ≤ 2 ^ 26) cs → AreTableNumbers top (map whole cs)
     all [] small = tt
     all (c ∷ cs) small =
         let first : nat_abs c ≤ 2 ^ 26 = small 0 (pos 0) (omega arith) in
@@ -186,46 +186,46 @@ line_long costs rows member fit is =
 -- one more line of a table is started
 pub started_next : (initial t : Table) (costs : CostBox) (line : ℕ) (now : List (List Fraction)) →
     KeepsAllButLines initial t → initial.costs ≡ costs →
-    length initial.lines.items ≡ length (members_of costs (length initial.rows.items)) →
+    length initial.lines.items ≡ length (members_of_box costs (length initial.rows.items)) →
     line < length initial.lines.items →
     t.lines.items ≡ take line (map (starting_line costs initial.rows.items)
-    (members_of costs (length initial.rows.items))) ++ drop line initial.lines.items →
+    (members_of_box costs (length initial.rows.items))) ++ drop line initial.lines.items →
     now ≡ slice_set t.lines.items line (starting_line costs t.rows.items (member_at t line)) →
-    now ≡ take (line + 1) (map (starting_line costs initial.rows.items) (members_of costs (length initial.rows.items)))
+    now ≡ take (line + 1) (map (starting_line costs initial.rows.items) (members_of_box costs (length initial.rows.items)))
     ++ drop (line + 1) initial.lines.items
 started_next initial t costs line now keeps costs_are many line_in lines_are now_is =
     let rows = initial.rows.items in
-    let ms = members_of costs (length rows) in
+    let ms = members_of_box costs (length rows) in
     let start = starting_line costs rows in
     now_is ∙ ap (λ (ls : List (List Fraction)). slice_set ls line (starting_line costs t.rows.items (member_at t line))) lines_are
     ∙ written_next initial.lines.items (map start ms) line [] (starting_line costs t.rows.items (member_at t line))
     line_in (omega (arith, length-map ms start, many, line_in))
-    (ap (λ (vec : List Form). starting_line costs vec (slice_index_or (members_of t.costs (length vec)) line (Low 0 0))) (ap (λ v. v.items) keeps.rows)
-    ∙ ap (λ (box : CostBox). start (slice_index_or (members_of box (length rows)) line (Low 0 0))) (keeps.costs ∙ costs_are)
+    (ap (λ (vec : List Form). starting_line costs vec (slice_index_or (members_of_box t.costs (length vec)) line (Low 0 0))) (ap (λ v. v.items) keeps.rows)
+    ∙ ap (λ (box : CostBox). start (slice_index_or (members_of_box box (length rows)) line (Low 0 0))) (keeps.costs ∙ costs_are)
     ∙ sym (get_or-map start ms line (Low 0 0) [] (omega (arith, many, line_in))))
 
 -- and all are
 pub started_all : (initial : Table) (costs : CostBox) (line : ℕ) (lines : List (List Fraction)) →
-    length initial.lines.items ≡ length (members_of costs (length initial.rows.items)) →
+    length initial.lines.items ≡ length (members_of_box costs (length initial.rows.items)) →
     line ≡ length initial.lines.items →
-    lines ≡ take line (map (starting_line costs initial.rows.items) (members_of costs (length initial.rows.items)))
+    lines ≡ take line (map (starting_line costs initial.rows.items) (members_of_box costs (length initial.rows.items)))
     ++ drop line initial.lines.items →
-    lines ≡ map (starting_line costs initial.rows.items) (members_of costs (length initial.rows.items))
+    lines ≡ map (starting_line costs initial.rows.items) (members_of_box costs (length initial.rows.items))
 started_all initial costs line lines many line_is lines_are =
     let start = starting_line costs initial.rows.items in
-    let ms = members_of costs (length initial.rows.items) in
+    let ms = members_of_box costs (length initial.rows.items) in
     lines_are ∙ all_written initial.lines.items (map start ms) line (sym line_is) (length-map ms start ∙ sym many ∙ sym line_is)
 
 -- a table at the starting basis, by its lines
 pub restarted : (s : Table) (costs : CostBox) (rows : List Form) → s.costs ≡ costs → s.rows.items ≡ rows →
-    s.basis.items ≡ starting costs → s.lines.items ≡ map (starting_line costs rows) (members_of costs (length rows)) →
-    HasShape s → IsBox (length costs.low) costs → All (FitsBox costs) rows → IsWholeTable s
+    s.basis.items ≡ starting costs → s.lines.items ≡ map (starting_line costs rows) (members_of_box costs (length rows)) →
+    HasShape s → IsBox (length costs.low) costs → All (FitsBox costs) rows → IsTableau s
 restarted s costs rows costs_are rows_are basis_is lines_are shape box fit =
-    let numbers : AreRows s.top (suc (length costs.low)) (map (starting_line costs rows) (members_of costs (length rows))) =
-    subst (AreRows s.top (suc (length costs.low))) lines_are
-    (subst (λ (c : CostBox). AreRows s.top (suc (length c.low)) s.lines.items) costs_are shape.lines) in
+    let numbers : AreTableRows s.top (suc (length costs.low)) (map (starting_line costs rows) (members_of_box costs (length rows))) =
+    subst (AreTableRows s.top (suc (length costs.low))) lines_are
+    (subst (λ (c : CostBox). AreTableRows s.top (suc (length c.low)) s.lines.items) costs_are shape.lines) in
     let start = whole_start s.top costs rows box fit numbers in
-    let whole : IsWhole s.top s.costs s.rows.items s.basis.items s.lines.items = rw (costs_are, rows_are, basis_is, lines_are) start in
+    let whole : IsTableauOf s.top s.costs s.rows.items s.basis.items s.lines.items = rw (costs_are, rows_are, basis_is, lines_are) start in
     whole
 
 pub keeps_lines : (old t s : Table) → KeepsAllButLines old t → KeepsAllButLines t s → KeepsAllButLines old s
@@ -248,11 +248,11 @@ pub starting_many : (costs : CostBox) → length (starting costs) ≡ length cos
 starting_many costs = length-map-numbers_from (low_member costs) 0 (length costs.low)
 
 -- boxes of as many variables have as many members
-pub members_same : (costs next : CostBox) (rows : ℕ) → length costs.low ≡ length next.low → length (members_of costs rows) ≡ length (members_of next rows)
+pub members_same : (costs next : CostBox) (rows : ℕ) → length costs.low ≡ length next.low → length (members_of_box costs rows) ≡ length (members_of_box next rows)
 members_same costs next rows width = omega (arith, members_long costs rows, members_long next rows, width)
 
 -- what is held of a table that has moved, or that was started anew
-pub held_is : (old new : Table) (costs : CostBox) (basis : List Member) → KeepsRows old new → new.costs ≡ costs →
+pub held_is : (old new : Table) (costs : CostBox) (basis : List Member) → KeepsTableRows old new → new.costs ≡ costs →
     new.basis.items ≡ basis → held_of new Open ≡ rebased (held_of old Open) costs basis
 held_is old new costs basis keeps costs_are basis_is =
     ap (λ (top : ℕ). record { top = top; costs = new.costs; rows = new.rows.items; basis = new.basis.items; stage = Open }) keeps.top
@@ -260,9 +260,9 @@ held_is old new costs basis keeps costs_are basis_is =
     ∙ ap (λ (rows : List Form). record { top = old.top; costs = costs; rows = rows; basis = new.basis.items; stage = Open }) keeps.rows
     ∙ ap (λ (ms : List Member). record { top = old.top; costs = costs; rows = old.rows.items; basis = ms; stage = Open }) basis_is
 
-pub moved_rebased : (old new : Table) (costs : CostBox) → KeepsRows old new → IsMoved old costs new →
-    held_of new Open ≡ rebased (held_of old Open) costs (moved costs old.basis.items)
-moved_rebased old new costs keeps is = held_is old new costs (moved costs old.basis.items) keeps is.costs_are is.basis
+pub moved_rebased : (old new : Table) (costs : CostBox) → KeepsTableRows old new → IsMoved old costs new →
+    held_of new Open ≡ rebased (held_of old Open) costs (moved_basis costs old.basis.items)
+moved_rebased old new costs keeps is = held_is old new costs (moved_basis costs old.basis.items) keeps is.costs_are is.basis
 
 -- the stage plays no part in a move
 pub any_stage : (t : Table) (stage : Stage) (costs : CostBox) (new : Held) → IsRebased (held_of t Open) costs new → IsRebased (held_of t stage) costs new

@@ -1,7 +1,7 @@
 -- What a tableau keeps while a row is added.
 use Rattle.fraction_table.specs.declared.table.Table.{Table}
 use Rattle.fraction_table.specs.RowLines.{HoldsSame}
-use Rattle.fraction_table.specs.Wholes.{HasRoom}
+use Rattle.fraction_table.specs.ValidTables.{HasRoom}
 
 -- room for a pivot stays
 pub room_same : (old new : Table) → HoldsSame old new → HasRoom old → HasRoom new

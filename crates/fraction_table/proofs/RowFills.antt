@@ -6,15 +6,15 @@ use Rattle.std.proofs.lemmas.List.{get_or-set_other, get_or-set_same, length-set
 use Rattle.cost_base.specs.Lists.{numbers_from}
 use Rattle.cost_base.proofs.ListLemmas.{each_mapped}
 use Rattle.whole_numbers.specs.Fractions.{Fraction}
-use Rattle.path_rows.specs.declared.form.Form.{Form}
-use Rattle.path_rows.specs.declared.form.CostBox.{CostBox}
-use Rattle.path_rows.specs.Basis.{entry}
-use Rattle.path_rows.specs.Steps.{start_of_sum}
+use Rattle.design_problem.specs.declared.form.Form.{Form}
+use Rattle.design_problem.specs.declared.form.CostBox.{CostBox}
+use Rattle.design_problem.specs.Basis.{entry}
+use Rattle.design_problem.specs.Steps.{start_of_sum}
 use Rattle.wide_fraction.specs.declared.steps.Wide.{Wide}
 use Rattle.fraction_rows.specs.Entries.{IsPassing}
-use Rattle.fraction_table.specs.RowLines.{IsRowLine, IsRowStep, sum_at_place}
-use Rattle.fraction_rows.specs.Sums.{IsSumStep, sum_from}
-use Rattle.fraction_rows.specs.TableRows.{AreNumbers, IsNumber, blank_row, nothing}
+use Rattle.fraction_table.specs.RowLines.{IsAddedLine, IsRowStep, sum_at_place}
+use Rattle.fraction_rows.specs.Sums.{IsSumStep, sum_of_terms}
+use Rattle.fraction_rows.specs.TableRows.{AreTableNumbers, IsTableNumber, blank_row, nothing}
 use Rattle.fraction_rows.proofs.BlankRows.{blank_entry, blank_size}
 use Rattle.fraction_rows.proofs.ZeroFractions.{nothing_number}
 use Rattle.fraction_rows.proofs.RowLaws.{written_numbers}
@@ -24,12 +24,12 @@ pub record IsFilledTo (top : ℕ) (costs : CostBox) (form : Form) (lines : List 
   pub long : length line ≡ suc (length costs.low)
   pub before : (place : ℕ) → place < count → entry line place ≡ sum_at_place costs form lines place
   pub after : (place : ℕ) → count ≤ place → entry line place ≡ nothing
-  pub numbers : AreNumbers top line
+  pub numbers : AreTableNumbers top line
 
 -- one more place is filled
 pub filled_next : (top : ℕ) (costs : CostBox) (form : Form) (lines : List (List Fraction)) (count : ℕ)
     (line new : List Fraction) (q : Fraction) → count < suc (length costs.low) →
-    q ≡ sum_at_place costs form lines count → IsNumber top q → new ≡ slice_set line count q →
+    q ≡ sum_at_place costs form lines count → IsTableNumber top q → new ≡ slice_set line count q →
     IsFilledTo top costs form lines count line → IsFilledTo top costs form lines (suc count) new
 filled_next top costs form lines count line new q count_in q_is number new_is f =
     subst (IsFilledTo top costs form lines (suc count)) (sym new_is)
@@ -49,7 +49,7 @@ filled_next top costs form lines count line new q count_in q_is number new_is f 
 -- the constant is filled first
 pub filled_first : (top : ℕ) (costs : CostBox) (form : Form) (lines : List (List Fraction)) (line new : List Fraction)
     (q : Fraction) → line ≡ blank_row (length costs.low) →
-    q ≡ sum_at_place costs form lines 0 → IsNumber top q → new ≡ slice_set line 0 q →
+    q ≡ sum_at_place costs form lines 0 → IsTableNumber top q → new ≡ slice_set line 0 q →
     IsFilledTo top costs form lines 1 new
 filled_first top costs form lines line new q blank q_is number new_is =
     let none = nothing_number top q number in
@@ -59,7 +59,7 @@ filled_first top costs form lines line new q blank q_is number new_is =
       long = blank_size (length costs.low);
       before = λ place place_in. absurd (omega (arith, place_in));
       after = λ place from. blank_entry (length costs.low) place;
-      numbers = (none, each_mapped (IsNumber top) (λ (column : ℕ). nothing) (numbers_from 0 (length costs.low)) (λ k. none));
+      numbers = (none, each_mapped (IsTableNumber top) (λ (column : ℕ). nothing) (numbers_from 0 (length costs.low)) (λ k. none));
     }))
 
 -- a step of the sum at a place is a step of the line
@@ -82,7 +82,7 @@ step_at (Err wide) top costs form lines place start cs place_in start_is cs_are 
 -- one more column is filled
 pub filled_more : (top : ℕ) (costs : CostBox) (form : Form) (lines : List (List Fraction)) (column : ℕ)
     (line new : List Fraction) (q : Fraction) → column < length costs.low →
-    q ≡ sum_at_place costs form lines (column + 1) → IsNumber top q → new ≡ slice_set line (suc column) q →
+    q ≡ sum_at_place costs form lines (column + 1) → IsTableNumber top q → new ≡ slice_set line (suc column) q →
     IsFilledTo top costs form lines (suc column) line → IsFilledTo top costs form lines (suc (column + 1)) new
 filled_more top costs form lines column line new q column_in q_is number new_is f =
     subst (λ (k : ℕ). IsFilledTo top costs form lines (suc k) new) (sym (one_more column))
@@ -96,19 +96,19 @@ filled_more top costs form lines column line new q column_in q_is number new_is 
 pub record IsStarted (top : ℕ) (costs : CostBox) (form : Form) (line : List Fraction) : Type 0 where
   pub long : length line ≡ suc (length costs.low)
   pub starts : (place : ℕ) → entry line place ≡ start_of_sum costs form place
-  pub numbers : AreNumbers top line
+  pub numbers : AreTableNumbers top line
 
 -- a line of zeros with its constant put
 pub started_line : (top : ℕ) (costs : CostBox) (form : Form) (line new : List Fraction) (q : Fraction) →
     line ≡ blank_row (length costs.low) → q ≡ start_of_sum costs form 0 →
-    IsNumber top q → new ≡ slice_set line 0 q → IsStarted top costs form new
+    IsTableNumber top q → new ≡ slice_set line 0 q → IsStarted top costs form new
 started_line top costs form line new q blank q_is number new_is =
     let none = nothing_number top q number in
     subst (IsStarted top costs form) (sym (new_is ∙ ap (λ (l : List Fraction). slice_set l 0 q) blank))
     (record {
       long = blank_size (length costs.low);
       starts = starts (length costs.low);
-      numbers = (number, each_mapped (IsNumber top) (λ (column : ℕ). nothing) (numbers_from 0 (length costs.low)) (λ k. none));
+      numbers = (number, each_mapped (IsTableNumber top) (λ (column : ℕ). nothing) (numbers_from 0 (length costs.low)) (λ k. none));
     })
   where
     starts : (n place : ℕ) → entry (q ∷ map (λ column. nothing) (numbers_from 0 n)) place ≡ start_of_sum costs form place
@@ -119,13 +119,13 @@ started_line top costs form line new q blank q_is number new_is =
 pub gathered_line : {X : Type 0} (r : Result X Wide) (top : ℕ) (costs : CostBox) (form : Form)
     (lines : List (List Fraction)) (old new : List Fraction) → IsStarted top costs form old →
     OnOk r ((place : ℕ) → place < length old →
-    entry new place ≡ sum_from (entry old place) form.coefficients lines place) → OnOk r (AreNumbers top new) →
-    length new ≡ length old → OnOk r (IsRowLine top costs form lines new)
+    entry new place ≡ sum_of_terms (entry old place) form.coefficients lines place) → OnOk r (AreTableNumbers top new) →
+    length new ≡ length old → OnOk r (IsAddedLine top costs form lines new)
 gathered_line (Err wide) top costs form lines old new started sums numbers same = tt
 gathered_line (Ok x) top costs form lines old new started sums numbers same =
     record {
       long = same ∙ started.long;
       sums = λ place place_in. sums place (omega (arith, place_in, started.long))
-          ∙ ap (λ (q : Fraction). sum_from q form.coefficients lines place) (started.starts place);
+          ∙ ap (λ (q : Fraction). sum_of_terms q form.coefficients lines place) (started.starts place);
       numbers = numbers;
     }

@@ -10,16 +10,16 @@ use Rattle.whole_numbers.proofs.FractionLaws.{product_positive, reduced_lowest, 
 use Rattle.whole_numbers.proofs.Multiples.{plus_stands_over}
 use Rattle.whole_numbers.specs.Lists.{number_at}
 use Rattle.wide_fraction.specs.declared.steps.Wide.{Wide}
-use Rattle.path_rows.specs.declared.form.Form.{Form}
-use Rattle.path_rows.specs.declared.form.CostBox.{CostBox}
-use Rattle.path_rows.specs.declared.tree.Member.{Member}
-use Rattle.path_rows.specs.Forms.{form_at, no_form, value}
-use Rattle.path_rows.specs.Basis.{AreEntries, IsTable, entry, low_member, member_form}
-use Rattle.path_rows.specs.Steps.{IsStep, IsTooWide, row_product, row_sum, start_of_sum, terms}
-use Rattle.fraction_table.specs.RowLines.{IsRowLine, IsRowStep, sum_at_place}
-use Rattle.fraction_rows.specs.Sums.{IsSumStep, product, sum, sum_from}
+use Rattle.design_problem.specs.declared.form.Form.{Form}
+use Rattle.design_problem.specs.declared.form.CostBox.{CostBox}
+use Rattle.design_problem.specs.declared.tree.Member.{Member}
+use Rattle.design_problem.specs.Forms.{form_at, no_form, value_for_costs}
+use Rattle.design_problem.specs.Basis.{AreEntries, IsTable, entry, low_member, member_form}
+use Rattle.design_problem.specs.Steps.{IsTableStep, IsStepTooWide, row_product, row_sum, start_of_sum, terms}
+use Rattle.fraction_table.specs.RowLines.{IsAddedLine, IsRowStep, sum_at_place}
+use Rattle.fraction_rows.specs.Sums.{IsSumStep, product, sum, sum_of_terms}
 use Rattle.fraction_table.specs.Tableaus.{FitsBox, wide_at}
-use Rattle.fraction_table.specs.Wholes.{IsWhole, Stand, from_lows, number_of, numbers_of}
+use Rattle.fraction_table.specs.ValidTables.{IsTableauOf, Stand, from_lows, number_of_form, numbers_of_form}
 use Rattle.fraction_table.proofs.Bases.{low_line_stands, lows_counted, table_long, whole_table}
 use Rattle.fraction_table.proofs.MoreRows.{forms_kept, member_kept, whole_more}
 use Rattle.fraction_rows.proofs.ZeroFractions.{times_lowest}
@@ -48,35 +48,35 @@ sum_stands : (D place : ℕ) (cs : List ℤ) (lines : List (List Fraction)) (low
     0 < D → length cs ≡ length lows → length cs ≤ length lines → Stands q m D →
     ((v : ℕ) → v < length cs → Stands (entry (slice_index_or lines v []) place)
     (number_at (slice_index_or lows v []) place) D) →
-    Stands (sum_from q cs lines place) (m +ℤ from_lows cs lows place) D
+    Stands (sum_of_terms q cs lines place) (m +ℤ from_lows cs lows place) D
 sum_stands D place [] lines lows q m D_positive counted many q_is are =
     subst (λ (z : ℤ). Stands q z D) (ring (m ∷ []) (var 0) (var 0 ⊕ num (pos 0)) refl) q_is
 sum_stands D place (c ∷ cs) [] lows q m D_positive counted many q_is are = absurd (omega arith)
 sum_stands D place (c ∷ cs) (es ∷ lines) [] q m D_positive counted many q_is are = absurd (omega arith)
 sum_stands D place (pos zero ∷ cs) (es ∷ lines) (ts ∷ lows) q m D_positive counted many q_is are =
-    subst (λ (z : ℤ). Stands (sum_from q cs lines place) z D)
+    subst (λ (z : ℤ). Stands (sum_of_terms q cs lines place) z D)
     (ring (m ∷ number_at ts place ∷ from_lows cs lows place ∷ []) (var 0 ⊕ var 2) (var 0 ⊕ (num (pos 0) ⊗ var 1 ⊕ var 2)) refl)
     (sum_stands D place cs lines lows q m D_positive (omega arith) (omega arith) q_is (λ v v_in. are (suc v) (omega (arith, v_in))))
 sum_stands D place (pos (suc n) ∷ cs) (es ∷ lines) (ts ∷ lows) q m D_positive counted many q_is are =
     let c = pos (suc n) in
-    subst (λ (z : ℤ). Stands (sum_from (plus q (times (whole c) (entry es place))) cs lines place) z D)
+    subst (λ (z : ℤ). Stands (sum_of_terms (plus q (times (whole c) (entry es place))) cs lines place) z D)
     (ring (m ∷ c ∷ number_at ts place ∷ from_lows cs lows place ∷ []) ((var 0 ⊕ var 1 ⊗ var 2) ⊕ var 3) (var 0 ⊕ (var 1 ⊗ var 2 ⊕ var 3)) refl)
     (sum_stands D place cs lines lows (plus q (times (whole c) (entry es place))) (m +ℤ (c *ℤ number_at ts place)) D_positive (omega arith) (omega arith)
     (term_stands D q (entry es place) m (number_at ts place) c D_positive q_is (are 0 (omega arith))) (λ v v_in. are (suc v) (omega (arith, v_in))))
 sum_stands D place (negsuc n ∷ cs) (es ∷ lines) (ts ∷ lows) q m D_positive counted many q_is are =
     let c = negsuc n in
-    subst (λ (z : ℤ). Stands (sum_from (plus q (times (whole c) (entry es place))) cs lines place) z D)
+    subst (λ (z : ℤ). Stands (sum_of_terms (plus q (times (whole c) (entry es place))) cs lines place) z D)
     (ring (m ∷ c ∷ number_at ts place ∷ from_lows cs lows place ∷ []) ((var 0 ⊕ var 1 ⊗ var 2) ⊕ var 3) (var 0 ⊕ (var 1 ⊗ var 2 ⊕ var 3)) refl)
     (sum_stands D place cs lines lows (plus q (times (whole c) (entry es place))) (m +ℤ (c *ℤ number_at ts place)) D_positive (omega arith) (omega arith)
     (term_stands D q (entry es place) m (number_at ts place) c D_positive q_is (are 0 (omega arith))) (λ v v_in. are (suc v) (omega (arith, v_in))))
 
 -- what a sum starts with stands for its part of the form's number
 place_stands : (top : ℕ) (costs : CostBox) (rows : List Form) (basis : List Member) (table : List (List Fraction))
-    (f : Form) (place : ℕ) (w : IsWhole top costs rows basis table) → FitsBox costs f → place < suc (length costs.low) →
-    StandsFor (sum_at_place costs f table place) (number_of w.unboxed.common costs.low w.unboxed.lows f place)
+    (f : Form) (place : ℕ) (w : IsTableauOf top costs rows basis table) → FitsBox costs f → place < suc (length costs.low) →
+    StandsFor (sum_at_place costs f table place) (number_of_form w.unboxed.common costs.low w.unboxed.lows f place)
     w.unboxed.common
 place_stands top costs rows basis table f zero w fits place_in =
-    let z = value f costs.low in
+    let z = value_for_costs f costs.low in
     (sum_stands w.unboxed.common 0 f.coefficients table w.unboxed.lows (whole z) (pos w.unboxed.common *ℤ z)
     w.unboxed.positive (fits.count ∙ lows_counted top costs rows basis table w)
     (omega (arith, fits.count, table_long top costs rows basis table w))
@@ -92,12 +92,12 @@ place_stands top costs rows basis table f (suc k) w fits place_in =
     (λ v v_in. low_line_stands top costs rows basis table w v (suc k) (omega (arith, fits.count, v_in)) place_in)).1
 
 line_stands : (top : ℕ) (costs : CostBox) (rows : List Form) (basis : List Member) (table : List (List Fraction))
-    (f : Form) (line : List Fraction) (w : IsWhole top costs rows basis table) → FitsBox costs f →
-    IsRowLine top costs f table line →
-    Stand w.unboxed.common line (numbers_of (length costs.low) w.unboxed.common costs.low w.unboxed.lows f)
+    (f : Form) (line : List Fraction) (w : IsTableauOf top costs rows basis table) → FitsBox costs f →
+    IsAddedLine top costs f table line →
+    Stand w.unboxed.common line (numbers_of_form (length costs.low) w.unboxed.common costs.low w.unboxed.lows f)
 line_stands top costs rows basis table f line w fits l =
     let n = length costs.low in
-    let ms = numbers_of n w.unboxed.common costs.low w.unboxed.lows f in
+    let ms = numbers_of_form n w.unboxed.common costs.low w.unboxed.lows f in
     zip_from (λ q m. StandsFor q m w.unboxed.common) line ms (whole (pos 0)) (pos 0) (l.long ∙ sym (numbers_long n w.unboxed.common costs.low w.unboxed.lows f))
     (λ place place_in.
     let within : place < suc n = omega (arith, l.long, place_in) in
@@ -108,8 +108,8 @@ line_stands top costs rows basis table f line w fits l =
 
 -- With the form and its line the table is whole.
 pub row_whole : (top : ℕ) (costs : CostBox) (rows : List Form) (basis : List Member) (table : List (List Fraction))
-    (f : Form) (line : List Fraction) → IsWhole top costs rows basis table → FitsBox costs f →
-    IsRowLine top costs f table line → IsWhole top costs (rows ++ f ∷ []) basis (table ++ line ∷ [])
+    (f : Form) (line : List Fraction) → IsTableauOf top costs rows basis table → FitsBox costs f →
+    IsAddedLine top costs f table line → IsTableauOf top costs (rows ++ f ∷ []) basis (table ++ line ∷ [])
 row_whole top costs rows basis table f line w fits l =
     whole_more top costs rows basis table f line w fits l.numbers (line_stands top costs rows basis table f line w fits l)
 
@@ -143,7 +143,7 @@ terms_taken (negsuc m ∷ cs) (es ∷ lines) (suc n) place counted =
 step_of_sum : (costs : CostBox) (rows : List Form) (f : Form) (basis : List Member) (table : List (List Fraction))
     (place : ℕ) (wide : Wide) → length basis ≡ length costs.low → length f.coefficients ≡ length costs.low →
     place < suc (length costs.low) → IsSumStep (start_of_sum costs f place) f.coefficients table place wide →
-    IsStep costs (rows ++ f ∷ []) basis (take (length costs.low) table) wide.step wide.left wide.right
+    IsTableStep costs (rows ++ f ∷ []) basis (take (length costs.low) table) wide.step wide.left wide.right
 step_of_sum costs rows f basis table place wide count counted place_in step =
     let n = length costs.low in
     let more = rows ++ f ∷ [] in
@@ -154,10 +154,10 @@ step_of_sum costs rows f basis table place wide count counted place_in step =
       | product v v_in is ↦
           let v_within : v < n = omega (arith, counted, v_in) in
           rw is
-          (subst (λ (g : Form). IsStep costs more basis (take n table) Mul
+          (subst (λ (g : Form). IsTableStep costs more basis (take n table) Mul
           (whole (slice_index_or g.coefficients v (pos 0))) (entry (slice_index_or table v []) place)) last
           (subst (λ (es : List Fraction).
-          IsStep costs more basis (take n table) Mul
+          IsTableStep costs more basis (take n table) Mul
           (whole (slice_index_or (form_at more (length rows)).coefficients v (pos 0))) (entry es place))
           (get_or-take n table v [] v_within)
           (row_product (length rows) v place row_in v_within place_within)))
@@ -165,18 +165,18 @@ step_of_sum costs rows f basis table place wide count counted place_in step =
           let same : terms (form_at more (length rows)).coefficients (take n table) place ≡ terms f.coefficients table place =
           ap (λ (g : Form). terms g.coefficients (take n table) place) last ∙ terms_taken f.coefficients table n place counted in
           rw is
-          (subst (λ (g : Form). IsStep costs more basis (take n table) Add
+          (subst (λ (g : Form). IsTableStep costs more basis (take n table) Add
           (fold plus (start_of_sum costs g place) (take k (terms f.coefficients table place))) next) last
           (subst (λ (ts : List Fraction).
-          IsStep costs more basis (take n table) Add
+          IsTableStep costs more basis (take n table) Add
           (fold plus (start_of_sum costs (form_at more (length rows)) place) (take k ts)) next) same
           (row_sum (length rows) place k next row_in place_within (ap (λ (ts : List Fraction). slice_get ts k) same ∙ next_is))))
     ]
 
 -- A step of the line that passes the top is too wide at the basis, with the row among the rows.
 pub row_too_wide : (top : ℕ) (costs : CostBox) (rows : List Form) (basis : List Member) (table : List (List Fraction))
-    (f : Form) (wide : Wide) → IsWhole top costs rows basis table → FitsBox costs f → IsRowStep top costs f table wide →
-    IsTooWide top costs (rows ++ f ∷ []) (wide_at wide basis)
+    (f : Form) (wide : Wide) → IsTableauOf top costs rows basis table → FitsBox costs f → IsRowStep top costs f table wide →
+    IsStepTooWide top costs (rows ++ f ∷ []) (wide_at wide basis)
 row_too_wide top costs rows basis table f wide w fits s =
     record {
       lows = take (length costs.low) table;
@@ -192,19 +192,19 @@ row_too_wide top costs rows basis table f wide w fits s =
 -- what a line that was filled leaves
 pub put_whole : {X : Type 0} (r : Result X Wide) (top : ℕ) (costs : CostBox) (rows more : List Form)
     (basis : List Member) (table lines longer : List (List Fraction)) (f : Form) (line : List Fraction) →
-    IsWhole top costs rows basis table → FitsBox costs f → lines ≡ table → more ≡ rows ++ f ∷ [] →
-    longer ≡ table ++ line ∷ [] → OnOk r (IsRowLine top costs f lines line) →
-    OnOk r (IsWhole top costs more basis longer)
+    IsTableauOf top costs rows basis table → FitsBox costs f → lines ≡ table → more ≡ rows ++ f ∷ [] →
+    longer ≡ table ++ line ∷ [] → OnOk r (IsAddedLine top costs f lines line) →
+    OnOk r (IsTableauOf top costs more basis longer)
 put_whole (Err wide) top costs rows more basis table lines longer f line w fits lines_are more_are longer_are filled = tt
 put_whole (Ok x) top costs rows more basis table lines longer f line w fits lines_are more_are longer_are filled =
     rw (more_are, longer_are) (row_whole top costs rows basis table f line w fits
-    (subst (λ (ls : List (List Fraction)). IsRowLine top costs f ls line) lines_are filled))
+    (subst (λ (ls : List (List Fraction)). IsAddedLine top costs f ls line) lines_are filled))
 
 -- and one that wasn't
 pub put_wide : {X : Type 0} (r : Result X Wide) (top : ℕ) (costs : CostBox) (rows more : List Form)
-    (basis : List Member) (table lines : List (List Fraction)) (f : Form) → IsWhole top costs rows basis table →
+    (basis : List Member) (table lines : List (List Fraction)) (f : Form) → IsTableauOf top costs rows basis table →
     FitsBox costs f → lines ≡ table → more ≡ rows ++ f ∷ [] → IfErr r (IsRowStep top costs f lines) →
-    IfErr r (λ wide. IsTooWide top costs more (wide_at wide basis))
+    IfErr r (λ wide. IsStepTooWide top costs more (wide_at wide basis))
 put_wide (Ok x) top costs rows more basis table lines f w fits lines_are more_are step = tt
 put_wide (Err wide) top costs rows more basis table lines f w fits lines_are more_are step =
     rw more_are (row_too_wide top costs rows basis table f wide w fits (subst (λ (ls : List (List Fraction)). IsRowStep top costs f ls wide) lines_are step))

@@ -13,22 +13,22 @@ use Rattle.whole_numbers.proofs.Ring.{var, num, ◌⊕◌, ◌⊖◌, ◌⊗◌,
 use Rattle.wide_fraction.specs.declared.steps.Wide.{Wide}
 use Rattle.area_graph.specs.declared.Point.{Point}
 use Rattle.whole_numbers.specs.Lists.{number_at}
-use Rattle.path_rows.specs.declared.form.Form.{Form}
-use Rattle.path_rows.specs.declared.form.CostBox.{CostBox}
-use Rattle.path_rows.specs.declared.tree.Member.{Member}
-use Rattle.path_rows.specs.declared.tree.Member.TheVariants.{Low, High, Row}
-use Rattle.path_rows.specs.Forms.{no_form, value_at, AreMet}
-use Rattle.path_rows.specs.Boxes.{IsPointOf}
-use Rattle.path_rows.specs.Basis.{IsFormOf, entry, forms_of, low_member, member_form}
-use Rattle.path_rows.specs.Steps.{IsStuck}
+use Rattle.design_problem.specs.declared.form.Form.{Form}
+use Rattle.design_problem.specs.declared.form.CostBox.{CostBox}
+use Rattle.design_problem.specs.declared.tree.Member.{Member}
+use Rattle.design_problem.specs.declared.tree.Member.TheVariants.{Low, High, Row}
+use Rattle.design_problem.specs.Forms.{no_form, value_at, AreMet}
+use Rattle.design_problem.specs.Boxes.{IsPointOf}
+use Rattle.design_problem.specs.Basis.{IsFormOf, entry, forms_of, low_member, member_form}
+use Rattle.design_problem.specs.Steps.{IsStuck}
 use Rattle.fraction_table.specs.declared.table.Table.{Table}
 use Rattle.fraction_table.specs.declared.stage.Solved.{Solved}
 use Rattle.fraction_table.specs.declared.stage.Stage.TheVariants.{Ended}
 use Rattle.fraction_table.specs.declared.stage.Solved.TheVariants.{Feasible, Refuted}
-use Rattle.fraction_rows.specs.TableRows.{AreNumbers}
+use Rattle.fraction_rows.specs.TableRows.{AreTableNumbers}
 use Rattle.fraction_table.specs.Tableaus.{IsAmongForms, IsSolved}
-use Rattle.fraction_table.specs.Wholes.{IsLine, IsShown, IsWholeTable, Stand, high_member, low_forms, members_of, number_of}
-use Rattle.fraction_table.specs.Pivots.{AreHigh, KeepsForms, line_at, line_numbers, member_at}
+use Rattle.fraction_table.specs.ValidTables.{IsTableLine, IsShown, IsTableau, Stand, high_member, low_forms, members_of_box, number_of_form}
+use Rattle.fraction_table.specs.Pivots.{AreHigh, KeepsBoxAndRows, line_at, numbers_of_line, member_at}
 use Rattle.fraction_table.proofs.theory.Corner.{NotAbove, stuck_negative}
 use Rattle.fraction_table.proofs.theory.Tables.{IsCorner, corner_value}
 use Rattle.fraction_table.proofs.theory.Blends.{form_mixture}
@@ -36,7 +36,7 @@ use Rattle.fraction_table.proofs.theory.Resolved.{resolved}
 use Rattle.fraction_rows.proofs.RowLaws.{number_at as number_there}
 use Rattle.fraction_table.proofs.theory.TurnedNumbers.{numbers_at, numbers_long}
 use Rattle.fraction_table.proofs.theory.Units.{unit_dot}
-use Rattle.fraction_table.proofs.WholeTurns.{coefficients_long, stand_at}
+use Rattle.fraction_table.proofs.IntegralTurns.{coefficients_long, stand_at}
 use Rattle.fraction_table.proofs.Bases.{low_line_stands, lows_counted, members_begin}
 use Rattle.fraction_table.proofs.Pivots.{high_place, line_long, lines_long, member_is, members_long, row_place, whole_line}
 
@@ -109,7 +109,7 @@ basis_met costs rows p basis point meets are =
     All-map (λ f. pos 0 ≤ℤ value_at f p) (member_form (length costs.low) rows) basis
     (λ k d k_in. member_met costs rows p (slice_index_or basis k d) point meets (are k d k_in))
 
-not_above : (top D : ℕ) (qs : List Fraction) (ms : List ℤ) → 0 < D → AreNumbers top qs → Stand D qs ms →
+not_above : (top D : ℕ) (qs : List Fraction) (ms : List ℤ) → 0 < D → AreTableNumbers top qs → Stand D qs ms →
     ((k : ℕ) → k < length qs → (entry qs k).numerator ≤ℤ pos 0) → NotAbove ms
 not_above top D [] [] D_positive numbers stand low = tt
 not_above top D [] (m ∷ ms) D_positive numbers stand low = absurd stand
@@ -119,13 +119,13 @@ not_above top D (q ∷ qs) (m ∷ ms) D_positive numbers stand low = (
   not_above top D qs ms D_positive numbers.1 stand.1 (λ k k_in. low (suc k) (omega arith)),
 )
 
-pub stuck_first : (top D : ℕ) (qs : List Fraction) (m : ℤ) (ms : List ℤ) → 0 < D → AreNumbers top qs →
+pub stuck_first : (top D : ℕ) (qs : List Fraction) (m : ℤ) (ms : List ℤ) → 0 < D → AreTableNumbers top qs →
     Stand D qs (m ∷ ms) → (entry qs 0).numerator <ℤ pos 0 → m <ℤ pos 0
 stuck_first top D [] m ms D_positive numbers stand below = absurd stand
 stuck_first top D (q ∷ qs) m ms D_positive numbers stand below =
     negative_number q.numerator m q.denominator D numbers.0.lowest.positive D_positive stand.0 below
 
-stuck_rest : (top D count : ℕ) (qs : List Fraction) (m : ℤ) (ms : List ℤ) → 0 < D → AreNumbers top qs →
+stuck_rest : (top D count : ℕ) (qs : List Fraction) (m : ℤ) (ms : List ℤ) → 0 < D → AreTableNumbers top qs →
     Stand D qs (m ∷ ms) → length qs ≡ suc count → ((k : ℕ) → 1 ≤ k → k ≤ count → (entry qs k).numerator ≤ℤ pos 0) →
     NotAbove ms
 stuck_rest top D count [] m ms D_positive numbers stand counted low = absurd stand
@@ -133,7 +133,7 @@ stuck_rest top D count (q ∷ qs) m ms D_positive numbers stand counted low =
     not_above top D qs ms D_positive numbers.1 stand.1 (λ k k_in. low (suc k) (omega arith) (omega (arith, counted, k_in)))
 
 -- Where a form is stuck, no rational point of the box meets the rows.
-pub stuck_refutes : (t : Table) (w : IsWholeTable t) (line : ℕ) → line < length t.lines.items →
+pub stuck_refutes : (t : Table) (w : IsTableau t) (line : ℕ) → line < length t.lines.items →
     IsStuck t.basis.items (line_at t line) → IsSolved t.costs t.rows.items (Refuted line)
 stuck_refutes t w line line_in stuck p point meets =
     let n = length t.costs.low in
@@ -142,8 +142,8 @@ stuck_refutes t w line line_in stuck p point meets =
     let is = member_is t w line line_in in
     let f = member_form n t.rows.items member in
     let bs = forms_of t.costs t.rows.items t.basis.items in
-    let m = number_of D t.costs.low w.unboxed.lows f 0 in
-    let ms = map (number_of D t.costs.low w.unboxed.lows f) (numbers_from 1 n) in
+    let m = number_of_form D t.costs.low w.unboxed.lows f 0 in
+    let ms = map (number_of_form D t.costs.low w.unboxed.lows f) (numbers_from 1 n) in
     let es = line_at t line in
     let l = whole_line t w line line_in in
     let mixture_is = form_mixture D n t.costs.low (low_forms n 0 t.costs.low) w.unboxed.lows bs f w.unboxed.long
@@ -181,14 +181,14 @@ corner_long D (l ∷ ls) [] same = absurd (omega arith)
 corner_long D (l ∷ ls) (ts ∷ lows) same = let rest = corner_long D ls lows (omega arith) in omega arith
 
 -- the corner of a table
-abbrev pub corner_point : (t : Table) → IsWholeTable t → Point
+abbrev pub corner_point : (t : Table) → IsTableau t → Point
 corner_point t w = record { scale = w.unboxed.common; values = corner_of w.unboxed.common t.costs.low w.unboxed.lows }
 
-pub counted_lows : (t : Table) (w : IsWholeTable t) → length t.costs.low ≡ length w.unboxed.lows
+pub counted_lows : (t : Table) (w : IsTableau t) → length t.costs.low ≡ length w.unboxed.lows
 counted_lows t w = lows_counted t.top t.costs t.rows.items t.basis.items t.lines.items w
 
 -- no number of x - low is negative at the corner
-pub first_high : (t : Table) (w : IsWholeTable t) → AreHigh t → (v : ℕ) → v < length t.costs.low → pos 0 ≤ℤ number_at (slice_index_or w.unboxed.lows v []) 0
+pub first_high : (t : Table) (w : IsTableau t) → AreHigh t → (v : ℕ) → v < length t.costs.low → pos 0 ≤ℤ number_at (slice_index_or w.unboxed.lows v []) 0
 first_high t w high v v_in =
     let stands = low_line_stands t.top t.costs t.rows.items t.basis.items t.lines.items w v 0 v_in (omega arith) in
     high_number (entry (line_at t v) 0).numerator (number_at (slice_index_or w.unboxed.lows v []) 0)
@@ -196,47 +196,47 @@ first_high t w high v v_in =
     (high v [] (omega (
       arith,
       members_long t.costs (length t.rows.items),
-      length_zip (IsLine t.top w.unboxed.common t.costs t.rows.items w.unboxed.lows)
-          (members_of t.costs (length t.rows.items)) t.lines.items w.unboxed.lines,
+      length_zip (IsTableLine t.top w.unboxed.common t.costs t.rows.items w.unboxed.lows)
+          (members_of_box t.costs (length t.rows.items)) t.lines.items w.unboxed.lines,
       v_in,
     )))
 
-pub at_corner : (t : Table) (w : IsWholeTable t) → AreHigh t →
+pub at_corner : (t : Table) (w : IsTableau t) → AreHigh t →
     IsCorner w.unboxed.common t.costs.low w.unboxed.lows (corner_of w.unboxed.common t.costs.low w.unboxed.lows)
 at_corner t w high = corner_is w.unboxed.common t.costs.low w.unboxed.lows (counted_lows t w) (first_high t w high)
 
 -- each form is its constant at the corner
-corner_high : (t : Table) (w : IsWholeTable t) → AreHigh t → (line : ℕ) → line < length t.lines.items →
+corner_high : (t : Table) (w : IsTableau t) → AreHigh t → (line : ℕ) → line < length t.lines.items →
     pos 0 ≤ℤ value_at (member_form (length t.costs.low) t.rows.items (member_at t line)) (corner_point t w)
 corner_high t w high line line_in =
     let n = length t.costs.low in
     let f = member_form n t.rows.items (member_at t line) in
     let l = whole_line t w line line_in in
     let here = number_there t.top (line_at t line) 0 l.numbers (omega (arith, line_long t w line line_in)) in
-    let stands = stand_at w.unboxed.common (line_at t line) (line_numbers t w line) 0 l.stand
+    let stands = stand_at w.unboxed.common (line_at t line) (numbers_of_line t w line) 0 l.stand
     (omega (arith, numbers_long n w.unboxed.common t.costs.low w.unboxed.lows f)) in
     subst (λ z. pos 0 ≤ℤ z) (numbers_at n w.unboxed.common t.costs.low w.unboxed.lows f 0 (omega arith)
     ∙ sym (corner_value w.unboxed.common t.costs.low w.unboxed.lows
     (corner_of w.unboxed.common t.costs.low w.unboxed.lows) f (at_corner t w high)))
-    (high_number (entry (line_at t line) 0).numerator (number_at (line_numbers t w line) 0)
+    (high_number (entry (line_at t line) 0).numerator (number_at (numbers_of_line t w line) 0)
     (entry (line_at t line) 0).denominator w.unboxed.common here.lowest.positive w.unboxed.positive stands
     (high line [] line_in))
 
 -- the same by the member
-member_high : (t : Table) (w : IsWholeTable t) → AreHigh t → (line : ℕ) (member : Member) →
-    line < length (members_of t.costs (length t.rows.items)) → member_at t line ≡ member →
+member_high : (t : Table) (w : IsTableau t) → AreHigh t → (line : ℕ) (member : Member) →
+    line < length (members_of_box t.costs (length t.rows.items)) → member_at t line ≡ member →
     pos 0 ≤ℤ value_at (member_form (length t.costs.low) t.rows.items member) (corner_point t w)
 member_high t w high line member line_in is =
     subst (λ (m : Member). pos 0 ≤ℤ value_at (member_form (length t.costs.low) t.rows.items m) (corner_point t w)) is
     (corner_high t w high line (omega (
       arith,
-      length_zip (IsLine t.top w.unboxed.common t.costs t.rows.items w.unboxed.lows)
-          (members_of t.costs (length t.rows.items)) t.lines.items w.unboxed.lines,
+      length_zip (IsTableLine t.top w.unboxed.common t.costs t.rows.items w.unboxed.lows)
+          (members_of_box t.costs (length t.rows.items)) t.lines.items w.unboxed.lines,
       line_in,
     )))
 
 -- Where no constant is negative, the corner is a point of the box that meets the rows.
-pub corner_fits : (t : Table) (w : IsWholeTable t) → AreHigh t → IsPointOf t.costs (corner_point t w) × AreMet t.rows.items (corner_point t w)
+pub corner_fits : (t : Table) (w : IsTableau t) → AreHigh t → IsPointOf t.costs (corner_point t w) × AreMet t.rows.items (corner_point t w)
 corner_fits t w high =
     let n = length t.costs.low in
     let p = corner_point t w in
@@ -270,18 +270,18 @@ corner_fits t w high =
           (member_high t w high (n + n + k) (Row k) (omega (arith, many, k_in)) (row_place t.costs (length t.rows.items) k (Low 0 0) k_in)),
     )
 
-pub corner_solves : (t : Table) → IsWholeTable t → AreHigh t → IsSolved t.costs t.rows.items Feasible
+pub corner_solves : (t : Table) → IsTableau t → AreHigh t → IsSolved t.costs t.rows.items Feasible
 corner_solves t w high = (corner_point t w, corner_fits t w high)
 
 -- what the lines show is so
-pub shown_solves : (t : Table) (w : IsWholeTable t) (solved : Solved) →
+pub shown_solves : (t : Table) (w : IsTableau t) (solved : Solved) →
     IsShown t.basis.items t.lines.items (Ended solved) → IsSolved t.costs t.rows.items solved
 shown_solves t w Feasible high = corner_solves t w high
 shown_solves t w (Refuted line) stuck = stuck_refutes t w line stuck.0 stuck.1
 
 -- what the work on a table found is so of the forms that it began with
-pub settled_solves : (old new : Table) (found : Result Solved Wide) → KeepsForms old new →
-    OnOk found (IsWholeTable new) → IfOk found (λ solved. IsShown new.basis.items new.lines.items (Ended solved)) →
+pub settled_solves : (old new : Table) (found : Result Solved Wide) → KeepsBoxAndRows old new →
+    OnOk found (IsTableau new) → IfOk found (λ solved. IsShown new.basis.items new.lines.items (Ended solved)) →
     IfOk found (λ solved. IsSolved old.costs old.rows.items solved)
 settled_solves old new (Ok solved) keeps w shown =
     subst (λ (rows : List Form). IsSolved old.costs rows solved) keeps.rows
@@ -289,8 +289,8 @@ settled_solves old new (Ok solved) keeps w shown =
 settled_solves old new (Err wide) keeps w shown = tt
 
 -- and the form that it found is one of those
-pub settled_among : (old new : Table) (found : Result Solved Wide) → KeepsForms old new →
-    OnOk found (IsWholeTable new) → IfOk found (λ solved. IsShown new.basis.items new.lines.items (Ended solved)) →
+pub settled_among : (old new : Table) (found : Result Solved Wide) → KeepsBoxAndRows old new →
+    OnOk found (IsTableau new) → IfOk found (λ solved. IsShown new.basis.items new.lines.items (Ended solved)) →
     IfOk found (IsAmongForms old.costs old.rows.items)
 settled_among old new (Ok Feasible) keeps w shown = tt
 settled_among old new (Ok (Refuted form)) keeps w shown =

@@ -4,10 +4,10 @@ use Rattle.std.specs.Prelude.{ℤ, pos, ◌-ℤ◌, ◌*ℤ◌, ◌==◌, slice_
 use Rattle.whole_numbers.specs.Fractions.{Fraction, StandsFor, whole, minus, times, divided}
 use Rattle.whole_numbers.proofs.Ring.{var, num, ◌⊖◌, ◌⊗◌, ring}
 use Rattle.whole_numbers.proofs.FractionLaws.{times_stands, divided_stands, pivot_entry_stands, stands_more}
-use Rattle.path_rows.specs.Basis.{entry}
-use Rattle.fraction_rows.specs.TableRows.{AreNumbers, IsNumber, crossed_by, divided_without, nothing as none}
+use Rattle.design_problem.specs.Basis.{entry}
+use Rattle.fraction_rows.specs.TableRows.{AreTableNumbers, IsTableNumber, crossed_by, divided_without, nothing as none}
 use Rattle.fraction_rows.proofs.Columns.{other_test}
-use Rattle.fraction_table.specs.Wholes.{Stand}
+use Rattle.fraction_table.specs.ValidTables.{Stand}
 use Rattle.fraction_rows.proofs.ZeroFractions.{divided_lowest}
 use Rattle.fraction_table.proofs.theory.Pivot.{crossed, turned}
 
@@ -22,8 +22,8 @@ pub record IsTurn (e q : Fraction) (n : ℤ) (a D : ℕ) : Type 0 where
   pub pivot : StandsFor q (pos a) D
 
 -- a place that isn't the pivot's
-other_stands : (top place j D a : ℕ) (e q f r : Fraction) (n m k : ℤ) → place ≢ j → IsTurn e q n a D → IsNumber top f →
-    IsNumber top r → StandsFor f m D → StandsFor r k D →
+other_stands : (top place j D a : ℕ) (e q f r : Fraction) (n m k : ℤ) → place ≢ j → IsTurn e q n a D → IsTableNumber top f →
+    IsTableNumber top r → StandsFor f m D → StandsFor r k D →
     StandsFor (minus f (times e (cond (place == j) none (divided r q)))) ((m *ℤ pos a) -ℤ (n *ℤ k)) (D * a)
 other_stands top place j D a e q f r n m k other turn f_is r_is f_stands r_stands =
     subst (λ (b : Bool). StandsFor (minus f (times e (cond b none (divided r q)))) ((m *ℤ pos a) -ℤ (n *ℤ k)) (D * a)) (sym (other_test place j other))
@@ -33,7 +33,7 @@ other_stands top place j D a e q f r n m k other turn f_is r_is f_stands r_stand
 
 -- the places behind the pivot's
 rest_stands : (top place j D a : ℕ) (e q : Fraction) (n : ℤ) (fs rs : List Fraction) (ms ks : List ℤ) → j < place →
-    IsTurn e q n a D → AreNumbers top fs → AreNumbers top rs → Stand D fs ms → Stand D rs ks →
+    IsTurn e q n a D → AreTableNumbers top fs → AreTableNumbers top rs → Stand D fs ms → Stand D rs ks →
     Stand (D * a) (crossed_by e fs (divided_without j q rs place)) (crossed (pos a) n ms ks)
 rest_stands top place j D a e q n [] rs [] ks behind turn fs_are rs_are fs_stand rs_stand = tt
 rest_stands top place j D a e q n [] rs (m ∷ ms) ks behind turn fs_are rs_are fs_stand rs_stand = absurd fs_stand
@@ -55,7 +55,7 @@ inverse_stands D a e q n turn =
 
 -- all places, the pivot's being the i-th from here
 places_stand : (top place i j D a : ℕ) (e q : Fraction) (n : ℤ) (fs rs : List Fraction) (ms ks : List ℤ) →
-    place + i ≡ j → IsTurn e q n a D → AreNumbers top fs → AreNumbers top rs → length fs ≡ length rs → Stand D fs ms →
+    place + i ≡ j → IsTurn e q n a D → AreTableNumbers top fs → AreTableNumbers top rs → length fs ≡ length rs → Stand D fs ms →
     Stand D rs ks → Stand (D * a)
     (slice_set (crossed_by e fs (divided_without j q rs place)) i (times e (divided (whole (pos 1)) q)))
     (slice_set (crossed (pos a) n ms ks) i (n *ℤ pos D))
@@ -80,8 +80,8 @@ turned_row fs rs j =
 
 -- it stands for the numbers after the pivot
 pub turned_stands : (top j D a : ℕ) (n : ℤ) (fs rs : List Fraction) (ms ks : List ℤ) → slice_index_or ms j (pos 0) ≡ n →
-    slice_index_or ks j (pos 0) ≡ pos a → IsTurn (entry fs j) (entry rs j) n a D → AreNumbers top fs →
-    AreNumbers top rs → length fs ≡ length rs → Stand D fs ms → Stand D rs ks →
+    slice_index_or ks j (pos 0) ≡ pos a → IsTurn (entry fs j) (entry rs j) n a D → AreTableNumbers top fs →
+    AreTableNumbers top rs → length fs ≡ length rs → Stand D fs ms → Stand D rs ks →
     Stand (D * a) (turned_row fs rs j) (turned ms ks j D)
 turned_stands top j D a n fs rs ms ks own_is pivot_is turn fs_are rs_are same fs_stand rs_stand =
     subst (λ (z : ℤ). Stand (D * a) (turned_row fs rs j)

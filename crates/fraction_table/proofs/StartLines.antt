@@ -7,22 +7,22 @@ use Rattle.cost_base.specs.Lists.{numbers_from}
 use Rattle.cost_base.proofs.ListLemmas.{length-map-numbers_from, map-numbers_from-agree}
 use Rattle.whole_numbers.specs.Fractions.{Fraction, whole}
 use Rattle.wide_fraction.specs.Widths.{IsTop}
-use Rattle.path_rows.specs.declared.form.CostBox.{CostBox}
-use Rattle.path_rows.specs.Basis.{low_member, unit}
-use Rattle.fraction_rows.specs.TableRows.{AreNumbers, nothing}
-use Rattle.fraction_rows.specs.Turns.{AreRows}
-use Rattle.fraction_table.specs.Wholes.{high_member, members_of, starting_line}
+use Rattle.design_problem.specs.declared.form.CostBox.{CostBox}
+use Rattle.design_problem.specs.Basis.{low_member, unit}
+use Rattle.fraction_rows.specs.TableRows.{AreTableNumbers, nothing}
+use Rattle.fraction_rows.specs.Turns.{AreTableRows}
+use Rattle.fraction_table.specs.ValidTables.{high_member, members_of_box, starting_line}
 use Rattle.fraction_rows.proofs.Columns.{same_test, other_test}
 use Rattle.fraction_rows.proofs.FilledRows.{mapped_written}
 use Rattle.fraction_rows.proofs.SmallNumbers.{whole_number}
 use Rattle.fraction_table.proofs.theory.Units.{high_value, low_value}
 
 pub rows_more : (top count : ℕ) (olds news : List (List Fraction)) (line : List Fraction) → news ≡ olds ++ line ∷ [] →
-    AreRows top count olds → length line ≡ count → AreNumbers top line → AreRows top count news
+    AreTableRows top count olds → length line ≡ count → AreTableNumbers top line → AreTableRows top count news
 rows_more top count olds news line news_are olds_fit counted numbers =
-    subst (AreRows top count) (sym news_are) (put olds olds_fit)
+    subst (AreTableRows top count) (sym news_are) (put olds olds_fit)
   where
-    put : (lines : List (List Fraction)) → AreRows top count lines → AreRows top count (lines ++ line ∷ [])
+    put : (lines : List (List Fraction)) → AreTableRows top count lines → AreTableRows top count (lines ++ line ∷ [])
     put [] fit = (counted, numbers, tt)
     put (first ∷ lines) fit = (fit.0, fit.1, put lines fit.2)
 
@@ -48,15 +48,15 @@ pub unit_line_long : (line : List Fraction) (width v : ℕ) (constant coefficien
 unit_line_long line width v constant coefficient line_is =
     ap length line_is ∙ ap suc (length-map (unit width v coefficient) whole ∙ length-map-numbers_from (λ k. cond (k == v) coefficient (pos 0)) 0 width)
 
-wholes_numbers : (top : ℕ) (f : ℕ → ℤ) (ks : List ℕ) → IsTop top → ((k : ℕ) → nat_abs (f k) < 2 ^ 27) → AreNumbers top (map whole (map f ks))
+wholes_numbers : (top : ℕ) (f : ℕ → ℤ) (ks : List ℕ) → IsTop top → ((k : ℕ) → nat_abs (f k) < 2 ^ 27) → AreTableNumbers top (map whole (map f ks))
 wholes_numbers top f [] is_top small = tt
 wholes_numbers top f (k ∷ ks) is_top small = (whole_number top (f k) is_top (small k), wholes_numbers top f ks is_top small)
 
 pub unit_line_numbers : (top : ℕ) (line : List Fraction) (width v : ℕ) (constant coefficient : ℤ) → IsTop top →
     nat_abs constant < 2 ^ 27 → nat_abs coefficient < 2 ^ 27 →
-    line ≡ whole constant ∷ map whole (unit width v coefficient) → AreNumbers top line
+    line ≡ whole constant ∷ map whole (unit width v coefficient) → AreTableNumbers top line
 unit_line_numbers top line width v constant coefficient is_top constant_small coefficient_small line_is =
-    subst (AreNumbers top) (sym line_is) (
+    subst (AreTableNumbers top) (sym line_is) (
       whole_number top constant is_top constant_small,
       wholes_numbers top (λ k. cond (k == v) coefficient (pos 0)) (numbers_from 0 width) is_top
           (λ k. either (k == v)),
@@ -73,7 +73,7 @@ abbrev high_lines : List ℕ → List ℕ → List (List Fraction)
 high_lines low high = map (λ v. whole (pos (slice_index high v) -ℤ pos (slice_index low v))
     ∷ map whole (unit (length low) v (negsuc 0))) (numbers_from 0 (length low))
 
-starting_lines : (costs : CostBox) → map (starting_line costs []) (members_of costs 0) ≡ low_lines (length costs.low) ++ high_lines costs.low costs.high
+starting_lines : (costs : CostBox) → map (starting_line costs []) (members_of_box costs 0) ≡ low_lines (length costs.low) ++ high_lines costs.low costs.high
 starting_lines costs =
     let n = length costs.low in
     let line = starting_line costs [] in
@@ -98,7 +98,7 @@ pub bound_lines : (costs : CostBox) (start first now : List (List Fraction)) (wi
     first ≡ start ++ map (λ v. whole (pos 0) ∷ map whole (unit width v (pos 1))) (numbers_from 0 width) →
     now ≡ first ++ map (λ v. whole (pos (slice_index high v) -ℤ pos (slice_index low v))
     ∷ map whole (unit (length low) v (negsuc 0))) (numbers_from 0 (length low)) →
-    now ≡ map (starting_line costs []) (members_of costs 0)
+    now ≡ map (starting_line costs []) (members_of_box costs 0)
 bound_lines costs start first now width low high start_is width_is low_is high_is first_is now_is =
     now_is
     ∙ ap (λ ls. ls ++ high_lines low high) (first_is ∙ ap (λ ls. ls ++ low_lines width) start_is)

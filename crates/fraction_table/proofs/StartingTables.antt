@@ -9,21 +9,21 @@ use Rattle.cost_base.proofs.ListLemmas.{length-map-numbers_from, get_or-map-numb
 use Rattle.whole_numbers.specs.Fractions.{whole}
 use Rattle.whole_numbers.proofs.Ring.{var, num, ◌⊕◌, ◌⊗◌, ring}
 use Rattle.whole_numbers.specs.Lists.{number_at}
-use Rattle.path_rows.specs.declared.form.Form.{Form}
-use Rattle.path_rows.specs.declared.form.CostBox.{CostBox}
-use Rattle.path_rows.specs.declared.tree.Member.{Member}
-use Rattle.path_rows.specs.declared.tree.Member.TheVariants.{Low, Row}
-use Rattle.path_rows.specs.Forms.{no_form, value}
-use Rattle.path_rows.specs.Boxes.{IsBox}
-use Rattle.path_rows.specs.Basis.{IsFormOf, LeadsPositive, coordinate, forms_of, low_member, member_form, mixture, one_form, unit}
+use Rattle.design_problem.specs.declared.form.Form.{Form}
+use Rattle.design_problem.specs.declared.form.CostBox.{CostBox}
+use Rattle.design_problem.specs.declared.tree.Member.{Member}
+use Rattle.design_problem.specs.declared.tree.Member.TheVariants.{Low, Row}
+use Rattle.design_problem.specs.Forms.{no_form, value_for_costs}
+use Rattle.design_problem.specs.Boxes.{IsBox}
+use Rattle.design_problem.specs.Basis.{IsFormOf, LeadsPositive, coordinate, forms_of, low_member, member_form, mixture, one_form, unit}
 use Rattle.fraction_table.specs.Tableaus.{FitsBox, starting}
-use Rattle.fraction_rows.specs.Turns.{AreRows}
-use Rattle.fraction_table.specs.Wholes.{AllLong, AreMixtures, IsLine, IsWhole, Stand, from_lows, high_member, low_forms, members_of, number_of, numbers_of, starting_line}
+use Rattle.fraction_rows.specs.Turns.{AreTableRows}
+use Rattle.fraction_table.specs.ValidTables.{AllLong, AreMixtures, IsTableLine, IsTableauOf, Stand, from_lows, high_member, low_forms, members_of_box, number_of_form, numbers_of_form, starting_line}
 use Rattle.fraction_table.proofs.theory.Blends.{listed_at}
 use Rattle.fraction_table.proofs.theory.Lex.{zero_leads}
 use Rattle.fraction_table.proofs.theory.Resolved.{unit_other, unit_same}
 use Rattle.fraction_table.proofs.theory.Units.{low_value, unit_from_lows}
-use Rattle.fraction_table.proofs.WholeTurns.{coefficients_long}
+use Rattle.fraction_table.proofs.IntegralTurns.{coefficients_long}
 use Rattle.fraction_table.proofs.Bases.{low_forms_long}
 use Rattle.fraction_table.proofs.theory.Zips.{zip_from}
 
@@ -66,17 +66,17 @@ starts_there n a (suc m) (suc i) k (c ∷ cs) there i_in counted k_in =
     ∙ starts_there n (a + 1) m i k cs (omega arith) (omega arith) (omega arith) k_in
 
 pub number_start : (n : ℕ) (low : List ℕ) (f : Form) (place : ℕ) → length f.coefficients ≡ n → place < suc n →
-    number_of 1 low (start_rows n 0 n) f place ≡ number_at (value f low ∷ f.coefficients) place
+    number_of_form 1 low (start_rows n 0 n) f place ≡ number_at (value_for_costs f low ∷ f.coefficients) place
 number_start n low f zero counted place_in =
-    ap (λ z. (pos 1 *ℤ value f low) +ℤ z) (starts_zero n 0 n f.coefficients)
-    ∙ ring (value f low ∷ []) (num (pos 1) ⊗ var 0 ⊕ num (pos 0)) (var 0) refl
+    ap (λ z. (pos 1 *ℤ value_for_costs f low) +ℤ z) (starts_zero n 0 n f.coefficients)
+    ∙ ring (value_for_costs f low ∷ []) (num (pos 1) ⊗ var 0 ⊕ num (pos 0)) (var 0) refl
 number_start n low f (suc k) counted place_in =
     starts_there n 0 n k k f.coefficients (sym (zero-add k)) (omega (arith, counted)) counted (omega arith)
 
-numbers_start : (n : ℕ) (low : List ℕ) (f : Form) → length f.coefficients ≡ n → numbers_of n 1 low (start_rows n 0 n) f ≡ value f low ∷ f.coefficients
+numbers_start : (n : ℕ) (low : List ℕ) (f : Form) → length f.coefficients ≡ n → numbers_of_form n 1 low (start_rows n 0 n) f ≡ value_for_costs f low ∷ f.coefficients
 numbers_start n low f counted =
-    let ts = value f low ∷ f.coefficients in
-    map-numbers_from-agree (number_of 1 low (start_rows n 0 n) f) (number_at ts) 0 (suc n)
+    let ts = value_for_costs f low ∷ f.coefficients in
+    map-numbers_from-agree (number_of_form 1 low (start_rows n 0 n) f) (number_at ts) 0 (suc n)
     (λ place from place_in. number_start n low f place counted (omega arith))
     ∙ ap (λ m. map (number_at ts) (numbers_from 0 (suc m))) (sym counted)
     ∙ listed_at ts
@@ -159,13 +159,13 @@ starting_leads n a (suc m) (suc i) k there i_in k_in =
 -- the form of a column has 1 in it and 0 elsewhere
 pub starting_own : (costs : CostBox) (rows : List Form) (k place : ℕ) → k < length costs.low →
     place < suc (length costs.low) →
-    number_of 1 costs.low (start_rows (length costs.low) 0 (length costs.low))
+    number_of_form 1 costs.low (start_rows (length costs.low) 0 (length costs.low))
     (slice_index_or (forms_of costs rows (starting costs)) k no_form) place
     ≡ number_at (pos 0 ∷ unit (length costs.low) k (pos 1)) place
 starting_own costs rows k place k_in place_in =
     let n = length costs.low in
     let f = member_form n rows (low_member costs k) in
-    ap (λ (g : Form). number_of 1 costs.low (start_rows n 0 n) g place) (starting_at costs rows k k_in)
+    ap (λ (g : Form). number_of_form 1 costs.low (start_rows n 0 n) g place) (starting_at costs rows k k_in)
     ∙ number_start n costs.low f place (length-map-numbers_from _ 0 n) place_in
     ∙ ap (λ z. number_at (z ∷ f.coefficients) place) (low_value costs.low rows k k_in)
 
@@ -178,7 +178,7 @@ all_mapped P f n here k d k_in =
     let k_below : k < n = omega (arith, length-map-numbers_from f 0 n, k_in) in
     subst P (sym (get_or-map-numbers_from f 0 n k d k_below ∙ ap f (zero-add k))) (here k k_below)
 
-pub members_are : (costs : CostBox) (rows : List Form) → All (IsFormOf costs rows) (members_of costs (length rows))
+pub members_are : (costs : CostBox) (rows : List Form) → All (IsFormOf costs rows) (members_of_box costs (length rows))
 members_are costs rows =
     let n = length costs.low in
     let lows = map (low_member costs) (numbers_from 0 n) in
@@ -194,8 +194,8 @@ wholes_stand [] = tt
 wholes_stand (m ∷ ms) = (refl, wholes_stand ms)
 
 starting_lines : (top : ℕ) (costs : CostBox) (rows : List Form) (members : List Member) → All (FitsBox costs) rows →
-    All (IsFormOf costs rows) members → AreRows top (suc (length costs.low)) (map (starting_line costs rows) members) →
-    AllZip (IsLine top 1 costs rows (start_rows (length costs.low) 0 (length costs.low))) members
+    All (IsFormOf costs rows) members → AreTableRows top (suc (length costs.low)) (map (starting_line costs rows) members) →
+    AllZip (IsTableLine top 1 costs rows (start_rows (length costs.low) 0 (length costs.low))) members
     (map (starting_line costs rows) members)
 starting_lines top costs rows [] fit are numbers = tt
 starting_lines top costs rows (member ∷ members) fit are numbers = (
@@ -205,15 +205,15 @@ starting_lines top costs rows (member ∷ members) fit are numbers = (
         subst (λ (ms : List ℤ). Stand 1 (starting_line costs rows member) ms)
         (sym (numbers_start (length costs.low) costs.low (member_form (length costs.low) rows member)
         (coefficients_long costs rows member fit (are 0 member (omega arith)))))
-        (wholes_stand (value (member_form (length costs.low) rows member) costs.low ∷ (member_form (length costs.low) rows member).coefficients));
+        (wholes_stand (value_for_costs (member_form (length costs.low) rows member) costs.low ∷ (member_form (length costs.low) rows member).coefficients));
   },
   starting_lines top costs rows members fit (λ k d k_in. are (suc k) d (omega arith)) numbers.2,
 )
 
 pub whole_start : (top : ℕ) (costs : CostBox) (rows : List Form) → IsBox (length costs.low) costs →
     All (FitsBox costs) rows →
-    AreRows top (suc (length costs.low)) (map (starting_line costs rows) (members_of costs (length rows))) →
-    IsWhole top costs rows (starting costs) (map (starting_line costs rows) (members_of costs (length rows)))
+    AreTableRows top (suc (length costs.low)) (map (starting_line costs rows) (members_of_box costs (length rows))) →
+    IsTableauOf top costs rows (starting costs) (map (starting_line costs rows) (members_of_box costs (length rows)))
 whole_start top costs rows box fit numbers =
     let n = length costs.low in
     record {
@@ -232,6 +232,6 @@ whole_start top costs rows box fit numbers =
         own = λ k k_in. starting_own costs rows k (suc k) k_in (omega (arith, k_in)) ∙ unit_same n k k_in;
         elsewhere = λ k place k_in place_in apart. starting_own costs rows k place k_in (omega (arith, place_in)) ∙ elsewhere_none n k place apart;
         lead = λ k k_in. starting_leads n 0 n k k (sym (zero-add k)) k_in k_in;
-        lines = starting_lines top costs rows (members_of costs (length rows)) fit (members_are costs rows) numbers;
+        lines = starting_lines top costs rows (members_of_box costs (length rows)) fit (members_are costs rows) numbers;
       };
     }

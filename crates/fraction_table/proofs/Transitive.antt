@@ -3,9 +3,9 @@ use Rattle.std.proofs.Common.{◌≡◌, ℕ, zero, suc, ◌*◌, ◌<◌, refl,
 use Rattle.std.specs.Prelude.{ℤ, pos, negsuc, ◌+ℤ◌, ◌-ℤ◌, ◌*ℤ◌, ◌<ℤ◌}
 use Rattle.std.proofs.lemmas.Int.{ints}
 use Rattle.whole_numbers.proofs.Ring.{var, ◌⊕◌, ◌⊖◌, ◌⊗◌, ring}
-use Rattle.path_rows.specs.Steps.{IsPivot}
+use Rattle.design_problem.specs.Steps.{IsPivot}
 use Rattle.fraction_table.specs.declared.table.Table.{Table}
-use Rattle.fraction_table.specs.Pivots.{IsNotAfter, LeadsNoNegative, line_at, numbers_in, turned_column}
+use Rattle.fraction_table.specs.Pivots.{IsNotAfterInTable, LeadsNoNegative, line_at, numbers_in_column, turned_column}
 use Rattle.fraction_table.proofs.theory.Corner.{leads_negative, leads_zero}
 use Rattle.fraction_table.proofs.theory.Lex.{scaled, scaled_follows, sum_follows, summed}
 use Rattle.fraction_table.proofs.theory.TurnedLeads.{length-numbers_in}
@@ -60,13 +60,13 @@ columns_chain a b c xs ys zs positive same other first second =
 
 pub not_after_chain : (t : Table) (line first middle last : ℕ) → line < length t.lines.items →
     IsPivot t.basis.items (line_at t line) (suc middle) → IsPivot t.basis.items (line_at t line) (suc last) →
-    IsNotAfter t line first middle → IsNotAfter t line middle last → IsNotAfter t line first last
+    IsNotAfterInTable t line first middle → IsNotAfterInTable t line middle last → IsNotAfterInTable t line first last
 not_after_chain t line first middle last line_in middle_pivot last_pivot before after w a at_first =
     let b = entry_number t w line middle line_in middle_pivot in
     let c = entry_number t w line last line_in last_pivot in
-    let xs = numbers_in (suc first) w.unboxed.lows in
-    let ys = numbers_in (suc middle) w.unboxed.lows in
-    let zs = numbers_in (suc last) w.unboxed.lows in
+    let xs = numbers_in_column (suc first) w.unboxed.lows in
+    let ys = numbers_in_column (suc middle) w.unboxed.lows in
+    let zs = numbers_in_column (suc last) w.unboxed.lows in
     subst (λ z. LeadsNoNegative (turned_column a zs z xs)) (sym c.1)
     (columns_chain a b.0 c.0 xs ys zs b.2 (length-numbers_in (suc first) w.unboxed.lows (suc middle)) (length-numbers_in (suc first) w.unboxed.lows (suc last))
     (subst (λ z. LeadsNoNegative (turned_column a ys z xs)) b.1 (before w a at_first))

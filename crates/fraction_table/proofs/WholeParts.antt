@@ -9,7 +9,7 @@ use Rattle.cost_base.proofs.ListLemmas.{each_weaker, all_from_each}
 use Rattle.whole_numbers.specs.Fractions.{Fraction}
 use Rattle.wide_fraction.specs.declared.steps.Wide.{Wide}
 use Rattle.fraction_rows.specs.Entries.{AllNumbers}
-use Rattle.fraction_table.specs.Multipliers.{AreParts, IsMultiplierStep, IsPart, IsTallyStep, common_of, fractions, whole_parts, wholes}
+use Rattle.fraction_table.specs.Multipliers.{AreParts, IsMultiplierStep, IsMultiplier, IsTallyStep, common_of, fractions, whole_parts, wholes}
 use Rattle.fraction_table.specs.Multipliers.IsMultiplierStep.{tally}
 use Rattle.fraction_table.proofs.MultiplierColumns.{common_divides, common_positive, numbers_of_parts, parts_whole, wholes_are}
 use Rattle.fraction_table.proofs.MultiplierRows.{rises_strictly, whole_different}
@@ -17,7 +17,7 @@ use Rattle.fraction_table.proofs.MultiplierRows.{rises_strictly, whole_different
 pub parts_numbers : (top : ℕ) (parts : List (ℕ × Fraction)) → AreParts top parts → AllNumbers top parts
 parts_numbers top parts p = numbers_of_parts top p.count parts p.each
 
-pub each_whole : (top count : ℕ) (parts : List (ℕ × Fraction)) → AllByRecursion (IsPart top count) parts →
+pub each_whole : (top count : ℕ) (parts : List (ℕ × Fraction)) → AllByRecursion (IsMultiplier top count) parts →
     AllByRecursion (λ part. (part.0 < count) × (0 < part.1)) (whole_parts parts)
 each_whole top count parts each =
     parts_whole top count (common_of parts) parts (common_positive top count parts each) each (common_divides parts)

@@ -1,8 +1,8 @@
 -- The corner of a table, which is the least point of its box that meets its rows. No public clause cites it.
 use Rattle.std.specs.Prelude.{ℕ, ◌+◌, ◌*◌, ◌/◌, List, nat_abs, length, take, slice_index}
 use Rattle.whole_numbers.specs.Fractions.{Fraction}
-use Rattle.path_rows.specs.Basis.{entry}
-use Rattle.path_rows.specs.Steps.{corner_denominators}
+use Rattle.design_problem.specs.Basis.{entry}
+use Rattle.design_problem.specs.Steps.{corner_denominators}
 use Rattle.fraction_table.specs.declared.table.Table.{Table}
 use Rattle.fraction_table.specs.Pivots.{line_at}
 

@@ -1,5 +1,5 @@
 pub mod Tableaus
-pub mod Wholes
+pub mod ValidTables
 pub mod Moves
 pub mod Pivots
 pub mod Ranks

@@ -2,18 +2,18 @@
 use Rattle.std.specs.Prelude.{◌≡◌, ◌≢◌, ℕ, suc, ◌<◌, List, [], ℤ, pos, ◌-ℤ◌, Option, None, Some, map, length, slice_index, slice_index_or, slice_set, Any}
 use Rattle.cost_base.specs.declared.StepName.{StepName}
 use Rattle.cost_base.specs.declared.StepName.TheVariants.{Add, Mul, Sub}
-use Rattle.whole_numbers.specs.Fractions.{Fraction, listed, minus, plus, times, whole}
+use Rattle.whole_numbers.specs.Fractions.{Fraction, numbers_of_step, minus, plus, times, whole}
 use Rattle.wide_fraction.specs.declared.steps.Wide.{Wide}
-use Rattle.path_rows.specs.declared.form.Form.{Form}
-use Rattle.path_rows.specs.declared.form.CostBox.{CostBox}
-use Rattle.path_rows.specs.declared.tree.Member.{Member}
-use Rattle.path_rows.specs.declared.tree.Member.TheVariants.{Low, High}
-use Rattle.path_rows.specs.Basis.{entry}
+use Rattle.design_problem.specs.declared.form.Form.{Form}
+use Rattle.design_problem.specs.declared.form.CostBox.{CostBox}
+use Rattle.design_problem.specs.declared.tree.Member.{Member}
+use Rattle.design_problem.specs.declared.tree.Member.TheVariants.{Low, High}
+use Rattle.design_problem.specs.Basis.{entry}
 use Rattle.fraction_table.specs.declared.table.Table.{Table}
 use Rattle.fraction_rows.specs.TableRows.{IsWideStep, nothing}
-use Rattle.fraction_rows.specs.Turns.{AreRows}
-use Rattle.fraction_table.specs.Tableaus.{IsShiftStep, Shift, moved}
-use Rattle.fraction_table.specs.Wholes.{HasRoom, members_of}
+use Rattle.fraction_rows.specs.Turns.{AreTableRows}
+use Rattle.fraction_table.specs.Tableaus.{IsShiftStep, Shift, moved_basis}
+use Rattle.fraction_table.specs.ValidTables.{HasRoom, members_of_box}
 
 -- a form that is less by a number
 abbrev pub fallen : Form → ℤ → Form
@@ -41,7 +41,7 @@ pub data IsRaiseStep (line : List Fraction) (column : ℕ) (fall : Fraction) : S
   product : IsRaiseStep line column fall Mul (entry line (suc column)) fall
   sum : IsRaiseStep line column fall Add (entry line 0) (times (entry line (suc column)) fall)
 
--- one of them, in some line, makes a whole number that passes the top
+-- a step by which some line's constant rises makes a whole number that passes the top
 pub record RaisesWide (top : ℕ) (lines : List (List Fraction)) (column : ℕ) (fall : Fraction) (wide : Wide) : Type 0 where
   pub line : ℕ
   pub line_in : line < length lines
@@ -50,7 +50,7 @@ pub record RaisesWide (top : ℕ) (lines : List (List Fraction)) (column : ℕ) 
 -- a step by which the lines are shifted makes a whole number that passes the top
 abbrev pub ShiftsWide : ℕ → Option ℕ → ℕ → Fraction → List (List Fraction) → Wide → Type 0
 ShiftsWide top None own fall lines wide =
-    (wide ≡ record { step = Sub; left = entry (slice_index_or lines own []) 0; right = fall }) × Any (λ n. top < n) (listed wide.step wide.left wide.right)
+    (wide ≡ record { step = Sub; left = entry (slice_index_or lines own []) 0; right = fall }) × Any (λ n. top < n) (numbers_of_step wide.step wide.left wide.right)
 ShiftsWide top (Some column) own fall lines wide = RaisesWide top lines column fall wide
 
 -- the basis with another member in the column, if there is one
@@ -59,7 +59,7 @@ put_at None member basis = basis
 put_at (Some column) member basis = slice_set basis column member
 
 -- The lines and the basis after a bound moved.
-pub record IsShifted (old new : Table) (own : ℕ) (before after : Member) (fall : ℤ) : Type 0 where
+pub record IsTableShifted (old new : Table) (own : ℕ) (before after : Member) (fall : ℤ) : Type 0 where
   pub column : Option ℕ
   pub found : IsColumnOf old.basis.items before column
   pub basis : new.basis.items ≡ put_at column after old.basis.items
@@ -75,12 +75,12 @@ pub record IsShiftedWide (old : Table) (own : ℕ) (before : Member) (fall : ℤ
 pub record HasShape (t : Table) : Type 0 where
   pub high : length t.costs.high ≡ length t.costs.low
   pub basis : length t.basis.items ≡ length t.costs.low
-  pub lines : AreRows t.top (suc (length t.costs.low)) t.lines.items
-  pub many : length t.lines.items ≡ length (members_of t.costs (length t.rows.items))
+  pub lines : AreTableRows t.top (suc (length t.costs.low)) t.lines.items
+  pub many : length t.lines.items ≡ length (members_of_box t.costs (length t.rows.items))
   pub room : HasRoom t
 
 -- the two tables have one top, the same rows, and as many variables
-pub record KeepsRows (old new : Table) : Type 0 where
+pub record KeepsTableRows (old new : Table) : Type 0 where
   pub top : new.top ≡ old.top
   pub rows : new.rows.items ≡ old.rows.items
   pub width : length new.costs.low ≡ length old.costs.low
@@ -88,18 +88,19 @@ pub record KeepsRows (old new : Table) : Type 0 where
 -- the table has moved to these bounds
 pub record IsMoved (old : Table) (costs : CostBox) (new : Table) : Type 0 where
   pub costs_are : new.costs ≡ costs
-  pub basis : new.basis.items ≡ moved costs old.basis.items
+  pub basis : new.basis.items ≡ moved_basis costs old.basis.items
 
 -- a step of the shift makes a whole number that passes the top
 abbrev pub IsWideShift : Table → Shift → Wide → Type 0
 IsWideShift t shift wide =
-    IsShiftStep t.rows.items t.basis.items shift wide.step wide.left wide.right × Any (λ n. t.top < n) (listed wide.step wide.left wide.right)
+    IsShiftStep t.rows.items t.basis.items shift wide.step wide.left wide.right × Any (λ n. t.top < n) (numbers_of_step wide.step wide.left wide.right)
 
--- the shift of a lower bound of the table, and of an upper one
+-- the shift of a lower bound of the table to this bound
 abbrev pub low_shift_of : Table → ℕ → ℕ → Shift
 low_shift_of t var bound =
     record { costs = t.costs; member = Low var (slice_index t.costs.low var); fall = pos bound -ℤ pos (slice_index t.costs.low var) }
 
+-- the shift of an upper bound of the table to this bound
 abbrev pub high_shift_of : Table → ℕ → ℕ → Shift
 high_shift_of t var bound =
     record { costs = t.costs; member = High var (slice_index t.costs.high var); fall = pos (slice_index t.costs.high var) -ℤ pos bound }

@@ -4,14 +4,14 @@ use Rattle.std.specs.List.{AllByRecursion}
 use Rattle.cost_base.specs.declared.StepName.TheVariants.{Add, Mul, Lcm, Scale}
 use Rattle.whole_numbers.specs.Fractions.{Fraction, sum_of, times, whole}
 use Rattle.wide_fraction.specs.declared.steps.Wide.{Wide}
-use Rattle.path_rows.specs.declared.tree.Member.{Member}
-use Rattle.path_rows.specs.declared.tree.Member.TheVariants.{Low, High, Row}
-use Rattle.path_rows.specs.Steps.{IsTooWide, denominators, lcm_of, made_whole, two_to_27, unless_zero}
+use Rattle.design_problem.specs.declared.tree.Member.{Member}
+use Rattle.design_problem.specs.declared.tree.Member.TheVariants.{Low, High, Row}
+use Rattle.design_problem.specs.Steps.{IsStepTooWide, denominators, lcm_of, made_whole, two_to_27, unless_zero}
 use Rattle.fraction_table.specs.declared.stage.SimplexStop.{SimplexStop}
 use Rattle.fraction_table.specs.declared.stage.SimplexStop.TheVariants.{TooWide, OutOfMemory}
 use Rattle.fraction_table.specs.declared.table.Table.{Table}
 use Rattle.fraction_rows.specs.Entries.{IsPassing}
-use Rattle.fraction_rows.specs.TableRows.{IsNumber}
+use Rattle.fraction_rows.specs.TableRows.{IsTableNumber}
 use Rattle.fraction_table.specs.Tableaus.{wide_at}
 
 -- fractions of a member, with the row's number where it is a row; a bound has none
@@ -30,6 +30,7 @@ columns_numbered (member ∷ members) (q ∷ qs) = numbered member (unless_zero 
 abbrev pub fractions_of : List Member → Member → List Fraction → List (ℕ × Fraction)
 fractions_of basis r entries = numbered r (whole (pos 1) ∷ []) ++ columns_numbered basis (drop 1 entries)
 
+-- the multipliers alone, without the numbers of their rows
 abbrev pub fractions : List (ℕ × Fraction) → List Fraction
 fractions parts = map (λ part. part.1) parts
 
@@ -70,7 +71,7 @@ IsWideMultiplier top qs OutOfMemory = Unit {0}
 
 -- a step at the table's basis
 abbrev pub IsToldOf : Table → SimplexStop → Type 0
-IsToldOf t (TooWide wide) = IsTooWide t.top t.costs t.rows.items (wide_at wide t.basis.items)
+IsToldOf t (TooWide wide) = IsStepTooWide t.top t.costs t.rows.items (wide_at wide t.basis.items)
 IsToldOf t OutOfMemory = Unit {0}
 
 -- no two pairs have the same number
@@ -79,14 +80,14 @@ Different [] = Unit {0}
 Different (p ∷ ps) = AllByRecursion (λ q. q.0 ≢ p.0) ps × Different ps
 
 -- What each multiplier is: that of one of the rows, a number of the table, and positive.
-pub record IsPart (top count : ℕ) (part : ℕ × Fraction) : Type 0 where
+pub record IsMultiplier (top count : ℕ) (part : ℕ × Fraction) : Type 0 where
   pub row : part.0 < count
-  pub number : IsNumber top part.1
+  pub number : IsTableNumber top part.1
   pub positive : pos 0 <ℤ part.1.numerator
 
 -- multipliers of different rows, at least one
 pub record AreParts (top : ℕ) (parts : List (ℕ × Fraction)) : Type 0 where
   pub count : ℕ
-  pub each : AllByRecursion (IsPart top count) parts
+  pub each : AllByRecursion (IsMultiplier top count) parts
   pub different : Different parts
   pub some : parts ≢ []

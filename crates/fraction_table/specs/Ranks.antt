@@ -1,14 +1,14 @@
 -- A number that rises with each pivot.
 use Rattle.std.specs.Prelude.{ℕ, suc, ◌+◌, ◌*◌, ◌/◌, ◌^◌, List, [], ◌∷◌, pos, ◌+ℤ◌, nat_abs, map, length, take}
 use Rattle.whole_numbers.specs.Fractions.{Fraction}
-use Rattle.path_rows.specs.Basis.{entry}
+use Rattle.design_problem.specs.Basis.{entry}
 use Rattle.fraction_table.specs.declared.table.Table.{Table}
 
 -- the height of a/b, a being a natural number
 abbrev pub height : ℕ → ℕ → ℕ → ℕ
 height top a b = (a * (top * top)) / b
 
--- that of a fraction within the top, raised so far that it can't be negative
+-- the height of a fraction within the top, raised so far that it can't be negative
 abbrev pub raised_height : ℕ → Fraction → ℕ
 raised_height top q = height top (nat_abs (q.numerator +ℤ pos (top * q.denominator))) q.denominator
 

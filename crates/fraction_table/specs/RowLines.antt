@@ -2,24 +2,24 @@
 use Rattle.std.specs.Prelude.{◌≡◌, ℕ, suc, ◌<◌, List, [], ◌∷◌, ◌++◌, length, vec_capacity, vec_len}
 use Rattle.whole_numbers.specs.Fractions.{Fraction}
 use Rattle.wide_fraction.specs.declared.steps.Wide.{Wide}
-use Rattle.path_rows.specs.declared.form.Form.{Form}
-use Rattle.path_rows.specs.declared.form.CostBox.{CostBox}
-use Rattle.path_rows.specs.Basis.{entry}
-use Rattle.path_rows.specs.Steps.{start_of_sum}
+use Rattle.design_problem.specs.declared.form.Form.{Form}
+use Rattle.design_problem.specs.declared.form.CostBox.{CostBox}
+use Rattle.design_problem.specs.Basis.{entry}
+use Rattle.design_problem.specs.Steps.{start_of_sum}
 use Rattle.fraction_table.specs.declared.table.Table.{Table}
 use Rattle.fraction_rows.specs.Entries.{IsPassing}
-use Rattle.fraction_rows.specs.Sums.{IsSumStep, sum_from}
-use Rattle.fraction_rows.specs.TableRows.{AreNumbers}
+use Rattle.fraction_rows.specs.Sums.{IsSumStep, sum_of_terms}
+use Rattle.fraction_rows.specs.TableRows.{AreTableNumbers}
 
 -- the sum of the form's terms at a place, by the lines of x - low for each variable
 abbrev pub sum_at_place : CostBox → Form → List (List Fraction) → ℕ → Fraction
-sum_at_place costs form lines place = sum_from (start_of_sum costs form place) form.coefficients lines place
+sum_at_place costs form lines place = sum_of_terms (start_of_sum costs form place) form.coefficients lines place
 
 -- the line has numbers of the table, and at each place the form's sum there
-pub record IsRowLine (top : ℕ) (costs : CostBox) (form : Form) (lines : List (List Fraction)) (line : List Fraction) : Type 0 where
+pub record IsAddedLine (top : ℕ) (costs : CostBox) (form : Form) (lines : List (List Fraction)) (line : List Fraction) : Type 0 where
   pub long : length line ≡ suc (length costs.low)
   pub sums : (place : ℕ) → place < suc (length costs.low) → entry line place ≡ sum_at_place costs form lines place
-  pub numbers : AreNumbers top line
+  pub numbers : AreTableNumbers top line
 
 -- a step of the form's sum at some place makes a whole number that passes the top
 pub record IsRowStep (top : ℕ) (costs : CostBox) (form : Form) (lines : List (List Fraction)) (wide : Wide) : Type 0 where
@@ -28,7 +28,7 @@ pub record IsRowStep (top : ℕ) (costs : CostBox) (form : Form) (lines : List (
   pub step : IsSumStep (start_of_sum costs form place) form.coefficients lines place wide
   pub passes : IsPassing top wide
 
--- there is a place for one more form and one more line
+-- there is room for one more form and one more line
 pub record HasPlace (t : Table) : Type 0 where
   pub rows : vec_len t.rows < vec_capacity t.rows
   pub lines : vec_len t.lines < vec_capacity t.lines

@@ -3,18 +3,18 @@ use Rattle.std.specs.Prelude.{◌≡◌, ℕ, suc, ◌+◌, ◌^◌, ◌<◌, �
 use Rattle.cost_base.specs.Lists.{numbers_from}
 use Rattle.cost_base.specs.declared.StepName.{StepName}
 use Rattle.cost_base.specs.declared.StepName.TheVariants.{Add, Sub, Mul}
-use Rattle.whole_numbers.specs.Fractions.{Fraction, whole, times, listed}
+use Rattle.whole_numbers.specs.Fractions.{Fraction, whole, times, numbers_of_step}
 use Rattle.wide_fraction.specs.declared.steps.Wide.{Wide}
 use Rattle.area_graph.specs.declared.Point.{Point}
-use Rattle.path_rows.specs.declared.form.Form.{Form}
-use Rattle.path_rows.specs.declared.form.CostBox.{CostBox}
-use Rattle.path_rows.specs.declared.tree.Member.{Member}
-use Rattle.path_rows.specs.declared.tree.Member.TheVariants.{Low, High, Row}
-use Rattle.path_rows.specs.declared.tree.WideAt.{WideAt}
-use Rattle.path_rows.specs.Forms.{value, AreMet}
-use Rattle.path_rows.specs.Boxes.{IsPointOf}
-use Rattle.path_rows.specs.Basis.{HasEntries, IsFormOf, entry, low_member}
-use Rattle.path_rows.specs.Steps.{IsTooWide, ratio_of}
+use Rattle.design_problem.specs.declared.form.Form.{Form}
+use Rattle.design_problem.specs.declared.form.CostBox.{CostBox}
+use Rattle.design_problem.specs.declared.tree.Member.{Member}
+use Rattle.design_problem.specs.declared.tree.Member.TheVariants.{Low, High, Row}
+use Rattle.design_problem.specs.declared.tree.WideAt.{WideAt}
+use Rattle.design_problem.specs.Forms.{value_for_costs, AreMet}
+use Rattle.design_problem.specs.Boxes.{IsPointOf}
+use Rattle.design_problem.specs.Basis.{HasEntries, IsFormOf, entry, low_member}
+use Rattle.design_problem.specs.Steps.{IsStepTooWide, ratio_of}
 use Rattle.fraction_table.specs.declared.stage.Stage.{Stage}
 use Rattle.fraction_table.specs.declared.stage.Stage.TheVariants.{Open, Ended, Stopped}
 use Rattle.fraction_table.specs.declared.stage.Solved.{Solved}
@@ -35,7 +35,7 @@ pub record Held : Type 0 where
 pub record FitsBox (costs : CostBox) (row : Form) : Type 0 where
   pub count : length row.coefficients ≡ length costs.low
   pub sizes : All (λ c. nat_abs c ≤ 2 ^ 26) row.coefficients
-  pub corner : nat_abs (value row costs.low) < 2 ^ 27
+  pub corner : nat_abs (value_for_costs row costs.low) < 2 ^ 27
 
 -- the basis at the start: x - low for each variable
 abbrev pub starting : CostBox → List Member
@@ -52,24 +52,24 @@ abbrev pub wide_at : Wide → List Member → WideAt
 wide_at wide basis = record { step = wide.step; left = ratio_of wide.left; right = ratio_of wide.right; basis = basis }
 
 -- The call stopped the tableau: the step is too wide at the basis that it leaves.
-pub record Stops (old : Held) (rows : List Form) (new : Held) (wide : Wide) : Type 0 where
+pub record CallStops (old : Held) (rows : List Form) (new : Held) (wide : Wide) : Type 0 where
   pub going : IsGoing old.stage
   pub new_is : new ≡ record { top = old.top; costs = old.costs; rows = rows; basis = new.basis; stage = Stopped wide }
-  pub too_wide : IsTooWide old.top old.costs rows (wide_at wide new.basis)
+  pub too_wide : IsStepTooWide old.top old.costs rows (wide_at wide new.basis)
 
 -- Where the tableau had stopped already, it stays as it was and the same step is told again; else the call stopped it.
-abbrev pub IsStop : Held → List Form → Held → Wide → Type 0
-IsStop old rows new wide = ((old.stage ≡ Stopped wide) × (new ≡ old)) ⊎ Stops old rows new wide
+abbrev pub IsTableauStopped : Held → List Form → Held → Wide → Type 0
+IsTableauStopped old rows new wide = ((old.stage ≡ Stopped wide) × (new ≡ old)) ⊎ CallStops old rows new wide
 
 -- what is left where a row wasn't added
-abbrev pub IsRefused : Held → Form → Held → SimplexStop → Type 0
-IsRefused old row new (TooWide wide) = IsStop old (old.rows ++ row ∷ []) new wide × (new.basis ≡ old.basis)
-IsRefused old row new OutOfMemory = new ≡ old
+abbrev pub IsRowRefused : Held → Form → Held → SimplexStop → Type 0
+IsRowRefused old row new (TooWide wide) = IsTableauStopped old (old.rows ++ row ∷ []) new wide × (new.basis ≡ old.basis)
+IsRowRefused old row new OutOfMemory = new ≡ old
 
 -- a step at the present basis, where a call that changes nothing needed it
-abbrev pub IsTold : Held → SimplexStop → Type 0
-IsTold held (TooWide wide) = IsTooWide held.top held.costs held.rows (wide_at wide held.basis)
-IsTold held OutOfMemory = Unit {0}
+abbrev pub IsTableauTold : Held → SimplexStop → Type 0
+IsTableauTold held (TooWide wide) = IsStepTooWide held.top held.costs held.rows (wide_at wide held.basis)
+IsTableauTold held OutOfMemory = Unit {0}
 
 -- some rational point of the box meets the rows, or none does
 abbrev pub IsSolved : CostBox → List Form → Solved → Type 0
@@ -87,8 +87,9 @@ moved_member costs (Low var bound) = Low var (slice_index costs.low var)
 moved_member costs (High var bound) = High var (slice_index costs.high var)
 moved_member costs (Row row) = Row row
 
-abbrev pub moved : CostBox → List Member → List Member
-moved costs basis = map (moved_member costs) basis
+-- the basis with the bounds of another box
+abbrev pub moved_basis : CostBox → List Member → List Member
+moved_basis costs basis = map (moved_member costs) basis
 
 -- the box of which so many low and high bounds have moved
 abbrev pub between : CostBox → CostBox → ℕ → ℕ → CostBox
@@ -101,6 +102,7 @@ pub record Shift : Type 0 where
   pub member : Member
   pub fall : ℤ
 
+-- the move of a variable's lower bound, once all bounds of the variables before it have moved
 abbrev pub low_shift : CostBox → CostBox → ℕ → Shift
 low_shift old new var =
     record {
@@ -109,6 +111,7 @@ low_shift old new var =
       fall = pos (slice_index new.low var) -ℤ pos (slice_index old.low var);
     }
 
+-- the move of a variable's upper bound, once its lower bound and all bounds of the variables before it have moved
 abbrev pub high_shift : CostBox → CostBox → ℕ → Shift
 high_shift old new var =
     record {
@@ -119,13 +122,13 @@ high_shift old new var =
 
 -- The steps of a shift: its form's constant falls; or, where the form is in the basis, the others' constants rise.
 pub data IsShiftStep (rows : List Form) (basis : List Member) (shift : Shift) : StepName → Fraction → Fraction → Type 0 where
-  constant : (es : List Fraction) → HasEntries shift.costs rows (moved shift.costs basis) shift.member es →
+  constant : (es : List Fraction) → HasEntries shift.costs rows (moved_basis shift.costs basis) shift.member es →
       IsShiftStep rows basis shift Sub (entry es 0) (whole shift.fall)
-  product : (j : ℕ) (f : Member) (fs : List Fraction) → slice_get (moved shift.costs basis) j ≡ Some shift.member →
-      IsFormOf shift.costs rows f → HasEntries shift.costs rows (moved shift.costs basis) f fs →
+  product : (j : ℕ) (f : Member) (fs : List Fraction) → slice_get (moved_basis shift.costs basis) j ≡ Some shift.member →
+      IsFormOf shift.costs rows f → HasEntries shift.costs rows (moved_basis shift.costs basis) f fs →
       IsShiftStep rows basis shift Mul (entry fs (suc j)) (whole shift.fall)
-  sum : (j : ℕ) (f : Member) (fs : List Fraction) → slice_get (moved shift.costs basis) j ≡ Some shift.member →
-      IsFormOf shift.costs rows f → HasEntries shift.costs rows (moved shift.costs basis) f fs →
+  sum : (j : ℕ) (f : Member) (fs : List Fraction) → slice_get (moved_basis shift.costs basis) j ≡ Some shift.member →
+      IsFormOf shift.costs rows f → HasEntries shift.costs rows (moved_basis shift.costs basis) f fs →
       IsShiftStep rows basis shift Add (entry fs 0) (times (entry fs (suc j)) (whole shift.fall))
 
 -- a step of the move to another box makes a whole number that passes the top
@@ -137,7 +140,7 @@ pub record IsWideMove (old : Held) (costs : CostBox) : Type 0 where
   pub right : Fraction
   pub is_step : IsShiftStep old.rows old.basis (low_shift old.costs costs var) step left right
       ⊎ IsShiftStep old.rows old.basis (high_shift old.costs costs var) step left right
-  pub passes : Any (λ n. old.top < n) (listed step left right)
+  pub passes : Any (λ n. old.top < n) (numbers_of_step step left right)
 
 -- a tableau over another box with the same rows and this basis
 abbrev pub rebased : Held → CostBox → List Member → Held
@@ -146,4 +149,4 @@ rebased old costs basis = record { top = old.top; costs = costs; rows = old.rows
 -- The basis keeps its members, with the new bounds; only where a step of the move is too wide is it the starting one.
 abbrev pub IsRebased : Held → CostBox → Held → Type 0
 IsRebased old costs new =
-    (new ≡ rebased old costs (moved costs old.basis)) ⊎ (IsWideMove old costs × (new ≡ rebased old costs (starting costs)))
+    (new ≡ rebased old costs (moved_basis costs old.basis)) ⊎ (IsWideMove old costs × (new ≡ rebased old costs (starting costs)))

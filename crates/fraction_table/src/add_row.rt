@@ -1,17 +1,17 @@
 //! One more row: its form, and its line at the present basis.
 ghost use Rattle.std.specs.Prelude.{◌≡◌, suc, ◌^◌, ◌<◌, ◌≤◌, [], ◌∷◌, ◌++◌, ◌*ℤ◌, ◌+ℤ◌, ◌≤ℤ◌, length, nat_abs, pos, All, IfErr, IfOk, OnOk};
-ghost use Rattle.path_rows.specs.Forms.{value};
-ghost use Rattle.path_rows.specs.Steps.{IsTooWide, start_of_sum};
-ghost use Rattle.fraction_table.specs.RowLines.{HasPlace, HoldsRow, HoldsSame, IsRowLine, IsRowStep, sum_at_place};
-ghost use Rattle.fraction_rows.specs.TableRows.{IsNumber, blank_row};
+ghost use Rattle.design_problem.specs.Forms.{value_for_costs};
+ghost use Rattle.design_problem.specs.Steps.{IsStepTooWide, start_of_sum};
+ghost use Rattle.fraction_table.specs.RowLines.{HasPlace, HoldsRow, HoldsSame, IsAddedLine, IsRowStep, sum_at_place};
+ghost use Rattle.fraction_rows.specs.TableRows.{IsTableNumber, blank_row};
 ghost use Rattle.fraction_table.specs.Tableaus.{FitsBox, wide_at};
-ghost use Rattle.fraction_rows.specs.Turns.{AreRows};
-ghost use Rattle.fraction_table.specs.Wholes.{HasRoom, IsWholeTable};
+ghost use Rattle.fraction_rows.specs.Turns.{AreTableRows};
+ghost use Rattle.fraction_table.specs.ValidTables.{HasRoom, IsTableau};
 
 use crate::table::Table;
 use cost_base::OutOfMemory;
+use design_problem::{CostBox, Form};
 use fraction_rows::{TableRow, sum_at, sum_lines};
-use path_rows::{CostBox, Form};
 use std::alloc::Global;
 use wide_fraction::{Frac, Top, Wide};
 
@@ -38,7 +38,7 @@ fn corner_term(coefficient: i64, low: u16) -> i128
 pub fn corner_sum(form: &Form, costs: &CostBox) -> i128
     requires count { length form.now.coefficients ≡ length costs.now.low }
     requires sizes { All (λ c. nat_abs c ≤ 2 ^ 26) form.now.coefficients }
-    ensures { result ≡ value form.now costs.now.low }
+    ensures { result ≡ value_for_costs form.now costs.now.low }
 {
     let low = costs.low.as_slice();
     let terms = form.terms();
@@ -53,7 +53,7 @@ pub fn corner_sum(form: &Form, costs: &CostBox) -> i128
 /// That value of a form that fits.
 pub fn corner_value(form: &Form, costs: &CostBox) -> i64
     requires { FitsBox costs.now form.now }
-    ensures { result ≡ value form.now costs.now.low }
+    ensures { result ≡ value_for_costs form.now costs.now.low }
 {
     corner_sum(form, costs) as i64
 }
@@ -62,7 +62,7 @@ pub fn corner_value(form: &Form, costs: &CostBox) -> i64
 fn start_at(form: &Form, costs: &CostBox, place: u32, top: Top) -> Frac
     requires fits { FitsBox costs.now form.now }
     ensures start { result ≡ start_of_sum costs.now form.now place }
-    ensures number { IsNumber top result }
+    ensures number { IsTableNumber top result }
 {
     let _ = top.value();
     if place == 0 {
@@ -81,11 +81,11 @@ fn sum_of_form(
     top: Top,
 ) -> Result<Frac, Wide>
     requires fits { FitsBox costs.now form.now }
-    requires lines { AreRows top (suc (length costs.now.low)) lines.now }
+    requires lines { AreTableRows top (suc (length costs.now.low)) lines.now }
     requires many { length costs.now.low ≤ length lines.now }
     requires place { place < suc (length costs.now.low) }
     ensures exact { IfOk result (λ q. q ≡ sum_at_place costs.now form.now lines.now place) }
-    ensures number { IfOk result (λ q. IsNumber top q) }
+    ensures number { IfOk result (λ q. IsTableNumber top q) }
     ensures wide { IfErr result (IsRowStep top costs.now form.now lines.now) }
 {
     let start = start_at(form, costs, place, top);
@@ -106,10 +106,10 @@ fn fill_in_order(
 ) -> Result<(), Wide>
     requires fits { FitsBox costs.now form.now }
     requires few { length costs.now.low < 2 ^ 32 }
-    requires lines { AreRows top (suc (length costs.now.low)) lines.now }
+    requires lines { AreTableRows top (suc (length costs.now.low)) lines.now }
     requires many { length costs.now.low ≤ length lines.now }
     requires blank { line.old ≡ blank_row (length costs.now.low) }
-    ensures line { OnOk result (IsRowLine top costs.now form.now lines.now line.new) }
+    ensures line { OnOk result (IsAddedLine top costs.now form.now lines.now line.new) }
     ensures wide { IfErr result (IsRowStep top costs.now form.now lines.now) }
 {
     line.set_constant(sum_of_form(form, costs, lines, 0, top)?);
@@ -136,11 +136,11 @@ fn gather_line(
     top: Top,
 ) -> Result<(), Wide>
     requires fits { FitsBox costs.now form.now }
-    requires lines { AreRows top (suc (length costs.now.low)) lines.now }
+    requires lines { AreTableRows top (suc (length costs.now.low)) lines.now }
     requires many { length costs.now.low ≤ length lines.now }
     requires blank { line.old ≡ blank_row (length costs.now.low) }
     requires scratch { length scratch.old ≡ suc (length costs.now.low) }
-    ensures line { OnOk result (IsRowLine top costs.now form.now lines.now line.new) }
+    ensures line { OnOk result (IsAddedLine top costs.now form.now lines.now line.new) }
     ensures width { length line.new ≡ length line.old }
     ensures scratch_width { length scratch.new ≡ length scratch.old }
 {
@@ -164,11 +164,11 @@ fn fill_line(
 ) -> Result<(), Wide>
     requires fits { FitsBox costs.now form.now }
     requires few { length costs.now.low < 2 ^ 32 }
-    requires lines { AreRows top (suc (length costs.now.low)) lines.now }
+    requires lines { AreTableRows top (suc (length costs.now.low)) lines.now }
     requires many { length costs.now.low ≤ length lines.now }
     requires blank { line.old ≡ blank_row (length costs.now.low) }
     requires scratch { length scratch.old ≡ suc (length costs.now.low) }
-    ensures line { OnOk result (IsRowLine top costs.now form.now lines.now line.new) }
+    ensures line { OnOk result (IsAddedLine top costs.now form.now lines.now line.new) }
     ensures wide { IfErr result (IsRowStep top costs.now form.now lines.now) }
     ensures scratch_width { length scratch.new ≡ length scratch.old }
 {
@@ -207,14 +207,14 @@ impl Table {
     ///
     /// `Wide` where a step of the line makes a whole number that passes `top`. The row was added nevertheless.
     pub fn put_row(&mut self, row: BlankRow) -> Result<(), Wide>
-        requires whole { IsWholeTable self.old }
+        requires whole { IsTableau self.old }
         requires room { HasRoom self.old }
         requires place { HasPlace self.old }
         requires fits { FitsBox self.old.costs row.form }
         requires blank { row.line ≡ blank_row (length self.old.costs.low) }
         ensures holds { HoldsRow self.old row.form self.new }
-        ensures whole { OnOk result (IsWholeTable self.new) }
-        ensures wide { IfErr result (λ wide. IsTooWide self.new.top self.new.costs self.new.rows.items (wide_at wide self.new.basis.items)) }
+        ensures whole { OnOk result (IsTableau self.new) }
+        ensures wide { IfErr result (λ wide. IsStepTooWide self.new.top self.new.costs self.new.rows.items (wide_at wide self.new.basis.items)) }
     {
         let BlankRow { form, mut line } = row;
         let lines = self.lines.as_slice();

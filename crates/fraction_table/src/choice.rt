@@ -3,13 +3,13 @@ ghost use Rattle.std.specs.Prelude.{◌≡◌, ◌≢◌, ℕ, suc, ◌+◌, ◌
 ghost use Rattle.cost_base.specs.declared.StepName.TheVariants.{Div, Mul};
 ghost use Rattle.whole_numbers.specs.Fractions.{IsLowest, divided};
 ghost use Rattle.wide_fraction.specs.Widths.{IsWithin};
-ghost use Rattle.path_rows.specs.Basis.{entry};
-ghost use Rattle.path_rows.specs.Steps.{IsPivot, IsTooWide};
-ghost use Rattle.fraction_rows.specs.TableRows.{AreNumbers};
+ghost use Rattle.design_problem.specs.Basis.{entry};
+ghost use Rattle.design_problem.specs.Steps.{IsPivot, IsStepTooWide};
+ghost use Rattle.fraction_rows.specs.TableRows.{AreTableNumbers};
 ghost use Rattle.fraction_rows.specs.Entries.{IsPassing};
 ghost use Rattle.fraction_table.specs.Pivots.{IsBestBelow, IsOrdered, entries_order, line_at};
 ghost use Rattle.fraction_table.specs.Tableaus.{wide_at};
-ghost use Rattle.fraction_table.specs.Wholes.{HasRoom, IsWholeTable};
+ghost use Rattle.fraction_table.specs.ValidTables.{HasRoom, IsTableau};
 
 use crate::table::Table;
 use fraction_rows::TableRow;
@@ -20,7 +20,7 @@ use wide_fraction::{Frac, Top, Wide, cmp, div, mul};
 fn entry_quotient(line: &TableRow, column: u32, other: u32, top: Top) -> Result<Frac, Wide>
     requires column { suc column < length line.now }
     requires other { suc other < length line.now }
-    requires numbers { AreNumbers top line.now }
+    requires numbers { AreTableNumbers top line.now }
     requires not_zero { (entry line.now (suc column)).numerator ≢ pos 0 }
     ensures exact { IfOk result (λ q. q ≡ divided (entry line.now (suc other)) (entry line.now (suc column))) }
     ensures within { IfOk result (λ q. IsWithin top q) }
@@ -41,7 +41,7 @@ fn entry_order(
 ) -> Result<Ordering, Wide>
     requires column { suc column < length line.now }
     requires other { suc other < length line.now }
-    requires numbers { AreNumbers top line.now }
+    requires numbers { AreTableNumbers top line.now }
     requires quotient { IsWithin top quotient }
     requires lowest { IsLowest quotient }
     ensures order { IfOk result (λ found. found ≡ entries_order line.now column other quotient) }
@@ -70,12 +70,12 @@ impl Table {
     ///
     /// `Wide` where a step of this makes a whole number that passes `top`.
     fn precedes(&self, line: usize, column: u32, other: u32) -> Result<bool, Wide>
-        requires whole { IsWholeTable self.now }
+        requires whole { IsTableau self.now }
         requires line { line < length self.now.lines.items }
         requires column { IsPivot self.now.basis.items (line_at self.now line) (suc column) }
         requires other { IsPivot self.now.basis.items (line_at self.now line) (suc other) }
         ensures order { IfOk result (λ before. IsOrdered before self.now line column other) }
-        ensures wide { IfErr result (λ wide. IsTooWide self.now.top self.now.costs self.now.rows.items (wide_at wide self.now.basis.items)) }
+        ensures wide { IfErr result (λ wide. IsStepTooWide self.now.top self.now.costs self.now.rows.items (wide_at wide self.now.basis.items)) }
     {
         let quotient = entry_quotient(&self.lines[line], column, other, self.top)?;
         for place in 0..self.costs.low.as_slice().len() {
@@ -91,12 +91,12 @@ impl Table {
 
     /// The better of the best column so far and one more in which the line has a positive entry.
     fn better(&self, line: usize, best: Option<u32>, column: u32) -> Result<u32, Wide>
-        requires whole { IsWholeTable self.now }
+        requires whole { IsTableau self.now }
         requires line { line < length self.now.lines.items }
         requires column { IsPivot self.now.basis.items (line_at self.now line) (suc column) }
         requires best { IsBestBelow self.now line column best }
         ensures best { IfOk result (λ better. IsBestBelow self.now line (column + 1) (Some better)) }
-        ensures wide { IfErr result (λ wide. IsTooWide self.now.top self.now.costs self.now.rows.items (wide_at wide self.now.basis.items)) }
+        ensures wide { IfErr result (λ wide. IsStepTooWide self.now.top self.now.costs self.now.rows.items (wide_at wide self.now.basis.items)) }
     {
         match best {
             None => Ok(column),
@@ -109,13 +109,13 @@ impl Table {
 
     /// The best column so far, once one more was looked at.
     fn look_at(&self, line: usize, best: Option<u32>, column: u32) -> Result<Option<u32>, Wide>
-        requires whole { IsWholeTable self.now }
+        requires whole { IsTableau self.now }
         requires line { line < length self.now.lines.items }
         requires below { (entry (line_at self.now line) 0).numerator <ℤ pos 0 }
         requires column { column < length self.now.costs.low }
         requires best { IsBestBelow self.now line column best }
         ensures best { IfOk result (λ found. IsBestBelow self.now line (column + 1) found) }
-        ensures wide { IfErr result (λ wide. IsTooWide self.now.top self.now.costs self.now.rows.items (wide_at wide self.now.basis.items)) }
+        ensures wide { IfErr result (λ wide. IsStepTooWide self.now.top self.now.costs self.now.rows.items (wide_at wide self.now.basis.items)) }
     {
         let entry = self.lines[line].entry(column);
         if entry.is_positive() {
@@ -133,12 +133,12 @@ impl Table {
     ///
     /// `Wide` where a step of a comparison makes a whole number that passes `top`.
     pub fn choose(&self, line: usize) -> Result<Option<u32>, Wide>
-        requires whole { IsWholeTable self.now }
+        requires whole { IsTableau self.now }
         requires room { HasRoom self.now }
         requires line { line < length self.now.lines.items }
         requires below { (entry (line_at self.now line) 0).numerator <ℤ pos 0 }
         ensures best { IfOk result (λ best. IsBestBelow self.now line (length self.now.costs.low) best) }
-        ensures wide { IfErr result (λ wide. IsTooWide self.now.top self.now.costs self.now.rows.items (wide_at wide self.now.basis.items)) }
+        ensures wide { IfErr result (λ wide. IsStepTooWide self.now.top self.now.costs self.now.rows.items (wide_at wide self.now.basis.items)) }
     {
         let width = self.costs.low.as_slice().len() as u32;
         let mut best = None;

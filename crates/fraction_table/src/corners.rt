@@ -2,14 +2,14 @@
 ghost use Rattle.std.specs.Prelude.{◌≡◌, ℕ, ◌^◌, ◌<◌, ◌≤◌, ◌<ℤ◌, pos, nat_abs, length, slice_index, IfErr, IfOk, OnErr, OnOk};
 ghost use Rattle.cost_base.specs.declared.StepName.TheVariants.{Scale};
 ghost use Rattle.whole_numbers.specs.Fractions.{whole};
-ghost use Rattle.path_rows.specs.Earnest.{IsLeast};
-ghost use Rattle.path_rows.specs.Steps.{IsTooWide, lcm_of, two_to_27};
-ghost use Rattle.path_rows.specs.Forms.{AreMet};
+ghost use Rattle.design_problem.specs.Earnest.{IsLeastPoint};
+ghost use Rattle.design_problem.specs.Steps.{IsStepTooWide, lcm_of, two_to_27};
+ghost use Rattle.design_problem.specs.Forms.{AreMet};
 ghost use Rattle.fraction_table.specs.Corners.{corner_entry, denominators_of, raised_by};
 ghost use Rattle.fraction_rows.specs.Entries.{IsPassing};
 ghost use Rattle.fraction_table.specs.Pivots.{AreHigh};
 ghost use Rattle.fraction_table.specs.Tableaus.{wide_at};
-ghost use Rattle.fraction_table.specs.Wholes.{IsWholeTable};
+ghost use Rattle.fraction_table.specs.ValidTables.{IsTableau};
 
 use crate::table::Table;
 use area_graph::Point;
@@ -50,10 +50,10 @@ impl Table {
     ///
     /// `Wide` where a multiple on the way passes `top`.
     fn common_denominator(&self) -> Result<i128, Wide>
-        requires whole { IsWholeTable self.now }
+        requires whole { IsTableau self.now }
         ensures multiple { IfOk result (λ multiple. multiple ≡ pos (lcm_of (denominators_of self.now))) }
         ensures within { IfOk result (λ multiple. nat_abs multiple ≤ self.now.top) }
-        ensures wide { IfErr result (λ wide. IsTooWide self.now.top self.now.costs self.now.rows.items (wide_at wide self.now.basis.items)) }
+        ensures wide { IfErr result (λ wide. IsStepTooWide self.now.top self.now.costs self.now.rows.items (wide_at wide self.now.basis.items)) }
     {
         let _ = self.top.value();
         let mut multiple: i128 = 1;
@@ -70,10 +70,10 @@ impl Table {
     ///
     /// `Wide` where a step of this makes a whole number that passes `top`.
     fn corner_scale(&self) -> Result<u128, Wide>
-        requires whole { IsWholeTable self.now }
+        requires whole { IsTableau self.now }
         ensures common { IfOk result (λ scale. scale ≡ lcm_of (denominators_of self.now)) }
         ensures small { IfOk result (λ scale. scale < 2 ^ 100) }
-        ensures wide { IfErr result (λ wide. IsTooWide self.now.top self.now.costs self.now.rows.items (wide_at wide self.now.basis.items)) }
+        ensures wide { IfErr result (λ wide. IsStepTooWide self.now.top self.now.costs self.now.rows.items (wide_at wide self.now.basis.items)) }
     {
         let multiple = self.common_denominator()?;
         tested(multiple, self.top)
@@ -81,7 +81,7 @@ impl Table {
 
     /// Puts the values of the corner, times the scale.
     fn put_corner_values(&self, scale: u128, into: &mut Listed<u128>)
-        requires whole { IsWholeTable self.now }
+        requires whole { IsTableau self.now }
         requires high { AreHigh self.now }
         requires common { scale ≡ lcm_of (denominators_of self.now) }
         requires small { scale < 2 ^ 100 }
@@ -106,13 +106,13 @@ impl Table {
     ///
     /// `Wide` where a step of this makes a whole number that passes `top`; then `into` is as before.
     pub fn put_corner(&self, into: &mut Point) -> Result<(), Wide>
-        requires whole { IsWholeTable self.now }
+        requires whole { IsTableau self.now }
         requires high { AreHigh self.now }
         requires places { length into.old.values ≡ length self.now.costs.low }
-        ensures least { OnOk result (IsLeast (AreMet self.now.rows.items) self.now.costs into.new) }
+        ensures least { OnOk result (IsLeastPoint (AreMet self.now.rows.items) self.now.costs into.new) }
         ensures small { OnOk result (into.new.scale < 2 ^ 100) }
         ensures kept { OnErr result (into.new ≡ into.old) }
-        ensures wide { IfErr result (λ wide. IsTooWide self.now.top self.now.costs self.now.rows.items (wide_at wide self.now.basis.items)) }
+        ensures wide { IfErr result (λ wide. IsStepTooWide self.now.top self.now.costs self.now.rows.items (wide_at wide self.now.basis.items)) }
     {
         let scale = self.corner_scale()?;
         self.put_corner_values(scale, &mut into.values);

@@ -1,10 +1,10 @@
 //! Whether ranges are a box, and whether rows fit it.
 ghost use Rattle.std.specs.Prelude.{◌↔◌, ◌^◌, ◌<◌, ◌≤◌, length, nat_abs, All, IsTrue};
-ghost use Rattle.path_rows.specs.Boxes.{IsBox};
+ghost use Rattle.design_problem.specs.Boxes.{IsBox};
 ghost use Rattle.fraction_table.specs.Tableaus.{FitsBox};
 
 use crate::add_row::corner_sum;
-use path_rows::{CostBox, Form};
+use design_problem::{CostBox, Form};
 
 /// Whether the ranges are a box of fewer than 2^32 variables: as many ends as starts, and none of them empty.
 pub fn is_box(costs: &CostBox) -> bool

@@ -1,23 +1,23 @@
 //! The move of a table to another box, bound by bound.
 ghost use Rattle.std.specs.Prelude.{◌≡◌, ℕ, suc, ◌^◌, ◌<◌, length, map, nat_abs, slice_set, IfErr, IfSome, OnErr, OnOk};
-ghost use Rattle.fraction_table.specs.Moves.{HasShape, IsColumnOf, IsMoved, IsRaiseStep, IsShifted, IsShiftedWide, IsWideShift, KeepsRows, RaisesWide};
+ghost use Rattle.fraction_table.specs.Moves.{HasShape, IsColumnOf, IsMoved, IsRaiseStep, IsTableShifted, IsShiftedWide, IsWideShift, KeepsTableRows, RaisesWide};
 ghost use Rattle.fraction_table.specs.Moves.{ShiftsWide, high_shift_of, low_shift_of, put_at, raised_line, shifted_lines};
-ghost use Rattle.fraction_table.specs.Pivots.{KeepsForms};
-ghost use Rattle.fraction_rows.specs.TableRows.{AreNumbers, IsNumber, IsWideStep};
+ghost use Rattle.fraction_table.specs.Pivots.{KeepsBoxAndRows};
+ghost use Rattle.fraction_rows.specs.TableRows.{AreTableNumbers, IsTableNumber, IsWideStep};
 ghost use Rattle.fraction_rows.specs.Entries.{IsPassing};
 ghost use Rattle.cost_base.specs.declared.StepName.TheVariants.{Sub};
 ghost use Rattle.whole_numbers.specs.Fractions.{minus};
-ghost use Rattle.fraction_rows.specs.Turns.{AreRows};
-ghost use Rattle.fraction_table.specs.Wholes.{HasRoom, IsUnboxedTable, held_of};
+ghost use Rattle.fraction_rows.specs.Turns.{AreTableRows};
+ghost use Rattle.fraction_table.specs.ValidTables.{HasRoom, IsUnboxedTable, held_of};
 ghost use Rattle.fraction_table.specs.Tableaus.{IsWideMove};
 ghost use Rattle.fraction_table.specs.declared.stage.Stage.TheVariants.{Open};
-ghost use Rattle.path_rows.specs.Basis.{entry};
-ghost use Rattle.path_rows.specs.Boxes.{with_high, with_low};
+ghost use Rattle.design_problem.specs.Basis.{entry};
+ghost use Rattle.design_problem.specs.Boxes.{with_high, with_low};
 
 use crate::start::range_of;
 use crate::table::Table;
+use design_problem::{CostBox, Member};
 use fraction_rows::TableRow;
-use path_rows::{CostBox, Member};
 use wide_fraction::{Frac, Top, Wide, add, mul, sub};
 
 /// Puts a line's entry in the column, times the fall, to its constant. No step is taken where the entry is 0.
@@ -27,10 +27,10 @@ use wide_fraction::{Frac, Top, Wide, add, mul, sub};
 /// `Wide` where one of the two steps makes a whole number that passes `top`. Then the line is as before.
 fn raise_constant(line: &mut TableRow, column: u32, fall: Frac, top: Top) -> Result<(), Wide>
     requires column { suc column < length line.old }
-    requires numbers { AreNumbers top line.old }
-    requires fall { IsNumber top fall }
+    requires numbers { AreTableNumbers top line.old }
+    requires fall { IsTableNumber top fall }
     ensures raised { OnOk result (line.new ≡ raised_line column fall line.old) }
-    ensures numbers { AreNumbers top line.new }
+    ensures numbers { AreTableNumbers top line.new }
     ensures width { length line.new ≡ length line.old }
     ensures wide { IfErr result (λ wide. IsWideStep top (IsRaiseStep line.old column fall) wide.step wide.left wide.right) }
 {
@@ -50,10 +50,10 @@ fn raise_constant(line: &mut TableRow, column: u32, fall: Frac, top: Top) -> Res
 ///
 /// `Wide` where a step of some line makes a whole number that passes `top`.
 fn raise_constants(lines: &mut [TableRow], column: u32, fall: Frac, top: Top) -> Result<(), Wide>
-    requires lines { (count : ℕ) × (suc column < count) × AreRows top count lines.old }
-    requires fall { IsNumber top fall }
+    requires lines { (count : ℕ) × (suc column < count) × AreTableRows top count lines.old }
+    requires fall { IsTableNumber top fall }
     ensures raised { OnOk result (lines.new ≡ map (raised_line column fall) lines.old) }
-    ensures numbers { (count : ℕ) → AreRows top count lines.old → AreRows top count lines.new }
+    ensures numbers { (count : ℕ) → AreTableRows top count lines.old → AreTableRows top count lines.new }
     ensures count { length lines.new ≡ length lines.old }
     ensures wide { IfErr result (λ wide. RaisesWide top lines.old column fall wide) }
 {
@@ -70,10 +70,10 @@ fn raise_constants(lines: &mut [TableRow], column: u32, fall: Frac, top: Top) ->
 /// `Wide` where the difference makes a whole number that passes `top`. Then the line is as before.
 fn lower_constant(line: &mut TableRow, fall: Frac, top: Top) -> Result<(), Wide>
     requires some { 0 < length line.old }
-    requires numbers { AreNumbers top line.old }
-    requires fall { IsNumber top fall }
+    requires numbers { AreTableNumbers top line.old }
+    requires fall { IsTableNumber top fall }
     ensures lowered { OnOk result (line.new ≡ slice_set line.old 0 (minus (entry line.old 0) fall)) }
-    ensures numbers { AreNumbers top line.new }
+    ensures numbers { AreTableNumbers top line.new }
     ensures width { length line.new ≡ length line.old }
     ensures named { IfErr result (λ wide. wide ≡ record { step = Sub; left = entry line.old 0; right = fall }) }
     ensures passes { IfErr result (λ wide. IsPassing top wide) }
@@ -97,10 +97,10 @@ fn shift_lines(
     top: Top,
 ) -> Result<(), Wide>
     requires own { own < length lines.old }
-    requires lines { (count : ℕ) × (0 < count) × IfSome column (λ k. suc k < count) × AreRows top count lines.old }
-    requires fall { IsNumber top fall }
+    requires lines { (count : ℕ) × (0 < count) × IfSome column (λ k. suc k < count) × AreTableRows top count lines.old }
+    requires fall { IsTableNumber top fall }
     ensures shifted { OnOk result (lines.new ≡ shifted_lines column own fall lines.old) }
-    ensures numbers { (count : ℕ) → AreRows top count lines.old → AreRows top count lines.new }
+    ensures numbers { (count : ℕ) → AreTableRows top count lines.old → AreTableRows top count lines.new }
     ensures count { length lines.new ≡ length lines.old }
     ensures wide { IfErr result (λ wide. ShiftsWide top column own fall lines.old wide) }
 {
@@ -150,8 +150,8 @@ impl Table {
         requires own { own < length self.old.lines.items }
         requires small { nat_abs fall < 2 ^ 27 }
         ensures shape { HasShape self.new }
-        ensures keeps { KeepsForms self.old self.new }
-        ensures shifted { OnOk result (IsShifted self.old self.new own before after fall) }
+        ensures keeps { KeepsBoxAndRows self.old self.new }
+        ensures shifted { OnOk result (IsTableShifted self.old self.new own before after fall) }
         ensures wide { IfErr result (λ wide. IsShiftedWide self.old own before fall wide) }
     {
         let _ = self.top.value();
@@ -174,7 +174,7 @@ impl Table {
         ensures unboxed { OnOk result (IsUnboxedTable self.new) }
         ensures moved { OnOk result (IsMoved self.old (with_low self.old.costs var bound) self.new) }
         ensures shape { HasShape self.new }
-        ensures keeps { KeepsRows self.old self.new }
+        ensures keeps { KeepsTableRows self.old self.new }
         ensures wide { IfErr result (λ wide. IsWideShift self.old (low_shift_of self.old var bound) wide) }
     {
         let place = var as usize;
@@ -200,7 +200,7 @@ impl Table {
         ensures unboxed { OnOk result (IsUnboxedTable self.new) }
         ensures moved { OnOk result (IsMoved self.old (with_high self.old.costs var bound) self.new) }
         ensures shape { HasShape self.new }
-        ensures keeps { KeepsRows self.old self.new }
+        ensures keeps { KeepsTableRows self.old self.new }
         ensures wide { IfErr result (λ wide. IsWideShift self.old (high_shift_of self.old var bound) wide) }
     {
         let place = var as usize;
@@ -234,7 +234,7 @@ impl Table {
         ensures unboxed { OnOk result (IsUnboxedTable self.new) }
         ensures moved { OnOk result (IsMoved self.old costs.now self.new) }
         ensures shape { HasShape self.new }
-        ensures keeps { KeepsRows self.old self.new }
+        ensures keeps { KeepsTableRows self.old self.new }
         ensures wide { OnErr result (IsWideMove (held_of self.old Open) costs.now) }
     {
         let low = costs.low.as_slice();

@@ -3,18 +3,18 @@ ghost use Rattle.std.specs.Prelude.{◌≡◌, ℕ, suc, ◌^◌, ◌<◌, ◌�
 ghost use Rattle.std.specs.List.Sorted.{IsPermutation};
 ghost use Rattle.whole_numbers.specs.Fractions.{sum_of};
 ghost use Rattle.wide_fraction.specs.Widths.{IsWithin};
-ghost use Rattle.path_rows.specs.Boxes.{Refutes};
-ghost use Rattle.path_rows.specs.Steps.{IsStuck, unless_zero};
+ghost use Rattle.design_problem.specs.Boxes.{Refutes};
+ghost use Rattle.design_problem.specs.Steps.{IsStuck, unless_zero};
 ghost use Rattle.fraction_rows.specs.Entries.{AllNumbers, IsPassing};
 ghost use Rattle.fraction_table.specs.Multipliers.{AreParts, IsMultiplierStep, IsTallyStep, IsToldOf, IsWideMultiplier, common_of};
 ghost use Rattle.fraction_table.specs.Multipliers.{fractions, fractions_of, numbered, whole_parts, wholes};
 ghost use Rattle.fraction_table.specs.Pivots.{line_at, member_at};
-ghost use Rattle.fraction_table.specs.Wholes.{HasRoom, IsWholeTable};
+ghost use Rattle.fraction_table.specs.ValidTables.{HasRoom, IsTableau};
 
 use crate::SimplexStop;
 use crate::table::Table;
 use cost_base::OutOfMemory;
-use path_rows::{Member, Parts};
+use design_problem::{Member, Parts};
 use std::alloc::Global;
 use wide_fraction::{Frac, Top, Wide, add, lcm, mul, scale};
 
@@ -174,7 +174,7 @@ impl Table {
     ///
     /// `OutOfMemory` where the list got no memory.
     fn fractions(&self, alloc: Global, line: usize) -> Result<Vec<(u64, Frac)>, OutOfMemory>
-        requires whole { IsWholeTable self.now }
+        requires whole { IsTableau self.now }
         requires room { HasRoom self.now }
         requires line { line < length self.now.lines.items }
         ensures { IfOk result (λ parts. parts.items ≡ fractions_of self.now.basis.items (member_at self.now line) (line_at self.now line)) }
@@ -194,7 +194,7 @@ impl Table {
     ///
     /// `TooWide` where a step makes a whole number that passes `top`; `OutOfMemory`.
     pub fn multipliers(&self, alloc: Global, line: usize) -> Result<Parts, SimplexStop>
-        requires whole { IsWholeTable self.now }
+        requires whole { IsTableau self.now }
         requires room { HasRoom self.now }
         requires line { line < length self.now.lines.items }
         requires stuck { IsStuck self.now.basis.items (line_at self.now line) }

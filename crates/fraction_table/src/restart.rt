@@ -1,22 +1,22 @@
 //! A table that is started anew, in the place that it has.
 ghost use Rattle.std.specs.Prelude.{◌≡◌, suc, ◌^◌, ◌<◌, ◌∷◌, length, map, slice_set, All};
 ghost use Rattle.whole_numbers.specs.Fractions.{whole};
-ghost use Rattle.path_rows.specs.Basis.{IsFormOf, unit};
-ghost use Rattle.path_rows.specs.Boxes.{IsBox};
-ghost use Rattle.path_rows.specs.Forms.{value};
-ghost use Rattle.fraction_table.specs.Moves.{HasShape, KeepsAllButLines, KeepsRows};
+ghost use Rattle.design_problem.specs.Basis.{IsFormOf, unit};
+ghost use Rattle.design_problem.specs.Boxes.{IsBox};
+ghost use Rattle.design_problem.specs.Forms.{value_for_costs};
+ghost use Rattle.fraction_table.specs.Moves.{HasShape, KeepsAllButLines, KeepsTableRows};
 ghost use Rattle.fraction_table.specs.Pivots.{member_at};
-ghost use Rattle.fraction_rows.specs.TableRows.{AreNumbers};
+ghost use Rattle.fraction_rows.specs.TableRows.{AreTableNumbers};
 ghost use Rattle.fraction_table.specs.declared.stage.Stage.TheVariants.{Open};
 ghost use Rattle.fraction_table.specs.Tableaus.{FitsBox, IsRebased, starting};
-ghost use Rattle.fraction_table.specs.Wholes.{HasRoom, IsWholeTable, held_of, members_of, starting_line};
+ghost use Rattle.fraction_table.specs.ValidTables.{HasRoom, IsTableau, held_of, members_of_box, starting_line};
 
 use crate::add_row::corner_value;
 use crate::start::{put_unit_line, range_of};
 use crate::table::Table;
 use cost_base::Listed;
+use design_problem::{CostBox, Form, Member};
 use fraction_rows::TableRow;
-use path_rows::{CostBox, Form, Member};
 use wide_fraction::{Frac, Top};
 
 /// Makes the line the starting one of a row's form: its value at the low corner, and its coefficients.
@@ -24,8 +24,8 @@ fn put_form_line(line: &mut TableRow, form: &Form, costs: &CostBox, top: Top)
     requires fits { FitsBox costs.now form.now }
     requires few { length costs.now.low < 2 ^ 32 }
     requires width { length line.old ≡ suc (length costs.now.low) }
-    ensures line { line.new ≡ whole (value form.now costs.now.low) ∷ map whole form.now.coefficients }
-    ensures numbers { AreNumbers top line.new }
+    ensures line { line.new ≡ whole (value_for_costs form.now costs.now.low) ∷ map whole form.now.coefficients }
+    ensures numbers { AreTableNumbers top line.new }
 {
     let _ = top.value();
     line.clear();
@@ -44,7 +44,7 @@ fn put_line(line: &mut TableRow, member: Member, costs: &CostBox, rows: &[Form],
     requires few { length costs.now.low < 2 ^ 32 }
     requires width { length line.old ≡ suc (length costs.now.low) }
     ensures line { line.new ≡ starting_line costs.now rows.now member }
-    ensures numbers { AreNumbers top line.new }
+    ensures numbers { AreTableNumbers top line.new }
 {
     let low = costs.low.as_slice();
     let width = low.len() as u32;
@@ -103,7 +103,7 @@ impl Table {
         requires ranges { IsBox (length costs.now.low) costs.now }
         requires fits { All (FitsBox costs.now) self.old.rows.items }
         requires shape { HasShape self.old }
-        ensures lines { self.new.lines.items ≡ map (starting_line costs.now self.old.rows.items) (members_of costs.now (length self.old.rows.items)) }
+        ensures lines { self.new.lines.items ≡ map (starting_line costs.now self.old.rows.items) (members_of_box costs.now (length self.old.rows.items)) }
         ensures shape { HasShape self.new }
         ensures keeps { KeepsAllButLines self.old self.new }
     {
@@ -118,11 +118,11 @@ impl Table {
         requires shape { HasShape self.old }
         requires ranges { IsBox (length self.old.costs.low) costs.now }
         requires fits { All (FitsBox costs.now) self.old.rows.items }
-        ensures whole { IsWholeTable self.new }
+        ensures whole { IsTableau self.new }
         ensures room { HasRoom self.new }
         ensures costs { self.new.costs ≡ costs.now }
         ensures basis { self.new.basis.items ≡ starting costs.now }
-        ensures keeps { KeepsRows self.old self.new }
+        ensures keeps { KeepsTableRows self.old self.new }
     {
         put_bounds(&mut self.costs.low, costs.low.as_slice());
         put_bounds(&mut self.costs.high, costs.high.as_slice());
@@ -133,11 +133,11 @@ impl Table {
     /// Moves the table to another box, bound by bound; where a step of that is too wide, it is started anew. It takes
     /// no memory.
     pub fn rebase(&mut self, costs: &CostBox)
-        requires whole { IsWholeTable self.old }
+        requires whole { IsTableau self.old }
         requires room { HasRoom self.old }
         requires ranges { IsBox (length self.old.costs.low) costs.now }
         requires fits { All (FitsBox costs.now) self.old.rows.items }
-        ensures whole { IsWholeTable self.new }
+        ensures whole { IsTableau self.new }
         ensures room { HasRoom self.new }
         ensures rebased { IsRebased (held_of self.old Open) costs.now (held_of self.new Open) }
     {

@@ -1,10 +1,10 @@
 //! The work towards an answer: pivots, until the lines show one.
 ghost use Rattle.std.specs.Prelude.{IfErr, IfOk, OnOk};
-ghost use Rattle.path_rows.specs.Steps.{IsTooWide};
+ghost use Rattle.design_problem.specs.Steps.{IsStepTooWide};
 ghost use Rattle.fraction_table.specs.declared.stage.Stage.TheVariants.{Ended};
-ghost use Rattle.fraction_table.specs.Pivots.{IsAhead, IsBelow, IsFoundBelow, KeepsForms};
+ghost use Rattle.fraction_table.specs.Pivots.{IsAhead, IsConstantNegative, IsFoundBelow, KeepsBoxAndRows};
 ghost use Rattle.fraction_table.specs.Tableaus.{wide_at};
-ghost use Rattle.fraction_table.specs.Wholes.{HasRoom, IsShown, IsWholeTable};
+ghost use Rattle.fraction_table.specs.ValidTables.{HasRoom, IsShown, IsTableau};
 
 use crate::Solved;
 use crate::table::Table;
@@ -26,14 +26,14 @@ impl Table {
     /// Turns the table at a line whose constant is negative; or tells that the line refutes the box, where no column
     /// has a positive entry in it.
     fn raise(&mut self, line: usize) -> Result<Option<Solved>, Wide>
-        requires whole { IsWholeTable self.old }
+        requires whole { IsTableau self.old }
         requires room { HasRoom self.old }
-        requires below { IsBelow self.old line }
-        ensures whole { OnOk result (IsWholeTable self.new) }
+        requires below { IsConstantNegative self.old line }
+        ensures whole { OnOk result (IsTableau self.new) }
         ensures ahead { IfOk result (λ solved. IsAhead self.old self.new solved) }
-        ensures keeps { KeepsForms self.old self.new }
+        ensures keeps { KeepsBoxAndRows self.old self.new }
         ensures room { HasRoom self.new }
-        ensures wide { IfErr result (λ wide. IsTooWide self.new.top self.new.costs self.new.rows.items (wide_at wide self.new.basis.items)) }
+        ensures wide { IfErr result (λ wide. IsStepTooWide self.new.top self.new.costs self.new.rows.items (wide_at wide self.new.basis.items)) }
     {
         match self.choose(line)? {
             None => Ok(Some(Solved::Refuted(line as u64))),
@@ -47,13 +47,13 @@ impl Table {
     /// One step towards the answer: the answer, where the lines show it, and else a pivot at the first line with a
     /// negative constant.
     fn advance(&mut self) -> Result<Option<Solved>, Wide>
-        requires whole { IsWholeTable self.old }
+        requires whole { IsTableau self.old }
         requires room { HasRoom self.old }
-        ensures whole { OnOk result (IsWholeTable self.new) }
+        ensures whole { OnOk result (IsTableau self.new) }
         ensures ahead { IfOk result (λ solved. IsAhead self.old self.new solved) }
-        ensures keeps { KeepsForms self.old self.new }
+        ensures keeps { KeepsBoxAndRows self.old self.new }
         ensures room { HasRoom self.new }
-        ensures wide { IfErr result (λ wide. IsTooWide self.new.top self.new.costs self.new.rows.items (wide_at wide self.new.basis.items)) }
+        ensures wide { IfErr result (λ wide. IsStepTooWide self.new.top self.new.costs self.new.rows.items (wide_at wide self.new.basis.items)) }
     {
         match self.first_negative() {
             None => Ok(Some(Solved::Feasible)),
@@ -67,13 +67,13 @@ impl Table {
     ///
     /// `Wide` where a step makes a whole number that passes `top`; it is one at the basis that is left.
     pub fn settle(&mut self) -> Result<Solved, Wide>
-        requires whole { IsWholeTable self.old }
+        requires whole { IsTableau self.old }
         requires room { HasRoom self.old }
-        ensures whole { OnOk result (IsWholeTable self.new) }
+        ensures whole { OnOk result (IsTableau self.new) }
         ensures shown { IfOk result (λ solved. IsShown self.new.basis.items self.new.lines.items (Ended solved)) }
-        ensures keeps { KeepsForms self.old self.new }
+        ensures keeps { KeepsBoxAndRows self.old self.new }
         ensures room { HasRoom self.new }
-        ensures wide { IfErr result (λ wide. IsTooWide self.new.top self.new.costs self.new.rows.items (wide_at wide self.new.basis.items)) }
+        ensures wide { IfErr result (λ wide. IsStepTooWide self.new.top self.new.costs self.new.rows.items (wide_at wide self.new.basis.items)) }
     {
         'pivots: loop {
             if let Some(solved) = self.advance()? {

@@ -2,19 +2,19 @@
 ghost use Rattle.std.specs.Prelude.{◌≡◌, ℕ, suc, ◌^◌, ◌<◌, ◌≤◌, ◌++◌, [], ◌∷◌, pos, negsuc, ◌-ℤ◌, nat_abs, length, map, slice_index, IfOk, OnOk};
 ghost use Rattle.cost_base.specs.Lists.{numbers_from};
 ghost use Rattle.whole_numbers.specs.Fractions.{whole};
-ghost use Rattle.path_rows.specs.declared.tree.Member.TheVariants.{Low};
-ghost use Rattle.path_rows.specs.Basis.{unit};
-ghost use Rattle.path_rows.specs.Boxes.{IsBox};
-ghost use Rattle.fraction_rows.specs.TableRows.{AreNumbers};
-ghost use Rattle.fraction_rows.specs.Turns.{AreRows};
+ghost use Rattle.design_problem.specs.declared.tree.Member.TheVariants.{Low};
+ghost use Rattle.design_problem.specs.Basis.{unit};
+ghost use Rattle.design_problem.specs.Boxes.{IsBox};
+ghost use Rattle.fraction_rows.specs.TableRows.{AreTableNumbers};
+ghost use Rattle.fraction_rows.specs.Turns.{AreTableRows};
 ghost use Rattle.fraction_table.specs.declared.stage.Stage.TheVariants.{Open};
 ghost use Rattle.fraction_table.specs.Tableaus.{starting};
-ghost use Rattle.fraction_table.specs.Wholes.{IsSound, held_of, members_of, starting_line};
+ghost use Rattle.fraction_table.specs.ValidTables.{IsSound, held_of, members_of_box, starting_line};
 
 use crate::table::Table;
 use cost_base::{Listed, OutOfMemory};
+use design_problem::{CostBox, Member};
 use fraction_rows::TableRow;
-use path_rows::{CostBox, Member};
 use std::alloc::Global;
 use wide_fraction::{Frac, Top};
 
@@ -61,7 +61,7 @@ pub fn put_unit_line(
     requires constant_small { nat_abs constant < 2 ^ 27 }
     requires coefficient_small { nat_abs coefficient < 2 ^ 27 }
     ensures line { line.new ≡ whole constant ∷ map whole (unit width var coefficient) }
-    ensures numbers { AreNumbers top line.new }
+    ensures numbers { AreTableNumbers top line.new }
 {
     let _ = top.value();
     line.clear();
@@ -82,7 +82,7 @@ fn bound_row(
     requires constant_small { nat_abs constant < 2 ^ 27 }
     requires coefficient_small { nat_abs coefficient < 2 ^ 27 }
     ensures row { IfOk result (λ row. row ≡ whole constant ∷ map whole (unit width var coefficient)) }
-    ensures numbers { IfOk result (λ row. AreNumbers top row) }
+    ensures numbers { IfOk result (λ row. AreTableNumbers top row) }
 {
     let mut row = TableRow::zero(alloc, width)?;
     put_unit_line(&mut row, width, var, constant, coefficient, top);
@@ -102,9 +102,9 @@ fn push_low_rows(
     rows: &mut Vec<TableRow>,
     top: Top,
 ) -> Result<(), OutOfMemory>
-    requires numbers { AreRows top (suc width) rows.old.items }
+    requires numbers { AreTableRows top (suc width) rows.old.items }
     ensures rows { OnOk result (rows.new.items ≡ rows.old.items ++ map (λ v. whole (pos 0) ∷ map whole (unit width v (pos 1))) (numbers_from 0 width)) }
-    ensures numbers { OnOk result (AreRows top (suc width) rows.new.items) }
+    ensures numbers { OnOk result (AreTableRows top (suc width) rows.new.items) }
 {
     for var in 0..width {
         push_row(rows, bound_row(alloc, width, var, 0, 1, top)?)?;
@@ -130,11 +130,11 @@ fn push_high_rows(
 ) -> Result<(), OutOfMemory>
     requires same { length high.now ≡ length low.now }
     requires few { length low.now < 2 ^ 32 }
-    requires numbers { AreRows top (suc (length low.now)) rows.old.items }
+    requires numbers { AreTableRows top (suc (length low.now)) rows.old.items }
     ensures rows { OnOk result (rows.new.items ≡ rows.old.items ++
         map (λ v. whole (pos (slice_index high.now v) -ℤ pos (slice_index low.now v)) ∷ map whole (unit (length low.now) v (negsuc 0)))
         (numbers_from 0 (length low.now))) }
-    ensures numbers { OnOk result (AreRows top (suc (length low.now)) rows.new.items) }
+    ensures numbers { OnOk result (AreTableRows top (suc (length low.now)) rows.new.items) }
 {
     let width = low.len() as u32;
     for var in 0..width {
@@ -148,8 +148,8 @@ fn push_high_rows(
 pub fn bound_rows(alloc: Global, costs: &CostBox, top: Top) -> Result<Vec<TableRow>, OutOfMemory>
     requires ranges { IsBox (length costs.now.low) costs.now }
     requires few { length costs.now.low < 2 ^ 32 }
-    ensures rows { IfOk result (λ rows. rows.items ≡ map (starting_line costs.now []) (members_of costs.now 0)) }
-    ensures numbers { IfOk result (λ rows. AreRows top (suc (length costs.now.low)) rows.items) }
+    ensures rows { IfOk result (λ rows. rows.items ≡ map (starting_line costs.now []) (members_of_box costs.now 0)) }
+    ensures numbers { IfOk result (λ rows. AreTableRows top (suc (length costs.now.low)) rows.items) }
 {
     let low = costs.low.as_slice();
     let mut rows = Vec::new(alloc);

@@ -1,13 +1,13 @@
 //! The table of a box and of rows at a basis.
 ghost use Rattle.std.specs.Prelude.{◌≡◌, ℕ, suc, ◌<◌, length, IfErr, OnOk};
-ghost use Rattle.path_rows.specs.Steps.{IsPivot, IsTooWide};
-ghost use Rattle.fraction_table.specs.Pivots.{IsLeastIn, KeepsForms, line_at, member_at};
+ghost use Rattle.design_problem.specs.Steps.{IsPivot, IsStepTooWide};
+ghost use Rattle.fraction_table.specs.Pivots.{IsLeastIn, KeepsBoxAndRows, line_at, member_at};
 ghost use Rattle.fraction_table.specs.Ranks.{rank};
 ghost use Rattle.fraction_table.specs.Tableaus.{wide_at};
-ghost use Rattle.fraction_table.specs.Wholes.{HasRoom, IsWholeTable, members_of};
+ghost use Rattle.fraction_table.specs.ValidTables.{HasRoom, IsTableau, members_of_box};
 
+use design_problem::{CostBox, Form, Member};
 use fraction_rows::{TableRow, take_quotients, turn_rows};
-use path_rows::{CostBox, Form, Member};
 use wide_fraction::{Top, Wide};
 
 /// A box with the forms of rows, at a basis, and the entries of each form of the box over that basis: those of x - low
@@ -36,7 +36,7 @@ impl Table {
     pub fn member_at(&self, line: usize) -> Member
         requires ranges { length self.now.costs.high ≡ length self.now.costs.low }
         requires room { HasRoom self.now }
-        requires line { line < length (members_of self.now.costs (length self.now.rows.items)) }
+        requires line { line < length (members_of_box self.now.costs (length self.now.rows.items)) }
         ensures { result ≡ member_at self.now line }
     {
         let low = self.costs.low.as_slice();
@@ -58,16 +58,16 @@ impl Table {
     ///
     /// `Wide` where one of these steps makes a whole number that passes `top`. Then the basis is as before.
     pub fn pivot(&mut self, line: usize, column: u32) -> Result<(), Wide>
-        requires whole { IsWholeTable self.old }
+        requires whole { IsTableau self.old }
         requires room { HasRoom self.old }
         requires line { line < length self.old.lines.items }
         requires pivot { IsPivot self.old.basis.items (line_at self.old line) (suc column) }
         requires least { IsLeastIn self.old line column }
-        ensures whole { OnOk result (IsWholeTable self.new) }
+        ensures whole { OnOk result (IsTableau self.new) }
         ensures rises { OnOk result (rank self.old < rank self.new) }
-        ensures keeps { KeepsForms self.old self.new }
+        ensures keeps { KeepsBoxAndRows self.old self.new }
         ensures room { HasRoom self.new }
-        ensures wide { IfErr result (λ wide. IsTooWide self.new.top self.new.costs self.new.rows.items (wide_at wide self.new.basis.items)) }
+        ensures wide { IfErr result (λ wide. IsStepTooWide self.new.top self.new.costs self.new.rows.items (wide_at wide self.new.basis.items)) }
     {
         let member = self.member_at(line);
         let inverse = take_quotients(&self.lines[line], column, &mut self.quotients, self.top)?;

@@ -6,12 +6,12 @@ use Rattle.std.specs.declared.alloc.Global.{Global}
 use Rattle.cost_base.specs.Histories.{Taken}
 use Rattle.interface_model.specs.Records.{Router}
 use Rattle.config_reader.specs.Configs.{config_of}
-use Rattle.command_words.specs.Words.{texts}
+use Rattle.text_lines.specs.Arguments.{texts}
 use Rattle.input_files.specs.declared.stop.Stop.{Stop}
 use Rattle.input_files.specs.declared.stop.Stop.TheVariants as stops
 use Rattle.input_files.specs.Readings.{Reading, Ready, ◌>>=◌, End, Says, Faulty, Failed, EndsAs}
 use Rattle.input_files.specs.Outcomes.{ConfigFile, config_read, configs_read, routers_of}
-use Rattle.input_files.specs.Stops.{StopsAs, IsReady, refusal_in}
+use Rattle.input_files.specs.Stops.{StopsAs, IsReadAndMade, refusal_in}
 use Rattle.input_files.proofs.Readings.{ends_then, ends_faulty, ends_failed, bind_assoc, bind_ready}
 
 -- Of all configurations some are left. Those that were read, of which this came, have these routers; and whatever ends the
@@ -45,7 +45,7 @@ rest_is name names files =
 -- the next configuration was read
 pub progress_goes : (all names : List (List ℕ)) (name : List ℕ) (routers : List Router) (router : Router) (came xs : List Taken) →
     Progress all (name ∷ names) routers came →
-    IsReady (config_read name) xs (λ (r : Router) file. r ≡ config_of file.name file.bytes) router →
+    IsReadAndMade (config_read name) xs (λ (r : Router) file. r ≡ config_of file.name file.bytes) router →
     Progress all names (routers ++ router ∷ []) (came ++ xs)
 progress_goes all names name routers router came xs p ready = record {
   files = p.files ++ ready.said ∷ [];

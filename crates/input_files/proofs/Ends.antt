@@ -6,17 +6,17 @@ use Rattle.cost_base.specs.declared.ShelfStop.{ShelfStop}
 use Rattle.cost_base.specs.declared.ShelfStop.TheVariants as stop
 use Rattle.cost_base.specs.Histories.{Taken, AreTold, IsToldAs, failure, failures}
 use Rattle.input_files.specs.Readings.{Refusal, Reading, Take, Refused, Ready, End, Says, Faulty, Failed, too_long, OnCame, EndsAs}
-use Rattle.input_files.specs.Ends.{text_named, end_on}
+use Rattle.input_files.specs.Ends.{text_named, end_of_reading}
 
 -- a text of at most so many bytes is read
 text_read : {A : Type 0} (texts : List (List ℕ × List ℕ)) (name : List ℕ) (most : ℕ) (next : List ℕ → Reading A) →
     length (text_named texts name) ≤ most →
-    end_on texts (Take name most next) ≡ end_on texts (next (text_named texts name))
+    end_of_reading texts (Take name most next) ≡ end_of_reading texts (next (text_named texts name))
 text_read texts name most next short = rw (le-leb (length (text_named texts name)) most short) refl
 
 -- a longer one is refused
 text_refused : {A : Type 0} (texts : List (List ℕ × List ℕ)) (name : List ℕ) (most : ℕ) (next : List ℕ → Reading A) →
-    most < length (text_named texts name) → end_on texts (Take name most next) ≡ Faulty (too_long name)
+    most < length (text_named texts name) → end_of_reading texts (Take name most next) ≡ Faulty (too_long name)
 text_refused texts name most next long = rw (lt-leb (length (text_named texts name)) most long) refl
 
 some_none : (x : List ℕ) (xs : List (List ℕ)) → x ∷ xs ≡ [] → ⊥
@@ -27,8 +27,8 @@ file_ends : {A : Type 0} (texts : List (List ℕ × List ℕ)) (name : List ℕ)
     (more : List Taken) (end : End A) (came : Result (List ℕ) ShelfStop) →
     OnCame came (λ bytes. EndsAs (next bytes) more end) ((more ≡ []) × (end ≡ Faulty (too_long name))) ((more ≡ []) × (end ≡ Failed name)) →
     IsToldAs (Some (text_named texts name)) most came → failure name came ++ failures more ≡ [] →
-    ((bytes : List ℕ) → EndsAs (next bytes) more end → failures more ≡ [] → end_on texts (next bytes) ≡ end) →
-    end_on texts (Take name most next) ≡ end
+    ((bytes : List ℕ) → EndsAs (next bytes) more end → failures more ≡ [] → end_of_reading texts (next bytes) ≡ end) →
+    end_of_reading texts (Take name most next) ≡ end
 file_ends texts name most next more end (Ok bytes) then it none rest =
     let short : length (text_named texts name) ≤ most = omega (arith, ap length it.0, it.1) in
     text_read texts name most next short ∙ rest (text_named texts name) (subst (λ (b : List ℕ). EndsAs (next b) more end) it.0 then) none
@@ -39,7 +39,7 @@ file_ends texts name most next more end (Err stop.OutOfMemory) then it none rest
 -- what came of files that are texts ends a reading as it ends on the texts
 pub ends_on : {A : Type 0} (texts : List (List ℕ × List ℕ)) (reading : Reading A) (came : List Taken) (end : End A) →
     EndsAs reading came end → AreTold (λ name. Some (text_named texts name)) came → failures came ≡ [] →
-    end_on texts reading ≡ end
+    end_of_reading texts reading ≡ end
 ends_on texts (Ready x) [] end is told sure = sym is
 ends_on texts (Ready x) (taken ∷ more) end is told sure = absurd is
 ends_on texts (Refused r) [] end is told sure = sym is
@@ -62,12 +62,12 @@ either_end true end r fine = fine
 either_end false end r fine = tt
 
 -- no text fails
-never_fails : {A : Type 0} (texts : List (List ℕ × List ℕ)) (reading : Reading A) → IsNoFailure (end_on texts reading)
+never_fails : {A : Type 0} (texts : List (List ℕ × List ℕ)) (reading : Reading A) → IsNoFailure (end_of_reading texts reading)
 never_fails texts (Ready x) = tt
 never_fails texts (Refused r) = tt
 never_fails texts (Take name most next) =
-    either_end (leb (length (text_named texts name)) most) (end_on texts (next (text_named texts name))) (too_long name)
+    either_end (leb (length (text_named texts name)) most) (end_of_reading texts (next (text_named texts name))) (too_long name)
     (never_fails texts (next (text_named texts name)))
 
-pub no_failure : {A : Type 0} (texts : List (List ℕ × List ℕ)) (reading : Reading A) (file : List ℕ) → end_on texts reading ≡ Failed file → ⊥
+pub no_failure : {A : Type 0} (texts : List (List ℕ × List ℕ)) (reading : Reading A) (file : List ℕ) → end_of_reading texts reading ≡ Failed file → ⊥
 no_failure {A} texts reading file is = subst (λ (e : End A). IsNoFailure e) is (never_fails texts reading)

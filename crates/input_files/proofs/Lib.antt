@@ -6,3 +6,4 @@ pub mod ReadyInputs
 pub mod Present
 pub mod Ends
 pub mod Networks
+pub mod LaterFiles

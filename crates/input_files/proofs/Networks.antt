@@ -2,9 +2,9 @@
 use Rattle.std.proofs.Common.{◌≡◌, refl, sym, ◌∙◌, ap, subst, List, [], ◌++◌, Option, None, Some, Ok}
 use Rattle.cost_base.specs.Histories.{Taken}
 use Rattle.interface_model.specs.Records.{Router}
-use Rattle.lsdb_build.specs.Graphs.{Database, IsDatabase}
+use Rattle.lsdb_build.specs.Graphs.{Database, IsAreaDatabase}
 use Rattle.lsdb_build.specs.Topology.{FaultyPlace, topology_fault, database_of}
-use Rattle.path_rows.specs.Problems.{DesignProblem}
+use Rattle.design_problem.specs.Problems.{DesignProblem}
 use Rattle.request_reader.specs.Asked.{Asked, IsAsked as IsLawful}
 use Rattle.input_files.specs.declared.problem.View.{View}
 use Rattle.input_files.specs.declared.network.Network.{Network}
@@ -12,7 +12,7 @@ use Rattle.input_files.specs.Inputs.{InputFiles}
 use Rattle.input_files.specs.Readings.{Reading, Take, Refused, Ready, Says, EndsAs, Gave}
 use Rattle.input_files.specs.Outcomes.{ConfigFile, Input, request_read, configs_read, routers_of, if_faultless, topology_read, problem_read, outcome}
 use Rattle.input_files.specs.Networks.{IsNetworkOf}
-use Rattle.input_files.specs.Stops.{IsReady}
+use Rattle.input_files.specs.Stops.{IsReadAndMade}
 use Rattle.input_files.proofs.Readings.{ends_then, one_said, said_faulty}
 use Rattle.input_files.proofs.Stops.{read_then, gave_then, gave_made}
 use Rattle.input_files.proofs.Problems.{after_topology, after_configs, after_request, IsAsked, AreRouters, IsProblemOf}
@@ -42,13 +42,13 @@ pub record AreParts (network : Network) (asked : Asked) (routers : List Router) 
 
 pub network_is : (First Later Both : List Taken → Type 0) (view : View) (names : InputFiles) (network : Network)
     (requests : Asked) (routers : List Router) (d : Database) (p : DesignProblem) →
-    ((xs ys : List Taken) → First xs → Later ys → Both (xs ++ ys)) → IsDatabase d → IsLawful requests →
+    ((xs ys : List Taken) → First xs → Later ys → Both (xs ++ ys)) → IsAreaDatabase d → IsLawful requests →
     AreParts network requests routers d p →
-    Gave First (λ came. IsReady (request_read names.request) came IsAsked requests) →
-    Gave Later (λ came. IsReady (configs_read names.configs) came AreRouters routers) →
-    IsReady (topology_read names requests.area routers) [] (λ made read. made ≡ read) d →
-    IsReady (problem_read view names requests d) [] (λ made read. made ≡ read) p →
-    Gave Both (λ came. IsReady (outcome view names) came (IsNetworkOf view names) network)
+    Gave First (λ came. IsReadAndMade (request_read names.request) came IsAsked requests) →
+    Gave Later (λ came. IsReadAndMade (configs_read names.configs) came AreRouters routers) →
+    IsReadAndMade (topology_read names requests.area routers) [] (λ made read. made ≡ read) d →
+    IsReadAndMade (problem_read view names requests d) [] (λ made read. made ≡ read) p →
+    Gave Both (λ came. IsReadAndMade (outcome view names) came (IsNetworkOf view names) network)
 network_is First Later Both view names network requests routers d p more base lawful parts a b made solved =
     gave_then First Later Both (request_read names.request) (after_request view names) IsAsked (IsNetworkOf view names) requests (Ok network) more a
     (λ asked same. gave_made Later (configs_read names.configs) (after_configs view names asked) AreRouters (IsNetworkOf view names) routers (Ok network) b
@@ -57,13 +57,13 @@ network_is First Later Both view names network requests routers d p more base la
     (moved asked files same are) (λ read is. said asked files read same are is)))
   where
     moved : (asked : Asked) (files : List ConfigFile) → requests ≡ asked → routers ≡ routers_of files →
-        IsReady (topology_read names asked.area (routers_of files)) [] (λ m read. m ≡ read) d
+        IsReadAndMade (topology_read names asked.area (routers_of files)) [] (λ m read. m ≡ read) d
     moved asked files same are =
-        subst (λ (x : Asked). IsReady (topology_read names x.area (routers_of files)) [] (λ m read. m ≡ read) d) same
-        (subst (λ (rs : List Router). IsReady (topology_read names requests.area rs) [] (λ m read. m ≡ read) d) are made)
+        subst (λ (x : Asked). IsReadAndMade (topology_read names x.area (routers_of files)) [] (λ m read. m ≡ read) d) same
+        (subst (λ (rs : List Router). IsReadAndMade (topology_read names requests.area rs) [] (λ m read. m ≡ read) d) are made)
 
     said : (asked : Asked) (files : List ConfigFile) (read : Database) → requests ≡ asked → routers ≡ routers_of files →
-        d ≡ read → IsReady (after_topology view names asked files read) [] (IsNetworkOf view names) network
+        d ≡ read → IsReadAndMade (after_topology view names asked files read) [] (IsNetworkOf view names) network
     said asked files read same are is =
         let x : Input = record { asked = asked; files = files; database = read; problem = solved.said } in
         let ends : EndsAs (problem_read view names asked read) [] (Says solved.said) =
@@ -83,7 +83,7 @@ network_is First Later Both view names network requests routers d p more base la
             lsdb = parts.lsdb ∙ is;
             problem = parts.problem ∙ solved.fits;
             asked = subst IsLawful same lawful;
-            base = subst IsDatabase is base;
+            base = subst IsAreaDatabase is base;
             faultless = whole.none;
             built = sym is ∙ built.fits ∙ whole.same;
             resolved = ready_is (problem_read view names asked read) solved.said ends;
@@ -92,7 +92,7 @@ network_is First Later Both view names network requests routers d p more base la
 
 -- its problem is that of the input
 pub problem_in : (Given : List Taken → Type 0) (view : View) (names : InputFiles) (network : Network) →
-    Gave Given (λ came. IsReady (outcome view names) came (IsNetworkOf view names) network) →
-    Gave Given (λ came. IsReady (outcome view names) came IsProblemOf network.problem)
+    Gave Given (λ came. IsReadAndMade (outcome view names) came (IsNetworkOf view names) network) →
+    Gave Given (λ came. IsReadAndMade (outcome view names) came IsProblemOf network.problem)
 problem_in Given view names network a =
     record { came = a.came; given = a.given; so = record { said = a.so.said; ends = a.so.ends; fits = (sym a.so.fits.problem, a.so.fits.base) } }

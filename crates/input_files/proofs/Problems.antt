@@ -4,15 +4,15 @@ use Rattle.std.specs.Prelude.{Vec}
 use Rattle.std.specs.declared.alloc.Global.{Global}
 use Rattle.cost_base.specs.Histories.{Taken}
 use Rattle.interface_model.specs.Records.{Router}
-use Rattle.lsdb_build.specs.Graphs.{Database, IsDatabase}
-use Rattle.path_rows.specs.Problems.{DesignProblem}
+use Rattle.lsdb_build.specs.Graphs.{Database, IsAreaDatabase}
+use Rattle.design_problem.specs.Problems.{DesignProblem}
 use Rattle.request_reader.specs.Asked.{Asked}
 use Rattle.input_files.specs.declared.stop.Stop.{Stop}
 use Rattle.input_files.specs.declared.problem.View.{View}
 use Rattle.input_files.specs.Inputs.{InputFiles}
 use Rattle.input_files.specs.Readings.{Reading, Ready, ◌>>=◌, Says, Gave}
 use Rattle.input_files.specs.Outcomes.{ConfigFile, Input, request_read, configs_read, routers_of, topology_read, problem_read, outcome}
-use Rattle.input_files.specs.Stops.{StopsAs, IsReady, IsReadAs}
+use Rattle.input_files.specs.Stops.{StopsAs, IsReadAndMade, IsReadAs}
 use Rattle.input_files.proofs.Readings.{ends_then}
 use Rattle.input_files.proofs.Stops.{stops_first, read_then, gave_then, gave_made, gave_stop}
 
@@ -31,7 +31,7 @@ after_request view names asked = configs_read names.configs >>= λ files. after_
 
 -- a problem is that of the input, whose database is one
 abbrev pub IsProblemOf : DesignProblem → Input → Type 0
-IsProblemOf p d = (d.problem ≡ p) × IsDatabase d.database
+IsProblemOf p d = (d.problem ≡ p) × IsAreaDatabase d.database
 
 abbrev pub IsAsked : Asked → Asked → Type 0
 IsAsked r asked = r ≡ asked
@@ -48,7 +48,7 @@ request_stops Given view names stop a = gave_stop Given (request_read names.requ
 -- what stops the configurations stops all
 pub configs_stop : (First Later Both : List Taken → Type 0) (view : View) (names : InputFiles) (requests : Asked)
     (stop : Stop) → ((xs ys : List Taken) → First xs → Later ys → Both (xs ++ ys)) →
-    Gave First (λ came. IsReady (request_read names.request) came IsAsked requests) →
+    Gave First (λ came. IsReadAndMade (request_read names.request) came IsAsked requests) →
     Gave Later (λ came. StopsAs (configs_read names.configs) came stop) →
     Gave Both (λ came. StopsAs (outcome view names) came stop)
 configs_stop First Later Both view names requests stop more a b =
@@ -58,8 +58,8 @@ configs_stop First Later Both view names requests stop more a b =
 -- what stops the topology stops all
 pub topology_stops : (First Later Both : List Taken → Type 0) (view : View) (names : InputFiles) (requests : Asked)
     (routers : List Router) (stop : Stop) → ((xs ys : List Taken) → First xs → Later ys → Both (xs ++ ys)) →
-    Gave First (λ came. IsReady (request_read names.request) came IsAsked requests) →
-    Gave Later (λ came. IsReady (configs_read names.configs) came AreRouters routers) →
+    Gave First (λ came. IsReadAndMade (request_read names.request) came IsAsked requests) →
+    Gave Later (λ came. IsReadAndMade (configs_read names.configs) came AreRouters routers) →
     StopsAs (topology_read names requests.area routers) [] stop → Gave Both (λ came. StopsAs (outcome view names) came stop)
 topology_stops First Later Both view names requests routers stop more a b h =
     gave_then First Later Both (request_read names.request) (after_request view names) IsAsked IsProblemOf requests (Err stop) more a
@@ -69,7 +69,7 @@ topology_stops First Later Both view names requests routers stop more a b h =
     (subst (λ (rs : List Router). StopsAs (topology_read names requests.area rs) [] stop) are h))))
 
 problem_of_input : (view : View) (names : InputFiles) (asked : Asked) (files : List ConfigFile) (d : Database)
-    (result : Result DesignProblem Stop) → IsDatabase d →
+    (result : Result DesignProblem Stop) → IsAreaDatabase d →
     IsReadAs (problem_read view names asked d) [] (λ p read. p ≡ read) result → IsReadAs (after_topology view names asked files d) [] IsProblemOf result
 problem_of_input view names asked files d (Ok p) base h =
     let x : Input = record { asked = asked; files = files; database = d; problem = h.said } in
@@ -86,10 +86,10 @@ problem_of_input view names asked files d (Err stop) base h =
 -- the problem that was made, or what stopped it, is as the files say
 pub problem_is : (First Later Both : List Taken → Type 0) (view : View) (names : InputFiles) (requests : Asked)
     (routers : List Router) (d : Database) (result : Result DesignProblem Stop) →
-    ((xs ys : List Taken) → First xs → Later ys → Both (xs ++ ys)) → IsDatabase d →
-    Gave First (λ came. IsReady (request_read names.request) came IsAsked requests) →
-    Gave Later (λ came. IsReady (configs_read names.configs) came AreRouters routers) →
-    IsReady (topology_read names requests.area routers) [] (λ made read. made ≡ read) d →
+    ((xs ys : List Taken) → First xs → Later ys → Both (xs ++ ys)) → IsAreaDatabase d →
+    Gave First (λ came. IsReadAndMade (request_read names.request) came IsAsked requests) →
+    Gave Later (λ came. IsReadAndMade (configs_read names.configs) came AreRouters routers) →
+    IsReadAndMade (topology_read names requests.area routers) [] (λ made read. made ≡ read) d →
     IsReadAs (problem_read view names requests d) [] (λ p read. p ≡ read) result →
     Gave Both (λ came. IsReadAs (outcome view names) came IsProblemOf result)
 problem_is First Later Both view names requests routers d result more base a b made solved =
@@ -97,17 +97,17 @@ problem_is First Later Both view names requests routers d result more base a b m
     (λ asked same. gave_made Later (configs_read names.configs) (after_configs view names asked) AreRouters IsProblemOf routers result b
     (λ files are. read_then (topology_read names asked.area (routers_of files)) (after_topology view names asked files)
     [] [] (λ m read. m ≡ read) IsProblemOf d result
-    (subst (λ (x : Asked). IsReady (topology_read names x.area (routers_of files)) [] (λ m read. m ≡ read) d) same
+    (subst (λ (x : Asked). IsReadAndMade (topology_read names x.area (routers_of files)) [] (λ m read. m ≡ read) d) same
     (subst (λ (rs : List Router).
-    IsReady (topology_read names requests.area rs) [] (λ m read. m ≡ read) d) are made))
-    (λ read is. problem_of_input view names asked files read result (subst (λ (e : Database). IsDatabase e) is base)
+    IsReadAndMade (topology_read names requests.area rs) [] (λ m read. m ≡ read) d) are made))
+    (λ read is. problem_of_input view names asked files read result (subst (λ (e : Database). IsAreaDatabase e) is base)
     (subst (λ (e : Database). IsReadAs (problem_read view names asked e) [] (λ p q. p ≡ q) result) is
     (subst (λ (x : Asked). IsReadAs (problem_read view names x d) [] (λ p q. p ≡ q) result) same solved)))))
 
 -- what the vector of routers holds was read
 pub routers_of_vector : (Given : List Taken → Type 0) (names : InputFiles) (configs : Vec Router Global) (routers : List Router) → routers ≡ configs.items →
-    Gave Given (λ came. IsReady (configs_read names.configs) came
+    Gave Given (λ came. IsReadAndMade (configs_read names.configs) came
     (λ (v : Vec Router Global) files. v.items ≡ routers_of files) configs) →
-    Gave Given (λ came. IsReady (configs_read names.configs) came AreRouters routers)
+    Gave Given (λ came. IsReadAndMade (configs_read names.configs) came AreRouters routers)
 routers_of_vector Given names configs routers same a =
     record { came = a.came; given = a.given; so = record { said = a.so.said; ends = a.so.ends; fits = same ∙ a.so.fits } }

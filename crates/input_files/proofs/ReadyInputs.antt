@@ -1,36 +1,114 @@
 -- What is known of well-formed input whose interfaces are free as requested.
-use Rattle.std.proofs.Common.{◌≡◌, sym, subst, List, [], ◌∷◌, Option, Some, None}
+use Rattle.std.proofs.Common.{◌≡◌, refl, sym, subst, get_or, List, ℕ, [], ◌∷◌, Option, Some, None, All}
+use Rattle.std.specs.Prelude.{Result, Ok, Err}
+use Rattle.std.proofs.lemmas.List.Elements.{All-nil, All-cons, All-map}
+use Rattle.cost_base.specs.declared.ShelfStop.{ShelfStop}
+use Rattle.cost_base.specs.declared.ShelfStop.TheVariants as stop
 use Rattle.cost_base.specs.Histories.{Taken}
-use Rattle.lsdb_build.specs.Graphs.{Database}
+use Rattle.text_lines.specs.LineFaults.{FaultyLine}
+use Rattle.interface_model.specs.Records.{Router, IsRouter}
+use Rattle.config_reader.specs.FaultList.{Fault, config_fault}
+use Rattle.config_reader.specs.Configs.{config_of}
+use Rattle.config_reader.proofs.AcceptedRecords.{accepted_keeps}
+use Rattle.lsdb_build.specs.Graphs.{Database, IsAreaDatabase}
 use Rattle.lsdb_build.specs.Topology.{FaultyPlace, topology_fault, database_of}
-use Rattle.path_rows.specs.Problems.{DesignProblem}
-use Rattle.request_reader.specs.Asked.{Asked}
+use Rattle.lsdb_build.proofs.Databases.{database_is}
+use Rattle.design_problem.specs.Problems.{DesignProblem, IsProblem}
+use Rattle.request_reader.specs.declared.stop.RequestFault.{RequestFault}
+use Rattle.request_reader.specs.Asked.{Asked, IsAsked}
+use Rattle.request_reader.specs.Reading.{request_fault, asked_by}
+use Rattle.request_reader.proofs.AskedRules.{asked_keeps}
 use Rattle.path_requests.specs.Meaning.{problem_of}
+use Rattle.path_requests.proofs.ResolvedProblems.{resolved_is_problem}
 use Rattle.wanted_paths.specs.declared.stop.ResolutionFault.{ResolutionFault}
 use Rattle.path_requests.specs.Resolving.{resolution_fault}
 use Rattle.input_files.specs.declared.problem.View.TheVariants.{AsRequested}
 use Rattle.input_files.specs.Inputs.{InputFiles}
-use Rattle.input_files.specs.Readings.{Reading, Ready, ◌>>=◌, Says, EndsAs}
-use Rattle.input_files.proofs.Readings.{one_said, said_faulty, was_read}
-use Rattle.input_files.specs.Outcomes.{ConfigFile, Input, request_read, configs_read, routers_of, if_faultless, topology_read, if_resolved, problem_read, outcome}
+use Rattle.input_files.specs.Readings.{Reading, Ready, ◌>>=◌, Says, End, Faulty, Failed, EndsAs, OnCame, too_long}
+use Rattle.input_files.proofs.Readings.{one_said, said_faulty, said_failed, was_read}
+use Rattle.input_files.specs.Outcomes.{ConfigFile, Input, request_read, if_asked, config_read, if_config, configs_read, routers_of, if_faultless, topology_read, if_resolved, problem_read, outcome}
 
--- the database is that of the configurations, and the problem that of the requests
+-- no configuration and not the topology has a fault; the database is that of the configurations, and the problem that of
+-- the requests
 pub record IsReadyInput (d : Input) : Type 0 where
+  pub accepted : All (λ file. config_fault file.name file.bytes ≡ None) d.files
+  pub faultless : topology_fault d.asked.area (routers_of d.files) ≡ None
   pub database_is : d.database ≡ database_of d.asked.area (routers_of d.files)
+  pub base : IsAreaDatabase d.database
   pub problem_is : d.problem ≡ problem_of d.asked d.database
+  pub kept : IsProblem d.problem
+
+-- a file whose bytes say something came whole
+pub came_whole : {A B : Type 0} (came : Result (List ℕ) ShelfStop) (next : List ℕ → Reading A) (more : List Taken) (x : A) (name : List ℕ) →
+    OnCame came (λ bytes. EndsAs (next bytes) more (Says x)) ((more ≡ []) × (Says x ≡ Faulty (too_long name)))
+    ((more ≡ []) × (Says x ≡ Failed name)) → ((bytes : List ℕ) → EndsAs (next bytes) more (Says x) → B) → B
+came_whole (Ok bytes) next more x name is so = so bytes is
+came_whole (Err stop.TooLong) next more x name is so = absurd (said_faulty x (too_long name) is.1)
+came_whole (Err stop.Failed) next more x name is so = absurd (said_failed x name is.1)
+came_whole (Err stop.OutOfMemory) next more x name is so = absurd is
+
+asked_ready : (name bytes : List ℕ) (o : Option (FaultyLine RequestFault)) (came : List Taken) (asked : Asked) →
+    request_fault bytes ≡ o → EndsAs (if_asked name bytes o) came (Says asked) → IsAsked asked
+asked_ready name bytes (Some faulty) [] asked fault is = absurd (said_faulty asked _ is)
+asked_ready name bytes (Some faulty) (taken ∷ more) asked fault is = absurd is
+asked_ready name bytes None [] asked fault is = subst IsAsked (sym (one_said asked (asked_by bytes) is)) (asked_keeps bytes fault)
+asked_ready name bytes None (taken ∷ more) asked fault is = absurd is
+
+request_ready : (name : List ℕ) (came : List Taken) (asked : Asked) → EndsAs (request_read name) came (Says asked) → IsAsked asked
+request_ready name [] asked is = absurd is
+request_ready name (taken ∷ more) asked is =
+    came_whole taken.came (λ bytes. if_asked name bytes (request_fault bytes)) more asked name is.2
+    (λ bytes ends. asked_ready name bytes (request_fault bytes) more asked refl ends)
+
+config_ready : (name bytes : List ℕ) (o : Option Fault) (came : List Taken) (file : ConfigFile) →
+    config_fault name bytes ≡ o → EndsAs (if_config name bytes o) came (Says file) → config_fault file.name file.bytes ≡ None
+config_ready name bytes (Some faulty) [] file fault is = absurd (said_faulty file _ is)
+config_ready name bytes (Some faulty) (taken ∷ more) file fault is = absurd is
+config_ready name bytes None [] file fault is =
+    subst (λ (f : ConfigFile). config_fault f.name f.bytes ≡ None) (sym (one_said file (record { name = name; bytes = bytes }) is)) fault
+config_ready name bytes None (taken ∷ more) file fault is = absurd is
+
+file_ready : (name : List ℕ) (came : List Taken) (file : ConfigFile) → EndsAs (config_read name) came (Says file) →
+    config_fault file.name file.bytes ≡ None
+file_ready name [] file is = absurd is
+file_ready name (taken ∷ more) file is =
+    came_whole taken.came (λ bytes. if_config name bytes (config_fault name bytes)) more file name is.2
+    (λ bytes ends. config_ready name bytes (config_fault name bytes) more file refl ends)
+
+abbrev AreAccepted : List ConfigFile → Type 0
+AreAccepted files = All (λ (file : ConfigFile). config_fault file.name file.bytes ≡ None) files
+
+-- that a list is ready
+list_ready : {X : Type 0} (P : List X → Type 0) (made xs : List X) (came : List Taken) → EndsAs (Ready made) came (Says xs) → P made → P xs
+list_ready P made xs [] is holds = subst P (sym (one_said xs made is)) holds
+list_ready P made xs (taken ∷ more) is holds = absurd is
+
+files_ready : (names : List (List ℕ)) (came : List Taken) (files : List ConfigFile) → EndsAs (configs_read names) came (Says files) → AreAccepted files
+files_ready [] came files is = list_ready AreAccepted [] files came is (All-nil (λ (file : ConfigFile). config_fault file.name file.bytes ≡ None))
+files_ready (name ∷ names) came files is =
+    let first = was_read (config_read name) (λ file. configs_read names >>= λ others. Ready (file ∷ others)) came files is in
+    let rest = was_read (configs_read names) (λ others. Ready (first.value ∷ others)) first.later files first.then_said in
+    list_ready AreAccepted (first.value ∷ rest.value) files rest.later rest.then_said
+    (All-cons (λ (file : ConfigFile). config_fault file.name file.bytes ≡ None) first.value rest.value
+    (file_ready name first.first first.value first.said) (files_ready names rest.first rest.value rest.said))
+
+-- what such configurations say are routers
+routers_kept : (files : List ConfigFile) → AreAccepted files → All IsRouter (routers_of files)
+routers_kept files accepted = All-map IsRouter (λ (file : ConfigFile). config_of file.name file.bytes) files
+    (λ k file within. accepted_keeps (get_or files k file).name (get_or files k file).bytes (accepted k file within))
 
 topology_ready : (names : InputFiles) (made d : Database) (o : Option FaultyPlace) (came : List Taken) →
-    EndsAs (if_faultless names made o) came (Says d) → d ≡ made
+    EndsAs (if_faultless names made o) came (Says d) → (o ≡ None) × (d ≡ made)
 topology_ready names made d (Some fault) [] is = absurd (said_faulty d _ is)
 topology_ready names made d (Some fault) (taken ∷ more) is = absurd is
-topology_ready names made d None [] is = one_said d made is
+topology_ready names made d None [] is = (refl, one_said d made is)
 topology_ready names made d None (taken ∷ more) is = absurd is
 
 problem_ready : (names : InputFiles) (d : Database) (made p : DesignProblem) (o : Option ResolutionFault)
-    (came : List Taken) → EndsAs (if_resolved names d made o) came (Says p) → p ≡ made
+    (came : List Taken) → EndsAs (if_resolved names d made o) came (Says p) → (o ≡ None) × (p ≡ made)
 problem_ready names d made p (Some fault) [] is = absurd (said_faulty p _ is)
 problem_ready names d made p (Some fault) (taken ∷ more) is = absurd is
-problem_ready names d made p None [] is = one_said p made is
+problem_ready names d made p None [] is = (refl, one_said p made is)
 problem_ready names d made p None (taken ∷ more) is = absurd is
 
 input_ready : (made d : Input) (came : List Taken) → EndsAs (Ready made) came (Says d) → IsReadyInput made → IsReadyInput d
@@ -59,10 +137,20 @@ ready_is names d came is =
     (after_topology names asked.value files.value) files.later d files.then_said in
     let problem = was_read (problem_read AsRequested names asked.value base.value)
     (after_problem asked.value files.value base.value) base.later d base.then_said in
+    let accepted = files_ready names.configs files.first files.value files.said in
+    let built = topology_ready names (database_of asked.value.area (routers_of files.value)) base.value
+    (topology_fault asked.value.area (routers_of files.value)) base.first base.said in
+    let database : IsAreaDatabase base.value = subst IsAreaDatabase (sym built.1)
+    (database_is asked.value.area (routers_of files.value) built.0 (routers_kept files.value accepted)) in
+    let made = problem_ready names base.value (problem_of asked.value base.value) problem.value
+    (resolution_fault asked.value base.value) problem.first problem.said in
     input_ready (record { asked = asked.value; files = files.value; database = base.value; problem = problem.value }) d problem.later problem.then_said
     (record {
-      database_is = topology_ready names (database_of asked.value.area (routers_of files.value)) base.value
-          (topology_fault asked.value.area (routers_of files.value)) base.first base.said;
-      problem_is = problem_ready names base.value (problem_of asked.value base.value) problem.value
-          (resolution_fault asked.value base.value) problem.first problem.said;
+      accepted = accepted;
+      faultless = built.0;
+      database_is = built.1;
+      base = database;
+      problem_is = made.1;
+      kept = subst IsProblem (sym made.1)
+          (resolved_is_problem asked.value base.value (request_ready names.request asked.first asked.value asked.said) database made.0);
     })

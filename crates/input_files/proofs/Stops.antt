@@ -8,7 +8,7 @@ use Rattle.input_files.specs.declared.stop.Stop.{Stop}
 use Rattle.input_files.specs.declared.stop.Stop.TheVariants as stops
 use Rattle.input_files.specs.Readings.{Reading, ◌>>=◌, Says, Faulty, Failed, EndsAs, Gave}
 use Rattle.input_files.specs.Outcomes.{file_read}
-use Rattle.input_files.specs.Stops.{StopsAs, IsReady, IsReadAs, file_stop, refusal_in}
+use Rattle.input_files.specs.Stops.{StopsAs, IsReadAndMade, IsReadAs, file_stop, refusal_in}
 use Rattle.input_files.proofs.Readings.{ends_then, ends_faulty, ends_failed}
 
 -- what stops the one reading stops both
@@ -26,7 +26,7 @@ stops_then m f xs ys x stops.OutOfMemory first h = tt
 
 -- what was read of both readings is what both say
 pub read_then : {A B T U : Type 0} (m : Reading A) (f : A → Reading B) (xs ys : List Taken) (Fits : T → A → Type 0)
-    (Suits : U → B → Type 0) (made : T) (result : Result U Stop) → IsReady m xs Fits made →
+    (Suits : U → B → Type 0) (made : T) (result : Result U Stop) → IsReadAndMade m xs Fits made →
     ((x : A) → Fits made x → IsReadAs (f x) ys Suits result) → IsReadAs (m >>= f) (xs ++ ys) Suits result
 read_then m f xs ys Fits Suits made (Ok other) ready h =
     let then_ready = h ready.said ready.fits in
@@ -36,7 +36,7 @@ read_then m f xs ys Fits Suits made (Err stop) ready h = stops_then m f xs ys re
 -- of files that were asked for one after another
 pub gave_then : {A B T U : Type 0} (First Later Both : List Taken → Type 0) (m : Reading A) (f : A → Reading B)
     (Fits : T → A → Type 0) (Suits : U → B → Type 0) (made : T) (result : Result U Stop) →
-    ((xs ys : List Taken) → First xs → Later ys → Both (xs ++ ys)) → Gave First (λ came. IsReady m came Fits made) →
+    ((xs ys : List Taken) → First xs → Later ys → Both (xs ++ ys)) → Gave First (λ came. IsReadAndMade m came Fits made) →
     ((x : A) → Fits made x → Gave Later (λ came. IsReadAs (f x) came Suits result)) →
     Gave Both (λ came. IsReadAs (m >>= f) came Suits result)
 gave_then First Later Both m f Fits Suits made result more a h =
@@ -52,7 +52,7 @@ gave_then First Later Both m f Fits Suits made result more a h =
 -- of files, and then of what they say alone
 pub gave_made : {A B T U : Type 0} (Given : List Taken → Type 0) (m : Reading A) (f : A → Reading B) (Fits : T → A →
     Type 0) (Suits : U → B → Type 0) (made : T) (result : Result U Stop) →
-    Gave Given (λ came. IsReady m came Fits made) → ((x : A) → Fits made x → IsReadAs (f x) [] Suits result) →
+    Gave Given (λ came. IsReadAndMade m came Fits made) → ((x : A) → Fits made x → IsReadAs (f x) [] Suits result) →
     Gave Given (λ came. IsReadAs (m >>= f) came Suits result)
 gave_made Given m f Fits Suits made result a h =
     record {

@@ -8,8 +8,8 @@ abbrev pub text_named : List (List ℕ × List ℕ) → List ℕ → List ℕ
 text_named texts name = or_empty (first_file texts name)
 
 -- the end of a reading to which each file is the text of its name
-abbrev pub end_on : {A : Type 0} → List (List ℕ × List ℕ) → Reading A → End A
-end_on texts (Ready x) = Says x
-end_on texts (Refused r) = Faulty r
-end_on texts (Take name most next) =
-    if nat_le (length (text_named texts name)) most then end_on texts (next (text_named texts name)) else Faulty (too_long name)
+abbrev pub end_of_reading : {A : Type 0} → List (List ℕ × List ℕ) → Reading A → End A
+end_of_reading texts (Ready x) = Says x
+end_of_reading texts (Refused r) = Faulty r
+end_of_reading texts (Take name most next) =
+    if nat_le (length (text_named texts name)) most then end_of_reading texts (next (text_named texts name)) else Faulty (too_long name)

@@ -6,5 +6,6 @@ pub record InputFiles : Type 0 where
   pub request : List ℕ
   pub configs : List (List ℕ)
 
+-- the names of all files: the request file, then the configurations
 abbrev pub names_of : InputFiles → List (List ℕ)
 names_of files = files.request ∷ files.configs

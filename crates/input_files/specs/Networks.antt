@@ -1,6 +1,6 @@
 -- What the files of a network say, with all that is made of them on the way to the problem.
 use Rattle.std.specs.Prelude.{◌≡◌, None}
-use Rattle.lsdb_build.specs.Graphs.{IsDatabase}
+use Rattle.lsdb_build.specs.Graphs.{IsAreaDatabase}
 use Rattle.lsdb_build.specs.Topology.{topology_fault, database_of}
 use Rattle.request_reader.specs.Asked.{IsAsked}
 use Rattle.input_files.specs.declared.problem.View.{View}
@@ -16,7 +16,7 @@ pub record IsNetworkOf (view : View) (names : InputFiles) (network : Network) (d
   pub lsdb : network.lsdb ≡ d.database
   pub problem : network.problem ≡ d.problem
   pub asked : IsAsked d.asked
-  pub base : IsDatabase d.database
+  pub base : IsAreaDatabase d.database
   pub faultless : topology_fault d.asked.area (routers_of d.files) ≡ None
   pub built : d.database ≡ database_of d.asked.area (routers_of d.files)
   pub resolved : problem_read view names d.asked d.database ≡ Ready d.problem

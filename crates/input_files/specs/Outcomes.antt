@@ -8,7 +8,7 @@ use Rattle.lsdb_build.specs.declared.Linked.{Linked}
 use Rattle.lsdb_build.specs.Graphs.{Database}
 use Rattle.lsdb_build.specs.FaultNumbers.{number_of as number_of_topology}
 use Rattle.lsdb_build.specs.Topology.{FaultyPlace, topology_fault, database_of}
-use Rattle.path_rows.specs.Problems.{DesignProblem}
+use Rattle.design_problem.specs.Problems.{DesignProblem}
 use Rattle.text_lines.specs.LineFaults.{FaultyLine}
 use Rattle.request_reader.specs.declared.stop.RequestFault.{RequestFault}
 use Rattle.request_reader.specs.Asked.{Asked}
@@ -16,7 +16,7 @@ use Rattle.path_requests.specs.Meaning.{problem_of}
 use Rattle.request_reader.specs.FaultNumbers.{number_of as number_of_request}
 use Rattle.request_reader.specs.Reading.{request_fault, asked_by}
 use Rattle.wanted_paths.specs.declared.stop.ResolutionFault.{ResolutionFault}
-use Rattle.wanted_paths.specs.declared.stop.ResolutionFault.TheVariants.{UnknownRouter, UnknownInterface, NotALink, BrokenPath, LoopPath, PathGone, EndsDiffer, TooManyVariables, NoCost}
+use Rattle.wanted_paths.specs.declared.stop.ResolutionFault.TheVariants.{UnknownRouter, UnknownInterface, NotALink, BrokenPath, LoopPath, PathExcluded, EndsDiffer, TooManyVariables, NoCost}
 use Rattle.wanted_paths.specs.FaultNumbers.{number_of}
 use Rattle.path_requests.specs.Resolving.{resolution_fault, present_fault, present_problem_of}
 use Rattle.input_files.specs.declared.problem.View.{View}
@@ -48,6 +48,7 @@ longest_answer = 1073741824
 abbrev pub file_read : ℕ → List ℕ → Reading (List ℕ)
 file_read most name = Take name most (λ bytes. Ready bytes)
 
+-- what a request file asks for, or its first fault
 abbrev pub if_asked : List ℕ → List ℕ → Option (FaultyLine RequestFault) → Reading Asked
 if_asked name bytes None = Ready (asked_by bytes)
 if_asked name bytes (Some faulty) = Refused (record { number = number_of_request faulty.fault; file = name; line = faulty.line })
@@ -56,6 +57,7 @@ if_asked name bytes (Some faulty) = Refused (record { number = number_of_request
 abbrev pub request_read : List ℕ → Reading Asked
 request_read name = file_read longest_file name >>= λ bytes. if_asked name bytes (request_fault bytes)
 
+-- a configuration without a fault, or its first fault
 abbrev pub if_config : List ℕ → List ℕ → Option Fault → Reading ConfigFile
 if_config name bytes None = Ready (record { name = name; bytes = bytes })
 if_config name bytes (Some fault) = Refused (record { number = number_of_config fault.fault; file = name; line = fault.line })
@@ -70,6 +72,7 @@ configs_read [] = Ready []
 configs_read (name ∷ names) =
     config_read name >>= λ file. configs_read names >>= λ files. Ready (file ∷ files)
 
+-- the routers that configurations say
 abbrev pub routers_of : List ConfigFile → List Router
 routers_of files = map (λ file. config_of file.name file.bytes) files
 
@@ -77,6 +80,7 @@ routers_of files = map (λ file. config_of file.name file.bytes) files
 abbrev pub file_of : InputFiles → ℕ → List ℕ
 file_of names router = slice_index_or names.configs router names.request
 
+-- the database of an area, or the first fault of its topology
 abbrev pub if_faultless : InputFiles → Database → Option FaultyPlace → Reading Database
 if_faultless names d None = Ready d
 if_faultless names d (Some place) = Refused (record { number = number_of_topology place.fault; file = file_of names place.config; line = place.line })
@@ -91,19 +95,19 @@ pub record FilePlace : Type 0 where
   pub line : ℕ
 
 -- an interface without a cost is refused at its first head
-abbrev pub head_of : InputFiles → Option Linked → FilePlace
-head_of names None = record { file = names.request; line = 0 }
-head_of names (Some link) = record { file = file_of names link.router; line = link.line }
+abbrev pub place_of_head : InputFiles → Option Linked → FilePlace
+place_of_head names None = record { file = names.request; line = 0 }
+place_of_head names (Some link) = record { file = file_of names link.router; line = link.line }
 
 -- the place of a fault of resolution: a line of the request, but for an interface without a cost
 abbrev pub resolution_place : InputFiles → Database → ResolutionFault → FilePlace
-resolution_place names d (NoCost link) = head_of names (slice_get d.links link)
+resolution_place names d (NoCost link) = place_of_head names (slice_get d.links link)
 resolution_place names d (UnknownRouter line) = record { file = names.request; line = line }
 resolution_place names d (UnknownInterface line) = record { file = names.request; line = line }
 resolution_place names d (NotALink line) = record { file = names.request; line = line }
 resolution_place names d (BrokenPath line hop) = record { file = names.request; line = line }
 resolution_place names d (LoopPath line) = record { file = names.request; line = line }
-resolution_place names d (PathGone line) = record { file = names.request; line = line }
+resolution_place names d (PathExcluded line) = record { file = names.request; line = line }
 resolution_place names d (EndsDiffer line) = record { file = names.request; line = line }
 resolution_place names d TooManyVariables = record { file = names.request; line = 0 }
 
@@ -112,6 +116,7 @@ abbrev pub resolution_refusal : InputFiles → Database → ResolutionFault → 
 resolution_refusal names d fault =
     record { number = number_of fault; file = (resolution_place names d fault).file; line = (resolution_place names d fault).line }
 
+-- the problem, or the first fault of resolution
 abbrev pub if_resolved : InputFiles → Database → DesignProblem → Option ResolutionFault → Reading DesignProblem
 if_resolved names d p None = Ready p
 if_resolved names d p (Some fault) = Refused (resolution_refusal names d fault)

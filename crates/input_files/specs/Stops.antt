@@ -18,7 +18,7 @@ use Rattle.input_files.specs.FaultNumbers.{number_of as number_of_file}
 use Rattle.config_reader.specs.FaultNumbers.{number_of as number_of_config}
 use Rattle.lsdb_build.specs.FaultNumbers.{number_of as number_of_topology}
 use Rattle.request_reader.specs.FaultNumbers.{number_of as number_of_request}
-use Rattle.command_words.specs.Words.{texts}
+use Rattle.text_lines.specs.Arguments.{texts}
 use Rattle.input_files.specs.declared.stop.Stop.{Stop}
 use Rattle.input_files.specs.declared.stop.Stop.TheVariants.{Refused, ReadFault, OutOfMemory}
 use Rattle.input_files.specs.declared.reading.FileWords.{FileWords}
@@ -30,6 +30,7 @@ use Rattle.input_files.specs.Outcomes.{file_of, resolution_refusal}
 abbrev pub files_named : FileWords → InputFiles
 files_named words = record { request = words.request.now; configs = texts words.configs.now }
 
+-- a refusal by its number, its file and its line
 abbrev pub refusal_in : ℕ → Bor (List ℕ) → ℕ → Refusal
 refusal_in number file line = record { number = number; file = file.now; line = line }
 
@@ -40,14 +41,14 @@ StopsAs reading came (ReadFault file) = EndsAs reading came (Failed file.now)
 StopsAs reading came OutOfMemory = Unit {0}
 
 -- what came of the files says this, of which the code made a result that Fits it
-pub record IsReady {A T : Type 0} (reading : Reading A) (came : List Taken) (Fits : T → A → Type 0) (made : T) : Type 0 where
+pub record IsReadAndMade {A T : Type 0} (reading : Reading A) (came : List Taken) (Fits : T → A → Type 0) (made : T) : Type 0 where
   pub said : A
   pub ends : EndsAs reading came (Says said)
   pub fits : Fits made said
 
 -- what was read, or what stopped it, is as what came of the files says
 abbrev pub IsReadAs : {A T : Type 0} → Reading A → List Taken → (T → A → Type 0) → Result T Stop → Type 0
-IsReadAs reading came Fits (Ok made) = IsReady reading came Fits made
+IsReadAs reading came Fits (Ok made) = IsReadAndMade reading came Fits made
 IsReadAs reading came Fits (Err stop) = StopsAs reading came stop
 
 -- the stop of a file that wasn't read

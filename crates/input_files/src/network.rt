@@ -9,17 +9,17 @@ use crate::problem::{View, resolution, topology};
 use crate::reading::{FileWords, read_configs, read_request};
 use crate::stop::Stop;
 use cost_base::Shelf;
+use design_problem::Problem;
 use interface_model::RouterConfig;
 use lsdb_build::Lsdb;
-use path_rows::Problem;
-use request_reader::Requests;
+use request_reader::RequestFile;
 use std::alloc::Global;
 
 /// A network as its files say it.
 #[derive(Drop)]
 pub struct Network {
     /// What the request asks for.
-    pub requests: Requests,
+    pub requests: RequestFile,
     /// What the configurations say, in their order.
     pub configs: Vec<RouterConfig>,
     /// The routers, links and transit subnets of the area.

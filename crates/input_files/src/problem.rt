@@ -1,6 +1,6 @@
 //! The problem that the files of words make: the request, the configurations, the topology, resolution.
 ghost use Rattle.std.specs.Prelude.{◌≡◌, ℕ, List, [], IfOk};
-ghost use Rattle.lsdb_build.specs.Graphs.{IsDatabase};
+ghost use Rattle.lsdb_build.specs.Graphs.{IsAreaDatabase};
 ghost use Rattle.input_files.specs.Readings.{Gave};
 ghost use Rattle.input_files.specs.Outcomes.{outcome, topology_read, problem_read, file_of, resolution_place};
 ghost use Rattle.input_files.specs.Stops.{IsReadAs, files_named, topology_stop, resolution_stop};
@@ -9,11 +9,11 @@ use crate::network::read_network;
 use crate::reading::FileWords;
 use crate::stop::Stop;
 use cost_base::Shelf;
+use design_problem::Problem;
 use interface_model::RouterConfig;
 use lsdb_build::{Lsdb, TopologyStop, build};
 use path_requests::{resolve, resolve_present};
-use path_rows::Problem;
-use request_reader::Requests;
+use request_reader::RequestFile;
 use std::alloc::Global;
 use wanted_paths::{ResolutionFault, ResolutionStop};
 
@@ -103,7 +103,7 @@ fn stop_of_resolution<'a>(stop: ResolutionStop, lsdb: &Lsdb, words: FileWords<'a
 /// The problem that requests make of a topology, with the interfaces that they free.
 fn resolution_as_requested<'a>(
     alloc: Global,
-    requests: &Requests,
+    requests: &RequestFile,
     lsdb: &Lsdb,
     words: FileWords<'a>,
 ) -> Result<Problem, Stop<'a>>
@@ -118,7 +118,7 @@ fn resolution_as_requested<'a>(
 /// The problem that requests make of a topology at present costs.
 fn resolution_at_present<'a>(
     alloc: Global,
-    requests: &Requests,
+    requests: &RequestFile,
     lsdb: &Lsdb,
     words: FileWords<'a>,
 ) -> Result<Problem, Stop<'a>>
@@ -135,7 +135,7 @@ fn resolution_at_present<'a>(
 pub(crate) fn resolution<'a>(
     alloc: Global,
     view: View,
-    requests: &Requests,
+    requests: &RequestFile,
     lsdb: &Lsdb,
     words: FileWords<'a>,
 ) -> Result<Problem, Stop<'a>>
@@ -161,7 +161,7 @@ pub fn read_problem<'a, S: Shelf>(
 ) -> Result<Problem, Stop<'a>>
     ensures present { IfOk result (λ p. view ≡ View.AtPresent → p.low ≡ []) }
     ensures read { Gave (S.gave shelf.old shelf.new)
-        (λ came. IsReadAs (outcome view (files_named words.entry)) came (λ p d. (d.problem ≡ p) × IsDatabase d.database) result) }
+        (λ came. IsReadAs (outcome view (files_named words.entry)) came (λ p d. (d.problem ≡ p) × IsAreaDatabase d.database) result) }
 {
     let network = read_network(alloc, view, words, shelf)?;
     Ok(network.problem)

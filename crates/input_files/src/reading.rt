@@ -1,7 +1,7 @@
 //! Reading the files that words name, in their order.
 ghost use Rattle.std.specs.Prelude.{◌≡◌, ℕ, List, ◌≤◌, ◌<◌, ◌^◌, IfOk, length};
 ghost use Rattle.config_reader.specs.Configs.{config_of};
-ghost use Rattle.command_words.specs.Words.{texts};
+ghost use Rattle.text_lines.specs.Arguments.{texts};
 ghost use Rattle.input_files.specs.Readings.{Gave};
 ghost use Rattle.input_files.specs.Outcomes.{longest_answer, file_read, request_read, configs_read, config_read, routers_of};
 ghost use Rattle.input_files.specs.Stops.{IsReadAs, file_stop, request_stop, config_stop};
@@ -10,7 +10,7 @@ use crate::stop::{FileFault, Stop};
 use config_reader::ConfigStop;
 use cost_base::{Shelf, ShelfStop};
 use interface_model::RouterConfig;
-use request_reader::{RequestStop, Requests, read_requests};
+use request_reader::{RequestFile, RequestStop, read_requests};
 use std::alloc::Global;
 use std::marker::Model;
 
@@ -85,7 +85,7 @@ pub(crate) fn read_request<'a, S: Shelf>(
     alloc: Global,
     shelf: &mut S,
     name: &'a str,
-) -> Result<Requests, Stop<'a>>
+) -> Result<RequestFile, Stop<'a>>
     ensures { Gave (S.gave shelf.old shelf.new) (λ came. IsReadAs (request_read name.now) came (λ r asked. r ≡ asked) result) }
 {
     let bytes = read_file(alloc, shelf, name, LONGEST_FILE)?;

@@ -7,7 +7,7 @@ use Rattle.whole_numbers.proofs.FractionLaws.{product_positive}
 use Rattle.whole_numbers.proofs.Ring.{var, num, ◌⊖◌, ◌⊗◌, ring_by, using, nothing}
 use Rattle.whole_numbers.specs.Lists.{number_at}
 use Rattle.integer_pivots.specs.Leads.{AreLeads, AreZeros, IsLead}
-use Rattle.integer_pivots.specs.Turns.{AreTurnedRows, IsTurned, turn_of}
+use Rattle.integer_pivots.specs.Turns.{AreTurnedRows, IsNumberTurned, turn_of}
 use Rattle.integer_pivots.proofs.WrittenPlaces.{written_more}
 
 some_size : (a : ℤ) → a ≢ pos 0 → 0 < nat_abs a
@@ -27,7 +27,7 @@ other_zero a b e some =
     no_size z none = omega (arith, ints)
 
 -- a number that has turned: none stays none where nothing stands along or across, and one stays
-none_left : (p d y r z x : ℤ) → d ≢ pos 0 → z ≡ pos 0 → (y *ℤ r) ≡ pos 0 → IsTurned (turn_of p d r) z y x → x ≡ pos 0
+none_left : (p d y r z x : ℤ) → d ≢ pos 0 → z ≡ pos 0 → (y *ℤ r) ≡ pos 0 → IsNumberTurned (turn_of p d r) z y x → x ≡ pos 0
 none_left p d y r z x some none level is =
     other_zero d x
     (ring_by (x ∷ d ∷ p ∷ z ∷ y ∷ r ∷ []) (var 1 ⊗ var 0) (num (pos 0))
@@ -36,7 +36,7 @@ none_left p d y r z x some none level is =
     (using (num (negsuc 0)) (var 4 ⊗ var 5) (num (pos 0)) level nothing))) refl)
     some
 
-some_left : (p d y r z x : ℤ) → p ≢ pos 0 → z ≢ pos 0 → (y *ℤ r) ≡ pos 0 → IsTurned (turn_of p d r) z y x → x ≢ pos 0
+some_left : (p d y r z x : ℤ) → p ≢ pos 0 → z ≢ pos 0 → (y *ℤ r) ≡ pos 0 → IsNumberTurned (turn_of p d r) z y x → x ≢ pos 0
 some_left p d y r z x pivot some level is none =
     some (other_zero p z
     (ring_by (x ∷ d ∷ p ∷ z ∷ y ∷ r ∷ []) (var 2 ⊗ var 3) (num (pos 0))
@@ -46,12 +46,12 @@ some_left p d y r z x pivot some level is none =
     pivot)
 
 -- and where there was none, one comes where something stands both along and across
-some_comes : (p d y r z x : ℤ) → z ≡ pos 0 → y ≢ pos 0 → r ≢ pos 0 → IsTurned (turn_of p d r) z y x → x ≢ pos 0
-some_comes p d y r z x none along across is gone =
+some_comes : (p d y r z x : ℤ) → z ≡ pos 0 → y ≢ pos 0 → r ≢ pos 0 → IsNumberTurned (turn_of p d r) z y x → x ≢ pos 0
+some_comes p d y r z x none along across is excluded =
     across (other_zero y r
     (ring_by (x ∷ d ∷ p ∷ z ∷ y ∷ r ∷ []) (var 4 ⊗ var 5) (num (pos 0))
     (using (num (pos 1)) (var 0 ⊗ var 1) ((var 2 ⊗ var 3) ⊖ (var 4 ⊗ var 5)) is
-    (using (num (negsuc 0) ⊗ var 1) (var 0) (num (pos 0)) gone
+    (using (num (negsuc 0) ⊗ var 1) (var 0) (num (pos 0)) excluded
     (using (var 2) (var 3) (num (pos 0)) none nothing))) refl)
     along)
 
@@ -95,7 +95,7 @@ module _ (pivot common : ℤ) (column : ℕ) (line : List ℤ) (olds news : List
 
   module _ (c : ℕ) (c_in : c < length line) (apart : c ≢ column) where
     turned_at : (v : ℕ) → v < length olds →
-        IsTurned (turn_of pivot common (number_at line c)) (number_at (slice_index_or olds v []) c)
+        IsNumberTurned (turn_of pivot common (number_at line c)) (number_at (slice_index_or olds v []) c)
         (number_at (slice_index_or olds v []) column) (number_at (slice_index_or news v []) c)
     turned_at v v_in = (t.each v v_in).others c c_in apart
 

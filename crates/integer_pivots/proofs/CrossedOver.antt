@@ -2,7 +2,7 @@
 use Rattle.std.proofs.Common.{◌≡◌, ◌^◌, ◌≤◌, sym, ◌∙◌, ap, subst, arith}
 use Rattle.std.specs.Prelude.{ℤ, ◌*ℤ◌, nat_abs}
 use Rattle.integer_pivots.specs.declared.turn.Turn.{Turn}
-use Rattle.integer_pivots.specs.Turns.{IsSmallTurn, IsWholeTurn, crossed}
+use Rattle.integer_pivots.specs.Turns.{IsSmallTurn, IsIntegralTurn, crossed}
 use Rattle.integer_pivots.proofs.Crossings.{crossed_small}
 use Rattle.integer_pivots.proofs.Sizes.{read, read_number}
 
@@ -21,9 +21,9 @@ read_small t number along z small number_small along_small z_is =
 
 -- a divisor that goes into it makes it a whole number
 pub goes_turned : (t : Turn) (number along z d : ℤ) → d ≡ t.common → read z ≡ crossed t number along →
-    ((k : ℤ) × ((k *ℤ d) ≡ read z)) → IsWholeTurn t number along
+    ((k : ℤ) × ((k *ℤ d) ≡ read z)) → IsIntegralTurn t number along
 goes_turned t number along z d same is goes = (goes.0, ap (λ (e : ℤ). goes.0 *ℤ e) (sym same) ∙ goes.1 ∙ is)
 
 pub turned_goes : (t : Turn) (number along z d : ℤ) → d ≡ t.common → read z ≡ crossed t number along →
-    IsWholeTurn t number along → ((k : ℤ) × ((k *ℤ d) ≡ read z))
+    IsIntegralTurn t number along → ((k : ℤ) × ((k *ℤ d) ≡ read z))
 turned_goes t number along z d same is whole = (whole.0, ap (λ (e : ℤ). whole.0 *ℤ e) same ∙ whole.1 ∙ sym is)

@@ -8,7 +8,7 @@ use Rattle.std.specs.Int.Signed.{mag}
 use Rattle.std.proofs.lemmas.Int.{fits_signed_from_abs, ints, to_z-of_z, unsigned_abs-mul}
 use Rattle.whole_numbers.proofs.Ring.{var, num, ◌⊗◌, ring}
 use Rattle.integer_pivots.specs.declared.turn.Turn.{Turn}
-use Rattle.integer_pivots.specs.Turns.{IsSmallTurn, IsTurned, IsWholeTurn, crossed}
+use Rattle.integer_pivots.specs.Turns.{IsSmallTurn, IsNumberTurned, IsIntegralTurn, crossed}
 use Rattle.integer_pivots.proofs.Sizes.{read, read_number}
 
 pub product_small : (m n : ℕ) (a b : ℤ) → nat_abs a ≤ m → nat_abs b ≤ n → nat_abs (a *ℤ b) ≤ m * n
@@ -41,7 +41,7 @@ crossed_small t number along small number_small along_small =
 
 -- and the number after it
 pub turned_small : (t : Turn) (number along new : ℤ) → IsSmallTurn t → nat_abs number ≤ 2 ^ 39 →
-    nat_abs along ≤ 2 ^ 22 → IsTurned t number along new → nat_abs new ≤ 2 ^ 62
+    nat_abs along ≤ 2 ^ 22 → IsNumberTurned t number along new → nat_abs new ≤ 2 ^ 62
 turned_small t number along new small number_small along_small is =
     let product : nat_abs new * nat_abs t.common ≤ 2 ^ 62 =
     omega (
@@ -69,7 +69,7 @@ crossed_read t number along small number_small along_small =
 
 -- over 1 it is the number before it is divided
 pub undivided_turned : (t : Turn) (number along z : ℤ) → IsSmallTurn t → nat_abs number ≤ 2 ^ 39 →
-    nat_abs along ≤ 2 ^ 22 → z ≡ crossed t number along → read t.common ≡ pos 1 → IsTurned t number along (read z)
+    nat_abs along ≤ 2 ^ 22 → z ≡ crossed t number along → read t.common ≡ pos 1 → IsNumberTurned t number along (read z)
 undivided_turned t number along z small number_small along_small z_is one =
     let z_small : nat_abs z ≤ 2 ^ 62 = subst (λ (x : ℤ). nat_abs x ≤ 2 ^ 62) (sym z_is) (crossed_small t number along small number_small along_small) in
     let common_read : read t.common ≡ t.common = read_number t.common (omega (arith, positive_size t.common (2 ^ 22) small.common)) in
@@ -124,6 +124,6 @@ crossed_from t z y number along z_is y_is number_small along_small =
     ap (λ x. crossed t (read x) (read y)) z_is ∙ ap (λ x. crossed t (read number) (read x)) y_is ∙ crossed_args t number along number_small along_small
 
 -- over 1 every number turns into a whole one
-pub over_one : (t : Turn) (number along : ℤ) → t.common ≡ pos 1 → IsWholeTurn t number along
+pub over_one : (t : Turn) (number along : ℤ) → t.common ≡ pos 1 → IsIntegralTurn t number along
 over_one t number along one =
     (crossed t number along, ap (λ d. crossed t number along *ℤ d) one ∙ ring (crossed t number along ∷ []) (var 0 ⊗ num (pos 1)) (var 0) refl)

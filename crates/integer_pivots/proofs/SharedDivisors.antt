@@ -12,7 +12,7 @@ use Rattle.whole_numbers.specs.Fractions.{gcd}
 use Rattle.whole_numbers.proofs.Divisors.{gcd-scaled, gcd_is}
 use Rattle.whole_numbers.proofs.Ring.{var, ◌⊖◌, ◌⊗◌, ring}
 use Rattle.integer_pivots.specs.Reciprocals.{IsShare}
-use Rattle.integer_pivots.specs.Turns.{AreWholeTurns, IsWholeTurn, turn_of}
+use Rattle.integer_pivots.specs.Turns.{AreIntegralTurns, IsIntegralTurn, turn_of}
 use Rattle.integer_pivots.proofs.Sizes.{read_number, size_most}
 use Rattle.integer_pivots.proofs.Reciprocals.{sizes_times, some_times}
 
@@ -64,7 +64,7 @@ swapped a b s same = ap (λ (m : ℕ). m * s) same ∙ mul_comm b s
 
 -- where the pivot's number is the denominator a number turns into a whole one exactly where the denominator goes into
 -- what stands along times what stands across
-pub whole_by : (p d w z n : ℤ) → pos 0 <ℤ d → p ≡ d → (nat_abs d ∣ (nat_abs z * nat_abs w)) → IsWholeTurn (turn_of p d z) n w
+pub whole_by : (p d w z n : ℤ) → pos 0 <ℤ d → p ≡ d → (nat_abs d ∣ (nat_abs z * nat_abs w)) → IsIntegralTurn (turn_of p d z) n w
 whole_by p d w z n positive same divides =
     let whole = div-mul_cancel (nat_abs d) divides in
     let size = unsigned_abs-mul w z in
@@ -74,7 +74,7 @@ whole_by p d w z n positive same divides =
           ∙ ap (λ (x : ℤ). (d *ℤ n) -ℤ x) times.1 ∙ ap (λ (x : ℤ). (x *ℤ n) -ℤ (w *ℤ z)) (sym same),
     )
 
-pub by_whole : (p d w z n : ℤ) → p ≡ d → IsWholeTurn (turn_of p d z) n w → nat_abs d ∣ (nat_abs z * nat_abs w)
+pub by_whole : (p d w z n : ℤ) → p ≡ d → IsIntegralTurn (turn_of p d z) n w → nat_abs d ∣ (nat_abs z * nat_abs w)
 by_whole p d w z n same whole =
     let product : (w *ℤ z) ≡ ((n -ℤ whole.0) *ℤ d) =
     ring (p ∷ n ∷ w ∷ z ∷ []) (var 2 ⊗ var 3) ((var 0 ⊗ var 1) ⊖ ((var 0 ⊗ var 1) ⊖ (var 2 ⊗ var 3))) refl
@@ -85,7 +85,7 @@ by_whole p d w z n same whole =
 
 -- so a whole row does exactly where the denominator goes into what stands along times the share
 pub row_whole : (p d w : ℤ) (line numbers : List ℤ) (share : ℕ) → pos 0 <ℤ d → p ≡ d →
-    IsShare (nat_abs d) line (length line) share → (nat_abs d ∣ (share * nat_abs w)) ↔ AreWholeTurns p d w line numbers
+    IsShare (nat_abs d) line (length line) share → (nat_abs d ∣ (share * nat_abs w)) ↔ AreIntegralTurns p d w line numbers
 row_whole p d w line numbers share positive same is_share = (
   λ divides column inside. whole_by p d w (number_at line column) (number_at numbers column) positive same ((is_share (nat_abs w)).0 divides column inside),
   λ whole. (is_share (nat_abs w)).1 (λ column inside. by_whole p d w (number_at line column) (number_at numbers column) same (whole column inside)),
@@ -93,7 +93,7 @@ row_whole p d w line numbers share positive same is_share = (
 
 -- so it is where the divisor and what stands along are read elsewhere
 pub row_told : (p d w e y : ℤ) (line numbers : List ℤ) (share : ℕ) → pos 0 <ℤ d → p ≡ d → e ≡ d → y ≡ w →
-    IsShare (nat_abs d) line (length line) share → (nat_abs e ∣ (share * nat_abs y)) ↔ AreWholeTurns p d w line numbers
+    IsShare (nat_abs d) line (length line) share → (nat_abs e ∣ (share * nat_abs y)) ↔ AreIntegralTurns p d w line numbers
 row_told p d w e y line numbers share positive same divisor along is_share =
     let told = row_whole p d w line numbers share positive same is_share in (
       λ divides. told.0 (subst (λ (z : ℤ). nat_abs d ∣ (share * nat_abs z)) along (subst (λ (z : ℤ). nat_abs z ∣ (share * nat_abs y)) divisor divides)),

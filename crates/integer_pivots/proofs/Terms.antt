@@ -2,8 +2,8 @@
 use Rattle.std.proofs.Common.{◌≡◌, ℕ, zero, suc, ◌+◌, ◌^◌, ◌<◌, ◌≤◌, refl, ◌∙◌, ap, List, [], ◌∷◌, length, get_or, drop, arith, add-one, drop-cons}
 use Rattle.std.specs.Prelude.{ℤ, pos, negsuc, nat_abs, sum_by}
 use Rattle.std.proofs.lemmas.List.Sums.{sum_by-cons}
-use Rattle.path_rows.specs.declared.form.Term.{Term}
-use Rattle.path_rows.specs.Forms.{terms_from, no_term}
+use Rattle.design_problem.specs.declared.form.Term.{Term}
+use Rattle.design_problem.specs.Forms.{terms_from, no_term}
 
 abbrev pub term_size : Term → ℕ
 term_size t = nat_abs t.coefficient

@@ -8,7 +8,7 @@ use Rattle.std.proofs.lemmas.List.Elements.{All-set}
 use Rattle.whole_numbers.specs.Lists.{number_at}
 use Rattle.integer_pivots.specs.declared.turn.Turn.{Turn}
 use Rattle.integer_pivots.specs.Numbers.{AllWithin}
-use Rattle.integer_pivots.specs.Turns.{AreSmallTurns, AreTouched, AreTurned, AreWholeTurns, IsAmong, IsSmallTurn, IsTurned, IsTurnedRow, IsWholeTurn, LeavesAll, turn_of}
+use Rattle.integer_pivots.specs.Turns.{AreSmallTurns, AreTouched, AreTurned, AreIntegralTurns, IsAmongColumns, IsSmallTurn, IsNumberTurned, IsTurnedRow, IsIntegralTurn, LeavesAll, turn_of}
 use Rattle.integer_pivots.proofs.Sizes.{number_within, read, read_number}
 use Rattle.integer_pivots.proofs.WrittenPlaces.{all_more}
 
@@ -49,7 +49,7 @@ touched_joins p d line i columns t =
               omega (arith, stays first first_in, stays second inside, t.rises first second less inside)
         ]
 
-    others : (column : ℕ) → column < i + 1 → IsAmong column (columns ++ i ∷ []) ⊎ LeavesAll (turn_of p d (number_at line column))
+    others : (column : ℕ) → column < i + 1 → IsAmongColumns column (columns ++ i ∷ []) ⊎ LeavesAll (turn_of p d (number_at line column))
     others column column_in =
         elim (cases_eq column i) [
           | inl same ↦ inl (length columns, omega (arith, long), get_or-append_seam columns i [] 0 ∙ sym same)
@@ -78,7 +78,7 @@ touched_passes p d line i columns left t =
 abbrev pub IsApart : ℕ → List ℕ → Type 0
 IsApart column columns = (place : ℕ) → place < length columns → slice_index_or columns place 0 ≢ column
 
-among_or_apart : (column : ℕ) (columns : List ℕ) → IsAmong column columns ⊎ IsApart column columns
+among_or_apart : (column : ℕ) (columns : List ℕ) → IsAmongColumns column columns ⊎ IsApart column columns
 among_or_apart column [] = inr (λ place place_in. absurd (omega (arith, place_in)))
 among_or_apart column (x ∷ xs) =
     elim (cases_eq x column) [
@@ -97,11 +97,11 @@ among_or_apart column (x ∷ xs) =
 -- where the numbers turn into whole ones in these columns, they do in all
 pub all_whole : (p d y : ℤ) (line numbers : List ℤ) (columns : List ℕ) → AreTouched p d line (length line) columns →
     ((place : ℕ) → place < length columns →
-    IsWholeTurn (turn_of p d (number_at line (slice_index_or columns place 0)))
-    (number_at numbers (slice_index_or columns place 0)) y) → AreWholeTurns p d y line numbers
+    IsIntegralTurn (turn_of p d (number_at line (slice_index_or columns place 0)))
+    (number_at numbers (slice_index_or columns place 0)) y) → AreIntegralTurns p d y line numbers
 all_whole p d y line numbers columns t whole column column_in =
     elim (t.others column column_in) [
-      | inl among ↦ subst (λ c. IsWholeTurn (turn_of p d (number_at line c)) (number_at numbers c) y) among.2 (whole among.0 among.1)
+      | inl among ↦ subst (λ c. IsIntegralTurn (turn_of p d (number_at line c)) (number_at numbers c) y) among.2 (whole among.0 among.1)
       | inr left ↦ (number_at numbers column, left (number_at numbers column) y)
     ]
 
@@ -110,7 +110,7 @@ all_whole p d y line numbers columns t whole column column_in =
 pub record AreTurning (p d y : ℤ) (line : List ℤ) (columns : List ℕ) (index : ℕ) (olds news : List ℤ) (most : ℕ) : Type 0 where
   pub count : length news ≡ length olds
   pub turned : (place : ℕ) → place < index →
-      IsTurned (turn_of p d (number_at line (slice_index_or columns place 0)))
+      IsNumberTurned (turn_of p d (number_at line (slice_index_or columns place 0)))
       (number_at olds (slice_index_or columns place 0)) y (number_at news (slice_index_or columns place 0))
   pub sizes : (place : ℕ) → place < index → nat_abs (number_at news (slice_index_or columns place 0)) ≤ most
   pub rest : (column : ℕ) → ((place : ℕ) → place < index → slice_index_or columns place 0 ≢ column) → number_at news column ≡ number_at olds column
@@ -140,13 +140,13 @@ more_written P p d line columns index news z t index_in long before here =
 pub turning_more : (p d y : ℤ) (line : List ℤ) (columns : List ℕ) (index : ℕ) (olds news : List ℤ) (most more : ℕ)
     (z : ℤ) → AreTouched p d line (length line) columns → index < length columns → length olds ≡ length line →
     AreTurning p d y line columns index olds news most → most ≤ more → nat_abs z ≤ more →
-    IsTurned (turn_of p d (number_at line (slice_index_or columns index 0)))
+    IsNumberTurned (turn_of p d (number_at line (slice_index_or columns index 0)))
     (number_at olds (slice_index_or columns index 0)) y z →
     AreTurning p d y line columns (index + 1) olds (slice_set news (slice_index_or columns index 0) z) more
 turning_more p d y line columns index olds news most more z t index_in long turning wide small turned =
     record {
       count = length-set news (slice_index_or columns index 0) z ∙ turning.count;
-      turned = more_written (λ c x. IsTurned (turn_of p d (number_at line c)) (number_at olds c) y x) p d line columns
+      turned = more_written (λ c x. IsNumberTurned (turn_of p d (number_at line c)) (number_at olds c) y x) p d line columns
           index news z t index_in (turning.count ∙ long) turning.turned turned;
       sizes = more_written (λ c x. nat_abs x ≤ more) p d line columns index news z t index_in (turning.count ∙ long)
           (λ place place_in. let e = turning.sizes place place_in in omega (arith, e, wide)) small;
@@ -169,11 +169,11 @@ pub turning_done : (p d y : ℤ) (line : List ℤ) (columns : List ℕ) (olds ne
     AreTurned p d y line olds news
 turning_done p d y line columns olds news most t turning column column_in =
     elim (among_or_apart column columns) [
-      | inl among ↦ subst (λ c. IsTurned (turn_of p d (number_at line c)) (number_at olds c) y (number_at news c)) among.2 (turning.turned among.0 among.1)
+      | inl among ↦ subst (λ c. IsNumberTurned (turn_of p d (number_at line c)) (number_at olds c) y (number_at news c)) among.2 (turning.turned among.0 among.1)
       | inr apart ↦
           elim (t.others column column_in) [
             | inl among ↦ absurd (apart among.0 among.1 among.2)
-            | inr left ↦ subst (λ x. IsTurned (turn_of p d (number_at line column)) (number_at olds column) y x)
+            | inr left ↦ subst (λ x. IsNumberTurned (turn_of p d (number_at line column)) (number_at olds column) y x)
                 (sym (turning.rest column apart)) (left (number_at olds column) y)
           ]
     ]
@@ -266,7 +266,7 @@ row_written p d y own line row mids news turned counted wide own_in news_are =
       count = ap length news_are ∙ length-set mids own y ∙ counted;
       at_own = ap (λ (zs : List ℤ). number_at zs own) news_are ∙ get_or-set_same mids own y (pos 0) (omega (arith, counted, wide, own_in));
       others = λ column column_in other.
-          subst (λ (x : ℤ). IsTurned (turn_of p d (number_at line column)) (number_at row column) y x)
+          subst (λ (x : ℤ). IsNumberTurned (turn_of p d (number_at line column)) (number_at row column) y x)
           (sym (ap (λ (zs : List ℤ). number_at zs column) news_are ∙ get_or-set_other mids own column y (pos 0) other)) (turned column column_in);
     }
 

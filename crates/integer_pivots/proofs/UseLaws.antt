@@ -9,9 +9,9 @@ use Rattle.std.proofs.lemmas.List.Elements.{All-append, All-cons, All-nil}
 use Rattle.cost_base.specs.Lists.{numbers_from}
 use Rattle.cost_base.proofs.ListLemmas.{length-numbers_from, get_or-map-numbers_from}
 use Rattle.whole_numbers.specs.Lists.{number_at}
-use Rattle.path_rows.specs.declared.form.Form.{Form}
-use Rattle.path_rows.specs.Forms.{no_form}
-use Rattle.path_rows.proofs.Tallies.{tabulated}
+use Rattle.design_problem.specs.declared.form.Form.{Form}
+use Rattle.design_problem.specs.Forms.{no_form}
+use Rattle.design_problem.proofs.Tallies.{tabulated}
 use Rattle.integer_pivots.specs.declared.uses.Use.{Use}
 use Rattle.integer_pivots.specs.Uses.{coefficient_in, held_in, size_in, use_of, uses_by, uses_from}
 use Rattle.integer_pivots.proofs.WrittenPlaces.{written}

@@ -10,8 +10,8 @@ use Rattle.std.proofs.lemmas.List.Sums.{sum_by-cons}
 use Rattle.whole_numbers.proofs.Ring.{var, num, ◌⊕◌, ◌⊗◌, ring}
 use Rattle.whole_numbers.specs.Lists.{number_at}
 use Rattle.whole_numbers.proofs.Sizes.{sum_size}
-use Rattle.path_rows.specs.declared.form.Form.{Form}
-use Rattle.path_rows.specs.Forms.{no_form}
+use Rattle.design_problem.specs.declared.form.Form.{Form}
+use Rattle.design_problem.specs.Forms.{no_form}
 use Rattle.integer_pivots.specs.declared.uses.Use.{Use}
 use Rattle.integer_pivots.specs.Uses.{coefficient_in, size_in, uses_from}
 use Rattle.integer_pivots.proofs.Sizes.{product_size, read, read_number}

@@ -12,5 +12,6 @@ pub record IsLead (rows : List (List ℤ)) (column lead : ℕ) : Type 0 where
   pub before : AreZeros rows column lead
   pub there : lead < length rows → number_at (slice_index_or rows lead []) column ≢ pos 0
 
+-- the leads of all columns
 abbrev pub AreLeads : List (List ℤ) → List ℕ → Type 0
 AreLeads rows leads = (c : ℕ) → c < length leads → IsLead rows c (slice_index leads c)

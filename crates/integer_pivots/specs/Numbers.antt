@@ -1,6 +1,6 @@
 -- Lists of whole numbers: their sizes, and sums to which a multiple is put.
 use Rattle.std.specs.Prelude.{ℕ, ◌≤◌, List, [], ◌∷◌, ℤ, pos, ◌+ℤ◌, ◌*ℤ◌, nat_abs, max, sum_by, All}
-use Rattle.path_rows.specs.declared.form.Form.{Form}
+use Rattle.design_problem.specs.declared.form.Form.{Form}
 
 -- the sum of the coefficients, each times the number of its variable
 abbrev pub product_sum : List ℤ → List ℤ → ℤ

@@ -10,7 +10,7 @@ pub record IsReciprocal (d : Divisor) : Type 0 where
   pub small : d.number ≤ℤ pos (2 ^ 22)
   pub value : d.reciprocal ≡ 2 ^ 63 / nat_abs d.number + 1
 
--- it divides by this number
+-- the divisor is this number, with its reciprocal
 pub record IsDivisorOf (number : ℤ) (d : Divisor) : Type 0 where
   pub reciprocal : IsReciprocal d
   pub same : d.number ≡ number

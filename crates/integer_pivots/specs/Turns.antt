@@ -8,9 +8,9 @@ use Rattle.integer_pivots.specs.Numbers.{AllWithin}
 abbrev pub crossed : Turn → ℤ → ℤ → ℤ
 crossed turn number along = (turn.pivot *ℤ number) -ℤ (along *ℤ turn.across)
 
--- the number after the pivot: that over the old denominator
-abbrev pub IsTurned : Turn → ℤ → ℤ → ℤ → Type 0
-IsTurned turn number along new = (new *ℤ turn.common) ≡ crossed turn number along
+-- the number after the pivot: the crossed product over the old denominator
+abbrev pub IsNumberTurned : Turn → ℤ → ℤ → ℤ → Type 0
+IsNumberTurned turn number along new = (new *ℤ turn.common) ≡ crossed turn number along
 
 -- no step of a turn is wide
 pub record IsSmallTurn (turn : Turn) : Type 0 where
@@ -23,46 +23,46 @@ abbrev pub turn_of : ℤ → ℤ → ℤ → Turn
 turn_of pivot common across = record { pivot = pivot; across = across; common = common }
 
 -- the number turns into a whole one
-abbrev pub IsWholeTurn : Turn → ℤ → ℤ → Type 0
-IsWholeTurn turn number along = (new : ℤ) × IsTurned turn number along new
+abbrev pub IsIntegralTurn : Turn → ℤ → ℤ → Type 0
+IsIntegralTurn turn number along = (new : ℤ) × IsNumberTurned turn number along new
 
 -- the numbers turn into whole ones, each with its own number across
-abbrev pub AreWholeTurns : ℤ → ℤ → ℤ → List ℤ → List ℤ → Type 0
-AreWholeTurns pivot common along across numbers =
-    (column : ℕ) → column < length across → IsWholeTurn (turn_of pivot common (number_at across column)) (number_at numbers column) along
+abbrev pub AreIntegralTurns : ℤ → ℤ → ℤ → List ℤ → List ℤ → Type 0
+AreIntegralTurns pivot common along across numbers =
+    (column : ℕ) → column < length across → IsIntegralTurn (turn_of pivot common (number_at across column)) (number_at numbers column) along
 
--- the numbers have turned
+-- the numbers have turned at the pivot, each with its own number across
 abbrev pub AreTurned : ℤ → ℤ → ℤ → List ℤ → List ℤ → List ℤ → Type 0
 AreTurned pivot common along across olds news =
-    (column : ℕ) → column < length across → IsTurned (turn_of pivot common (number_at across column)) (number_at olds column) along (number_at news column)
+    (column : ℕ) → column < length across → IsNumberTurned (turn_of pivot common (number_at across column)) (number_at olds column) along (number_at news column)
 
 -- no number that the turn of these makes is greater in size
 abbrev pub AreTurnedWithin : ℤ → ℤ → ℤ → List ℤ → List ℤ → ℕ → Type 0
 AreTurnedWithin pivot common along across numbers most =
     (column : ℕ) → column < length across → (new : ℤ) →
-    IsTurned (turn_of pivot common (number_at across column)) (number_at numbers column) along new →
+    IsNumberTurned (turn_of pivot common (number_at across column)) (number_at numbers column) along new →
     nat_abs new ≤ most
 
 -- the turn leaves every number as it is, whatever stands along with it
 abbrev pub LeavesAll : Turn → Type 0
-LeavesAll turn = (number along : ℤ) → IsTurned turn number along number
+LeavesAll turn = (number along : ℤ) → IsNumberTurned turn number along number
 
 -- the column is one of these
-abbrev pub IsAmong : ℕ → List ℕ → Type 0
-IsAmong column columns = (place : ℕ) × (place < length columns) × (slice_index_or columns place 0 ≡ column)
+abbrev pub IsAmongColumns : ℕ → List ℕ → Type 0
+IsAmongColumns column columns = (place : ℕ) × (place < length columns) × (slice_index_or columns place 0 ≡ column)
 
 -- columns before a bound, in rising order: the turn leaves all numbers of each other one before it as they are
 pub record AreTouched (pivot common : ℤ) (line : List ℤ) (bound : ℕ) (columns : List ℕ) : Type 0 where
   pub before : (place : ℕ) → place < length columns → slice_index_or columns place 0 < bound
   pub rises : (first second : ℕ) → first < second → second < length columns → slice_index_or columns first 0 < slice_index_or columns second 0
-  pub others : (column : ℕ) → column < bound → IsAmong column columns ⊎ LeavesAll (turn_of pivot common (number_at line column))
+  pub others : (column : ℕ) → column < bound → IsAmongColumns column columns ⊎ LeavesAll (turn_of pivot common (number_at line column))
 
 -- the numbers of a variable have turned, and at the pivot's column is the one that stood along
 pub record IsTurnedRow (pivot common along : ℤ) (own : ℕ) (across olds news : List ℤ) : Type 0 where
   pub count : length news ≡ length olds
   pub at_own : number_at news own ≡ along
   pub others : (column : ℕ) → column < length across → column ≢ own →
-      IsTurned (turn_of pivot common (number_at across column)) (number_at olds column) along (number_at news column)
+      IsNumberTurned (turn_of pivot common (number_at across column)) (number_at olds column) along (number_at news column)
 
 -- the rows have turned at a pivot with a column
 pub record AreTurnedRows (pivot common : ℤ) (column : ℕ) (line : List ℤ) (olds news : List (List ℤ)) : Type 0 where

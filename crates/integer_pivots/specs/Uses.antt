@@ -3,7 +3,7 @@ use Rattle.std.specs.declared.alloc.Global.{Global}
 use Rattle.std.specs.Prelude.{Vec, ℕ, zero, suc, ◌+◌, ◌<◌, List, [], ◌∷◌, ◌++◌, ◌==◌, if◌then◌else◌, ℤ, pos, negsuc, ◌+ℤ◌, nat_abs, map, vec_capacity, vec_len, All}
 use Rattle.cost_base.specs.Lists.{numbers_from}
 use Rattle.whole_numbers.specs.Lists.{number_at}
-use Rattle.path_rows.specs.declared.form.Form.{Form}
+use Rattle.design_problem.specs.declared.form.Form.{Form}
 use Rattle.integer_pivots.specs.declared.uses.Use.{Use}
 
 -- a row's use of a variable with this coefficient; none where that is 0
@@ -34,6 +34,7 @@ abbrev pub coefficient_in : List Use → ℕ → ℤ
 coefficient_in [] row = pos 0
 coefficient_in (u ∷ us) row = (if u.row == row then u.coefficient else pos 0) +ℤ coefficient_in us row
 
+-- the sum of the sizes of the coefficients that a row has in some uses
 abbrev pub size_in : List Use → ℕ → ℕ
 size_in [] row = 0
 size_in (u ∷ us) row = (if u.row == row then nat_abs u.coefficient else 0) + size_in us row

@@ -3,8 +3,8 @@ ghost use Rattle.std.specs.Prelude.{◌≡◌, ℤ, ℕ, ◌^◌, ◌+◌, ◌*�
 ghost use Rattle.whole_numbers.specs.Lists.{number_at};
 ghost use Rattle.integer_pivots.specs.Numbers.{AllWithin};
 ghost use Rattle.integer_pivots.specs.Reciprocals.{IsDivisorOf};
-ghost use Rattle.integer_pivots.specs.Turns.{AreSmallTurns, AreTouched, AreTurnedWithin, AreWholeTurns, IsSmallTurn};
-ghost use Rattle.integer_pivots.specs.Turns.{IsTurned, IsTurnedRow, IsWholeTurn, LeavesAll, crossed, size_after};
+ghost use Rattle.integer_pivots.specs.Turns.{AreSmallTurns, AreTouched, AreTurnedWithin, AreIntegralTurns, IsSmallTurn};
+ghost use Rattle.integer_pivots.specs.Turns.{IsNumberTurned, IsTurnedRow, IsIntegralTurn, LeavesAll, crossed, size_after};
 
 use crate::bounds::greater_size;
 use crate::reciprocal::Divisor;
@@ -52,7 +52,7 @@ impl Turn {
     /// Whether every number with this one along with it stays as it is: the pivot's number is the denominator, and
     /// nothing stands along or across.
     fn leaves(self, along: i64) -> bool
-        ensures { IsTrue result → (number : ℤ) → IsTurned self number along number }
+        ensures { IsTrue result → (number : ℤ) → IsNumberTurned self number along number }
     {
         self.pivot == self.common && (along == 0 || self.across == 0)
     }
@@ -71,7 +71,7 @@ impl Turn {
         requires divisor { IsDivisorOf self.common divisor }
         requires number { nat_abs number ≤ 2 ^ 39 }
         requires along { nat_abs along ≤ 2 ^ 22 }
-        ensures { IsTrue result ↔ IsWholeTurn self number along }
+        ensures { IsTrue result ↔ IsIntegralTurn self number along }
     {
         if self.leaves(along) {
             return true;
@@ -85,8 +85,8 @@ impl Turn {
         requires divisor { IsDivisorOf self.common divisor }
         requires number { nat_abs number ≤ 2 ^ 39 }
         requires along { nat_abs along ≤ 2 ^ 22 }
-        requires whole { IsWholeTurn self number along }
-        ensures { IsTurned self number along result }
+        requires whole { IsIntegralTurn self number along }
+        ensures { IsNumberTurned self number along result }
     {
         if self.leaves(along) {
             return number;
@@ -156,7 +156,7 @@ pub fn turn_low(
 ) -> i64
     requires divisor { IsDivisorOf turn.common divisor }
     requires small { AreSmallTurns turn.pivot turn.common along across.now numbers.old }
-    requires whole { AreWholeTurns turn.pivot turn.common along across.now numbers.old }
+    requires whole { AreIntegralTurns turn.pivot turn.common along across.now numbers.old }
     requires touched { AreTouched turn.pivot turn.common across.now (length across.now) touched.now }
     requires own { own < length across.now }
     requires stands { number_at numbers.old own ≡ along }
@@ -189,7 +189,7 @@ pub fn turns_whole(
     requires divisor { IsDivisorOf turn.common divisor }
     requires small { AreSmallTurns turn.pivot turn.common along across.now numbers.now }
     requires touched { AreTouched turn.pivot turn.common across.now (length across.now) touched.now }
-    ensures { IsTrue result ↔ AreWholeTurns turn.pivot turn.common along across.now numbers.now }
+    ensures { IsTrue result ↔ AreIntegralTurns turn.pivot turn.common along across.now numbers.now }
 {
     for index in 0..touched.len() {
         let column = touched[index];

@@ -6,7 +6,7 @@ ghost use Rattle.integer_pivots.specs.Numbers.{weight_of};
 ghost use Rattle.integer_pivots.specs.Uses.{HaveRoom, coefficient_in, held_in, size_in, use_of};
 
 use cost_base::OutOfMemory;
-use path_rows::Form;
+use design_problem::Form;
 use std::alloc::Global;
 
 /// A row that has a coefficient other than 0 of a variable.

@@ -2,17 +2,17 @@
 use Rattle.std.proofs.Common.{◌≡◌, ℕ, ◌+◌, ◌<◌, ◌≤◌, refl, sym, ◌∙◌, ap, subst, List, [], ◌∷◌, ◌++◌, arith}
 use Rattle.std.specs.Prelude.{Option, None, Some}
 use Rattle.std.proofs.lemmas.List.{map-append}
-use Rattle.path_rows.specs.declared.form.Form.{Form}
-use Rattle.path_rows.specs.declared.tree.Entry.{Entry}
-use Rattle.path_rows.specs.declared.answer.CapTree.{CapTree}
-use Rattle.path_rows.specs.Problems.{DesignProblem, IsProblem}
-use Rattle.path_rows.specs.Boxes.{capped}
-use Rattle.path_rows.specs.Rows.{IsFit, LeadsEach, box_of, form_of_row, forms_of_rows, greatest_cost}
-use Rattle.path_rows.specs.Earnest.{Place, IsEarnestTree}
-use Rattle.path_rows.proofs.OpenPlaces.{earnest_tree_sound, opens_ends, earnest_opens}
-use Rattle.path_rows.proofs.ProblemTrees.{le_greatest, tree_bounds}
-use Rattle.path_rows.proofs.Renumbering.{opens_kept}
-use Rattle.cost_branching.specs.Pools.{Pooled, IsPool, MoreRows}
+use Rattle.design_problem.specs.declared.form.Form.{Form}
+use Rattle.design_problem.specs.declared.tree.Entry.{Entry}
+use Rattle.design_problem.specs.declared.answer.CapTree.{CapTree}
+use Rattle.design_problem.specs.Problems.{DesignProblem, IsProblem}
+use Rattle.design_problem.specs.Boxes.{capped}
+use Rattle.design_problem.specs.Rows.{IsFit, LeadsEach, box_of, form_of_row, forms_of_rows, greatest_cost}
+use Rattle.design_problem.specs.Earnest.{OpenPlace, IsEarnestTree}
+use Rattle.design_problem.proofs.OpenPlaces.{earnest_tree_sound, opens_ends, earnest_opens}
+use Rattle.design_problem.proofs.ProblemTrees.{le_greatest, tree_bounds}
+use Rattle.design_problem.proofs.Renumbering.{opens_kept}
+use Rattle.cost_branching.specs.Pools.{Pooled, IsRowPool, MoreRows}
 use Rattle.cost_branching.specs.Decisions.{IsDecided, IsTreeAt}
 use Rattle.form_search.specs.declared.found.Found.TheVariants.{Costs as FoundCosts, Refuted}
 use Rattle.least_bound.specs.declared.progress.Best.{Best}
@@ -20,7 +20,7 @@ use Rattle.least_bound.specs.declared.progress.Best.TheVariants.{NoCosts, Costs,
 use Rattle.least_bound.specs.declared.progress.Progress.{Progress}
 use Rattle.printed_rows.proofs.CostLaws.{greatest-le}
 use Rattle.printed_rows.proofs.CapBoxes.{within_cap}
-use Rattle.least_bound.specs.Caps.{BestHolds, IsKeptAt, IsProgress, IsRefuted, IsSpent}
+use Rattle.least_bound.specs.Caps.{BestHolds, IsKeptAt, IsProgress, IsRefuted, IsUndecidedAt}
 
 -- fit costs have a greatest cost from the greatest lower bound on
 pub floor_lowest : (p : DesignProblem) (w : List ℕ) → IsFit p w → greatest_cost p.low ≤ greatest_cost w
@@ -33,7 +33,7 @@ floor_lowest p w fit = greatest-le p.low (greatest_cost w) (λ k k_in.
 pub tree_grown : (p : DesignProblem) (top cap : ℕ) (old new : Pooled) (tree : List Entry) → MoreRows old new →
     IsTreeAt p top cap old tree → IsTreeAt p top cap new tree
 tree_grown p top cap old new tree grows holds =
-    let start : List Place = record { box = capped (box_of p) cap; since = [] } ∷ [] in
+    let start : List OpenPlace = record { box = capped (box_of p) cap; since = [] } ∷ [] in
     let forms = forms_of_rows p old.rows in
     let others = forms_of_rows p grows.more in
     let both : forms ++ others ≡ forms_of_rows p new.rows = sym (map-append (form_of_row p) old.rows grows.more) ∙ ap (forms_of_rows p) (sym grows.same) in
@@ -50,7 +50,7 @@ pub refuted_grown : (p : DesignProblem) (top nodes : ℕ) (old new : Pooled) (t 
 refuted_grown p top nodes old new t grows is = record { tree = tree_grown p top t.cap old new t.tree grows is.tree; closed = is.closed; few = is.few }
 
 pub spent_grown : (p : DesignProblem) (top nodes : ℕ) (old new : Pooled) (t : CapTree) → MoreRows old new →
-    IsSpent p top nodes old t → IsSpent p top nodes new t
+    IsUndecidedAt p top nodes old t → IsUndecidedAt p top nodes new t
 spent_grown p top nodes old new t grows is = record { tree = tree_grown p top t.cap old new t.tree grows is.tree; undone = is.undone; spent = is.spent }
 
 kept_grown : (p : DesignProblem) (top nodes : ℕ) (old new : Pooled) (least : ℕ) (kept : Option CapTree) →
@@ -92,7 +92,7 @@ after_costs p top nodes old new progress w most grows holds fit is = record {
 
 -- a refuted cap
 pub after_refuted : (p : DesignProblem) (top nodes : ℕ) (old new : Pooled) (progress : Progress) (cap : ℕ)
-    (tree : List Entry) → IsProblem p → IsPool p new → MoreRows old new → progress.least ≤ cap → cap < progress.most →
+    (tree : List Entry) → IsProblem p → IsRowPool p new → MoreRows old new → progress.least ≤ cap → cap < progress.most →
     IsProgress p top nodes old progress →
     IsDecided p top nodes cap new (Refuted tree) →
     IsProgress p top nodes new (record {

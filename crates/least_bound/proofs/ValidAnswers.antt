@@ -1,21 +1,21 @@
 -- The answers are valid or undecided, and their texts are in the grammar.
 use Rattle.std.proofs.Common.{◌≡◌, ℕ, ◌+◌, ◌≤◌, refl, sym, ◌∙◌, subst, List, length, arith, Bool}
-use Rattle.std.specs.Prelude.{All, Option, None, Some, slice_index_or}
+use Rattle.std.specs.Prelude.{All, AllPairs, Option, None, Some, slice_index_or}
 use Rattle.area_graph.specs.Area.{FitsGraph}
-use Rattle.path_rows.specs.declared.form.Row.{Row}
-use Rattle.path_rows.specs.declared.tree.Entry.{Entry}
-use Rattle.path_rows.specs.declared.answer.CapTree.{CapTree}
-use Rattle.path_rows.specs.declared.answer.Costs.{Costs as CostsPart}
-use Rattle.path_rows.specs.declared.answer.Floor.{Floor}
-use Rattle.path_rows.specs.declared.answer.Floor.TheVariants.{Absent, Empty, Var}
-use Rattle.path_rows.specs.declared.answer.Verdict.TheVariants.{Optimal, Impossible, Budget}
-use Rattle.path_rows.specs.Problems.{DesignProblem, IsProblem}
-use Rattle.path_rows.specs.Boxes.{capped}
-use Rattle.path_rows.specs.Rows.{IsFit, IsRow, LeadsEach, box_of, form_of_row, greatest_cost}
-use Rattle.path_rows.specs.Trees.{entry_count}
-use Rattle.path_rows.specs.Earnest.{IsFormOfRow}
-use Rattle.path_rows.specs.Text.{IsAnswer, row_line}
-use Rattle.path_rows.specs.Answers.{GivesCosts, Proves, ShowsLeast, greatest_bound}
+use Rattle.design_problem.specs.declared.form.Row.{Row}
+use Rattle.design_problem.specs.declared.tree.Entry.{Entry}
+use Rattle.design_problem.specs.declared.answer.CapTree.{CapTree}
+use Rattle.design_problem.specs.declared.answer.Costs.{Costs as CostsPart}
+use Rattle.design_problem.specs.declared.answer.Floor.{Floor}
+use Rattle.design_problem.specs.declared.answer.Floor.TheVariants.{Absent, Empty, Var}
+use Rattle.design_problem.specs.declared.answer.Verdict.TheVariants.{Optimal, Impossible, Undecided}
+use Rattle.design_problem.specs.Problems.{DesignProblem, IsProblem}
+use Rattle.design_problem.specs.Boxes.{capped}
+use Rattle.design_problem.specs.Rows.{IsFit, IsRow, LeadsEach, box_of, form_of_row, greatest_cost}
+use Rattle.design_problem.specs.Trees.{entry_count}
+use Rattle.design_problem.specs.Earnest.{IsFormOfRow}
+use Rattle.design_problem.specs.Text.{FitsAnswer, row_line}
+use Rattle.design_problem.specs.Answers.{GivesCosts, Proves, ShowsLeastGreatest, greatest_bound}
 use Rattle.printed_rows.specs.NamedRows.{NamesBelow, TreeNamesBelow}
 use Rattle.printed_rows.specs.NewNumbers.{AreKept, ArePrinted, named_in}
 use Rattle.printed_rows.specs.PrintedCosts.{ArePrintedCosts}
@@ -23,13 +23,14 @@ use Rattle.printed_rows.specs.PrintedTrees.{IsPrintedTree}
 use Rattle.printed_rows.proofs.AnswerLines.{CanPrintCosts, CanPrintTree, FitsFloor, answer_kept}
 use Rattle.printed_rows.proofs.CapBoxes.{cost_bounds, floor_below_ceiling, no_low_above}
 use Rattle.printed_rows.proofs.RowLines.{rows_short}
+use Rattle.printed_rows.proofs.SheetLaws.{trees_sheet}
 use Rattle.printed_rows.proofs.TreeCopies.{IsCopy, all_printed, copy_closed, copy_printable, copy_printed, copy_spent, proof_copy, search_names, unfinished_copy}
-use Rattle.printed_rows.specs.FittingTexts.{IsLine}
+use Rattle.printed_rows.specs.FittingTexts.{IsTextLine}
 use Rattle.printed_rows.proofs.TreeLines.{IsPrintable}
-use Rattle.cost_branching.specs.Pools.{Pooled, IsPool}
+use Rattle.cost_branching.specs.Pools.{Differ, IsRowPool, Pooled}
 use Rattle.cost_branching.specs.Decisions.{IsTreeAt}
-use Rattle.least_bound.specs.Answered.{IsAnswered, ProofIsBelow, ProofIsPrinted, CostsAreAbove, UnfinishedAt}
-use Rattle.least_bound.specs.Caps.{CostsFound, IsKeptAt, IsKeptBelow, IsRefuted, IsSpent}
+use Rattle.least_bound.specs.Answered.{IsAnswerSheet, IsDesignAnswer, ProofIsBelow, ProofIsPrinted, CostsAreAbove, UnfinishedAt}
+use Rattle.least_bound.specs.Caps.{CostsFound, IsKeptAt, IsTreeKeptBelow, IsRefuted, IsUndecidedAt}
 use Rattle.least_bound.specs.Printing.{ArePrintedIfAny, IsFloorFor, ShowsFloor}
 
 -- the parts that are printed together: some of a pool's rows, those that pass the test
@@ -38,10 +39,10 @@ pub record Sheet : Type 0 where
   pub named : ℕ → Bool
 
 -- the sheet of a pool
-pub record IsSheet (p : DesignProblem) (pool : Pooled) (sheet : Sheet) : Type 0 where
+pub record IsSheetOf (p : DesignProblem) (pool : Pooled) (sheet : Sheet) : Type 0 where
   pub problem : IsProblem p
   pub graph : FitsGraph p.graph
-  pub is_pool : IsPool p pool
+  pub is_pool : IsRowPool p pool
   pub kept : AreKept sheet.named pool.rows sheet.rows
 
 -- the sheet of parts that were printed
@@ -49,8 +50,8 @@ abbrev pub sheet_of : Option CapTree → Option CapTree → List Row → Sheet
 sheet_of proof unfinished rows = record { rows = rows; named = named_in proof unfinished }
 
 is_sheet : (p : DesignProblem) (pool : Pooled) (old : List Row) (proof unfinished : Option CapTree) (rows : List Row)
-    (new_proof new_unfinished : Option CapTree) → IsProblem p → FitsGraph p.graph → IsPool p pool → old ≡ pool.rows →
-    ArePrinted old proof unfinished rows new_proof new_unfinished → IsSheet p pool (sheet_of proof unfinished rows)
+    (new_proof new_unfinished : Option CapTree) → IsProblem p → FitsGraph p.graph → IsRowPool p pool → old ≡ pool.rows →
+    ArePrinted old proof unfinished rows new_proof new_unfinished → IsSheetOf p pool (sheet_of proof unfinished rows)
 is_sheet p pool old proof unfinished rows new_proof new_unfinished problem graph is_pool same are = record {
   problem = problem;
   graph = graph;
@@ -67,12 +68,12 @@ names_rows p top cap pool rows tree same holds =
 
 -- and so does a kept one
 pub kept_names : (p : DesignProblem) (top nodes : ℕ) (pool : Pooled) (rows : List Row) (cap : ℕ)
-    (kept : Option CapTree) → rows ≡ pool.rows → IsKeptBelow p top nodes pool cap kept →
+    (kept : Option CapTree) → rows ≡ pool.rows → IsTreeKeptBelow p top nodes pool cap kept →
     TreeNamesBelow (length rows) kept
 kept_names p top nodes pool rows cap None same holds = tt
 kept_names p top nodes pool rows cap (Some t) same holds = names_rows p top t.cap pool rows t.tree same holds.2.tree
 
-sheet_rows : (p : DesignProblem) (pool : Pooled) (sheet : Sheet) → IsSheet p pool sheet → All (IsRow p) sheet.rows
+sheet_rows : (p : DesignProblem) (pool : Pooled) (sheet : Sheet) → IsSheetOf p pool sheet → All (IsRow p) sheet.rows
 sheet_rows p pool sheet is = all_printed (IsRow p) sheet.named pool.rows sheet.rows is.kept is.is_pool.rows
 
 -- a tree of the pool as it is printed
@@ -115,25 +116,28 @@ unfinished_printed_by p pool old proof (Some t) rows new_proof (Some u) same bel
 -- a sheet of a pool, and two of its trees as they are printed on it
 pub record AreOnSheet (p : DesignProblem) (pool : Pooled) (proof unfinished : Option CapTree) (rows : List Row)
     (new_proof new_unfinished : Option CapTree) : Type 0 where
-  pub sheet : IsSheet p pool (sheet_of proof unfinished rows)
+  pub sheet : IsSheetOf p pool (sheet_of proof unfinished rows)
   pub proof_is : IsPrintedBy pool (sheet_of proof unfinished rows) proof new_proof
   pub unfinished_is : IsPrintedBy pool (sheet_of proof unfinished rows) unfinished new_unfinished
+  pub whole : IsAnswerSheet p rows new_proof new_unfinished
 
 pub on_sheet : (p : DesignProblem) (pool : Pooled) (old : List Row) (proof unfinished : Option CapTree)
-    (rows : List Row) (new_proof new_unfinished : Option CapTree) → IsProblem p → FitsGraph p.graph → IsPool p pool →
+    (rows : List Row) (new_proof new_unfinished : Option CapTree) → IsProblem p → FitsGraph p.graph → IsRowPool p pool →
     old ≡ pool.rows → TreeNamesBelow (length old) proof → TreeNamesBelow (length old) unfinished →
     ArePrinted old proof unfinished rows new_proof new_unfinished → AreOnSheet p pool proof unfinished rows new_proof new_unfinished
 on_sheet p pool old proof unfinished rows new_proof new_unfinished problem graph is_pool same proof_below unfinished_below are = record {
   sheet = is_sheet p pool old proof unfinished rows new_proof new_unfinished problem graph is_pool same are;
   proof_is = proof_printed_by p pool old proof unfinished rows new_proof new_unfinished same proof_below are;
   unfinished_is = unfinished_printed_by p pool old proof unfinished rows new_proof new_unfinished same unfinished_below are;
+  whole = trees_sheet (IsRow p) Differ old rows proof unfinished new_proof new_unfinished
+      (subst (All (IsRow p)) (sym same) is_pool.rows) (subst (AllPairs Differ) (sym same) is_pool.once) proof_below unfinished_below are;
 }
 
 -- where the first of the trees is a kept one that was lent
 pub kept_on_sheet : (p : DesignProblem) (top nodes cap : ℕ) (pool : Pooled) (old : List Row)
     (kept lent unfinished : Option CapTree) (rows : List Row) (new_proof new_unfinished : Option CapTree) →
-    IsProblem p → FitsGraph p.graph → IsPool p pool → old ≡ pool.rows → lent ≡ kept →
-    IsKeptBelow p top nodes pool cap kept →
+    IsProblem p → FitsGraph p.graph → IsRowPool p pool → old ≡ pool.rows → lent ≡ kept →
+    IsTreeKeptBelow p top nodes pool cap kept →
     TreeNamesBelow (length old) unfinished → ArePrinted old lent unfinished rows new_proof new_unfinished →
     AreOnSheet p pool kept unfinished rows new_proof new_unfinished
 kept_on_sheet p top nodes cap pool old kept lent unfinished rows new_proof new_unfinished problem graph is_pool same lent_is below unfinished_below are =
@@ -150,7 +154,7 @@ true_forms p rows all k d k_in = record { row = slice_index_or rows k d; is_row 
 
 -- it is printed
 tree_printed : (p : DesignProblem) (top nodes : ℕ) (pool : Pooled) (sheet : Sheet) (t u : CapTree) →
-    IsSheet p pool sheet → IsCopied pool sheet t u → IsTreeAt p top t.cap pool t.tree → entry_count t.tree ≤ nodes →
+    IsSheetOf p pool sheet → IsCopied pool sheet t u → IsTreeAt p top t.cap pool t.tree → entry_count t.tree ≤ nodes →
     IsPrintedTree p top nodes sheet.rows u
 tree_printed p top nodes pool sheet t u is copy holds few =
     copy_printed (LeadsEach p) (IsFormOfRow p) top nodes (form_of_row p) (capped (box_of p) u.cap) sheet.named pool.rows
@@ -159,7 +163,7 @@ tree_printed p top nodes pool sheet t u is copy holds few =
 
 -- and it can be printed
 tree_printable : (p : DesignProblem) (top nodes : ℕ) (pool : Pooled) (sheet : Sheet) (t u : CapTree) →
-    IsSheet p pool sheet → IsCopied pool sheet t u → greatest_cost p.low ≤ t.cap → t.cap ≤ 65535 → nodes ≤ 10000000 →
+    IsSheetOf p pool sheet → IsCopied pool sheet t u → greatest_cost p.low ≤ t.cap → t.cap ≤ 65535 → nodes ≤ 10000000 →
     IsTreeAt p top t.cap pool t.tree → entry_count t.tree ≤ nodes → IsPrintable u
 tree_printable p top nodes pool sheet t u is copy from small budget holds few =
     copy_printable (LeadsEach p) top nodes u.cap (form_of_row p) (capped (box_of p) u.cap) sheet.named pool.rows sheet.rows t.tree u.tree copy.1
@@ -167,7 +171,7 @@ tree_printable p top nodes pool sheet t u is copy from small budget holds few =
 
 -- a closed tree proves that no costs are fit at its cap
 tree_proves : (p : DesignProblem) (top nodes : ℕ) (pool : Pooled) (sheet : Sheet) (t u : CapTree) →
-    IsSheet p pool sheet → IsCopied pool sheet t u → greatest_cost p.low ≤ t.cap → IsRefuted p top nodes pool t →
+    IsSheetOf p pool sheet → IsCopied pool sheet t u → greatest_cost p.low ≤ t.cap → IsRefuted p top nodes pool t →
     Proves p sheet.rows u.cap u
 tree_proves p top nodes pool sheet t u is copy from refuted = record {
   at_cap = refl;
@@ -178,28 +182,30 @@ tree_proves p top nodes pool sheet t u is copy from refuted = record {
 
 -- no costs are fit
 pub impossible_answered : (p : DesignProblem) (top nodes : ℕ) (pool : Pooled) (sheet : Sheet) (t : CapTree)
-    (proof unfinished : Option CapTree) → IsSheet p pool sheet → IsPrintedBy pool sheet (Some t) proof →
+    (proof unfinished : Option CapTree) → IsSheetOf p pool sheet → IsPrintedBy pool sheet (Some t) proof →
     IsPrintedBy pool sheet None unfinished → t.cap ≡ greatest_bound p → IsRefuted p top nodes pool t →
-    IsAnswered p top nodes (record { verdict = Impossible; costs = None; floor = Absent; rows = sheet.rows; proof = proof; unfinished = unfinished })
-impossible_answered p top nodes pool sheet t None unfinished is proof_is unfinished_is ceiling refuted = absurd proof_is
-impossible_answered p top nodes pool sheet t (Some u) (Some v) is proof_is unfinished_is ceiling refuted = absurd unfinished_is
-impossible_answered p top nodes pool sheet t (Some u) None is proof_is unfinished_is ceiling refuted =
+    IsAnswerSheet p sheet.rows proof unfinished →
+    IsDesignAnswer p top nodes (record { verdict = Impossible; costs = None; floor = Absent; rows = sheet.rows; proof = proof; unfinished = unfinished })
+impossible_answered p top nodes pool sheet t None unfinished is proof_is unfinished_is ceiling refuted whole = absurd proof_is
+impossible_answered p top nodes pool sheet t (Some u) (Some v) is proof_is unfinished_is ceiling refuted whole = absurd unfinished_is
+impossible_answered p top nodes pool sheet t (Some u) None is proof_is unfinished_is ceiling refuted whole =
     let from : greatest_cost p.low ≤ t.cap = let below = floor_below_ceiling p is.problem in omega arith in
     let proves = tree_proves p top nodes pool sheet t u is proof_is from refuted in
     let same : u.cap ≡ greatest_bound p = proof_is.0 ∙ ceiling in
     record {
       holds = record { rows = sheet_rows p pool sheet is; finished = refl; claim = subst (λ (cap : ℕ). Proves p sheet.rows cap u) same proves };
       proof = tree_printed p top nodes pool sheet t u is proof_is refuted.tree refuted.few;
+      sheet = whole;
     }
 
-rows_kept : (p : DesignProblem) (pool : Pooled) (sheet : Sheet) → IsSheet p pool sheet → All (λ row. IsLine (row_line row)) sheet.rows
+rows_kept : (p : DesignProblem) (pool : Pooled) (sheet : Sheet) → IsSheetOf p pool sheet → All (λ row. IsTextLine (row_line row)) sheet.rows
 rows_kept p pool sheet is = rows_short p sheet.rows is.problem is.graph (sheet_rows p pool sheet is)
 
 pub impossible_kept : (p : DesignProblem) (top nodes : ℕ) (pool : Pooled) (sheet : Sheet) (t : CapTree)
-    (proof unfinished : Option CapTree) → IsSheet p pool sheet → IsPrintedBy pool sheet (Some t) proof →
+    (proof unfinished : Option CapTree) → IsSheetOf p pool sheet → IsPrintedBy pool sheet (Some t) proof →
     IsPrintedBy pool sheet None unfinished → t.cap ≡ greatest_bound p → t.cap ≤ 65535 → nodes ≤ 10000000 →
     IsRefuted p top nodes pool t →
-    IsAnswer (record { verdict = Impossible; costs = None; floor = Absent; rows = sheet.rows; proof = proof; unfinished = unfinished })
+    FitsAnswer (record { verdict = Impossible; costs = None; floor = Absent; rows = sheet.rows; proof = proof; unfinished = unfinished })
 impossible_kept p top nodes pool sheet t None unfinished is proof_is unfinished_is ceiling small budget refuted = absurd proof_is
 impossible_kept p top nodes pool sheet t (Some u) (Some v) is proof_is unfinished_is ceiling small budget refuted = absurd unfinished_is
 impossible_kept p top nodes pool sheet t (Some u) None is proof_is unfinished_is ceiling small budget refuted =
@@ -218,18 +224,18 @@ impossible_kept p top nodes pool sheet t (Some u) None is proof_is unfinished_is
 gives : (p : DesignProblem) (w : List ℕ) (costs : CostsPart) → IsFit p w → ArePrintedCosts p w costs → GivesCosts p costs.greatest costs
 gives p w costs fit printed = record { values = w; names = printed.names; fit = fit; greatest = sym printed.greatest; printed = refl }
 
-floor_shows : (p : DesignProblem) (rows : List Row) (k : ℕ) (floor : Floor) → k ≡ greatest_cost p.low → ShowsFloor p.low floor → ShowsLeast p rows k floor None
+floor_shows : (p : DesignProblem) (rows : List Row) (k : ℕ) (floor : Floor) → k ≡ greatest_cost p.low → ShowsFloor p.low floor → ShowsLeastGreatest p rows k floor None
 floor_shows p rows k Absent is shows = absurd shows
 floor_shows p rows k Empty is shows = shows
 floor_shows p rows k (Var v) is shows = (shows.0, shows.1 ∙ sym is)
 
 -- costs of the least greatest cost
 pub optimal_answered : (p : DesignProblem) (top nodes : ℕ) (pool : Pooled) (sheet : Sheet) (w : List ℕ)
-    (costs : CostsPart) (floor : Floor) (kept proof unfinished : Option CapTree) → IsSheet p pool sheet →
+    (costs : CostsPart) (floor : Floor) (kept proof unfinished : Option CapTree) → IsSheetOf p pool sheet →
     IsPrintedBy pool sheet kept proof → IsPrintedBy pool sheet None unfinished → IsFit p w → ArePrintedCosts p w costs →
     IsFloorFor p kept floor →
-    IsKeptAt p top nodes pool (greatest_cost w) kept →
-    IsAnswered p top nodes (record {
+    IsKeptAt p top nodes pool (greatest_cost w) kept → IsAnswerSheet p sheet.rows proof unfinished →
+    IsDesignAnswer p top nodes (record {
       verdict = Optimal costs.greatest;
       costs = Some costs;
       floor = floor;
@@ -237,28 +243,30 @@ pub optimal_answered : (p : DesignProblem) (top nodes : ℕ) (pool : Pooled) (sh
       proof = proof;
       unfinished = unfinished;
     })
-optimal_answered p top nodes pool sheet w costs floor None (Some u) unfinished is proof_is unfinished_is fit printed shows holds = absurd proof_is
-optimal_answered p top nodes pool sheet w costs floor (Some t) None unfinished is proof_is unfinished_is fit printed shows holds = absurd proof_is
-optimal_answered p top nodes pool sheet w costs floor None None (Some v) is proof_is unfinished_is fit printed shows holds = absurd unfinished_is
-optimal_answered p top nodes pool sheet w costs floor (Some t) (Some u) (Some v) is proof_is unfinished_is fit printed shows holds = absurd unfinished_is
-optimal_answered p top nodes pool sheet w costs floor None None None is proof_is unfinished_is fit printed shows holds = record {
+optimal_answered p top nodes pool sheet w costs floor None (Some u) unfinished is proof_is unfinished_is fit printed shows holds whole = absurd proof_is
+optimal_answered p top nodes pool sheet w costs floor (Some t) None unfinished is proof_is unfinished_is fit printed shows holds whole = absurd proof_is
+optimal_answered p top nodes pool sheet w costs floor None None (Some v) is proof_is unfinished_is fit printed shows holds whole = absurd unfinished_is
+optimal_answered p top nodes pool sheet w costs floor (Some t) (Some u) (Some v) is proof_is unfinished_is fit printed shows holds whole = absurd unfinished_is
+optimal_answered p top nodes pool sheet w costs floor None None None is proof_is unfinished_is fit printed shows holds whole = record {
   holds = record {
     rows = sheet_rows p pool sheet is;
     finished = refl;
     claim = (gives p w costs fit printed, floor_shows p sheet.rows costs.greatest floor (printed.greatest ∙ holds) shows);
   };
   proof = tt;
+  sheet = whole;
 }
-optimal_answered p top nodes pool sheet w costs floor (Some t) (Some u) None is proof_is unfinished_is fit printed shows holds =
+optimal_answered p top nodes pool sheet w costs floor (Some t) (Some u) None is proof_is unfinished_is fit printed shows holds whole =
     let next : u.cap + 1 ≡ costs.greatest = omega (arith, proof_is.0, holds.0, printed.greatest) in
     let proves = tree_proves p top nodes pool sheet t u is proof_is holds.1 holds.2 in
     record {
       holds = record {
         rows = sheet_rows p pool sheet is;
         finished = refl;
-        claim = (gives p w costs fit printed, subst (λ (f : Floor). ShowsLeast p sheet.rows costs.greatest f (Some u)) (sym shows) (u.cap, next, proves));
+        claim = (gives p w costs fit printed, subst (λ (f : Floor). ShowsLeastGreatest p sheet.rows costs.greatest f (Some u)) (sym shows) (u.cap, next, proves));
       };
       proof = tree_printed p top nodes pool sheet t u is proof_is holds.2.tree holds.2.few;
+      sheet = whole;
     }
 
 floor_fits : (p : DesignProblem) (kept : Option CapTree) (floor : Floor) → IsProblem p → IsFloorFor p kept floor → FitsFloor floor
@@ -268,8 +276,8 @@ floor_fits p None (Var v) problem shows = omega (arith, problem.var_count, shows
 floor_fits p (Some t) floor problem shows = subst FitsFloor (sym shows) tt
 
 kept_printable : (p : DesignProblem) (top nodes : ℕ) (pool : Pooled) (sheet : Sheet) (cap : ℕ)
-    (kept proof : Option CapTree) → IsSheet p pool sheet → IsPrintedBy pool sheet kept proof →
-    IsKeptBelow p top nodes pool cap kept → cap ≤ 65535 → nodes ≤ 10000000 → CanPrintTree proof
+    (kept proof : Option CapTree) → IsSheetOf p pool sheet → IsPrintedBy pool sheet kept proof →
+    IsTreeKeptBelow p top nodes pool cap kept → cap ≤ 65535 → nodes ≤ 10000000 → CanPrintTree proof
 kept_printable p top nodes pool sheet cap None None is proof_is holds small budget = tt
 kept_printable p top nodes pool sheet cap None (Some u) is proof_is holds small budget = absurd proof_is
 kept_printable p top nodes pool sheet cap (Some t) None is proof_is holds small budget = absurd proof_is
@@ -278,7 +286,7 @@ kept_printable p top nodes pool sheet cap (Some t) (Some u) is proof_is holds sm
 
 -- a tree at the cap below is one at a cap below
 pub kept_below : (p : DesignProblem) (top nodes : ℕ) (pool : Pooled) (least cap : ℕ) (kept : Option CapTree) →
-    least ≤ cap → IsKeptAt p top nodes pool least kept → IsKeptBelow p top nodes pool cap kept
+    least ≤ cap → IsKeptAt p top nodes pool least kept → IsTreeKeptBelow p top nodes pool cap kept
 kept_below p top nodes pool least cap None small holds = tt
 kept_below p top nodes pool least cap (Some t) small holds = (omega (arith, holds.0), holds.1, holds.2)
 
@@ -287,11 +295,11 @@ none_printable pool sheet None is = tt
 none_printable pool sheet (Some v) is = absurd is
 
 pub optimal_kept : (p : DesignProblem) (top nodes : ℕ) (pool : Pooled) (sheet : Sheet) (w : List ℕ) (costs : CostsPart)
-    (floor : Floor) (kept proof unfinished : Option CapTree) → IsSheet p pool sheet →
+    (floor : Floor) (kept proof unfinished : Option CapTree) → IsSheetOf p pool sheet →
     IsPrintedBy pool sheet kept proof → IsPrintedBy pool sheet None unfinished → ArePrintedCosts p w costs →
     IsFloorFor p kept floor → nodes ≤ 10000000 →
     IsKeptAt p top nodes pool (greatest_cost w) kept →
-    IsAnswer (record { verdict = Optimal costs.greatest; costs = Some costs; floor = floor; rows = sheet.rows; proof = proof; unfinished = unfinished })
+    FitsAnswer (record { verdict = Optimal costs.greatest; costs = Some costs; floor = floor; rows = sheet.rows; proof = proof; unfinished = unfinished })
 optimal_kept p top nodes pool sheet w costs floor kept proof unfinished is proof_is unfinished_is printed shows budget holds =
     answer_kept (record {
       verdict = Optimal costs.greatest;
@@ -308,8 +316,8 @@ optimal_kept p top nodes pool sheet w costs floor kept proof unfinished is proof
     (none_printable pool sheet unfinished unfinished_is)
 
 unfinished_at : (p : DesignProblem) (top nodes : ℕ) (pool : Pooled) (sheet : Sheet) (t : CapTree)
-    (unfinished : Option CapTree) → IsSheet p pool sheet → IsPrintedBy pool sheet (Some t) unfinished →
-    IsSpent p top nodes pool t → UnfinishedAt p top nodes sheet.rows t.cap unfinished
+    (unfinished : Option CapTree) → IsSheetOf p pool sheet → IsPrintedBy pool sheet (Some t) unfinished →
+    IsUndecidedAt p top nodes pool t → UnfinishedAt p top nodes sheet.rows t.cap unfinished
 unfinished_at p top nodes pool sheet t None is copy spent = absurd copy
 unfinished_at p top nodes pool sheet t (Some u) is copy spent = (
   copy.0,
@@ -319,8 +327,8 @@ unfinished_at p top nodes pool sheet t (Some u) is copy spent = (
 )
 
 proof_below : (p : DesignProblem) (top nodes : ℕ) (pool : Pooled) (sheet : Sheet) (cap : ℕ)
-    (kept proof : Option CapTree) → IsSheet p pool sheet → IsPrintedBy pool sheet kept proof →
-    IsKeptBelow p top nodes pool cap kept → ProofIsBelow p sheet.rows cap proof
+    (kept proof : Option CapTree) → IsSheetOf p pool sheet → IsPrintedBy pool sheet kept proof →
+    IsTreeKeptBelow p top nodes pool cap kept → ProofIsBelow p sheet.rows cap proof
 proof_below p top nodes pool sheet cap None None is proof_is holds = tt
 proof_below p top nodes pool sheet cap None (Some u) is proof_is holds = absurd proof_is
 proof_below p top nodes pool sheet cap (Some t) None is proof_is holds = absurd proof_is
@@ -328,8 +336,8 @@ proof_below p top nodes pool sheet cap (Some t) (Some u) is proof_is holds =
     (tree_proves p top nodes pool sheet t u is proof_is holds.1 holds.2, omega (arith, proof_is.0, holds.0))
 
 proof_printed : (p : DesignProblem) (top nodes : ℕ) (pool : Pooled) (sheet : Sheet) (cap : ℕ)
-    (kept proof : Option CapTree) → IsSheet p pool sheet → IsPrintedBy pool sheet kept proof →
-    IsKeptBelow p top nodes pool cap kept → ProofIsPrinted p top nodes sheet.rows proof
+    (kept proof : Option CapTree) → IsSheetOf p pool sheet → IsPrintedBy pool sheet kept proof →
+    IsTreeKeptBelow p top nodes pool cap kept → ProofIsPrinted p top nodes sheet.rows proof
 proof_printed p top nodes pool sheet cap None None is proof_is holds = tt
 proof_printed p top nodes pool sheet cap None (Some u) is proof_is holds = absurd proof_is
 proof_printed p top nodes pool sheet cap (Some t) None is proof_is holds = absurd proof_is
@@ -345,11 +353,12 @@ costs_above p cap (Some w) (Some costs) holds printed = (gives p w costs holds.0
 -- the budget was used up
 pub undecided_answered : (p : DesignProblem) (top nodes : ℕ) (pool : Pooled) (sheet : Sheet) (found : Option (List ℕ))
     (costs : Option CostsPart) (kept proof : Option CapTree) (t : CapTree) (unfinished : Option CapTree) →
-    IsSheet p pool sheet → IsPrintedBy pool sheet kept proof → IsPrintedBy pool sheet (Some t) unfinished →
+    IsSheetOf p pool sheet → IsPrintedBy pool sheet kept proof → IsPrintedBy pool sheet (Some t) unfinished →
     greatest_cost p.low ≤ t.cap →
-    CostsFound p t.cap found → ArePrintedIfAny p found costs → IsKeptBelow p top nodes pool t.cap kept → IsSpent p top nodes pool t →
-    IsAnswered p top nodes (record { verdict = Budget t.cap; costs = costs; floor = Absent; rows = sheet.rows; proof = proof; unfinished = unfinished })
-undecided_answered p top nodes pool sheet found costs kept proof t unfinished is proof_is unfinished_is from holds printed below spent = record {
+    CostsFound p t.cap found → ArePrintedIfAny p found costs → IsTreeKeptBelow p top nodes pool t.cap kept → IsUndecidedAt p top nodes pool t →
+    IsAnswerSheet p sheet.rows proof unfinished →
+    IsDesignAnswer p top nodes (record { verdict = Undecided t.cap; costs = costs; floor = Absent; rows = sheet.rows; proof = proof; unfinished = unfinished })
+undecided_answered p top nodes pool sheet found costs kept proof t unfinished is proof_is unfinished_is from holds printed below spent whole = record {
   holds = record {
     rows = sheet_rows p pool sheet is;
     no_floor = refl;
@@ -359,6 +368,7 @@ undecided_answered p top nodes pool sheet found costs kept proof t unfinished is
     costs = costs_above p t.cap found costs holds printed;
   };
   proof = proof_printed p top nodes pool sheet t.cap kept proof is proof_is below;
+  sheet = whole;
 }
 
 costs_printable : (p : DesignProblem) (found : Option (List ℕ)) (costs : Option CostsPart) → ArePrintedIfAny p found costs → CanPrintCosts costs
@@ -368,8 +378,8 @@ costs_printable p (Some w) None printed = absurd printed
 costs_printable p (Some w) (Some costs) printed = (printed.named, printed.small)
 
 spent_printable : (p : DesignProblem) (top nodes : ℕ) (pool : Pooled) (sheet : Sheet) (t : CapTree)
-    (unfinished : Option CapTree) → IsSheet p pool sheet → IsPrintedBy pool sheet (Some t) unfinished →
-    greatest_cost p.low ≤ t.cap → t.cap ≤ 65535 → nodes ≤ 10000000 → IsSpent p top nodes pool t →
+    (unfinished : Option CapTree) → IsSheetOf p pool sheet → IsPrintedBy pool sheet (Some t) unfinished →
+    greatest_cost p.low ≤ t.cap → t.cap ≤ 65535 → nodes ≤ 10000000 → IsUndecidedAt p top nodes pool t →
     CanPrintTree unfinished
 spent_printable p top nodes pool sheet t None is copy from small budget spent = absurd copy
 spent_printable p top nodes pool sheet t (Some u) is copy from small budget spent =
@@ -377,13 +387,13 @@ spent_printable p top nodes pool sheet t (Some u) is copy from small budget spen
 
 pub undecided_kept : (p : DesignProblem) (top nodes : ℕ) (pool : Pooled) (sheet : Sheet) (found : Option (List ℕ))
     (costs : Option CostsPart) (kept proof : Option CapTree) (t : CapTree) (unfinished : Option CapTree) →
-    IsSheet p pool sheet → IsPrintedBy pool sheet kept proof → IsPrintedBy pool sheet (Some t) unfinished →
+    IsSheetOf p pool sheet → IsPrintedBy pool sheet kept proof → IsPrintedBy pool sheet (Some t) unfinished →
     greatest_cost p.low ≤ t.cap → t.cap ≤ 65535 → nodes ≤ 10000000 →
-    ArePrintedIfAny p found costs → IsKeptBelow p top nodes pool t.cap kept → IsSpent p top nodes pool t →
-    IsAnswer (record { verdict = Budget t.cap; costs = costs; floor = Absent; rows = sheet.rows; proof = proof; unfinished = unfinished })
+    ArePrintedIfAny p found costs → IsTreeKeptBelow p top nodes pool t.cap kept → IsUndecidedAt p top nodes pool t →
+    FitsAnswer (record { verdict = Undecided t.cap; costs = costs; floor = Absent; rows = sheet.rows; proof = proof; unfinished = unfinished })
 undecided_kept p top nodes pool sheet found costs kept proof t unfinished is proof_is unfinished_is from small budget printed below spent =
     answer_kept (record {
-      verdict = Budget t.cap;
+      verdict = Undecided t.cap;
       costs = costs;
       floor = Absent;
       rows = sheet.rows;

@@ -1,25 +1,28 @@
 -- What is answered to a problem: best costs, that there are none, or that the budget was used up.
-use Rattle.std.specs.Prelude.{◌≡◌, ℕ, ◌<◌, ◌≤◌, List, All, Option, None, Some}
-use Rattle.path_rows.specs.declared.answer.CapTree.{CapTree}
-use Rattle.path_rows.specs.declared.answer.Costs.{Costs}
-use Rattle.path_rows.specs.declared.answer.Floor.TheVariants.{Absent}
-use Rattle.path_rows.specs.declared.answer.Verdict.{Verdict}
-use Rattle.path_rows.specs.declared.answer.Verdict.TheVariants.{Optimal, Impossible, Budget}
-use Rattle.path_rows.specs.declared.form.Row.{Row}
-use Rattle.path_rows.specs.Problems.{DesignProblem}
-use Rattle.path_rows.specs.Rows.{IsRow}
-use Rattle.path_rows.specs.Answers.{AnswerParts, IsValid, GivesCosts, Proves, greatest_bound}
-use Rattle.printed_rows.specs.PrintedTrees.{IsPrintedTree, IsSpentTree}
+use Rattle.std.specs.Prelude.{◌≡◌, ℕ, ◌<◌, ◌≤◌, ◌++◌, List, All, Option, None, Some}
+use Rattle.design_problem.specs.declared.answer.CapTree.{CapTree}
+use Rattle.design_problem.specs.declared.answer.Costs.{Costs}
+use Rattle.design_problem.specs.declared.answer.Floor.TheVariants.{Absent}
+use Rattle.design_problem.specs.declared.answer.Verdict.{Verdict}
+use Rattle.design_problem.specs.declared.answer.Verdict.TheVariants.{Optimal, Impossible, Undecided}
+use Rattle.design_problem.specs.declared.form.Row.{Row}
+use Rattle.design_problem.specs.Problems.{DesignProblem}
+use Rattle.design_problem.specs.Rows.{IsRow}
+use Rattle.design_problem.specs.Answers.{AnswerParts, IsValid, GivesCosts, Proves, greatest_bound}
+use Rattle.printed_rows.specs.NamedRows.{entries_in}
+use Rattle.printed_rows.specs.PrintedTrees.{IsPrintedTree, IsUndecidedTree}
+use Rattle.printed_rows.specs.Sheets.{IsSheet}
+use Rattle.cost_branching.specs.Pools.{Differ}
 
 -- a proof that stands is printed as an earnest tree
 abbrev pub ProofIsPrinted : DesignProblem → ℕ → ℕ → List Row → Option CapTree → Type 0
 ProofIsPrinted p top nodes rows None = Unit {0}
 ProofIsPrinted p top nodes rows (Some proof) = IsPrintedTree p top nodes rows proof
 
--- the tree of spent budget, which is at the cap
+-- the tree that used up the budget, at the cap
 abbrev pub UnfinishedAt : DesignProblem → ℕ → ℕ → List Row → ℕ → Option CapTree → Type 0
 UnfinishedAt p top nodes rows cap None = ⊥
-UnfinishedAt p top nodes rows cap (Some t) = (t.cap ≡ cap) × IsSpentTree p top nodes rows t
+UnfinishedAt p top nodes rows cap (Some t) = (t.cap ≡ cap) × IsUndecidedTree p top nodes rows t
 
 -- a proof that stands in an undecided answer: a closed sound tree at a cap below that of the verdict
 abbrev pub ProofIsBelow : DesignProblem → List Row → ℕ → Option CapTree → Type 0
@@ -45,9 +48,15 @@ pub record IsUndecided (p : DesignProblem) (top nodes cap : ℕ) (a : AnswerPart
 abbrev pub VerdictHolds : DesignProblem → ℕ → ℕ → AnswerParts → Verdict → Type 0
 VerdictHolds p top nodes a (Optimal k) = IsValid p a
 VerdictHolds p top nodes a Impossible = IsValid p a
-VerdictHolds p top nodes a (Budget cap) = IsUndecided p top nodes cap a
+VerdictHolds p top nodes a (Undecided cap) = IsUndecided p top nodes cap a
 
--- an answer to a problem: it is valid, or the budget was used up; a proof in it is an earnest tree
-pub record IsAnswered (p : DesignProblem) (top nodes : ℕ) (a : AnswerParts) : Type 0 where
+-- the rows of an answer, and the entries of both its trees, are a sheet
+abbrev pub IsAnswerSheet : DesignProblem → List Row → Option CapTree → Option CapTree → Type 0
+IsAnswerSheet p rows proof unfinished = IsSheet (IsRow p) Differ 0 rows (entries_in proof ++ entries_in unfinished)
+
+-- an answer to a problem: it is valid, or the budget was used up; a proof in it is an earnest tree, and just the rows that
+-- its trees name are printed
+pub record IsDesignAnswer (p : DesignProblem) (top nodes : ℕ) (a : AnswerParts) : Type 0 where
   pub holds : VerdictHolds p top nodes a a.verdict
   pub proof : ProofIsPrinted p top nodes a.rows a.proof
+  pub sheet : IsAnswerSheet p a.rows a.proof a.unfinished

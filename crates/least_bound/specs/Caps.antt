@@ -1,11 +1,11 @@
 -- What is known of the least greatest cost while caps are decided. No public clause cites it.
 use Rattle.std.specs.Prelude.{◌≡◌, ℕ, ◌+◌, ◌<◌, ◌≤◌, List, Contains, Option, None, Some}
-use Rattle.path_rows.specs.declared.tree.Entry.TheVariants.{Undone}
-use Rattle.path_rows.specs.declared.answer.CapTree.{CapTree}
-use Rattle.path_rows.specs.Problems.{DesignProblem}
-use Rattle.path_rows.specs.Rows.{IsFit, greatest_cost}
-use Rattle.path_rows.specs.Trees.{IsClosed, entry_count}
-use Rattle.path_rows.specs.Answers.{greatest_bound}
+use Rattle.design_problem.specs.declared.tree.Entry.TheVariants.{Undone}
+use Rattle.design_problem.specs.declared.answer.CapTree.{CapTree}
+use Rattle.design_problem.specs.Problems.{DesignProblem}
+use Rattle.design_problem.specs.Rows.{IsFit, greatest_cost}
+use Rattle.design_problem.specs.Trees.{IsClosed, entry_count}
+use Rattle.design_problem.specs.Answers.{greatest_bound}
 use Rattle.cost_branching.specs.Pools.{Pooled}
 use Rattle.cost_branching.specs.Decisions.{IsTreeAt}
 use Rattle.least_bound.specs.declared.progress.Best.{Best}
@@ -18,8 +18,8 @@ pub record IsRefuted (p : DesignProblem) (top nodes : ℕ) (pool : Pooled) (t : 
   pub closed : IsClosed t.tree
   pub few : entry_count t.tree ≤ nodes
 
--- a tree at its cap that has an Undone and exactly N entries
-pub record IsSpent (p : DesignProblem) (top nodes : ℕ) (pool : Pooled) (t : CapTree) : Type 0 where
+-- a tree at its cap that used up the budget: it has an Undone and exactly N entries
+pub record IsUndecidedAt (p : DesignProblem) (top nodes : ℕ) (pool : Pooled) (t : CapTree) : Type 0 where
   pub tree : IsTreeAt p top t.cap pool t.tree
   pub undone : Contains t.tree Undone
   pub spent : entry_count t.tree ≡ nodes
@@ -30,9 +30,9 @@ IsKeptAt p top nodes pool least None = least ≡ greatest_cost p.low
 IsKeptAt p top nodes pool least (Some t) = (t.cap + 1 ≡ least) × (greatest_cost p.low ≤ t.cap) × IsRefuted p top nodes pool t
 
 -- a kept tree is closed at a cap below this one, and not below a lower bound
-abbrev pub IsKeptBelow : DesignProblem → ℕ → ℕ → Pooled → ℕ → Option CapTree → Type 0
-IsKeptBelow p top nodes pool cap None = Unit {0}
-IsKeptBelow p top nodes pool cap (Some t) = (t.cap < cap) × (greatest_cost p.low ≤ t.cap) × IsRefuted p top nodes pool t
+abbrev pub IsTreeKeptBelow : DesignProblem → ℕ → ℕ → Pooled → ℕ → Option CapTree → Type 0
+IsTreeKeptBelow p top nodes pool cap None = Unit {0}
+IsTreeKeptBelow p top nodes pool cap (Some t) = (t.cap < cap) × (greatest_cost p.low ≤ t.cap) × IsRefuted p top nodes pool t
 
 -- without costs the cap is the greatest upper bound; with costs, which are fit, it is below their greatest
 abbrev pub CostsFound : DesignProblem → ℕ → Option (List ℕ) → Type 0
@@ -41,9 +41,9 @@ CostsFound p cap (Some w) = IsFit p w × (cap < greatest_cost w)
 
 -- what the best so far says of the cap `most`
 abbrev pub BestHolds : DesignProblem → ℕ → ℕ → Pooled → ℕ → Best → Type 0
-BestHolds p top nodes pool most (NoCosts t) = (t.cap ≡ greatest_bound p) × (most ≤ t.cap) × IsSpent p top nodes pool t
+BestHolds p top nodes pool most (NoCosts t) = (t.cap ≡ greatest_bound p) × (most ≤ t.cap) × IsUndecidedAt p top nodes pool t
 BestHolds p top nodes pool most (Costs w) = IsFit p w × (greatest_cost w ≡ most)
-BestHolds p top nodes pool most (Between w t) = IsFit p w × (most < greatest_cost w) × (t.cap ≡ most) × IsSpent p top nodes pool t
+BestHolds p top nodes pool most (Between w t) = IsFit p w × (most < greatest_cost w) × (t.cap ≡ most) × IsUndecidedAt p top nodes pool t
 
 -- fit costs have a greatest cost from `least` on, and `most` is the least cap at which costs or a spent tree stand
 pub record IsProgress (p : DesignProblem) (top nodes : ℕ) (pool : Pooled) (progress : Progress) : Type 0 where

@@ -1,19 +1,19 @@
 //! Answers to a problem, by what the decided caps have come to.
 ghost use Rattle.std.specs.Prelude.{◌≡◌, ℕ, ◌≤◌, IfOk, IfSome};
 ghost use Rattle.std.specs.Option.{option_copied};
-ghost use Rattle.path_rows.specs.Rows.{IsFit, greatest_cost};
-ghost use Rattle.path_rows.specs.Answers.{greatest_bound};
+ghost use Rattle.design_problem.specs.Rows.{IsFit, greatest_cost};
+ghost use Rattle.design_problem.specs.Answers.{greatest_bound};
 ghost use Rattle.printed_rows.specs.PrintedCosts.{ArePrintedCosts};
-ghost use Rattle.cost_branching.specs.Pools.{IsPool};
-ghost use Rattle.least_bound.specs.Answered.{IsAnswered};
-ghost use Rattle.least_bound.specs.Caps.{IsKeptAt, IsKeptBelow, IsProgress, IsLeastFound, IsRefuted, IsSpent, CostsFound};
+ghost use Rattle.cost_branching.specs.Pools.{IsRowPool};
+ghost use Rattle.least_bound.specs.Answered.{IsDesignAnswer};
+ghost use Rattle.least_bound.specs.Caps.{IsKeptAt, IsTreeKeptBelow, IsProgress, IsLeastFound, IsRefuted, IsUndecidedAt, CostsFound};
 ghost use Rattle.least_bound.specs.Printing.{ArePrintedIfAny, IsFloorFor};
 
 use crate::greatest::floor_of;
 use crate::progress::{Best, Progress};
 use cost_base::OutOfMemory;
 use cost_branching::{Pool, keeps_conditions};
-use path_rows::{Answer, CapTree, CostList, Costs, Floor, Problem, Tree, Verdict};
+use design_problem::{Answer, CapTree, CostList, Costs, Floor, Problem, Tree, Verdict};
 use printed_rows::{printed_both, printed_costs};
 use std::alloc::Global;
 
@@ -25,11 +25,11 @@ pub(crate) fn impossible(
     ceiling: u16,
     tree: Tree,
 ) -> Result<Answer, OutOfMemory>
-    requires pool { IsPool problem.now pool }
+    requires pool { IsRowPool problem.now pool }
     requires ceiling { ceiling ≡ greatest_bound problem.now }
     requires refuted { (top : ℕ) × (nodes : ℕ) × (nodes ≤ 10000000) × IsRefuted problem.now top nodes pool (record { cap = ceiling; tree = tree }) }
     ensures { (top nodes : ℕ) → IsRefuted problem.now top nodes pool (record { cap = ceiling; tree = tree }) →
-        IfOk result (IsAnswered problem.now top nodes) }
+        IfOk result (IsDesignAnswer problem.now top nodes) }
 {
     keeps_conditions(problem);
     let proof = CapTree { cap: ceiling, tree };
@@ -62,10 +62,10 @@ fn optimal(
     costs: &CostList,
     kept: Option<CapTree>,
 ) -> Result<Answer, OutOfMemory>
-    requires pool { IsPool problem.now pool }
+    requires pool { IsRowPool problem.now pool }
     requires fit { IsFit problem.now costs.now }
     requires kept { (top : ℕ) × (nodes : ℕ) × (nodes ≤ 10000000) × IsKeptAt problem.now top nodes pool (greatest_cost costs.now) kept }
-    ensures { (top nodes : ℕ) → IsKeptAt problem.now top nodes pool (greatest_cost costs.now) kept → IfOk result (IsAnswered problem.now top nodes) }
+    ensures { (top nodes : ℕ) → IsKeptAt problem.now top nodes pool (greatest_cost costs.now) kept → IfOk result (IsDesignAnswer problem.now top nodes) }
 {
     keeps_conditions(problem);
     let floor = floor_without(problem, &kept);
@@ -122,19 +122,19 @@ fn undecided(
     kept: Option<CapTree>,
     unfinished: CapTree,
 ) -> Result<Answer, OutOfMemory>
-    requires pool { IsPool problem.now pool }
+    requires pool { IsRowPool problem.now pool }
     requires from_floor { greatest_cost problem.now.low ≤ unfinished.cap }
     requires costs { CostsFound problem.now unfinished.cap (option_copied costs) }
-    requires trees { (top : ℕ) × (nodes : ℕ) × (nodes ≤ 10000000) × IsKeptBelow problem.now top nodes pool unfinished.cap kept ×
-        IsSpent problem.now top nodes pool unfinished }
-    ensures { (top nodes : ℕ) → IsKeptBelow problem.now top nodes pool unfinished.cap kept → IsSpent problem.now top nodes pool unfinished →
-        IfOk result (IsAnswered problem.now top nodes) }
+    requires trees { (top : ℕ) × (nodes : ℕ) × (nodes ≤ 10000000) × IsTreeKeptBelow problem.now top nodes pool unfinished.cap kept ×
+        IsUndecidedAt problem.now top nodes pool unfinished }
+    ensures { (top nodes : ℕ) → IsTreeKeptBelow problem.now top nodes pool unfinished.cap kept → IsUndecidedAt problem.now top nodes pool unfinished →
+        IfOk result (IsDesignAnswer problem.now top nodes) }
 {
     keeps_conditions(problem);
     let cap = cap_of(&unfinished);
     let printed = printed_both(alloc, pool.into_rows(), kept.as_ref(), Some(&unfinished))?;
     Ok(Answer {
-        verdict: Verdict::Budget(cap),
+        verdict: Verdict::Undecided(cap),
         costs: printed_if_any(alloc, problem, costs)?,
         floor: Floor::Absent,
         rows: printed.rows,
@@ -151,10 +151,10 @@ impl Progress {
         problem: &Problem,
         pool: Pool,
     ) -> Result<Answer, OutOfMemory>
-        requires pool { IsPool problem.now pool }
+        requires pool { IsRowPool problem.now pool }
         requires ended { IsLeastFound self.least self.most self.best }
         requires progress { (top : ℕ) × (nodes : ℕ) × (nodes ≤ 10000000) × IsProgress problem.now top nodes pool self }
-        ensures { (top nodes : ℕ) → IsProgress problem.now top nodes pool self → IfOk result (IsAnswered problem.now top nodes) }
+        ensures { (top nodes : ℕ) → IsProgress problem.now top nodes pool self → IfOk result (IsDesignAnswer problem.now top nodes) }
     {
         let Progress { kept, best, .. } = self;
         match best {

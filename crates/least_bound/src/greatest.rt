@@ -2,7 +2,7 @@
 ghost use Rattle.std.specs.Prelude.{◌≤◌, length};
 ghost use Rattle.least_bound.specs.Printing.{ShowsFloor};
 
-use path_rows::{Floor, greatest_of};
+use design_problem::{Floor, greatest_of};
 
 /// The first variable whose lower bound is the greatest of them, or Empty where there is no variable.
 pub(crate) fn floor_of(low: &[u16]) -> Floor

@@ -1,16 +1,16 @@
 //! The least cap.
 ghost use Rattle.std.specs.Prelude.{ℕ, ◌≤◌, IfOk};
 ghost use Rattle.form_search.specs.Advised.{AreCalled};
-ghost use Rattle.cost_branching.specs.Pools.{IsPool};
-ghost use Rattle.least_bound.specs.Answered.{IsAnswered};
+ghost use Rattle.cost_branching.specs.Pools.{IsRowPool};
+ghost use Rattle.least_bound.specs.Answered.{IsDesignAnswer};
 ghost use Rattle.least_bound.specs.Caps.{IsProgress};
 
 use crate::answering::impossible;
 use crate::progress::{Best, Progress};
-use advisor_box::Advisor;
 use cost_base::OutOfMemory;
 use cost_branching::{Found, Pool, decide, keeps_conditions};
-use path_rows::{Answer, CapTree, Problem, greatest_of};
+use cut_advisors::Advisor;
+use design_problem::{Answer, CapTree, Problem, greatest_of};
 use std::alloc::Global;
 use wide_fraction::Limits;
 
@@ -23,9 +23,9 @@ fn narrowed(
     progress: Progress,
     advisors: &mut Vec<Box<dyn Advisor>>,
 ) -> Result<Answer, OutOfMemory>
-    requires pool { IsPool problem.now pool }
+    requires pool { IsRowPool problem.now pool }
     requires progress { IsProgress problem.now limits.now.top limits.now.nodes pool progress }
-    ensures answered { IfOk result (IsAnswered problem.now limits.now.top limits.now.nodes) }
+    ensures answered { IfOk result (IsDesignAnswer problem.now limits.now.top limits.now.nodes) }
     ensures advisors { AreCalled ⟦<dyn Advisor as Advisor>⟧ (λ b. b.vtable) (λ b. state b) advisors.old.items advisors.new.items }
 {
     keeps_conditions(problem);
@@ -54,7 +54,7 @@ pub fn least(
     limits: &Limits,
     advisors: &mut Vec<Box<dyn Advisor>>,
 ) -> Result<Answer, OutOfMemory>
-    ensures answered { IfOk result (IsAnswered problem.now limits.now.top limits.now.nodes) }
+    ensures answered { IfOk result (IsDesignAnswer problem.now limits.now.top limits.now.nodes) }
     ensures advisors { AreCalled ⟦<dyn Advisor as Advisor>⟧ (λ b. b.vtable) (λ b. state b) advisors.old.items advisors.new.items }
 {
     keeps_conditions(problem);
@@ -67,7 +67,7 @@ pub fn least(
             let progress = Progress::start(problem, most, Best::Costs(costs));
             narrowed(alloc, problem, limits, pool, progress, advisors)
         }
-        Found::Spent(tree) => {
+        Found::Undecided(tree) => {
             let best = Best::NoCosts(CapTree { cap: ceiling, tree });
             let progress = Progress::start(problem, ceiling, best);
             narrowed(alloc, problem, limits, pool, progress, advisors)

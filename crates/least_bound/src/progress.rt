@@ -1,13 +1,13 @@
 //! What is known of the least greatest cost while caps are decided.
 ghost use Rattle.std.specs.Prelude.{◌≡◌, ℕ, ◌+◌, ◌<◌, ◌≤◌, IfSome, None};
-ghost use Rattle.path_rows.specs.Problems.{DesignProblem, IsProblem};
-ghost use Rattle.path_rows.specs.Rows.{greatest_cost};
-ghost use Rattle.cost_branching.specs.Pools.{Pooled, IsPool, MoreRows};
+ghost use Rattle.design_problem.specs.Problems.{DesignProblem, IsProblem};
+ghost use Rattle.design_problem.specs.Rows.{greatest_cost};
+ghost use Rattle.cost_branching.specs.Pools.{Pooled, IsRowPool, MoreRows};
 ghost use Rattle.cost_branching.specs.Decisions.{IsDecided};
-ghost use Rattle.least_bound.specs.Caps.{BestHolds, IsLeastFound, IsProgress, IsSpent};
+ghost use Rattle.least_bound.specs.Caps.{BestHolds, IsLeastFound, IsProgress, IsUndecidedAt};
 
 use cost_branching::Found;
-use path_rows::{CapTree, CostList, Problem, Tree, greatest_of};
+use design_problem::{CapTree, CostList, Problem, Tree, greatest_of};
 
 /// The best that the caps so far have come to.
 #[derive(Drop)]
@@ -69,7 +69,7 @@ impl Best {
     /// Where the budget was used up at a further cap: with costs this tree stands there.
     fn stuck_at(self, stuck: CapTree) -> Best
         ensures { (p : DesignProblem) (top nodes : ℕ) (old new : Pooled) (most : ℕ) →
-            BestHolds p top nodes old most self → MoreRows old new → IsSpent p top nodes new stuck → stuck.cap < most →
+            BestHolds p top nodes old most self → MoreRows old new → IsUndecidedAt p top nodes new stuck → stuck.cap < most →
             BestHolds p top nodes new stuck.cap result }
     {
         match self {
@@ -113,7 +113,7 @@ impl Progress {
         requires from_least { self.least ≤ cap }
         requires below_most { cap < self.most }
         ensures holds { (p : DesignProblem) (top nodes : ℕ) (old new : Pooled) →
-            IsProblem p → IsPool p new → MoreRows old new → IsProgress p top nodes old self → IsDecided p top nodes cap new found →
+            IsProblem p → IsRowPool p new → MoreRows old new → IsProgress p top nodes old self → IsDecided p top nodes cap new found →
             IsProgress p top nodes new result }
         ensures nearer { (p : DesignProblem) (top nodes : ℕ) (pool : Pooled) → IsDecided p top nodes cap pool found →
             result.most + self.least < self.most + result.least }
@@ -140,7 +140,7 @@ impl Progress {
                 kept: Some(CapTree { cap, tree }),
                 best,
             },
-            Found::Spent(tree) => Progress {
+            Found::Undecided(tree) => Progress {
                 floor,
                 least,
                 most: cap,

@@ -5,17 +5,17 @@ use Rattle.std.specs.Int.Signed.{clash_ℤ}
 use Rattle.std.proofs.lemmas.List.{length-map, append_cancel_left}
 use Rattle.std.proofs.lemmas.List.Elements.{All-nil, All-cons, All-head, All-tail, All-contains, All-push, All-weaker, Contains-append_cases, Contains-append_right, Contains-push}
 use Rattle.area_graph.specs.declared.Point.{Point}
-use Rattle.path_rows.specs.Forms.{Form, value_at, AreMet}
-use Rattle.path_rows.specs.Problems.{DesignProblem}
-use Rattle.path_rows.specs.Rows.{LeadsEach, form_of_row, forms_of_rows}
-use Rattle.form_search.specs.Sources.{Grows, IsAnswered}
+use Rattle.design_problem.specs.Forms.{Form, value_at, AreMet}
+use Rattle.design_problem.specs.Problems.{DesignProblem}
+use Rattle.design_problem.specs.Rows.{LeadsEach, form_of_row, forms_of_rows}
+use Rattle.form_search.specs.Sources.{Grows, IsSourceAnswer}
 use Rattle.form_search.specs.declared.source.Asked.{Asked}
 use Rattle.form_search.specs.declared.source.Asked.TheVariants.{Nothing, Added}
-use Rattle.cost_branching.specs.Asking.{AreAllAsked}
-use Rattle.cost_branching.specs.Pools.{AreRows}
-use Rattle.cost_branching.specs.Rivals.{IsTrueOf, KnownRows}
+use Rattle.cost_branching.specs.Asking.{AreAllRequestsAsked}
+use Rattle.cost_branching.specs.Pools.{ArePoolRows}
+use Rattle.cost_branching.specs.Rivals.{IsTrueRowForm, KnownRows}
 use Rattle.least_total.specs.Totals.{LeadsWithin, form_of_total}
-use Rattle.least_total.specs.Bounded.{AreInStep, BoundedRows, IsPlaceIn, IsTrueTotal, IsTrueWithin, forms_with_total, with_form}
+use Rattle.least_total.specs.Bounded.{IsPoolWithTotal, BoundedRows, IsPlaceIn, IsTrueTotal, IsTrueWithin, forms_with_total, with_form}
 
 -- Forms with one among them.
 
@@ -30,7 +30,7 @@ abbrev Met : Point → Form → Type 0
 Met point form = pos 0 ≤ℤ value_at form point
 
 -- where the pool's forms are at least 0, those of the rows are
-pub rows_met : (old : BoundedRows) (pool : List Form) (point : Point) → AreInStep old pool → AreMet pool point →
+pub rows_met : (old : BoundedRows) (pool : List Form) (point : Point) → IsPoolWithTotal old pool → AreMet pool point →
     AreMet (forms_of_rows old.known.problem old.known.rows) point
 rows_met old pool point in_step met = by_place old.before (subst (λ (fs : List Form). All (Met point) fs) in_step.forms met)
   where
@@ -41,7 +41,7 @@ rows_met old pool point in_step met = by_place old.before (subst (λ (fs : List 
     by_place (Some k) all = (all_without (Met point) (forms_of_rows old.known.problem old.known.rows) (form_of_total old.known.problem old.most) k all).0
 
 -- where the form of the total is negative, it hasn't come yet
-pub not_come : (old : BoundedRows) (pool : List Form) (point : Point) → AreInStep old pool → AreMet pool point →
+pub not_come : (old : BoundedRows) (pool : List Form) (point : Point) → IsPoolWithTotal old pool → AreMet pool point →
     value_at (form_of_total old.known.problem old.most) point <ℤ pos 0 → old.before ≡ None
 not_come old pool point in_step met negative = by_place old.before refl (subst (λ (fs : List Form). All (Met point) fs) in_step.forms met)
   where
@@ -75,8 +75,8 @@ after_rows old new = record { known = new; most = old.most; before = old.before 
 
 -- the rows that came bring their forms, and nothing else
 pub in_step_after : (old : BoundedRows) (pool : List Form) (point : Point) (new : KnownRows) (grown : List Form)
-    (asked : Asked) → AreInStep old pool → AreAllAsked point old.known pool new grown asked →
-    AreInStep (after_rows old new) grown
+    (asked : Asked) → IsPoolWithTotal old pool → AreAllRequestsAsked point old.known pool new grown asked →
+    IsPoolWithTotal (after_rows old new) grown
 in_step_after old pool point new grown asked in_step are =
     let p = old.known.problem in
     let rows = old.known.rows in
@@ -90,7 +90,7 @@ in_step_after old pool point new grown asked in_step are =
     are.forms ∙ ap (λ (gs : List Form). gs ++ are.more) in_step.forms
     ∙ form_with_more fs are.more total old.before place ∙ ap (with_form old.before total) (sym are.rows) in
     record {
-      are_rows = subst (λ (q : DesignProblem). AreRows q new.rows) (sym are.problem) are.are_rows;
+      are_rows = subst (λ (q : DesignProblem). ArePoolRows q new.rows) (sym are.problem) are.are_rows;
       place = place_more (length rows) (length new.rows) old.before longer in_step.place;
       forms = forms ∙ ap (λ (q : DesignProblem). forms_with_total q old.most new.rows old.before) (sym are.problem);
     }
@@ -108,9 +108,9 @@ the_second (inr b) no_a = b
 
 -- where the form of the total is at least 0, the rows tell whether the point is accepted
 pub answered_within : (old : BoundedRows) (pool : List Form) (point : Point) (new : KnownRows) (grown : List Form)
-    (asked : Asked) → AreMet pool point → AreAllAsked point old.known pool new grown asked →
+    (asked : Asked) → AreMet pool point → AreAllRequestsAsked point old.known pool new grown asked →
     pos 0 ≤ℤ value_at (form_of_total old.known.problem old.most) point →
-    IsAnswered (LeadsWithin old.known.problem old.most) point pool grown asked
+    IsSourceAnswer (LeadsWithin old.known.problem old.most) point pool grown asked
 answered_within old pool point new grown asked met are within = by_answer asked are.answer
   where
     p : DesignProblem
@@ -119,9 +119,9 @@ answered_within old pool point new grown asked met are within = by_answer asked 
     fs : List Form
     fs = forms_of_rows old.known.problem old.known.rows
 
-    by_answer : (asked : Asked) → IsAnswered (LeadsEach old.known.problem) point
+    by_answer : (asked : Asked) → IsSourceAnswer (LeadsEach old.known.problem) point
         (forms_of_rows old.known.problem old.known.rows) (forms_of_rows old.known.problem new.rows) asked →
-        IsAnswered (LeadsWithin old.known.problem old.most) point pool grown asked
+        IsSourceAnswer (LeadsWithin old.known.problem old.most) point pool grown asked
     by_answer Nothing answer =
         let none = none_more fs are.more (sym are.rows ∙ answer.1) in
         (record { leads = answer.0; within = within }, are.forms ∙ ap (λ (gs : List Form). pool ++ gs) none ∙ append-nil pool)
@@ -144,7 +144,7 @@ answered_within old pool point new grown asked met are within = by_answer asked 
 pub answered_over : (old : BoundedRows) (pool : List Form) (point : Point) (grown more : List Form) →
     AreMet pool point → value_at (form_of_total old.known.problem old.most) point <ℤ pos 0 →
     more ≡ grown ++ form_of_total old.known.problem old.most ∷ [] →
-    IsAnswered (LeadsWithin old.known.problem old.most) point pool more Added
+    IsSourceAnswer (LeadsWithin old.known.problem old.most) point pool more Added
 answered_over old pool point grown more met negative same =
     let total = form_of_total old.known.problem old.most in (
       λ accepted. clash_ℤ negative accepted.within,
@@ -158,15 +158,15 @@ answered_over old pool point grown more met negative same =
 
 -- True forms came.
 
-pub grows_within : (p : DesignProblem) (most : ℕ) (pool grown : List Form) → Grows (IsTrueOf p) pool grown → Grows (IsTrueWithin p most) pool grown
+pub grows_within : (p : DesignProblem) (most : ℕ) (pool grown : List Form) → Grows (IsTrueRowForm p) pool grown → Grows (IsTrueWithin p most) pool grown
 grows_within p most pool grown grows = record {
   more = grows.more;
   same = grows.same;
-  more_true = All-weaker (IsTrueOf p) (IsTrueWithin p most) (λ form is. inl is) grows.more grows.more_true;
+  more_true = All-weaker (IsTrueRowForm p) (IsTrueWithin p most) (λ form is. inl is) grows.more grows.more_true;
 }
 
 pub grows_over : (p : DesignProblem) (most : ℕ) (pool grown more : List Form) →
-    IsTrueTotal p most (form_of_total p most) → Grows (IsTrueOf p) pool grown →
+    IsTrueTotal p most (form_of_total p most) → Grows (IsTrueRowForm p) pool grown →
     more ≡ grown ++ form_of_total p most ∷ [] → Grows (IsTrueWithin p most) pool more
 grows_over p most pool grown more is_true grows same =
     let total = form_of_total p most in
@@ -178,9 +178,9 @@ grows_over p most pool grown more is_true grows same =
     }
 
 -- the form of the total has come behind all rows
-pub in_step_over : (s t : BoundedRows) (grown more : List Form) → AreInStep s grown → s.before ≡ None →
+pub in_step_over : (s t : BoundedRows) (grown more : List Form) → IsPoolWithTotal s grown → s.before ≡ None →
     t.known ≡ s.known → t.most ≡ s.most → t.before ≡ Some (length s.known.rows) →
-    more ≡ grown ++ form_of_total s.known.problem s.most ∷ [] → AreInStep t more
+    more ≡ grown ++ form_of_total s.known.problem s.most ∷ [] → IsPoolWithTotal t more
 in_step_over s t grown more in_step none known most place same =
     let p = s.known.problem in
     let rows = s.known.rows in
@@ -190,12 +190,12 @@ in_step_over s t grown more in_step none known most place same =
     let count : length fs ≡ n = length-map rows (form_of_row p) in
     let grown_is : grown ≡ fs = in_step.forms ∙ ap (λ (b : Option ℕ). forms_with_total p s.most rows b) none in
     let all : take n fs ++ total ∷ drop n fs ≡ fs ++ total ∷ [] = whole fs total n (omega (arith, count)) in
-    let here : AreInStep (record { known = s.known; most = s.most; before = Some n }) more = record {
+    let here : IsPoolWithTotal (record { known = s.known; most = s.most; before = Some n }) more = record {
       are_rows = in_step.are_rows;
       place = omega arith;
       forms = same ∙ ap (λ (gs : List Form). gs ++ total ∷ []) grown_is ∙ sym all;
     } in
-    subst (λ (u : BoundedRows). AreInStep u more) (same_state known most place) here
+    subst (λ (u : BoundedRows). IsPoolWithTotal u more) (same_state known most place) here
   where
     whole : (fs : List Form) (f : Form) (n : ℕ) → length fs ≤ n → take n fs ++ f ∷ drop n fs ≡ fs ++ f ∷ []
     whole [] f zero long = refl

@@ -7,22 +7,22 @@ use Rattle.std.proofs.lemmas.Bool.{cases_lt}
 use Rattle.std.proofs.lemmas.List.{length-map, get_or-map}
 use Rattle.std.proofs.lemmas.List.Elements.{All-nil, All-cons, All-head, All-tail}
 use Rattle.area_graph.specs.Costs.{at_costs}
-use Rattle.path_rows.specs.declared.form.Row.{Row}
-use Rattle.path_rows.specs.declared.tree.Entry.{Entry}
-use Rattle.path_rows.specs.Problems.{DesignProblem, IsProblem}
-use Rattle.path_rows.specs.Forms.{Form, dot, form_at, value, value_at}
-use Rattle.path_rows.specs.Boxes.{IsInBox, capped}
-use Rattle.path_rows.specs.Rows.{IsBest, IsFit, IsRow, box_of, forms_of_rows, greatest_cost}
-use Rattle.path_rows.specs.Trees.{IsClosed, IsSoundTree}
-use Rattle.path_rows.proofs.OpenPlaces.{earnest_tree_sound}
-use Rattle.path_rows.proofs.ProblemTrees.{fit_meets, le_greatest}
-use Rattle.path_rows.proofs.TreeLaws.{closed_tree_none}
+use Rattle.design_problem.specs.declared.form.Row.{Row}
+use Rattle.design_problem.specs.declared.tree.Entry.{Entry}
+use Rattle.design_problem.specs.Problems.{DesignProblem, IsProblem}
+use Rattle.design_problem.specs.Forms.{Form, dot, form_at, value_for_costs, value_at}
+use Rattle.design_problem.specs.Boxes.{IsInBox, capped}
+use Rattle.design_problem.specs.Rows.{AreBestCosts, IsFit, IsRow, box_of, forms_of_rows, greatest_cost}
+use Rattle.design_problem.specs.Trees.{IsClosed, IsSoundTree}
+use Rattle.design_problem.proofs.OpenPlaces.{earnest_tree_sound}
+use Rattle.design_problem.proofs.ProblemTrees.{fit_meets, le_greatest}
+use Rattle.design_problem.proofs.TreeLaws.{closed_tree_none}
 use Rattle.printed_rows.proofs.MetForms.{Met, meets_all}
 use Rattle.least_total.specs.declared.rounds.TotalTree.{TotalTree}
 use Rattle.least_total.specs.Totals.{form_of_total, total}
 use Rattle.least_total.specs.Bounded.{forms_with_total, with_form}
 use Rattle.least_total.specs.BoundedLaws.{minus_sum, sum_more}
-use Rattle.least_total.specs.Rounds.{IsFitWithin, IsKeptBelow, IsRefutedWithin}
+use Rattle.least_total.specs.Rounds.{IsFitWithin, IsKeptBelowTotal, IsRefutedWithin}
 
 -- at most as much, place by place
 sum_le : (ls ws : List ℕ) → length ls ≡ length ws → ((k : ℕ) → k < length ws → slice_index ls k ≤ slice_index ws k) → sum ls ≤ sum ws
@@ -59,7 +59,7 @@ form_value : (most s : ℕ) (d : ℤ) → (d +ℤ pos s) ≡ pos 0 → s ≤ mos
 form_value most s d same small = omega (arith, ints)
 
 -- costs of a total of at most `most` meet it
-pub total_met : (p : DesignProblem) (most : ℕ) (w : List ℕ) → length p.low ≡ length w → total w ≤ most → pos 0 ≤ℤ value (form_of_total p most) w
+pub total_met : (p : DesignProblem) (most : ℕ) (w : List ℕ) → length p.low ≡ length w → total w ≤ most → pos 0 ≤ℤ value_for_costs (form_of_total p most) w
 total_met p most w count small = form_value most (sum w) (dot (replicate (length p.low) (negsuc 0)) w) (minus_sum (length p.low) w (sym count)) small
 
 value_small : (most s : ℕ) (d : ℤ) → (d +ℤ pos s) ≡ pos 0 → pos 0 ≤ℤ ((pos most *ℤ pos 1) +ℤ d) → s ≤ most
@@ -114,12 +114,12 @@ refuted_bounds p top nodes cap most t kept refuted w fit =
 
 -- what is kept bounds the total of fit costs within the cap
 pub kept_bounds : (p : DesignProblem) (top nodes cap least : ℕ) (kept : Option TotalTree) → IsProblem p →
-    IsKeptBelow p top nodes cap least kept → (w : List ℕ) → IsFitWithin p cap w → least ≤ total w
+    IsKeptBelowTotal p top nodes cap least kept → (w : List ℕ) → IsFitWithin p cap w → least ≤ total w
 kept_bounds p top nodes cap least None problem floor w fit = let low = from_lows p w fit.0 in omega (arith, floor)
 kept_bounds p top nodes cap least (Some t) problem kept w fit =
     let above = refuted_bounds p top nodes cap kept.0 t problem kept.2 w fit in
     omega (arith, kept.1)
 
 -- best costs have one greatest cost
-pub best_within : (p : DesignProblem) (w other : List ℕ) → IsBest p w → IsBest p other → IsFitWithin p (greatest_cost w) other
+pub best_within : (p : DesignProblem) (w other : List ℕ) → AreBestCosts p w → AreBestCosts p other → IsFitWithin p (greatest_cost w) other
 best_within p w other best other_best = (other_best.fit, other_best.least w best.fit)

@@ -4,27 +4,27 @@ use Rattle.std.specs.Prelude.{All, Option, None, Some, codes, replicate}
 use Rattle.std.proofs.lemmas.List.Elements.{All-append}
 use Rattle.cost_base.specs.Decimal.{decimal}
 use Rattle.cost_base.proofs.ListLemmas.{All-left, All-right, length_zip}
-use Rattle.path_rows.specs.declared.problem.VarName.{VarName}
-use Rattle.path_rows.specs.declared.answer.CapTree.{CapTree}
-use Rattle.path_rows.specs.declared.answer.CostLine.{CostLine}
-use Rattle.path_rows.specs.declared.answer.Costs.{Costs}
-use Rattle.path_rows.specs.declared.answer.Floor.{Floor}
-use Rattle.path_rows.specs.declared.answer.Verdict.{Verdict}
-use Rattle.path_rows.specs.declared.answer.Verdict.TheVariants.{Optimal}
-use Rattle.path_rows.specs.declared.form.Row.{Row}
-use Rattle.path_rows.specs.Problems.{DesignProblem, IsProblem}
-use Rattle.path_rows.specs.Rows.{IsBest, greatest_cost}
-use Rattle.path_rows.specs.Answers.{AnswerParts, ClaimHolds, GivesCosts, IsValid, lines_in}
-use Rattle.path_rows.specs.ProblemLaws.{GivesBest, IsTrueVerdict}
-use Rattle.path_rows.proofs.ProblemTrees.{valid_holds}
-use Rattle.path_rows.specs.GivenCosts.{costs_given, written}
-use Rattle.path_rows.proofs.GivenCosts.{names_written}
-use Rattle.path_rows.specs.Text.{IsAnswer, costs_lines, floor_word, row_line, spaced, tree_lines, verdict_words}
+use Rattle.design_problem.specs.declared.problem.VarName.{VarName}
+use Rattle.design_problem.specs.declared.answer.CapTree.{CapTree}
+use Rattle.design_problem.specs.declared.answer.CostLine.{CostLine}
+use Rattle.design_problem.specs.declared.answer.Costs.{Costs}
+use Rattle.design_problem.specs.declared.answer.Floor.{Floor}
+use Rattle.design_problem.specs.declared.answer.Verdict.{Verdict}
+use Rattle.design_problem.specs.declared.answer.Verdict.TheVariants.{Optimal}
+use Rattle.design_problem.specs.declared.form.Row.{Row}
+use Rattle.design_problem.specs.Problems.{DesignProblem, IsProblem}
+use Rattle.design_problem.specs.Rows.{AreBestCosts, greatest_cost}
+use Rattle.design_problem.specs.Answers.{AnswerParts, ClaimHolds, GivesCosts, IsValid, lines_in}
+use Rattle.design_problem.specs.ProblemLaws.{GivesBest, IsTrueVerdict}
+use Rattle.design_problem.proofs.ProblemTrees.{valid_holds}
+use Rattle.design_problem.specs.GivenCosts.{costs_given, written}
+use Rattle.design_problem.proofs.GivenCosts.{names_written}
+use Rattle.design_problem.specs.Text.{FitsAnswer, costs_lines, floor_word, row_line, spaced, tree_lines, verdict_words}
 use Rattle.printed_rows.specs.PrintedCosts.{ArePrintedCosts}
 use Rattle.printed_rows.proofs.AnswerLines.{costs_fit, costs_short}
 use Rattle.least_total.specs.Given.{AreGiven}
 use Rattle.least_total.specs.Rounds.{IsFitWithin}
-use Rattle.printed_rows.specs.FittingTexts.{IsLine}
+use Rattle.printed_rows.specs.FittingTexts.{IsTextLine}
 use Rattle.least_total.specs.Results.{IsRecosted}
 
 -- a valid optimal answer gives best costs
@@ -57,12 +57,12 @@ given_are p a k w problem valid is given =
     ∙ names_written p gives.costs.lines gives.values problem.each_named gives.best.fit.within.low_count
     gives.names in
     record {
-      best = subst (IsBest p) (sym same) gives.best;
+      best = subst (AreBestCosts p) (sym same) gives.best;
       verdict = is ∙ ap Optimal (sym gives.greatest ∙ ap greatest_cost (sym same));
     }
 
 -- fit costs within the greatest of best costs are best, and have that greatest cost
-fit_best : (p : DesignProblem) (k : ℕ) (costs : Option Costs) (w : List ℕ) → GivesBest p k costs → IsFitWithin p k w → (greatest_cost w ≡ k) × IsBest p w
+fit_best : (p : DesignProblem) (k : ℕ) (costs : Option Costs) (w : List ℕ) → GivesBest p k costs → IsFitWithin p k w → (greatest_cost w ≡ k) × AreBestCosts p w
 fit_best p k costs w gives fit =
     let from : greatest_cost gives.values ≤ greatest_cost w = gives.best.least w fit.0 in
     let same : greatest_cost w ≡ k = omega (arith, gives.greatest, fit.1) in (
@@ -120,25 +120,25 @@ recosted_is p a k w new problem valid is fit printed =
 
 -- lines between others that are changed for short ones
 lines_between : (first second third fourth fifth last other : List (List ℕ)) →
-    All IsLine (first ++ second ++ third ++ fourth ++ fifth ++ last) → All IsLine other →
-    All IsLine (first ++ other ++ third ++ fourth ++ fifth ++ last)
+    All IsTextLine (first ++ second ++ third ++ fourth ++ fifth ++ last) → All IsTextLine other →
+    All IsTextLine (first ++ other ++ third ++ fourth ++ fifth ++ last)
 lines_between first second third fourth fifth last other all short =
-    let a = All-left IsLine (first ++ second ++ third ++ fourth ++ fifth) last all in
-    let b = All-left IsLine (first ++ second ++ third ++ fourth) fifth a in
-    let c = All-left IsLine (first ++ second ++ third) fourth b in
-    let d = All-left IsLine (first ++ second) third c in
-    All-append IsLine (first ++ other ++ third ++ fourth ++ fifth) last
-    (All-append IsLine (first ++ other ++ third ++ fourth) fifth
-    (All-append IsLine (first ++ other ++ third) fourth
-    (All-append IsLine (first ++ other) third
-    (All-append IsLine first other (All-left IsLine first second d) short)
-    (All-right IsLine (first ++ second) third c))
-    (All-right IsLine (first ++ second ++ third) fourth b))
-    (All-right IsLine (first ++ second ++ third ++ fourth) fifth a))
-    (All-right IsLine (first ++ second ++ third ++ fourth ++ fifth) last all)
+    let a = All-left IsTextLine (first ++ second ++ third ++ fourth ++ fifth) last all in
+    let b = All-left IsTextLine (first ++ second ++ third ++ fourth) fifth a in
+    let c = All-left IsTextLine (first ++ second ++ third) fourth b in
+    let d = All-left IsTextLine (first ++ second) third c in
+    All-append IsTextLine (first ++ other ++ third ++ fourth ++ fifth) last
+    (All-append IsTextLine (first ++ other ++ third ++ fourth) fifth
+    (All-append IsTextLine (first ++ other ++ third) fourth
+    (All-append IsTextLine (first ++ other) third
+    (All-append IsTextLine first other (All-left IsTextLine first second d) short)
+    (All-right IsTextLine (first ++ second) third c))
+    (All-right IsTextLine (first ++ second ++ third) fourth b))
+    (All-right IsTextLine (first ++ second ++ third ++ fourth) fifth a))
+    (All-right IsTextLine (first ++ second ++ third ++ fourth ++ fifth) last all)
 
-pub recosted_kept : (p : DesignProblem) (a : AnswerParts) (w : List ℕ) (new : Costs) → IsAnswer a →
-    ArePrintedCosts p w new → IsAnswer
+pub recosted_kept : (p : DesignProblem) (a : AnswerParts) (w : List ℕ) (new : Costs) → FitsAnswer a →
+    ArePrintedCosts p w new → FitsAnswer
     (record {
       verdict = a.verdict;
       costs = Some new;

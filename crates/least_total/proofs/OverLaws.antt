@@ -4,7 +4,7 @@ use Rattle.std.specs.Prelude.{ℤ, pos, negsuc, ◌+ℤ◌, ◌*ℤ◌, ◌<ℤ�
 use Rattle.std.proofs.lemmas.Int.{ints}
 use Rattle.std.proofs.lemmas.Bool.{cases_lt, lt-ltb, le-ltb}
 use Rattle.area_graph.specs.declared.Point.{Point}
-use Rattle.path_rows.specs.Forms.{dot, value_at}
+use Rattle.design_problem.specs.Forms.{dot, value_at}
 use Rattle.least_total.specs.Totals.{total, total_form}
 use Rattle.least_total.specs.BoundedLaws.{minus_sum}
 

@@ -1,42 +1,46 @@
 -- The printed tree of a round stands over the forms of the printed rows and that of the total behind them.
-use Rattle.std.proofs.Common.{◌≡◌, ℕ, zero, suc, ◌+◌, ◌<◌, ◌≤◌, refl, sym, ◌∙◌, ap, subst, List, [], ◌∷◌, ◌++◌, map, length, arith, Bool, true, false, if◌then◌else◌, inl, inr}
-use Rattle.std.specs.Prelude.{◌⊎◌, All, Contains, Option, None, Some, slice_index_or}
+use Rattle.std.proofs.Common.{◌≡◌, ℕ, zero, suc, ◌+◌, ◌<◌, ◌≤◌, refl, sym, ◌∙◌, ap, subst, List, [], ◌∷◌, ◌++◌, map, length, length-append, arith, Bool, true, false, if◌then◌else◌, inl, inr}
+use Rattle.std.specs.Prelude.{◌⊎◌, All, AllPairs, Contains, Option, None, Some, slice_index_or}
 use Rattle.std.proofs.lemmas.List.{length-map}
 use Rattle.std.proofs.lemmas.List.Elements.{All-nil, All-cons, All-append, All-head, All-map, All-tail, All-weaker}
+use Rattle.std.proofs.lemmas.List.Kept.{AllPairs-cons}
 use Rattle.area_graph.specs.declared.Point.{Point}
-use Rattle.path_rows.specs.declared.form.CostBox.{CostBox}
-use Rattle.path_rows.specs.declared.form.Row.{Row}
-use Rattle.path_rows.specs.declared.tree.Entry.{Entry}
-use Rattle.path_rows.specs.declared.tree.Entry.TheVariants.{Undone}
-use Rattle.path_rows.specs.Problems.{DesignProblem}
-use Rattle.path_rows.specs.Forms.{Form, form_at}
-use Rattle.path_rows.specs.Boxes.{capped}
-use Rattle.path_rows.specs.Rows.{IsRow, box_of, form_of_row, forms_of_rows}
-use Rattle.path_rows.specs.Trees.{IsClosed, Sound, SoundAt, entry_count, subboxes}
-use Rattle.path_rows.specs.Text.{row_line}
-use Rattle.path_rows.specs.Earnest.{Earnest, Place}
-use Rattle.path_rows.specs.Renumbering.{KeepsForms, renumbered}
-use Rattle.path_rows.proofs.OpenPlaces.{opens_ends, earnest_opens}
-use Rattle.path_rows.proofs.Renumbering.{forms_kept, opens_kept, renumbered_sound, renumbered_tree, same_entry, same_entries}
+use Rattle.design_problem.specs.declared.form.CostBox.{CostBox}
+use Rattle.design_problem.specs.declared.form.Row.{Row}
+use Rattle.design_problem.specs.declared.tree.Entry.{Entry}
+use Rattle.design_problem.specs.declared.tree.Entry.TheVariants.{Undone}
+use Rattle.design_problem.specs.Problems.{DesignProblem}
+use Rattle.design_problem.specs.Forms.{Form, form_at}
+use Rattle.design_problem.specs.Boxes.{capped}
+use Rattle.design_problem.specs.Rows.{IsRow, box_of, form_of_row, forms_of_rows}
+use Rattle.design_problem.specs.Trees.{IsClosed, Sound, SoundAt, entry_count, subboxes}
+use Rattle.design_problem.specs.Text.{row_line}
+use Rattle.design_problem.specs.Earnest.{Earnest, OpenPlace}
+use Rattle.design_problem.specs.Renumbering.{IsRenumbering, renumbered}
+use Rattle.design_problem.proofs.OpenPlaces.{opens_ends, earnest_opens}
+use Rattle.design_problem.proofs.Renumbering.{forms_kept, opens_kept, renumbered_sound, renumbered_tree, same_entry, same_entries}
 use Rattle.form_search.specs.Finds.{IsSearchTree}
-use Rattle.printed_rows.specs.NamedRows.{NamesBelow, is_named}
-use Rattle.printed_rows.specs.NewNumbers.{IsPrinted, kept_from, kept_rows, new_number}
+use Rattle.printed_rows.specs.NamedRows.{NamesBelow, is_row_named}
+use Rattle.printed_rows.specs.NewNumbers.{IsTreePrinted, kept_from, kept_rows, new_number}
 use Rattle.printed_rows.specs.PrintedTrees.{IsPrintedOver}
+use Rattle.printed_rows.specs.Sheets.{IsSheet}
+use Rattle.cost_branching.specs.Pools.{Differ}
 use Rattle.printed_rows.proofs.AnswerLines.{fit_text}
 use Rattle.printed_rows.proofs.CapBoxes.{cost_bounds}
 use Rattle.printed_rows.proofs.NamedLaws.{entries_agree, named_weaker}
 use Rattle.printed_rows.proofs.RenumberedTrees.{count_kept, earnest_names, undone_kept}
 use Rattle.printed_rows.proofs.RowLines.{rows_short}
-use Rattle.printed_rows.proofs.TreeCopies.{IsCopy, all_printed, copy_closed, copy_names, copy_printable, copy_printed, printed_copy, search_names}
+use Rattle.printed_rows.proofs.SheetLaws.{copy_sheet, pairs_first, pairs_left}
+use Rattle.printed_rows.proofs.TreeCopies.{IsCopy, copy_closed, copy_names, copy_printable, copy_printed, printed_copy, search_names}
 use Rattle.least_total.specs.declared.printing.PoolForm.{PoolForm}
 use Rattle.least_total.specs.declared.printing.PoolForm.TheVariants.{OfRow, OfTotal}
 use Rattle.least_total.specs.declared.rounds.TotalTree.{TotalTree}
 use Rattle.least_total.specs.Totals.{IsFormWithin, LeadsWithin, form_of_total, forms_within}
 use Rattle.least_total.specs.Bounded.{IsPlaceIn, forms_with_total, with_form}
 use Rattle.least_total.specs.declared.printing.PrintedTotal.{PrintedTotal}
-use Rattle.least_total.specs.Printing.{IsPrintedLast, form_in, moved_from, rows_in, with_total_last}
+use Rattle.least_total.specs.Printing.{IsPrintedLast, pool_form, moved_from, rows_in, with_total_last}
 use Rattle.printed_rows.specs.FittingTexts.{FitText}
-use Rattle.least_total.specs.Results.{CanPrint, IsPrintedWithin}
+use Rattle.least_total.specs.Results.{CanPrintTotals, IsPrintedWithin, IsTotalSheet}
 use Rattle.least_total.specs.Rounds.{IsTreeWithin}
 use Rattle.least_total.proofs.MovedTrees.{moved_closed, moved_count, moved_tree, moved_undone, with_count}
 
@@ -46,7 +50,7 @@ use Rattle.least_total.proofs.MovedTrees.{moved_closed, moved_count, moved_tree,
 search_more : (accepts : Point → Type 0) (top : ℕ) (forms more : List Form) (box : CostBox) (tree : List Entry) →
     IsSearchTree accepts top forms box tree → IsSearchTree accepts top (forms ++ more) box tree
 search_more accepts top forms more box tree holds =
-    let places : List Place = record { box = box; since = [] } ∷ [] in
+    let places : List OpenPlace = record { box = box; since = [] } ∷ [] in
     record {
       earnest = opens_ends accepts top (forms ++ more) places tree
           (opens_kept accepts top forms more places tree []
@@ -75,19 +79,19 @@ moved_within p top cap most t holds =
 
 -- Forms with that of the total last.
 
-pub forms_last : (p : DesignProblem) (most : ℕ) (rows : List Row) → map (form_in p most) (with_total_last rows) ≡ forms_within p most rows
+pub forms_last : (p : DesignProblem) (most : ℕ) (rows : List Row) → map (pool_form p most) (with_total_last rows) ≡ forms_within p most rows
 forms_last p most [] = refl
 forms_last p most (row ∷ rows) = ap (λ (fs : List Form). form_of_row p row ∷ fs) (forms_last p most rows)
 
-pub forms_alone : (p : DesignProblem) (most : ℕ) (rows : List Row) → map (form_in p most) (map OfRow rows) ≡ forms_of_rows p rows
+pub forms_alone : (p : DesignProblem) (most : ℕ) (rows : List Row) → map (pool_form p most) (map OfRow rows) ≡ forms_of_rows p rows
 forms_alone p most [] = refl
 forms_alone p most (row ∷ rows) = ap (λ (fs : List Form). form_of_row p row ∷ fs) (forms_alone p most rows)
 
 -- each is a true form
 pub forms_true : (p : DesignProblem) (most : ℕ) (rows : List Row) → All (IsRow p) rows →
-    All (λ form. IsFormWithin p most (form_in p most form)) (with_total_last rows)
+    All (λ form. IsFormWithin p most (pool_form p most form)) (with_total_last rows)
 forms_true p most rows true_rows =
-    let Is : PoolForm → Type 0 = λ form. IsFormWithin p most (form_in p most form) in
+    let Is : PoolForm → Type 0 = λ form. IsFormWithin p most (pool_form p most form) in
     All-append Is (map OfRow rows) (OfTotal ∷ [])
     (All-map Is OfRow rows (λ k d k_in. inl (record { row = slice_index_or rows k d; is_row = true_rows k d k_in; same = refl })))
     (All-cons Is OfTotal [] (inr refl) (All-nil Is))
@@ -156,7 +160,7 @@ shifted_same [] more f row = refl
 shifted_same (g ∷ fs) more f zero = refl
 shifted_same (g ∷ fs) more f (suc row) = shifted_same fs more f row
 
-shifted_keeps : (fs more : List Form) (f : Form) → KeepsForms (shifted (length fs)) (fs ++ more) ((fs ++ f ∷ []) ++ more)
+shifted_keeps : (fs more : List Form) (f : Form) → IsRenumbering (shifted (length fs)) (fs ++ more) ((fs ++ f ∷ []) ++ more)
 shifted_keeps fs more f = record {
   known = λ row below. shifted_known fs more f row below;
   same = λ row below. shifted_same fs more f row;
@@ -178,7 +182,7 @@ pub over_more : (accepts : Point → Type 0) (IsTrueForm : Form → Type 0) (top
     IsPrintedOver accepts IsTrueForm top nodes (forms ++ f ∷ []) box tree
 over_more accepts IsTrueForm top nodes forms f box tree named printed =
     let more = printed.earnest.more in
-    let places : List Place = record { box = box; since = [] } ∷ [] in
+    let places : List OpenPlace = record { box = box; since = [] } ∷ [] in
     let shift : ℕ → ℕ = shifted (length forms) in
     let same : map (renumbered shift) tree ≡ tree =
     entries_agree shift (λ row. row) (λ row. row < length forms) tree (λ row below. shifted_low (length forms) row below) named ∙ same_entries tree in
@@ -198,16 +202,16 @@ over_more accepts IsTrueForm top nodes forms f box tree named printed =
 -- what is printed over the kept forms is printed over those of the rows and that of the total
 pub printed_last : (p : DesignProblem) (top nodes cap most : ℕ) (kept : List PoolForm) (tree : List Entry) →
     IsRowsLast kept → All (NamesBelow (length kept)) tree →
-    IsPrintedOver (LeadsWithin p most) (IsFormWithin p most) top nodes (map (form_in p most) kept)
+    IsPrintedOver (LeadsWithin p most) (IsFormWithin p most) top nodes (map (pool_form p most) kept)
     (capped (box_of p) cap) tree →
     IsPrintedOver (LeadsWithin p most) (IsFormWithin p most) top nodes (forms_within p most (rows_in kept)) (capped (box_of p) cap) tree
 printed_last p top nodes cap most kept tree (inl last) named printed =
     subst (λ (fs : List Form). IsPrintedOver (LeadsWithin p most) (IsFormWithin p most) top nodes fs (capped (box_of p) cap) tree)
-    (ap (map (form_in p most)) last ∙ forms_last p most (rows_in kept)) printed
+    (ap (map (pool_form p most)) last ∙ forms_last p most (rows_in kept)) printed
 printed_last p top nodes cap most kept tree (inr alone) named printed =
-    let same : map (form_in p most) kept ≡ forms_of_rows p (rows_in kept) = ap (map (form_in p most)) alone ∙ forms_alone p most (rows_in kept) in
+    let same : map (pool_form p most) kept ≡ forms_of_rows p (rows_in kept) = ap (map (pool_form p most)) alone ∙ forms_alone p most (rows_in kept) in
     over_more (LeadsWithin p most) (IsFormWithin p most) top nodes (forms_of_rows p (rows_in kept)) (form_of_total p most) (capped (box_of p) cap) tree
-    (subst (λ (n : ℕ). All (NamesBelow n) tree) (sym (length-map kept (form_in p most)) ∙ ap length same) named)
+    (subst (λ (n : ℕ). All (NamesBelow n) tree) (sym (length-map kept (pool_form p most)) ∙ ap length same) named)
     (subst (λ (fs : List Form). IsPrintedOver (LeadsWithin p most) (IsFormWithin p most) top nodes fs (capped (box_of p) cap) tree) same printed)
 
 -- What a move leaves as it is.
@@ -229,7 +233,7 @@ pub names_last : (p : DesignProblem) (top cap most : ℕ) (t : TotalTree) → Is
     All (NamesBelow (length (with_total_last t.rows.items))) (moved_from t.before (length t.rows.items) t.tree)
 names_last p top cap most t holds =
     let old = moved_from t.before (length t.rows.items) t.tree in
-    search_names (LeadsWithin p most) top (form_in p most) (with_total_last t.rows.items) (capped (box_of p) cap) old
+    search_names (LeadsWithin p most) top (pool_form p most) (with_total_last t.rows.items) (capped (box_of p) cap) old
     (subst (λ (fs : List Form). IsSearchTree (LeadsWithin p most) top fs (capped (box_of p) cap) old)
     (sym (forms_last p most t.rows.items)) (moved_within p top cap most t holds))
 
@@ -249,18 +253,81 @@ names_placed p top cap most t holds =
     (λ e is. named_weaker (λ row. row < length (forms_with_total p most t.rows.items t.before))
     (λ row. row < length t.rows.items + 1) e (λ row below. omega (arith, most_forms, count)) is) t.tree named
 
+-- The sheet of the rows, with the form of the total behind theirs.
+
+-- rows that differ; the form of the total is none
+abbrev AreApart : PoolForm → PoolForm → Type 0
+AreApart (OfRow a) (OfRow b) = Differ a b
+AreApart (OfRow a) OfTotal = Unit {0}
+AreApart OfTotal form = Unit {0}
+
+no_pairs : AllPairs AreApart []
+no_pairs i j d before j_in = absurd (omega (arith, j_in))
+
+forms_apart : (rows : List Row) → AllPairs Differ rows → AllPairs AreApart (with_total_last rows)
+forms_apart [] once = AllPairs-cons AreApart OfTotal [] (All-nil (AreApart OfTotal)) no_pairs
+forms_apart (row ∷ rows) once =
+    let Apart : PoolForm → Type 0 = AreApart (OfRow row) in
+    let others : All Apart (with_total_last rows) =
+    All-append Apart (map OfRow rows) (OfTotal ∷ []) (All-map Apart OfRow rows (pairs_first Differ row rows once))
+    (All-cons Apart OfTotal [] tt (All-nil Apart)) in
+    AllPairs-cons AreApart (OfRow row) (with_total_last rows) others (forms_apart rows (pairs_left Differ row rows once))
+
+apart_rows : (row : Row) (forms : List PoolForm) → All (AreApart (OfRow row)) forms → All (Differ row) (rows_in forms)
+apart_rows row [] all = All-nil (Differ row)
+apart_rows row (OfRow other ∷ forms) all =
+    All-cons (Differ row) other (rows_in forms) (All-head (AreApart (OfRow row)) (OfRow other) forms all)
+    (apart_rows row forms (All-tail (AreApart (OfRow row)) (OfRow other) forms all))
+apart_rows row (OfTotal ∷ forms) all = apart_rows row forms (All-tail (AreApart (OfRow row)) OfTotal forms all)
+
+rows_apart : (forms : List PoolForm) → AllPairs AreApart forms → AllPairs Differ (rows_in forms)
+rows_apart [] once = λ i j d before j_in. absurd (omega (arith, j_in))
+rows_apart (OfRow row ∷ forms) once =
+    AllPairs-cons Differ row (rows_in forms) (apart_rows row forms (pairs_first AreApart (OfRow row) forms once))
+    (rows_apart forms (pairs_left AreApart (OfRow row) forms once))
+rows_apart (OfTotal ∷ forms) once = rows_apart forms (pairs_left AreApart OfTotal forms once)
+
+rows_fewer : (forms : List PoolForm) → length (rows_in forms) ≤ length forms
+rows_fewer [] = omega arith
+rows_fewer (OfRow row ∷ forms) = let rest = rows_fewer forms in omega arith
+rows_fewer (OfTotal ∷ forms) = let rest = rows_fewer forms in omega arith
+
+rows_most : (kept : List PoolForm) → IsRowsLast kept → length kept ≤ length (rows_in kept) + 1
+rows_most kept (inl last) =
+    let count : length kept ≡ length (with_total_last (rows_in kept)) = ap length last in
+    let most : length (with_total_last (rows_in kept)) ≡ length (map OfRow (rows_in kept)) + 1 =
+    length-append (map OfRow (rows_in kept)) (OfTotal ∷ []) in
+    omega (arith, count, most, length-map (rows_in kept) OfRow)
+rows_most kept (inr alone) =
+    let count : length kept ≡ length (map OfRow (rows_in kept)) = ap length alone in
+    omega (arith, count, length-map (rows_in kept) OfRow)
+
+rows_sheet : (p : DesignProblem) (kept : List PoolForm) (tree : List Entry) → IsRowsLast kept →
+    IsSheet (IsOfProblem p) AreApart 0 kept tree → IsTotalSheet p (rows_in kept) tree
+rows_sheet p kept tree last sheet =
+    let fewer = rows_fewer kept in
+    let most = rows_most kept last in
+    record {
+      true_rows = rows_of_problem p kept sheet.true_rows;
+      once = rows_apart kept sheet.once;
+      used = λ row within. sheet.used row (omega (arith, fewer, within));
+      printed = All-weaker (NamesBelow (length kept + 0)) (NamesBelow (length (rows_in kept) + 1))
+          (λ e is. named_weaker (λ row. row < length kept + 0) (λ row. row < length (rows_in kept) + 1) e
+          (λ row below. omega (arith, most, below)) is) tree sheet.printed;
+    }
+
 -- What is printed of a round's tree.
 
 pub record IsShown (p : DesignProblem) (top nodes cap most : ℕ) (rows : List Row) (tree : List Entry) : Type 0 where
-  pub are_rows : All (IsRow p) rows
+  pub sheet : IsTotalSheet p rows tree
   pub printed : IsPrintedWithin p top nodes cap most rows tree
   pub fits : FitText row_line cap rows tree
 
 -- the tree and the kept forms as a copy of the search's tree
 printed_copies : (p : DesignProblem) (top cap most : ℕ) (t : TotalTree) (kept : List PoolForm) (tree : List Entry) →
     IsTreeWithin p top cap most t →
-    IsPrinted (with_total_last t.rows.items) (moved_from t.before (length t.rows.items) t.tree) kept tree →
-    IsCopy (is_named (moved_from t.before (length t.rows.items) t.tree)) (with_total_last t.rows.items) kept
+    IsTreePrinted (with_total_last t.rows.items) (moved_from t.before (length t.rows.items) t.tree) kept tree →
+    IsCopy (is_row_named (moved_from t.before (length t.rows.items) t.tree)) (with_total_last t.rows.items) kept
     (moved_from t.before (length t.rows.items) t.tree) tree
 printed_copies p top cap most t kept tree holds printed =
     printed_copy (with_total_last t.rows.items) kept (moved_from t.before (length t.rows.items) t.tree) tree printed (names_last p top cap most t holds)
@@ -268,48 +335,44 @@ printed_copies p top cap most t kept tree holds printed =
 total_kept : (named : ℕ → Bool) (rows : List Row) (kept : List PoolForm) → kept ≡ kept_rows named (with_total_last rows) → IsRowsLast kept
 total_kept named rows kept same = subst IsRowsLast (sym same) (kept_last named 0 rows)
 
-rows_fewer : (forms : List PoolForm) → length (rows_in forms) ≤ length forms
-rows_fewer [] = omega arith
-rows_fewer (OfRow row ∷ forms) = let rest = rows_fewer forms in omega arith
-rows_fewer (OfTotal ∷ forms) = let rest = rows_fewer forms in omega arith
-
 pub shown_is : (p : DesignProblem) (top nodes cap most : ℕ) (t : TotalTree) (printed : PrintedTotal) →
-    CanPrint p nodes cap → IsTreeWithin p top cap most t → entry_count t.tree ≤ nodes → IsPrintedLast t printed →
+    CanPrintTotals p nodes cap → IsTreeWithin p top cap most t → entry_count t.tree ≤ nodes → IsPrintedLast t printed →
     IsShown p top nodes cap most printed.rows.items printed.tree
 shown_is p top nodes cap most t printed can holds few last =
     let lines = with_total_last t.rows.items in
     let old = moved_from t.before (length t.rows.items) t.tree in
-    let named = is_named old in
+    let named = is_row_named old in
     let box = capped (box_of p) cap in
-    let search : IsSearchTree (LeadsWithin p most) top (map (form_in p most) lines) box old =
+    let search : IsSearchTree (LeadsWithin p most) top (map (pool_form p most) lines) box old =
     subst (λ (fs : List Form). IsSearchTree (LeadsWithin p most) top fs box old) (sym (forms_last p most t.rows.items)) (moved_within p top cap most t holds) in
     let count : entry_count old ≤ nodes = subst (λ (n : ℕ). n ≤ nodes) (sym (moved_counted t.before (length t.rows.items) t.tree)) few in
     let copy = printed_copies p top cap most t last.kept printed.tree holds last.is_printed in
-    let over = copy_printed (LeadsWithin p most) (IsFormWithin p most) top nodes (form_in p most) box named lines
+    let over = copy_printed (LeadsWithin p most) (IsFormWithin p most) top nodes (pool_form p most) box named lines
     last.kept old printed.tree copy (forms_true p most t.rows.items holds.placed.are_rows) search count in
     let names = copy_names named lines last.kept old printed.tree copy in
-    let are : All (IsRow p) (rows_in last.kept) =
-    rows_of_problem p last.kept
-    (all_printed (IsOfProblem p) named lines last.kept copy.kept
-    (forms_of_problem p t.rows.items holds.placed.are_rows)) in
-    let printable = copy_printable (LeadsWithin p most) top nodes cap (form_in p most) box named lines last.kept old
+    let rows_last = total_kept named t.rows.items last.kept copy.kept.same in
+    let sheet : IsTotalSheet p (rows_in last.kept) printed.tree =
+    rows_sheet p last.kept printed.tree rows_last
+    (copy_sheet (IsOfProblem p) AreApart named lines last.kept old printed.tree copy (λ row is. is)
+    (forms_of_problem p t.rows.items holds.placed.are_rows) (forms_apart t.rows.items holds.placed.once)) in
+    let printable = copy_printable (LeadsWithin p most) top nodes cap (pool_form p most) box named lines last.kept old
     printed.tree copy (cost_bounds p cap can.kept.problem can.from_lows can.small) can.small can.budget
     search count in
     let Shown : List Row → Type 0 = λ rows. IsShown p top nodes cap most rows printed.tree in
     subst Shown (sym last.rows)
     (record {
-      are_rows = are;
-      printed = printed_last p top nodes cap most last.kept printed.tree (total_kept named t.rows.items last.kept copy.kept.same) names over;
+      sheet = sheet;
+      printed = printed_last p top nodes cap most last.kept printed.tree rows_last names over;
       fits = fit_text row_line cap (rows_in last.kept) printed.tree
           (let fewer = rows_fewer last.kept in let small = copy.kept.few in omega arith)
-          (rows_short p (rows_in last.kept) can.kept.problem can.kept.graph are) printable;
+          (rows_short p (rows_in last.kept) can.kept.problem can.kept.graph sheet.true_rows) printable;
     })
 
 pub shown_closed : (p : DesignProblem) (top cap most : ℕ) (t : TotalTree) (printed : PrintedTotal) →
     IsTreeWithin p top cap most t → IsClosed t.tree → IsPrintedLast t printed → IsClosed printed.tree
 shown_closed p top cap most t printed holds closed last =
     let old = moved_from t.before (length t.rows.items) t.tree in
-    copy_closed (is_named old) (with_total_last t.rows.items) last.kept old printed.tree
+    copy_closed (is_row_named old) (with_total_last t.rows.items) last.kept old printed.tree
     (printed_copies p top cap most t last.kept printed.tree holds last.is_printed)
     (moved_from_closed t.before (length t.rows.items) t.tree closed)
 
@@ -319,7 +382,7 @@ pub shown_spent : (p : DesignProblem) (top nodes cap most : ℕ) (t : TotalTree)
 shown_spent p top nodes cap most t printed holds undone spent last =
     let old = moved_from t.before (length t.rows.items) t.tree in
     let copy = printed_copies p top cap most t last.kept printed.tree holds last.is_printed in
-    let number = new_number (is_named old) in (
+    let number = new_number (is_row_named old) in (
       subst (λ (es : List Entry). Contains es Undone) (sym copy.copied)
           (undone_kept number old (moved_from_undone t.before (length t.rows.items) t.tree undone)),
       ap entry_count copy.copied ∙ count_kept number old ∙ moved_counted t.before (length t.rows.items) t.tree ∙ spent,

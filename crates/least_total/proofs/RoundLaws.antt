@@ -1,33 +1,33 @@
 -- What a round's search comes to, and what is known after a round.
 use Rattle.std.proofs.Common.{◌≡◌, ℕ, ◌^◌, ◌<◌, ◌≤◌, refl, sym, ◌∙◌, ap, subst, List, [], length, arith}
-use Rattle.std.specs.Prelude.{All, Option, None}
+use Rattle.std.specs.Prelude.{All, AllPairs, Option, None}
 use Rattle.std.proofs.lemmas.List.Elements.{All-nil, All-from_get_or}
 use Rattle.area_graph.specs.Costs.{at_costs}
-use Rattle.path_rows.specs.declared.form.CostBox.{CostBox}
-use Rattle.path_rows.specs.declared.form.Row.{Row}
-use Rattle.path_rows.specs.Problems.{DesignProblem, IsProblem}
-use Rattle.path_rows.specs.Forms.{Form, form_at}
-use Rattle.path_rows.specs.Boxes.{IsInBox, capped}
-use Rattle.path_rows.specs.Rows.{IsFit, IsRow, box_of, greatest_cost}
-use Rattle.path_rows.proofs.ProblemTrees.{le_greatest}
+use Rattle.design_problem.specs.declared.form.CostBox.{CostBox}
+use Rattle.design_problem.specs.declared.form.Row.{Row}
+use Rattle.design_problem.specs.Problems.{DesignProblem, IsProblem}
+use Rattle.design_problem.specs.Forms.{Form, form_at}
+use Rattle.design_problem.specs.Boxes.{IsInBox, capped}
+use Rattle.design_problem.specs.Rows.{IsFit, IsRow, box_of, greatest_cost}
+use Rattle.design_problem.proofs.ProblemTrees.{le_greatest}
 use Rattle.printed_rows.proofs.CapBoxes.{within_cap}
 use Rattle.form_search.specs.declared.found.Found.TheVariants.{Costs}
-use Rattle.form_search.specs.Finds.{IsFound}
-use Rattle.cost_branching.specs.Pools.{IsPool}
+use Rattle.form_search.specs.Finds.{IsSearchResult}
+use Rattle.cost_branching.specs.Pools.{Differ, IsRowPool}
 use Rattle.cost_branching.specs.Decisions.{IsDecided}
 use Rattle.cost_branching.proofs.Caps.{decided}
 use Rattle.least_total.specs.declared.rounds.Sought.{Sought}
 use Rattle.least_total.specs.declared.standing.Standing.{Standing}
 use Rattle.least_total.specs.Totals.{LeadsWithin, form_of_total, total}
-use Rattle.least_total.specs.Bounded.{AreInStep, BoundedRows, IsPlaceIn, candidates_within, forms_with_total}
-use Rattle.least_total.specs.Rounds.{IsFitWithin, IsSought, IsStanding}
+use Rattle.least_total.specs.Bounded.{IsPoolWithTotal, BoundedRows, IsPlaceIn, candidates_within, forms_with_total}
+use Rattle.least_total.specs.Rounds.{IsFitWithin, IsTotalSought, IsStanding}
 use Rattle.least_total.proofs.LeastTotals.{from_lows, kept_bounds, total_small}
 
 -- costs that a search accepts are fit, and have such a total
 pub costs_found : (p : DesignProblem) (cap most : ℕ) (w : List ℕ) → IsProblem p → IsInBox (capped (box_of p) cap) w →
     LeadsWithin p most (at_costs w) → IsFitWithin p cap w × (total w ≤ most)
 costs_found p cap most w kept inside within =
-    let none : IsPool p (record { rows = []; forms = [] }) =
+    let none : IsRowPool p (record { rows = []; forms = [] }) =
     record { rows = All-nil (IsRow p); once = λ i j d before j_in. absurd (omega (arith, j_in)); forms = refl } in
     let fit : IsDecided p 0 0 cap (record { rows = []; forms = [] }) (Costs w) =
     decided p 0 0 cap (record { rows = []; forms = [] }) (Costs w) kept none (inside, within.leads) in
@@ -42,20 +42,21 @@ same_forms p q most bound rows others before place same_problem same_form same_r
 
 pub sought_is : (p : DesignProblem) (top nodes most : ℕ) (box : CostBox) (source : BoundedRows) (pool : List Form)
     (sought : Sought) → source.known.problem ≡ p →
-    candidates_within source.known.problem source.most ≡ candidates_within p most → AreInStep source pool →
-    IsFound (LeadsWithin p most) top nodes pool box sought.found → sought.rows.items ≡ source.known.rows →
-    sought.before ≡ source.before → IsSought p top nodes most box sought
+    candidates_within source.known.problem source.most ≡ candidates_within p most → IsPoolWithTotal source pool →
+    IsSearchResult (LeadsWithin p most) top nodes pool box sought.found → sought.rows.items ≡ source.known.rows →
+    sought.before ≡ source.before → IsTotalSought p top nodes most box sought
 sought_is p top nodes most box source pool sought same_problem same_candidates in_step found same_rows same_place =
     let q = source.known.problem in
     let same_form : form_of_total q source.most ≡ form_of_total p most = ap (λ (fs : List Form). form_at fs 0) same_candidates in
     record {
       placed = record {
         are_rows = subst (λ (r : DesignProblem). All (IsRow r) sought.rows.items) same_problem (subst (All (IsRow q)) (sym same_rows) in_step.are_rows.0);
+        once = subst (AllPairs Differ) (sym same_rows) in_step.are_rows.1;
         place = subst (λ (rs : List Row). IsPlaceIn (length rs) sought.before) (sym same_rows)
             (subst (IsPlaceIn (length source.known.rows)) (sym same_place) in_step.place);
       };
       found =
-          subst (λ (fs : List Form). IsFound (LeadsWithin p most) top nodes fs box sought.found)
+          subst (λ (fs : List Form). IsSearchResult (LeadsWithin p most) top nodes fs box sought.found)
           (in_step.forms ∙ same_forms p q most source.most sought.rows.items source.known.rows sought.before
           source.before same_problem same_form same_rows same_place) found;
     }

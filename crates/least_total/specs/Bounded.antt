@@ -1,12 +1,12 @@
 -- The source of a search for costs whose total is bounded: the rivals of the wanted paths, and the form of the total.
 use Rattle.std.specs.Prelude.{◌≡◌, ℕ, ◌^◌, ◌<◌, ◌≤◌, ◌⊎◌, List, ◌∷◌, ◌++◌, take, drop, length, Option, None, Some}
-use Rattle.path_rows.specs.Forms.{Form}
-use Rattle.path_rows.specs.declared.form.Row.{Row}
-use Rattle.path_rows.specs.Problems.{DesignProblem}
-use Rattle.path_rows.specs.Rows.{forms_of_rows}
+use Rattle.design_problem.specs.Forms.{Form}
+use Rattle.design_problem.specs.declared.form.Row.{Row}
+use Rattle.design_problem.specs.Problems.{DesignProblem}
+use Rattle.design_problem.specs.Rows.{forms_of_rows}
 use Rattle.cost_branching.specs.Candidates.{candidate_forms}
-use Rattle.cost_branching.specs.Pools.{AreRows}
-use Rattle.cost_branching.specs.Rivals.{IsKept, IsTrueOf, KnownRows}
+use Rattle.cost_branching.specs.Pools.{ArePoolRows}
+use Rattle.cost_branching.specs.Rivals.{IsProblemOnGraph, IsTrueRowForm, KnownRows}
 use Rattle.least_total.specs.Totals.{form_of_total}
 
 -- the rows that are known of a problem, the bound of the total, and how many rows came before the form of the total, where
@@ -18,13 +18,13 @@ pub record BoundedRows : Type 0 where
 
 -- the form of the total, of a bound below 2^26
 pub record IsTrueTotal (p : DesignProblem) (most : ℕ) (form : Form) : Type 0 where
-  pub kept : IsKept p
+  pub kept : IsProblemOnGraph p
   pub small : most < 2 ^ 26
   pub same : form ≡ form_of_total p most
 
 -- a true form: that of a row of the problem, or the one of the total
 abbrev pub IsTrueWithin : DesignProblem → ℕ → Form → Type 0
-IsTrueWithin p most form = IsTrueOf p form ⊎ IsTrueTotal p most form
+IsTrueWithin p most form = IsTrueRowForm p form ⊎ IsTrueTotal p most form
 
 -- the forms with another one behind the first so many, where it has come
 abbrev pub with_form : Option ℕ → Form → List Form → List Form
@@ -41,8 +41,8 @@ abbrev pub forms_with_total : DesignProblem → ℕ → List Row → Option ℕ 
 forms_with_total p most rows before = with_form before (form_of_total p most) (forms_of_rows p rows)
 
 -- the pool's forms are those of the rows, and that of the total at its place
-pub record AreInStep (s : BoundedRows) (pool : List Form) : Type 0 where
-  pub are_rows : AreRows s.known.problem s.known.rows
+pub record IsPoolWithTotal (s : BoundedRows) (pool : List Form) : Type 0 where
+  pub are_rows : ArePoolRows s.known.problem s.known.rows
   pub place : IsPlaceIn (length s.known.rows) s.before
   pub forms : pool ≡ forms_with_total s.known.problem s.most s.known.rows s.before
 

@@ -3,9 +3,9 @@
 use Rattle.std.specs.Prelude.{◌≡◌, ℕ, ◌+◌, ◌-◌, ◌==◌, List, ◌++◌, Bool, true, false, not, if◌then◌else◌, map, ltb}
 use Rattle.std.specs.List.{filter}
 use Rattle.cost_base.specs.Lists.{numbers_from}
-use Rattle.path_rows.specs.declared.tree.Entry.{Entry}
-use Rattle.path_rows.specs.declared.tree.Entry.TheVariants.{Tighten, Split, Halve, Refute, Undone}
-use Rattle.path_rows.specs.Renumbering.{renumbered}
+use Rattle.design_problem.specs.declared.tree.Entry.{Entry}
+use Rattle.design_problem.specs.declared.tree.Entry.TheVariants.{Tighten, Split, Halve, Refute, Undone}
+use Rattle.design_problem.specs.Renumbering.{renumbered}
 
 -- the number of a form, where the form at a place is moved behind all others, of which there are so many
 abbrev pub moved_number : ℕ → ℕ → ℕ → ℕ
@@ -20,6 +20,7 @@ abbrev pub is_picked : Bool → ℕ → ℕ × ℕ → Bool
 is_picked true place part = part.0 == place
 is_picked false place part = not (part.0 == place)
 
+-- the parts of a Refute that are of the form at the place, or the others
 abbrev pub picked : Bool → ℕ → List (ℕ × ℕ) → List (ℕ × ℕ)
 picked own place parts = filter (is_picked own place) parts
 
@@ -27,6 +28,7 @@ picked own place parts = filter (is_picked own place) parts
 abbrev pub put_last : ℕ → List (ℕ × ℕ) → List (ℕ × ℕ)
 put_last place parts = picked false place parts ++ picked true place parts
 
+-- the entry with the part of the form at the place behind the other parts of its Refute
 abbrev pub with_last : ℕ → Entry → Entry
 with_last place (Tighten var side value row) = Tighten var side value row
 with_last place (Split var value) = Split var value
@@ -35,5 +37,5 @@ with_last place (Refute parts) = Refute (put_last place parts)
 with_last place Undone = Undone
 
 -- the entry once the form at the place has been moved: its forms have their new numbers, and the parts of a Refute rise again
-abbrev pub moved : ℕ → ℕ → Entry → Entry
-moved place others entry = renumbered (moved_number place others) (with_last place entry)
+abbrev pub moved_entry : ℕ → ℕ → Entry → Entry
+moved_entry place others entry = renumbered (moved_number place others) (with_last place entry)

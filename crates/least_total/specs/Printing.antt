@@ -1,23 +1,23 @@
 -- What is printed: the form of the total is moved behind those of the rows, and then unused rows are left out. No
 -- public clause cites it.
 use Rattle.std.specs.Prelude.{◌≡◌, ℕ, List, [], ◌∷◌, ◌++◌, map, length, Option, None, Some}
-use Rattle.path_rows.specs.Forms.{Form}
-use Rattle.path_rows.specs.declared.form.Row.{Row}
-use Rattle.path_rows.specs.declared.tree.Entry.{Entry}
-use Rattle.path_rows.specs.Problems.{DesignProblem}
-use Rattle.path_rows.specs.Rows.{form_of_row}
-use Rattle.printed_rows.specs.NewNumbers.{IsPrinted}
+use Rattle.design_problem.specs.Forms.{Form}
+use Rattle.design_problem.specs.declared.form.Row.{Row}
+use Rattle.design_problem.specs.declared.tree.Entry.{Entry}
+use Rattle.design_problem.specs.Problems.{DesignProblem}
+use Rattle.design_problem.specs.Rows.{form_of_row}
+use Rattle.printed_rows.specs.NewNumbers.{IsTreePrinted}
 use Rattle.least_total.specs.declared.printing.PoolForm.{PoolForm}
 use Rattle.least_total.specs.declared.printing.PoolForm.TheVariants.{OfRow, OfTotal}
 use Rattle.least_total.specs.declared.printing.PrintedTotal.{PrintedTotal}
 use Rattle.least_total.specs.declared.rounds.TotalTree.{TotalTree}
 use Rattle.least_total.specs.Totals.{form_of_total}
-use Rattle.least_total.specs.Moving.{moved}
+use Rattle.least_total.specs.Moving.{moved_entry}
 
 -- the form that stands in the pool
-abbrev pub form_in : DesignProblem → ℕ → PoolForm → Form
-form_in p most (OfRow row) = form_of_row p row
-form_in p most OfTotal = form_of_total p most
+abbrev pub pool_form : DesignProblem → ℕ → PoolForm → Form
+pool_form p most (OfRow row) = form_of_row p row
+pool_form p most OfTotal = form_of_total p most
 
 -- the forms of the rows, and behind them that of the total
 abbrev pub with_total_last : List Row → List PoolForm
@@ -32,10 +32,10 @@ rows_in (OfTotal ∷ forms) = rows_in forms
 -- the tree once the form of the total has been moved behind so many others, if it stands elsewhere
 abbrev pub moved_from : Option ℕ → ℕ → List Entry → List Entry
 moved_from None others tree = tree
-moved_from (Some place) others tree = map (moved place others) tree
+moved_from (Some place) others tree = map (moved_entry place others) tree
 
 -- the printed rows are those that the tree names, in their order, and it names them and the form of the total by new numbers
 pub record IsPrintedLast (t : TotalTree) (printed : PrintedTotal) : Type 0 where
   pub kept : List PoolForm
-  pub is_printed : IsPrinted (with_total_last t.rows.items) (moved_from t.before (length t.rows.items) t.tree) kept printed.tree
+  pub is_printed : IsTreePrinted (with_total_last t.rows.items) (moved_from t.before (length t.rows.items) t.tree) kept printed.tree
   pub rows : printed.rows.items ≡ rows_in kept

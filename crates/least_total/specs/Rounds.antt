@@ -1,32 +1,34 @@
 -- What a round finds: a search over the box at a cap, with a bound of the total; and what is known of the least total.
 -- No public clause cites it.
-use Rattle.std.specs.Prelude.{◌≡◌, ℕ, ◌+◌, ◌^◌, ◌<◌, ◌≤◌, List, length, All, Contains, Option, None, Some}
-use Rattle.path_rows.specs.declared.form.CostBox.{CostBox}
-use Rattle.path_rows.specs.declared.form.Row.{Row}
-use Rattle.path_rows.specs.declared.tree.Entry.TheVariants.{Undone}
-use Rattle.path_rows.specs.Problems.{DesignProblem}
-use Rattle.path_rows.specs.Boxes.{capped}
-use Rattle.path_rows.specs.Rows.{IsFit, IsRow, box_of, greatest_cost}
-use Rattle.path_rows.specs.Trees.{IsClosed, entry_count}
-use Rattle.form_search.specs.Finds.{IsFound, IsSearchTree}
+use Rattle.std.specs.Prelude.{◌≡◌, ℕ, ◌+◌, ◌^◌, ◌<◌, ◌≤◌, List, length, All, AllPairs, Contains, Option, None, Some}
+use Rattle.design_problem.specs.declared.form.CostBox.{CostBox}
+use Rattle.design_problem.specs.declared.form.Row.{Row}
+use Rattle.design_problem.specs.declared.tree.Entry.TheVariants.{Undone}
+use Rattle.design_problem.specs.Problems.{DesignProblem}
+use Rattle.design_problem.specs.Boxes.{capped}
+use Rattle.design_problem.specs.Rows.{IsFit, IsRow, box_of, greatest_cost}
+use Rattle.design_problem.specs.Trees.{IsClosed, entry_count}
+use Rattle.form_search.specs.Finds.{IsSearchResult, IsSearchTree}
+use Rattle.cost_branching.specs.Pools.{Differ}
 use Rattle.least_total.specs.declared.rounds.Sought.{Sought}
 use Rattle.least_total.specs.declared.rounds.TotalTree.{TotalTree}
 use Rattle.least_total.specs.declared.rounds.Round.{Round}
-use Rattle.least_total.specs.declared.rounds.Round.TheVariants.{Costs, Refuted, Spent}
+use Rattle.least_total.specs.declared.rounds.Round.TheVariants.{Costs, Refuted, Undecided}
 use Rattle.least_total.specs.declared.standing.Standing.{Standing}
 use Rattle.least_total.specs.declared.finding.Narrowed.{Narrowed}
 use Rattle.least_total.specs.Totals.{LeadsWithin, total}
 use Rattle.least_total.specs.Bounded.{IsPlaceIn, forms_with_total}
 
--- rows of the problem, and a place of the form of the total among their forms
+-- rows of the problem, none twice, and a place of the form of the total among their forms
 pub record ArePlaced (p : DesignProblem) (rows : List Row) (before : Option ℕ) : Type 0 where
   pub are_rows : All (IsRow p) rows
+  pub once : AllPairs Differ rows
   pub place : IsPlaceIn (length rows) before
 
 -- what a search over a box with a bound of the total found, by the forms of the rows and that of the total at its place
-pub record IsSought (p : DesignProblem) (top nodes most : ℕ) (box : CostBox) (sought : Sought) : Type 0 where
+pub record IsTotalSought (p : DesignProblem) (top nodes most : ℕ) (box : CostBox) (sought : Sought) : Type 0 where
   pub placed : ArePlaced p sought.rows.items sought.before
-  pub found : IsFound (LeadsWithin p most) top nodes (forms_with_total p most sought.rows.items sought.before) box sought.found
+  pub found : IsSearchResult (LeadsWithin p most) top nodes (forms_with_total p most sought.rows.items sought.before) box sought.found
 
 -- a tree over the box at a cap, by these forms
 pub record IsTreeWithin (p : DesignProblem) (top cap most : ℕ) (t : TotalTree) : Type 0 where
@@ -40,7 +42,7 @@ pub record IsRefutedWithin (p : DesignProblem) (top nodes cap most : ℕ) (t : T
   pub few : entry_count t.tree ≤ nodes
 
 -- a tree with an Undone and exactly N entries
-pub record IsSpentWithin (p : DesignProblem) (top nodes cap most : ℕ) (t : TotalTree) : Type 0 where
+pub record IsUndecidedWithin (p : DesignProblem) (top nodes cap most : ℕ) (t : TotalTree) : Type 0 where
   pub tree : IsTreeWithin p top cap most t
   pub undone : Contains t.tree Undone
   pub spent : entry_count t.tree ≡ nodes
@@ -53,12 +55,12 @@ IsFitWithin p cap w = IsFit p w × (greatest_cost w ≤ cap)
 abbrev pub IsRound : DesignProblem → ℕ → ℕ → ℕ → ℕ → Round → Type 0
 IsRound p top nodes cap most (Costs w) = IsFitWithin p cap w × (total w ≤ most)
 IsRound p top nodes cap most (Refuted t) = IsRefutedWithin p top nodes cap most t
-IsRound p top nodes cap most (Spent t) = IsSpentWithin p top nodes cap most t
+IsRound p top nodes cap most (Undecided t) = IsUndecidedWithin p top nodes cap most t
 
 -- the kept tree is closed at the bound below the least total; without one that is the total of the lower bounds
-abbrev pub IsKeptBelow : DesignProblem → ℕ → ℕ → ℕ → ℕ → Option TotalTree → Type 0
-IsKeptBelow p top nodes cap least None = least ≡ total p.low
-IsKeptBelow p top nodes cap least (Some t) = (most : ℕ) × (most + 1 ≡ least) × IsRefutedWithin p top nodes cap most t
+abbrev pub IsKeptBelowTotal : DesignProblem → ℕ → ℕ → ℕ → ℕ → Option TotalTree → Type 0
+IsKeptBelowTotal p top nodes cap least None = least ≡ total p.low
+IsKeptBelowTotal p top nodes cap least (Some t) = (most : ℕ) × (most + 1 ≡ least) × IsRefutedWithin p top nodes cap most t
 
 -- costs within the cap, their total, and what bounds the least total from below
 pub record IsStanding (p : DesignProblem) (top nodes cap : ℕ) (s : Standing) : Type 0 where
@@ -67,12 +69,12 @@ pub record IsStanding (p : DesignProblem) (top nodes cap : ℕ) (s : Standing) :
   pub small : s.total < 2 ^ 26
   pub from_lows : total p.low ≤ s.least
   pub ordered : s.least ≤ s.total
-  pub kept : IsKeptBelow p top nodes cap s.least s.kept
+  pub kept : IsKeptBelowTotal p top nodes cap s.least s.kept
 
 -- a bound between the ends at which the budget was used up, if there is one; without one the ends have met
 abbrev pub EndsAt : DesignProblem → ℕ → ℕ → ℕ → Standing → Option (ℕ × TotalTree) → Type 0
 EndsAt p top nodes cap s None = s.total ≤ s.least
-EndsAt p top nodes cap s (Some (most, t)) = (s.least ≤ most) × (most < s.total) × IsSpentWithin p top nodes cap most t
+EndsAt p top nodes cap s (Some (most, t)) = (s.least ≤ most) × (most < s.total) × IsUndecidedWithin p top nodes cap most t
 
 -- what the rounds come to
 pub record IsNarrowed (p : DesignProblem) (top nodes cap : ℕ) (n : Narrowed) : Type 0 where

@@ -2,11 +2,11 @@
 use Rattle.std.specs.Prelude.{◌≡◌, ℕ, ◌≤◌, ◌⊎◌, List, [], ◌∷◌, ◌++◌, pos, negsuc, ◌≤ℤ◌, length, replicate}
 use Rattle.std.specs.List.{sum}
 use Rattle.area_graph.specs.declared.Point.{Point}
-use Rattle.path_rows.specs.Forms.{Form, value_at}
-use Rattle.path_rows.specs.declared.form.Row.{Row}
-use Rattle.path_rows.specs.Problems.{DesignProblem}
-use Rattle.path_rows.specs.Rows.{IsBest, LeadsEach, forms_of_rows}
-use Rattle.path_rows.specs.Earnest.{IsFormOfRow}
+use Rattle.design_problem.specs.Forms.{Form, value_at}
+use Rattle.design_problem.specs.declared.form.Row.{Row}
+use Rattle.design_problem.specs.Problems.{DesignProblem}
+use Rattle.design_problem.specs.Rows.{AreBestCosts, LeadsEach, forms_of_rows}
+use Rattle.design_problem.specs.Earnest.{IsFormOfRow}
 
 -- the total of costs: their sum over the variables, a shared variable once
 abbrev pub total : List ℕ → ℕ
@@ -14,8 +14,8 @@ total w = sum w
 
 -- best, and no best costs have a smaller total
 pub record HasLeastTotal (p : DesignProblem) (w : List ℕ) : Type 0 where
-  pub best : IsBest p w
-  pub least : (other : List ℕ) → IsBest p other → total w ≤ total other
+  pub best : AreBestCosts p w
+  pub least : (other : List ℕ) → AreBestCosts p other → total w ≤ total other
 
 -- the form of the total in n variables: `most` minus the sum of all variables
 abbrev pub total_form : ℕ → ℕ → Form

@@ -1,7 +1,7 @@
 //! The rivals of a problem's wanted paths and a bound of the total, as the source of a search.
 ghost use Rattle.std.specs.Prelude.{◌≡◌, ◌^◌, ◌<◌, ◌++◌, ◌∷◌, [], length, IfOk, OnErr, OnOk, MatchBool, None, Some};
 ghost use Rattle.std.specs.Prelude.{pos, ◌<ℤ◌, ◌≤ℤ◌};
-ghost use Rattle.path_rows.specs.Forms.{value_at};
+ghost use Rattle.design_problem.specs.Forms.{value_at};
 ghost use Rattle.rival_separation.specs.Askers.{IsAskerFor};
 ghost use Rattle.form_search.specs.Sources.{IsCostPoint};
 ghost use Rattle.least_total.specs.Totals.{form_of_total};
@@ -10,8 +10,8 @@ use crate::totals::{is_over, total_form};
 use area_graph::Point;
 use cost_base::OutOfMemory;
 use cost_branching::{Begun, Rivals, keeps_conditions};
+use design_problem::{Problem, Row};
 use form_search::{Asked, FormPool, RowSource};
-use path_rows::{Problem, Row};
 use rival_separation::Asker;
 use std::alloc::Global;
 use std::marker::Model;
@@ -105,8 +105,8 @@ impl<'a, B: Begun> Bounded<'a, B> {
 impl<'a, B: Begun> RowSource for Bounded<'a, B> {
     ghost use Rattle.std.specs.Prelude.{length};
     ghost use Rattle.least_total.specs.Totals.{LeadsWithin};
-    ghost use Rattle.least_total.specs.Bounded.{AreInStep, IsTrueWithin, candidates_within};
-    ghost use Rattle.least_total.specs.BoundedLaws.{scale_is_free, true_forms_hold, true_forms_listed};
+    ghost use Rattle.least_total.specs.Bounded.{IsPoolWithTotal, IsTrueWithin, candidates_within};
+    ghost use Rattle.least_total.specs.BoundedLaws.{total_scale_is_free, total_forms_hold, total_forms_listed};
 
     ghost count = { λ s. length s.known.problem.low };
 
@@ -114,7 +114,7 @@ impl<'a, B: Begun> RowSource for Bounded<'a, B> {
 
     ghost true_form = { λ s. IsTrueWithin s.known.problem s.most };
 
-    ghost in_step = { λ s forms. AreInStep s forms };
+    ghost in_step = { λ s forms. IsPoolWithTotal s forms };
 
     ghost candidates = { λ s. candidates_within s.known.problem s.most };
 
@@ -144,9 +144,9 @@ impl<'a, B: Begun> RowSource for Bounded<'a, B> {
         self.rivals.each_leads(point)
     }
 
-    ghost true_forms_hold = { λ s. true_forms_hold s.known.problem s.most };
+    ghost true_forms_hold = { λ s. total_forms_hold s.known.problem s.most };
 
-    ghost true_forms_listed = { λ s. true_forms_listed s.known.problem s.most };
+    ghost true_forms_listed = { λ s. total_forms_listed s.known.problem s.most };
 
-    ghost scale_is_free = { λ s. scale_is_free s.known.problem s.most };
+    ghost scale_is_free = { λ s. total_scale_is_free s.known.problem s.most };
 }

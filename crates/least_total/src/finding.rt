@@ -1,10 +1,10 @@
 //! The least total among the best costs.
 ghost use Rattle.std.specs.Prelude.{◌≡◌, ℕ, IfOk, All, ◌≤◌};
-ghost use Rattle.path_rows.specs.declared.answer.Verdict.TheVariants.{Optimal};
-ghost use Rattle.path_rows.specs.Problems.{DesignProblem};
-ghost use Rattle.path_rows.specs.Answers.{IsValid};
-ghost use Rattle.least_total.specs.Results.{CanPrint, IsAnswered, ShowsLeast};
-ghost use Rattle.least_total.specs.Rounds.{IsKeptBelow, IsNarrowed, IsStanding};
+ghost use Rattle.design_problem.specs.declared.answer.Verdict.TheVariants.{Optimal};
+ghost use Rattle.design_problem.specs.Problems.{DesignProblem};
+ghost use Rattle.design_problem.specs.Answers.{IsValid};
+ghost use Rattle.least_total.specs.Results.{CanPrintTotals, IsTotalAnswer, ShowsLeastTotal};
+ghost use Rattle.least_total.specs.Rounds.{IsKeptBelowTotal, IsNarrowed, IsStanding};
 
 use crate::printing::{PrintedTotal, printed_total};
 use crate::recosting::{costs_in, recosted};
@@ -12,7 +12,7 @@ use crate::rounds::{Round, TotalTree, one_round};
 use crate::standing::Standing;
 use cost_base::OutOfMemory;
 use cost_branching::keeps_conditions;
-use path_rows::{Answer, Problem, Row, Tree, greatest_of};
+use design_problem::{Answer, Problem, Row, Tree, greatest_of};
 use std::alloc::Global;
 use wide_fraction::Limits;
 
@@ -38,7 +38,7 @@ pub enum Total {
         proof: TotalProof,
     },
     /// The budget was used up.
-    Unknown {
+    Undecided {
         /// The answer with the best costs of the least total so far.
         answer: Answer,
         /// Their total.
@@ -76,7 +76,7 @@ fn run_rounds(
         match one_round(alloc, problem, cap, most, limits)? {
             Round::Costs(costs) => standing = standing.with_costs(costs),
             Round::Refuted(tree) => standing = standing.without(most, tree),
-            Round::Spent(tree) => {
+            Round::Undecided(tree) => {
                 return Ok(Narrowed {
                     standing,
                     spent: Some((most, tree)),
@@ -92,9 +92,9 @@ fn run_rounds(
 
 /// The proof that a kept tree is, or the floor where none is kept.
 fn proof_of(alloc: Global, kept: Option<TotalTree>) -> Result<TotalProof, OutOfMemory>
-    requires { (p : DesignProblem) × (top : ℕ) × (nodes : ℕ) × (cap : ℕ) × (least : ℕ) × IsKeptBelow p top nodes cap least kept }
+    requires { (p : DesignProblem) × (top : ℕ) × (nodes : ℕ) × (cap : ℕ) × (least : ℕ) × IsKeptBelowTotal p top nodes cap least kept }
     ensures { IfOk result (λ proof. (p : DesignProblem) (top nodes cap least : ℕ) →
-        CanPrint p nodes cap → IsKeptBelow p top nodes cap least kept → ShowsLeast p top nodes cap least proof) }
+        CanPrintTotals p nodes cap → IsKeptBelowTotal p top nodes cap least kept → ShowsLeastTotal p top nodes cap least proof) }
 {
     match kept {
         None => Ok(TotalProof::Floor),
@@ -123,7 +123,7 @@ pub fn least_total(
 ) -> Result<Total, OutOfMemory>
     requires valid { IsValid problem.now answer }
     requires optimal { (k : ℕ) × (answer.verdict ≡ Optimal k) }
-    ensures { IfOk result (IsAnswered problem.now limits.now.top limits.now.nodes answer) }
+    ensures { IfOk result (IsTotalAnswer problem.now limits.now.top limits.now.nodes answer) }
 {
     keeps_conditions(problem);
     let costs = costs_in(alloc, problem, &answer)?;
@@ -140,7 +140,7 @@ pub fn least_total(
         }),
         Some((most, tree)) => {
             let PrintedTotal { rows, tree } = printed_total(alloc, tree)?;
-            Ok(Total::Unknown {
+            Ok(Total::Undecided {
                 answer,
                 total,
                 bound: u64::from(most),

@@ -1,11 +1,11 @@
 //! The form of the total is moved behind the forms of the rows.
 ghost use Rattle.std.specs.Prelude.{◌≡◌, ◌+◌, ◌<◌, ◌≤◌, ◌++◌, map, All, IfOk, OnOk};
-ghost use Rattle.path_rows.specs.Renumbering.{renumbered_part};
+ghost use Rattle.design_problem.specs.Renumbering.{renumbered_part};
 ghost use Rattle.printed_rows.specs.NamedRows.{NamesBelow};
-ghost use Rattle.least_total.specs.Moving.{AreMovedNumbers, moved, moved_number, picked, put_last};
+ghost use Rattle.least_total.specs.Moving.{AreMovedNumbers, moved_entry, moved_number, picked, put_last};
 
 use cost_base::OutOfMemory;
-use path_rows::{Entry, Parts, Tree};
+use design_problem::{Entry, Parts, Tree};
 use printed_rows::renumbered_entry;
 use std::alloc::Global;
 
@@ -81,7 +81,7 @@ impl Move {
         requires place { self.place ≤ self.others }
         requires numbers { AreMovedNumbers self.place self.others numbers.now }
         requires known { NamesBelow (self.others + 1) entry.now }
-        ensures { IfOk result (λ new. new ≡ moved self.place self.others entry.now) }
+        ensures { IfOk result (λ new. new ≡ moved_entry self.place self.others entry.now) }
     {
         match entry {
             Entry::Refute { parts } => Ok(Entry::Refute {
@@ -103,7 +103,7 @@ impl Move {
         requires place { self.place ≤ self.others }
         requires numbers { AreMovedNumbers self.place self.others numbers.now }
         requires known { All (NamesBelow (self.others + 1)) entries.now }
-        ensures { IfOk result (λ new. new.items ≡ map (moved self.place self.others) entries.now) }
+        ensures { IfOk result (λ new. new.items ≡ map (moved_entry self.place self.others) entries.now) }
     {
         let mut new = Vec::new(alloc);
         for entry in entries {
@@ -120,7 +120,7 @@ impl Move {
     pub(crate) fn tree(self, alloc: Global, tree: &Tree) -> Result<Tree, OutOfMemory>
         requires place { self.place ≤ self.others }
         requires known { All (NamesBelow (self.others + 1)) tree.now }
-        ensures { IfOk result (λ new. new ≡ map (moved self.place self.others) tree.now) }
+        ensures { IfOk result (λ new. new ≡ map (moved_entry self.place self.others) tree.now) }
     {
         let numbers = self.numbers(alloc)?;
         let entries = self.entries(alloc, tree.as_slice(), numbers.as_slice())?;

@@ -1,6 +1,6 @@
 //! The rows and trees that are printed: the form of the total stands behind those of the rows.
 ghost use Rattle.std.specs.Prelude.{◌≡◌, ℕ, IfOk, length};
-ghost use Rattle.path_rows.specs.Problems.{DesignProblem};
+ghost use Rattle.design_problem.specs.Problems.{DesignProblem};
 ghost use Rattle.printed_rows.specs.NamedRows.{NamesBelow};
 ghost use Rattle.least_total.specs.Bounded.{IsPlaceIn};
 ghost use Rattle.least_total.specs.Printing.{IsPrintedLast, moved_from, rows_in, with_total_last};
@@ -10,7 +10,7 @@ ghost use Rattle.std.specs.Prelude.{◌+◌, All};
 use crate::moving::Move;
 use crate::rounds::TotalTree;
 use cost_base::OutOfMemory;
-use path_rows::{Row, Tree};
+use design_problem::{Row, Tree};
 use printed_rows::{PrintedTree, printed};
 use std::alloc::Global;
 

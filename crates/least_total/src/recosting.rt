@@ -1,15 +1,15 @@
 //! An answer with other costs.
 ghost use Rattle.std.specs.Prelude.{◌≡◌, ℕ, length, IfOk};
-ghost use Rattle.path_rows.specs.declared.answer.Verdict.TheVariants.{Optimal};
-ghost use Rattle.path_rows.specs.Rows.{greatest_cost};
-ghost use Rattle.path_rows.specs.Answers.{IsValid, lines_in};
+ghost use Rattle.design_problem.specs.declared.answer.Verdict.TheVariants.{Optimal};
+ghost use Rattle.design_problem.specs.Rows.{greatest_cost};
+ghost use Rattle.design_problem.specs.Answers.{IsValid, lines_in};
 ghost use Rattle.least_total.specs.Rounds.{IsFitWithin};
 ghost use Rattle.least_total.specs.Results.{IsRecosted};
 ghost use Rattle.least_total.specs.Given.{AreGiven};
 
 use cost_base::OutOfMemory;
 use cost_branching::keeps_conditions;
-use path_rows::{Answer, CostLine, CostList, Costs, Problem, costs_given};
+use design_problem::{Answer, CostLine, CostList, Costs, Problem, costs_given};
 use printed_rows::printed_costs;
 use std::alloc::Global;
 

@@ -1,13 +1,13 @@
 //! A round: the search for costs within a cap whose total is at most a bound.
 ghost use Rattle.std.specs.Prelude.{◌≡◌, ◌^◌, ◌<◌, ◌≤◌, [], length, All, IfOk};
-ghost use Rattle.path_rows.specs.Boxes.{IsBox};
-ghost use Rattle.least_total.specs.Rounds.{IsRound, IsSought};
+ghost use Rattle.design_problem.specs.Boxes.{IsBox};
+ghost use Rattle.least_total.specs.Rounds.{IsRound, IsTotalSought};
 
 use crate::bounded::Bounded;
 use cost_base::OutOfMemory;
 use cost_branching::{Begun, keeps_conditions};
+use design_problem::{CostBox, CostList, Problem, Row, Tree, box_at};
 use form_search::{FormPool, Found, search};
-use path_rows::{CostBox, CostList, Problem, Row, Tree, box_at};
 use rival_separation::Asker;
 use std::alloc::Global;
 use std::marker::Brand;
@@ -38,7 +38,7 @@ pub(crate) enum Round {
     /// There are none, as this closed tree shows.
     Refuted(TotalTree),
     /// The budget was used up by this tree.
-    Spent(TotalTree),
+    Undecided(TotalTree),
 }
 
 /// Searches a box for costs that are fit and whose total is at most `most`.
@@ -54,7 +54,7 @@ fn search_within<B: Begun>(
     requires ranges { IsBox (length problem.now.low) costs.now }
     requires lows { All (λ low. 1 ≤ low) costs.now.low }
     requires small { most < 2 ^ 26 }
-    ensures { IfOk result (IsSought problem.now limits.now.top limits.now.nodes most costs.now) }
+    ensures { IfOk result (IsTotalSought problem.now limits.now.top limits.now.nodes most costs.now) }
 {
     keeps_conditions(problem);
     let asker = Asker::new(alloc, &problem.graph, problem.paths.as_slice())?;
@@ -96,6 +96,6 @@ pub(crate) fn one_round(
     match found {
         Found::Costs(costs) => Ok(Round::Costs(costs)),
         Found::Refuted(tree) => Ok(Round::Refuted(TotalTree { rows, before, tree })),
-        Found::Spent(tree) => Ok(Round::Spent(TotalTree { rows, before, tree })),
+        Found::Undecided(tree) => Ok(Round::Undecided(TotalTree { rows, before, tree })),
     }
 }

@@ -1,13 +1,13 @@
 //! What is known of the least total while rounds are run.
 ghost use Rattle.std.specs.Prelude.{◌≡◌, ℕ, ◌+◌, ◌<◌, ◌≤◌, length, IfOk, IfSome, None};
-ghost use Rattle.path_rows.specs.Problems.{DesignProblem, IsProblem};
+ghost use Rattle.design_problem.specs.Problems.{DesignProblem, IsProblem};
 ghost use Rattle.least_total.specs.Totals.{total};
 ghost use Rattle.least_total.specs.Rounds.{IsFitWithin, IsRefutedWithin, IsStanding};
 
 use crate::rounds::TotalTree;
 use crate::totals::total_of;
 use cost_branching::keeps_conditions;
-use path_rows::{CostList, Problem};
+use design_problem::{CostList, Problem};
 
 /// The costs of the least total so far, and between which ends the least total lies.
 #[derive(Drop)]

@@ -1,12 +1,12 @@
 //! Totals of costs, and the form that bounds a total.
 ghost use Rattle.std.specs.Prelude.{◌≡◌, ◌^◌, ◌<◌, ◌≤◌, ◌*◌, length, IfOk, MatchBool, pos, ◌<ℤ◌, ◌≤ℤ◌, All};
-ghost use Rattle.path_rows.specs.Forms.{value_at};
+ghost use Rattle.design_problem.specs.Forms.{value_at};
 ghost use Rattle.form_search.specs.Sources.{IsCostPoint};
 ghost use Rattle.least_total.specs.Totals.{total, total_form};
 
 use area_graph::Point;
 use cost_base::OutOfMemory;
-use path_rows::Form;
+use design_problem::Form;
 use std::alloc::Global;
 
 /// The total of costs of at most 1,000 variables: their sum.

@@ -13,8 +13,8 @@ use Rattle.lsa_bytes.specs.declared.Body.{Body}
 use Rattle.lsa_bytes.specs.declared.Body.TheVariants.{Links, Attached}
 use Rattle.lsa_bytes.specs.declared.Lsa.{Lsa}
 use Rattle.lsa_bytes.specs.Fields.{number_16, number_32}
-use Rattle.lsa_bytes.specs.Grammar.{age_of, type_of, link_at, link_length, is_link_type, starts_link, links_of, links_in, attached_in, body_of, with_body, said_by}
-use Rattle.lsa_bytes.specs.Databases.{has_link_types, size_of_body, size_of}
+use Rattle.lsa_bytes.specs.Grammar.{age_of, type_of, link_at, link_length, is_link_type, starts_link, links_of, links_of_router_lsa, attached_in, body_of, with_body, said_by}
+use Rattle.lsa_bytes.specs.Databases.{has_link_types, size_of_body, size_of_lsa}
 
 -- Links: some that were read, and those that are still to be read.
 
@@ -93,7 +93,7 @@ pub record FitsIn (lsa : List ℕ) (body : Body) : Type 0 where
   pub types : has_link_types body ≡ true
   pub size : 4 * (1 + size_of_body body) ≤ length lsa
 
-router_fits : (lsa : List ℕ) → MatchOption (option_map Links (links_in lsa)) (Unit {0}) (FitsIn lsa)
+router_fits : (lsa : List ℕ) → MatchOption (option_map Links (links_of_router_lsa lsa)) (Unit {0}) (FitsIn lsa)
 router_fits lsa = by_test (nat_lt (length lsa) 24) refl (links_of (number_16 lsa 22) (drop 24 lsa)) (links_from (number_16 lsa 22) (drop 24 lsa))
   where
     by_test : (b : Bool) → nat_lt (length lsa) 24 ≡ b → (found : Option (List LsaLink)) →
@@ -126,7 +126,7 @@ body_fits : (lsa : List ℕ) → MatchOption (body_of lsa) (Unit {0}) (FitsIn ls
 body_fits lsa = by_tests (nat_eq (type_of lsa) 1) (nat_eq (type_of lsa) 2)
   where
     by_tests : (a b : Bool) → MatchOption
-        (cond a (option_map Links (links_in lsa)) (cond b (option_map Attached (attached_in lsa)) None)) (Unit {0})
+        (cond a (option_map Links (links_of_router_lsa lsa)) (cond b (option_map Attached (attached_in lsa)) None)) (Unit {0})
         (FitsIn lsa)
     by_tests true b = router_fits lsa
     by_tests false true = network_fits lsa
@@ -149,15 +149,15 @@ said_fits bytes lsa said = by_body (body_of bytes) (body_fits bytes) said
     by_body (Some body) fits is = by_age (nat_eq (age_of bytes) 3600) body fits is
 
 -- what bytes say takes at most a fourth of their room
-pub said_small : (bytes : List ℕ) → 4 * sum_by size_of (said_by bytes) ≤ length bytes
+pub said_small : (bytes : List ℕ) → 4 * sum_by size_of_lsa (said_by bytes) ≤ length bytes
 said_small bytes = by_body (body_of bytes) (body_fits bytes)
   where
     by_age : (b : Bool) (body : Body) → FitsIn bytes body →
-        4 * sum_by size_of (cond b [] (record { id = number_32 bytes 4; router = number_32 bytes 8; body = body } ∷ []))
+        4 * sum_by size_of_lsa (cond b [] (record { id = number_32 bytes 4; router = number_32 bytes 8; body = body } ∷ []))
         ≤ length bytes
     by_age true body fits = omega arith
     by_age false body fits = omega (arith, fits.size)
 
-    by_body : (found : Option Body) → MatchOption found (Unit {0}) (FitsIn bytes) → 4 * sum_by size_of (with_body bytes found) ≤ length bytes
+    by_body : (found : Option Body) → MatchOption found (Unit {0}) (FitsIn bytes) → 4 * sum_by size_of_lsa (with_body bytes found) ≤ length bytes
     by_body None fits = omega arith
     by_body (Some body) fits = by_age (nat_eq (age_of bytes) 3600) body fits

@@ -13,24 +13,24 @@ use Rattle.lsa_bytes.specs.declared.stop.LsaStop.{LsaStop}
 use Rattle.lsa_bytes.specs.declared.stop.LsaStop.TheVariants.{Refused, OutOfMemory}
 use Rattle.lsa_bytes.specs.declared.Lsa.{Lsa}
 use Rattle.lsa_bytes.specs.Grammar.{said_by}
-use Rattle.lsa_bytes.specs.Databases.{HaveNoFault, is_router, is_same, has_link_types, has_zero_metric}
+use Rattle.lsa_bytes.specs.Databases.{HaveNoFault, is_router_lsa, is_same, has_link_types, has_zero_metric}
 use Rattle.lsa_bytes.specs.Faults.{Tells, body_fault, fault_behind, faults_behind, fault_of}
 
 -- a list without faults and one LSA without a fault behind them
 pub faultless_push : (lsas : List Lsa) (lsa : Lsa) → HaveNoFault lsas → has_link_types lsa.body ≡ true →
-    (is_router lsa && nat_le 1000 (count_by is_router lsas)) ≡ false
+    (is_router_lsa lsa && nat_le 1000 (count_by is_router_lsa lsas)) ≡ false
     → list_any (is_same lsa) lsas ≡ false → has_zero_metric lsa.body ≡ false → HaveNoFault (lsas ++ lsa ∷ [])
 faultless_push lsas lsa before types few new metric = record {
   types = All-push (λ (l : Lsa). has_link_types l.body ≡ true) lsas lsa before.types types;
   different = all_pairs_push (λ earlier l. is_same l earlier ≡ false) lsas lsa before.different (none_passes (is_same lsa) lsas new);
   metrics = All-push (λ (l : Lsa). has_zero_metric l.body ≡ false) lsas lsa before.metrics metric;
-  routers = by_kind (is_router lsa) few (sum_by-append (λ l. cond (is_router l) 1 0) lsas (lsa ∷ []));
+  routers = by_kind (is_router_lsa lsa) few (sum_by-append (λ l. cond (is_router_lsa l) 1 0) lsas (lsa ∷ []));
 }
   where
-    by_kind : (b : Bool) → (b && nat_le 1000 (count_by is_router lsas)) ≡ false →
-        count_by is_router (lsas ++ lsa ∷ []) ≡ count_by is_router lsas + (0 + cond b 1 0) →
-        count_by is_router (lsas ++ lsa ∷ []) ≤ 1000
-    by_kind true room count = omega (arith, count, leb-false 1000 (count_by is_router lsas) room)
+    by_kind : (b : Bool) → (b && nat_le 1000 (count_by is_router_lsa lsas)) ≡ false →
+        count_by is_router_lsa (lsas ++ lsa ∷ []) ≡ count_by is_router_lsa lsas + (0 + cond b 1 0) →
+        count_by is_router_lsa (lsas ++ lsa ∷ []) ≤ 1000
+    by_kind true room count = omega (arith, count, leb-false 1000 (count_by is_router_lsa lsas) room)
     by_kind false room count = omega (arith, count, before.routers)
 
 -- the fault of the bytes that say an LSA is the fault of that LSA

@@ -12,7 +12,7 @@ use Rattle.lsa_bytes.specs.declared.stop.LsaStop.{LsaStop}
 use Rattle.lsa_bytes.specs.declared.stop.LsaStop.TheVariants.{Refused, OutOfMemory}
 use Rattle.lsa_bytes.specs.declared.Lsa.{Lsa}
 use Rattle.lsa_bytes.specs.Grammar.{length_of, said_by}
-use Rattle.lsa_bytes.specs.Databases.{HaveNoFault, IsDatabase, size_of}
+use Rattle.lsa_bytes.specs.Databases.{HaveNoFault, IsLsaDatabase, size_of_lsa}
 use Rattle.lsa_bytes.specs.Faults.{Tells, length_fault, fault_of, fault_at}
 use Rattle.lsa_bytes.specs.Files.{AreFaultless, Say, Refuses, said_by_all}
 use Rattle.lsa_bytes.proofs.BodyLaws.{said_small}
@@ -24,7 +24,7 @@ pub record IsUnderway (bytes rest : List ℕ) (lsas : List Lsa) : Type 0 where
   pub whole : bytes ≡ concat pieces ++ rest
   pub faultless : AreFaultless [] pieces
   pub said : lsas ≡ said_by_all pieces
-  pub small : 4 * sum_by size_of lsas + length rest ≤ length bytes
+  pub small : 4 * sum_by size_of_lsa lsas + length rest ≤ length bytes
 
 pub begin : (bytes : List ℕ) → IsUnderway bytes bytes []
 begin bytes = record { pieces = []; whole = refl; faultless = tt; said = refl; small = omega arith }
@@ -92,7 +92,7 @@ next bytes rest lsa behind lsas so_far is none =
       small = omega (
         arith,
         so_far.small,
-        sum_by-append size_of lsas (said_by lsa),
+        sum_by-append size_of_lsa lsas (said_by lsa),
         said_small lsa,
         ap length (first_parts rest lsa behind is),
         length-append lsa behind,
@@ -109,7 +109,7 @@ all_said bytes [] lsas so_far none = record {
 }
 all_said bytes (byte ∷ rest) lsas so_far none = absurd (omega arith)
 
-pub is_database : (bytes rest : List ℕ) (lsas : List Lsa) → IsUnderway bytes rest lsas → length bytes < 2 ^ 32 - 1 → HaveNoFault lsas → IsDatabase lsas
+pub is_database : (bytes rest : List ℕ) (lsas : List Lsa) → IsUnderway bytes rest lsas → length bytes < 2 ^ 32 - 1 → HaveNoFault lsas → IsLsaDatabase lsas
 is_database bytes rest lsas so_far few none = record { faultless = none; small = omega (arith, so_far.small) }
 
 -- the next LSA has a fault

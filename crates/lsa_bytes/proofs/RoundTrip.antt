@@ -20,18 +20,18 @@ use Rattle.lsa_bytes.specs.declared.Body.TheVariants.{Links, Attached}
 use Rattle.lsa_bytes.specs.declared.Lsa.{Lsa}
 use Rattle.lsa_bytes.specs.Fields.{number_16, number_32}
 use Rattle.lsa_bytes.specs.Grammar.{age_of, type_of, length_of, link_at, starts_link, links_of, body_of, with_body, is_read, said_by}
-use Rattle.lsa_bytes.specs.Databases.{HaveNoFault, is_router, is_same, has_zero_metric}
+use Rattle.lsa_bytes.specs.Databases.{HaveNoFault, is_router_lsa, is_same, has_zero_metric}
 use Rattle.lsa_bytes.specs.Faults.{body_fault, fault_behind, fault_at}
 use Rattle.lsa_bytes.specs.Files.{AreFaultless, Say, said_by_all}
 use Rattle.lsa_bytes.proofs.Entries.{said_fault}
 use Rattle.lsa_bytes.proofs.Lengths.{IsWhole, fault_in_front}
-use Rattle.lsa_bytes.specs.Written.{Masked, IsLink, CanBeWritten, IsWritable, bytes_of_all, header, link_bytes, body_bytes, type_of_body, lsa_bytes}
+use Rattle.lsa_bytes.specs.Written.{Masked, IsWritableLink, CanBeWritten, IsWritable, bytes_of_all, header, link_bytes, body_bytes, type_of_body, lsa_bytes}
 
 -- a link that was written begins what follows it, and says what it said
-link_starts : (link : LsaLink) (rest : List ℕ) → IsLink link → starts_link (link_bytes link ++ rest) ≡ true
+link_starts : (link : LsaLink) (rest : List ℕ) → IsWritableLink link → starts_link (link_bytes link ++ rest) ≡ true
 link_starts link rest is = both_true (le-leb 12 (length (link_bytes link ++ rest)) (omega arith)) is.kind
 
-link_again : (link : LsaLink) (rest : List ℕ) → IsLink link → link_at (link_bytes link ++ rest) ≡ link
+link_again : (link : LsaLink) (rest : List ℕ) → IsWritableLink link → link_at (link_bytes link ++ rest) ≡ link
 unfolding number_16 number_32
 link_again link rest is =
     let id : (link_at (link_bytes link ++ rest)).id ≡ link.id = omega (arith, from_be_bytes-to_be_bytes_4 link.id is.id) in
@@ -39,14 +39,14 @@ link_again link rest is =
     let metric : (link_at (link_bytes link ++ rest)).metric ≡ link.metric = omega (arith, from_be_bytes-to_be_bytes_2 link.metric is.metric) in
     λ i. record { id = id i; address = address i; kind = link.kind; metric = metric i }
 
-links_again : (links : List LsaLink) → All IsLink links → links_of (length links) (flat_map link_bytes links) ≡ Some links
+links_again : (links : List LsaLink) → All IsWritableLink links → links_of (length links) (flat_map link_bytes links) ≡ Some links
 links_again [] all = refl
 links_again (link ∷ links) all =
     let rest = flat_map link_bytes links in
-    let is = All-head IsLink link links all in
+    let is = All-head IsWritableLink link links all in
     ap (λ (b : Bool). cond b (option_map (λ ls. link_at (link_bytes link ++ rest) ∷ ls) (links_of (length links) rest)) None) (link_starts link rest is)
     ∙ ap (λ (found : Option (List LsaLink)). option_map (λ ls. link_at (link_bytes link ++ rest) ∷ ls) found)
-    (links_again links (All-tail IsLink link links all))
+    (links_again links (All-tail IsWritableLink link links all))
     ∙ ap (λ (l : LsaLink). Some (l ∷ links)) (link_again link rest is)
 
 -- the header of an LSA that was written
@@ -176,8 +176,8 @@ no_fault_behind : (before : List Lsa) (lsa : Lsa) (more : List Lsa) → HaveNoFa
 no_fault_behind before lsa more none =
     let whole = before ++ lsa ∷ more in
     let within : length before < length whole = omega (arith, length-append before (lsa ∷ more)) in
-    let room : (is_router lsa && nat_le 1000 (count_by is_router before)) ≡ false =
-    by_kind (is_router lsa) (sum_by-append (λ l. cond (is_router l) 1 0) before (lsa ∷ more)) (sum_by-cons (λ l. cond (is_router l) 1 0) lsa more) in
+    let room : (is_router_lsa lsa && nat_le 1000 (count_by is_router_lsa before)) ≡ false =
+    by_kind (is_router_lsa lsa) (sum_by-append (λ l. cond (is_router_lsa l) 1 0) before (lsa ∷ more)) (sum_by-cons (λ l. cond (is_router_lsa l) 1 0) lsa more) in
     let new : list_any (is_same lsa) before ≡ false = list_any_none (is_same lsa) before (λ k d below.
     sym (ap (is_same lsa) (get_or_append_left before (lsa ∷ more) d k below))
     ∙ ap (λ (l : Lsa). is_same l (get_or whole k d)) (sym (get_or-append_seam before lsa more d))
@@ -191,10 +191,10 @@ no_fault_behind before lsa more none =
     ∙ ap (λ (b : Bool). cond b (Some LsaTwice) (cond (has_zero_metric lsa.body) (Some ZeroMetric) None)) new
     ∙ ap (λ (b : Bool). cond b (Some ZeroMetric) None) metric
   where
-    by_kind : (b : Bool) → count_by is_router (before ++ lsa ∷ more) ≡ count_by is_router before + count_by is_router (lsa ∷ more)
-        → count_by is_router (lsa ∷ more) ≡ cond b 1 0 + count_by is_router more → (b && nat_le 1000 (count_by is_router before)) ≡ false
-    by_kind true all one = false_from_ne_true (nat_le 1000 (count_by is_router before))
-        (λ full. omega (arith, all, one, none.routers, leb-true 1000 (count_by is_router before) full))
+    by_kind : (b : Bool) → count_by is_router_lsa (before ++ lsa ∷ more) ≡ count_by is_router_lsa before + count_by is_router_lsa (lsa ∷ more)
+        → count_by is_router_lsa (lsa ∷ more) ≡ cond b 1 0 + count_by is_router_lsa more → (b && nat_le 1000 (count_by is_router_lsa before)) ≡ false
+    by_kind true all one = false_from_ne_true (nat_le 1000 (count_by is_router_lsa before))
+        (λ full. omega (arith, all, one, none.routers, leb-true 1000 (count_by is_router_lsa before) full))
     by_kind false all one = refl
 
 fault_again : (before : List Lsa) (m : Masked) (more : List Lsa) → IsWritable m → HaveNoFault (before ++ m.lsa ∷ more) → fault_at before (lsa_bytes m) ≡ None

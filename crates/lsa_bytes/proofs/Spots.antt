@@ -12,21 +12,21 @@ use Rattle.lsa_bytes.specs.declared.vertices.Kind.{Kind}
 use Rattle.lsa_bytes.specs.declared.vertices.Kind.TheVariants.{Router, Network}
 use Rattle.lsa_bytes.specs.declared.vertices.Spot.{Spot}
 use Rattle.lsa_bytes.specs.declared.vertices.Found.{Found}
-use Rattle.lsa_bytes.specs.Databases.{is_router, is_network, is_router_of, is_network_of}
-use Rattle.lsa_bytes.specs.AreaGraphs.{routers, networks, vertex_back, router_back, network_back}
-use Rattle.lsa_bytes.specs.Vertices.{Adds, HasFound, is_kind, name_as, spot_if, spot_from}
+use Rattle.lsa_bytes.specs.Databases.{is_router_lsa, is_network_lsa, is_router_of, is_network_of}
+use Rattle.lsa_bytes.specs.AreaGraphs.{routers_among, networks_among, vertex_back, router_vertex_back, network_vertex_back}
+use Rattle.lsa_bytes.specs.Vertices.{AddsLsa, HasFound, is_kind, name_as, spot_if, spot_from}
 
 -- whether the ID names an LSA of a kind
 abbrev named : Kind → ℕ → Lsa → Bool
 named kind id lsa = option_eq nat_eq (name_as kind lsa) (Some id)
 
 has_name : (kind : Kind) (lsa : Lsa) → is_some (name_as kind lsa) ≡ is_kind kind lsa
-has_name Router lsa = by_kind (is_router lsa)
+has_name Router lsa = by_kind (is_router_lsa lsa)
   where
     by_kind : (b : Bool) → is_some (cond b (Some lsa.router) None) ≡ b
     by_kind true = refl
     by_kind false = refl
-has_name Network lsa = by_kind (is_router lsa)
+has_name Network lsa = by_kind (is_router_lsa lsa)
   where
     by_kind : (b : Bool) → is_some (cond b None (Some lsa.id)) ≡ not b
     by_kind true = refl
@@ -40,14 +40,14 @@ named_of_kind kind id lsa named = sym (has_name kind lsa) ∙ some_named (name_a
     some_named (Some name) is = refl
 
 named_router : (id : ℕ) (lsa : Lsa) → named Router id lsa ≡ is_router_of id lsa
-named_router id lsa = by_kind (is_router lsa)
+named_router id lsa = by_kind (is_router_lsa lsa)
   where
     by_kind : (b : Bool) → option_eq nat_eq (cond b (Some lsa.router) None) (Some id) ≡ (b && nat_eq lsa.router id)
     by_kind true = refl
     by_kind false = refl
 
 named_network : (id : ℕ) (lsa : Lsa) → named Network id lsa ≡ is_network_of id lsa
-named_network id lsa = by_kind (is_router lsa)
+named_network id lsa = by_kind (is_router_lsa lsa)
   where
     by_kind : (b : Bool) → option_eq nat_eq (cond b None (Some lsa.id)) (Some id) ≡ (not b && nat_eq lsa.id id)
     by_kind true = refl
@@ -79,7 +79,7 @@ spot_from-push kind id number place (other ∷ lsas) lsa =
     ∙ ap (λ (p : ℕ). option_or (option_or first later) (spot_if (named kind id lsa) (number + count_by (is_kind kind) (other ∷ lsas)) p)) placed
 
 pub found_push : (kind : Kind) (lsas : List Lsa) (lsa : Lsa) (old new : Found) (place : ℕ) → HasFound kind lsas old →
-    Adds old new (name_as kind lsa) place → place ≡ length lsas → HasFound kind (lsas ++ lsa ∷ []) new
+    AddsLsa old new (name_as kind lsa) place → place ≡ length lsas → HasFound kind (lsas ++ lsa ∷ []) new
 found_push kind lsas lsa old new place has adds place_is = record {
   spots = λ id. adds.spots id
       ∙ ap (λ (found : Option Spot). option_or found (spot_if (named kind id lsa) old.count place)) (has.spots id)
@@ -184,65 +184,65 @@ returns_at lsas leads n total spot at = record {
 }
 
 router_total : (lsas : List Lsa) (router : ℕ) (leads : Body → Bool) →
-    vertex_back (0 + 0) (named Router router) leads (filter (is_kind Router) lsas) ≡ router_back lsas router leads
-router_total lsas router leads = ap (λ (test : Lsa → Bool). vertex_back 0 test leads (routers lsas)) (λ i lsa. named_router router lsa i)
+    vertex_back (0 + 0) (named Router router) leads (filter (is_kind Router) lsas) ≡ router_vertex_back lsas router leads
+router_total lsas router leads = ap (λ (test : Lsa → Bool). vertex_back 0 test leads (routers_among lsas)) (λ i lsa. named_router router lsa i)
 
 network_total : (lsas : List Lsa) (id : ℕ) (leads : Body → Bool) →
-    vertex_back (length (routers lsas) + 0) (named Network id) leads (filter (is_kind Network) lsas)
-    ≡ network_back lsas id leads
+    vertex_back (length (routers_among lsas) + 0) (named Network id) leads (filter (is_kind Network) lsas)
+    ≡ network_vertex_back lsas id leads
 network_total lsas id leads =
-    ap (λ (n : ℕ). vertex_back n (named Network id) leads (networks lsas)) (add-zero (length (routers lsas)))
-    ∙ ap (λ (test : Lsa → Bool). vertex_back (length (routers lsas)) test leads (networks lsas)) (λ i lsa. named_network id lsa i)
+    ap (λ (n : ℕ). vertex_back n (named Network id) leads (networks_among lsas)) (add-zero (length (routers_among lsas)))
+    ∙ ap (λ (test : Lsa → Bool). vertex_back (length (routers_among lsas)) test leads (networks_among lsas)) (λ i lsa. named_network id lsa i)
 
 -- of a router that is found, and of one that isn't
 pub router_found : (lsas self : List Lsa) (found : Found) (router : ℕ) (leads : Body → Bool) (spot : Spot) →
     HasFound Router lsas found → lsas ≡ self → Some spot ≡ get nat_cmp found.by_name router →
-    Returns lsas leads 0 (router_back self router leads) spot
+    Returns lsas leads 0 (router_vertex_back self router leads) spot
 router_found lsas self found router leads spot has same is =
     let at = subst (λ (o : Option Spot).
     MatchOption o (vertex_back (0 + 0) (named Router router) leads (filter (is_kind Router) lsas) ≡ None)
     (LeadsAt leads 0 0 0 lsas (vertex_back (0 + 0) (named Router router) leads (filter (is_kind Router) lsas))))
     (sym (is ∙ has.spots router)) (spot_back Router router leads 0 0 0 lsas) in
-    returns_at lsas leads 0 (router_back self router leads) spot
+    returns_at lsas leads 0 (router_vertex_back self router leads) spot
     (subst (λ (total : Option ℕ). LeadsAt leads 0 0 0 lsas total spot) (router_total lsas router leads
-    ∙ ap (λ (ls : List Lsa). router_back ls router leads) same) at)
+    ∙ ap (λ (ls : List Lsa). router_vertex_back ls router leads) same) at)
 
 pub router_unfound : (lsas self : List Lsa) (found : Found) (router : ℕ) (leads : Body → Bool) →
     HasFound Router lsas found → lsas ≡ self → None ≡ get nat_cmp found.by_name router →
-    None ≡ router_back self router leads
+    None ≡ router_vertex_back self router leads
 router_unfound lsas self found router leads has same is =
     let none = subst (λ (o : Option Spot).
     MatchOption o (vertex_back (0 + 0) (named Router router) leads (filter (is_kind Router) lsas) ≡ None)
     (LeadsAt leads 0 0 0 lsas (vertex_back (0 + 0) (named Router router) leads (filter (is_kind Router) lsas))))
     (sym (is ∙ has.spots router)) (spot_back Router router leads 0 0 0 lsas) in
-    sym none ∙ router_total lsas router leads ∙ ap (λ (ls : List Lsa). router_back ls router leads) same
+    sym none ∙ router_total lsas router leads ∙ ap (λ (ls : List Lsa). router_vertex_back ls router leads) same
 
 pub network_found : (lsas self : List Lsa) (found : Found) (id : ℕ) (leads : Body → Bool) (spot : Spot) →
     HasFound Network lsas found → lsas ≡ self → Some spot ≡ get nat_cmp found.by_name id →
-    Returns lsas leads (length (routers lsas)) (network_back self id leads) spot
+    Returns lsas leads (length (routers_among lsas)) (network_vertex_back self id leads) spot
 network_found lsas self found id leads spot has same is =
-    let n = length (routers lsas) in
+    let n = length (routers_among lsas) in
     let at = subst (λ (o : Option Spot).
     MatchOption o (vertex_back (n + 0) (named Network id) leads (filter (is_kind Network) lsas) ≡ None)
     (LeadsAt leads n 0 0 lsas (vertex_back (n + 0) (named Network id) leads (filter (is_kind Network) lsas))))
     (sym (is ∙ has.spots id)) (spot_back Network id leads n 0 0 lsas) in
-    returns_at lsas leads n (network_back self id leads) spot
+    returns_at lsas leads n (network_vertex_back self id leads) spot
     (subst (λ (total : Option ℕ). LeadsAt leads n 0 0 lsas total spot) (network_total lsas id leads
-    ∙ ap (λ (ls : List Lsa). network_back ls id leads) same) at)
+    ∙ ap (λ (ls : List Lsa). network_vertex_back ls id leads) same) at)
 
 pub network_unfound : (lsas self : List Lsa) (found : Found) (id : ℕ) (leads : Body → Bool) →
-    HasFound Network lsas found → lsas ≡ self → None ≡ get nat_cmp found.by_name id → None ≡ network_back self id leads
+    HasFound Network lsas found → lsas ≡ self → None ≡ get nat_cmp found.by_name id → None ≡ network_vertex_back self id leads
 network_unfound lsas self found id leads has same is =
-    let n = length (routers lsas) in
+    let n = length (routers_among lsas) in
     let none = subst (λ (o : Option Spot).
     MatchOption o (vertex_back (n + 0) (named Network id) leads (filter (is_kind Network) lsas) ≡ None)
     (LeadsAt leads n 0 0 lsas (vertex_back (n + 0) (named Network id) leads (filter (is_kind Network) lsas))))
     (sym (is ∙ has.spots id)) (spot_back Network id leads n 0 0 lsas) in
-    sym none ∙ network_total lsas id leads ∙ ap (λ (ls : List Lsa). network_back ls id leads) same
+    sym none ∙ network_total lsas id leads ∙ ap (λ (ls : List Lsa). network_vertex_back ls id leads) same
 
 -- as many are found as there are of the kind
-pub router_count : (lsas self : List Lsa) (found : Found) → HasFound Router lsas found → lsas ≡ self → found.count ≡ length (routers self)
-router_count lsas self found has same = has.count ∙ sym (length-filter is_router lsas) ∙ ap (λ (ls : List Lsa). length (routers ls)) same
+pub router_count : (lsas self : List Lsa) (found : Found) → HasFound Router lsas found → lsas ≡ self → found.count ≡ length (routers_among self)
+router_count lsas self found has same = has.count ∙ sym (length-filter is_router_lsa lsas) ∙ ap (λ (ls : List Lsa). length (routers_among ls)) same
 
-pub network_count : (lsas self : List Lsa) (found : Found) → HasFound Network lsas found → lsas ≡ self → found.count ≡ length (networks self)
-network_count lsas self found has same = has.count ∙ sym (length-filter is_network lsas) ∙ ap (λ (ls : List Lsa). length (networks ls)) same
+pub network_count : (lsas self : List Lsa) (found : Found) → HasFound Network lsas found → lsas ≡ self → found.count ≡ length (networks_among self)
+network_count lsas self found has same = has.count ∙ sym (length-filter is_network_lsa lsas) ∙ ap (λ (ls : List Lsa). length (networks_among ls)) same

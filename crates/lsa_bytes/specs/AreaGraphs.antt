@@ -9,19 +9,22 @@ use Rattle.lsa_bytes.specs.declared.LsaLink.{LsaLink}
 use Rattle.lsa_bytes.specs.declared.Body.{Body}
 use Rattle.lsa_bytes.specs.declared.Body.TheVariants.{Links, Attached}
 use Rattle.lsa_bytes.specs.declared.Lsa.{Lsa}
-use Rattle.lsa_bytes.specs.Databases.{is_router, is_network, is_router_of, is_network_of}
+use Rattle.lsa_bytes.specs.Databases.{is_router_lsa, is_network_lsa, is_router_of, is_network_of}
 
-abbrev pub routers : List Lsa → List Lsa
-routers lsas = filter is_router lsas
+-- the router-LSAs, in file order
+abbrev pub routers_among : List Lsa → List Lsa
+routers_among lsas = filter is_router_lsa lsas
 
-abbrev pub networks : List Lsa → List Lsa
-networks lsas = filter is_network lsas
+-- the network-LSAs, in file order
+abbrev pub networks_among : List Lsa → List Lsa
+networks_among lsas = filter is_network_lsa lsas
 
 -- a link of this type with this ID is among the links
 abbrev pub has_link : ℕ → ℕ → Body → Bool
 has_link kind id (Links links) = list_any (λ link. link.kind == kind && link.id == id) links
 has_link kind id (Attached attached) = false
 
+-- the body is a network-LSA's that lists this router as attached
 abbrev pub attaches : ℕ → Body → Bool
 attaches router (Links links) = false
 attaches router (Attached attached) = list_any (λ other. other == router) attached
@@ -32,38 +35,40 @@ vertex_back n is_sought leads_back [] = None
 vertex_back n is_sought leads_back (lsa ∷ more) =
     if is_sought lsa then (if leads_back lsa.body then Some n else None) else vertex_back (n + 1) is_sought leads_back more
 
--- one edge where there is such a vertex
-abbrev pub edge_to : ℕ → Price → Option ℕ → List Edge
-edge_to from price None = []
-edge_to from price (Some to) = record { from = from; to = to; price = price } ∷ []
+-- an edge to a vertex, where there is such a vertex
+abbrev pub edge_if_found : ℕ → Price → Option ℕ → List Edge
+edge_if_found from price None = []
+edge_if_found from price (Some to) = record { from = from; to = to; price = price } ∷ []
 
--- to a vertex of a router, or of a network
-abbrev pub router_back : List Lsa → ℕ → (Body → Bool) → Option ℕ
-router_back lsas router leads_back = vertex_back 0 (is_router_of router) leads_back (routers lsas)
+-- the vertex of a router's router-LSA, if its body leads back
+abbrev pub router_vertex_back : List Lsa → ℕ → (Body → Bool) → Option ℕ
+router_vertex_back lsas router leads_back = vertex_back 0 (is_router_of router) leads_back (routers_among lsas)
 
-abbrev pub network_back : List Lsa → ℕ → (Body → Bool) → Option ℕ
-network_back lsas id leads_back = vertex_back (length (routers lsas)) (is_network_of id) leads_back (networks lsas)
+-- the vertex of the network-LSA of this link state ID, if its body leads back
+abbrev pub network_vertex_back : List Lsa → ℕ → (Body → Bool) → Option ℕ
+network_vertex_back lsas id leads_back = vertex_back (length (routers_among lsas)) (is_network_of id) leads_back (networks_among lsas)
 
 -- where a link leads: of type 1 to a router that has one back, of type 2 into a network to which the router is attached
 abbrev pub far_end : List Lsa → ℕ → LsaLink → Option ℕ
 far_end lsas router link =
-    if link.kind == 1 then router_back lsas link.id (has_link 1 router)
-    else if link.kind == 2 then network_back lsas link.id (attaches router)
+    if link.kind == 1 then router_vertex_back lsas link.id (has_link 1 router)
+    else if link.kind == 2 then network_vertex_back lsas link.id (attaches router)
     else None
 
+-- the edge of a router-LSA's link at its metric, where its far end leads back
 abbrev pub link_edge : List Lsa → ℕ → ℕ → LsaLink → List Edge
-link_edge lsas vertex router link = edge_to vertex (Fixed link.metric) (far_end lsas router link)
+link_edge lsas vertex router link = edge_if_found vertex (Fixed link.metric) (far_end lsas router link)
 
 -- out of a network an edge leads to an attached router that has a link of type 2 into it
 abbrev pub attached_edge : List Lsa → ℕ → ℕ → ℕ → List Edge
-attached_edge lsas vertex id router = edge_to vertex Zero (router_back lsas router (has_link 2 id))
+attached_edge lsas vertex id router = edge_if_found vertex Zero (router_vertex_back lsas router (has_link 2 id))
 
 -- the edges out of one LSA's vertex
 abbrev pub edges_from : List Lsa → ℕ → Lsa → Body → List Edge
 edges_from lsas vertex lsa (Links links) = flat_map (link_edge lsas vertex lsa.router) links
 edges_from lsas vertex lsa (Attached attached) = flat_map (attached_edge lsas vertex lsa.id) attached
 
--- and out of several, whose vertices stand in a row
+-- the edges out of the vertices of several LSAs, of which the first has the number `vertex`
 abbrev pub edges_in_order : List Lsa → ℕ → List Lsa → List Edge
 edges_in_order lsas vertex [] = []
 edges_in_order lsas vertex (lsa ∷ more) = edges_from lsas vertex lsa lsa.body ++ edges_in_order lsas (vertex + 1) more
@@ -71,6 +76,6 @@ edges_in_order lsas vertex (lsa ∷ more) = edges_from lsas vertex lsa lsa.body 
 -- the routers and then the networks, each in file order
 abbrev pub lsa_graph : List Lsa → Area
 lsa_graph lsas = record {
-  vertices = vertices_of (length (routers lsas)) (length (networks lsas));
-  edges = edges_in_order lsas 0 (routers lsas) ++ edges_in_order lsas (length (routers lsas)) (networks lsas);
+  vertices = vertices_of (length (routers_among lsas)) (length (networks_among lsas));
+  edges = edges_in_order lsas 0 (routers_among lsas) ++ edges_in_order lsas (length (routers_among lsas)) (networks_among lsas);
 }

@@ -24,7 +24,7 @@ pub record Say (bytes : List ℕ) (lsas : List Lsa) : Type 0 where
   pub faultless : AreFaultless [] pieces
   pub said : lsas ≡ said_by_all pieces
 
--- behind LSAs without a fault one begins at this offset that has this fault
+-- the bytes begin with LSAs without a fault, and the next one, at this offset, has this fault
 pub record HaveFault (bytes : List ℕ) (fault : LsaFault) (offset : ℕ) : Type 0 where
   pub pieces : List (List ℕ)
   pub rest : List ℕ

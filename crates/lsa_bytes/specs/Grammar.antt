@@ -12,9 +12,11 @@ use Rattle.lsa_bytes.specs.Fields.{number_16, number_32}
 abbrev pub age_of : List ℕ → ℕ
 age_of lsa = number_16 lsa 0
 
+-- the LS type
 abbrev pub type_of : List ℕ → ℕ
 type_of lsa = slice_index lsa 3
 
+-- the length field: the bytes of the whole LSA with its header
 abbrev pub length_of : List ℕ → ℕ
 length_of lsa = number_16 lsa 18
 
@@ -31,12 +33,15 @@ link_at bytes = record {
   metric = number_16 bytes 10;
 }
 
+-- how many bytes a link takes: 12, and 4 for each TOS
 abbrev pub link_length : List ℕ → ℕ
 link_length bytes = 12 + 4 * slice_index bytes 9
 
+-- a link's type is from 1 to 4
 abbrev pub is_link_type : ℕ → Bool
 is_link_type kind = nat_le 1 kind && nat_le kind 4
 
+-- the bytes begin with a whole link of a known type
 abbrev pub starts_link : List ℕ → Bool
 starts_link bytes = nat_le (link_length bytes) (length bytes) && is_link_type (slice_index bytes 8)
 
@@ -48,8 +53,8 @@ links_of (suc n) bytes =
     if starts_link bytes then option_map (λ links. link_at bytes ∷ links) (links_of n (drop (link_length bytes) bytes)) else None
 
 -- a router-LSA has behind its header flags, a byte, the count of links, and the links
-abbrev pub links_in : List ℕ → Option (List LsaLink)
-links_in lsa = if nat_lt (length lsa) 24 then None else links_of (number_16 lsa 22) (drop 24 lsa)
+abbrev pub links_of_router_lsa : List ℕ → Option (List LsaLink)
+links_of_router_lsa lsa = if nat_lt (length lsa) 24 then None else links_of (number_16 lsa 22) (drop 24 lsa)
 
 -- a network-LSA has behind its header a mask and four bytes for each attached router, at least one
 abbrev pub attached_in : List ℕ → Option (List ℕ)
@@ -61,10 +66,11 @@ attached_in lsa =
 -- the body, where it is of a type that is read and exactly as above
 abbrev pub body_at : ℕ → List ℕ → Option Body
 body_at type lsa =
-    if type == 1 then option_map Links (links_in lsa)
+    if type == 1 then option_map Links (links_of_router_lsa lsa)
     else if type == 2 then option_map Attached (attached_in lsa)
     else None
 
+-- the body of an LSA, where its type is read and its bytes are as the grammar says
 abbrev pub body_of : List ℕ → Option Body
 body_of lsa = body_at (type_of lsa) lsa
 

@@ -7,11 +7,12 @@ use Rattle.lsa_bytes.specs.declared.ids.IdFault.{IdFault}
 use Rattle.lsa_bytes.specs.declared.stop.LsaFault.{LsaFault}
 use Rattle.lsa_bytes.specs.declared.stop.LsaFault.TheVariants.{NoRouterId, RouterIdTwice}
 
+-- the configuration has this router ID
 abbrev pub is_id : ℕ → Option ℕ → Bool
 is_id id None = false
 is_id id (Some other) = other == id
 
--- of a router ID, behind the configurations before it
+-- the fault of a router ID, behind the configurations before it: there is none, or one of them has it
 abbrev pub id_fault : List Router → Option ℕ → Option LsaFault
 id_fault before None = Some NoRouterId
 id_fault before (Some id) = if list_any (λ other. is_id id other.router_id) before then Some RouterIdTwice else None

@@ -8,16 +8,17 @@ use Rattle.lsa_bytes.specs.declared.vertices.Kind.{Kind}
 use Rattle.lsa_bytes.specs.declared.vertices.Kind.TheVariants.{Router, Network}
 use Rattle.lsa_bytes.specs.declared.vertices.Spot.{Spot}
 use Rattle.lsa_bytes.specs.declared.vertices.Found.{Found}
-use Rattle.lsa_bytes.specs.Databases.{is_router, is_network}
+use Rattle.lsa_bytes.specs.Databases.{is_router_lsa, is_network_lsa}
 
+-- whether the LSA is a router-LSA or a network-LSA, as the kind says
 abbrev pub is_kind : Kind → Lsa → Bool
-is_kind Router lsa = is_router lsa
-is_kind Network lsa = is_network lsa
+is_kind Router lsa = is_router_lsa lsa
+is_kind Network lsa = is_network_lsa lsa
 
 -- what names an LSA of a kind
 abbrev pub name_as : Kind → Lsa → Option ℕ
-name_as Router lsa = if is_router lsa then Some lsa.router else None
-name_as Network lsa = if is_router lsa then None else Some lsa.id
+name_as Router lsa = if is_router_lsa lsa then Some lsa.router else None
+name_as Network lsa = if is_router_lsa lsa then None else Some lsa.id
 
 -- a spot, if it is the one sought
 abbrev pub spot_if : Bool → ℕ → ℕ → Option Spot
@@ -30,8 +31,8 @@ spot_from kind id number place (lsa ∷ more) =
     option_or (spot_if (option_eq nat_eq (name_as kind lsa) (Some id)) number place)
     (spot_from kind id (number + (if is_kind kind lsa then 1 else 0)) (place + 1) more)
 
--- one LSA more, which may have a name
-pub record Adds (old new : Found) (name : Option ℕ) (place : ℕ) : Type 0 where
+-- the look-up has one LSA more, which may have a name
+pub record AddsLsa (old new : Found) (name : Option ℕ) (place : ℕ) : Type 0 where
   pub spots : (id : ℕ) → get nat_cmp new.by_name id ≡ option_or (get nat_cmp old.by_name id) (spot_if (option_eq nat_eq name (Some id)) old.count place)
   pub count : new.count ≡ old.count + (if is_some name then 1 else 0)
 

@@ -1,6 +1,6 @@
 //! What the bytes of one LSA say.
 ghost use Rattle.std.specs.Prelude.{◌≡◌, ◌≤◌, ◌+◌, None, IfOk, MatchResult, MatchOption, length, option_to_list};
-ghost use Rattle.lsa_bytes.specs.Grammar.{starts_link, link_length, link_at, links_of, links_in, attached_in, body_of, is_read, said_by};
+ghost use Rattle.lsa_bytes.specs.Grammar.{starts_link, link_length, link_at, links_of, links_of_router_lsa, attached_in, body_of, is_read, said_by};
 ghost use Rattle.lsa_bytes.specs.Faults.{Tells, body_fault};
 
 use crate::fields::{number_16, number_32};
@@ -66,7 +66,7 @@ fn links_of(alloc: Global, count: u16, bytes: &[u8]) -> Result<Option<Listed<Lsa
 
 /// The links of a router-LSA, or None where its body is off the grammar.
 fn links_in(alloc: Global, lsa: &[u8]) -> Result<Option<Listed<LsaLink>>, OutOfMemory>
-    ensures { IfOk result (λ links. links ≡ links_in lsa.now) }
+    ensures { IfOk result (λ links. links ≡ links_of_router_lsa lsa.now) }
 {
     if lsa.len() < 24 {
         return Ok(None);

@@ -1,6 +1,6 @@
 //! The edges out of the vertices of LSAs.
 ghost use Rattle.std.specs.Prelude.{◌≡◌, ◌+◌, ◌-◌, ◌<◌, ◌^◌, ◌++◌, [], filter, flat_map, length, if◌then◌else◌, IfOk, OnOk};
-ghost use Rattle.lsa_bytes.specs.AreaGraphs.{attached_edge, edge_to, edges_from, edges_in_order, far_end, link_edge};
+ghost use Rattle.lsa_bytes.specs.AreaGraphs.{attached_edge, edge_if_found, edges_from, edges_in_order, far_end, link_edge};
 ghost use Rattle.lsa_bytes.specs.Vertices.{is_kind};
 
 use crate::vertices::{Kind, Vertices, is_kind};
@@ -15,7 +15,7 @@ fn push_edge(
     price: Price,
     to: Option<u32>,
 ) -> Result<(), OutOfMemory>
-    ensures { OnOk result (edges.new.items ≡ edges.old.items ++ edge_to from price to) }
+    ensures { OnOk result (edges.new.items ≡ edges.old.items ++ edge_if_found from price to) }
 {
     if let Some(to) = to {
         edges.push(Edge { from, to, price })?;

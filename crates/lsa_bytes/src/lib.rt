@@ -2,7 +2,7 @@
 #![tactic(auto)]
 
 ghost use Rattle.std.specs.Prelude.{◌≡◌};
-ghost use Rattle.lsa_bytes.specs.Databases.{IsDatabase};
+ghost use Rattle.lsa_bytes.specs.Databases.{IsLsaDatabase};
 
 use cost_base::Listed;
 use std::marker::Model;
@@ -65,19 +65,19 @@ pub struct Database {
 impl Model for Database {
     ghost use Rattle.std.specs.Prelude.{List};
     ghost use Rattle.lsa_bytes.specs.declared.Lsa.{Lsa as OneLsa};
-    ghost use Rattle.lsa_bytes.specs.Databases.{IsDatabase};
+    ghost use Rattle.lsa_bytes.specs.Databases.{IsLsaDatabase};
 
     ghost Value = { List OneLsa };
 
     ghost view = { λ d. d.lsas };
 
-    ghost invariant = { λ d. IsDatabase d.lsas };
+    ghost invariant = { λ d. IsLsaDatabase d.lsas };
 }
 
 impl Database {
     /// The database of these LSAs, in their order.
     pub fn from_items(lsas: Vec<Lsa>) -> Database
-        requires { IsDatabase lsas.items }
+        requires { IsLsaDatabase lsas.items }
         ensures { result ≡ lsas.items }
     {
         Database {
@@ -88,7 +88,7 @@ impl Database {
     /// The LSAs, in order, with what is kept of them.
     pub fn as_slice(&self) -> &[Lsa]
         ensures items { result.now ≡ self.now }
-        ensures kept { IsDatabase self.now }
+        ensures kept { IsLsaDatabase self.now }
     {
         self.lsas.as_slice()
     }

@@ -2,7 +2,7 @@
 ghost use Rattle.std.specs.Prelude.{◌≡◌, ◌≤◌, ◌&&◌, [], ◌∷◌, ◌++◌, None, MatchResult, count_by, length, nat_le, true};
 ghost use Rattle.std.specs.List.{list_any};
 ghost use Rattle.lsa_bytes.specs.Grammar.{said_by};
-ghost use Rattle.lsa_bytes.specs.Databases.{HaveNoFault, has_link_types, has_zero_metric, is_router, is_zero_link};
+ghost use Rattle.lsa_bytes.specs.Databases.{HaveNoFault, has_link_types, has_zero_metric, is_router_lsa, is_zero_link};
 ghost use Rattle.lsa_bytes.specs.Faults.{Tells, fault_behind, fault_of};
 
 use crate::bodies::said_by;
@@ -79,7 +79,7 @@ impl Reader {
 
     /// Whether an LSA is a router-LSA more than a database may have.
     fn has_no_room(&self, lsa: &Lsa) -> bool
-        ensures { result ≡ (is_router lsa.now && nat_le 1000 (count_by is_router self.now)) }
+        ensures { result ≡ (is_router_lsa lsa.now && nat_le 1000 (count_by is_router_lsa self.now)) }
     {
         is_router(lsa) && self.seen.router_count() >= MOST_ROUTERS
     }
@@ -96,7 +96,7 @@ impl Reader {
 
 /// Whether an LSA is a router-LSA.
 pub fn is_router(lsa: &Lsa) -> bool
-    ensures { result ≡ is_router lsa.now }
+    ensures { result ≡ is_router_lsa lsa.now }
 {
     matches!(lsa.body, Body::Links(_))
 }

@@ -4,8 +4,8 @@ ghost use Rattle.std.specs.List.{list_any};
 ghost use Rattle.std.specs.Option.{option_or};
 ghost use Rattle.std.specs.Ordering.{nat_cmp};
 ghost use Rattle.std.specs.BTreeMap.{get};
-ghost use Rattle.lsa_bytes.specs.AreaGraphs.{attaches, has_link, network_back, networks, router_back, routers};
-ghost use Rattle.lsa_bytes.specs.Vertices.{Adds, HasFound, is_kind, name_as, spot_if};
+ghost use Rattle.lsa_bytes.specs.AreaGraphs.{attaches, has_link, network_vertex_back, networks_among, router_vertex_back, routers_among};
+ghost use Rattle.lsa_bytes.specs.Vertices.{AddsLsa, HasFound, is_kind, name_as, spot_if};
 
 use crate::reader::is_router;
 use crate::{Body, Lsa, LsaLink};
@@ -83,7 +83,7 @@ impl Found {
     /// Adds the LSA at a place, if it has a name.
     fn add(&mut self, name: Option<u32>, place: u32) -> Result<(), OutOfMemory>
         requires { self.old.count < 2 ^ 32 - 1 }
-        ensures { OnOk result (Adds self.old self.new name place) }
+        ensures { OnOk result (AddsLsa self.old self.new name place) }
     {
         if let Some(name) = name {
             let spot = Spot {
@@ -153,21 +153,21 @@ impl<'a> Vertices<'a> {
 
     /// How many routers there are. Their vertices come first.
     pub fn router_count(&self) -> u32
-        ensures { result ≡ length (routers self.now) }
+        ensures { result ≡ length (routers_among self.now) }
     {
         self.routers.count
     }
 
     /// How many networks there are.
     pub fn network_count(&self) -> u32
-        ensures { result ≡ length (networks self.now) }
+        ensures { result ≡ length (networks_among self.now) }
     {
         self.networks.count
     }
 
     /// The vertex of a router, if its LSA has a link of this type with this ID.
     pub fn router_with_link(&self, router: u32, kind: u8, id: u32) -> Option<u32>
-        ensures { result ≡ router_back self.now router (has_link kind id) }
+        ensures { result ≡ router_vertex_back self.now router (has_link kind id) }
     {
         match self.routers.spot(router) {
             Some(spot) if has_link(&self.lsas[spot.place as usize].body, kind, id) => Some(
@@ -179,7 +179,7 @@ impl<'a> Vertices<'a> {
 
     /// The vertex of a network, if its LSA lists a router as attached.
     pub fn network_with_router(&self, id: u32, router: u32) -> Option<u32>
-        ensures { result ≡ network_back self.now id (attaches router) }
+        ensures { result ≡ network_vertex_back self.now id (attaches router) }
     {
         match self.networks.spot(id) {
             Some(spot) if attaches(&self.lsas[spot.place as usize].body, router) => {

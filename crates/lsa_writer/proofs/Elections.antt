@@ -8,10 +8,10 @@ use Rattle.interface_model.specs.Records.{Router as Config}
 use Rattle.lsdb_build.specs.declared.Far.{Far}
 use Rattle.lsdb_build.specs.declared.Far.TheVariants.{Router, Subnet}
 use Rattle.lsdb_build.specs.declared.Linked.{Linked}
-use Rattle.lsdb_build.specs.Graphs.{Database, IsDatabase, leads_to, link_leads_to, members_of}
+use Rattle.lsdb_build.specs.Graphs.{Database, IsAreaDatabase, leads_to, link_leads_to, links_into_subnet}
 use Rattle.lsdb_build.proofs.Pairs.{all_at, map_at, at_map}
 use Rattle.lsa_writer.specs.declared.ends.LinkEnd.{LinkEnd}
-use Rattle.lsa_writer.specs.Ends.{no_end, end_of, ends_of, end_at, outranks, first_in_rank, designated, member_ends}
+use Rattle.lsa_writer.specs.Ends.{no_end, end_of, link_ends, end_at, outranks, first_in_rank, designated, member_ends}
 
 -- the first in rank is one of them
 first_is : (best : LinkEnd) (more : List LinkEnd) → (k : ℕ) × (slice_get (best ∷ more) k ≡ Some (first_in_rank best more))
@@ -50,36 +50,36 @@ leads_into d s l None is leads = absurd (false≢true leads)
 leads_into d s l (Some link) is leads = record { link = link; at = is; to = subnet_is s link.to leads }
 
 -- a member of a subnet is such a link
-pub member_leads : (d : Database) (s : ℕ) (members : List ℕ) → IsDatabase d → slice_get d.subnets s ≡ Some members →
+pub member_leads : (d : Database) (s : ℕ) (members : List ℕ) → IsAreaDatabase d → slice_get d.subnets s ≡ Some members →
     (k l : ℕ) → slice_get members k ≡ Some l → LeadsInto d s l
 member_leads d s members base at k l at_k =
     let within = slice_get_within d.subnets s members at in
-    let are : members ≡ members_of d s = sym (get_or_from_slice_get d.subnets s members [] at) ∙ base.members s within in
+    let are : members ≡ links_into_subnet d s = sym (get_or_from_slice_get d.subnets s members [] at) ∙ base.members s within in
     leads_into d s l (slice_get d.links l) refl
-    (all_at (λ m. link_leads_to s (slice_get d.links m) ≡ true) (members_of d s)
+    (all_at (λ m. link_leads_to s (slice_get d.links m) ≡ true) (links_into_subnet d s)
     (filter_passes (λ m. link_leads_to s (slice_get d.links m)) (numbers_from 0 (length d.links))) k l
     (subst (λ (ms : List ℕ). slice_get ms k ≡ Some l) are at_k))
 
 -- the end of a link
 pub end_there : (configs : List Config) (links : List Linked) (l : ℕ) (link : Linked) → slice_get links l ≡ Some link →
-    end_at (ends_of configs links) l ≡ end_of configs link
-end_there configs links l link at = get_or_from_slice_get (ends_of configs links) l (end_of configs link) no_end (at_map (end_of configs) links l link at)
+    end_at (link_ends configs links) l ≡ end_of configs link
+end_there configs links l link at = get_or_from_slice_get (link_ends configs links) l (end_of configs link) no_end (at_map (end_of configs) links l link at)
 
 -- a subnet's designated router
 pub record IsElected (configs : List Config) (d : Database) (s : ℕ) (members : List ℕ) : Type 0 where
   pub place : ℕ
   pub into : LeadsInto d s place
-  pub end_is : designated (member_ends (ends_of configs d.links) members) ≡ end_of configs into.link
+  pub end_is : designated (member_ends (link_ends configs d.links) members) ≡ end_of configs into.link
 
-pub elected_leads : (configs : List Config) (d : Database) (s : ℕ) (members : List ℕ) → IsDatabase d →
+pub elected_leads : (configs : List Config) (d : Database) (s : ℕ) (members : List ℕ) → IsAreaDatabase d →
     slice_get d.subnets s ≡ Some members → 0 < length members → IsElected configs d s members
 elected_leads configs d s members base at some =
-    let ends = ends_of configs d.links in
+    let ends = link_ends configs d.links in
     let won = elected (member_ends ends members) (subst (λ n. 0 < n) (sym (length-members members)) some) in
     let from = map_at (end_at ends) members won.0 (designated (member_ends ends members)) won.1 in
     let into = member_leads d s members base at won.0 from.0 from.1 in
     record { place = from.0; into = into; end_is = from.2 ∙ end_there configs d.links from.0 into.link into.at }
   where
-    length-members : (ms : List ℕ) → length (member_ends (ends_of configs d.links) ms) ≡ length ms
+    length-members : (ms : List ℕ) → length (member_ends (link_ends configs d.links) ms) ≡ length ms
     length-members [] = refl
     length-members (m ∷ ms) = ap suc (length-members ms)

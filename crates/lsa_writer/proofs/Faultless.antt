@@ -17,12 +17,12 @@ use Rattle.lsdb_build.proofs.GraphLaws.{AreMembers, members_fit, members_below}
 use Rattle.lsa_bytes.specs.declared.LsaLink.{LsaLink}
 use Rattle.lsa_bytes.specs.declared.Lsa.{Lsa}
 use Rattle.lsa_bytes.specs.Grammar.{is_link_type}
-use Rattle.lsa_bytes.specs.Databases.{HaveNoFault, IsDatabase, is_router, is_same, is_zero_link, has_zero_metric, has_link_types, size_of}
-use Rattle.lsa_bytes.specs.Written.{IsLink, IsWritable}
+use Rattle.lsa_bytes.specs.Databases.{HaveNoFault, IsLsaDatabase, is_router_lsa, is_same, is_zero_link, has_zero_metric, has_link_types, size_of_lsa}
+use Rattle.lsa_bytes.specs.Written.{IsWritableLink, IsWritable}
 use Rattle.lsa_writer.specs.declared.ends.LinkEnd.{LinkEnd}
 use Rattle.lsa_writer.specs.declared.said.OwnedLink.{OwnedLink}
-use Rattle.lsa_writer.specs.Ends.{id_of, no_end, end_of, ends_of, end_at, designated, member_ends, designated_ends}
-use Rattle.lsa_writer.specs.WrittenLsas.{lsa_link, said_link, links_in, own_links, own_lsa, routers_in, router_lsas, subnet_lsa, network_lsas, all_said, written_lsas}
+use Rattle.lsa_writer.specs.Ends.{id_of, no_end, end_of, link_ends, end_at, designated, member_ends, designated_ends}
+use Rattle.lsa_writer.specs.WrittenLsas.{lsa_link, said_link, links_alone, own_links, own_lsa, routers_in, router_lsas, subnet_lsa, network_lsas, all_links_said, written_lsas}
 use Rattle.lsa_writer.specs.OneGraph.{IsRangedEnd, IsRangedLink}
 use Rattle.cost_base.proofs.ListLemmas.{length-numbers_from}
 use Rattle.lsa_writer.proofs.ListPlaces.{number_there}
@@ -30,7 +30,7 @@ use Rattle.lsa_writer.proofs.Elections.{elected}
 use Rattle.lsa_writer.proofs.ToldLinks.{AreFit, own, of_subnet, own_all, of_subnets, told, routers_are, own_length, own_at, said_every, said_length, one_subnet}
 
 -- what holds of all links holds of a router's
-own_every : (P : LsaLink → Type 0) (router : ℕ) (said : List OwnedLink) → All (λ s. P s.link) said → All P (links_in (own_links router said))
+own_every : (P : LsaLink → Type 0) (router : ℕ) (said : List OwnedLink) → All (λ s. P s.link) said → All P (links_alone (own_links router said))
 own_every P router said all =
     All-map P (λ (s : OwnedLink). s.link) (own_links router said) (All-filter (λ (s : OwnedLink). s.router == router) (λ (s : OwnedLink). P s.link) said all)
 
@@ -50,13 +50,13 @@ metric_is configs ds from (Subnet s) cost = refl
 
 module _ (configs : List Config) (d : Database) (costs : List ℕ) (fit : AreFit configs d) (priced : All (λ cost. 0 < cost) costs) where
   abbrev ends : List LinkEnd
-  ends = ends_of configs d.links
+  ends = link_ends configs d.links
 
   abbrev chosen : List LinkEnd
   chosen = designated_ends ends d.subnets
 
   abbrev said : List OwnedLink
-  said = all_said configs d costs
+  said = all_links_said configs d costs
 
   abbrev lsas : List Lsa
   lsas = told configs d costs
@@ -79,7 +79,7 @@ module _ (configs : List Config) (d : Database) (costs : List ℕ) (fit : AreFit
       All-append (λ lsa. has_link_types lsa.body ≡ true) (own_all configs said) (of_subnets ends d.subnets)
       (All-map (λ lsa. has_link_types lsa.body ≡ true) (own configs said) (numbers_from 0 (length configs)) (λ k z within.
       list_all-from_AllPass (λ link. is_link_type link.kind)
-      (links_in (own_links (get_or (numbers_from 0 (length configs)) k z) said))
+      (links_alone (own_links (get_or (numbers_from 0 (length configs)) k z) said))
       (own_every (λ link. is_link_type link.kind ≡ true) (get_or (numbers_from 0 (length configs)) k z)
       said kinds)))
       (All-map (λ lsa. has_link_types lsa.body ≡ true) (of_subnet ends) d.subnets (λ k z within. refl))
@@ -88,7 +88,7 @@ module _ (configs : List Config) (d : Database) (costs : List ℕ) (fit : AreFit
   metrics =
       All-append (λ lsa. has_zero_metric lsa.body ≡ false) (own_all configs said) (of_subnets ends d.subnets)
       (All-map (λ lsa. has_zero_metric lsa.body ≡ false) (own configs said) (numbers_from 0 (length configs)) (λ k z within.
-      list_any_none is_zero_link (links_in (own_links (get_or (numbers_from 0 (length configs)) k z) said))
+      list_any_none is_zero_link (links_alone (own_links (get_or (numbers_from 0 (length configs)) k z) said))
       (own_every (λ link. is_zero_link link ≡ false) (get_or (numbers_from 0 (length configs)) k z) said no_zero)))
       (All-map (λ lsa. has_zero_metric lsa.body ≡ false) (of_subnet ends) d.subnets (λ k z within. refl))
 
@@ -128,13 +128,13 @@ module _ (configs : List Config) (d : Database) (costs : List ℕ) (fit : AreFit
       (All-map (λ x. All (Differ x) (of_subnets ends d.subnets)) (own configs said) (numbers_from 0 (length configs)) (λ k z within.
       All-map (Differ (own configs said (get_or (numbers_from 0 (length configs)) k z))) (of_subnet ends) d.subnets (λ j w inside. refl)))
 
-  few_routers : count_by is_router lsas ≤ 1000
-  few_routers = omega (arith, length-filter is_router lsas, ap length (routers_are configs d costs), own_length configs said, fit.count, fit.base.routers)
+  few_routers : count_by is_router_lsa lsas ≤ 1000
+  few_routers = omega (arith, length-filter is_router_lsa lsas, ap length (routers_are configs d costs), own_length configs said, fit.count, fit.base.routers)
 
   no_fault : HaveNoFault lsas
   no_fault = record { types = types; different = different; metrics = metrics; routers = few_routers }
 
-  own_few : (router : ℕ) → length (links_in (own_links router said)) ≤ 4000
+  own_few : (router : ℕ) → length (links_alone (own_links router said)) ≤ 4000
   own_few router =
       omega (
         arith,
@@ -154,16 +154,16 @@ module _ (configs : List Config) (d : Database) (costs : List ℕ) (fit : AreFit
       (All-weaker (AreMembers (length d.links)) (λ ms. length ms ≤ length d.links) (λ ms m. m.few) d.subnets
       (members_fit d fit.base)) k members at in omega (arith, is, fit.base.links))
 
-  sizes : All (λ lsa. size_of lsa ≤ 4001) lsas
+  sizes : All (λ lsa. size_of_lsa lsa ≤ 4001) lsas
   sizes =
-      All-append (λ lsa. size_of lsa ≤ 4001) (own_all configs said) (of_subnets ends d.subnets)
-      (All-map (λ lsa. size_of lsa ≤ 4001) (own configs said) (numbers_from 0 (length configs))
+      All-append (λ lsa. size_of_lsa lsa ≤ 4001) (own_all configs said) (of_subnets ends d.subnets)
+      (All-map (λ lsa. size_of_lsa lsa ≤ 4001) (own configs said) (numbers_from 0 (length configs))
       (λ k z within. omega (arith, own_few (get_or (numbers_from 0 (length configs)) k z))))
-      (All-map (λ lsa. size_of lsa ≤ 4001) (of_subnet ends) d.subnets
-      (all_from_at (λ ms. size_of (of_subnet ends ms) ≤ 4001) d.subnets
+      (All-map (λ lsa. size_of_lsa lsa ≤ 4001) (of_subnet ends) d.subnets
+      (all_from_at (λ ms. size_of_lsa (of_subnet ends ms) ≤ 4001) d.subnets
       (λ k ms at. omega (arith, members_few k ms at, routers_length ms))))
 
-  pub database : IsDatabase lsas
+  pub database : IsLsaDatabase lsas
   database =
       let many : length lsas ≤ 5000 =
       omega (
@@ -175,7 +175,7 @@ module _ (configs : List Config) (d : Database) (costs : List ℕ) (fit : AreFit
         length-map d.subnets (of_subnet ends),
         fit.base.subnets,
       ) in
-      record { faultless = no_fault; small = omega (arith, sum_by-le size_of 4001 lsas sizes, many) }
+      record { faultless = no_fault; small = omega (arith, sum_by-le size_of_lsa 4001 lsas sizes, many) }
 
   -- where the numbers are within their ranges, each LSA can be written
   pub writable : All IsRangedEnd ends → All IsRangedLink said →
@@ -193,12 +193,12 @@ module _ (configs : List Config) (d : Database) (costs : List ℕ) (fit : AreFit
           let within : k < length configs = omega (arith, slice_get_within (numbers_from 0 (length configs)) k r at, length-numbers_from 0 (length configs)) in
           subst (λ x. x < length configs) (same_Some k r (sym (number_there 0 (length configs) k within ∙ ap Some (zero-add k)) ∙ at)) within
 
-      links_fit : All (λ s. IsLink s.link) said
+      links_fit : All (λ s. IsWritableLink s.link) said
       links_fit = λ k z within. (let ranged = ranged_links k z within in
           record { id = ranged.id; address = ranged.address; kind = kinds k z within; metric = ranged.metric })
 
       router_writable : (r : ℕ) → r < length configs → IsWritable (own_lsa configs said r)
-      router_writable r known = record { id = ids r known; router = ids r known; body = (own_every IsLink r said links_fit, omega (arith, own_few r)) }
+      router_writable r known = record { id = ids r known; router = ids r known; body = (own_every IsWritableLink r said links_fit, omega (arith, own_few r)) }
 
       network_writable : (k : ℕ) (members : List ℕ) → slice_get d.subnets k ≡ Some members → IsWritable (subnet_lsa ends members)
       network_writable k members at =

@@ -19,8 +19,8 @@ use Rattle.lsa_bytes.specs.declared.stop.LsaFault.{LsaFault}
 use Rattle.lsa_bytes.specs.declared.stop.LsaFault.TheVariants.{NoRouterId, RouterIdTwice}
 use Rattle.lsa_bytes.specs.declared.ids.IdFault.{IdFault}
 use Rattle.lsa_bytes.specs.Ids.{is_id, id_fault, first_id_fault}
-use Rattle.lsa_writer.specs.Ends.{id_in, id_of}
-use Rattle.lsa_writer.specs.OneGraph.{IsBuilt, IsRangedId}
+use Rattle.lsa_writer.specs.Ends.{router_id_in, id_of}
+use Rattle.lsa_writer.specs.OneGraph.{IsDatabaseOf, IsRangedId}
 use Rattle.lsa_writer.proofs.LinkPorts.{one_link}
 use Rattle.lsa_writer.proofs.ToldLinks.{AreFit}
 
@@ -78,7 +78,7 @@ identified before n (config ∷ more) fine =
     }
 
 id_there : (configs : List Router) (r id : ℕ) (config : Router) → slice_get configs r ≡ Some config → config.router_id ≡ Some id → id_of configs r ≡ id
-id_there configs r id config at is = ap (λ (o : Option Router). unwrap_or (id_in o) 0) at ∙ ap (λ (o : Option ℕ). unwrap_or o 0) is
+id_there configs r id config at is = ap (λ (o : Option Router). unwrap_or (router_id_in o) 0) at ∙ ap (λ (o : Option ℕ). unwrap_or o 0) is
 
 pub ids_differ : (configs : List Router) → first_id_fault [] 0 configs ≡ None → (q r : ℕ) → q < length configs →
     r < length configs → id_of configs q ≡ id_of configs r → q ≡ r
@@ -108,7 +108,7 @@ pub ids_below : (configs : List Router) → All (λ config. IsRangedId config.ro
 ids_below [] all r within = absurd (omega arith)
 ids_below (c ∷ cs) all r within =
     let at = slice_get-get_or (c ∷ cs) r c within in
-    by_id _ (all_at (λ config. IsRangedId config.router_id) (c ∷ cs) all r _ at) (ap (λ (o : Option Router). unwrap_or (id_in o) 0) at)
+    by_id _ (all_at (λ config. IsRangedId config.router_id) (c ∷ cs) all r _ at) (ap (λ (o : Option Router). unwrap_or (router_id_in o) 0) at)
   where
     by_id : (o : Option ℕ) → IsRangedId o → id_of (c ∷ cs) r ≡ unwrap_or o 0 → id_of (c ∷ cs) r < 2 ^ 32
     by_id None h is = omega (arith, is)
@@ -148,5 +148,5 @@ database_fits area configs fine valid known = record {
   members = subnets_some area configs;
 }
 
-pub built_fits : (configs : List Router) (d : Database) → IsBuilt configs d → All IsRouter configs → first_id_fault [] 0 configs ≡ None → AreFit configs d
+pub built_fits : (configs : List Router) (d : Database) → IsDatabaseOf configs d → All IsRouter configs → first_id_fault [] 0 configs ≡ None → AreFit configs d
 built_fits configs d built valid known = subst (AreFit configs) (sym built.database) (database_fits built.area configs built.faultless valid known)

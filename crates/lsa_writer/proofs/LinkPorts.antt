@@ -14,7 +14,7 @@ use Rattle.lsdb_build.proofs.Pairs.{all_at, pair_at, map_at, pairs_head, pairs_t
 use Rattle.lsdb_build.proofs.PortFacts.{differ}
 use Rattle.lsdb_build.proofs.PortOwners.{IsPortOf, linked_owned, owner_there}
 use Rattle.lsdb_build.proofs.Databases.{ports_sound, sound_linked}
-use Rattle.lsa_writer.specs.Ends.{interface_named, interface_of, interfaces_in, end_of, end_with, id_of}
+use Rattle.lsa_writer.specs.Ends.{interface_named, interface_of_link, interfaces_in, end_of, end_with, id_of}
 
 -- of different names each is found by its own
 pub named_there : (interfaces : List Interface) (k : ℕ) (i : Interface) → AllPairs differ interfaces →
@@ -35,7 +35,7 @@ pub record HasPort (area : ℕ) (configs : List Router) (l : ℕ) (link : Linked
   pub port : Port
   pub at : slice_get (linked (ports area configs)) l ≡ Some port
   pub link_is : link ≡ link_of (ports area configs) port
-  pub interface : interface_of configs link ≡ Some port.interface
+  pub interface : interface_of_link configs link ≡ Some port.interface
   pub address : (end_of configs link).address ≡ port.address
 
 pub port_of_link : (area : ℕ) (configs : List Router) → All IsRouter configs → (l : ℕ) (link : Linked) →
@@ -48,13 +48,13 @@ port_of_link area configs valid l link at =
     let there = owner_there configs port of in
     let named : interface_named port.interface.name of.router.interfaces ≡ Some port.interface =
     named_there of.router.interfaces of.among.place port.interface (all_at IsRouter configs valid of.place of.router of.there).different of.among.there in
-    let interface : interface_of configs (link_of all port) ≡ Some port.interface =
+    let interface : interface_of_link configs (link_of all port) ≡ Some port.interface =
     ap (λ (o : Option Router). interface_named port.interface.name (interfaces_in o)) there ∙ named in
     record {
       port = port;
       at = found.1;
       link_is = found.2;
-      interface = ap (interface_of configs) found.2 ∙ interface;
+      interface = ap (interface_of_link configs) found.2 ∙ interface;
       address = ap (λ (x : Linked). (end_of configs x).address) found.2
           ∙ ap (λ (o : Option Interface). (end_with (id_of configs port.router) o).address) interface ∙ ap (λ o. unwrap_or o 0) of.among.address;
     }

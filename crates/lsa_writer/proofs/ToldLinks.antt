@@ -13,18 +13,18 @@ use Rattle.interface_model.specs.Records.{Router as Config}
 use Rattle.lsdb_build.specs.declared.Far.{Far}
 use Rattle.lsdb_build.specs.declared.Far.TheVariants.{Router, Subnet}
 use Rattle.lsdb_build.specs.declared.Linked.{Linked}
-use Rattle.lsdb_build.specs.Graphs.{Database, IsDatabase, IsLink, link_leads_to, leads_to, members_of}
+use Rattle.lsdb_build.specs.Graphs.{Database, IsAreaDatabase, IsDatabaseLink, link_leads_to, leads_to, links_into_subnet}
 use Rattle.lsdb_build.proofs.Pairs.{all_at, map_at, at_map, pairs_nil, pairs_head, pairs_tail}
 use Rattle.lsa_bytes.specs.declared.LsaLink.{LsaLink}
 use Rattle.lsa_bytes.specs.declared.Body.{Body}
 use Rattle.lsa_bytes.specs.declared.Lsa.{Lsa}
 use Rattle.lsa_bytes.specs.Written.{Masked}
-use Rattle.lsa_bytes.specs.Databases.{is_router, is_network, is_router_of, is_network_of}
-use Rattle.lsa_bytes.specs.AreaGraphs.{routers, networks, has_link, attaches, vertex_back, router_back, network_back}
+use Rattle.lsa_bytes.specs.Databases.{is_router_lsa, is_network_lsa, is_router_of, is_network_of}
+use Rattle.lsa_bytes.specs.AreaGraphs.{routers_among, networks_among, has_link, attaches, vertex_back, router_vertex_back, network_vertex_back}
 use Rattle.lsa_writer.specs.declared.ends.LinkEnd.{LinkEnd}
 use Rattle.lsa_writer.specs.declared.said.OwnedLink.{OwnedLink}
-use Rattle.lsa_writer.specs.Ends.{id_of, end_of, ends_of, end_at, designated, member_ends, designated_ends}
-use Rattle.lsa_writer.specs.WrittenLsas.{said_link, said_links, own_links, own_lsa, router_lsas, subnet_lsa, network_lsas, all_said, written_lsas}
+use Rattle.lsa_writer.specs.Ends.{id_of, end_of, link_ends, end_at, designated, member_ends, designated_ends}
+use Rattle.lsa_writer.specs.WrittenLsas.{said_link, said_links, own_links, own_lsa, router_lsas, subnet_lsa, network_lsas, all_links_said, written_lsas}
 use Rattle.lsa_writer.proofs.ListPlaces.{any_at, any_kept, number_there, keeps_all, keeps_none}
 use Rattle.lsa_writer.proofs.LinkGroups.{IsBehind, AreInOrder}
 use Rattle.lsa_writer.proofs.Elections.{elected_leads}
@@ -32,7 +32,7 @@ use Rattle.lsa_writer.proofs.Elections.{elected_leads}
 -- what the configurations and their database keep, as far as their LSAs need it
 pub record AreFit (configs : List Config) (d : Database) : Type 0 where
   pub count : length configs ≡ length d.routers
-  pub base : IsDatabase d
+  pub base : IsAreaDatabase d
   pub ids : (q r : ℕ) → q < length configs → r < length configs → id_of configs q ≡ id_of configs r → q ≡ r
   pub addresses : (l m : ℕ) (a b : Linked) → slice_get d.links l ≡ Some a → slice_get d.links m ≡ Some b →
       (end_of configs a).address ≡ (end_of configs b).address → l ≡ m
@@ -55,45 +55,45 @@ abbrev pub of_subnets : List LinkEnd → List (List ℕ) → List Lsa
 of_subnets ends subnets = map (of_subnet ends) subnets
 
 abbrev pub told : List Config → Database → List ℕ → List Lsa
-told configs d costs = own_all configs (all_said configs d costs) ++ of_subnets (ends_of configs d.links) d.subnets
+told configs d costs = own_all configs (all_links_said configs d costs) ++ of_subnets (link_ends configs d.links) d.subnets
 
 pub lsas_are : (configs : List Config) (d : Database) (costs : List ℕ) → map lsa_of (written_lsas configs d costs) ≡ told configs d costs
 lsas_are configs d costs =
-    let said = all_said configs d costs in
-    let ends = ends_of configs d.links in
+    let said = all_links_said configs d costs in
+    let ends = link_ends configs d.links in
     map-append lsa_of (router_lsas configs said) (network_lsas ends d.subnets)
     ∙ ap (λ (xs : List Lsa). xs ++ map lsa_of (network_lsas ends d.subnets)) (map-map lsa_of (own_lsa configs said) (numbers_from 0 (length configs)))
     ∙ ap (λ (xs : List Lsa). own_all configs said ++ xs) (map-map lsa_of (subnet_lsa ends) d.subnets)
 
 -- Routers and networks.
 
-router_there : (configs : List Config) (said : List OwnedLink) (k : ℕ) (x : Lsa) → slice_get (own_all configs said) k ≡ Some x → is_router x ≡ true
-router_there configs said k x at = let from = map_at (own configs said) (numbers_from 0 (length configs)) k x at in ap is_router from.2
+router_there : (configs : List Config) (said : List OwnedLink) (k : ℕ) (x : Lsa) → slice_get (own_all configs said) k ≡ Some x → is_router_lsa x ≡ true
+router_there configs said k x at = let from = map_at (own configs said) (numbers_from 0 (length configs)) k x at in ap is_router_lsa from.2
 
-network_there : (ends : List LinkEnd) (subnets : List (List ℕ)) (k : ℕ) (x : Lsa) → slice_get (of_subnets ends subnets) k ≡ Some x → is_router x ≡ false
-network_there ends subnets k x at = let from = map_at (of_subnet ends) subnets k x at in ap is_router from.2
+network_there : (ends : List LinkEnd) (subnets : List (List ℕ)) (k : ℕ) (x : Lsa) → slice_get (of_subnets ends subnets) k ≡ Some x → is_router_lsa x ≡ false
+network_there ends subnets k x at = let from = map_at (of_subnet ends) subnets k x at in ap is_router_lsa from.2
 
-pub routers_are : (configs : List Config) (d : Database) (costs : List ℕ) → routers (told configs d costs) ≡ own_all configs (all_said configs d costs)
+pub routers_are : (configs : List Config) (d : Database) (costs : List ℕ) → routers_among (told configs d costs) ≡ own_all configs (all_links_said configs d costs)
 routers_are configs d costs =
-    let said = all_said configs d costs in
-    let ends = ends_of configs d.links in
-    filter-append is_router (own_all configs said) (of_subnets ends d.subnets)
-    ∙ ap (λ (xs : List Lsa). xs ++ filter is_router (of_subnets ends d.subnets)) (keeps_all is_router (own_all configs said) (router_there configs said))
-    ∙ ap (λ (xs : List Lsa). own_all configs said ++ xs) (keeps_none is_router (of_subnets ends d.subnets) (network_there ends d.subnets))
+    let said = all_links_said configs d costs in
+    let ends = link_ends configs d.links in
+    filter-append is_router_lsa (own_all configs said) (of_subnets ends d.subnets)
+    ∙ ap (λ (xs : List Lsa). xs ++ filter is_router_lsa (of_subnets ends d.subnets)) (keeps_all is_router_lsa (own_all configs said) (router_there configs said))
+    ∙ ap (λ (xs : List Lsa). own_all configs said ++ xs) (keeps_none is_router_lsa (of_subnets ends d.subnets) (network_there ends d.subnets))
     ∙ append_nothing (own_all configs said)
   where
     append_nothing : (xs : List Lsa) → xs ++ [] ≡ xs
     append_nothing [] = refl
     append_nothing (x ∷ xs) = ap (λ ys. x ∷ ys) (append_nothing xs)
 
-pub networks_are : (configs : List Config) (d : Database) (costs : List ℕ) → networks (told configs d costs) ≡ of_subnets (ends_of configs d.links) d.subnets
+pub networks_are : (configs : List Config) (d : Database) (costs : List ℕ) → networks_among (told configs d costs) ≡ of_subnets (link_ends configs d.links) d.subnets
 networks_are configs d costs =
-    let said = all_said configs d costs in
-    let ends = ends_of configs d.links in
-    filter-append is_network (own_all configs said) (of_subnets ends d.subnets)
-    ∙ ap (λ (xs : List Lsa). xs ++ filter is_network (of_subnets ends d.subnets))
-    (keeps_none is_network (own_all configs said) (λ k x at. ap not (router_there configs said k x at)))
-    ∙ keeps_all is_network (of_subnets ends d.subnets) (λ k x at. ap not (network_there ends d.subnets k x at))
+    let said = all_links_said configs d costs in
+    let ends = link_ends configs d.links in
+    filter-append is_network_lsa (own_all configs said) (of_subnets ends d.subnets)
+    ∙ ap (λ (xs : List Lsa). xs ++ filter is_network_lsa (of_subnets ends d.subnets))
+    (keeps_none is_network_lsa (own_all configs said) (λ k x at. ap not (router_there configs said k x at)))
+    ∙ keeps_all is_network_lsa (of_subnets ends d.subnets) (λ k x at. ap not (network_there ends d.subnets k x at))
 
 pub own_length : (configs : List Config) (said : List OwnedLink) → length (own_all configs said) ≡ length configs
 own_length configs said = length-map (numbers_from 0 (length configs)) (own configs said) ∙ length-numbers_from 0 (length configs)
@@ -137,10 +137,10 @@ said_order configs ds (link ∷ links) (cost ∷ costs) order =
     (said_order configs ds links costs (pairs_tail (λ a b. a.router ≤ b.router) link links order))
 
 pub said_within : (configs : List Config) (d : Database) (costs : List ℕ) → AreFit configs d →
-    All (λ s. (0 ≤ s.router) × (s.router < 0 + length configs)) (all_said configs d costs)
+    All (λ s. (0 ≤ s.router) × (s.router < 0 + length configs)) (all_links_said configs d costs)
 said_within configs d costs fit =
-    said_every configs (designated_ends (ends_of configs d.links) d.subnets) (λ s. (0 ≤ s.router) × (s.router < 0 + length configs)) d.links costs
-    (λ k x y at priced. (let is = all_at (IsLink d) d.links fit.base.each_link k x at in (omega arith, omega (arith, is.router, fit.count))))
+    said_every configs (designated_ends (link_ends configs d.links) d.subnets) (λ s. (0 ≤ s.router) × (s.router < 0 + length configs)) d.links costs
+    (λ k x y at priced. (let is = all_at (IsDatabaseLink d) d.links fit.base.each_link k x at in (omega arith, omega (arith, is.router, fit.count))))
 
 -- a link with a cost
 pub cost_there : (costs : List ℕ) (links : List Linked) (l : ℕ) (link : Linked) → length costs ≡ length links →
@@ -167,12 +167,12 @@ lists_member ends members k l id at is =
     (at_map (end_at ends) members k l at) (eq-eqb (end_at ends l).router id is)
 
 -- the link that leads to a subnet is one of its members
-pub is_member : (d : Database) (s l : ℕ) (link : Linked) (members : List ℕ) → IsDatabase d →
+pub is_member : (d : Database) (s l : ℕ) (link : Linked) (members : List ℕ) → IsAreaDatabase d →
     slice_get d.links l ≡ Some link → link.to ≡ Subnet s → slice_get d.subnets s ≡ Some members
     → (k : ℕ) × (slice_get members k ≡ Some l)
 is_member d s l link members base at to there =
     let within = slice_get_within d.subnets s members there in
-    let are : members ≡ members_of d s = sym (get_or_from_slice_get d.subnets s members [] there) ∙ base.members s within in
+    let are : members ≡ links_into_subnet d s = sym (get_or_from_slice_get d.subnets s members [] there) ∙ base.members s within in
     let below = slice_get_within d.links l link at in
     let leads : link_leads_to s (slice_get d.links l) ≡ true = ap (link_leads_to s) at ∙ ap (leads_to s) to ∙ eq-eqb s s refl in
     let kept = kept_place (λ m. link_leads_to s (slice_get d.links m)) (numbers_from 0 (length d.links)) l l
@@ -220,21 +220,21 @@ own_at configs said router below =
     at_map (own configs said) (numbers_from 0 (length configs)) router router (number_there 0 (length configs) router below ∙ ap Some (zero-add router))
 
 pub router_vertex : (configs : List Config) (d : Database) (costs : List ℕ) (router : ℕ) (leads : Body → Bool) →
-    AreFit configs d → router < length configs → leads (own configs (all_said configs d costs) router).body ≡ true
-    → router_back (told configs d costs) (id_of configs router) leads ≡ Some router
+    AreFit configs d → router < length configs → leads (own configs (all_links_said configs d costs) router).body ≡ true
+    → router_vertex_back (told configs d costs) (id_of configs router) leads ≡ Some router
 router_vertex configs d costs router leads fit below back =
-    let said = all_said configs d costs in
+    let said = all_links_said configs d costs in
     ap (λ (xs : List Lsa). vertex_back 0 (is_router_of (id_of configs router)) leads xs) (routers_are configs d costs)
     ∙ back_at 0 (is_router_of (id_of configs router)) leads (own_all configs said) router (own configs said router) (own_at configs said router below)
     (eq-eqb (id_of configs router) (id_of configs router) refl) back only
     ∙ ap Some (zero-add router)
   where
-    only : (j : ℕ) (y : Lsa) → slice_get (own_all configs (all_said configs d costs)) j ≡ Some y → is_router_of (id_of configs router) y ≡ true → j ≡ router
+    only : (j : ℕ) (y : Lsa) → slice_get (own_all configs (all_links_said configs d costs)) j ≡ Some y → is_router_of (id_of configs router) y ≡ true → j ≡ router
     only j y at is =
-        let said = all_said configs d costs in
+        let said = all_links_said configs d costs in
         let within : j < length configs = omega (arith, slice_get_within (own_all configs said) j y at, own_length configs said) in
         let same : y ≡ own configs said j = same_Some y (own configs said j) (sym at ∙ own_at configs said j within) in
-        let named = and_parts (is_router y) (y.router == id_of configs router) is in
+        let named = and_parts (is_router_lsa y) (y.router == id_of configs router) is in
         fit.ids j router within below (sym (ap (λ (z : Lsa). z.router) same) ∙ eqb-true y.router (id_of configs router) named.1)
 
 abbrev number : Far → ℕ
@@ -247,7 +247,7 @@ subnet_same a b h = ap number h
 -- no two subnets have designated routers of one address
 pub one_subnet : (configs : List Config) (d : Database) (s j : ℕ) (members others : List ℕ) → AreFit configs d →
     slice_get d.subnets s ≡ Some members → slice_get d.subnets j ≡ Some others
-    → (designated (member_ends (ends_of configs d.links) others)).address ≡ (designated (member_ends (ends_of configs d.links) members)).address → j ≡ s
+    → (designated (member_ends (link_ends configs d.links) others)).address ≡ (designated (member_ends (link_ends configs d.links) members)).address → j ≡ s
 one_subnet configs d s j members others fit at at_j same =
     let one = elected_leads configs d s members fit.base at (fit.members s members at) in
     let other = elected_leads configs d j others fit.base at_j (fit.members j others at_j) in
@@ -259,23 +259,23 @@ one_subnet configs d s j members others fit at at_j same =
 
 pub network_vertex : (configs : List Config) (d : Database) (costs : List ℕ) (s : ℕ) (members : List ℕ) (leads : Body →
     Bool) → AreFit configs d → slice_get d.subnets s ≡ Some members →
-    leads (of_subnet (ends_of configs d.links) members).body ≡ true
-    → network_back (told configs d costs) (designated (member_ends (ends_of configs d.links) members)).address leads ≡ Some (length configs + s)
+    leads (of_subnet (link_ends configs d.links) members).body ≡ true
+    → network_vertex_back (told configs d costs) (designated (member_ends (link_ends configs d.links) members)).address leads ≡ Some (length configs + s)
 network_vertex configs d costs s members leads fit at back =
-    let said = all_said configs d costs in
-    let ends = ends_of configs d.links in
+    let said = all_links_said configs d costs in
+    let ends = link_ends configs d.links in
     let id = (designated (member_ends ends members)).address in
-    ap (λ (xs : List Lsa). vertex_back (length xs) (is_network_of id) leads (networks (told configs d costs))) (routers_are configs d costs)
-    ∙ ap (λ (n : ℕ). vertex_back n (is_network_of id) leads (networks (told configs d costs))) (own_length configs said)
+    ap (λ (xs : List Lsa). vertex_back (length xs) (is_network_of id) leads (networks_among (told configs d costs))) (routers_are configs d costs)
+    ∙ ap (λ (n : ℕ). vertex_back n (is_network_of id) leads (networks_among (told configs d costs))) (own_length configs said)
     ∙ ap (λ (xs : List Lsa). vertex_back (length configs) (is_network_of id) leads xs) (networks_are configs d costs)
     ∙ back_at (length configs) (is_network_of id) leads (of_subnets ends d.subnets) s (of_subnet ends members) (at_map (of_subnet ends) d.subnets s members at)
     (eq-eqb id id refl) back only
   where
-    only : (j : ℕ) (y : Lsa) → slice_get (of_subnets (ends_of configs d.links) d.subnets) j ≡ Some y →
-        is_network_of (designated (member_ends (ends_of configs d.links) members)).address y ≡ true → j ≡ s
+    only : (j : ℕ) (y : Lsa) → slice_get (of_subnets (link_ends configs d.links) d.subnets) j ≡ Some y →
+        is_network_of (designated (member_ends (link_ends configs d.links) members)).address y ≡ true → j ≡ s
     only j y at_j is =
-        let ends = ends_of configs d.links in
+        let ends = link_ends configs d.links in
         let from = map_at (of_subnet ends) d.subnets j y at_j in
-        let named = and_parts (is_network y) (y.id == (designated (member_ends ends members)).address) is in
+        let named = and_parts (is_network_lsa y) (y.id == (designated (member_ends ends members)).address) is in
         one_subnet configs d s j members from.0 fit at from.1 (sym (ap (λ (z : Lsa). z.id) from.2)
         ∙ eqb-true y.id (designated (member_ends ends members)).address named.1)

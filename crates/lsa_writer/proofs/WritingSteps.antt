@@ -23,7 +23,7 @@ use Rattle.lsa_writer.specs.declared.ends.LinkEnd.{LinkEnd}
 use Rattle.lsa_writer.specs.declared.said.OwnedLink.{OwnedLink}
 use Rattle.lsa_writer.specs.Ends.{id_of, interface_named, no_end, end_at, designated, member_ends, designated_ends}
 use Rattle.lsa_writer.specs.Places.{own_count}
-use Rattle.lsa_writer.specs.WrittenLsas.{links_in, own_links, own_lsa, router_lsa, network_lsa, subnet_lsa, routers_in, mask_of}
+use Rattle.lsa_writer.specs.WrittenLsas.{links_alone, own_links, own_lsa, router_lsa, network_lsa, subnet_lsa, routers_in, mask_of}
 use Rattle.lsa_writer.proofs.ListPlaces.{in_front}
 use Rattle.lsa_writer.proofs.LinkGroups.{AreInOrder, IsBehind}
 
@@ -123,10 +123,10 @@ three_added old a b c one two three h i j =
 
 pub router_bytes : (id : ℕ) (said : List OwnedLink) →
     header 1 id id (24 + 12 * length said)
-    ++ ((0 ∷ 0 ∷ to_be_bytes w16 (length said)) ++ flat_map link_bytes (links_in said))
-    ≡ lsa_bytes (router_lsa id (links_in said))
+    ++ ((0 ∷ 0 ∷ to_be_bytes w16 (length said)) ++ flat_map link_bytes (links_alone said))
+    ≡ lsa_bytes (router_lsa id (links_alone said))
 router_bytes id said =
-    let links = links_in said in
+    let links = links_alone said in
     let count : length links ≡ length said = length-map said (λ (s : OwnedLink). s.link) in
     let size : 24 + 12 * length said ≡ 20 + length (body_bytes 0 (Links links)) = omega (arith, links_length links, count) in
     ap (λ n. header 1 id id n ++ ((0 ∷ 0 ∷ to_be_bytes w16 (length said)) ++ flat_map link_bytes links)) size
@@ -276,16 +276,16 @@ one_subnet_added ends chosen subnets i members slice from old new within is chos
 -- the router-LSA of one more router
 pub router_turn : (configs : List Router) (said own : List OwnedLink) (router id : ℕ) (so_far new total : List ℕ) →
     router < length configs → id ≡ id_of configs router → own ≡ own_links router said →
-    new ≡ so_far ++ lsa_bytes (router_lsa id (links_in own)) →
+    new ≡ so_far ++ lsa_bytes (router_lsa id (links_alone own)) →
     so_far ++ bytes_of_all (map (own_lsa configs said) (numbers_from router (length configs - router))) ≡ total →
     new ++ bytes_of_all (map (own_lsa configs said) (numbers_from (router + 1) (length configs - (router + 1)))) ≡ total
 router_turn configs said own router id so_far new total below id_is own_is added left =
     let later = bytes_of_all (map (own_lsa configs said) (numbers_from (router + 1) (length configs - (router + 1)))) in
     let one = lsa_bytes (own_lsa configs said router) in
     ap (λ (bytes : List ℕ). bytes ++ later)
-    (added ∙ ap (λ (n : ℕ). so_far ++ lsa_bytes (router_lsa n (links_in own))) id_is
+    (added ∙ ap (λ (n : ℕ). so_far ++ lsa_bytes (router_lsa n (links_alone own))) id_is
     ∙ ap (λ (links : List OwnedLink).
-    so_far ++ lsa_bytes (router_lsa (id_of configs router) (links_in links))) own_is)
+    so_far ++ lsa_bytes (router_lsa (id_of configs router) (links_alone links))) own_is)
     ∙ append_assoc so_far one later
     ∙ sym (ap (λ (ns : List ℕ). so_far ++ bytes_of_all (map (own_lsa configs said) ns)) (numbers_step router (length configs) below))
     ∙ left

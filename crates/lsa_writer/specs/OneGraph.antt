@@ -6,13 +6,13 @@ use Rattle.lsdb_build.specs.Graphs.{Database}
 use Rattle.lsdb_build.specs.Topology.{topology_fault, database_of}
 use Rattle.lsa_bytes.specs.declared.Lsa.{Lsa}
 use Rattle.lsa_bytes.specs.AreaGraphs.{lsa_graph}
-use Rattle.lsa_bytes.specs.Databases.{IsDatabase}
+use Rattle.lsa_bytes.specs.Databases.{IsLsaDatabase}
 use Rattle.lsa_bytes.specs.Files.{Say}
 use Rattle.lsa_writer.specs.declared.ends.LinkEnd.{LinkEnd}
 use Rattle.lsa_writer.specs.declared.said.OwnedLink.{OwnedLink}
 
 -- the database is that of the configurations in some area, where they have no fault
-pub record IsBuilt (configs : List Router) (d : Database) : Type 0 where
+pub record IsDatabaseOf (configs : List Router) (d : Database) : Type 0 where
   pub area : ℕ
   pub faultless : topology_fault area configs ≡ None
   pub database : d ≡ database_of area configs
@@ -21,7 +21,7 @@ pub record IsBuilt (configs : List Router) (d : Database) : Type 0 where
 pub record SayGraph (bytes : List ℕ) (g : Area) : Type 0 where
   pub lsas : List Lsa
   pub said : Say bytes lsas
-  pub database : IsDatabase lsas
+  pub database : IsLsaDatabase lsas
   pub graph : lsa_graph lsas ≡ g
 
 -- what the numbers of an end or of a link that was said keep
@@ -29,11 +29,13 @@ pub record IsRangedEnd (end : LinkEnd) : Type 0 where
   pub router : end.router < 2 ^ 32
   pub address : end.address < 2 ^ 32
 
+-- the numbers of a link in a router-LSA fit their fields
 pub record IsRangedLink (said : OwnedLink) : Type 0 where
   pub id : said.link.id < 2 ^ 32
   pub address : said.link.address < 2 ^ 32
   pub metric : said.link.metric < 2 ^ 16
 
+-- a router ID, where there is one, has 32 bits
 abbrev pub IsRangedId : Option ℕ → Type 0
 IsRangedId None = Unit {0}
 IsRangedId (Some id) = id < 2 ^ 32

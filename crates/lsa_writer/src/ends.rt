@@ -1,7 +1,7 @@
 //! The ends of links.
 ghost use Rattle.std.specs.Prelude.{◌≡◌, ◌≢◌, ◌<◌, AllPairs, IfOk, MatchOption, length, option_copied, slice_get};
 ghost use Rattle.cost_base.specs.Lists.{same_bytes};
-ghost use Rattle.lsa_writer.specs.Ends.{end_at, end_of, end_with, ends_of, id_of, interface_named, interfaces_in};
+ghost use Rattle.lsa_writer.specs.Ends.{end_at, end_of, end_with, link_ends, id_of, interface_named, interfaces_in};
 ghost use Rattle.std.specs.Option.{option_and_then};
 
 use cost_base::OutOfMemory;
@@ -143,7 +143,7 @@ pub fn ends_of(
     configs: &[RouterConfig],
     links: &[Linked],
 ) -> Result<Vec<LinkEnd>, OutOfMemory>
-    ensures { IfOk result (λ ends. ends.items ≡ ends_of configs.now links.now) }
+    ensures { IfOk result (λ ends. ends.items ≡ link_ends configs.now links.now) }
 {
     let mut ends = Vec::new(alloc);
     let mut next = 0;

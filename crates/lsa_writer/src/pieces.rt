@@ -3,7 +3,7 @@ ghost use Rattle.std.specs.Prelude.{◌≡◌, ◌+◌, ◌*◌, ◌^◌, ◌<�
 ghost use Rattle.std.specs.Int.{to_be_bytes, w16, w32};
 ghost use Rattle.lsa_bytes.specs.Written.{header, link_bytes, lsa_bytes};
 ghost use Rattle.lsa_writer.specs.Ends.{member_ends};
-ghost use Rattle.lsa_writer.specs.WrittenLsas.{links_in, mask_of, network_lsa, router_lsa, routers_in};
+ghost use Rattle.lsa_writer.specs.WrittenLsas.{links_alone, mask_of, network_lsa, router_lsa, routers_in};
 
 use crate::ends::{LinkEnd, end_at};
 use crate::said::OwnedLink;
@@ -62,7 +62,7 @@ fn push_count(bytes: &mut Vec<u8>, count: u16) -> Result<(), OutOfMemory>
 
 /// Adds links of a router-LSA, in order.
 fn push_links(bytes: &mut Vec<u8>, links: &[OwnedLink]) -> Result<(), OutOfMemory>
-    ensures { OnOk result (bytes.new.items ≡ bytes.old.items ++ flat_map link_bytes (links_in links.now)) }
+    ensures { OnOk result (bytes.new.items ≡ bytes.old.items ++ flat_map link_bytes (links_alone links.now)) }
 {
     for said in links {
         push_link(bytes, said.link)?;
@@ -73,7 +73,7 @@ fn push_links(bytes: &mut Vec<u8>, links: &[OwnedLink]) -> Result<(), OutOfMemor
 /// Adds the router-LSA of a router with these links, of which its length has room for.
 pub fn push_router_lsa(bytes: &mut Vec<u8>, id: u32, links: &[OwnedLink]) -> Result<(), OutOfMemory>
     requires { 24 + 12 * length links.now < 2 ^ 16 }
-    ensures { OnOk result (bytes.new.items ≡ bytes.old.items ++ lsa_bytes (router_lsa id (links_in links.now))) }
+    ensures { OnOk result (bytes.new.items ≡ bytes.old.items ++ lsa_bytes (router_lsa id (links_alone links.now))) }
 {
     let count = links.len() as u16;
     push_header(bytes, ROUTER_LSA, id, id, 24 + 12 * count)?;

@@ -1,6 +1,6 @@
 //! What links say in the router-LSAs of their routers.
 ghost use Rattle.std.specs.Prelude.{◌≡◌, ◌≤◌, IfOk, length};
-ghost use Rattle.lsa_writer.specs.Ends.{end_of, ends_of};
+ghost use Rattle.lsa_writer.specs.Ends.{end_of, link_ends};
 ghost use Rattle.lsa_writer.specs.WrittenLsas.{lsa_link, said_link, said_links};
 
 use crate::ends::{LinkEnd, end_at, id_of};
@@ -52,7 +52,7 @@ pub fn said_links(
     links: &[Linked],
     costs: &[u16],
 ) -> Result<Vec<OwnedLink>, OutOfMemory>
-    requires ends { ends.now ≡ ends_of configs.now links.now }
+    requires ends { ends.now ≡ link_ends configs.now links.now }
     requires one_each { length costs.now ≡ length links.now }
     requires few { length links.now ≤ 4000 }
     ensures { IfOk result (λ said. said.items ≡ said_links configs.now designated.now links.now costs.now) }

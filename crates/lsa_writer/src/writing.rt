@@ -7,7 +7,7 @@ ghost use Rattle.lsa_bytes.specs.Written.{bytes_of_all};
 ghost use Rattle.lsa_writer.specs.Ends.{designated_ends};
 ghost use Rattle.lsa_writer.specs.WrittenLsas.{network_lsas, router_lsas, written_lsas};
 ghost use Rattle.lsa_writer.specs.Places.{own_count};
-ghost use Rattle.lsa_writer.specs.OneGraph.{IsBuilt, SayGraph};
+ghost use Rattle.lsa_writer.specs.OneGraph.{IsDatabaseOf, SayGraph};
 
 use crate::designation::designated_ends;
 use crate::ends::{LinkEnd, end_at, ends_of, id_of};
@@ -87,7 +87,7 @@ pub fn lsas_of(
     lsdb: &Lsdb,
     costs: &[u16],
 ) -> Result<Vec<u8>, OutOfMemory>
-    requires built { IsBuilt configs.now lsdb.now }
+    requires built { IsDatabaseOf configs.now lsdb.now }
     requires ids { first_id_fault [] 0 configs.now ≡ None }
     requires one_each { length costs.now ≡ length lsdb.now.links }
     requires priced { All (λ cost. 0 < cost) costs.now }

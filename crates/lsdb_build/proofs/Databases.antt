@@ -14,8 +14,8 @@ use Rattle.interface_model.specs.declared.Kind.TheVariants.{PointToPoint, Broadc
 use Rattle.interface_model.specs.Records.{Router, IsRouter}
 use Rattle.lsdb_build.specs.declared.Far.TheVariants.{Router as ToRouter}
 use Rattle.lsdb_build.specs.Neighbours.{Port, ports, shares_subnet, is_linked, is_linked_kind, linked, is_broadcast, is_broadcast_kind, transit_subnets, place_from, is_port, is_other}
-use Rattle.lsdb_build.specs.Graphs.{IsDatabase, IsLink, IsFar, HasMate, IsMateOf, link_leads_to, leads_to, members_of}
-use Rattle.lsdb_build.specs.Topology.{is_second_of_router, is_second_of_address, is_mismatch, is_crowding, is_overlap, lacks_designated, first_where, at_port, at_config, past, second_of_name, topology_fault, router_at, far_of, mate_of, link_of, places_from, database_of}
+use Rattle.lsdb_build.specs.Graphs.{IsAreaDatabase, IsDatabaseLink, IsFar, HasLinkBack, IsLinkBackOf, link_leads_to, leads_to, links_into_subnet}
+use Rattle.lsdb_build.specs.Topology.{is_second_of_router, is_second_of_address, is_mismatch, is_crowding, is_overlap, lacks_designated, first_where, at_port, at_config, past, second_of_name, topology_fault, router_at, far_of, link_back_of, link_of, places_from, database_of}
 use Rattle.lsdb_build.proofs.Pairs.{all_at, all_from_at, pair_at, pairs_nil, pairs_head, pairs_tail, pairs_weaker, map_at, at_map, count_agree, count_filter, other_place}
 use Rattle.lsdb_build.proofs.Subnets.{shares_itself, shares_back, shares_on, shares_alike, none_passes, differs_in_kind, kinds_at, place_only, firsts_all, firsts_length, firsts_are_first, FirstOf, first_found}
 use Rattle.lsdb_build.specs.declared.stop.TopologyFault.TheVariants.{TooMany, NameTwice, SameRouterTwice, AddressTwice, TypeMismatch, CrowdedLink, NoDesignated, OverlapPrefix}
@@ -75,7 +75,7 @@ other_is xs pairs l m p q apart at_l at_m shares only =
         ]
 
 -- the other end of a link over a point-to-point subnet
-pub record MateOf (xs : List Port) (l : ℕ) (p : Port) : Type 0 where
+pub record LinkBackOf (xs : List Port) (l : ℕ) (p : Port) : Type 0 where
   pub place : ℕ
   pub port : Port
   pub apart : place ≢ l
@@ -106,9 +106,9 @@ kept_at : (f : Port → Bool) (xs : List Port) (k : ℕ) (p : Port) → slice_ge
 kept_at f [] k p at = absurd (none-some p at)
 kept_at f (x ∷ xs) k p at = kept_by f (f x) x xs k p (λ j at_j. kept_at f xs j p at_j) at
 
-pub mate_found : (n : ℕ) (all : List Port) → IsSound n all → (l : ℕ) (p : Port) → slice_get (linked all) l ≡ Some p →
-    p.interface.kind ≡ PointToPoint → MateOf (linked all) l p
-mate_found n all sound l p at kind =
+pub link_back_found : (n : ℕ) (all : List Port) → IsSound n all → (l : ℕ) (p : Port) → slice_get (linked all) l ≡ Some p →
+    p.interface.kind ≡ PointToPoint → LinkBackOf (linked all) l p
+link_back_found n all sound l p at kind =
     let kept = sound_linked n all sound in
     let is : is_linked all p ≡ true = all_at (λ v. is_linked all v ≡ true) (linked all) (filter_passes (is_linked all) all) l p at in
     let source = kept_at (is_linked all) all l p at in
@@ -233,22 +233,22 @@ far_is all l p kind m q place at =
     ap (far_of all p) kind ∙ ap (λ o. ToRouter (router_at (linked all) o)) place ∙ ap ToRouter (router_at_is (linked all) m q at)
 
 -- each link has its other end, or leads to a subnet and has none
-link_has_mate : (area : ℕ) (routers : List Router) → IsSound (0 + length routers) (ports area routers) →
+link_has_link_back : (area : ℕ) (routers : List Router) → IsSound (0 + length routers) (ports area routers) →
     (l : ℕ) (p : Port) → slice_get (linked (ports area routers)) l ≡ Some p →
-    HasMate (database_of area routers) l (link_of (ports area routers) p)
-    (far_of (ports area routers) p p.interface.kind) (mate_of (ports area routers) p p.interface.kind)
-link_has_mate area routers sound l p at = by_kind p.interface.kind refl
+    HasLinkBack (database_of area routers) l (link_of (ports area routers) p)
+    (far_of (ports area routers) p p.interface.kind) (link_back_of (ports area routers) p p.interface.kind)
+link_has_link_back area routers sound l p at = by_kind p.interface.kind refl
   where
     by_kind : (kind : Kind) → p.interface.kind ≡ kind →
-        HasMate (database_of area routers) l (link_of (ports area routers) p) (far_of (ports area routers) p kind)
-        (mate_of (ports area routers) p kind)
+        HasLinkBack (database_of area routers) l (link_of (ports area routers) p) (far_of (ports area routers) p kind)
+        (link_back_of (ports area routers) p kind)
     by_kind PointToPoint is =
         let all = ports area routers in
-        let m = mate_found (0 + length routers) all sound l p at is in
-        let other : IsMateOf l (link_of all p) (Some (link_of all m.port)) =
-        (ap (mate_of all m.port) m.kind ∙ m.back, far_is all l p is m.place m.port m.forth m.at, far_is all m.place m.port m.kind l p m.back at) in
-        subst (λ o. HasMate (database_of area routers) l (link_of all p) (ToRouter (router_at (linked all) o)) o) (sym m.forth)
-        (m.apart, subst (IsMateOf l (link_of all p)) (sym (at_map (link_of all) (linked all) m.place m.port m.at)) other)
+        let m = link_back_found (0 + length routers) all sound l p at is in
+        let other : IsLinkBackOf l (link_of all p) (Some (link_of all m.port)) =
+        (ap (link_back_of all m.port) m.kind ∙ m.back, far_is all l p is m.place m.port m.forth m.at, far_is all m.place m.port m.kind l p m.back at) in
+        subst (λ o. HasLinkBack (database_of area routers) l (link_of all p) (ToRouter (router_at (linked all) o)) o) (sym m.forth)
+        (m.apart, subst (IsLinkBackOf l (link_of all p)) (sym (at_map (link_of all) (linked all) m.place m.port m.at)) other)
     by_kind Broadcast is = tt
 
 link_is_far : (area : ℕ) (routers : List Router) → IsSound (0 + length routers) (ports area routers) →
@@ -259,7 +259,7 @@ link_is_far area routers sound l p at = by_kind p.interface.kind refl
     by_kind : (kind : Kind) → p.interface.kind ≡ kind → IsFar (database_of area routers) (far_of (ports area routers) p kind)
     by_kind PointToPoint is =
         let all = ports area routers in
-        let m = mate_found (0 + length routers) all sound l p at is in
+        let m = link_back_found (0 + length routers) all sound l p at is in
         let known = all_at (IsPortFrom 0 (0 + length routers)) (linked all) (sound_linked (0 + length routers) all sound).each m.place m.port m.at in
         subst (λ r. r < length (map (λ (v : Router). v.name) routers))
         (sym (ap (router_at (linked all)) m.forth ∙ router_at_is (linked all) m.place m.port m.at))
@@ -331,7 +331,7 @@ transit_length all = omega (arith, firsts_length [] (linked all), linked_length 
 -- the members of a subnet are the links that lead to it, in order
 members_are : (area : ℕ) (routers : List Router) → IsSound (0 + length routers) (ports area routers) → (s : ℕ) →
     s < length (database_of area routers).subnets → slice_index_or (database_of area routers).subnets s []
-    ≡ members_of (database_of area routers) s
+    ≡ links_into_subnet (database_of area routers) s
 members_are area routers sound s within =
     let all = ports area routers in
     let d = database_of area routers in
@@ -345,7 +345,7 @@ members_are area routers sound s within =
     ∙ ap (λ n. filter (λ l. link_leads_to s (slice_get d.links l)) (numbers_from 0 n)) (sym (length-map (linked all) (link_of all)))
 
 -- the database of faultless configurations is one
-pub database_is : (area : ℕ) (routers : List Router) → topology_fault area routers ≡ None → All IsRouter routers → IsDatabase (database_of area routers)
+pub database_is : (area : ℕ) (routers : List Router) → topology_fault area routers ≡ None → All IsRouter routers → IsAreaDatabase (database_of area routers)
 database_is area routers h valid =
     let all = ports area routers in
     let d = database_of area routers in
@@ -358,7 +358,7 @@ database_is area routers h valid =
       routers = omega (arith, few, length-map routers (λ (r : Router). r.name));
       links = omega (arith, few_ports, linked_length all, length-map (linked all) (link_of all));
       subnets = omega (arith, few_ports, transit_length all, length-map (transit_subnets all) (λ first. places_from 0 (shares_subnet first) (linked all)));
-      each_link = All-map (IsLink d) (link_of all) (linked all) (all_from_at (λ p. IsLink d (link_of all p)) (linked all) (λ l p at.
+      each_link = All-map (IsDatabaseLink d) (link_of all) (linked all) (all_from_at (λ p. IsDatabaseLink d (link_of all p)) (linked all) (λ l p at.
           (let port = all_at (IsPortFrom 0 (0 + length routers)) (linked all) kept.each l p at in
           record {
             router = omega (arith, port.below, length-map routers (λ (r : Router). r.name));
@@ -366,8 +366,8 @@ database_is area routers h valid =
             cost = port.interface.cost;
             far = link_is_far area routers sound l p at;
           })));
-      mates = λ l link at. (let found = map_at (link_of all) (linked all) l link at in
-          subst (λ v. HasMate d l v v.to v.mate) (sym found.2) (link_has_mate area routers sound l found.0 found.1));
+      links_back = λ l link at. (let found = map_at (link_of all) (linked all) l link at in
+          subst (λ v. HasLinkBack d l v v.to v.link_back) (sym found.2) (link_has_link_back area routers sound l found.0 found.1));
       in_order = pairs_map (λ a b. a.router ≤ b.router) (link_of all) (linked all)
           (pairs_weaker InOrder (λ a b. a.router ≤ b.router) (λ a b k. k.routers) (linked all) kept.in_order);
       names = pairs_map (λ a b. a.router ≡ b.router → a.interface ≢ b.interface) (link_of all) (linked all)

@@ -14,7 +14,7 @@ use Rattle.area_graph.proofs.Vertices.{vertices_length, router_vertex, routers_c
 use Rattle.lsdb_build.specs.declared.Far.{Far}
 use Rattle.lsdb_build.specs.declared.Far.TheVariants.{Router, Subnet}
 use Rattle.lsdb_build.specs.declared.Linked.{Linked}
-use Rattle.lsdb_build.specs.Graphs.{Database, IsDatabase, IsLink, IsFar, IsLinkPrice, far_vertex, link_edges, subnet_edges, router_of, members_of, link_leads_to, graph_at}
+use Rattle.lsdb_build.specs.Graphs.{Database, IsAreaDatabase, IsDatabaseLink, IsFar, IsLinkPrice, far_vertex, link_edges, subnet_edges, router_of, links_into_subnet, link_leads_to, graph_at}
 
 -- the numbers from one on: it, then those from the next one on
 pub numbers_step : (n m : ℕ) → n < m → numbers_from n (m - n) ≡ n ∷ numbers_from (n + 1) (m - (n + 1))
@@ -25,9 +25,9 @@ pub record AreMembers (count : ℕ) (members : List ℕ) : Type 0 where
   pub few : length members ≤ count
   pub below : All (λ l. l < count) members
 
-pub members_fit : (d : Database) → IsDatabase d → All (AreMembers (length d.links)) d.subnets
+pub members_fit : (d : Database) → IsAreaDatabase d → All (AreMembers (length d.links)) d.subnets
 members_fit d h = λ s e within.
-    (let is : slice_index_or d.subnets s e ≡ members_of d s = get_or_default d.subnets s e [] within ∙ h.members s within in
+    (let is : slice_index_or d.subnets s e ≡ links_into_subnet d s = get_or_default d.subnets s e [] within ∙ h.members s within in
     subst (AreMembers (length d.links)) (sym is) (record {
       few = omega (
         arith,
@@ -83,8 +83,8 @@ link_edges_fit r s (l ∷ links) (price ∷ prices) between priced =
 router_of_below : (r : ℕ) (links : List Linked) → All (λ link. link.router < r) links → (l : ℕ) → l < length links → router_of links l < r
 router_of_below r links all l below =
     subst (λ n. n < r) (sym (get_or-map (λ (link : Linked). link.router) links l
-    (record { router = 0; interface = []; line = 0; cost = None; to = Router 0; mate = None }) 0 below))
-    (all l (record { router = 0; interface = []; line = 0; cost = None; to = Router 0; mate = None }) below)
+    (record { router = 0; interface = []; line = 0; cost = None; to = Router 0; link_back = None }) 0 below))
+    (all l (record { router = 0; interface = []; line = 0; cost = None; to = Router 0; link_back = None }) below)
 
 subnet_edges_fit : (r s : ℕ) (links : List Linked) → All (λ link. link.router < r) links →
     (k : ℕ) (subnets : List (List ℕ)) → k + length subnets ≤ s → All (All (λ l. l < length links)) subnets →
@@ -111,12 +111,12 @@ far_below : (d : Database) (far : Far) → IsFar d far → far_vertex (length d.
 far_below d (Router n) h = omega arith
 far_below d (Subnet n) h = omega arith
 
-pub links_between : (d : Database) → IsDatabase d → All (IsBetween (length d.routers) (length d.subnets)) d.links
-links_between d h = All-weaker (IsLink d) (IsBetween (length d.routers) (length d.subnets))
+pub links_between : (d : Database) → IsAreaDatabase d → All (IsBetween (length d.routers) (length d.subnets)) d.links
+links_between d h = All-weaker (IsDatabaseLink d) (IsBetween (length d.routers) (length d.subnets))
     (λ link is. record { router = is.router; far = far_below d link.to is.far }) d.links h.each_link
 
 -- the graph of a database at prices of its links is a graph
-pub graph_fits : (d : Database) (prices : List Price) → IsDatabase d → All IsLinkPrice prices → FitsGraph (graph_at d prices)
+pub graph_fits : (d : Database) (prices : List Price) → IsAreaDatabase d → All IsLinkPrice prices → FitsGraph (graph_at d prices)
 graph_fits d prices h priced =
     let r = length d.routers in
     let s = length d.subnets in
@@ -162,5 +162,5 @@ subnet_edges_step links r i subnets members within is =
     ++ subnet_edges links (r + i + 1) (drop (i + 1) subnets)) (sym is)
     ∙ ap (λ v. map (λ (l : ℕ). record { from = r + i; to = router_of links l; price = Zero }) members ++ subnet_edges links v (drop (i + 1) subnets)) next
 
-pub members_below : (d : Database) → IsDatabase d → All (All (λ l. l < length d.links)) d.subnets
+pub members_below : (d : Database) → IsAreaDatabase d → All (All (λ l. l < length d.links)) d.subnets
 members_below d h = All-weaker (AreMembers (length d.links)) (All (λ l. l < length d.links)) (λ ms m. m.below) d.subnets (members_fit d h)

@@ -8,7 +8,7 @@ use Rattle.lsdb_build.specs.declared.port.Subnet.{Subnet}
 use Rattle.lsdb_build.specs.Neighbours.{Port, shares_subnet}
 use Rattle.lsdb_build.specs.Topology.{holds, is_overlap}
 use Rattle.lsdb_build.specs.declared.owners.Owner.{Owner}
-use Rattle.lsdb_build.specs.Tallies.{same_subnet, subnet_of, prefix_of}
+use Rattle.lsdb_build.specs.Tallies.{same_subnet, subnet_of, subnet_of_length}
 use Rattle.lsdb_build.specs.Owners.{has_other, HasSubnet, HasPrefixes}
 use Rattle.lsdb_build.proofs.Subnets.{shares_from, shares_swap}
 use Rattle.lsdb_build.proofs.NotedRouters.{other_noted}
@@ -35,7 +35,7 @@ shorter p q apart does = record { length = by_order (cases_order p.interface.len
 
 module _ {S R : Type 0} (seen : IndexMap Subnet Owner S) (enclosing : IndexMap Subnet Owner R) (before : List Port) (p : Port) where
   -- an earlier interface's subnet that contains the interface's is found among the subnets seen
-  not_round : ((l : ℕ) → l < p.interface.length → has_other (get same_subnet seen (prefix_of p l)) p.router ≡ false) →
+  not_round : ((l : ℕ) → l < p.interface.length → has_other (get same_subnet seen (subnet_of_length p l)) p.router ≡ false) →
       (q : Port) → HasSubnet seen q → (q.router == p.router) ≡ false → Shorter q p → ⊥
   not_round none q noted apart round =
       false≢true (sym (none q.interface.length round.length)
@@ -48,10 +48,10 @@ module _ {S R : Type 0} (seen : IndexMap Subnet Owner S) (enclosing : IndexMap S
   not_inside alone q noted apart inside =
       false≢true (sym alone
       ∙ ap (λ a. has_other (get same_subnet enclosing (record { length = p.interface.length; address = a })) p.router) inside.within
-      ∙ other_noted (get same_subnet enclosing (prefix_of q p.interface.length)) q.router p.router (noted p.interface.length inside.length) apart)
+      ∙ other_noted (get same_subnet enclosing (subnet_of_length q p.interface.length)) q.router p.router (noted p.interface.length inside.length) apart)
 
   no_overlap : All (HasSubnet seen) before → All (HasPrefixes enclosing) before →
-      ((l : ℕ) → l < p.interface.length → has_other (get same_subnet seen (prefix_of p l)) p.router ≡ false) →
+      ((l : ℕ) → l < p.interface.length → has_other (get same_subnet seen (subnet_of_length p l)) p.router ≡ false) →
       has_other (get same_subnet enclosing (subnet_of p)) p.router ≡ false → is_overlap before p ≡ false
   no_overlap found noted none alone = list_any_none _ before (λ k d within. one (get_or before k d) (found k d within) (noted k d within))
     where
@@ -68,7 +68,7 @@ module _ {S R : Type 0} (seen : IndexMap Subnet Owner S) (enclosing : IndexMap S
           ]))
 
   pub overlap_found : All (HasSubnet seen) before → All (HasPrefixes enclosing) before →
-      ((l : ℕ) → l < p.interface.length → has_other (get same_subnet seen (prefix_of p l)) p.router ≡ false) →
+      ((l : ℕ) → l < p.interface.length → has_other (get same_subnet seen (subnet_of_length p l)) p.router ≡ false) →
       is_overlap before p ≡ true → has_other (get same_subnet enclosing (subnet_of p)) p.router ≡ true
   overlap_found found noted none does =
       elim (cases_Bool (has_other (get same_subnet enclosing (subnet_of p)) p.router)) [

@@ -6,10 +6,10 @@ use Rattle.lsdb_build.specs.declared.port.Subnet.{Subnet}
 use Rattle.lsdb_build.specs.declared.owners.Owner.{Owner}
 use Rattle.lsdb_build.specs.declared.owners.Owner.TheVariants.{One, Several}
 use Rattle.lsdb_build.specs.Tallies.{same_subnet}
-use Rattle.lsdb_build.specs.Owners.{joined, has_router, has_other, IsNoted}
+use Rattle.lsdb_build.specs.Owners.{joined_owner, has_router, has_other, IsNoted}
 use Rattle.lsdb_build.proofs.Placing.{same_subnets}
 
-joined_has : (found : Option Owner) (router : ℕ) → has_router (Some (joined found router)) router ≡ true
+joined_has : (found : Option Owner) (router : ℕ) → has_router (Some (joined_owner found router)) router ≡ true
 joined_has None router = eq-eqb router router refl
 joined_has (Some (One first)) router =
     elim (cases_Bool (first == router)) [
@@ -18,7 +18,7 @@ joined_has (Some (One first)) router =
     ]
 joined_has (Some Several) router = refl
 
-joined_keeps : (found : Option Owner) (router other : ℕ) → has_router found other ≡ true → has_router (Some (joined found router)) other ≡ true
+joined_keeps : (found : Option Owner) (router other : ℕ) → has_router found other ≡ true → has_router (Some (joined_owner found router)) other ≡ true
 joined_keeps None router other has = absurd (false≢true has)
 joined_keeps (Some (One first)) router other has =
     elim (cases_Bool (first == router)) [
@@ -34,7 +34,7 @@ other_noted (Some (One first)) router other has apart = ap (λ n. not (n == othe
 other_noted (Some Several) router other has apart = refl
 
 module _ {S : Type 0} (old new : IndexMap Subnet Owner S) (router : ℕ) (prefix : Subnet) (owner : Owner)
-    (owner_is : owner ≡ joined (get same_subnet old prefix) router)
+    (owner_is : owner ≡ joined_owner (get same_subnet old prefix) router)
     (updates : Updates same_subnet old new prefix (Some owner)) where
   pub noted_there : IsNoted new router prefix
   noted_there = ap (λ found. has_router found router) (updates.1 ∙ ap Some owner_is) ∙ joined_has (get same_subnet old prefix) router

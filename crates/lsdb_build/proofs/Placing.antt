@@ -7,7 +7,7 @@ use Rattle.lsdb_build.specs.declared.port.Subnet.{Subnet}
 use Rattle.lsdb_build.specs.Neighbours.{Port, shares_subnet, is_other, is_port, place_from}
 use Rattle.lsdb_build.specs.Tallies.{same_subnet}
 use Rattle.lsdb_build.specs.Topology.{places_from}
-use Rattle.lsdb_build.specs.Places.{listed, places_at, passes}
+use Rattle.lsdb_build.specs.Places.{places_or_none, places_at, passes}
 
 -- a subnet is its length and its address
 pub same_subnets : (s t : Subnet) → same_subnet s t ≡ true → s ≡ t
@@ -18,7 +18,7 @@ same_subnets s t same =
     λ i. record { length = lengths i; address = addresses i }
 
 -- the list that is there, or else an empty one
-listed_or : {A : Type 0} (found : Option (Vec ℕ A)) (fresh : Vec ℕ A) → fresh.items ≡ [] → (unwrap_or found fresh).items ≡ listed found
+listed_or : {A : Type 0} (found : Option (Vec ℕ A)) (fresh : Vec ℕ A) → fresh.items ≡ [] → (unwrap_or found fresh).items ≡ places_or_none found
 listed_or None fresh none = none
 listed_or (Some places) fresh none = refl
 
@@ -30,14 +30,14 @@ pub places_more : {A S : Type 0} (old new : IndexMap Subnet (Vec ℕ A) S) (subn
 places_more {A} old new subnet place fresh before after none before_is after_is updates key =
     elim (cases_Bool (same_subnet subnet key)) [
       | inl same ↦
-          ap listed (updates.0 key ∙ ap (λ b. cond b (Some after) (get same_subnet old key)) same)
+          ap places_or_none (updates.0 key ∙ ap (λ b. cond b (Some after) (get same_subnet old key)) same)
           ∙ after_is
           ∙ ap (λ (places : Vec ℕ A). places.items ++ place ∷ []) before_is
           ∙ ap (λ (places : List ℕ). places ++ place ∷ []) (listed_or (get same_subnet old subnet) fresh none
           ∙ ap (places_at old) (same_subnets subnet key same))
           ∙ sym (ap (λ b. places_at old key ++ cond b (place ∷ []) []) same)
       | inr differs ↦
-          ap listed (updates.0 key ∙ ap (λ b. cond b (Some after) (get same_subnet old key)) differs)
+          ap places_or_none (updates.0 key ∙ ap (λ b. cond b (Some after) (get same_subnet old key)) differs)
           ∙ sym (append-nil (places_at old key))
           ∙ sym (ap (λ b. places_at old key ++ cond b (place ∷ []) []) differs)
     ]

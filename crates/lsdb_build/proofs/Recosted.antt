@@ -1,11 +1,15 @@
--- The topology of an area doesn't depend on the interfaces' costs: with other costs the database has other costs, and nothing else changes.
+-- The topology of an area doesn't depend on the interfaces' costs: with other costs the database has other costs, and nothing else changes;
+-- and the first fault is the same.
 use Rattle.std.proofs.Common.{◌≡◌, ℕ, zero, suc, ◌+◌, refl, sym, ◌∙◌, ap, List, [], ◌∷◌, ◌++◌, length, map, Bool, true, false, cond, Option, Some, None}
-use Rattle.std.specs.Prelude.{filter, unwrap_or, not, ◌&&◌, nat_le}
+use Rattle.std.specs.Prelude.{filter, unwrap_or, not, slice_get, ◌&&◌, ◌||◌, ◌==◌, nat_le}
 use Rattle.std.specs.List.{list_any}
+use Rattle.std.specs.Option.{option_map}
 use Rattle.std.proofs.lemmas.List.{map-append}
 use Rattle.std.proofs.lemmas.Simd.{map-map}
 use Rattle.std.proofs.lemmas.List.Elements.{filter_agree}
-use Rattle.std.proofs.lemmas.List.Folds.{fold-map}
+use Rattle.std.proofs.lemmas.List.Folds.{fold-map, list_all-map}
+use Rattle.std.proofs.lemmas.Option.{slice_get-map}
+use Rattle.cost_base.specs.Lists.{same_bytes}
 use Rattle.cost_base.proofs.ListLemmas.{list_any-map}
 use Rattle.area_graph.specs.declared.Price.{Price}
 use Rattle.area_graph.specs.declared.Price.TheVariants.{Zero}
@@ -20,7 +24,9 @@ use Rattle.lsdb_build.specs.declared.Linked.{Linked}
 use Rattle.interface_model.specs.Addresses.{is_active}
 use Rattle.lsdb_build.specs.Neighbours.{Port, port_of, ports_of, ports_from, ports, shares_subnet, is_linked_kind, is_linked, linked, is_broadcast, first_members, transit_subnets, place_from, is_other}
 use Rattle.lsdb_build.specs.Graphs.{Database, graph_at, far_vertex, link_edges, subnet_edges, router_of}
-use Rattle.lsdb_build.specs.Topology.{router_at, far_of, mate_of, link_of, places_from, database_of}
+use Rattle.lsdb_build.specs.declared.stop.TopologyFault.{TopologyFault}
+use Rattle.lsdb_build.specs.declared.stop.TopologyFault.TheVariants.{TooMany, NameTwice, SameRouterTwice, AddressTwice, TypeMismatch, CrowdedLink, NoDesignated, OverlapPrefix}
+use Rattle.lsdb_build.specs.Topology.{FaultyPlace, router_at, far_of, link_back_of, link_of, places_from, database_of, first_where, first_some, at_port, at_config, past, second_of_name, is_second_of_router, is_second_of_address, same_kind, is_mismatch, is_crowding, lacks_designated, holds, is_overlap, topology_fault}
 
 -- New costs: by the router's number, the interface's name and the cost of before.
 
@@ -127,23 +133,23 @@ far_is c all p PointToPoint =
 far_is c all p Broadcast =
     rw (transit_is c all) (ap (λ o. ToSubnet (unwrap_or o 0)) (place_is (recosted_port c) (shares_subnet (recosted_port c p)) 0 (transit_subnets all)))
 
-mate_is : (c : ℕ → List ℕ → Option ℕ → Option ℕ) (all : List Port) (p : Port) (kind : Kind) →
-    mate_of (map (recosted_port c) all) (recosted_port c p) kind ≡ mate_of all p kind
-mate_is c all p PointToPoint = rw (linked_is c all) (place_is (recosted_port c) (is_other (recosted_port c p)) 0 (linked all))
-mate_is c all p Broadcast = refl
+link_back_is : (c : ℕ → List ℕ → Option ℕ → Option ℕ) (all : List Port) (p : Port) (kind : Kind) →
+    link_back_of (map (recosted_port c) all) (recosted_port c p) kind ≡ link_back_of all p kind
+link_back_is c all p PointToPoint = rw (linked_is c all) (place_is (recosted_port c) (is_other (recosted_port c p)) 0 (linked all))
+link_back_is c all p Broadcast = refl
 
-link_parts : (router line : ℕ) (name : List ℕ) (cost : Option ℕ) (to far : Far) (mate other : Option ℕ) → to ≡ far → mate ≡ other →
-    ◌≡◌ {A = Linked} (record { router = router; interface = name; line = line; cost = cost; to = to; mate = mate })
-    (record { router = router; interface = name; line = line; cost = cost; to = far; mate = other })
-link_parts router line name cost to far mate other same_to same_mate = cc
+link_parts : (router line : ℕ) (name : List ℕ) (cost : Option ℕ) (to far : Far) (link_back other : Option ℕ) → to ≡ far → link_back ≡ other →
+    ◌≡◌ {A = Linked} (record { router = router; interface = name; line = line; cost = cost; to = to; link_back = link_back })
+    (record { router = router; interface = name; line = line; cost = cost; to = far; link_back = other })
+link_parts router line name cost to far link_back other same_to same_link_back = cc
 
 link_is : (c : ℕ → List ℕ → Option ℕ → Option ℕ) (all : List Port) (p : Port) →
     link_of (map (recosted_port c) all) (recosted_port c p) ≡ recosted_link c (link_of all p)
 link_is c all p =
     link_parts p.router p.interface.line p.interface.name (c p.router p.interface.name p.interface.cost)
     (far_of (map (recosted_port c) all) (recosted_port c p) p.interface.kind) (far_of all p p.interface.kind)
-    (mate_of (map (recosted_port c) all) (recosted_port c p) p.interface.kind) (mate_of all p p.interface.kind)
-    (far_is c all p p.interface.kind) (mate_is c all p p.interface.kind)
+    (link_back_of (map (recosted_port c) all) (recosted_port c p) p.interface.kind) (link_back_of all p p.interface.kind)
+    (far_is c all p p.interface.kind) (link_back_is c all p p.interface.kind)
 
 names_are : (c : ℕ → List ℕ → Option ℕ → Option ℕ) (n : ℕ) (routers : List Router) → map (λ r. r.name) (recosted_from c n routers) ≡ map (λ r. r.name) routers
 names_are c n [] = refl
@@ -209,3 +215,85 @@ subnet_edges_are c links vertex (members ∷ subnets) =
 -- the graph at given prices is that of the database with other costs
 pub recosted_graph : (c : ℕ → List ℕ → Option ℕ → Option ℕ) (d : Database) (prices : List Price) → graph_at (recosted c d) prices ≡ graph_at d prices
 recosted_graph c d prices = rw (link_edges_are c (length d.routers) d.links prices, subnet_edges_are c d.links (length d.routers) d.subnets) refl
+
+-- The checks don't see the costs.
+
+count_is : (c : ℕ → List ℕ → Option ℕ → Option ℕ) (n : ℕ) (routers : List Router) → length (recosted_from c n routers) ≡ length routers
+count_is c n [] = refl
+count_is c n (r ∷ routers) = ap suc (count_is c (n + 1) routers)
+
+second_is : (c : ℕ → List ℕ → Option ℕ → Option ℕ) (n : ℕ) (before : List (List ℕ)) (place : ℕ) (routers : List Router) →
+    second_of_name before place (recosted_from c n routers) ≡ second_of_name before place routers
+second_is c n before place [] = refl
+second_is c n before place (r ∷ routers) =
+    ap (λ later. cond (list_any (same_bytes r.name) before) (Some place) later) (second_is c (n + 1) (r.name ∷ before) (place + 1) routers)
+
+port_fault : (c : ℕ → List ℕ → Option ℕ → Option ℕ) (fault : TopologyFault) (o : Option Port) → at_port fault (option_map (recosted_port c) o) ≡ at_port fault o
+port_fault c fault None = refl
+port_fault c fault (Some p) = refl
+
+map_some : (f : Port → Port) (b : Bool) (p : Port) (o : Option Port) → cond b (Some (f p)) (option_map f o) ≡ option_map f (cond b (Some p) o)
+map_some f true p o = refl
+map_some f false p o = refl
+
+-- the first interface that passes a check that doesn't see the costs
+where_is : (f : Port → Port) (check other : List Port → Port → Bool) →
+    ((before : List Port) (p : Port) → check (map f before) (f p) ≡ other before p) → (before all : List Port) →
+    first_where check (map f before) (map f all) ≡ option_map f (first_where other before all)
+where_is f check other same before [] = refl
+where_is f check other same before (p ∷ more) =
+    rw (same before p, where_is f check other same (p ∷ before) more)
+    (map_some f (other before p) p (first_where other (p ∷ before) more))
+
+-- what the checks of a topology find, by its interfaces
+abbrev faults_among : ℕ → Option ℕ → List Port → List (Option FaultyPlace)
+faults_among routers second all =
+    at_config TooMany (past 1000 routers)
+    ∷ at_port TooMany (slice_get all 4000)
+    ∷ at_config NameTwice second
+    ∷ at_port SameRouterTwice (first_where is_second_of_router [] all)
+    ∷ at_port AddressTwice (first_where is_second_of_address [] all)
+    ∷ at_port TypeMismatch (first_where is_mismatch [] all)
+    ∷ at_port CrowdedLink (first_where is_crowding [] all)
+    ∷ at_port NoDesignated (first_where (λ before p. lacks_designated all p) [] (transit_subnets all))
+    ∷ at_port OverlapPrefix (first_where is_overlap [] all)
+    ∷ []
+
+faults_are : (c : ℕ → List ℕ → Option ℕ → Option ℕ) (routers : ℕ) (second : Option ℕ) (all : List Port) →
+    faults_among routers second (map (recosted_port c) all) ≡ faults_among routers second all
+faults_are c routers second all =
+    let many : at_port TooMany (slice_get (map (recosted_port c) all) 4000) ≡ at_port TooMany (slice_get all 4000)
+    = ap (at_port TooMany) (slice_get-map (recosted_port c) all 4000) ∙ port_fault c TooMany (slice_get all 4000) in
+    let same_router = check_is SameRouterTwice is_second_of_router is_second_of_router all
+    (λ before p. list_any-map (λ (q : Port). q.router == p.router && shares_subnet q p) (recosted_port c) before) in
+    let same_address = check_is AddressTwice is_second_of_address is_second_of_address all
+    (λ before p. list_any-map (λ (q : Port). q.address == p.address) (recosted_port c) before) in
+    let kinds = check_is TypeMismatch is_mismatch is_mismatch all
+    (λ before p. list_any-map (λ (q : Port). shares_subnet q p && not (same_kind q.interface.kind p.interface.kind)) (recosted_port c) before) in
+    let crowded = check_is CrowdedLink is_crowding is_crowding all
+    (λ before p. ap (λ (n : ℕ). not (is_broadcast p) && nat_le 2 n)
+    (fold-map (λ (n : ℕ) (q : Port). n + cond (shares_subnet q p) 1 0) (recosted_port c) 0 before)) in
+    let designated : at_port NoDesignated (first_where (λ before p. lacks_designated (map (recosted_port c) all) p) []
+    (transit_subnets (map (recosted_port c) all)))
+    ≡ at_port NoDesignated (first_where (λ before p. lacks_designated all p) [] (transit_subnets all))
+    = ap (λ (ps : List Port). at_port NoDesignated (first_where (λ before p. lacks_designated (map (recosted_port c) all) p) [] ps)) (transit_is c all)
+    ∙ check_is NoDesignated (λ before p. lacks_designated (map (recosted_port c) all) p) (λ before p. lacks_designated all p) (transit_subnets all)
+    (λ before p. list_all-map (λ (q : Port). not (shares_subnet p q) || q.interface.priority == 0) (recosted_port c) all) in
+    let overlaps = check_is OverlapPrefix is_overlap is_overlap all
+    (λ before p. list_any-map (λ (q : Port). not (q.router == p.router) && not (shares_subnet q p) && (holds q p || holds p q)) (recosted_port c) before) in
+    cc
+  where
+    check_is : (fault : TopologyFault) (check other : List Port → Port → Bool) (ps : List Port) →
+        ((before : List Port) (p : Port) → check (map (recosted_port c) before) (recosted_port c p) ≡ other before p) →
+        at_port fault (first_where check [] (map (recosted_port c) ps)) ≡ at_port fault (first_where other [] ps)
+    check_is fault check other ps same = ap (at_port fault) (where_is (recosted_port c) check other same [] ps) ∙ port_fault c fault (first_where other [] ps)
+
+-- the first fault of the routers with other costs is that of the routers
+pub recosted_fault : (c : ℕ → List ℕ → Option ℕ → Option ℕ) (area : ℕ) (routers : List Router) →
+    topology_fault area (recosted_from c 0 routers) ≡ topology_fault area routers
+recosted_fault c area routers =
+    let found : ℕ → Option ℕ → List Port → Option FaultyPlace = λ n second all. first_some (faults_among n second all) in
+    ap (λ (n : ℕ). found n (second_of_name [] 0 (recosted_from c 0 routers)) (ports area (recosted_from c 0 routers))) (count_is c 0 routers)
+    ∙ ap (λ (o : Option ℕ). found (length routers) o (ports area (recosted_from c 0 routers))) (second_is c 0 [] 0 routers)
+    ∙ ap (found (length routers) (second_of_name [] 0 routers)) (ports_from_is c area 0 routers)
+    ∙ ap first_some (faults_are c (length routers) (second_of_name [] 0 routers) (ports area routers))

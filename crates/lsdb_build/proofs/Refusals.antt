@@ -5,7 +5,7 @@ use Rattle.interface_model.specs.Records.{Router, IsRouter}
 use Rattle.lsdb_build.specs.declared.stop.TopologyStop.{TopologyStop}
 use Rattle.lsdb_build.specs.declared.stop.TopologyStop.TheVariants.{Refused, OutOfMemory}
 use Rattle.lsdb_build.specs.Neighbours.{Port, ports, linked, transit_subnets, shares_subnet}
-use Rattle.lsdb_build.specs.Graphs.{IsDatabase}
+use Rattle.lsdb_build.specs.Graphs.{IsAreaDatabase}
 use Rattle.lsdb_build.specs.Topology.{FaultyPlace, is_second_of_router, is_second_of_address, is_mismatch, is_crowding, is_overlap, lacks_designated, first_where, at_port, at_config, past, second_of_name, first_some, topology_fault, places_from, Tells}
 use Rattle.lsdb_build.specs.Checks.{link_among}
 use Rattle.lsdb_build.specs.declared.stop.TopologyFault.TheVariants.{TooMany, NameTwice, SameRouterTwice, AddressTwice, TypeMismatch, CrowdedLink, NoDesignated, OverlapPrefix}
@@ -99,19 +99,19 @@ none_found area routers early_ports all transit others few early_is none all_is 
 -- the links and subnets that the calls made are those of a database
 pub made_is : (area : ℕ) (routers : List Router) (links transit : List Port) → topology_fault area routers ≡ None →
     All IsRouter routers → links ≡ linked (ports area routers) → transit ≡ transit_subnets (ports area routers) →
-    IsDatabase (record {
+    IsAreaDatabase (record {
       routers = map (λ r. r.name) routers;
       links = map (link_among links transit) links;
       subnets = map (λ first. places_from 0 (shares_subnet first) links) transit;
     })
 made_is area routers links transit fine valid links_is transit_is =
-    subst (λ (ls : List Port). IsDatabase
+    subst (λ (ls : List Port). IsAreaDatabase
     (record {
       routers = map (λ (r : Router). r.name) routers;
       links = map (link_among ls transit) ls;
       subnets = map (λ (first : Port). places_from 0 (shares_subnet first) ls) transit;
     })) (sym links_is)
-    (subst (λ (ts : List Port). IsDatabase
+    (subst (λ (ts : List Port). IsAreaDatabase
     (record {
       routers = map (λ (r : Router). r.name) routers;
       links = map (link_among (linked (ports area routers)) ts) (linked (ports area routers));

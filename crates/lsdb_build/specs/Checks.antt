@@ -13,10 +13,12 @@ abbrev pub far_among : List Port → List Port → Port → Kind → Far
 far_among links transit p PointToPoint = ToRouter (router_at links (place_from 0 (is_other p) links))
 far_among links transit p Broadcast = ToSubnet (unwrap_or (place_from 0 (shares_subnet p) transit) 0)
 
-abbrev pub mate_among : List Port → Port → Kind → Option ℕ
-mate_among links p PointToPoint = place_from 0 (is_other p) links
-mate_among links p Broadcast = None
+-- the link back over a point-to-point subnet, among given linked interfaces
+abbrev pub link_back_among : List Port → Port → Kind → Option ℕ
+link_back_among links p PointToPoint = place_from 0 (is_other p) links
+link_back_among links p Broadcast = None
 
+-- the link of an interface, among given linked interfaces and first members of transit subnets
 abbrev pub link_among : List Port → List Port → Port → Linked
 link_among links transit p =
     record {
@@ -25,5 +27,5 @@ link_among links transit p =
       line = p.interface.line;
       cost = p.interface.cost;
       to = far_among links transit p p.interface.kind;
-      mate = mate_among links p p.interface.kind;
+      link_back = link_back_among links p p.interface.kind;
     }

@@ -5,13 +5,13 @@ use Rattle.lsdb_build.specs.declared.port.Subnet.{Subnet}
 use Rattle.lsdb_build.specs.declared.owners.Owner.{Owner}
 use Rattle.lsdb_build.specs.declared.owners.Owner.TheVariants.{One, Several}
 use Rattle.lsdb_build.specs.Neighbours.{Port}
-use Rattle.lsdb_build.specs.Tallies.{same_subnet, subnet_of, prefix_of}
+use Rattle.lsdb_build.specs.Tallies.{same_subnet, subnet_of, subnet_of_length}
 
 -- what is noted with one router more
-abbrev pub joined : Option Owner → ℕ → Owner
-joined None router = One router
-joined (Some (One first)) router = if first == router then One first else Several
-joined (Some Several) router = Several
+abbrev pub joined_owner : Option Owner → ℕ → Owner
+joined_owner None router = One router
+joined_owner (Some (One first)) router = if first == router then One first else Several
+joined_owner (Some Several) router = Several
 
 -- whether the router is noted
 abbrev pub has_router : Option Owner → ℕ → Bool
@@ -35,4 +35,4 @@ HasSubnet owners p = IsNoted owners p.router (subnet_of p)
 
 -- an interface's router is noted at the shorter prefixes in which its subnet lies
 abbrev pub HasPrefixes : {S : Type 0} → IndexMap Subnet Owner S → Port → Type 0
-HasPrefixes owners p = (length : ℕ) → length < p.interface.length → IsNoted owners p.router (prefix_of p length)
+HasPrefixes owners p = (length : ℕ) → length < p.interface.length → IsNoted owners p.router (subnet_of_length p length)

@@ -7,13 +7,13 @@ use Rattle.lsdb_build.specs.Tallies.{same_subnet, subnet_of}
 use Rattle.lsdb_build.specs.Topology.{places_from}
 
 -- the places of a list, none where there is no list
-abbrev pub listed : {A : Type 0} → Option (Vec ℕ A) → List ℕ
-listed None = []
-listed (Some places) = places.items
+abbrev pub places_or_none : {A : Type 0} → Option (Vec ℕ A) → List ℕ
+places_or_none None = []
+places_or_none (Some places) = places.items
 
 -- the places that are kept for a subnet
 abbrev pub places_at : {A S : Type 0} → IndexMap Subnet (Vec ℕ A) S → Subnet → List ℕ
-places_at places key = listed (get same_subnet places key)
+places_at places key = places_or_none (get same_subnet places key)
 
 -- for each interface's subnet the places of the interfaces on it are kept, in order
 abbrev pub ArePlaces : {A S : Type 0} → IndexMap Subnet (Vec ℕ A) S → List Port → Type 0

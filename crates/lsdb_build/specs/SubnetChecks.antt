@@ -7,10 +7,12 @@ use Rattle.lsdb_build.specs.declared.stop.TopologyFault.TheVariants.{TypeMismatc
 use Rattle.lsdb_build.specs.Neighbours.{Port}
 use Rattle.lsdb_build.specs.Topology.{is_mismatch, is_crowding}
 
+-- the test of an interface against those before it that a check makes
 abbrev pub fails : SubnetCheck → List Port → Port → Bool
 fails Kinds = is_mismatch
 fails Ends = is_crowding
 
+-- the fault that a check finds
 abbrev pub fault_of : SubnetCheck → TopologyFault
 fault_of Kinds = TypeMismatch
 fault_of Ends = CrowdedLink

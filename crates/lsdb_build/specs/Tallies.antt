@@ -16,12 +16,14 @@ module _ {K S : Type 0} (eq : K → K → Bool) where
   IsTally counts keys = (key : K) → count_of counts key ≡ count_by (λ k. eq k key) keys
 
 -- the address under a prefix length
-abbrev pub prefix_of : Port → ℕ → Subnet
-prefix_of p length = record { length = length; address = subnet p.address length }
+abbrev pub subnet_of_length : Port → ℕ → Subnet
+subnet_of_length p length = record { length = length; address = subnet p.address length }
 
+-- the subnet of an interface
 abbrev pub subnet_of : Port → Subnet
-subnet_of p = prefix_of p p.interface.length
+subnet_of p = subnet_of_length p p.interface.length
 
+-- two subnets have one prefix and one length
 abbrev pub same_subnet : Subnet → Subnet → Bool
 same_subnet s t = s.length == t.length && s.address == t.address
 
@@ -29,6 +31,7 @@ same_subnet s t = s.length == t.length && s.address == t.address
 abbrev pub member_of : Port → ℕ × Subnet
 member_of p = (p.router, subnet_of p)
 
+-- the same router on the same subnet
 abbrev pub same_member : ℕ × Subnet → ℕ × Subnet → Bool
 same_member a b = a.0 == b.0 && same_subnet a.1 b.1
 
@@ -44,5 +47,6 @@ kind_on p = (is_broadcast p, subnet_of p)
 abbrev pub rank_on : Port → Bool × Subnet
 rank_on p = (nat_lt 0 p.interface.priority, subnet_of p)
 
-abbrev pub address_of : Port → ℕ
-address_of p = p.address
+-- the address of an interface
+abbrev pub port_address : Port → ℕ
+port_address p = p.address

@@ -22,6 +22,7 @@ pub record FaultyPlace : Type 0 where
   pub config : ℕ
   pub line : ℕ
 
+-- the two network types are the same
 abbrev pub same_kind : Kind → Kind → Bool
 same_kind PointToPoint PointToPoint = true
 same_kind PointToPoint Broadcast = false
@@ -30,19 +31,19 @@ same_kind Broadcast Broadcast = true
 
 -- Each check asks of an interface, with the interfaces before it.
 
--- one before it is of the same router and on the same subnet
+-- an interface before it is of the same router and on the same subnet
 abbrev pub is_second_of_router : List Port → Port → Bool
 is_second_of_router before p = list_any (λ q. q.router == p.router && shares_subnet q p) before
 
--- one before it has the same address
+-- an interface before it has the same address
 abbrev pub is_second_of_address : List Port → Port → Bool
 is_second_of_address before p = list_any (λ q. q.address == p.address) before
 
--- one before it on the same subnet has another network kind
+-- an interface before it on the same subnet has another network type
 abbrev pub is_mismatch : List Port → Port → Bool
 is_mismatch before p = list_any (λ q. shares_subnet q p && not (same_kind q.interface.kind p.interface.kind)) before
 
--- two before it are on the same point-to-point subnet
+-- two interfaces before it are on the same point-to-point subnet
 abbrev pub is_crowding : List Port → Port → Bool
 is_crowding before p = not (is_broadcast p) && nat_le 2 (count_by (λ q. shares_subnet q p) before)
 
@@ -50,7 +51,7 @@ is_crowding before p = not (is_broadcast p) && nat_le 2 (count_by (λ q. shares_
 abbrev pub holds : Port → Port → Bool
 holds p q = nat_le p.interface.length q.interface.length && contains p.address p.interface.length q.address
 
--- one before it, of another router, has a different subnet, and one of the two contains the other
+-- an interface before it is of another router and on another subnet, and one of the two subnets contains the other
 abbrev pub is_overlap : List Port → Port → Bool
 is_overlap before p =
     list_any (λ q. not (q.router == p.router) && not (shares_subnet q p) && (holds q p || holds p q)) before
@@ -64,10 +65,12 @@ abbrev pub first_where : (List Port → Port → Bool) → List Port → List Po
 first_where check before [] = None
 first_where check before (p ∷ more) = if check before p then Some p else first_where check (p ∷ before) more
 
+-- the fault at the line of an interface, where one was found
 abbrev pub at_port : TopologyFault → Option Port → Option FaultyPlace
 at_port fault None = None
 at_port fault (Some p) = Some (record { fault = fault; config = p.router; line = p.interface.line })
 
+-- the fault of a whole configuration, where one was found
 abbrev pub at_config : TopologyFault → Option ℕ → Option FaultyPlace
 at_config fault None = None
 at_config fault (Some config) = Some (record { fault = fault; config = config; line = 0 })
@@ -82,6 +85,7 @@ second_of_name before n [] = None
 second_of_name before n (r ∷ routers) =
     if list_any (same_bytes r.name) before then Some n else second_of_name (r.name ∷ before) (n + 1) routers
 
+-- the first fault of several checks
 abbrev pub first_some : List (Option FaultyPlace) → Option FaultyPlace
 first_some [] = None
 first_some (None ∷ more) = first_some more
@@ -108,6 +112,7 @@ abbrev pub Tells : Option FaultyPlace → TopologyStop → Type 0
 Tells found (Refused fault config line) = found ≡ Some (record { fault = fault; config = config; line = line })
 Tells found OutOfMemory = Unit {0}
 
+-- the router of the link at a place; 0 where there is none
 abbrev pub router_at : List Port → Option ℕ → ℕ
 router_at links None = 0
 router_at links (Some l) = router_of_port (slice_get links l)
@@ -121,11 +126,12 @@ abbrev pub far_of : List Port → Port → Kind → Far
 far_of all p PointToPoint = ToRouter (router_at (linked all) (place_from 0 (is_other p) (linked all)))
 far_of all p Broadcast = ToSubnet (unwrap_or (place_from 0 (shares_subnet p) (transit_subnets all)) 0)
 
--- the other link of a point-to-point subnet
-abbrev pub mate_of : List Port → Port → Kind → Option ℕ
-mate_of all p PointToPoint = place_from 0 (is_other p) (linked all)
-mate_of all p Broadcast = None
+-- the link back over a point-to-point subnet
+abbrev pub link_back_of : List Port → Port → Kind → Option ℕ
+link_back_of all p PointToPoint = place_from 0 (is_other p) (linked all)
+link_back_of all p Broadcast = None
 
+-- the link of an interface: its router, name, line and cost, where it leads, and the link that leads back
 abbrev pub link_of : List Port → Port → Linked
 link_of all p =
     record {
@@ -134,7 +140,7 @@ link_of all p =
       line = p.interface.line;
       cost = p.interface.cost;
       to = far_of all p p.interface.kind;
-      mate = mate_of all p p.interface.kind;
+      link_back = link_back_of all p p.interface.kind;
     }
 
 -- the places of the interfaces that pass

@@ -4,7 +4,7 @@ ghost use Rattle.lsdb_build.specs.Neighbours.{Port, is_linked_kind, is_linked, l
 ghost use Rattle.lsdb_build.specs.Topology.{places_from, router_at};
 ghost use Rattle.lsdb_build.specs.Tallies.{IsTally, same_subnet, subnet_of};
 ghost use Rattle.lsdb_build.specs.Places.{ArePlaces, places_at, passes};
-ghost use Rattle.lsdb_build.specs.Checks.{far_among, mate_among, link_among};
+ghost use Rattle.lsdb_build.specs.Checks.{far_among, link_back_among, link_among};
 
 use crate::members::{count_members, members_on};
 use crate::places::{Places, places_of};
@@ -124,15 +124,20 @@ fn router_at(links: &[Port], place: Option<u32>) -> u32
 }
 
 /// Where the link of an interface leads, and its other end.
-fn far_and_mate(links: &[Port], places: &Places, firsts: &Places, port: &Port) -> (Far, Option<u32>)
+fn far_and_link_back(
+    links: &[Port],
+    places: &Places,
+    firsts: &Places,
+    port: &Port,
+) -> (Far, Option<u32>)
     requires { ArePlaces places.now.by_subnet links.now }
     ensures far { (transit : List Port) → ArePlaces firsts.now.by_subnet transit → result.0 ≡ far_among links.now transit port.now port.now.interface.kind }
-    ensures mate { result.1 ≡ mate_among links.now port.now port.now.interface.kind }
+    ensures link_back { result.1 ≡ link_back_among links.now port.now port.now.interface.kind }
 {
     match port.interface.kind {
         Kind::PointToPoint => {
-            let mate = place_of_other(links, places, port);
-            (Far::Router(router_at(links, mate)), mate)
+            let link_back = place_of_other(links, places, port);
+            (Far::Router(router_at(links, link_back)), link_back)
         }
         Kind::Broadcast => {
             let subnet = place_of_subnet(firsts, port);
@@ -152,7 +157,7 @@ fn link_of(
     requires { ArePlaces places.now.by_subnet links.now }
     ensures { (transit : List Port) → ArePlaces firsts.now.by_subnet transit → IfOk result (λ link. link ≡ link_among links.now transit port.now) }
 {
-    let (to, mate) = far_and_mate(links, places, firsts, port);
+    let (to, link_back) = far_and_link_back(links, places, firsts, port);
     let interface = port.interface;
     Ok(Linked {
         router: port.router,
@@ -160,7 +165,7 @@ fn link_of(
         line: interface.line,
         cost: interface.cost,
         to,
-        mate,
+        link_back,
     })
 }
 

@@ -2,7 +2,7 @@
 ghost use Rattle.std.specs.Prelude.{◌&&◌, ◌||◌, ◌==◌, not, ◌≡◌, ℕ, ◌<◌, ◌≤◌, List, [], None, true, false, length, All, MatchResult, OnOk};
 ghost use Rattle.lsdb_build.specs.Neighbours.{Port, shares_subnet};
 ghost use Rattle.indexmap.specs.IndexMap.{get};
-ghost use Rattle.lsdb_build.specs.Tallies.{same_subnet, prefix_of};
+ghost use Rattle.lsdb_build.specs.Tallies.{same_subnet, subnet_of_length};
 ghost use Rattle.lsdb_build.specs.Owners.{has_other, IsNoted, HasSubnet, HasPrefixes};
 ghost use Rattle.lsdb_build.specs.Topology.{holds, is_overlap, first_where, at_port, Tells};
 ghost use Rattle.lsdb_build.specs.declared.stop.TopologyFault.TheVariants.{OverlapPrefix};
@@ -43,7 +43,7 @@ fn is_overlap(before: &[Port], port: &Port) -> bool
 /// The address of an interface under a prefix length.
 fn prefix_of(port: &Port, length: u8) -> Subnet
     requires { length ≤ 32 }
-    ensures { result ≡ prefix_of port.now length }
+    ensures { result ≡ subnet_of_length port.now length }
 {
     Subnet {
         length,
@@ -54,7 +54,7 @@ fn prefix_of(port: &Port, length: u8) -> Subnet
 /// Whether an interface's address lies in a shorter one of the subnets seen, which another router has.
 fn is_inside(seen: &Owners, port: &Port) -> bool
     ensures { result ≡ false → (l : ℕ) → l < port.now.interface.length →
-        has_other (get same_subnet seen.now.by_prefix (prefix_of port.now l)) port.now.router ≡ false }
+        has_other (get same_subnet seen.now.by_prefix (subnet_of_length port.now l)) port.now.router ≡ false }
 {
     for length in 0..port.interface.length {
         if seen.has_other(port.router, prefix_of(port, length)) {

@@ -3,7 +3,7 @@ ghost use Rattle.std.specs.Prelude.{◌≡◌, ℕ, None, OnOk};
 ghost use Rattle.indexmap.specs.IndexMap.{get};
 ghost use Rattle.lsdb_build.specs.declared.port.Subnet.{Subnet as Key};
 ghost use Rattle.lsdb_build.specs.Tallies.{same_subnet};
-ghost use Rattle.lsdb_build.specs.Owners.{joined, has_other, IsNoted};
+ghost use Rattle.lsdb_build.specs.Owners.{joined_owner, has_other, IsNoted};
 
 use crate::port::Subnet;
 use cost_base::OutOfMemory;
@@ -19,7 +19,7 @@ enum Owner {
 
 /// What is noted with one router more.
 fn joined(found: Option<Owner>, router: u32) -> Owner
-    ensures { result ≡ joined found router }
+    ensures { result ≡ joined_owner found router }
 {
     match found {
         None => Owner::One(router),

@@ -2,7 +2,7 @@ ghost use Rattle.std.specs.Prelude.{◌≡◌, ◌<◌, ◌≤◌, [], ◌∷◌
 ghost use Rattle.lsdb_build.specs.Neighbours.{shares_subnet};
 ghost use Rattle.lsdb_build.specs.Topology.{topology_fault, database_of, places_from, first_some, at_port, at_config, first_where, second_of_name};
 ghost use Rattle.lsdb_build.specs.Topology.{is_second_of_router, is_second_of_address, is_mismatch, is_crowding, Tells};
-ghost use Rattle.lsdb_build.specs.Graphs.{IsDatabase};
+ghost use Rattle.lsdb_build.specs.Graphs.{IsAreaDatabase};
 ghost use Rattle.lsdb_build.specs.Checks.{link_among};
 ghost use Rattle.lsdb_build.specs.declared.stop.TopologyFault.TheVariants.{TooMany, NameTwice, SameRouterTwice, AddressTwice, TypeMismatch, CrowdedLink};
 
@@ -50,7 +50,7 @@ fn assemble(
 ) -> Result<Lsdb, OutOfMemory>
     requires links { length links.now ≤ 4000 }
     requires transit { length transit.now ≤ 4000 }
-    requires fits { IsDatabase (record {
+    requires fits { IsAreaDatabase (record {
       routers = map (λ r. r.name) configs.now;
       links = map (link_among links.now transit.now) links.now;
       subnets = map (λ first. places_from 0 (shares_subnet first) links.now) transit.now;

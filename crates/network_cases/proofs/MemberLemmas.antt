@@ -8,8 +8,8 @@ use Rattle.area_graph.specs.declared.Point.{Point}
 use Rattle.area_graph.specs.Area.{Area}
 use Rattle.area_graph.specs.Costs.{cost}
 use Rattle.area_graph.specs.Paths.{IsPathOf}
-use Rattle.path_rows.specs.declared.problem.Request.{Request}
-use Rattle.path_rows.specs.Problems.{ends_of}
+use Rattle.design_problem.specs.declared.problem.Request.{Request}
+use Rattle.design_problem.specs.Problems.{request_ends}
 use Rattle.set_separation.specs.declared.prefix_tree.Step.{Step}
 use Rattle.set_separation.specs.Departures.{IsTiedTree}
 use Rattle.set_separation.specs.PrefixTrees.{IsGrown}
@@ -60,14 +60,14 @@ tree_whole first others k tree ended grown =
 
 -- what the separation needs of the tree
 pub tied_tree : (g : Area) (p : Point) (r : Request) (others : List Path) (tree : List Step) →
-    IsPathOf g (ends_of r) r.path.edges → All (TiesWith g p r) others →
+    IsPathOf g (request_ends r) r.path.edges → All (TiesWith g p r) others →
     IsGrown (wanted_of r.path.edges others) (wanted_of r.path.edges others) tree →
-    IsTiedTree g p (ends_of r) (cost g p r.path.edges) (wanted_of r.path.edges others) tree
+    IsTiedTree g p (request_ends r) (cost g p r.path.edges) (wanted_of r.path.edges others) tree
 tied_tree g p r others tree first tie grown = record {
   tree = record {
     grown = grown;
-    paths = All-cons (IsPathOf g (ends_of r)) r.path.edges (map (λ (path : Path). path.edges) others) first
-        (All-map (IsPathOf g (ends_of r)) (λ (path : Path). path.edges) others (λ k d k_in. (tie k d k_in).path));
+    paths = All-cons (IsPathOf g (request_ends r)) r.path.edges (map (λ (path : Path). path.edges) others) first
+        (All-map (IsPathOf g (request_ends r)) (λ (path : Path). path.edges) others (λ k d k_in. (tie k d k_in).path));
   };
   tied = All-cons (λ (w : List ℕ). cost g p w ≡ cost g p r.path.edges) r.path.edges (map (λ (path : Path). path.edges) others) refl
       (All-map (λ (w : List ℕ). cost g p w ≡ cost g p r.path.edges) (λ (path : Path). path.edges) others (λ k d k_in. (tie k d k_in).tied));

@@ -3,7 +3,7 @@ ghost use Rattle.std.specs.Prelude.{List, [], ◌∷◌, All, IfOk, IsTrue};
 ghost use Rattle.area_graph.specs.declared.Path.{Path};
 ghost use Rattle.area_graph.specs.Costs.{FitsPoint, cost};
 ghost use Rattle.area_graph.specs.Paths.{IsPathOf};
-ghost use Rattle.path_rows.specs.Problems.{ends_of};
+ghost use Rattle.design_problem.specs.Problems.{request_ends};
 ghost use Rattle.set_separation.specs.PrefixTrees.{IsGrown};
 ghost use Rattle.network_cases.specs.Members.{TiesWith, wanted_of};
 
@@ -11,7 +11,7 @@ use crate::networks::point;
 use area_graph::{Graph, Path, Point, is_path_of, path_cost, point_fits};
 use case_scripts::{list_of, next_number, next_numbers, next_word};
 use cost_base::{Listed, OutOfMemory};
-use path_rows::Request;
+use design_problem::Request;
 use set_separation::{PrefixTree, find_outsider};
 use spf_ties::Room;
 use std::alloc::{AllocError, Global};
@@ -50,13 +50,13 @@ fn other_paths(
 /// Whether a path is one of a request and costs what the request's path does.
 fn ties_with(graph: &Graph, point: &Point, request: &Request, path: &Path) -> bool
     requires fits { FitsPoint graph.now point.now }
-    requires first { IsPathOf graph.now (ends_of request.now) request.now.path.edges }
+    requires first { IsPathOf graph.now (request_ends request.now) request.now.path.edges }
     ensures { IsTrue result → TiesWith graph.now point.now request.now path.now }
 {
     if path.start != request.path.start {
         return false;
     }
-    if !is_path_of(graph, path, request.end, request.gone.as_slice()) {
+    if !is_path_of(graph, path, request.end, request.excluded.as_slice()) {
         return false;
     }
     path_cost(graph, path, point) == path_cost(graph, &request.path, point)
@@ -65,7 +65,7 @@ fn ties_with(graph: &Graph, point: &Point, request: &Request, path: &Path) -> bo
 /// Whether each path is one of a request and costs what the request's path does.
 fn all_tie(graph: &Graph, point: &Point, request: &Request, others: &[Path]) -> bool
     requires fits { FitsPoint graph.now point.now }
-    requires first { IsPathOf graph.now (ends_of request.now) request.now.path.edges }
+    requires first { IsPathOf graph.now (request_ends request.now) request.now.path.edges }
     ensures { IsTrue result → All (TiesWith graph.now point.now request.now) others.now }
 {
     for path in others {
@@ -111,7 +111,7 @@ fn kept_text(
         start: request.path.start,
         edges: Listed::from_slice(alloc, edges)?,
     };
-    if !is_path_of(graph, &path, request.end, request.gone.as_slice()) {
+    if !is_path_of(graph, &path, request.end, request.excluded.as_slice()) {
         return Ok(String::from_str(alloc, ": no path")?);
     }
     let cost = path_cost(graph, &path, point);
@@ -128,7 +128,7 @@ fn outsider_of(
     others: &[Path],
 ) -> Result<String, OutOfMemory>
     requires fits { FitsPoint graph.now point.now }
-    requires first { IsPathOf graph.now (ends_of request.now) request.now.path.edges }
+    requires first { IsPathOf graph.now (request_ends request.now) request.now.path.edges }
     requires others { All (TiesWith graph.now point.now request.now) others.now }
 {
     let mut room = Room::new(alloc, graph)?;
@@ -158,18 +158,22 @@ pub(crate) fn outsider_text(
 ) -> Result<String, OutOfMemory> {
     let start = next_number(words);
     let end = next_number(words);
-    let gone = Listed::from_items(next_numbers(alloc, words)?);
+    let excluded = Listed::from_items(next_numbers(alloc, words)?);
     let point = point(alloc, next_word(words))?;
     let edges = Listed::from_items(next_numbers(alloc, words)?);
     let path = Path { start, edges };
     let others = other_paths(alloc, &path, words)?;
-    let request = Request { path, end, gone };
+    let request = Request {
+        path,
+        end,
+        excluded,
+    };
     let Some(others) = others else {
         return Ok(String::from_str(alloc, ": unfit")?);
     };
     let others = others.as_slice();
     if !point_fits(graph, &point)
-        || !is_path_of(graph, &request.path, end, request.gone.as_slice())
+        || !is_path_of(graph, &request.path, end, request.excluded.as_slice())
     {
         return Ok(String::from_str(alloc, ": unfit")?);
     }

@@ -38,8 +38,8 @@ pub(crate) fn avoids_text(
     words: &mut SplitWhitespace<'_>,
 ) -> Result<String, AllocError> {
     let edges = next_numbers(alloc, words)?;
-    let gone = next_numbers(alloc, words)?;
-    let told = if avoids(gone.as_slice(), edges.as_slice()) {
+    let excluded = next_numbers(alloc, words)?;
+    let told = if avoids(excluded.as_slice(), edges.as_slice()) {
         ": yes"
     } else {
         ": no"
@@ -83,13 +83,13 @@ pub(crate) fn only_text(
     words: &mut SplitWhitespace<'_>,
 ) -> Result<String, OutOfMemory> {
     let (path, end) = path_and_end(alloc, words)?;
-    let gone = next_numbers(alloc, words)?;
-    let gone = gone.as_slice();
+    let excluded = next_numbers(alloc, words)?;
+    let excluded = excluded.as_slice();
     let point = point(alloc, next_word(words))?;
-    if !point_fits(graph, &point) || !is_path_of(graph, &path, end, gone) {
+    if !point_fits(graph, &point) || !is_path_of(graph, &path, end, excluded) {
         return Ok(String::from_str(alloc, ": unfit")?);
     }
-    let is_only = is_only_cheapest(alloc, graph, &point, &path, end, gone)?;
+    let is_only = is_only_cheapest(alloc, graph, &point, &path, end, excluded)?;
     let told = if is_only { ": yes" } else { ": no" };
     Ok(String::from_str(alloc, told)?)
 }

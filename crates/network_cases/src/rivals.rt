@@ -1,14 +1,14 @@
 //! Lines of a script that ask for the cheapest rival of a path.
 ghost use Rattle.area_graph.specs.Costs.{FitsPoint};
 ghost use Rattle.area_graph.specs.Paths.{IsPathOf};
-ghost use Rattle.path_rows.specs.Problems.{ends_of};
+ghost use Rattle.design_problem.specs.Problems.{request_ends};
 
 use crate::networks::point;
 use crate::paths::path_and_end;
 use area_graph::{Graph, Point, is_path_of, point_fits};
 use case_scripts::{Written, next_numbers, next_word};
 use cost_base::{Listed, OutOfMemory};
-use path_rows::Request;
+use design_problem::Request;
 use rival_separation::{Rival, cheapest_rival};
 use spf_ties::Room;
 use std::alloc::Global;
@@ -22,7 +22,7 @@ fn rival_of(
     request: &Request,
 ) -> Result<String, OutOfMemory>
     requires fits { FitsPoint graph.now point.now }
-    requires path { IsPathOf graph.now (ends_of request.now) request.now.path.edges }
+    requires path { IsPathOf graph.now (request_ends request.now) request.now.path.edges }
 {
     let mut room = Room::new(alloc, graph)?;
     Ok(match cheapest_rival(graph, request, point, &mut room) {
@@ -38,10 +38,19 @@ pub(crate) fn rival_text(
     words: &mut SplitWhitespace<'_>,
 ) -> Result<String, OutOfMemory> {
     let (path, end) = path_and_end(alloc, words)?;
-    let gone = Listed::from_items(next_numbers(alloc, words)?);
+    let excluded = Listed::from_items(next_numbers(alloc, words)?);
     let point = point(alloc, next_word(words))?;
-    if !point_fits(graph, &point) || !is_path_of(graph, &path, end, gone.as_slice()) {
+    if !point_fits(graph, &point) || !is_path_of(graph, &path, end, excluded.as_slice()) {
         return Ok(String::from_str(alloc, ": unfit")?);
     }
-    rival_of(alloc, graph, &point, &Request { path, end, gone })
+    rival_of(
+        alloc,
+        graph,
+        &point,
+        &Request {
+            path,
+            end,
+            excluded,
+        },
+    )
 }

@@ -81,7 +81,7 @@ fn add_hops(
 #[derive(Drop)]
 struct Wanted {
     targets: Vec<u32>,
-    gone: Vec<u32>,
+    excluded: Vec<u32>,
     limit: Option<u128>,
 }
 
@@ -92,13 +92,13 @@ fn find(room: &mut Room, graph: &Graph, point: &Point, target: u32, wanted: &Wan
     requires target { target < length graph.now.vertices }
     ensures { IsRoomFor graph.now room.new }
 {
-    let gone = wanted.gone.as_slice();
+    let excluded = wanted.excluded.as_slice();
     if let Some(limit) = wanted.limit {
-        room.distances_within(graph, point, target, gone, limit);
-    } else if gone.is_empty() {
+        room.distances_within(graph, point, target, excluded, limit);
+    } else if excluded.is_empty() {
         room.distances_to(graph, point, target);
     } else {
-        room.distances_without(graph, point, target, gone);
+        room.distances_without(graph, point, target, excluded);
     }
 }
 
@@ -173,7 +173,7 @@ pub(crate) fn search_text(
 ) -> Result<String, OutOfMemory> {
     let wanted = Wanted {
         targets: next_numbers(alloc, words)?,
-        gone: next_numbers(alloc, words)?,
+        excluded: next_numbers(alloc, words)?,
         limit: None,
     };
     searches_text(alloc, graph, &wanted, words)
@@ -188,7 +188,7 @@ pub(crate) fn within_text(
     let limit = next_word(words).parse::<u128>().unwrap_or(0);
     let wanted = Wanted {
         targets: next_numbers(alloc, words)?,
-        gone: next_numbers(alloc, words)?,
+        excluded: next_numbers(alloc, words)?,
         limit: Some(limit),
     };
     searches_text(alloc, graph, &wanted, words)

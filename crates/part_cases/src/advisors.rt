@@ -1,8 +1,8 @@
 //! Lines of a script that ask advisors.
 
-use advisor_box::{Advisor, Candidate, SmallestNumber, WidestFirst, choose, tell};
 use case_scripts::next_number;
-use path_rows::Entry;
+use cut_advisors::{Advisor, Candidate, SmallestNumber, WidestFirst, choose, tell};
+use design_problem::Entry;
 use std::alloc::{AllocError, Global};
 
 /// Picks 0 at its first call, and 4000 from then on.

@@ -1,10 +1,10 @@
 //! Lines of a script that ask of commands and of made cases.
 
-use case_maker::make_case;
 use case_scripts::next_number;
 use command_words::read_words;
 use cost_base::Name;
 use std::alloc::{AllocError, Global};
+use trial_maker::make_trial;
 
 /// `job WORD ..`: the job that words ask for.
 pub(crate) fn job_text(alloc: Global, rest: &str) -> Result<String, AllocError> {
@@ -26,7 +26,7 @@ fn add_lines(alloc: Global, text: &mut String, bytes: &Name) -> Result<(), Alloc
     Ok(())
 }
 
-/// `made BLOCKS START PLACE`: the names of the files of a made case, the file at a place among them, and the request.
+/// `made BLOCKS START PLACE`: the names of the files of a made trial, the file at a place among them, and the request.
 pub(crate) fn made_text(alloc: Global, rest: &str) -> Result<String, AllocError> {
     let mut words = rest.split_whitespace();
     let blocks = next_number(&mut words);
@@ -35,7 +35,7 @@ pub(crate) fn made_text(alloc: Global, rest: &str) -> Result<String, AllocError>
     if blocks == 0 || blocks > 125 || start >= 1 << 31 {
         return String::from_str(alloc, ": unfit");
     }
-    let Ok(case) = make_case(alloc, blocks, start) else {
+    let Ok(case) = make_trial(alloc, blocks, start) else {
         return Err(AllocError);
     };
     let mut text = String::from_str(alloc, ":")?;

@@ -4,7 +4,7 @@ ghost use Rattle.std.specs.Prelude.{◌^◌, ◌≤◌, nat_abs, All, IsTrue};
 use bound_propagation::tighten;
 use case_scripts::{Written, list_of, next_number, next_word};
 use cost_base::Listed;
-use path_rows::{CostBox, Form, OpenBoxes, greatest_over};
+use design_problem::{CostBox, Form, OpenBoxes, greatest_over};
 use std::alloc::{AllocError, Global};
 use std::str::SplitWhitespace;
 

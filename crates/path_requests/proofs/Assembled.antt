@@ -6,10 +6,10 @@ use Rattle.std.proofs.lemmas.List.Elements.{All-nil, All-cons, All-head, All-tai
 use Rattle.area_graph.specs.declared.Price.{Price}
 use Rattle.area_graph.specs.Area.{Area}
 use Rattle.lsdb_build.specs.declared.Linked.{Linked}
-use Rattle.lsdb_build.specs.Graphs.{Database, IsLink, IsLinkPrice, graph_at}
-use Rattle.path_rows.specs.declared.problem.VarName.{VarName}
-use Rattle.path_rows.specs.declared.problem.Request.{Request}
-use Rattle.path_rows.specs.Problems.{DesignProblem}
+use Rattle.lsdb_build.specs.Graphs.{Database, IsDatabaseLink, IsLinkPrice, graph_at}
+use Rattle.design_problem.specs.declared.problem.VarName.{VarName}
+use Rattle.design_problem.specs.declared.problem.Request.{Request}
+use Rattle.design_problem.specs.Problems.{DesignProblem}
 use Rattle.request_reader.specs.Asked.{Asked, IsAsked}
 use Rattle.path_requests.specs.Meaning.{Range, Within, AsItIs, range_of, low_of, high_of, ranges, price_of, prices_from, names_from, problem_of}
 use Rattle.wanted_paths.specs.Paths.{request_of}
@@ -22,13 +22,13 @@ use Rattle.wanted_paths.specs.declared.stop.ResolutionFault.TheVariants.{NoCost}
 use Rattle.path_requests.proofs.WholeProblems.{prices_count}
 
 -- where each fixed link has a cost, each price is one that a link may have
-pub prices_link : (a : Asked) (d : Database) (l : ℕ) (links : List Linked) → IsAsked a → All (IsLink d) links →
+pub prices_link : (a : Asked) (d : Database) (l : ℕ) (links : List Linked) → IsAsked a → All (IsDatabaseLink d) links →
     cost_faults a d l links ≡ [] → All IsLinkPrice (prices_from a d l links)
 prices_link a d l [] asked each none = All-nil IsLinkPrice
 prices_link a d l (link ∷ links) asked each none =
     let parts = append-none (if lacks_cost a link (range_of a d link) then NoCost l ∷ [] else []) (cost_faults a d (l + 1) links) none in
     All-cons IsLinkPrice (price_of a d l link (range_of a d link)) (prices_from a d (l + 1) links)
-    (by_range (range_of a d link) parts.0) (prices_link a d (l + 1) links asked (All-tail (IsLink d) link links each) parts.1)
+    (by_range (range_of a d link) parts.0) (prices_link a d (l + 1) links asked (All-tail (IsDatabaseLink d) link links each) parts.1)
   where
     clash : (NoCost l ∷ []) ≡ [] → ⊥
     clash h = cc
@@ -42,7 +42,7 @@ prices_link a d l (link ∷ links) asked each none =
 
     by_range : (range : Range) → (if lacks_cost a link range then NoCost l ∷ [] else []) ≡ [] → IsLinkPrice (price_of a d l link range)
     by_range (Within lo hi) none = tt
-    by_range AsItIs none = by_cost link.cost a.default_cost (All-head (IsLink d) link links each).cost asked.default none
+    by_range AsItIs none = by_cost link.cost a.default_cost (All-head (IsDatabaseLink d) link links each).cost asked.default none
 
 pub assembled : (a : Asked) (d : Database) (prices : List Price) (graph : Area) (vars : List VarName)
     (low high : List ℕ) (paths : List Request) → prices ≡ prices_from a d 0 d.links → graph ≡ graph_at d prices →

@@ -11,21 +11,21 @@ use Rattle.area_graph.specs.declared.Price.TheVariants.{Fixed}
 use Rattle.area_graph.specs.Area.{Area}
 use Rattle.lsdb_build.specs.declared.Linked.{Linked}
 use Rattle.lsdb_build.specs.Graphs.{Database}
-use Rattle.request_reader.specs.declared.Wish.{Wish}
-use Rattle.request_reader.specs.declared.Wish.TheVariants.{FreeAll, Free, Fix, Path, SymmetricAll, Symmetric}
+use Rattle.request_reader.specs.declared.Directive.{Directive}
+use Rattle.request_reader.specs.declared.Directive.TheVariants.{FreeAll, Free, Fix, Path, SymmetricAll, Symmetric}
 use Rattle.request_reader.specs.declared.Item.{Item}
-use Rattle.request_reader.specs.Asked.{Asked, IsAsked, KeepsBounds, is_path}
+use Rattle.request_reader.specs.Asked.{Asked, IsAsked, HasGoodBounds, is_path}
 use Rattle.path_requests.specs.Meaning.{Range, AsItIs, range_said, range_of, own, owners, present_cost, prices_from, names_from}
 use Rattle.wanted_paths.specs.Paths.{request_of}
 use Rattle.path_requests.specs.Resolving.{says_freedom, present_asked, ends_differ, ends_differ_at, ties_different, ends_faults}
-use Rattle.wanted_paths.specs.LineFaults.{wish_faults, line_faults}
+use Rattle.wanted_paths.specs.LineFaults.{directive_faults, line_faults}
 use Rattle.cost_base.proofs.ListLemmas.{append-none}
 use Rattle.wanted_paths.proofs.LookUps.{none_passing}
 
 abbrev kept : Item → Bool
 kept item = not (says_freedom item.what)
 
-said_none : (d : Database) (link : Linked) (wish : Wish) → says_freedom wish ≡ false → range_said d link wish ≡ None
+said_none : (d : Database) (link : Linked) (directive : Directive) → says_freedom directive ≡ false → range_said d link directive ≡ None
 said_none d link (FreeAll lo hi) free = absurd (false≢true (sym free))
 said_none d link (Free router interface lo hi) free = absurd (false≢true (sym free))
 said_none d link (Fix router interface) free = absurd (false≢true (sym free))
@@ -64,7 +64,7 @@ pub none_named : (a : Asked) (d : Database) (l : ℕ) (links : List Linked) → 
 none_named a d l [] = refl
 none_named a d l (link ∷ links) = rw (fixed a d link) (none_named a d (l + 1) links)
 
-request_none : (d : Database) (g : Area) (wish : Wish) → says_freedom wish ≡ true → request_of d g wish ≡ None
+request_none : (d : Database) (g : Area) (directive : Directive) → says_freedom directive ≡ true → request_of d g directive ≡ None
 request_none d g (FreeAll lo hi) says = refl
 request_none d g (Free router interface lo hi) says = refl
 request_none d g (Fix router interface) says = refl
@@ -87,24 +87,24 @@ present_paths d g (item ∷ items) =
 pub present_lines : (d : Database) (items : List Item) → line_faults d items ≡ [] → line_faults d (filter kept items) ≡ []
 present_lines d [] none = refl
 present_lines d (item ∷ items) none =
-    let parts = append-none (wish_faults d item.line item.what) (line_faults d items) none in
+    let parts = append-none (directive_faults d item.line item.what) (line_faults d items) none in
     elim (cases_Bool (says_freedom item.what)) [
       | inl says ↦ rw says (present_lines d items parts.1)
       | inr silent ↦ rw silent (rw parts.0 (present_lines d items parts.1))
     ]
 
 same_ends : (a : Asked) (d : Database) (link : Linked) → ends_differ (present_asked a) d link ≡ false
-same_ends a d link = by_mate link.mate
+same_ends a d link = by_link_back link.link_back
   where
-    by_other : (o : Option Linked) (m : ℕ) → slice_get d.links m ≡ o → ends_differ (present_asked a) d (record link { mate = Some m }) ≡ false
+    by_other : (o : Option Linked) (m : ℕ) → slice_get d.links m ≡ o → ends_differ (present_asked a) d (record link { link_back = Some m }) ≡ false
     by_other None m at = rw at refl
-    by_other (Some other) m at = rw (at, fixed a d other, fixed a d (record link { mate = Some m })) refl
+    by_other (Some other) m at = rw (at, fixed a d other, fixed a d (record link { link_back = Some m })) refl
 
-    by_mate : (o : Option ℕ) → ends_differ (present_asked a) d (record link { mate = o }) ≡ false
-    by_mate None = refl
-    by_mate (Some m) = by_other (slice_get d.links m) m refl
+    by_link_back : (o : Option ℕ) → ends_differ (present_asked a) d (record link { link_back = o }) ≡ false
+    by_link_back None = refl
+    by_link_back (Some m) = by_other (slice_get d.links m) m refl
 
-none_ties : (a : Asked) (d : Database) (wish : Wish) → ties_different (present_asked a) d wish ≡ false
+none_ties : (a : Asked) (d : Database) (directive : Directive) → ties_different (present_asked a) d directive ≡ false
 none_ties a d (FreeAll lo hi) = refl
 none_ties a d (Free router interface lo hi) = refl
 none_ties a d (Fix router interface) = refl
@@ -125,14 +125,14 @@ pub present_ends : (a : Asked) (d : Database) (items : List Item) → ends_fault
 present_ends a d [] = refl
 present_ends a d (item ∷ items) = rw (none_ties a d item.what) (present_ends a d items)
 
-bounds_kept : (items : List Item) → All (λ item. KeepsBounds item.what) items → All (λ item. KeepsBounds item.what) (filter kept items)
-bounds_kept [] keeps = All-nil (λ (i : Item). KeepsBounds i.what)
+bounds_kept : (items : List Item) → All (λ item. HasGoodBounds item.what) items → All (λ item. HasGoodBounds item.what) (filter kept items)
+bounds_kept [] keeps = All-nil (λ (i : Item). HasGoodBounds i.what)
 bounds_kept (item ∷ items) keeps =
-    let rest = bounds_kept items (All-tail (λ (i : Item). KeepsBounds i.what) item items keeps) in
+    let rest = bounds_kept items (All-tail (λ (i : Item). HasGoodBounds i.what) item items keeps) in
     elim (cases_Bool (says_freedom item.what)) [
       | inl says ↦ rw says rest
-      | inr silent ↦ rw silent (All-cons (λ (i : Item). KeepsBounds i.what) item (filter kept items)
-          (All-head (λ (i : Item). KeepsBounds i.what) item items keeps) rest)
+      | inr silent ↦ rw silent (All-cons (λ (i : Item). HasGoodBounds i.what) item (filter kept items)
+          (All-head (λ (i : Item). HasGoodBounds i.what) item items keeps) rest)
     ]
 
 count_cons : (item : Item) (items : List Item) → count_by is_path (item ∷ items) ≡ cond (is_path item) 1 0 + count_by is_path items

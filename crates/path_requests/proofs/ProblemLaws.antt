@@ -7,8 +7,8 @@ use Rattle.area_graph.specs.declared.Edge.{Edge}
 use Rattle.area_graph.specs.Costs.{IsPriced}
 use Rattle.lsdb_build.specs.declared.Linked.{Linked}
 use Rattle.lsdb_build.specs.Graphs.{subnet_edges, router_of}
-use Rattle.path_rows.specs.Problems.{DesignProblem}
-use Rattle.path_rows.proofs.RestrictedProblems.{same_problem}
+use Rattle.design_problem.specs.Problems.{DesignProblem}
+use Rattle.design_problem.proofs.RestrictedProblems.{same_problem}
 
 -- edges out of subnets have no variable
 pub subnets_priced : (n : ℕ) (links : List Linked) (vertex : ℕ) (subnets : List (List ℕ)) →

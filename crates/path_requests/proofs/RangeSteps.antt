@@ -9,8 +9,8 @@ use Rattle.cost_base.specs.Lists.{last_of}
 use Rattle.cost_base.proofs.ListLemmas.{last_of-cons, option_or-none}
 use Rattle.lsdb_build.specs.declared.Linked.{Linked}
 use Rattle.lsdb_build.specs.Graphs.{Database}
-use Rattle.request_reader.specs.declared.Wish.{Wish}
-use Rattle.request_reader.specs.declared.Wish.TheVariants.{FreeAll, Free, Fix, Path, SymmetricAll, Symmetric}
+use Rattle.request_reader.specs.declared.Directive.{Directive}
+use Rattle.request_reader.specs.declared.Directive.TheVariants.{FreeAll, Free, Fix, Path, SymmetricAll, Symmetric}
 use Rattle.request_reader.specs.declared.Item.{Item}
 use Rattle.path_requests.specs.Meaning.{Range, Within, AsItIs, range_said, range_by}
 use Rattle.path_requests.specs.Chosen.{said_of_all, said_of_one, last_said}
@@ -50,7 +50,7 @@ last_more d link item items = by_said (range_said d link item.what)
     by_said (Some x) = last_of-cons x rest
 
 -- a line that doesn't speak of all links speaks of the one that it names
-one_said : (d : Database) (link : Linked) (wish : Wish) → said_of_all wish ≡ None → range_said d link wish ≡ said_of_one d link wish
+one_said : (d : Database) (link : Linked) (directive : Directive) → said_of_all directive ≡ None → range_said d link directive ≡ said_of_one d link directive
 one_said d link (FreeAll lo hi) none = absurd (some_none none)
   where
     some_none : Some (Within lo hi) ≡ None → ⊥
@@ -61,7 +61,7 @@ one_said d link (Path route without) none = refl
 one_said d link SymmetricAll none = refl
 one_said d link (Symmetric router interface) none = refl
 
-all_said : (d : Database) (link : Linked) (wish : Wish) (range : Range) → said_of_all wish ≡ Some range → range_said d link wish ≡ Some range
+all_said : (d : Database) (link : Linked) (directive : Directive) (range : Range) → said_of_all directive ≡ Some range → range_said d link directive ≡ Some range
 all_said d link (FreeAll lo hi) range is = is
 all_said d link (Free router interface lo hi) range is = absurd (cc)
 all_said d link (Fix router interface) range is = absurd (cc)

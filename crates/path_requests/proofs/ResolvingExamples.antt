@@ -6,16 +6,16 @@ use Rattle.area_graph.specs.declared.Price.TheVariants.{Fixed}
 use Rattle.lsdb_build.specs.declared.Far.TheVariants.{Router, Subnet}
 use Rattle.lsdb_build.specs.declared.Linked.{Linked}
 use Rattle.lsdb_build.specs.Graphs.{Database}
-use Rattle.request_reader.specs.declared.Wish.{Wish}
-use Rattle.request_reader.specs.declared.Wish.TheVariants.{FreeAll, Free, Fix, Path, SymmetricAll, Symmetric}
+use Rattle.request_reader.specs.declared.Directive.{Directive}
+use Rattle.request_reader.specs.declared.Directive.TheVariants.{FreeAll, Free, Fix, Path, SymmetricAll, Symmetric}
 use Rattle.request_reader.specs.declared.Part.TheVariants.{Router as RouterPart, Interface as InterfacePart}
 use Rattle.request_reader.specs.declared.Item.{Item}
 use Rattle.request_reader.specs.Asked.{Asked}
-use Rattle.wanted_paths.specs.declared.stop.ResolutionFault.TheVariants.{UnknownRouter, UnknownInterface, NotALink, LoopPath, PathGone, EndsDiffer, BrokenPath, NoCost}
+use Rattle.wanted_paths.specs.declared.stop.ResolutionFault.TheVariants.{UnknownRouter, UnknownInterface, NotALink, LoopPath, PathExcluded, EndsDiffer, BrokenPath, NoCost}
 use Rattle.path_requests.specs.Resolving.{resolution_fault, present_fault, present_problem_of}
 
 abbrev link_to : ℕ → List ℕ → ℕ → ℕ → Linked
-link_to r name far mate = record { router = r; interface = name; line = 1; cost = None; to = Router far; mate = Some mate }
+link_to r name far link_back = record { router = r; interface = name; line = 1; cost = None; to = Router far; link_back = Some link_back }
 
 -- a triangle of routers, each link first to the next router
 abbrev triangle : Database
@@ -27,7 +27,7 @@ triangle = record {
 }
 
 abbrev lan_link : ℕ → Linked
-lan_link r = record { router = r; interface = codes "0"; line = 1; cost = None; to = Subnet 0; mate = None }
+lan_link r = record { router = r; interface = codes "0"; line = 1; cost = None; to = Subnet 0; link_back = None }
 
 abbrev lan : Database
 lan = record {
@@ -36,15 +36,15 @@ lan = record {
   subnets = (0 ∷ 1 ∷ 2 ∷ []) ∷ [];
 }
 
-abbrev line : ℕ → Wish → Item
-line n wish = record { line = n; what = wish }
+abbrev line : ℕ → Directive → Item
+line n directive = record { line = n; what = directive }
 
 -- requests that first free every interface, in line 3
 abbrev asked : List Item → Asked
 asked items = record { area = 0; default_cost = None; items = line 3 (FreeAll 1 9) ∷ items }
 
 -- a path over interfaces 0 from A through B to a last router
-abbrev ab_to : List ℕ → Wish
+abbrev ab_to : List ℕ → Directive
 ab_to last = Path (record { hops = (codes "A", codes "0") ∷ (codes "B", codes "0") ∷ []; last = last }) []
 
 resolves : resolution_fault (asked (line 4 SymmetricAll ∷ line 5 (ab_to (codes "C")) ∷ [])) triangle ≡ None
@@ -77,13 +77,13 @@ unknown_part : resolution_fault
 unknown_part = refl
 
 -- the link is taken away in both directions
-path_gone : resolution_fault (asked
+path_excluded : resolution_fault (asked
     (line 4 (Path (record { hops = (codes "A", codes "0") ∷ []; last = codes "B" })
-    (InterfacePart (codes "B") (codes "1") ∷ [])) ∷ [])) triangle ≡ Some (PathGone 4)
-path_gone = refl
+    (InterfacePart (codes "B") (codes "1") ∷ [])) ∷ [])) triangle ≡ Some (PathExcluded 4)
+path_excluded = refl
 
-start_gone : resolution_fault (asked (line 4 (Path (record { hops = []; last = codes "A" }) (RouterPart (codes "A") ∷ [])) ∷ [])) triangle ≡ Some (PathGone 4)
-start_gone = refl
+start_excluded : resolution_fault (asked (line 4 (Path (record { hops = []; last = codes "A" }) (RouterPart (codes "A") ∷ [])) ∷ [])) triangle ≡ Some (PathExcluded 4)
+start_excluded = refl
 
 start_stays : resolution_fault
     (asked (line 4 (Path (record { hops = []; last = codes "A" }) (InterfacePart (codes "A") (codes "0") ∷ [])) ∷ []))
@@ -133,6 +133,6 @@ present_problem : present_problem_of pair_asked pair ≡ record {
   vars = [];
   low = [];
   high = [];
-  paths = record { path = record { start = 0; edges = 0 ∷ [] }; end = 1; gone = [] } ∷ [];
+  paths = record { path = record { start = 0; edges = 0 ∷ [] }; end = 1; excluded = [] } ∷ [];
 }
 present_problem = refl

@@ -16,34 +16,34 @@ use Rattle.area_graph.specs.Costs.{IsPriced}
 use Rattle.cost_base.proofs.ListLemmas.{append-none}
 use Rattle.area_graph.proofs.Visits.{joined_known}
 use Rattle.lsdb_build.specs.declared.Linked.{Linked}
-use Rattle.lsdb_build.specs.Graphs.{Database, IsDatabase, IsLink, graph_at, link_edges, subnet_edges, far_vertex}
+use Rattle.lsdb_build.specs.Graphs.{Database, IsAreaDatabase, IsDatabaseLink, graph_at, link_edges, subnet_edges, far_vertex}
 use Rattle.lsdb_build.proofs.Pairs.{all_at}
-use Rattle.path_rows.specs.declared.problem.VarName.{VarName}
-use Rattle.path_rows.specs.declared.problem.Request.{Request}
-use Rattle.path_rows.specs.Problems.{IsProblem, TakesAway, ends_of}
+use Rattle.design_problem.specs.declared.problem.VarName.{VarName}
+use Rattle.design_problem.specs.declared.problem.Request.{Request}
+use Rattle.design_problem.specs.Problems.{IsProblem, TakesAway, request_ends}
 use Rattle.request_reader.specs.declared.Part.{Part}
-use Rattle.request_reader.specs.declared.Wish.{Wish}
-use Rattle.request_reader.specs.declared.Wish.TheVariants.{FreeAll, Free, Fix, Path, SymmetricAll, Symmetric}
+use Rattle.request_reader.specs.declared.Directive.{Directive}
+use Rattle.request_reader.specs.declared.Directive.TheVariants.{FreeAll, Free, Fix, Path, SymmetricAll, Symmetric}
 use Rattle.request_reader.specs.declared.Item.{Item}
-use Rattle.request_reader.specs.Wishes.{Route}
-use Rattle.request_reader.specs.Asked.{Asked, KeepsBounds, IsAsked, is_path_wish, is_path}
+use Rattle.request_reader.specs.WrittenRoutes.{Route}
+use Rattle.request_reader.specs.Asked.{Asked, HasGoodBounds, IsAsked, is_path_directive, is_path}
 use Rattle.path_requests.specs.Meaning.{Range, Within, AsItIs, range_said, range_of, is_free, is_free_at, low_of, high_of, owner, own, owners, variable_of, ranges, price_of, prices_from, names_from, problem_of}
-use Rattle.wanted_paths.specs.Paths.{is_named, next_name, router_number, route_edges, takes, gone_edges, request_of}
+use Rattle.wanted_paths.specs.Paths.{is_link_named, next_name, router_number, route_edges, takes, excluded_edges, request_of}
 use Rattle.wanted_paths.specs.Resolution.{is_known, is_joined, is_loop_free}
-use Rattle.wanted_paths.specs.LineFaults.{fault_unless, hop_faults, broken_faults, walk_faults, parts_faults, without_faults, is_router_part, is_path_gone, wish_faults, line_faults}
+use Rattle.wanted_paths.specs.LineFaults.{fault_unless, hop_faults, broken_faults, walk_faults, parts_faults, without_faults, is_router_part, is_path_excluded, directive_faults, line_faults}
 use Rattle.path_requests.specs.Resolving.{ends_faults}
 use Rattle.wanted_paths.specs.Paths.{outline}
 use Rattle.wanted_paths.proofs.RouteLaws.{route_simple, lacks_from}
-use Rattle.wanted_paths.proofs.GoneLaws.{gone_takes}
+use Rattle.wanted_paths.proofs.ExcludedLaws.{excluded_takes}
 use Rattle.wanted_paths.proofs.LookUps.{no_link}
 use Rattle.path_requests.proofs.ProblemLaws.{subnets_priced}
 use Rattle.wanted_paths.proofs.Walks.{well_from, words_known, hops_joined}
 use Rattle.wanted_paths.proofs.Withouts.{walk_simple}
 use Rattle.wanted_paths.proofs.TakenEdges.{has_kept}
 use Rattle.path_requests.proofs.RangeSteps.{range_after, range_is}
-use Rattle.wanted_paths.proofs.Outline.{as_outline, route_same, gone_same, loop_free_same}
+use Rattle.wanted_paths.proofs.Outline.{as_outline, route_same, excluded_same, loop_free_same}
 use Rattle.path_requests.proofs.Numbering.{passing, numbered, passing_all}
-use Rattle.wanted_paths.specs.declared.stop.ResolutionFault.TheVariants.{LoopPath, PathGone}
+use Rattle.wanted_paths.specs.declared.stop.ResolutionFault.TheVariants.{LoopPath, PathExcluded}
 use Rattle.path_requests.proofs.VariableOwners.{has_owner, variable_is, variable_below}
 
 -- Ranges
@@ -52,14 +52,14 @@ use Rattle.path_requests.proofs.VariableOwners.{has_owner, variable_is, variable
 abbrev Bounds : Range → Type 0
 Bounds range = is_free range ≡ true → (1 ≤ low_of range) × (low_of range ≤ high_of range)
 
-said_bounds : (d : Database) (link : Linked) (wish : Wish) (range : Range) → KeepsBounds wish → Bounds range → Bounds (unwrap_or (range_said d link wish) range)
+said_bounds : (d : Database) (link : Linked) (directive : Directive) (range : Range) → HasGoodBounds directive → Bounds range → Bounds (unwrap_or (range_said d link directive) range)
 said_bounds d link (FreeAll lo hi) range keeps before = λ free. keeps
-said_bounds d link (Free router interface lo hi) range keeps before = by_test (is_named d router interface link)
+said_bounds d link (Free router interface lo hi) range keeps before = by_test (is_link_named d router interface link)
   where
     by_test : (b : Bool) → Bounds (unwrap_or (if b then Some (Within lo hi) else None) range)
     by_test true = λ free. keeps
     by_test false = before
-said_bounds d link (Fix router interface) range keeps before = by_test (is_named d router interface link)
+said_bounds d link (Fix router interface) range keeps before = by_test (is_link_named d router interface link)
   where
     by_test : (b : Bool) → Bounds (unwrap_or (if b then Some AsItIs else None) range)
     by_test true = λ free. absurd (false≢true free)
@@ -69,11 +69,11 @@ said_bounds d link SymmetricAll range keeps before = before
 said_bounds d link (Symmetric router interface) range keeps before = before
 
 after_bounds : (d : Database) (link : Linked) (range : Range) (items : List Item) →
-    All (λ item. KeepsBounds item.what) items → Bounds range → Bounds (range_after d link range items)
+    All (λ item. HasGoodBounds item.what) items → Bounds range → Bounds (range_after d link range items)
 after_bounds d link range [] keeps before = before
 after_bounds d link range (item ∷ items) keeps before =
-    after_bounds d link (unwrap_or (range_said d link item.what) range) items (All-tail (λ (i : Item). KeepsBounds i.what) item items keeps)
-    (said_bounds d link item.what range (All-head (λ (i : Item). KeepsBounds i.what) item items keeps) before)
+    after_bounds d link (unwrap_or (range_said d link item.what) range) items (All-tail (λ (i : Item). HasGoodBounds i.what) item items keeps)
+    (said_bounds d link item.what range (All-head (λ (i : Item). HasGoodBounds i.what) item items keeps) before)
 
 range_bounds : (a : Asked) (d : Database) (link : Linked) → IsAsked a → Bounds (range_of a d link)
 range_bounds a d link asked = subst Bounds (range_is d link a.items AsItIs) (after_bounds d link AsItIs a.items asked.bounds (λ free. absurd (false≢true free)))
@@ -136,15 +136,15 @@ record IsName (n : ℕ) (name : VarName) : Type 0 where
   router : IsWord name.router
   interface : IsWord name.interface
 
-names_good : (a : Asked) (d : Database) (l : ℕ) (links : List Linked) → IsDatabase d → AreNumbered a d →
+names_good : (a : Asked) (d : Database) (l : ℕ) (links : List Linked) → IsAreaDatabase d → AreNumbered a d →
     StandFrom d l links → All (IsName (length (owners a d))) (names_from a d l links)
 names_good a d l [] base numbers stand = All-nil (IsName (length (owners a d)))
 names_good a d l (link ∷ links) base numbers stand =
     let there = stand_first d l link links stand in
-    let is = all_at (IsLink d) d.links base.each_link l link there in
+    let is = all_at (IsDatabaseLink d) d.links base.each_link l link there in
     by_test (is_free (range_of a d link)) refl there is (names_good a d (l + 1) links base numbers (stand_rest d l link links stand))
   where
-    by_test : (b : Bool) → is_free (range_of a d link) ≡ b → slice_get d.links l ≡ Some link → IsLink d link →
+    by_test : (b : Bool) → is_free (range_of a d link) ≡ b → slice_get d.links l ≡ Some link → IsDatabaseLink d link →
         All (IsName (length (owners a d))) (names_from a d (l + 1) links) →
         All (IsName (length (owners a d)))
         ((if b then record {
@@ -201,22 +201,22 @@ names_have a d l (suc j) (first ∷ links) link at free =
 
 avoids_taken : (d : Database) (g : Area) (parts : List Part) (es : List ℕ) →
     list_any (λ e. list_any (takes d g e) parts) es ≡ false → All (λ e. e < length g.edges) es →
-    Avoids (gone_edges d g parts) es
+    Avoids (excluded_edges d g parts) es
 avoids_taken d g parts [] none within = tt
 avoids_taken d g parts (e ∷ es) none within =
     let split = or_parts (list_any (takes d g e) parts) (list_any (λ e. list_any (takes d g e) parts) es) none in
     let below = All-head (λ e. e < length g.edges) e es within in (
-      lacks_from (gone_edges d g parts) e (has_kept (λ e. list_any (takes d g e) parts) 0 (length g.edges) e (omega arith) (omega (arith, below)) ∙ split.0),
+      lacks_from (excluded_edges d g parts) e (has_kept (λ e. list_any (takes d g e) parts) 0 (length g.edges) e (omega arith) (omega (arith, below)) ∙ split.0),
       avoids_taken d g parts es split.1 (All-tail (λ e. e < length g.edges) e es within),
     )
 
 -- what a wanted path gives
 record IsGood (g : Area) (request : Request) : Type 0 where
-  path : IsPathOf g (ends_of request) request.path.edges
-  gone : TakesAway g request.gone
+  path : IsPathOf g (request_ends request) request.path.edges
+  excluded : TakesAway g request.excluded
 
-path_good : (d : Database) (prices : List Price) (line : ℕ) (route : Route) (parts : List Part) → IsDatabase d →
-    length prices ≡ length d.links → wish_faults d line (Path route parts) ≡ [] →
+path_good : (d : Database) (prices : List Price) (line : ℕ) (route : Route) (parts : List Part) → IsAreaDatabase d →
+    length prices ≡ length d.links → directive_faults d line (Path route parts) ≡ [] →
     IsGood (graph_at d prices)
     (record {
       path = record {
@@ -224,8 +224,8 @@ path_good : (d : Database) (prices : List Price) (line : ℕ) (route : Route) (p
         edges = route_edges d (graph_at d prices) route.hops route.last;
       };
       end = router_number d route.last;
-      gone =
-          gone_edges d (graph_at d prices) parts;
+      excluded =
+          excluded_edges d (graph_at d prices) parts;
     })
 path_good d prices line route parts base same none =
     let g = graph_at d prices in
@@ -245,35 +245,35 @@ path_good d prices line route parts base same none =
     let out = walk_simple d line route base whole.0 in
     let edges = route_edges d (outline d) route.hops route.last in
     let start = router_number d (next_name route.hops route.last) in
-    let stays = append-none (parts_faults d line parts) (fault_unless (not (is_path_gone d route parts)) (PathGone line)) whole.1 in
+    let stays = append-none (parts_faults d line parts) (fault_unless (not (is_path_excluded d route parts)) (PathExcluded line)) whole.1 in
     let kept = or_parts (list_any (is_router_part (next_name route.hops route.last)) parts)
     (list_any (λ e. list_any (takes d (outline d) e) parts) edges)
-    (not-true (is_path_gone d route parts)
-    (well_from (not (is_path_gone d route parts)) (PathGone line) stays.1)) in
+    (not-true (is_path_excluded d route parts)
+    (well_from (not (is_path_excluded d route parts)) (PathExcluded line) stays.1)) in
     let avoids = avoids_taken d (outline d) parts edges kept.1 (joined_known (outline d) start edges (router_number d route.last) out.joins) in
     record {
       path = record {
         simple = route_simple d prices route base same resolves;
-        kept = subst (λ (gone : List ℕ). Avoids gone (route_edges d g route.hops route.last)) (sym (gone_same d g (outline d) parts ends))
-            (subst (λ (es : List ℕ). Avoids (gone_edges d (outline d) parts) es) (sym (route_same d g (outline d) route.hops route.last ends)) avoids);
+        kept = subst (λ (excluded : List ℕ). Avoids excluded (route_edges d g route.hops route.last)) (sym (excluded_same d g (outline d) parts ends))
+            (subst (λ (es : List ℕ). Avoids (excluded_edges d (outline d) parts) es) (sym (route_same d g (outline d) route.hops route.last ends)) avoids);
       };
-      gone = gone_takes d g parts;
+      excluded = excluded_takes d g parts;
     }
 
-paths_good : (d : Database) (prices : List Price) (items : List Item) → IsDatabase d → length prices ≡ length d.links →
+paths_good : (d : Database) (prices : List Price) (items : List Item) → IsAreaDatabase d → length prices ≡ length d.links →
     line_faults d items ≡ [] →
     All (IsGood (graph_at d prices)) (filter_map (λ item. request_of d (graph_at d prices) item.what) items)
 paths_good d prices [] base same none = All-nil (IsGood (graph_at d prices))
 paths_good d prices (item ∷ items) base same none =
-    let parts = append-none (wish_faults d item.line item.what) (line_faults d items) none in
-    by_wish item.what parts.0 (paths_good d prices items base same parts.1)
+    let parts = append-none (directive_faults d item.line item.what) (line_faults d items) none in
+    by_directive item.what parts.0 (paths_good d prices items base same parts.1)
   where
     rest : List Request
     rest = filter_map (λ item. request_of d (graph_at d prices) item.what) items
 
-    by_wish : (wish : Wish) → wish_faults d item.line wish ≡ [] → All (IsGood (graph_at d prices)) rest →
-        All (IsGood (graph_at d prices)) (cons_option (request_of d (graph_at d prices) wish) rest)
-    by_wish (Path route without) here more =
+    by_directive : (directive : Directive) → directive_faults d item.line directive ≡ [] → All (IsGood (graph_at d prices)) rest →
+        All (IsGood (graph_at d prices)) (cons_option (request_of d (graph_at d prices) directive) rest)
+    by_directive (Path route without) here more =
         All-cons (IsGood (graph_at d prices))
         (record {
           path = record {
@@ -281,34 +281,34 @@ paths_good d prices (item ∷ items) base same none =
             edges = route_edges d (graph_at d prices) route.hops route.last;
           };
           end = router_number d route.last;
-          gone = gone_edges d (graph_at d prices) without;
+          excluded = excluded_edges d (graph_at d prices) without;
         }) rest
         (path_good d prices item.line route without base same here) more
-    by_wish (FreeAll lo hi) here more = more
-    by_wish (Free router interface lo hi) here more = more
-    by_wish (Fix router interface) here more = more
-    by_wish SymmetricAll here more = more
-    by_wish (Symmetric router interface) here more = more
+    by_directive (FreeAll lo hi) here more = more
+    by_directive (Free router interface lo hi) here more = more
+    by_directive (Fix router interface) here more = more
+    by_directive SymmetricAll here more = more
+    by_directive (Symmetric router interface) here more = more
 
 paths_count : (d : Database) (g : Area) (items : List Item) → length (filter_map (λ item. request_of d g item.what) items) ≡ count_by is_path items
 paths_count d g [] = refl
 paths_count d g (item ∷ items) =
-    by_wish item.what
-    ∙ ap (λ n. cond (is_path_wish item.what) 1 0 + n) (paths_count d g items)
+    by_directive item.what
+    ∙ ap (λ n. cond (is_path_directive item.what) 1 0 + n) (paths_count d g items)
     ∙ sym (sum_by-cons (λ (i : Item). cond (is_path i) 1 0) item items)
   where
-    by_wish : (wish : Wish) → length (cons_option (request_of d g wish)
-        (filter_map (λ item. request_of d g item.what) items)) ≡ cond (is_path_wish wish) 1 0
+    by_directive : (directive : Directive) → length (cons_option (request_of d g directive)
+        (filter_map (λ item. request_of d g item.what) items)) ≡ cond (is_path_directive directive) 1 0
         + length (filter_map (λ item. request_of d g item.what) items)
-    by_wish (Path route without) = omega arith
-    by_wish (FreeAll lo hi) = omega arith
-    by_wish (Free router interface lo hi) = omega arith
-    by_wish (Fix router interface) = omega arith
-    by_wish SymmetricAll = omega arith
-    by_wish (Symmetric router interface) = omega arith
+    by_directive (Path route without) = omega arith
+    by_directive (FreeAll lo hi) = omega arith
+    by_directive (Free router interface lo hi) = omega arith
+    by_directive (Fix router interface) = omega arith
+    by_directive SymmetricAll = omega arith
+    by_directive (Symmetric router interface) = omega arith
 
 -- requests whose lines have no fault and whose symmetric links have no different ends make a problem of few variables
-pub whole_is_problem : (a : Asked) (d : Database) → IsAsked a → IsDatabase d → line_faults d a.items ≡ [] →
+pub whole_is_problem : (a : Asked) (d : Database) → IsAsked a → IsAreaDatabase d → line_faults d a.items ≡ [] →
     ends_faults a d a.items ≡ [] → length (owners a d) ≤ 1000 → IsProblem (problem_of a d)
 whole_is_problem a d asked base lines ends few =
     let n = length (owners a d) in
@@ -325,8 +325,8 @@ whole_is_problem a d asked base lines ends few =
     let names = names_good a d 0 d.links base numbers stand in
     let vars = names_from a d 0 d.links in
     record {
-      paths = All-weaker (IsGood g) (λ r. IsPathOf g (ends_of r) r.path.edges) (λ r is. is.path) requests good;
-      gone = All-weaker (IsGood g) (λ r. TakesAway g r.gone) (λ r is. is.gone) requests good;
+      paths = All-weaker (IsGood g) (λ r. IsPathOf g (request_ends r) r.path.edges) (λ r is. is.path) requests good;
+      excluded = All-weaker (IsGood g) (λ r. TakesAway g r.excluded) (λ r is. is.excluded) requests good;
       low_count = low_count ∙ sym high_count;
       var_count = omega (arith, low_count);
       ordered = λ k within. ordered_at k (omega (arith, low_count));

@@ -2,7 +2,7 @@
 ghost use Rattle.std.specs.Prelude.{◌≡◌, Some, slice_get, IfOk};
 ghost use Rattle.std.specs.Option.{option_and_then};
 ghost use Rattle.lsdb_build.specs.declared.Linked.{Linked as LinkValue};
-ghost use Rattle.lsdb_build.specs.Graphs.{IsDatabase};
+ghost use Rattle.lsdb_build.specs.Graphs.{IsAreaDatabase};
 ghost use Rattle.request_reader.specs.Asked.{IsAsked};
 ghost use Rattle.path_requests.specs.Meaning.{any_symmetric, is_symmetric, range_at, range_of};
 
@@ -10,7 +10,7 @@ use crate::ranges::{Range, ranges_by};
 use crate::symmetric::symmetric_by;
 use cost_base::OutOfMemory;
 use lsdb_build::Linked;
-use request_reader::{Item, Requests};
+use request_reader::{Item, RequestFile};
 use std::alloc::Global;
 use std::marker::Model;
 use wanted_paths::Names;
@@ -19,7 +19,7 @@ use wanted_paths::Names;
 #[derive(Drop)]
 pub struct Choices<'a> {
     names: &'a Names<'a>,
-    requests: &'a Requests,
+    requests: &'a RequestFile,
     ranges: Vec<Range>,
     symmetric: Vec<bool>,
 }
@@ -40,7 +40,7 @@ impl<'a> Model for Choices<'a> {
 }
 
 /// The lines of requests.
-pub fn items(requests: &Requests) -> &[Item]
+pub fn items(requests: &RequestFile) -> &[Item]
     ensures value { result.now ≡ requests.now.items }
     ensures asked { IsAsked requests.now }
 {
@@ -52,7 +52,7 @@ impl<'a> Choices<'a> {
     pub fn new(
         alloc: Global,
         names: &'a Names<'a>,
-        requests: &'a Requests,
+        requests: &'a RequestFile,
     ) -> Result<Choices<'a>, OutOfMemory>
         ensures { IfOk result (λ choices. choices ≡ record { asked = requests.now; database = names.now }) }
     {
@@ -75,7 +75,7 @@ impl<'a> Choices<'a> {
     }
 
     /// The requests.
-    pub fn requests(&self) -> &Requests
+    pub fn requests(&self) -> &RequestFile
         ensures value { result.now ≡ self.now.asked }
         ensures asked { IsAsked self.now.asked }
     {
@@ -86,7 +86,7 @@ impl<'a> Choices<'a> {
     /// The links, in order.
     pub fn links(&self) -> &[Linked]
         ensures value { result.now ≡ self.now.database.links }
-        ensures base { IsDatabase self.now.database }
+        ensures base { IsAreaDatabase self.now.database }
     {
         self.names.links()
     }
@@ -125,6 +125,6 @@ impl<'a> Choices<'a> {
         ensures { result ≡ is_symmetric self.now.asked self.now.database link.now }
     {
         let here = self.any_symmetric(Some(number));
-        here || self.any_symmetric(link.mate)
+        here || self.any_symmetric(link.link_back)
     }
 }

@@ -15,21 +15,21 @@ use crate::ranges::Range;
 use crate::variables::lacks_cost;
 use area_graph::Price;
 use cost_base::{Listed, OutOfMemory};
+use design_problem::{Problem, Request};
 use lsdb_build::Linked;
-use path_rows::{Problem, Request};
-use request_reader::Requests;
+use request_reader::RequestFile;
 use std::alloc::Global;
 use wanted_paths::{Names, ResolutionFault, ResolutionStop};
 
 /// Whether a link has no present cost, and there is no default.
-fn lacks_present(names: &Names, requests: &Requests, link: &Linked) -> bool
+fn lacks_present(names: &Names, requests: &RequestFile, link: &Linked) -> bool
     ensures { result ≡ lacks_cost (present_asked requests.now) link.now (range_of (present_asked requests.now) names.now link.now) }
 {
     lacks_cost(requests, link, Range::AsItIs)
 }
 
 /// Whether each link has a cost; the first one that has none where one hasn't.
-pub fn check_present(names: &Names, requests: &Requests) -> Result<(), ResolutionStop>
+pub fn check_present(names: &Names, requests: &RequestFile) -> Result<(), ResolutionStop>
     ensures made { OnOk result (cost_faults (present_asked requests.now) names.now 0 names.now.links ≡ []) }
     ensures refused { IfErr result (TellsResolution (first_of (cost_faults (present_asked requests.now) names.now 0 names.now.links))) }
 {
@@ -45,7 +45,7 @@ pub fn check_present(names: &Names, requests: &Requests) -> Result<(), Resolutio
 fn present_prices(
     alloc: Global,
     names: &Names,
-    requests: &Requests,
+    requests: &RequestFile,
 ) -> Result<Vec<Price>, OutOfMemory>
     ensures { IfOk result (λ made. made.items ≡ map (λ link. Fixed (present_cost requests.now link)) names.now.links) }
 {
@@ -60,7 +60,7 @@ fn present_prices(
 pub fn assemble_present(
     alloc: Global,
     names: &Names,
-    requests: &Requests,
+    requests: &RequestFile,
     paths: Vec<Request>,
 ) -> Result<Problem, OutOfMemory>
     requires paths { paths.items ≡ filter_map (λ item. request_of names.now (outline names.now) item.what) requests.now.items }

@@ -12,9 +12,9 @@ use crate::ranges::Range;
 use crate::variables::{high_bounds, is_free, low_bounds, owner};
 use area_graph::Price;
 use cost_base::{Listed, Name, OutOfMemory};
+use design_problem::{Problem, Request, VarName};
 use lsdb_build::Linked;
-use path_rows::{Problem, Request, VarName};
-use request_reader::Requests;
+use request_reader::RequestFile;
 use std::alloc::Global;
 use wanted_paths::Names;
 
@@ -35,7 +35,7 @@ fn variable_of(choices: &Choices, own: &[u32], number: u32, link: &Linked) -> u3
 }
 
 /// The present cost of a link's interface; the default of the requests where it has none, and 0 where they have none.
-pub fn present_cost(requests: &Requests, link: &Linked) -> u16
+pub fn present_cost(requests: &RequestFile, link: &Linked) -> u16
     ensures { result ≡ present_cost requests.now link.now }
 {
     link.cost.unwrap_or(requests.default_cost.unwrap_or(0))

@@ -2,14 +2,14 @@
 ghost use Rattle.std.specs.Prelude.{◌≡◌, ◌&&◌, Option, Some, None, if◌then◌else◌, map, unwrap_or, IfOk};
 ghost use Rattle.std.specs.Option.{option_or};
 ghost use Rattle.lsdb_build.specs.declared.Linked.{Linked as LinkValue};
-ghost use Rattle.wanted_paths.specs.Paths.{is_named};
+ghost use Rattle.wanted_paths.specs.Paths.{is_link_named};
 ghost use Rattle.path_requests.specs.Meaning.{range_by};
 ghost use Rattle.path_requests.specs.Chosen.{said_of_all, said_of_one};
 ghost use Rattle.path_requests.specs.Resolving.{same_range};
 
 use cost_base::OutOfMemory;
 use lsdb_build::Linked;
-use request_reader::{Item, Wish};
+use request_reader::{Directive, Item};
 use std::alloc::Global;
 use wanted_paths::Names;
 
@@ -35,11 +35,11 @@ pub fn same_range(range: Range, other: Range) -> bool
 }
 
 /// The range that a line gives to each link.
-fn said_of_all(wish: &Wish) -> Option<Range>
-    ensures { result ≡ said_of_all wish.now }
+fn said_of_all(directive: &Directive) -> Option<Range>
+    ensures { result ≡ said_of_all directive.now }
 {
-    match wish {
-        Wish::FreeAll(low, high) => Some(Range::Within(*low, *high)),
+    match directive {
+        Directive::FreeAll(low, high) => Some(Range::Within(*low, *high)),
         _ => None,
     }
 }
@@ -53,7 +53,7 @@ fn decide(
     decided: &mut Vec<Option<Range>>,
 )
     ensures { (f : LinkValue → Option Range) → decided.old.items ≡ map f names.now.links →
-        decided.new.items ≡ map (λ link. option_or (f link) (if is_named names.now router.now interface.now link then Some range else None)) names.now.links }
+        decided.new.items ≡ map (λ link. option_or (f link) (if is_link_named names.now router.now interface.now link then Some range else None)) names.now.links }
 {
     match names.find_interface(router, interface) {
         Some(link) => {
@@ -67,12 +67,12 @@ fn decide(
 }
 
 /// Decides the range of the link that a line names, if it is undecided.
-fn decide_named(names: &Names, wish: &Wish, decided: &mut Vec<Option<Range>>)
+fn decide_named(names: &Names, directive: &Directive, decided: &mut Vec<Option<Range>>)
     ensures { (f : LinkValue → Option Range) → decided.old.items ≡ map f names.now.links →
-        decided.new.items ≡ map (λ link. option_or (f link) (said_of_one names.now link wish.now)) names.now.links }
+        decided.new.items ≡ map (λ link. option_or (f link) (said_of_one names.now link directive.now)) names.now.links }
 {
-    match wish {
-        Wish::Free(router, interface, low, high) => {
+    match directive {
+        Directive::Free(router, interface, low, high) => {
             let range = Range::Within(*low, *high);
             decide(
                 names,
@@ -82,7 +82,7 @@ fn decide_named(names: &Names, wish: &Wish, decided: &mut Vec<Option<Range>>)
                 decided,
             );
         }
-        Wish::Fix(router, interface) => {
+        Directive::Fix(router, interface) => {
             let range = Range::AsItIs;
             decide(
                 names,
@@ -102,10 +102,10 @@ fn decide_lines(names: &Names, items: &[Item], decided: &mut Vec<Option<Range>>)
     ensures { map (λ said. unwrap_or said result) decided.new.items ≡ map (λ link. range_by names.now link items.now) names.now.links }
 {
     for place in (0..items.len()).rev() {
-        let wish = &items[place].what;
-        match said_of_all(wish) {
+        let directive = &items[place].what;
+        match said_of_all(directive) {
             Some(range) => return range,
-            None => decide_named(names, wish, decided),
+            None => decide_named(names, directive, decided),
         }
     }
     Range::AsItIs

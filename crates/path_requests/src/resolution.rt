@@ -14,9 +14,9 @@ use crate::choices::{Choices, items};
 use crate::present::{assemble_present, check_present};
 use crate::problems::assemble;
 use crate::variables::{check_costs, check_ends, own_links};
+use design_problem::{Problem, Request};
 use lsdb_build::Lsdb;
-use path_rows::{Problem, Request};
-use request_reader::Requests;
+use request_reader::RequestFile;
 use std::alloc::Global;
 use wanted_paths::{Names, ResolutionFault, ResolutionStop, resolve_lines};
 
@@ -66,7 +66,7 @@ fn resolve_choices(
 fn resolve_whole(
     alloc: Global,
     names: &Names,
-    requests: &Requests,
+    requests: &RequestFile,
     paths: Vec<Request>,
 ) -> Result<Problem, ResolutionStop>
     requires lines { line_faults names.now requests.now.items ≡ [] }
@@ -84,10 +84,14 @@ fn resolve_whole(
 /// # Errors
 ///
 /// `Refused` with the first fault. Line by line: `UnknownRouter` and `UnknownInterface` for a word; `NotALink` for a
-/// `symmetric` line; `BrokenPath`, `LoopPath` and `PathGone` for a path. After all lines: `EndsDiffer` at the first
+/// `symmetric` line; `BrokenPath`, `LoopPath` and `PathExcluded` for a path. After all lines: `EndsDiffer` at the first
 /// `symmetric` line that names a link whose ends differ; `TooManyVariables`; `NoCost` at the first fixed link without
 /// a present cost, where there is no default. `OutOfMemory` where memory runs out.
-pub fn resolve(alloc: Global, requests: &Requests, lsdb: &Lsdb) -> Result<Problem, ResolutionStop>
+pub fn resolve(
+    alloc: Global,
+    requests: &RequestFile,
+    lsdb: &Lsdb,
+) -> Result<Problem, ResolutionStop>
     ensures made { IfOk result (λ p. (resolution_fault requests.now lsdb.now ≡ None) × (p ≡ problem_of requests.now lsdb.now)) }
     ensures refused { IfErr result (TellsResolution (resolution_fault requests.now lsdb.now)) }
 {
@@ -106,7 +110,7 @@ pub fn resolve(alloc: Global, requests: &Requests, lsdb: &Lsdb) -> Result<Proble
 /// where there is no default.
 pub fn resolve_present(
     alloc: Global,
-    requests: &Requests,
+    requests: &RequestFile,
     lsdb: &Lsdb,
 ) -> Result<Problem, ResolutionStop>
     ensures made { IfOk result (λ p. (present_fault requests.now lsdb.now ≡ None) × (p ≡ present_problem_of requests.now lsdb.now)) }

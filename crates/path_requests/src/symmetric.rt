@@ -2,22 +2,22 @@
 ghost use Rattle.std.specs.Prelude.{◌≡◌, ◌||◌, ◌&&◌, Bool, is_some, map, IfOk};
 ghost use Rattle.std.specs.List.{list_any};
 ghost use Rattle.lsdb_build.specs.declared.Linked.{Linked as LinkValue};
-ghost use Rattle.wanted_paths.specs.Paths.{is_named};
+ghost use Rattle.wanted_paths.specs.Paths.{is_link_named};
 ghost use Rattle.path_requests.specs.Meaning.{says_symmetric};
 ghost use Rattle.path_requests.specs.Chosen.{ties_all, ties_one};
 
 use cost_base::OutOfMemory;
 use lsdb_build::Linked;
-use request_reader::{Item, Wish};
+use request_reader::{Directive, Item};
 use std::alloc::Global;
 use wanted_paths::Names;
 
 /// Whether a line makes each link symmetric that has another end.
-fn ties_all(wish: &Wish) -> bool
-    ensures { result ≡ ties_all wish.now }
+fn ties_all(directive: &Directive) -> bool
+    ensures { result ≡ ties_all directive.now }
 {
-    match wish {
-        Wish::SymmetricAll => true,
+    match directive {
+        Directive::SymmetricAll => true,
         _ => false,
     }
 }
@@ -31,14 +31,14 @@ fn any_ties_all(items: &[Item]) -> bool
 
 /// Whether a link is symmetric where `all` tells whether each is that has another end.
 fn is_tied(all: bool, link: &Linked) -> bool
-    ensures { result ≡ (all && is_some link.now.mate) }
+    ensures { result ≡ (all && is_some link.now.link_back) }
 {
-    all && link.mate.is_some()
+    all && link.link_back.is_some()
 }
 
 /// Marks each link that has another end, if all such are symmetric.
 fn tied_by_all(alloc: Global, names: &Names, all: bool) -> Result<Vec<bool>, OutOfMemory>
-    ensures { IfOk result (λ marks. marks.items ≡ map (λ link. all && is_some link.mate) names.now.links) }
+    ensures { IfOk result (λ marks. marks.items ≡ map (λ link. all && is_some link.link_back) names.now.links) }
 {
     let mut marks = Vec::new(alloc);
     for link in names.links() {
@@ -50,7 +50,7 @@ fn tied_by_all(alloc: Global, names: &Names, all: bool) -> Result<Vec<bool>, Out
 /// Marks the link of an interface.
 fn mark(names: &Names, router: &[u8], interface: &[u8], marks: &mut Vec<bool>)
     ensures { (f : LinkValue → Bool) → marks.old.items ≡ map f names.now.links →
-        marks.new.items ≡ map (λ link. f link || is_named names.now router.now interface.now link) names.now.links }
+        marks.new.items ≡ map (λ link. f link || is_link_named names.now router.now interface.now link) names.now.links }
 {
     match names.find_interface(router, interface) {
         Some(link) => {
@@ -64,11 +64,11 @@ fn mark(names: &Names, router: &[u8], interface: &[u8], marks: &mut Vec<bool>)
 }
 
 /// Marks the link that a line names as symmetric.
-fn mark_named(names: &Names, wish: &Wish, marks: &mut Vec<bool>)
+fn mark_named(names: &Names, directive: &Directive, marks: &mut Vec<bool>)
     ensures { (f : LinkValue → Bool) → marks.old.items ≡ map f names.now.links →
-        marks.new.items ≡ map (λ link. f link || ties_one names.now link wish.now) names.now.links }
+        marks.new.items ≡ map (λ link. f link || ties_one names.now link directive.now) names.now.links }
 {
-    if let Wish::Symmetric(router, interface) = wish {
+    if let Directive::Symmetric(router, interface) = directive {
         mark(names, router.as_bytes(), interface.as_bytes(), marks);
     }
 }

@@ -10,7 +10,7 @@ use crate::choices::Choices;
 use crate::ranges::{Range, same_range};
 use cost_base::OutOfMemory;
 use lsdb_build::Linked;
-use request_reader::{Item, Requests, Wish};
+use request_reader::{Directive, Item, RequestFile};
 use std::alloc::Global;
 use wanted_paths::{ResolutionFault, ResolutionStop};
 
@@ -20,8 +20,14 @@ pub fn owner(choices: &Choices, number: u32, link: &Linked) -> u32
     ensures { result ≡ owner_at choices.now.asked choices.now.database number (Some link.now) }
 {
     let tied = choices.is_symmetric(number, link);
-    match link.mate {
-        Some(mate) => { if tied && mate < number { mate } else { number } }
+    match link.link_back {
+        Some(link_back) => {
+            if tied && link_back < number {
+                link_back
+            } else {
+                number
+            }
+        }
         None => number,
     }
 }
@@ -140,7 +146,7 @@ pub fn high_bounds(alloc: Global, choices: &Choices, own: &[u32]) -> Result<Vec<
 }
 
 /// Whether a fixed link has no present cost, and there is no default.
-pub fn lacks_cost(requests: &Requests, link: &Linked, range: Range) -> bool
+pub fn lacks_cost(requests: &RequestFile, link: &Linked, range: Range) -> bool
     ensures { result ≡ lacks_cost requests.now link.now range }
 {
     match range {
@@ -178,13 +184,13 @@ fn ends_differ(choices: &Choices, number: u32, link: &Linked) -> bool
     requires { slice_get choices.now.database.links number ≡ Some link.now }
     ensures { result ≡ ends_differ choices.now.asked choices.now.database link.now }
 {
-    let Some(mate) = link.mate else {
+    let Some(link_back) = link.link_back else {
         return false;
     };
-    match choices.links().get(mate as usize) {
+    match choices.links().get(link_back as usize) {
         Some(_) => {
             let range = choices.range_of(number);
-            !same_range(range, choices.range_of(mate))
+            !same_range(range, choices.range_of(link_back))
         }
         None => false,
     }
@@ -213,13 +219,13 @@ fn any_ends_differ(choices: &Choices) -> bool
 }
 
 /// Whether a line makes a link symmetric whose ends differ. `any` tells whether there is such a link.
-fn ties_different(choices: &Choices, any: bool, wish: &Wish) -> bool
+fn ties_different(choices: &Choices, any: bool, directive: &Directive) -> bool
     requires { any ≡ list_any (ends_differ choices.now.asked choices.now.database) choices.now.database.links }
-    ensures { result ≡ ties_different choices.now.asked choices.now.database wish.now }
+    ensures { result ≡ ties_different choices.now.asked choices.now.database directive.now }
 {
-    match wish {
-        Wish::SymmetricAll => any,
-        Wish::Symmetric(router, interface) => {
+    match directive {
+        Directive::SymmetricAll => any,
+        Directive::Symmetric(router, interface) => {
             let names = choices.names();
             let number = names.link_number(router.as_bytes(), interface.as_bytes());
             ends_differ_at(choices, number)

@@ -2,12 +2,12 @@
 use Rattle.std.proofs.Common.{ℕ, ◌≤◌, refl, sym, ◌∙◌, List, length, min, arith, ◌<◌}
 use Rattle.std.specs.Prelude.{All}
 use Rattle.std.proofs.lemmas.List.{length-map, get_or-map, get_or_default}
-use Rattle.path_rows.specs.Problems.{DesignProblem, IsProblem}
-use Rattle.path_rows.specs.Boxes.{IsBox, capped, IsInBox}
-use Rattle.path_rows.specs.Rows.{box_of, greatest_cost}
-use Rattle.path_rows.specs.Answers.{greatest_bound}
-use Rattle.path_rows.proofs.ProblemTrees.{le_greatest}
-use Rattle.path_rows.specs.declared.form.CostBox.{CostBox}
+use Rattle.design_problem.specs.Problems.{DesignProblem, IsProblem}
+use Rattle.design_problem.specs.Boxes.{IsBox, capped, IsInBox}
+use Rattle.design_problem.specs.Rows.{box_of, greatest_cost}
+use Rattle.design_problem.specs.Answers.{greatest_bound}
+use Rattle.design_problem.proofs.ProblemTrees.{le_greatest}
+use Rattle.design_problem.specs.declared.form.CostBox.{CostBox}
 use Rattle.printed_rows.proofs.CostLaws.{greatest-le}
 use Rattle.printed_rows.proofs.TreeLines.{IsCostBounds}
 

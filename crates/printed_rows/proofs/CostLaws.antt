@@ -6,13 +6,13 @@ use Rattle.std.proofs.lemmas.List.{get_or_default, take_more}
 use Rattle.std.proofs.lemmas.List.Elements.{All-nil, All-cons, All-head, All-tail}
 use Rattle.cost_base.specs.Words.{IsWord}
 use Rattle.cost_base.proofs.ListLemmas.{zip_push}
-use Rattle.path_rows.specs.declared.problem.VarName.{VarName}
-use Rattle.path_rows.specs.declared.answer.CostLine.{CostLine}
-use Rattle.path_rows.specs.Problems.{DesignProblem, IsProblem}
-use Rattle.path_rows.specs.Boxes.{IsInBox}
-use Rattle.path_rows.specs.Rows.{IsFit, box_of, greatest_cost}
-use Rattle.path_rows.specs.Answers.{Names}
-use Rattle.path_rows.proofs.ProblemTrees.{fold_le}
+use Rattle.design_problem.specs.declared.problem.VarName.{VarName}
+use Rattle.design_problem.specs.declared.answer.CostLine.{CostLine}
+use Rattle.design_problem.specs.Problems.{DesignProblem, IsProblem}
+use Rattle.design_problem.specs.Boxes.{IsInBox}
+use Rattle.design_problem.specs.Rows.{IsFit, box_of, greatest_cost}
+use Rattle.design_problem.specs.Answers.{Names}
+use Rattle.design_problem.proofs.ProblemTrees.{fold_le}
 use Rattle.printed_rows.specs.PrintedCosts.{ArePrintedCosts, CostLinesOf, IsNamedCost}
 
 -- the greatest is at most what each is at most

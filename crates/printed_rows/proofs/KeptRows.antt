@@ -6,14 +6,14 @@ use Rattle.std.proofs.lemmas.Bool.{cases_Bool}
 use Rattle.std.proofs.lemmas.List.{length-map, get_or_default}
 use Rattle.std.proofs.lemmas.List.Elements.{All-cons, All-head, All-tail, All-append}
 use Rattle.std.proofs.lemmas.Option.{slice_get-map, unwrap_or-slice_get}
-use Rattle.path_rows.specs.declared.form.Form.{Form}
-use Rattle.path_rows.specs.Forms.{no_form}
-use Rattle.path_rows.specs.Renumbering.{KeepsForms}
-use Rattle.printed_rows.specs.NewNumbers.{KeepsRows, kept_from, kept_rows, new_number}
+use Rattle.design_problem.specs.declared.form.Form.{Form}
+use Rattle.design_problem.specs.Forms.{no_form}
+use Rattle.design_problem.specs.Renumbering.{IsRenumbering}
+use Rattle.printed_rows.specs.NewNumbers.{KeepsRowsByNumber, kept_from, kept_rows, new_number}
 use Rattle.printed_rows.proofs.NumberLaws.{numbers_rise}
 
 -- what holds of all rows holds of those that are kept
-kept_all : {R : Type 0} (P : R → Type 0) (named : ℕ → Bool) (first : ℕ) (rows : List R) → All P rows → All P (kept_from named first rows)
+pub kept_all : {R : Type 0} (P : R → Type 0) (named : ℕ → Bool) (first : ℕ) (rows : List R) → All P rows → All P (kept_from named first rows)
 kept_all P named first [] all = all
 kept_all {R} P named first (row ∷ rows) all =
     let rest = kept_all P named (suc first) rows (All-tail P row rows all) in
@@ -107,7 +107,7 @@ unfolding number_of
 number_of_kept named count row is = ap (λ (b : Bool). cond b (new_number named row) (count + row)) is
 
 pub rows_kept : {R : Type 0} (named : ℕ → Bool) (rows : List R) →
-    KeepsRows (number_of named (length (kept_rows named rows))) rows (kept_rows named rows ++ rows)
+    KeepsRowsByNumber (number_of named (length (kept_rows named rows))) rows (kept_rows named rows ++ rows)
 unfolding number_of
 rows_kept {R} named rows =
     let kept = kept_rows named rows in
@@ -128,8 +128,8 @@ rows_kept {R} named rows =
     itself xs k d k_in = (k, k_in, get_or_default xs k (get_or xs k d) d k_in)
 
 -- the forms of the rows are kept
-pub keeps_forms : {R : Type 0} (form : R → Form) (number : ℕ → ℕ) (old new : List R) → KeepsRows number old new →
-    KeepsForms number (map form old) (map form new)
+pub keeps_forms : {R : Type 0} (form : R → Form) (number : ℕ → ℕ) (old new : List R) → KeepsRowsByNumber number old new →
+    IsRenumbering number (map form old) (map form new)
 keeps_forms form number old new keeps = record {
   known = λ k k_in. let here = keeps.known k (omega (arith, length-map old form)) in omega (arith, length-map new form);
   same = λ k k_in.

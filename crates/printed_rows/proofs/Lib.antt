@@ -9,5 +9,6 @@ pub mod NumberLaws
 pub mod PrintLaws
 pub mod RenumberedTrees
 pub mod RowLines
+pub mod SheetLaws
 pub mod TreeCopies
 pub mod TreeLines

@@ -4,10 +4,10 @@ use Rattle.std.specs.Prelude.{pos, ◌≤ℤ◌, All}
 use Rattle.std.proofs.lemmas.Bool.{cases_lt}
 use Rattle.std.proofs.lemmas.Int.{ints}
 use Rattle.std.proofs.lemmas.List.{get_or_past}
-use Rattle.path_rows.specs.Forms.{Form, Meets, no_form, value}
+use Rattle.design_problem.specs.Forms.{Form, Meets, no_form, value_for_costs}
 
 abbrev pub Met : List ℕ → Form → Type 0
-Met w form = pos 0 ≤ℤ value form w
+Met w form = pos 0 ≤ℤ value_for_costs form w
 
 pub meets_all : (forms : List Form) (w : List ℕ) → All (Met w) forms → Meets forms w
 meets_all forms w met row = elim (cases_lt row (length forms)) [

@@ -4,12 +4,12 @@ use Rattle.std.specs.Prelude.{All, slice_index_or}
 use Rattle.std.proofs.lemmas.Bool.{eq-eqb}
 use Rattle.std.proofs.lemmas.List.Folds.{list_any_at}
 use Rattle.std.proofs.lemmas.List.Elements.{All-head, All-tail, All-map, All-weaker}
-use Rattle.path_rows.specs.declared.tree.Member.{Member}
-use Rattle.path_rows.specs.declared.tree.Member.TheVariants.{Low as ByLow, High as ByHigh, Row as ByRow}
-use Rattle.path_rows.specs.declared.tree.Entry.{Entry}
-use Rattle.path_rows.specs.declared.tree.Entry.TheVariants.{Tighten, Split, Halve, Refute, Undone}
-use Rattle.path_rows.specs.Renumbering.{renumbered, renumbered_member, renumbered_part}
-use Rattle.printed_rows.specs.NamedRows.{EachMember, EachNamed, NamesBelow, NamesKnown, is_named, member_names, names, part_names}
+use Rattle.design_problem.specs.declared.tree.Member.{Member}
+use Rattle.design_problem.specs.declared.tree.Member.TheVariants.{Low as ByLow, High as ByHigh, Row as ByRow}
+use Rattle.design_problem.specs.declared.tree.Entry.{Entry}
+use Rattle.design_problem.specs.declared.tree.Entry.TheVariants.{Tighten, Split, Halve, Refute, Undone}
+use Rattle.design_problem.specs.Renumbering.{renumbered, renumbered_member, renumbered_part}
+use Rattle.printed_rows.specs.NamedRows.{EachMember, EachNamed, NamesBelow, NamesKnown, is_row_named, member_names, names, part_names}
 
 -- what holds of each row that the entry names by the test
 member_each : (P : ℕ → Type 0) (member : Member) → ((row : ℕ) → member_names row member ≡ true → P row) → EachMember P member
@@ -53,7 +53,7 @@ named_both P Q Undone p q = tt
 
 -- the rows that the entries name pass each test that these rows pass
 pub names_known : (test : ℕ → Bool) (n : ℕ) (entries : List Entry) →
-    ((row : ℕ) → is_named entries row ≡ true → test row ≡ true) → All (NamesBelow n) entries →
+    ((row : ℕ) → is_row_named entries row ≡ true → test row ≡ true) → All (NamesBelow n) entries →
     All (NamesKnown test n) entries
 names_known test n entries passes below k d k_in =
     let entry = slice_index_or entries k d in

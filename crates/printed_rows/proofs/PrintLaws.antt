@@ -2,11 +2,11 @@
 use Rattle.std.proofs.Common.{◌≡◌, ℕ, refl, sym, ◌∙◌, ap, subst, List, map, length, Bool, true, false, ◌||◌}
 use Rattle.std.specs.Prelude.{All, Option, None, Some}
 use Rattle.cost_base.specs.Lists.{numbers_from}
-use Rattle.path_rows.specs.declared.answer.CapTree.{CapTree}
-use Rattle.path_rows.specs.declared.tree.Entry.{Entry}
-use Rattle.path_rows.specs.Renumbering.{renumbered}
-use Rattle.printed_rows.specs.NamedRows.{IsKnown, NamesBelow, NamesKnown, TreeNamesBelow, TreeNamesKnown, entries_in, is_named}
-use Rattle.printed_rows.specs.NewNumbers.{AreMarked, AreNumbers, HasNumbers, is_marked, named_in, new_number, number_in, with_new_numbers}
+use Rattle.design_problem.specs.declared.answer.CapTree.{CapTree}
+use Rattle.design_problem.specs.declared.tree.Entry.{Entry}
+use Rattle.design_problem.specs.Renumbering.{renumbered}
+use Rattle.printed_rows.specs.NamedRows.{IsKnown, NamesBelow, NamesKnown, TreeNamesBelow, TreeNamesKnown, entries_in, is_row_named}
+use Rattle.printed_rows.specs.NewNumbers.{AreMarked, AreNewNumbers, HasNumbers, is_marked, named_in, new_number, number_given, with_new_numbers}
 use Rattle.printed_rows.proofs.NamedLaws.{entries_agree, names_known}
 use Rattle.printed_rows.proofs.NumberLaws.{number_at, numbers_counted}
 
@@ -22,14 +22,14 @@ both_marks_are first second none middle marks empty one two =
 
 -- the numbers of a list are the new numbers
 pub numbers_agree : (test named : ℕ → Bool) (n : ℕ) (numbers : List ℕ) (entries : List Entry) → test ≡ named →
-    AreNumbers test n numbers → All (NamesKnown test n) entries →
-    map (renumbered (number_in numbers)) entries ≡ with_new_numbers named entries
+    AreNewNumbers test n numbers → All (NamesKnown test n) entries →
+    map (renumbered (number_given numbers)) entries ≡ with_new_numbers named entries
 numbers_agree test named n numbers entries same are known =
-    entries_agree (number_in numbers) (new_number test) (IsKnown test n) entries (λ row is. number_at (new_number test) n numbers row are is.0) known
+    entries_agree (number_given numbers) (new_number test) (IsKnown test n) entries (λ row is. number_at (new_number test) n numbers row are is.0) known
     ∙ ap (λ (t : ℕ → Bool). with_new_numbers t entries) same
 
 pub tree_agrees : (test named : ℕ → Bool) (n : ℕ) (numbers : List ℕ) (tree new : Option CapTree) → test ≡ named →
-    AreNumbers test n numbers → TreeNamesKnown test n tree → HasNumbers (number_in numbers) tree new →
+    AreNewNumbers test n numbers → TreeNamesKnown test n tree → HasNumbers (number_given numbers) tree new →
     HasNumbers (new_number named) tree new
 tree_agrees test named n numbers None None same are known has = tt
 tree_agrees test named n numbers None (Some u) same are known has = absurd has
@@ -40,10 +40,10 @@ tree_agrees test named n numbers (Some t) (Some u) same are known has = (has.0, 
 pub record AreNumbered (test : ℕ → Bool) (n : ℕ) (marks : List Bool) (numbers : List ℕ) : Type 0 where
   pub same : is_marked marks ≡ test
   pub counted : length numbers ≡ n
-  pub are : AreNumbers (is_marked marks) (length numbers) numbers
+  pub are : AreNewNumbers (is_marked marks) (length numbers) numbers
 
 are_numbered : (test : ℕ → Bool) (n : ℕ) (made marks : List Bool) (all numbers : List ℕ) → is_marked made ≡ test →
-    length made ≡ n → marks ≡ made → AreNumbers (is_marked marks) (length marks) all → numbers ≡ all →
+    length made ≡ n → marks ≡ made → AreNewNumbers (is_marked marks) (length marks) all → numbers ≡ all →
     AreNumbered test n marks numbers
 are_numbered test n made marks all numbers same made_count marks_is are numbers_is =
     let counted : length numbers ≡ length marks = ap length numbers_is ∙ numbers_counted (new_number (is_marked marks)) (length marks) all are in
@@ -55,43 +55,43 @@ are_numbered test n made marks all numbers same made_count marks_is are numbers_
 
 -- where a tree was marked
 pub tree_numbered : (tree : List Entry) (n : ℕ) (none made marks : List Bool) (all numbers : List ℕ) →
-    ((row : ℕ) → is_marked none row ≡ false) → AreMarked (is_named tree) none made → length made ≡ n → marks ≡ made →
-    AreNumbers (is_marked marks) (length marks) all → numbers ≡ all →
-    AreNumbered (is_named tree) n marks numbers
+    ((row : ℕ) → is_marked none row ≡ false) → AreMarked (is_row_named tree) none made → length made ≡ n → marks ≡ made →
+    AreNewNumbers (is_marked marks) (length marks) all → numbers ≡ all →
+    AreNumbered (is_row_named tree) n marks numbers
 tree_numbered tree n none made marks all numbers empty marked =
-    are_numbered (is_named tree) n made marks all numbers (marks_are (is_named tree) none made empty marked)
+    are_numbered (is_row_named tree) n made marks all numbers (marks_are (is_row_named tree) none made empty marked)
 
 -- and where two were, one after the other
 pub both_numbered : (proof unfinished : Option CapTree) (n : ℕ) (none middle made marks : List Bool)
     (all numbers : List ℕ) → ((row : ℕ) → is_marked none row ≡ false) →
-    AreMarked (is_named (entries_in proof)) none middle → AreMarked (is_named (entries_in unfinished)) middle made →
+    AreMarked (is_row_named (entries_in proof)) none middle → AreMarked (is_row_named (entries_in unfinished)) middle made →
     length made ≡ n → marks ≡ made →
-    AreNumbers (is_marked marks) (length marks) all → numbers ≡ all → AreNumbered (named_in proof unfinished) n marks numbers
+    AreNewNumbers (is_marked marks) (length marks) all → numbers ≡ all → AreNumbered (named_in proof unfinished) n marks numbers
 both_numbered proof unfinished n none middle made marks all numbers empty first second =
     are_numbered (named_in proof unfinished) n made marks all numbers
-    (both_marks_are (is_named (entries_in proof)) (is_named (entries_in unfinished)) none middle made empty
+    (both_marks_are (is_row_named (entries_in proof)) (is_row_named (entries_in unfinished)) none middle made empty
     first second)
 
 -- what a tree names is known to the numbers
 pub tree_known : (test : ℕ → Bool) (n : ℕ) (marks : List Bool) (numbers : List ℕ) (tree : List Entry) →
-    AreNumbered test n marks numbers → ((row : ℕ) → is_named tree row ≡ true → test row ≡ true) →
+    AreNumbered test n marks numbers → ((row : ℕ) → is_row_named tree row ≡ true → test row ≡ true) →
     All (NamesBelow n) tree → All (NamesKnown (is_marked marks) (length numbers)) tree
 tree_known test n marks numbers tree are passes below =
     names_known (is_marked marks) (length numbers) tree (λ row is. ap (λ (t : ℕ → Bool). t row) are.same
     ∙ passes row is) (subst (λ (k : ℕ). All (NamesBelow k) tree) (sym are.counted) below)
 
 pub if_any_known : (test : ℕ → Bool) (n : ℕ) (marks : List Bool) (numbers : List ℕ) (tree : Option CapTree) →
-    AreNumbered test n marks numbers → ((row : ℕ) → is_named (entries_in tree) row ≡ true → test row ≡ true) →
+    AreNumbered test n marks numbers → ((row : ℕ) → is_row_named (entries_in tree) row ≡ true → test row ≡ true) →
     TreeNamesBelow n tree → TreeNamesKnown (is_marked marks) (length numbers) tree
 if_any_known test n marks numbers None are passes below = tt
 if_any_known test n marks numbers (Some t) are passes below = tree_known test n marks numbers t.tree are passes below
 
 -- what one of two trees names is named
-pub first_named : (proof unfinished : Option CapTree) (row : ℕ) → is_named (entries_in proof) row ≡ true → named_in proof unfinished row ≡ true
-first_named proof unfinished row is = ap (λ (x : Bool). x || is_named (entries_in unfinished) row) is
+pub first_named : (proof unfinished : Option CapTree) (row : ℕ) → is_row_named (entries_in proof) row ≡ true → named_in proof unfinished row ≡ true
+first_named proof unfinished row is = ap (λ (x : Bool). x || is_row_named (entries_in unfinished) row) is
 
-pub second_named : (proof unfinished : Option CapTree) (row : ℕ) → is_named (entries_in unfinished) row ≡ true → named_in proof unfinished row ≡ true
-second_named proof unfinished row is = ap (λ (x : Bool). is_named (entries_in proof) row || x) is ∙ or_true (is_named (entries_in proof) row)
+pub second_named : (proof unfinished : Option CapTree) (row : ℕ) → is_row_named (entries_in unfinished) row ≡ true → named_in proof unfinished row ≡ true
+second_named proof unfinished row is = ap (λ (x : Bool). is_row_named (entries_in proof) row || x) is ∙ or_true (is_row_named (entries_in proof) row)
   where
     or_true : (b : Bool) → (b || true) ≡ true
     or_true true = refl

@@ -5,23 +5,23 @@ use Rattle.std.proofs.lemmas.List.{length-map, map-append, get_or-map, get_or_ap
 use Rattle.std.proofs.lemmas.List.Elements.{All-nil, All-cons, All-head, All-tail, All-map}
 use Rattle.cost_base.proofs.ListLemmas.{none_mapped}
 use Rattle.area_graph.specs.declared.Point.{Point}
-use Rattle.path_rows.specs.declared.form.Form.{Form}
-use Rattle.path_rows.specs.declared.form.CostBox.{CostBox}
-use Rattle.path_rows.specs.declared.tree.Member.{Member}
-use Rattle.path_rows.specs.declared.tree.Member.TheVariants.{Low as ByLow, High as ByHigh, Row as ByRow}
-use Rattle.path_rows.specs.declared.tree.Entry.{Entry}
-use Rattle.path_rows.specs.declared.tree.Entry.TheVariants.{Tighten, Split, Halve, Refute, Undone}
-use Rattle.path_rows.specs.Forms.{added, form_at, no_form, weighted}
-use Rattle.path_rows.specs.Basis.{IsFormOf}
-use Rattle.path_rows.specs.Boxes.{greatest}
-use Rattle.path_rows.specs.Trees.{Sound, SoundAt, IsClosed, entry_count, is_undone, removed, subboxes}
-use Rattle.path_rows.specs.Earnest.{Place, Earnest, EarnestAt, IsEarnestTree, subplaces}
-use Rattle.path_rows.specs.OpenPlaces.{UndoneLast, undones}
-use Rattle.path_rows.specs.Renumbering.{renumbered, renumbered_member, renumbered_part}
-use Rattle.path_rows.proofs.Renumbering.{renumbered_tree}
+use Rattle.design_problem.specs.declared.form.Form.{Form}
+use Rattle.design_problem.specs.declared.form.CostBox.{CostBox}
+use Rattle.design_problem.specs.declared.tree.Member.{Member}
+use Rattle.design_problem.specs.declared.tree.Member.TheVariants.{Low as ByLow, High as ByHigh, Row as ByRow}
+use Rattle.design_problem.specs.declared.tree.Entry.{Entry}
+use Rattle.design_problem.specs.declared.tree.Entry.TheVariants.{Tighten, Split, Halve, Refute, Undone}
+use Rattle.design_problem.specs.Forms.{added, form_at, no_form, weighted}
+use Rattle.design_problem.specs.Basis.{IsFormOf}
+use Rattle.design_problem.specs.Boxes.{greatest}
+use Rattle.design_problem.specs.Trees.{Sound, SoundAt, IsClosed, entry_count, is_undone, removed, subboxes}
+use Rattle.design_problem.specs.Earnest.{OpenPlace, Earnest, EarnestAt, IsEarnestTree, subplaces}
+use Rattle.design_problem.specs.OpenPlaces.{UndoneLast, undones}
+use Rattle.design_problem.specs.Renumbering.{renumbered, renumbered_member, renumbered_part}
+use Rattle.design_problem.proofs.Renumbering.{renumbered_tree}
 use Rattle.form_search.specs.Finds.{IsShort}
 use Rattle.printed_rows.specs.NamedRows.{MemberBelow, NamesBelow}
-use Rattle.printed_rows.specs.NewNumbers.{KeepsRows}
+use Rattle.printed_rows.specs.NewNumbers.{KeepsRowsByNumber}
 use Rattle.printed_rows.proofs.KeptRows.{keeps_forms}
 
 weighted_first : (forms more : List Form) (parts : List (ℕ × ℕ)) → All (λ part. part.0 < length forms) parts →
@@ -67,7 +67,7 @@ sound_over_first forms more (box ∷ boxes) (e ∷ entries) names sound = (
 
 -- the tree over the rows that are kept, with all rows behind them
 pub tree_over_both : {R : Type 0} (accepts : Point → Type 0) (top : ℕ) (form : R → Form) (box : CostBox) (number : ℕ →
-    ℕ) (old kept more : List R) (tree new_tree : List Entry) → KeepsRows number old (kept ++ more) →
+    ℕ) (old kept more : List R) (tree new_tree : List Entry) → KeepsRowsByNumber number old (kept ++ more) →
     new_tree ≡ map (renumbered number) tree → IsEarnestTree accepts top (map form old) box tree →
     IsEarnestTree accepts top (map form kept ++ map form more) box new_tree
 tree_over_both accepts top form box number old kept more tree new_tree keeps same earnest =
@@ -136,7 +136,7 @@ member_below box forms (ByLow var value) is = tt
 member_below box forms (ByHigh var value) is = tt
 member_below box forms (ByRow row) is = is
 
-names_at : (accepts : Point → Type 0) (top : ℕ) (forms : List Form) (place : Place) (entry : Entry) →
+names_at : (accepts : Point → Type 0) (top : ℕ) (forms : List Form) (place : OpenPlace) (entry : Entry) →
     SoundAt forms place.box entry → EarnestAt accepts top forms place entry → NamesBelow (length forms) entry
 names_at accepts top forms place (Tighten var side value row) sound earnest = sound.row_known
 names_at accepts top forms place (Split var value) sound earnest = tt
@@ -146,7 +146,7 @@ names_at accepts top forms place (Refute parts) sound earnest = sound.rows
 names_at accepts top forms place Undone sound earnest = tt
 
 -- an earnest tree names none but the forms that it stands over
-pub earnest_names : (accepts : Point → Type 0) (top : ℕ) (forms : List Form) (places : List Place)
+pub earnest_names : (accepts : Point → Type 0) (top : ℕ) (forms : List Form) (places : List OpenPlace)
     (entries : List Entry) → Earnest accepts top forms places entries → All (NamesBelow (length forms)) entries
 earnest_names accepts top forms [] [] earnest = All-nil (NamesBelow (length forms))
 earnest_names accepts top forms (p ∷ places) [] earnest = absurd earnest

@@ -6,18 +6,18 @@ use Rattle.cost_base.specs.Decimal.{decimal}
 use Rattle.cost_base.specs.Lists.{Has, NoneTwice}
 use Rattle.area_graph.specs.declared.Vertex.{Vertex}
 use Rattle.area_graph.specs.declared.Vertex.TheVariants.{Router, Subnet}
-use Rattle.area_graph.specs.Area.{Area, edge_at, no_edge, vertex_at, is_router, FitsGraph, FitsEdge, FitsTarget}
+use Rattle.area_graph.specs.Area.{Area, edge_at, no_edge, vertex_at, is_vertex_of_router, FitsGraph, FitsEdge, FitsTarget}
 use Rattle.area_graph.specs.Paths.{Ends, IsPathOf, Joins, visited}
 use Rattle.area_graph.proofs.Bounds.{count_less}
 use Rattle.area_graph.proofs.Deviations.{lacks_not}
-use Rattle.path_rows.specs.declared.form.Row.{Row}
-use Rattle.path_rows.specs.declared.problem.Request.{Request}
-use Rattle.path_rows.specs.Problems.{DesignProblem, IsProblem, ends_of, no_request}
-use Rattle.path_rows.specs.Rows.{IsRow, IsRivalOf, IsRouteOf}
-use Rattle.path_rows.specs.Text.{row_line, spaced}
-use Rattle.path_rows.proofs.PathBounds.{path-known, request_of_route}
+use Rattle.design_problem.specs.declared.form.Row.{Row}
+use Rattle.design_problem.specs.declared.problem.Request.{Request}
+use Rattle.design_problem.specs.Problems.{DesignProblem, IsProblem, request_ends, no_request}
+use Rattle.design_problem.specs.Rows.{IsRow, IsRivalOf, IsRouteOf}
+use Rattle.design_problem.specs.Text.{row_line, spaced}
+use Rattle.design_problem.proofs.PathBounds.{path-known, request_of_route}
 use Rattle.text_lines.proofs.WordLists.{room}
-use Rattle.printed_rows.specs.FittingTexts.{IsLine}
+use Rattle.printed_rows.specs.FittingTexts.{IsTextLine}
 use Rattle.printed_rows.proofs.TreeLines.{spaced-le, thing_digits}
 
 -- one more edge may leave a subnet that the path starts at
@@ -36,9 +36,9 @@ no_extra n (Subnet m) fits = absurd fits
 -- the first edge of a path and the rest of it
 step_edges : (g : Area) (vs : List Vertex) (s e : ℕ) (es : List ℕ) → FitsGraph g → length vs ≡ length g.vertices →
     get_or vs s (Router 0) ≡ vertex_at g s → e < length g.edges → (edge_at g e).from ≡ s →
-    length es ≤ 2 * count_by is_router vs + extra (vertex_at g (edge_at g e).to) →
-    length es ≤ 2 * count_by is_router (set vs s (Subnet 0)) + extra (vertex_at g (edge_at g e).to) →
-    length es + 1 ≤ 2 * count_by is_router vs + extra (vertex_at g s)
+    length es ≤ 2 * count_by is_vertex_of_router vs + extra (vertex_at g (edge_at g e).to) →
+    length es ≤ 2 * count_by is_vertex_of_router (set vs s (Subnet 0)) + extra (vertex_at g (edge_at g e).to) →
+    length es + 1 ≤ 2 * count_by is_vertex_of_router vs + extra (vertex_at g s)
 step_edges g vs s e es graph same mark known from after_subnet after_router = by_source (vertex_at g s) refl
   where
     edge : FitsEdge g (edge_at g e)
@@ -47,9 +47,9 @@ step_edges g vs s e es graph same mark known from after_subnet after_router = by
     within : s < length vs
     within = let start : s < length g.vertices = subst (λ (v : ℕ). v < length g.vertices) from edge.from in omega arith
 
-    by_source : (v : Vertex) → vertex_at g s ≡ v → length es + 1 ≤ 2 * count_by is_router vs + extra (vertex_at g s)
+    by_source : (v : Vertex) → vertex_at g s ≡ v → length es + 1 ≤ 2 * count_by is_vertex_of_router vs + extra (vertex_at g s)
     by_source (Router n) is =
-        let less = count_less vs s (Subnet 0) within (ap is_router (mark ∙ is)) refl in
+        let less = count_less vs s (Subnet 0) within (ap is_vertex_of_router (mark ∙ is)) refl in
         let last = extra_small (vertex_at g (edge_at g e).to) in
         omega arith
     by_source (Subnet n) is =
@@ -64,7 +64,7 @@ step_edges g vs s e es graph same mark known from after_subnet after_router = by
 edges_le : (g : Area) (vs : List Vertex) (s : ℕ) (es : List ℕ) (t : ℕ) → FitsGraph g → length vs ≡ length g.vertices →
     Joins g s es t → NoneTwice (visited g s es) →
     ((v : ℕ) → Has (visited g s es) v → get_or vs v (Router 0) ≡ vertex_at g v) →
-    length es ≤ 2 * count_by is_router vs + extra (vertex_at g s)
+    length es ≤ 2 * count_by is_vertex_of_router vs + extra (vertex_at g s)
 edges_le g vs s [] t graph same joins once marks = omega arith
 edges_le g vs s (e ∷ es) t graph same joins once marks =
     let step = step_edges g vs s e es graph same (marks s (inl refl)) joins.0 joins.1
@@ -89,7 +89,7 @@ edges_room (e ∷ es) small =
     omega arith
 
 words_short : (request : ℕ) (es : List ℕ) → request < 2 ^ 32 → All (λ e. e < 2 ^ 32) es → length es ≤ 2001 →
-    IsLine (spaced (codes "row" ∷ decimal request ∷ map decimal es))
+    IsTextLine (spaced (codes "row" ∷ decimal request ∷ map decimal es))
 words_short request es few small count =
     let words = spaced-le (codes "row" ∷ decimal request ∷ map decimal es) in
     omega (arith, thing_digits request few, edges_room es small)
@@ -101,15 +101,15 @@ route p row is_row = go (slice_get p.paths row.request) is_row
     go None rival = absurd rival
     go (Some r) rival = rival.0
 
-row_short : (p : DesignProblem) (row : Row) → IsProblem p → FitsGraph p.graph → IsRow p row → IsLine (row_line row)
+row_short : (p : DesignProblem) (row : Row) → IsProblem p → FitsGraph p.graph → IsRow p row → IsTextLine (row_line row)
 row_short p row kept graph is_row =
     let found = request_of_route p.graph p.paths row.request no_request row.rival.edges (route p row is_row) in
-    let ends = ends_of (get_or p.paths row.request no_request) in
+    let ends = request_ends (get_or p.paths row.request no_request) in
     let known = path-known p.graph ends row.rival.edges found.path in
     words_short row.request row.rival.edges (omega (arith, found.within, kept.path_count)) (λ k d k_in. let below =
     known k d k_in in omega (arith, graph.edge_count))
     (path_edges-le p.graph ends row.rival.edges graph found.path)
 
 -- the lines of a problem's rows
-pub rows_short : (p : DesignProblem) (rows : List Row) → IsProblem p → FitsGraph p.graph → All (IsRow p) rows → All (λ row. IsLine (row_line row)) rows
+pub rows_short : (p : DesignProblem) (rows : List Row) → IsProblem p → FitsGraph p.graph → All (IsRow p) rows → All (λ row. IsTextLine (row_line row)) rows
 rows_short p rows kept graph true_rows = λ k d k_in. row_short p (slice_index_or rows k d) kept graph (true_rows k d k_in)

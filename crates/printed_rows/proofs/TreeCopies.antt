@@ -4,21 +4,21 @@ use Rattle.std.specs.Prelude.{All, Contains, Option, Some}
 use Rattle.std.proofs.lemmas.List.{length-map}
 use Rattle.std.proofs.lemmas.List.Elements.{All-map, All-weaker}
 use Rattle.area_graph.specs.declared.Point.{Point}
-use Rattle.path_rows.specs.declared.form.Form.{Form}
-use Rattle.path_rows.specs.declared.form.CostBox.{CostBox}
-use Rattle.path_rows.specs.declared.tree.Entry.{Entry}
-use Rattle.path_rows.specs.declared.tree.Entry.TheVariants.{Tighten, Split, Halve, Refute, Undone}
-use Rattle.path_rows.specs.declared.answer.CapTree.{CapTree}
-use Rattle.path_rows.specs.Trees.{IsClosed, WholeTrees, entry_count}
-use Rattle.path_rows.specs.Earnest.{IsEarnestOver, IsEarnestTree}
-use Rattle.path_rows.specs.OpenPlaces.{UndoneLast}
-use Rattle.path_rows.specs.Renumbering.{renumbered}
-use Rattle.path_rows.proofs.OpenPlaces.{earnest_tree_sound}
-use Rattle.path_rows.proofs.TreeShapes.{sound_whole}
+use Rattle.design_problem.specs.declared.form.Form.{Form}
+use Rattle.design_problem.specs.declared.form.CostBox.{CostBox}
+use Rattle.design_problem.specs.declared.tree.Entry.{Entry}
+use Rattle.design_problem.specs.declared.tree.Entry.TheVariants.{Tighten, Split, Halve, Refute, Undone}
+use Rattle.design_problem.specs.declared.answer.CapTree.{CapTree}
+use Rattle.design_problem.specs.Trees.{IsClosed, AreSeveralTrees, entry_count}
+use Rattle.design_problem.specs.Earnest.{IsEarnestOver, IsEarnestTree}
+use Rattle.design_problem.specs.OpenPlaces.{UndoneLast}
+use Rattle.design_problem.specs.Renumbering.{renumbered}
+use Rattle.design_problem.proofs.OpenPlaces.{earnest_tree_sound}
+use Rattle.design_problem.proofs.TreeShapes.{sound_whole}
 use Rattle.form_search.specs.Finds.{IsSearchTree, IsShort}
-use Rattle.printed_rows.specs.NamedRows.{IsKnown, NamesBelow, NamesKnown, is_named}
-use Rattle.printed_rows.specs.NewNumbers.{AreKept, ArePrinted, IsPrinted, kept_rows, named_in, new_number, with_new_numbers}
-use Rattle.printed_rows.specs.PrintedTrees.{IsPrintedOver, IsSpentOver}
+use Rattle.printed_rows.specs.NamedRows.{IsKnown, NamesBelow, NamesKnown, is_row_named}
+use Rattle.printed_rows.specs.NewNumbers.{AreKept, ArePrinted, IsTreePrinted, kept_rows, named_in, new_number, with_new_numbers}
+use Rattle.printed_rows.specs.PrintedTrees.{IsPrintedOver, IsUndecidedOver}
 use Rattle.printed_rows.proofs.KeptRows.{all_kept, number_known, number_of, number_of_kept, rows_kept}
 use Rattle.printed_rows.proofs.NamedLaws.{entries_agree, entry_below, names_known}
 use Rattle.printed_rows.proofs.PrintLaws.{first_named, second_named}
@@ -43,12 +43,12 @@ pub record IsCopy {R : Type 0} (named : ℕ → Bool) (old rows : List R) (tree 
   pub known : All (NamesKnown named (length old)) tree
 
 -- what is printed of one tree
-pub printed_copy : {R : Type 0} (old rows : List R) (tree new_tree : List Entry) → IsPrinted old tree rows new_tree →
-    All (NamesBelow (length old)) tree → IsCopy (is_named tree) old rows tree new_tree
+pub printed_copy : {R : Type 0} (old rows : List R) (tree new_tree : List Entry) → IsTreePrinted old tree rows new_tree →
+    All (NamesBelow (length old)) tree → IsCopy (is_row_named tree) old rows tree new_tree
 printed_copy old rows tree new_tree printed below = record {
   kept = printed.kept;
   copied = printed.tree_is;
-  known = names_known (is_named tree) (length old) tree (λ row is. is) below;
+  known = names_known (is_row_named tree) (length old) tree (λ row is. is) below;
 }
 
 -- and of two
@@ -143,7 +143,7 @@ pub copy_spent : {R : Type 0} (accepts : Point → Type 0) (IsTrueForm : Form �
     (box : CostBox) (named : ℕ → Bool) (old rows : List R) (tree new_tree : List Entry) →
     IsCopy named old rows tree new_tree → All (λ row. IsTrueForm (form row)) old →
     IsSearchTree accepts top (map form old) box tree → Contains tree Undone → entry_count tree ≡ nodes →
-    IsSpentOver accepts IsTrueForm top nodes (map form rows) box new_tree
+    IsUndecidedOver accepts IsTrueForm top nodes (map form rows) box new_tree
 copy_spent accepts IsTrueForm top nodes form box named old rows tree new_tree copy true_rows search undone spent = record {
   printed = copy_printed accepts IsTrueForm top nodes form box named old rows tree new_tree copy true_rows search (omega (arith, spent));
   undone = subst (λ (es : List Entry). Contains es Undone) (sym copy.copied) (undone_kept (new_number named) tree undone);
@@ -162,7 +162,7 @@ copy_short n named old rows tree new_tree copy short =
     subst (λ (es : List Entry). All (IsShort n) es) (sym copy.copied) (short_kept (new_number named) n tree short)
 
 -- whole trees have at most two entries and Undones for each entry, and one more for each tree
-pub whole_length : (n : ℕ) (entries : List Entry) → WholeTrees n entries → length entries ≤ n + 2 * entry_count entries
+pub whole_length : (n : ℕ) (entries : List Entry) → AreSeveralTrees n entries → length entries ≤ n + 2 * entry_count entries
 whole_length zero [] whole = omega arith
 whole_length (suc n) [] whole = absurd whole
 whole_length zero (e ∷ entries) whole = absurd whole

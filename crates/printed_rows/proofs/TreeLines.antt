@@ -11,25 +11,25 @@ use Rattle.cost_base.proofs.ListLemmas.{each_append}
 use Rattle.text_lines.proofs.Digits.{length-decimal-le}
 use Rattle.text_lines.proofs.WordLists.{room}
 use Rattle.area_graph.specs.declared.Point.{Point}
-use Rattle.path_rows.specs.declared.form.Form.{Form}
-use Rattle.path_rows.specs.declared.form.CostBox.{CostBox}
-use Rattle.path_rows.specs.declared.tree.Side.{Side}
-use Rattle.path_rows.specs.declared.tree.Side.TheVariants.{Low as LowSide, High as HighSide}
-use Rattle.path_rows.specs.declared.tree.Member.{Member}
-use Rattle.path_rows.specs.declared.tree.Member.TheVariants.{Low as ByLow, High as ByHigh, Row as ByRow}
-use Rattle.path_rows.specs.declared.tree.WideAt.{WideAt}
-use Rattle.path_rows.specs.declared.tree.Entry.{Entry}
-use Rattle.path_rows.specs.declared.tree.Entry.TheVariants.{Tighten, Split, Halve, Refute, Undone}
-use Rattle.path_rows.specs.declared.answer.CapTree.{CapTree}
-use Rattle.path_rows.specs.Basis.{IsFormOf}
-use Rattle.path_rows.specs.Boxes.{IsBox}
-use Rattle.path_rows.specs.Trees.{SoundAt, subboxes}
-use Rattle.path_rows.specs.Earnest.{Place, Earnest, EarnestAt, IsEarnestTree, subplaces}
-use Rattle.path_rows.specs.Text.{FitsEntry, IsPrinted, entry_line, integer, member_words, members_words, part_words, ratio_word, side_word, spaced, step_word}
-use Rattle.path_rows.proofs.BoxParts.{IsBoxIn, part_whole, subboxes_in}
-use Rattle.path_rows.proofs.OpenPlaces.{boxes_of, same_boxes}
+use Rattle.design_problem.specs.declared.form.Form.{Form}
+use Rattle.design_problem.specs.declared.form.CostBox.{CostBox}
+use Rattle.design_problem.specs.declared.tree.Side.{Side}
+use Rattle.design_problem.specs.declared.tree.Side.TheVariants.{Low as LowSide, High as HighSide}
+use Rattle.design_problem.specs.declared.tree.Member.{Member}
+use Rattle.design_problem.specs.declared.tree.Member.TheVariants.{Low as ByLow, High as ByHigh, Row as ByRow}
+use Rattle.design_problem.specs.declared.tree.WideAt.{WideAt}
+use Rattle.design_problem.specs.declared.tree.Entry.{Entry}
+use Rattle.design_problem.specs.declared.tree.Entry.TheVariants.{Tighten, Split, Halve, Refute, Undone}
+use Rattle.design_problem.specs.declared.answer.CapTree.{CapTree}
+use Rattle.design_problem.specs.Basis.{IsFormOf}
+use Rattle.design_problem.specs.Boxes.{IsBox}
+use Rattle.design_problem.specs.Trees.{SoundAt, subboxes}
+use Rattle.design_problem.specs.Earnest.{OpenPlace, Earnest, EarnestAt, IsEarnestTree, subplaces}
+use Rattle.design_problem.specs.Text.{FitsEntry, IsPrintedRatio, entry_line, integer, member_words, members_words, part_words, ratio_word, side_word, spaced, step_word}
+use Rattle.design_problem.proofs.BoxParts.{IsBoxIn, part_whole, subboxes_in}
+use Rattle.design_problem.proofs.OpenPlaces.{boxes_of, same_boxes}
 use Rattle.form_search.specs.Finds.{IsShort}
-use Rattle.printed_rows.specs.FittingTexts.{IsLine}
+use Rattle.printed_rows.specs.FittingTexts.{IsTextLine}
 use Rattle.printed_rows.specs.NamedRows.{MemberBelow, NamesBelow}
 
 -- a tree that can be printed
@@ -37,7 +37,7 @@ pub record IsPrintable (t : CapTree) : Type 0 where
   pub cap : t.cap ≤ 65535
   pub count : length t.tree < 2 ^ 32
   pub entries : All FitsEntry t.tree
-  pub lines : All (λ entry. IsLine (entry_line entry)) t.tree
+  pub lines : All (λ entry. IsTextLine (entry_line entry)) t.tree
 
 pub spaced-le : (words : List (List ℕ)) → length (spaced words) ≤ room words
 spaced-le [] = omega arith
@@ -61,7 +61,7 @@ integer_digits : (z : ℤ) → nat_abs z < 2 ^ 127 → length (integer z) ≤ 40
 integer_digits (pos n) small = length-decimal-le 40 n (omega arith) (omega arith)
 integer_digits (negsuc n) small = let digits = length-decimal-le 39 (n + 1) (omega arith) (omega arith) in omega arith
 
-ratio_digits : (q : Ratio) → IsPrinted q → length (ratio_word q) ≤ 81
+ratio_digits : (q : Ratio) → IsPrintedRatio q → length (ratio_word q) ≤ 81
 ratio_digits q printed =
     let numerator = integer_digits printed.fraction.numerator printed.numerator in
     let denominator = integer_digits (pos printed.fraction.denominator) printed.denominator in
@@ -110,19 +110,19 @@ step_digits Div = omega arith
 step_digits Lcm = omega arith
 step_digits Scale = omega arith
 
-tighten_line : (var : ℕ) (side : Side) (value row : ℕ) → var < 2 ^ 32 → value ≤ 65535 → row < 2 ^ 64 → IsLine (entry_line (Tighten var side value row))
+tighten_line : (var : ℕ) (side : Side) (value row : ℕ) → var < 2 ^ 32 → value ≤ 65535 → row < 2 ^ 64 → IsTextLine (entry_line (Tighten var side value row))
 tighten_line var side value row few low known =
     let words = spaced-le (codes "tighten" ∷ decimal var ∷ side_word side ∷ decimal value ∷ decimal row ∷ []) in
     omega (arith, thing_digits var few, side_digits side, cost_digits value low, row_digits row known)
 
-split_line : (var value : ℕ) → var < 2 ^ 32 → value ≤ 65535 → IsLine (entry_line (Split var value))
+split_line : (var value : ℕ) → var < 2 ^ 32 → value ≤ 65535 → IsTextLine (entry_line (Split var value))
 split_line var value few low =
     let words = spaced-le (codes "split" ∷ decimal var ∷ decimal value ∷ []) in
     omega (arith, thing_digits var few, cost_digits value low)
 
-halve_line : (var value : ℕ) (wide : WideAt) → var < 2 ^ 32 → value ≤ 65535 → IsPrinted wide.left →
-    IsPrinted wide.right → All FitsMember wide.basis → length wide.basis ≤ 1000 →
-    IsLine (entry_line (Halve var value wide))
+halve_line : (var value : ℕ) (wide : WideAt) → var < 2 ^ 32 → value ≤ 65535 → IsPrintedRatio wide.left →
+    IsPrintedRatio wide.right → All FitsMember wide.basis → length wide.basis ≤ 1000 →
+    IsTextLine (entry_line (Halve var value wide))
 halve_line var value wide few low left right members count =
     let words = spaced-le (codes "halve" ∷ decimal var ∷ decimal value ∷ step_word wide.step ∷ ratio_word wide.left
     ∷ ratio_word wide.right ∷ members_words wide.basis) in
@@ -136,7 +136,7 @@ halve_line var value wide few low left right members count =
       members_room wide.basis members,
     )
 
-refute_line : (parts : List (ℕ × ℕ)) → All FitsPart parts → length parts ≤ 1001 → IsLine (entry_line (Refute parts))
+refute_line : (parts : List (ℕ × ℕ)) → All FitsPart parts → length parts ≤ 1001 → IsTextLine (entry_line (Refute parts))
 refute_line parts fits count =
     let words = spaced-le (codes "refute" ∷ part_words parts) in
     omega (arith, parts_room parts fits)
@@ -169,9 +169,9 @@ member_fits n rows outer box forms (ByHigh var value) bounds kept some is names 
 member_fits n rows outer box forms (ByRow row) bounds kept some is names = omega (arith, names)
 
 -- the line of an entry
-entry_short : (accepts : Point → Type 0) (top n rows : ℕ) (forms : List Form) (outer : CostBox) (place : Place)
+entry_short : (accepts : Point → Type 0) (top n rows : ℕ) (forms : List Form) (outer : CostBox) (place : OpenPlace)
     (entry : Entry) → IsCostBounds n outer → rows < 2 ^ 64 → IsBoxIn n outer place.box → SoundAt forms place.box entry →
-    EarnestAt accepts top forms place entry → IsShort n entry → NamesBelow rows entry → IsLine (entry_line entry)
+    EarnestAt accepts top forms place entry → IsShort n entry → NamesBelow rows entry → IsTextLine (entry_line entry)
 entry_short accepts top n rows forms outer place (Tighten var LowSide value row) bounds some kept sound earnest short names =
     let high = high_cost n outer place.box var bounds kept sound.var_known in
     tighten_line var LowSide value row (var_few n outer place.box var bounds kept sound.var_known) (omega (arith, sound.smaller.1)) (omega (arith, names))
@@ -191,15 +191,15 @@ entry_short accepts top n rows forms outer place (Refute parts) bounds some kept
 entry_short accepts top n rows forms outer place Undone bounds some kept sound earnest short names = omega arith
 
 -- the lines of the entries
-entries_short : (accepts : Point → Type 0) (top n rows : ℕ) (forms : List Form) (outer : CostBox) (places : List Place)
+entries_short : (accepts : Point → Type 0) (top n rows : ℕ) (forms : List Form) (outer : CostBox) (places : List OpenPlace)
     (entries : List Entry) → IsCostBounds n outer → rows < 2 ^ 64 → AllByRecursion (IsBoxIn n outer) (boxes_of places) →
     Earnest accepts top forms places entries → All (IsShort n) entries → All (NamesBelow rows) entries →
-    All (λ entry. IsLine (entry_line entry)) entries
-entries_short accepts top n rows forms outer [] [] bounds some kept earnest short names = All-nil (λ (entry : Entry). IsLine (entry_line entry))
+    All (λ entry. IsTextLine (entry_line entry)) entries
+entries_short accepts top n rows forms outer [] [] bounds some kept earnest short names = All-nil (λ (entry : Entry). IsTextLine (entry_line entry))
 entries_short accepts top n rows forms outer (p ∷ places) [] bounds some kept earnest short names = absurd earnest
 entries_short accepts top n rows forms outer [] (e ∷ entries) bounds some kept earnest short names = absurd earnest
 entries_short accepts top n rows forms outer (p ∷ places) (e ∷ entries) bounds some kept earnest short names =
-    All-cons (λ (entry : Entry). IsLine (entry_line entry)) e entries
+    All-cons (λ (entry : Entry). IsTextLine (entry_line entry)) e entries
     (entry_short accepts top n rows forms outer p e bounds some kept.0 earnest.0 earnest.1
     (All-head (IsShort n) e entries short) (All-head (NamesBelow rows) e entries names))
     (entries_short accepts top n rows forms outer (subplaces p e ++ places) entries bounds some
@@ -211,7 +211,7 @@ entries_short accepts top n rows forms outer (p ∷ places) (e ∷ entries) boun
 -- the lines of an earnest tree with short entries over a box of costs
 pub tree_short : (accepts : Point → Type 0) (top n rows : ℕ) (forms : List Form) (box : CostBox) (tree : List Entry) →
     IsCostBounds n box → rows < 2 ^ 64 → IsEarnestTree accepts top forms box tree → All (IsShort n) tree →
-    All (NamesBelow rows) tree → All (λ entry. IsLine (entry_line entry)) tree
+    All (NamesBelow rows) tree → All (λ entry. IsTextLine (entry_line entry)) tree
 tree_short accepts top n rows forms box tree bounds some earnest short names =
     entries_short accepts top n rows forms box (record { box = box; since = [] } ∷ []) tree bounds some
     (record { is_box = bounds.is_box; is_part = part_whole box }, tt) earnest short names

@@ -3,3 +3,4 @@ pub mod NamedRows
 pub mod NewNumbers
 pub mod PrintedCosts
 pub mod PrintedTrees
+pub mod Sheets

@@ -1,17 +1,19 @@
 -- Rows that the entries of a tree name: a Tighten's, those of a Refute, and those of a Halve's basis.
 use Rattle.std.specs.Prelude.{◌≡◌, ℕ, ◌<◌, ◌==◌, List, [], Bool, true, false, All, Option, None, Some}
 use Rattle.std.specs.List.{list_any}
-use Rattle.path_rows.specs.declared.answer.CapTree.{CapTree}
-use Rattle.path_rows.specs.declared.tree.Member.{Member}
-use Rattle.path_rows.specs.declared.tree.Member.TheVariants.{Low as ByLow, High as ByHigh, Row as ByRow}
-use Rattle.path_rows.specs.declared.tree.Entry.{Entry}
-use Rattle.path_rows.specs.declared.tree.Entry.TheVariants.{Tighten, Split, Halve, Refute, Undone}
+use Rattle.design_problem.specs.declared.answer.CapTree.{CapTree}
+use Rattle.design_problem.specs.declared.tree.Member.{Member}
+use Rattle.design_problem.specs.declared.tree.Member.TheVariants.{Low as ByLow, High as ByHigh, Row as ByRow}
+use Rattle.design_problem.specs.declared.tree.Entry.{Entry}
+use Rattle.design_problem.specs.declared.tree.Entry.TheVariants.{Tighten, Split, Halve, Refute, Undone}
 
+-- whether a member of a basis is this row
 abbrev pub member_names : ℕ → Member → Bool
 member_names row (ByLow var value) = false
 member_names row (ByHigh var value) = false
 member_names row (ByRow other) = other == row
 
+-- whether a multiplier is this row's
 abbrev pub part_names : ℕ → ℕ × ℕ → Bool
 part_names row part = part.0 == row
 
@@ -24,8 +26,8 @@ names row (Refute parts) = list_any (part_names row) parts
 names row Undone = false
 
 -- whether one of the entries names the row
-abbrev pub is_named : List Entry → ℕ → Bool
-is_named entries row = list_any (names row) entries
+abbrev pub is_row_named : List Entry → ℕ → Bool
+is_row_named entries row = list_any (names row) entries
 
 -- the property holds of each row that is named
 abbrev pub EachMember : (ℕ → Type 0) → Member → Type 0
@@ -33,6 +35,7 @@ EachMember P (ByLow var value) = Unit {0}
 EachMember P (ByHigh var value) = Unit {0}
 EachMember P (ByRow row) = P row
 
+-- the property holds of each row that the entry names
 abbrev pub EachNamed : (ℕ → Type 0) → Entry → Type 0
 EachNamed P (Tighten var side value row) = P row
 EachNamed P (Split var value) = Unit {0}
@@ -44,9 +47,11 @@ EachNamed P Undone = Unit {0}
 abbrev pub MemberBelow : ℕ → Member → Type 0
 MemberBelow n member = EachMember (λ row. row < n) member
 
+-- the rows that an entry names stand below a count
 abbrev pub NamesBelow : ℕ → Entry → Type 0
 NamesBelow n entry = EachNamed (λ row. row < n) entry
 
+-- the rows that a tree names, where there is one, stand below a count
 abbrev pub TreeNamesBelow : ℕ → Option CapTree → Type 0
 TreeNamesBelow n None = Unit {0}
 TreeNamesBelow n (Some t) = All (NamesBelow n) t.tree
@@ -55,12 +60,15 @@ TreeNamesBelow n (Some t) = All (NamesBelow n) t.tree
 abbrev pub IsKnown : (ℕ → Bool) → ℕ → ℕ → Type 0
 IsKnown named n row = (row < n) × (named row ≡ true)
 
+-- the row of a multiplier stands below the count and passes the test
 abbrev pub PartKnown : (ℕ → Bool) → ℕ → ℕ × ℕ → Type 0
 PartKnown named n part = IsKnown named n part.0
 
+-- the rows that an entry names stand below the count and pass the test
 abbrev pub NamesKnown : (ℕ → Bool) → ℕ → Entry → Type 0
 NamesKnown named n entry = EachNamed (IsKnown named n) entry
 
+-- the rows that a tree names, where there is one, stand below the count and pass the test
 abbrev pub TreeNamesKnown : (ℕ → Bool) → ℕ → Option CapTree → Type 0
 TreeNamesKnown named n None = Unit {0}
 TreeNamesKnown named n (Some t) = All (NamesKnown named n) t.tree

@@ -1,17 +1,17 @@
 -- The rows that are printed, and trees that name them by their new numbers.
 use Rattle.std.specs.Prelude.{◌≡◌, ℕ, zero, suc, ◌+◌, ◌^◌, ◌<◌, ◌||◌, List, [], ◌∷◌, Bool, false, if◌then◌else◌, map, length, slice_get, slice_index, slice_index_or, All, AllPairs, Contains, Option, None, Some}
 use Rattle.cost_base.specs.Lists.{numbers_from}
-use Rattle.path_rows.specs.declared.answer.CapTree.{CapTree}
-use Rattle.path_rows.specs.declared.tree.Entry.{Entry}
-use Rattle.path_rows.specs.declared.tree.Entry.TheVariants.{Tighten, Split, Halve, Refute, Undone}
-use Rattle.path_rows.specs.Renumbering.{renumbered, renumbered_part}
-use Rattle.printed_rows.specs.NamedRows.{entries_in, is_named}
+use Rattle.design_problem.specs.declared.answer.CapTree.{CapTree}
+use Rattle.design_problem.specs.declared.tree.Entry.{Entry}
+use Rattle.design_problem.specs.declared.tree.Entry.TheVariants.{Tighten, Split, Halve, Refute, Undone}
+use Rattle.design_problem.specs.Renumbering.{renumbered, renumbered_part}
+use Rattle.printed_rows.specs.NamedRows.{entries_in, is_row_named}
 
 -- whether the row has a mark
 abbrev pub is_marked : List Bool → ℕ → Bool
 is_marked marks row = slice_index_or marks row false
 
--- as many marks, and besides the old ones those of the rows that pass the test
+-- the old marks, and besides those of the rows that pass the test
 pub record AreMarked (test : ℕ → Bool) (old new : List Bool) : Type 0 where
   pub counted : length new ≡ length old
   pub marked : (row : ℕ) → is_marked new row ≡ (is_marked old row || test row)
@@ -21,6 +21,7 @@ abbrev pub kept_from : {R : Type 0} → (ℕ → Bool) → ℕ → List R → Li
 kept_from named first [] = []
 kept_from named first (row ∷ rows) = if named first then row ∷ kept_from named (suc first) rows else kept_from named (suc first) rows
 
+-- the rows that pass the test, in their order
 abbrev pub kept_rows : {R : Type 0} → (ℕ → Bool) → List R → List R
 kept_rows named rows = kept_from named 0 rows
 
@@ -30,11 +31,12 @@ new_number named zero = 0
 new_number named (suc row) = new_number named row + (if named row then 1 else 0)
 
 -- the new numbers of so many rows
-abbrev pub AreNumbers : (ℕ → Bool) → ℕ → List ℕ → Type 0
-AreNumbers named n numbers = numbers ≡ map (new_number named) (numbers_from 0 n)
+abbrev pub AreNewNumbers : (ℕ → Bool) → ℕ → List ℕ → Type 0
+AreNewNumbers named n numbers = numbers ≡ map (new_number named) (numbers_from 0 n)
 
-abbrev pub number_in : List ℕ → ℕ → ℕ
-number_in numbers row = slice_index numbers row
+-- the new number of a row, by a list of these numbers
+abbrev pub number_given : List ℕ → ℕ → ℕ
+number_given numbers row = slice_index numbers row
 
 -- parts whose rows rise do so by the new numbers of these rows
 abbrev pub PartsKeepOrder : (ℕ → ℕ) → List (ℕ × ℕ) → Type 0
@@ -59,19 +61,19 @@ HasNumbers number (Some t) (Some u) = (u.cap ≡ t.cap) × (u.tree ≡ map (renu
 HasNumbers number None (Some u) = ⊥
 HasNumbers number (Some t) None = ⊥
 
--- of the rows those are kept that pass the test, in their order
+-- the rows that pass the test, in their order, fewer than 2^64
 pub record AreKept {R : Type 0} (named : ℕ → Bool) (old rows : List R) : Type 0 where
   pub same : rows ≡ kept_rows named old
   pub few : length rows < 2 ^ 64
 
 -- the rows that the tree names, in their order, and the tree with their new numbers
-pub record IsPrinted {R : Type 0} (old : List R) (tree : List Entry) (rows : List R) (new_tree : List Entry) : Type 0 where
-  pub kept : AreKept (is_named tree) old rows
-  pub tree_is : new_tree ≡ with_new_numbers (is_named tree) tree
+pub record IsTreePrinted {R : Type 0} (old : List R) (tree : List Entry) (rows : List R) (new_tree : List Entry) : Type 0 where
+  pub kept : AreKept (is_row_named tree) old rows
+  pub tree_is : new_tree ≡ with_new_numbers (is_row_named tree) tree
 
 -- whether one of the two trees names the row
 abbrev pub named_in : Option CapTree → Option CapTree → ℕ → Bool
-named_in proof unfinished row = is_named (entries_in proof) row || is_named (entries_in unfinished) row
+named_in proof unfinished row = is_row_named (entries_in proof) row || is_row_named (entries_in unfinished) row
 
 -- the rows that one of the trees names, in their order, and the trees at the same caps with their new numbers
 pub record ArePrinted {R : Type 0} (old : List R) (proof unfinished : Option CapTree) (rows : List R) (new_proof new_unfinished : Option CapTree) : Type 0 where
@@ -80,7 +82,7 @@ pub record ArePrinted {R : Type 0} (old : List R) (proof unfinished : Option Cap
   pub unfinished_is : HasNumbers (new_number (named_in proof unfinished)) unfinished new_unfinished
 
 -- each number of an old row is given a number of a new one, which is the same row; and each new row is an old one
-pub record KeepsRows {R : Type 0} (number : ℕ → ℕ) (old new : List R) : Type 0 where
+pub record KeepsRowsByNumber {R : Type 0} (number : ℕ → ℕ) (old new : List R) : Type 0 where
   pub known : (k : ℕ) → k < length old → number k < length new
   pub same : (k : ℕ) → k < length old → slice_get new (number k) ≡ slice_get old k
   pub taken : All (Contains old) new

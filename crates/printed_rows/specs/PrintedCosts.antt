@@ -1,13 +1,13 @@
 -- Costs as they are printed.
-use Rattle.std.specs.Prelude.{◌≡◌, ℕ, ◌<◌, ◌≤◌, List, slice_index, All}
+use Rattle.std.specs.Prelude.{◌≡◌, ℕ, ◌<◌, ◌≤◌, List, map, slice_index, All}
 use Rattle.std.specs.List.{AllZip}
 use Rattle.cost_base.specs.Words.{IsWord}
-use Rattle.path_rows.specs.declared.problem.VarName.{VarName}
-use Rattle.path_rows.specs.declared.answer.CostLine.{CostLine}
-use Rattle.path_rows.specs.declared.answer.Costs.{Costs}
-use Rattle.path_rows.specs.Problems.{DesignProblem}
-use Rattle.path_rows.specs.Rows.{greatest_cost}
-use Rattle.path_rows.specs.Answers.{Names}
+use Rattle.design_problem.specs.declared.problem.VarName.{VarName}
+use Rattle.design_problem.specs.declared.answer.CostLine.{CostLine}
+use Rattle.design_problem.specs.declared.answer.Costs.{Costs}
+use Rattle.design_problem.specs.Problems.{DesignProblem}
+use Rattle.design_problem.specs.Rows.{greatest_cost}
+use Rattle.design_problem.specs.Answers.{Names}
 
 -- a line for each name, with the cost of its variable
 abbrev pub CostLinesOf : List ℕ → List VarName → List CostLine → Type 0
@@ -24,3 +24,11 @@ pub record ArePrintedCosts (p : DesignProblem) (w : List ℕ) (costs : Costs) : 
   pub small : costs.greatest ≤ 65535
   pub names : Names p costs.lines w
   pub named : All IsNamedCost costs.lines
+
+-- a free interface with the cost of its variable
+abbrev pub named_cost : List ℕ → VarName → CostLine
+named_cost w name = record { router = name.router; interface = name.interface; cost = slice_index w name.var }
+
+-- costs as an answer prints them: their greatest, and for each free interface the cost of its variable
+abbrev pub named_costs : DesignProblem → List ℕ → Costs
+named_costs p w = record { greatest = greatest_cost w; lines = map (named_cost w) p.vars }

@@ -3,7 +3,7 @@ ghost use Rattle.std.specs.Prelude.{◌≡◌, ℕ, ◌<◌, ◌≤◌, length, 
 ghost use Rattle.printed_rows.specs.PrintedCosts.{ArePrintedCosts, CostLinesOf};
 
 use cost_base::{Listed, Name, OutOfMemory};
-use path_rows::{CostLine, Costs, Problem, VarName, greatest_of};
+use design_problem::{CostLine, Costs, Problem, VarName, greatest_of};
 use std::alloc::Global;
 
 /// The line that gives an interface the cost of its variable.

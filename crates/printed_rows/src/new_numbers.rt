@@ -1,12 +1,12 @@
 //! New numbers for the rows that are named.
 ghost use Rattle.std.specs.Prelude.{◌≡◌, ℕ, ◌<◌, ◌++◌, ◌∷◌, [], length, map, cond, Bool, All, IfOk, OnOk};
 ghost use Rattle.std.specs.Option.{option_copied};
-ghost use Rattle.path_rows.specs.Renumbering.{renumbered, renumbered_member, renumbered_part, renumbered_wide};
+ghost use Rattle.design_problem.specs.Renumbering.{renumbered, renumbered_member, renumbered_part, renumbered_wide};
 ghost use Rattle.printed_rows.specs.NamedRows.{MemberBelow, NamesBelow, NamesKnown, TreeNamesKnown};
-ghost use Rattle.printed_rows.specs.NewNumbers.{AreNumbers, HasNumbers, KeepsOrder, PartsKeepOrder, kept_rows, is_marked, new_number, number_in};
+ghost use Rattle.printed_rows.specs.NewNumbers.{AreNewNumbers, HasNumbers, KeepsOrder, PartsKeepOrder, kept_rows, is_marked, new_number, number_given};
 
 use cost_base::{Listed, OutOfMemory};
-use path_rows::{CapTree, Entry, Member, Parts, Tree, WideAt};
+use design_problem::{CapTree, Entry, Member, Parts, Tree, WideAt};
 use std::alloc::Global;
 
 /// For each row how many marked ones stand before it.
@@ -15,7 +15,7 @@ use std::alloc::Global;
 ///
 /// `OutOfMemory`.
 pub(crate) fn new_numbers(alloc: Global, marks: &[bool]) -> Result<Vec<u64>, OutOfMemory>
-    ensures { IfOk result (λ numbers. AreNumbers (is_marked marks.now) (length marks.now) numbers.items) }
+    ensures { IfOk result (λ numbers. AreNewNumbers (is_marked marks.now) (length marks.now) numbers.items) }
 {
     let mut numbers = Vec::new(alloc);
     let mut next = 0;
@@ -63,7 +63,7 @@ pub(crate) fn marked_rows<R: Drop>(
 /// The form of a basis with the new number of its row.
 fn new_member(member: &Member, numbers: &[u64]) -> Member
     requires { MemberBelow (length numbers.now) member.now }
-    ensures { result ≡ renumbered_member (number_in numbers.now) member.now }
+    ensures { result ≡ renumbered_member (number_given numbers.now) member.now }
 {
     match member {
         Member::Row(row) => Member::Row(numbers[*row as usize]),
@@ -74,7 +74,7 @@ fn new_member(member: &Member, numbers: &[u64]) -> Member
 /// The basis with the new numbers of its rows.
 fn new_basis(alloc: Global, basis: &[Member], numbers: &[u64]) -> Result<Vec<Member>, OutOfMemory>
     requires { All (MemberBelow (length numbers.now)) basis.now }
-    ensures { IfOk result (λ members. members.items ≡ map (renumbered_member (number_in numbers.now)) basis.now) }
+    ensures { IfOk result (λ members. members.items ≡ map (renumbered_member (number_given numbers.now)) basis.now) }
 {
     let mut members = Vec::new(alloc);
     for member in basis {
@@ -90,7 +90,7 @@ fn new_pairs(
     numbers: &[u64],
 ) -> Result<Vec<(u64, u128)>, OutOfMemory>
     requires { All (λ part. part.0 < length numbers.now) parts.now }
-    ensures { IfOk result (λ pairs. pairs.items ≡ map (renumbered_part (number_in numbers.now)) parts.now) }
+    ensures { IfOk result (λ pairs. pairs.items ≡ map (renumbered_part (number_given numbers.now)) parts.now) }
 {
     let mut pairs = Vec::new(alloc);
     for (row, multiplier) in parts {
@@ -102,8 +102,8 @@ fn new_pairs(
 /// The Refute's rows with their new numbers.
 fn new_parts(alloc: Global, parts: &Parts, numbers: &[u64]) -> Result<Parts, OutOfMemory>
     requires known { All (λ part. part.0 < length numbers.now) parts.now }
-    requires order { PartsKeepOrder (number_in numbers.now) parts.now }
-    ensures { IfOk result (λ new. new ≡ map (renumbered_part (number_in numbers.now)) parts.now) }
+    requires order { PartsKeepOrder (number_given numbers.now) parts.now }
+    ensures { IfOk result (λ new. new ≡ map (renumbered_part (number_given numbers.now)) parts.now) }
 {
     let pairs = new_pairs(alloc, parts.as_slice(), numbers)?;
     Ok(Parts::from_items(pairs))
@@ -116,8 +116,8 @@ fn new_parts(alloc: Global, parts: &Parts, numbers: &[u64]) -> Result<Parts, Out
 /// `OutOfMemory`.
 pub fn renumbered_entry(alloc: Global, entry: &Entry, numbers: &[u64]) -> Result<Entry, OutOfMemory>
     requires known { NamesBelow (length numbers.now) entry.now }
-    requires order { KeepsOrder (number_in numbers.now) entry.now }
-    ensures { IfOk result (λ new. new ≡ renumbered (number_in numbers.now) entry.now) }
+    requires order { KeepsOrder (number_given numbers.now) entry.now }
+    ensures { IfOk result (λ new. new ≡ renumbered (number_given numbers.now) entry.now) }
 {
     match entry {
         Entry::Tighten {
@@ -150,7 +150,7 @@ pub fn renumbered_entry(alloc: Global, entry: &Entry, numbers: &[u64]) -> Result
 /// The step with the new numbers of its basis.
 fn new_wide(alloc: Global, wide: &WideAt, numbers: &[u64]) -> Result<WideAt, OutOfMemory>
     requires { All (MemberBelow (length numbers.now)) wide.now.basis }
-    ensures { IfOk result (λ new. new ≡ renumbered_wide (number_in numbers.now) wide.now) }
+    ensures { IfOk result (λ new. new ≡ renumbered_wide (number_given numbers.now) wide.now) }
 {
     let basis = new_basis(alloc, wide.basis.as_slice(), numbers)?;
     Ok(WideAt {
@@ -163,8 +163,8 @@ fn new_wide(alloc: Global, wide: &WideAt, numbers: &[u64]) -> Result<WideAt, Out
 
 /// The entries with the new numbers of their rows.
 fn new_entries(alloc: Global, entries: &[Entry], numbers: &[u64]) -> Result<Vec<Entry>, OutOfMemory>
-    requires { (named : ℕ → Bool) × AreNumbers named (length numbers.now) numbers.now × All (NamesKnown named (length numbers.now)) entries.now }
-    ensures { IfOk result (λ new. new.items ≡ map (renumbered (number_in numbers.now)) entries.now) }
+    requires { (named : ℕ → Bool) × AreNewNumbers named (length numbers.now) numbers.now × All (NamesKnown named (length numbers.now)) entries.now }
+    ensures { IfOk result (λ new. new.items ≡ map (renumbered (number_given numbers.now)) entries.now) }
 {
     let mut new = Vec::new(alloc);
     for entry in entries {
@@ -179,8 +179,8 @@ fn new_entries(alloc: Global, entries: &[Entry], numbers: &[u64]) -> Result<Vec<
 ///
 /// `OutOfMemory`.
 pub(crate) fn new_tree(alloc: Global, tree: &Tree, numbers: &[u64]) -> Result<Tree, OutOfMemory>
-    requires { (named : ℕ → Bool) × AreNumbers named (length numbers.now) numbers.now × All (NamesKnown named (length numbers.now)) tree.now }
-    ensures { IfOk result (λ new. new ≡ map (renumbered (number_in numbers.now)) tree.now) }
+    requires { (named : ℕ → Bool) × AreNewNumbers named (length numbers.now) numbers.now × All (NamesKnown named (length numbers.now)) tree.now }
+    ensures { IfOk result (λ new. new ≡ map (renumbered (number_given numbers.now)) tree.now) }
 {
     let entries = new_entries(alloc, tree.as_slice(), numbers)?;
     Ok(Tree::from_items(entries))
@@ -196,8 +196,8 @@ pub(crate) fn new_if_any(
     tree: Option<&CapTree>,
     numbers: &[u64],
 ) -> Result<Option<CapTree>, OutOfMemory>
-    requires { (named : ℕ → Bool) × AreNumbers named (length numbers.now) numbers.now × TreeNamesKnown named (length numbers.now) (option_copied tree) }
-    ensures { IfOk result (HasNumbers (number_in numbers.now) (option_copied tree.entry)) }
+    requires { (named : ℕ → Bool) × AreNewNumbers named (length numbers.now) numbers.now × TreeNamesKnown named (length numbers.now) (option_copied tree) }
+    ensures { IfOk result (HasNumbers (number_given numbers.now) (option_copied tree.entry)) }
 {
     match tree {
         Some(tree) => Ok(Some(CapTree {

@@ -2,12 +2,12 @@
 ghost use Rattle.std.specs.Prelude.{◌≡◌, ℕ, length, All, IfOk};
 ghost use Rattle.std.specs.Option.{option_copied};
 ghost use Rattle.printed_rows.specs.NamedRows.{NamesBelow, TreeNamesBelow};
-ghost use Rattle.printed_rows.specs.NewNumbers.{IsPrinted, ArePrinted};
+ghost use Rattle.printed_rows.specs.NewNumbers.{IsTreePrinted, ArePrinted};
 
 use crate::new_numbers::{marked_rows, new_if_any, new_numbers, new_tree};
 use crate::row_marks::{mark_if_any, mark_tree, no_marks};
 use cost_base::{Listed, OutOfMemory};
-use path_rows::{CapTree, Tree};
+use design_problem::{CapTree, Tree};
 use std::alloc::Global;
 
 /// Rows, and a tree over them.
@@ -42,7 +42,7 @@ pub fn printed<R: Drop>(
     tree: &Tree,
 ) -> Result<PrintedTree<R>, OutOfMemory>
     requires { All (NamesBelow (length rows.items)) tree.now }
-    ensures { IfOk result (λ sheet. IsPrinted rows.items tree.now sheet.rows.items sheet.tree) }
+    ensures { IfOk result (λ sheet. IsTreePrinted rows.items tree.now sheet.rows.items sheet.tree) }
 {
     let mut marks = no_marks(alloc, rows.len())?;
     mark_tree(&mut marks, tree);

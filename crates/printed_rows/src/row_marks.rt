@@ -2,11 +2,11 @@
 ghost use Rattle.std.specs.Prelude.{◌≡◌, ℕ, ◌<◌, ◌==◌, false, length, slice_index_or, All, IfOk};
 ghost use Rattle.std.specs.List.{list_any};
 ghost use Rattle.std.specs.Option.{option_copied};
-ghost use Rattle.printed_rows.specs.NamedRows.{MemberBelow, NamesBelow, TreeNamesBelow, entries_in, is_named, member_names, names, part_names};
+ghost use Rattle.printed_rows.specs.NamedRows.{MemberBelow, NamesBelow, TreeNamesBelow, entries_in, is_row_named, member_names, names, part_names};
 ghost use Rattle.printed_rows.specs.NewNumbers.{AreMarked};
 
 use cost_base::OutOfMemory;
-use path_rows::{CapTree, Entry, Member, Tree};
+use design_problem::{CapTree, Entry, Member, Tree};
 use std::alloc::Global;
 
 /// No mark for each of so many rows.
@@ -76,7 +76,7 @@ fn mark_entry(marks: &mut Vec<bool>, entry: &Entry)
 /// Marks the rows that entries name.
 fn mark_entries(marks: &mut Vec<bool>, entries: &[Entry])
     requires { All (NamesBelow (length marks.old.items)) entries.now }
-    ensures { AreMarked (is_named entries.now) marks.old.items marks.new.items }
+    ensures { AreMarked (is_row_named entries.now) marks.old.items marks.new.items }
 {
     for entry in entries {
         mark_entry(marks, entry);
@@ -86,7 +86,7 @@ fn mark_entries(marks: &mut Vec<bool>, entries: &[Entry])
 /// Marks the rows that a tree names.
 pub(crate) fn mark_tree(marks: &mut Vec<bool>, tree: &Tree)
     requires { All (NamesBelow (length marks.old.items)) tree.now }
-    ensures { AreMarked (is_named tree.now) marks.old.items marks.new.items }
+    ensures { AreMarked (is_row_named tree.now) marks.old.items marks.new.items }
 {
     mark_entries(marks, tree.as_slice());
 }
@@ -94,7 +94,7 @@ pub(crate) fn mark_tree(marks: &mut Vec<bool>, tree: &Tree)
 /// Marks the rows that a tree names, if there is one.
 pub(crate) fn mark_if_any(marks: &mut Vec<bool>, tree: Option<&CapTree>)
     requires { TreeNamesBelow (length marks.old.items) (option_copied tree) }
-    ensures { AreMarked (is_named (entries_in (option_copied tree.entry))) marks.old.items marks.new.items }
+    ensures { AreMarked (is_row_named (entries_in (option_copied tree.entry))) marks.old.items marks.new.items }
 {
     if let Some(tree) = tree {
         mark_tree(marks, &tree.tree);

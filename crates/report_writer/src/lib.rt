@@ -5,6 +5,5 @@ mod lines;
 mod report;
 mod writer;
 
-pub use lines::{accepted_line_of, rejected_line_of};
 pub use report::{Report, Text, report_of};
 pub use writer::write_report;

@@ -1,10 +1,8 @@
 //! The lines that a run writes beside an answer.
 ghost use Rattle.std.specs.Prelude.{◌≡◌, IfOk};
-ghost use Rattle.report_writer.specs.Texts.{refused_line, read_fault_line, accepted_line, rejected_line};
+ghost use Rattle.report_writer.specs.Texts.{refused_line, read_fault_line};
 
-use answer_commands::Rejection;
 use cost_base::OutOfMemory;
-use evidence_checker::Accepted;
 use std::alloc::Global;
 use text_lines::{push_bytes, push_number};
 
@@ -35,57 +33,6 @@ pub(crate) fn read_fault_line_of(alloc: Global, file: &str) -> Result<Vec<u8>, O
     let mut text = Vec::new(alloc);
     push_bytes(&mut text, b"read fault ")?;
     push_bytes(&mut text, file.as_bytes())?;
-    push_bytes(&mut text, b"\n")?;
-    Ok(text)
-}
-
-/// The line `accepted optimal K`.
-fn optimal_line_of(alloc: Global, greatest: u16) -> Result<Vec<u8>, OutOfMemory>
-    ensures { IfOk result (λ text. text.items ≡ accepted_line (Accepted.Optimal greatest)) }
-{
-    let mut text = Vec::new(alloc);
-    push_bytes(&mut text, b"accepted optimal ")?;
-    push_number(&mut text, u128::from(greatest))?;
-    push_bytes(&mut text, b"\n")?;
-    Ok(text)
-}
-
-/// The line `accepted impossible`.
-fn impossible_line_of(alloc: Global) -> Result<Vec<u8>, OutOfMemory>
-    ensures { IfOk result (λ text. text.items ≡ accepted_line Accepted.Impossible) }
-{
-    let mut text = Vec::new(alloc);
-    push_bytes(&mut text, b"accepted impossible\n")?;
-    Ok(text)
-}
-
-/// The line that tells what was accepted.
-///
-/// # Errors
-///
-/// `OutOfMemory`.
-pub fn accepted_line_of(alloc: Global, accepted: Accepted) -> Result<Vec<u8>, OutOfMemory>
-    ensures { IfOk result (λ text. text.items ≡ accepted_line accepted) }
-{
-    match accepted {
-        Accepted::Optimal(greatest) => optimal_line_of(alloc, greatest),
-        Accepted::Impossible => impossible_line_of(alloc),
-    }
-}
-
-/// The line `rejected NUMBER PLACE`.
-///
-/// # Errors
-///
-/// `OutOfMemory`.
-pub fn rejected_line_of(alloc: Global, rejection: Rejection) -> Result<Vec<u8>, OutOfMemory>
-    ensures { IfOk result (λ text. text.items ≡ rejected_line rejection) }
-{
-    let mut text = Vec::new(alloc);
-    push_bytes(&mut text, b"rejected ")?;
-    push_number(&mut text, u128::from(rejection.number))?;
-    push_bytes(&mut text, b" ")?;
-    push_number(&mut text, u128::from(rejection.place))?;
     push_bytes(&mut text, b"\n")?;
     Ok(text)
 }

@@ -1,5 +1,6 @@
 //! What a command reports: a status, and the text that goes with it.
 ghost use Rattle.std.specs.Prelude.{◌≡◌};
+ghost use Rattle.report_writer.specs.Cutting.{piece_size, size_in};
 ghost use Rattle.report_writer.specs.Reports.{Reports, ReportsAny, ReportsStop, bytes_in};
 
 use crate::lines::{read_fault_line_of, refused_line_of};
@@ -40,7 +41,9 @@ impl Text {
     }
 
     /// What pieces the text is put in.
-    pub(crate) fn pieces(&self) -> Pieces {
+    pub(crate) fn pieces(&self) -> Pieces
+        ensures { piece_size result ≡ size_in self.now }
+    {
         match self {
             Text::Made(_) => Pieces::Lines,
             Text::Fixed(_) => Pieces::Lines,

@@ -2,3 +2,4 @@ mod ReadingExamples
 pub mod ReadingLaws
 pub mod ReadingRoutes
 pub mod ReadingRules
+pub mod AskedRules

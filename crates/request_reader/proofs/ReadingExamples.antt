@@ -4,7 +4,7 @@ use Rattle.std.specs.Prelude.{Option, Some, None, codes}
 use Rattle.text_lines.specs.Lines.{with_ends}
 use Rattle.text_lines.specs.LineFaults.{FaultyLine}
 use Rattle.request_reader.specs.declared.Part.TheVariants.{Router, Interface}
-use Rattle.request_reader.specs.declared.Wish.TheVariants.{FreeAll, Free, Fix, Path, SymmetricAll, Symmetric}
+use Rattle.request_reader.specs.declared.Directive.TheVariants.{FreeAll, Free, Fix, Path, SymmetricAll, Symmetric}
 use Rattle.request_reader.specs.declared.stop.RequestFault.{RequestFault}
 use Rattle.request_reader.specs.declared.stop.RequestFault.TheVariants.{BadRequestLine, BadBounds}
 use Rattle.request_reader.specs.declared.reading.statement.Statement.TheVariants.{Passed, Ask, Refused}

@@ -23,16 +23,16 @@ use Rattle.request_reader.specs.declared.reading.statement.Statement.TheVariants
 use Rattle.request_reader.specs.declared.stop.RequestStop.{RequestStop}
 use Rattle.request_reader.specs.declared.stop.RequestStop.TheVariants.{Refused as StopRefused, OutOfMemory}
 use Rattle.request_reader.specs.Asked.{Asked}
-use Rattle.request_reader.specs.Reading.{Told, said_by, speaks, area_in, cost_in, item_in, items_from, told_by, fault_said, fault_of, fault_behind, end_faults, request_fault, asked_of, asked_by, TellsReading}
+use Rattle.request_reader.specs.Reading.{Told, said_by, speaks, area_in, default_cost_in, item_in, items_from, told_by, fault_said, fault_of, fault_behind, end_faults, request_fault, asked_of, asked_by, TellsReading}
 use Rattle.request_reader.specs.ReadingSteps.{told_with}
 use Rattle.text_lines.proofs.FaultLaws.{IsReadTo, nothing_read, one_more_read, first_told, all_read}
 
 -- what some lines say together, and one line more
-abbrev told_more : Told → ℕ → Statement → Told
+abbrev pub told_more : Told → ℕ → Statement → Told
 told_more told n said = record {
   spoken = told.spoken || speaks said;
   area = option_or told.area (area_in said);
-  default_cost = option_or told.default_cost (cost_in said);
+  default_cost = option_or told.default_cost (default_cost_in said);
   items = told.items ++ item_in n said;
 }
 
@@ -51,19 +51,19 @@ items_push n (first ∷ more) line =
     ∙ ap (λ (k : ℕ). items_from (n + 1) more ++ item_in k (said_by line)) place)
     ∙ sym (append_assoc (item_in n (said_by first)) (items_from (n + 1) more) (item_in (n + length (first ∷ more)) (said_by line)))
 
-told_push : (file : List (List ℕ)) (line : List ℕ) → told_by (file ++ line ∷ []) ≡ told_more (told_by file) (length file + 1) (said_by line)
+pub told_push : (file : List (List ℕ)) (line : List ℕ) → told_by (file ++ line ∷ []) ≡ told_more (told_by file) (length file + 1) (said_by line)
 told_push file line =
     let spoken : list_any (λ l. speaks (said_by l)) (file ++ line ∷ []) ≡ (list_any (λ l. speaks (said_by l)) file || speaks (said_by line)) =
     list_any-append (λ l. speaks (said_by l)) file (line ∷ [])
     ∙ ap (λ (b : Bool). list_any (λ l. speaks (said_by l)) file || b) (or-false (speaks (said_by line))) in
     let area = first_push area_in file line in
-    let cost = first_push cost_in file line in
+    let cost = first_push default_cost_in file line in
     let place : 1 + length file ≡ length file + 1 = omega arith in
     let items = items_push 1 file line ∙ ap (λ (k : ℕ). items_from 1 file ++ item_in k (said_by line)) place in
     cc (spoken, area, cost, items)
 
 -- a line without a fault adds what it says
-told_is : (spoken : Bool) (area cost : Option ℕ) (items : List Item) (n : ℕ) (said : Statement) →
+pub told_is : (spoken : Bool) (area cost : Option ℕ) (items : List Item) (n : ℕ) (said : Statement) →
     fault_said (record { spoken = spoken; area = area; default_cost = cost; items = items }) said ≡ None →
     told_with (record { spoken = spoken; area = area; default_cost = cost; items = items }) n said
     ≡ told_more (record { spoken = spoken; area = area; default_cost = cost; items = items }) n said
@@ -77,8 +77,8 @@ told_is true None cost items n (Area a) none = cc (option_or-none cost, append-n
 told_is false area cost items n (DefaultCost d) none = absurd (cc)
 told_is true area (Some b) items n (DefaultCost d) none = absurd (cc)
 told_is true area None items n (DefaultCost d) none = cc (option_or-none area, append-nil items)
-told_is false area cost items n (Ask wish) none = absurd (cc)
-told_is true area cost items n (Ask wish) none = cc (option_or-none area, option_or-none cost)
+told_is false area cost items n (Ask directive) none = absurd (cc)
+told_is true area cost items n (Ask directive) none = cc (option_or-none area, option_or-none cost)
 told_is true area cost items n (Refused fault) none = absurd (cc)
 told_is false area cost items n (Refused fault) none = absurd (cc)
 

@@ -4,7 +4,7 @@ use Rattle.std.proofs.Common.{◌≡◌, ◌≢◌, ℕ, refl, sym, ◌∙◌, a
 use Rattle.std.proofs.lemmas.Bool.{eqb-true}
 use Rattle.text_lines.specs.Lines.{grow}
 use Rattle.text_lines.specs.Numbers.{split}
-use Rattle.request_reader.specs.Wishes.{Route}
+use Rattle.request_reader.specs.WrittenRoutes.{Route}
 use Rattle.request_reader.specs.Routes.{cut, with_front, hop_of, hop_of_cut, if_both, route_of, route_of_cut, with_hop}
 
 -- a byte that doesn't stand in a text cuts nothing

@@ -5,16 +5,16 @@ use Rattle.std.proofs.lemmas.Bool.{leb-true, eqb-false}
 use Rattle.request_reader.specs.declared.reading.statement.Statement.{Statement}
 use Rattle.request_reader.specs.declared.stop.RequestFault.{RequestFault}
 use Rattle.request_reader.specs.declared.reading.statement.Bounds.{Bounds}
-use Rattle.request_reader.specs.declared.Wish.TheVariants.{Fix, Symmetric, SymmetricAll}
+use Rattle.request_reader.specs.declared.Directive.TheVariants.{Fix, Symmetric, SymmetricAll}
 use Rattle.request_reader.specs.declared.stop.RequestFault.TheVariants.{BadBounds}
 use Rattle.request_reader.specs.declared.reading.statement.Statement.TheVariants.{Passed, Header, DefaultCost, Ask}
-use Rattle.request_reader.specs.Wishes.{Route}
+use Rattle.request_reader.specs.WrittenRoutes.{Route}
 use Rattle.request_reader.specs.declared.Part.{Part}
 use Rattle.cost_base.specs.Lists.{same_bytes}
 use Rattle.text_lines.specs.Lines.{starts_comment}
 use Rattle.text_lines.specs.Numbers.{number, area}
 use Rattle.request_reader.specs.Routes.{route_of}
-use Rattle.request_reader.specs.ReadingLines.{off, header_line, area_said, area_line, cost_said, cost_line, bound, bounds_of, bounds_said, free_all, free_one, is_router, free_line, fix_line, symmetric_line, to_without, behind_without, taken_away, path_said, path_line, line_of, statement_of}
+use Rattle.request_reader.specs.ReadingLines.{off, header_line, area_read, area_line, default_cost_read, default_cost_line, bound, bounds_of, bounds_said, free_all, free_one, is_router_word, free_line, fix_line, symmetric_line, to_without, behind_without, taken_away, path_said, path_line, line_of, statement_of}
 use Rattle.request_reader.specs.ReadingSteps.{KeepsRules}
 
 -- bounds from 1 on that don't cross
@@ -54,27 +54,27 @@ free_keeps (all ∷ lo ∷ hi ∷ []) =
     either (same_bytes all (codes "all")) (free_all (bounds_said lo hi)) off
     (free_all_keeps (bounds_said lo hi) (bounds_keep (bound lo) (bound hi))) tt
 free_keeps (router ∷ interface ∷ lo ∷ hi ∷ []) =
-    either (is_router router) (free_one router interface (bounds_said lo hi)) off
+    either (is_router_word router) (free_one router interface (bounds_said lo hi)) off
     (free_one_keeps router interface (bounds_said lo hi) (bounds_keep (bound lo) (bound hi))) tt
 free_keeps (a ∷ b ∷ c ∷ d ∷ e ∷ more) = tt
 
 fix_keeps : (ws : List (List ℕ)) → KeepsRules (fix_line ws)
 fix_keeps [] = tt
 fix_keeps (a ∷ []) = tt
-fix_keeps (router ∷ interface ∷ []) = either (is_router router) (Ask (Fix router interface)) off tt tt
+fix_keeps (router ∷ interface ∷ []) = either (is_router_word router) (Ask (Fix router interface)) off tt tt
 fix_keeps (a ∷ b ∷ c ∷ more) = tt
 
 symmetric_keeps : (ws : List (List ℕ)) → KeepsRules (symmetric_line ws)
 symmetric_keeps [] = tt
 symmetric_keeps (all ∷ []) = either (same_bytes all (codes "all")) (Ask SymmetricAll) off tt tt
-symmetric_keeps (router ∷ interface ∷ []) = either (is_router router) (Ask (Symmetric router interface)) off tt tt
+symmetric_keeps (router ∷ interface ∷ []) = either (is_router_word router) (Ask (Symmetric router interface)) off tt tt
 symmetric_keeps (a ∷ b ∷ c ∷ more) = tt
 
-cost_keeps : (ws : List (List ℕ)) → KeepsRules (cost_line ws)
+cost_keeps : (ws : List (List ℕ)) → KeepsRules (default_cost_line ws)
 cost_keeps [] = tt
 cost_keeps (word ∷ []) = said_keeps (number word 65535)
   where
-    said_keeps : (n : Option ℕ) → KeepsRules (cost_said n)
+    said_keeps : (n : Option ℕ) → KeepsRules (default_cost_read n)
     said_keeps None = tt
     said_keeps (Some n) = by_test (n == 0) (λ some. omega (arith, eqb-false n 0 some))
       where
@@ -87,7 +87,7 @@ area_keeps : (ws : List (List ℕ)) → KeepsRules (area_line ws)
 area_keeps [] = tt
 area_keeps (word ∷ []) = said_keeps (area word)
   where
-    said_keeps : (n : Option ℕ) → KeepsRules (area_said n)
+    said_keeps : (n : Option ℕ) → KeepsRules (area_read n)
     said_keeps None = tt
     said_keeps (Some n) = tt
 area_keeps (a ∷ b ∷ more) = tt
@@ -112,7 +112,7 @@ line_keeps word ws =
     one_of (same_bytes word (codes "path")) (same_bytes word (codes "free")) (same_bytes word (codes "fix"))
     (same_bytes word (codes "symmetric")) (same_bytes word (codes "area"))
     (same_bytes word (codes "default-cost")) (same_bytes word (codes "ospfcost"))
-    (path_line ws) (free_line ws) (fix_line ws) (symmetric_line ws) (area_line ws) (cost_line ws) (header_line ws)
+    (path_line ws) (free_line ws) (fix_line ws) (symmetric_line ws) (area_line ws) (default_cost_line ws) (header_line ws)
     (path_keeps ws) (free_keeps ws) (fix_keeps ws) (symmetric_keeps ws) (area_keeps ws) (cost_keeps ws) (header_keeps ws)
   where
     one_of :

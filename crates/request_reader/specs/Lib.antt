@@ -1,4 +1,4 @@
-pub mod Wishes
+pub mod WrittenRoutes
 pub mod Asked
 pub mod Routes
 pub mod FaultNumbers

@@ -11,7 +11,7 @@ use Rattle.request_reader.specs.declared.reading.statement.Statement.{Statement}
 use Rattle.request_reader.specs.declared.reading.statement.Statement.TheVariants.{Passed, Header, Area, DefaultCost, Ask, Refused}
 use Rattle.request_reader.specs.declared.stop.RequestStop.{RequestStop}
 use Rattle.request_reader.specs.declared.stop.RequestStop.TheVariants.{Refused as StopRefused, OutOfMemory}
-use Rattle.request_reader.specs.Asked.{Asked, is_path, is_path_wish}
+use Rattle.request_reader.specs.Asked.{Asked, is_path, is_path_directive}
 use Rattle.request_reader.specs.ReadingLines.{statement_of}
 
 -- what a line says
@@ -23,16 +23,19 @@ abbrev pub speaks : Statement → Bool
 speaks Passed = false
 speaks _ = true
 
+-- the area of an `area` line
 abbrev pub area_in : Statement → Option ℕ
 area_in (Area a) = Some a
 area_in _ = None
 
-abbrev pub cost_in : Statement → Option ℕ
-cost_in (DefaultCost n) = Some n
-cost_in _ = None
+-- the cost of a `default-cost` line
+abbrev pub default_cost_in : Statement → Option ℕ
+default_cost_in (DefaultCost n) = Some n
+default_cost_in _ = None
 
+-- what the line of number n asks for, if it is neither the header nor an area or default cost
 abbrev pub item_in : ℕ → Statement → List Item
-item_in n (Ask wish) = record { line = n; what = wish } ∷ []
+item_in n (Ask directive) = record { line = n; what = directive } ∷ []
 item_in n _ = []
 
 -- what the lines from number n on ask for
@@ -52,7 +55,7 @@ abbrev pub told_by : List (List ℕ) → Told
 told_by file = record {
   spoken = list_any (λ line. speaks (said_by line)) file;
   area = first_of (filter_map (λ line. area_in (said_by line)) file);
-  default_cost = first_of (filter_map (λ line. cost_in (said_by line)) file);
+  default_cost = first_of (filter_map (λ line. default_cost_in (said_by line)) file);
   items = items_from 1 file;
 }
 
@@ -60,7 +63,7 @@ told_by file = record {
 abbrev pub fault_behind_header : Told → Statement → Option RequestFault
 fault_behind_header told (Area a) = if is_some told.area then Some BadRequestLine else None
 fault_behind_header told (DefaultCost n) = if is_some told.default_cost then Some BadRequestLine else None
-fault_behind_header told (Ask wish) = if is_path_wish wish && nat_le 10000 (count_by is_path told.items) then Some TooManyPaths else None
+fault_behind_header told (Ask directive) = if is_path_directive directive && nat_le 10000 (count_by is_path told.items) then Some TooManyPaths else None
 fault_behind_header told (Refused fault) = Some fault
 fault_behind_header told Header = Some BadRequestLine
 fault_behind_header told Passed = None
@@ -91,6 +94,7 @@ request_faults file = line_faults fault_behind [] file ++ end_faults file
 abbrev pub request_fault : List ℕ → Option (FaultyLine RequestFault)
 request_fault bytes = first_of (request_faults (lines bytes))
 
+-- what lines ask for that say these things; without an area line the area is 0
 abbrev pub asked_of : Told → Asked
 asked_of told = record { area = unwrap_or told.area 0; default_cost = told.default_cost; items = told.items }
 

@@ -6,13 +6,13 @@ use Rattle.text_lines.specs.Numbers.{number, number_within, area}
 use Rattle.text_lines.specs.WordLists.{all_said}
 use Rattle.request_reader.specs.declared.Part.{Part}
 use Rattle.request_reader.specs.declared.Part.TheVariants.{Router, Interface}
-use Rattle.request_reader.specs.declared.Wish.TheVariants.{FreeAll, Free, Fix, Path, SymmetricAll, Symmetric}
+use Rattle.request_reader.specs.declared.Directive.TheVariants.{FreeAll, Free, Fix, Path, SymmetricAll, Symmetric}
 use Rattle.request_reader.specs.declared.stop.RequestFault.{RequestFault}
 use Rattle.request_reader.specs.declared.stop.RequestFault.TheVariants.{BadRequestLine, BadBounds}
 use Rattle.request_reader.specs.declared.reading.statement.Statement.{Statement}
 use Rattle.request_reader.specs.declared.reading.statement.Statement.TheVariants.{Passed, Header, Area, DefaultCost, Ask, Refused}
 use Rattle.request_reader.specs.declared.reading.statement.Bounds.{Bounds}
-use Rattle.request_reader.specs.Wishes.{Route}
+use Rattle.request_reader.specs.WrittenRoutes.{Route}
 use Rattle.request_reader.specs.Routes.{cut, hop_of, route_of}
 
 -- a line off the table
@@ -24,28 +24,31 @@ abbrev pub header_line : List (List ℕ) → Statement
 header_line (request ∷ version ∷ []) = if same_bytes request (codes "request") && same_bytes version (codes "1") then Header else off
 header_line _ = off
 
-abbrev pub area_said : Option ℕ → Statement
-area_said None = off
-area_said (Some a) = Area a
+-- an `area` line, by the area that was read
+abbrev pub area_read : Option ℕ → Statement
+area_read None = off
+area_read (Some a) = Area a
 
 -- `area X`
 abbrev pub area_line : List (List ℕ) → Statement
-area_line (word ∷ []) = area_said (area word)
+area_line (word ∷ []) = area_read (area word)
 area_line _ = off
 
-abbrev pub cost_said : Option ℕ → Statement
-cost_said None = off
-cost_said (Some n) = if n == 0 then off else DefaultCost n
+-- a `default-cost` line, by the number that was read
+abbrev pub default_cost_read : Option ℕ → Statement
+default_cost_read None = off
+default_cost_read (Some n) = if n == 0 then off else DefaultCost n
 
 -- `default-cost N`, N from 1 to 65535
-abbrev pub cost_line : List (List ℕ) → Statement
-cost_line (word ∷ []) = cost_said (number word 65535)
-cost_line _ = off
+abbrev pub default_cost_line : List (List ℕ) → Statement
+default_cost_line (word ∷ []) = default_cost_read (number word 65535)
+default_cost_line _ = off
 
 -- a number of at most nine digits
 abbrev pub bound : List ℕ → Option ℕ
 bound word = number_within 9 999999999 word
 
+-- bounds of costs, where 1 ≤ LO ≤ HI ≤ 65535; where a word is no number the line is off the table
 abbrev pub bounds_of : Option ℕ → Option ℕ → Result Bounds RequestFault
 bounds_of (Some lo) (Some hi) = if nat_le 1 lo && nat_le lo hi && nat_le hi 65535 then Ok (record { lowest = lo; highest = hi }) else Err BadBounds
 bounds_of _ _ = Err BadRequestLine
@@ -54,35 +57,38 @@ bounds_of _ _ = Err BadRequestLine
 abbrev pub bounds_said : List ℕ → List ℕ → Result Bounds RequestFault
 bounds_said lo hi = bounds_of (bound lo) (bound hi)
 
+-- a `free all` line, by its bounds
 abbrev pub free_all : Result Bounds RequestFault → Statement
 free_all (Ok b) = Ask (FreeAll b.lowest b.highest)
 free_all (Err fault) = Refused fault
 
+-- a `free` line of one interface, by its bounds
 abbrev pub free_one : List ℕ → List ℕ → Result Bounds RequestFault → Statement
 free_one router interface (Ok b) = Ask (Free router interface b.lowest b.highest)
 free_one router interface (Err fault) = Refused fault
 
 -- a word R has no `:`
-abbrev pub is_router : List ℕ → Bool
-is_router word = is_none (cut 58 word)
+abbrev pub is_router_word : List ℕ → Bool
+is_router_word word = is_none (cut 58 word)
 
 -- `free all LO HI` or `free R IF LO HI`
 abbrev pub free_line : List (List ℕ) → Statement
 free_line (all ∷ lo ∷ hi ∷ []) = if same_bytes all (codes "all") then free_all (bounds_said lo hi) else off
-free_line (router ∷ interface ∷ lo ∷ hi ∷ []) = if is_router router then free_one router interface (bounds_said lo hi) else off
+free_line (router ∷ interface ∷ lo ∷ hi ∷ []) = if is_router_word router then free_one router interface (bounds_said lo hi) else off
 free_line _ = off
 
 -- `fix R IF`
 abbrev pub fix_line : List (List ℕ) → Statement
-fix_line (router ∷ interface ∷ []) = if is_router router then Ask (Fix router interface) else off
+fix_line (router ∷ interface ∷ []) = if is_router_word router then Ask (Fix router interface) else off
 fix_line _ = off
 
 -- `symmetric all` or `symmetric R IF`
 abbrev pub symmetric_line : List (List ℕ) → Statement
 symmetric_line (all ∷ []) = if same_bytes all (codes "all") then Ask SymmetricAll else off
-symmetric_line (router ∷ interface ∷ []) = if is_router router then Ask (Symmetric router interface) else off
+symmetric_line (router ∷ interface ∷ []) = if is_router_word router then Ask (Symmetric router interface) else off
 symmetric_line _ = off
 
+-- the word is `without`
 abbrev pub is_without : List ℕ → Bool
 is_without word = same_bytes word (codes "without")
 
@@ -96,23 +102,26 @@ abbrev pub behind_without : List (List ℕ) → Option (List (List ℕ))
 behind_without [] = None
 behind_without (word ∷ words) = if is_without word then Some words else behind_without words
 
+-- an interface as a part to be taken away
 abbrev pub part_of_hop : Option (List ℕ × List ℕ) → Option Part
 part_of_hop None = None
 part_of_hop (Some hop) = Some (Interface hop.0 hop.1)
 
 -- a word R or R:IF
 abbrev pub part_of : List ℕ → Option Part
-part_of word = if is_router word then Some (Router word) else part_of_hop (hop_of word)
+part_of word = if is_router_word word then Some (Router word) else part_of_hop (hop_of word)
 
-abbrev pub parts_of : List (List ℕ) → Option (List Part)
-parts_of words = all_said part_of words
+-- the parts that words name
+abbrev pub parts_by_words : List (List ℕ) → Option (List Part)
+parts_by_words words = all_said part_of words
 
 -- what a path takes away: nothing without the word `without`, and at least one part behind it
 abbrev pub taken_away : Option (List (List ℕ)) → Option (List Part)
 taken_away None = Some []
 taken_away (Some []) = None
-taken_away (Some (word ∷ words)) = parts_of (word ∷ words)
+taken_away (Some (word ∷ words)) = parts_by_words (word ∷ words)
 
+-- a `path` line, by its route and the parts that it takes away
 abbrev pub path_said : Option Route → Option (List Part) → Statement
 path_said (Some route) (Some parts) = Ask (Path route parts)
 path_said _ _ = off
@@ -130,7 +139,7 @@ line_of word words =
     else if same_bytes word (codes "fix") then fix_line words
     else if same_bytes word (codes "symmetric") then symmetric_line words
     else if same_bytes word (codes "area") then area_line words
-    else if same_bytes word (codes "default-cost") then cost_line words
+    else if same_bytes word (codes "default-cost") then default_cost_line words
     else if same_bytes word (codes "ospfcost") then header_line words
     else off
 

@@ -3,7 +3,7 @@ use Rattle.std.specs.Prelude.{◌≡◌, ℕ, ◌≤◌, List, [], ◌∷◌, �
 use Rattle.request_reader.specs.declared.Item.{Item}
 use Rattle.request_reader.specs.declared.reading.statement.Statement.{Statement}
 use Rattle.request_reader.specs.declared.reading.statement.Statement.TheVariants.{Passed, Header, Area, DefaultCost, Ask, Refused}
-use Rattle.request_reader.specs.Asked.{KeepsBounds, is_path}
+use Rattle.request_reader.specs.Asked.{HasGoodBounds, is_path}
 use Rattle.request_reader.specs.Reading.{Told}
 
 -- what is said together with one line more, of number n, that has no fault
@@ -12,18 +12,18 @@ told_with told n Passed = told
 told_with told n Header = record told { spoken = true }
 told_with told n (Area a) = record told { area = Some a }
 told_with told n (DefaultCost cost) = record told { default_cost = Some cost }
-told_with told n (Ask wish) = record told { items = told.items ++ record { line = n; what = wish } ∷ [] }
+told_with told n (Ask directive) = record told { items = told.items ++ record { line = n; what = directive } ∷ [] }
 told_with told n (Refused fault) = told
 
 -- what a line says keeps the rules of requests
 abbrev pub KeepsRules : Statement → Type 0
-KeepsRules (Ask wish) = KeepsBounds wish
+KeepsRules (Ask directive) = HasGoodBounds directive
 KeepsRules (DefaultCost cost) = 0 < cost
 KeepsRules _ = Unit {0}
 
 -- items and a default cost keep the rules of requests, and there are so many paths
 pub record KeepsTold (default_cost : Option ℕ) (paths : ℕ) (items : List Item) : Type 0 where
-  pub bounds : All (λ item. KeepsBounds item.what) items
+  pub bounds : All (λ item. HasGoodBounds item.what) items
   pub default : IfSome default_cost (λ cost. 0 < cost)
   pub counted : count_by is_path items ≡ paths
   pub few : paths ≤ 10000

@@ -15,7 +15,7 @@ pub struct Hops {
 }
 
 impl Model for Hops {
-    ghost use Rattle.request_reader.specs.Wishes.{Route};
+    ghost use Rattle.request_reader.specs.WrittenRoutes.{Route};
 
     ghost Value = { Route };
 

@@ -22,7 +22,7 @@ pub enum Part {
 
 /// What a line of a request file asks for.
 #[derive(Drop)]
-pub enum Wish {
+pub enum Directive {
     /// Every linked interface becomes free: the least cost, and the greatest.
     FreeAll(u16, u16),
     /// An interface becomes free: its router, its name, the least cost, and the greatest.
@@ -43,13 +43,13 @@ pub struct Item {
     /// The line's number, from 1.
     pub line: u32,
     /// What the line asks for.
-    pub what: Wish,
+    pub what: Directive,
 }
 
 /// What a request file asks for. Kept: 1 <= least <= greatest in each `free` line, a default cost isn't 0, and there
 /// are at most 10,000 paths.
 #[derive(Drop)]
-pub struct Requests {
+pub struct RequestFile {
     /// The area that the network is read in.
     pub area: u32,
     /// The present cost of an interface that has none, where one is given.
@@ -58,7 +58,7 @@ pub struct Requests {
     pub items: Listed<Item>,
 }
 
-impl Model for Requests {
+impl Model for RequestFile {
     ghost use Rattle.request_reader.specs.Asked.{Asked, IsAsked};
 
     ghost Value = { Asked };

@@ -9,7 +9,7 @@ mod path;
 mod reader;
 mod statement;
 
-use crate::{RequestFault, RequestStop, Requests};
+use crate::{RequestFault, RequestFile, RequestStop};
 use line::statement_of;
 use reader::{Reader, refusal};
 use std::alloc::Global;
@@ -28,7 +28,7 @@ const LONGEST_LINE: usize = 65_536;
 ///   cross or aren't from 1 to 65535; `TooManyPaths` at the 10,001st path. A missing header or area is refused as
 ///   `BadRequestLine` behind the last line.
 /// - `OutOfMemory` where there is no memory.
-pub fn read_requests(alloc: Global, bytes: &[u8]) -> Result<Requests, RequestStop>
+pub fn read_requests(alloc: Global, bytes: &[u8]) -> Result<RequestFile, RequestStop>
     requires few { length bytes.now < 2 ^ 32 - 1 }
     ensures made { IfOk result (λ r. (request_fault bytes.now ≡ None) × (r ≡ asked_by bytes.now)) }
     ensures refused { IfErr result (TellsReading (request_fault bytes.now)) }

@@ -11,7 +11,7 @@ use Rattle.area_graph.specs.Area.{Area, edge_at, edges_out}
 use Rattle.area_graph.proofs.ListedEdges.{all_out, out_all}
 use Rattle.spf_ties.specs.Distances.{Findings}
 use Rattle.rival_separation.specs.declared.deviation.Deviation.{Deviation}
-use Rattle.rival_separation.specs.Offers.{IsBestOf, IsBetter, IsBetterBy, Offers}
+use Rattle.rival_separation.specs.Offers.{IsBestOffer, IsBetter, IsBetterBy, Offers}
 
 -- what was seen before the edges `todo` at a place
 abbrev pub SeenBut : ℕ → List ℕ → ℕ → ℕ → Type 0
@@ -23,7 +23,7 @@ OffersOnce Offer = (k e a b : ℕ) → Offer k e a → Offer k e b → a ≡ b
 
 -- what is best of more is best of fewer
 pub best_of_fewer : (Offer : ℕ → ℕ → ℕ → Type 0) (More Fewer : ℕ → ℕ → Type 0) (best : Option Deviation) →
-    IsBestOf Offer More best → ((k e total : ℕ) → Fewer k e → Offer k e total → More k e) → IsBestOf Offer Fewer best
+    IsBestOffer Offer More best → ((k e total : ℕ) → Fewer k e → Offer k e total → More k e) → IsBestOffer Offer Fewer best
 best_of_fewer Offer More Fewer None is more = λ k e total seen offer. is k e total (more k e total seen offer) offer
 best_of_fewer Offer More Fewer (Some best) is more = (is.0, λ k e total seen offer. is.1 k e total (more k e total seen offer) offer)
 
@@ -33,8 +33,8 @@ moved Offer place n k e total here same offer = subst (λ (i : ℕ). Offer i n t
 
 -- one edge less is to be looked at, and it made no offer
 best_without : (Offer : ℕ → ℕ → ℕ → Type 0) (place n : ℕ) (todo : List ℕ) (best : Option Deviation) →
-    IsBestOf Offer (SeenBut place (n ∷ todo)) best → ((total : ℕ) → Offer place n total → ⊥) →
-    IsBestOf Offer (SeenBut place todo) best
+    IsBestOffer Offer (SeenBut place (n ∷ todo)) best → ((total : ℕ) → Offer place n total → ⊥) →
+    IsBestOffer Offer (SeenBut place todo) best
 best_without Offer place n todo best is none =
     best_of_fewer Offer (SeenBut place (n ∷ todo)) (SeenBut place todo) best is (λ k e total seen offer. elim seen [
       | inl earlier ↦ inl earlier
@@ -51,11 +51,11 @@ IsOffer Offer place n cost = MatchOption cost ((total : ℕ) → Offer place n t
 -- one edge less is to be looked at, and it made an offer
 best_with : (Offer : ℕ → ℕ → ℕ → Type 0) → OffersOnce Offer →
     (place n cost : ℕ) (todo : List ℕ) (best : Option Deviation) (result : Deviation) →
-    IsBestOf Offer (SeenBut place (n ∷ todo)) best → Offer place n cost →
+    IsBestOffer Offer (SeenBut place (n ∷ todo)) best → Offer place n cost →
     IsBetter best (record { place = place; edge = n; cost = cost }) result →
-    IsBestOf Offer (SeenBut place todo) (Some result)
+    IsBestOffer Offer (SeenBut place todo) (Some result)
 best_with Offer once place n cost todo None result is offer better =
-    subst (λ (d : Deviation). IsBestOf Offer (SeenBut place todo) (Some d)) (sym better) (
+    subst (λ (d : Deviation). IsBestOffer Offer (SeenBut place todo) (Some d)) (sym better) (
       offer,
       λ k e total seen other. elim seen [
         | inl earlier ↦ absurd (is k e total (inl earlier) other)
@@ -67,7 +67,7 @@ best_with Offer once place n cost todo None result is offer better =
     )
 best_with Offer once place n cost todo (Some first) result is offer better = elim better [
   | inl less ↦
-      subst (λ (d : Deviation). IsBestOf Offer (SeenBut place todo) (Some d)) (sym less.0) (
+      subst (λ (d : Deviation). IsBestOffer Offer (SeenBut place todo) (Some d)) (sym less.0) (
         offer,
         λ k e total seen other. (let below = less.1 in elim seen [
           | inl earlier ↦ let before = is.1 k e total (inl earlier) other in omega arith
@@ -78,7 +78,7 @@ best_with Offer once place n cost todo (Some first) result is offer better = eli
         ]),
       )
   | inr more ↦
-      subst (λ (d : Deviation). IsBestOf Offer (SeenBut place todo) (Some d)) (sym more.0) (
+      subst (λ (d : Deviation). IsBestOffer Offer (SeenBut place todo) (Some d)) (sym more.0) (
         is.0,
         λ k e total seen other. (let above = more.1 in elim seen [
           | inl earlier ↦ is.1 k e total (inl earlier) other
@@ -93,10 +93,10 @@ best_with Offer once place n cost todo (Some first) result is offer better = eli
 -- one edge less is to be looked at, whether it made an offer or not
 best_by : (Offer : ℕ → ℕ → ℕ → Type 0) → OffersOnce Offer →
     (place n : ℕ) (todo : List ℕ) (best : Option Deviation) (cost : Option ℕ) (result : Option Deviation) →
-    IsBestOf Offer (SeenBut place (n ∷ todo)) best → IsOffer Offer place n cost → IsBetterBy best place n cost result →
-    IsBestOf Offer (SeenBut place todo) result
+    IsBestOffer Offer (SeenBut place (n ∷ todo)) best → IsOffer Offer place n cost → IsBetterBy best place n cost result →
+    IsBestOffer Offer (SeenBut place todo) result
 best_by Offer once place n todo best None result is none same =
-    subst (λ (d : Option Deviation). IsBestOf Offer (SeenBut place todo) d) (sym same)
+    subst (λ (d : Option Deviation). IsBestOffer Offer (SeenBut place todo) d) (sym same)
     (best_without Offer place n todo best is none)
 best_by Offer once place n todo best (Some cost) None is offer better = absurd better
 best_by Offer once place n todo best (Some cost) (Some result) is offer better = best_with Offer once place n cost todo best result is offer better
@@ -104,20 +104,20 @@ best_by Offer once place n todo best (Some cost) (Some result) is offer better =
 -- the next of the edges at a place was looked at; they are read from another list that is the same
 pub best_turn : (Offer : ℕ → ℕ → ℕ → Type 0) → OffersOnce Offer →
     (place i : ℕ) (es items : List ℕ) (best : Option Deviation) (cost : Option ℕ) (result : Option Deviation) →
-    items ≡ es → i < length items → IsBestOf Offer (SeenBut place (drop i es)) best →
+    items ≡ es → i < length items → IsBestOffer Offer (SeenBut place (drop i es)) best →
     IsOffer Offer place (get_or items i 0) cost → IsBetterBy best place (get_or items i 0) cost result →
-    IsBestOf Offer (SeenBut place (drop (i + 1) es)) result
+    IsBestOffer Offer (SeenBut place (drop (i + 1) es)) result
 best_turn Offer once place i es items best cost result same here is offer better =
     let within : i < length es = subst (λ (xs : List ℕ). i < length xs) same here in
     let split : drop i es ≡ get_or items i 0 ∷ drop (i + 1) es =
     drop-cons es i 0 within ∙ ap (λ (k : ℕ). get_or es i 0 ∷ drop k es) (sym (add-one i)) ∙ ap (λ (xs : List ℕ). get_or xs i 0 ∷ drop (i + 1) es) (sym same) in
     best_by Offer once place (get_or items i 0) (drop (i + 1) es) best cost result
-    (subst (λ (xs : List ℕ). IsBestOf Offer (SeenBut place xs) best) split is) offer better
+    (subst (λ (xs : List ℕ). IsBestOffer Offer (SeenBut place xs) best) split is) offer better
 
 -- at the start of a place each of its edges is to be looked at
 pub best_begins : (Offer : ℕ → ℕ → ℕ → Type 0) (place : ℕ) (edges : List ℕ) (best : Option Deviation) →
-    ((e total : ℕ) → Lacks edges e → Offer place e total → ⊥) → IsBestOf Offer (λ earlier e. earlier < place) best →
-    IsBestOf Offer (SeenBut place edges) best
+    ((e total : ℕ) → Lacks edges e → Offer place e total → ⊥) → IsBestOffer Offer (λ earlier e. earlier < place) best →
+    IsBestOffer Offer (SeenBut place edges) best
 best_begins Offer place edges best all is =
     best_of_fewer Offer (λ earlier e. earlier < place) (SeenBut place edges) best is (λ k e total seen offer. elim seen [
       | inl earlier ↦ earlier
@@ -130,11 +130,11 @@ out_listed g v e known from lacks = out_all (λ y. e ≢ y) g v (all_lacks (edge
 
 -- behind its last edge the place was seen
 pub best_past : (Offer : ℕ → ℕ → ℕ → Type 0) (place i : ℕ) (es items : List ℕ) (best : Option Deviation) → items ≡ es →
-    length items ≤ i → IsBestOf Offer (SeenBut place (drop i es)) best →
-    IsBestOf Offer (λ earlier e. earlier < place + 1) best
+    length items ≤ i → IsBestOffer Offer (SeenBut place (drop i es)) best →
+    IsBestOffer Offer (λ earlier e. earlier < place + 1) best
 best_past Offer place i es items best same past is =
     best_of_fewer Offer (SeenBut place []) (λ earlier e. earlier < place + 1) best
-    (subst (λ (xs : List ℕ). IsBestOf Offer (SeenBut place xs) best) (drop_of_length-le es (subst (λ (xs : List ℕ). length xs ≤ i) same past)) is)
+    (subst (λ (xs : List ℕ). IsBestOffer Offer (SeenBut place xs) best) (drop_of_length-le es (subst (λ (xs : List ℕ). length xs ≤ i) same past)) is)
     (λ k e total seen offer. elim (ℕ_discrete k place) [
       | yes same ↦ inr (same, tt)
       | no other ↦ inl (omega arith)
@@ -149,8 +149,8 @@ out_edge g v i items same here = (
 )
 
 -- an edge at a place of a path makes one offer
-pub offers_once : (g : Area) (p : Point) (gone : List ℕ) (room : Findings) (path : List ℕ) → OffersOnce (Offers g p gone room path)
-offers_once g p gone room path k e a b one two =
+pub offers_once : (g : Area) (p : Point) (excluded : List ℕ) (room : Findings) (path : List ℕ) → OffersOnce (Offers g p excluded room path)
+offers_once g p excluded room path k e a b one two =
     let rest = same_Some one.rest two.rest (sym one.distance ∙ two.distance) in
     let first = one.sums in
     let second = two.sums in

@@ -12,9 +12,9 @@ use Rattle.area_graph.proofs.Walks.{simple_in_walk}
 use Rattle.area_graph.proofs.Deviations.{Deviates, deviation_joins, deviation_differs, least_deviation_simple, rival_deviates}
 use Rattle.area_graph.proofs.ListedEdges.{out_all}
 use Rattle.area_graph.proofs.Bounds.{cost_below, price-le}
-use Rattle.spf_ties.specs.Distances.{AreTight, Findings, IsLeast, IsLeastBelow, adds_up, distance_at, is_tight}
-use Rattle.path_rows.proofs.PathBounds.{simple-short}
-use Rattle.rival_separation.specs.Rivals.{Completes, HasWay, IsCheapest, IsFollowed, IsFound, ends_from, with_edge}
+use Rattle.spf_ties.specs.Distances.{AreTight, Findings, IsLeastOfPaths, IsLeastBelow, adds_up, distance_at, is_tight}
+use Rattle.design_problem.proofs.PathBounds.{simple-short}
+use Rattle.rival_separation.specs.Rivals.{Completes, HasWay, IsCheapestRival, IsFollowedByLeast, HasDistancesBelow, ends_from, with_edge}
 use Rattle.rival_separation.specs.Offers.{Offers}
 use Rattle.std.proofs.lemmas.Option.{same_Some}
 
@@ -39,11 +39,11 @@ some_least g p ends limit (Some x) least es path near = record { least = x; is =
 some_least g p ends limit None least es path near = (let far = least es path in absurd (omega arith))
 
 least_at : (g : Area) (p : Point) (ends : Ends) (limit : ℕ) (d : Option ℕ) (x : ℕ) → IsLeastBelow g p ends limit d →
-    d ≡ Some x → IsLeast g p ends x × (x < limit)
+    d ≡ Some x → IsLeastOfPaths g p ends x × (x < limit)
 least_at g p ends limit d x least is = let at_some : IsLeastBelow g p ends limit (Some x) =
     subst (λ (o : Option ℕ). IsLeastBelow g p ends limit o) is least in at_some
 
-pub is_least : (g : Area) (p : Point) (ends : Ends) (limit : ℕ) (d : Option ℕ) (x : ℕ) → IsLeastBelow g p ends limit d → d ≡ Some x → IsLeast g p ends x
+pub is_least : (g : Area) (p : Point) (ends : Ends) (limit : ℕ) (d : Option ℕ) (x : ℕ) → IsLeastBelow g p ends limit d → d ≡ Some x → IsLeastOfPaths g p ends x
 is_least g p ends limit d x least is = (least_at g p ends limit d x least is).0
 
 -- a least cost is below 2^26 times the scale
@@ -57,7 +57,7 @@ least_below g p ends limit d x graph metrics fits least is =
 
 -- what an edge costs with the least cost from its end on is below 2^27 times the scale
 pub onward_below : (g : Area) (p : Point) (ends : Ends) (limit : ℕ) (room : Findings) (e price rest : ℕ) → FitsGraph g →
-    HasMetrics g → FitsPoint g p → IsFound g p ends limit room → e < length g.edges →
+    HasMetrics g → FitsPoint g p → HasDistancesBelow g p ends limit room → e < length g.edges →
     price ≡ price_at p (edge_at g e).price → distance_at room (edge_at g e).to ≡ Some rest →
     price + rest < 2 ^ 27 * p.scale
 onward_below g p ends limit room e price rest graph metrics fits found known price_is distance =
@@ -69,17 +69,17 @@ onward_below g p ends limit room e price rest graph metrics fits found known pri
     omega arith
 
 -- the offer that a deviation takes
-record Offered (g : Area) (p : Point) (gone : List ℕ) (room : Findings) (path : List ℕ) (most : ℕ) : Type 0 where
+record Offered (g : Area) (p : Point) (excluded : List ℕ) (room : Findings) (path : List ℕ) (most : ℕ) : Type 0 where
   place : ℕ
   edge : ℕ
   total : ℕ
-  offer : Offers g p gone room path place edge total
+  offer : Offers g p excluded room path place edge total
   within : total ≤ most
 
 offered : (g : Area) (p : Point) (ends : Ends) (limit : ℕ) (room : Findings) → FitsGraph g →
-    IsFound g p ends limit room → ends.end < length g.vertices → (u : ℕ) (before path walk : List ℕ) →
-    Joins g u path ends.end → Deviates g ends.gone ends.end u path walk → cost g p walk < limit →
-    Offered g p ends.gone room (before ++ path) (cost g p before + cost g p walk)
+    HasDistancesBelow g p ends limit room → ends.end < length g.vertices → (u : ℕ) (before path walk : List ℕ) →
+    Joins g u path ends.end → Deviates g ends.excluded ends.end u path walk → cost g p walk < limit →
+    Offered g p ends.excluded room (before ++ path) (cost g p before + cost g p walk)
 offered g p ends limit room graph found end u before [] walk joins deviates near = absurd deviates
 offered g p ends limit room graph found end u before (n ∷ path) [] joins deviates near = absurd deviates
 offered g p ends limit room graph found end u before (n ∷ path) (e ∷ rest) joins deviates near =
@@ -87,7 +87,7 @@ offered g p ends limit room graph found end u before (n ∷ path) (e ∷ rest) j
       | inl leaves ↦
           let edge : FitsEdge g (edge_at g e) = graph.edges e no_edge leaves.1.known in
           let longer = sum_by-cons (λ i. price_at p (edge_at g i).price) e rest in
-          let some = some_least g p (record { start = (edge_at g e).to; end = ends.end; gone = ends.gone }) limit
+          let some = some_least g p (record { start = (edge_at g e).to; end = ends.end; excluded = ends.excluded }) limit
           (distance_at room (edge_at g e).to) (found.least (edge_at g e).to edge.to) rest
           (record {
             simple = record {
@@ -124,28 +124,28 @@ offered g p ends limit room graph found end u before (n ∷ path) (e ∷ rest) j
             place = later.place;
             edge = later.edge;
             total = later.total;
-            offer = subst (λ (es : List ℕ). Offers g p ends.gone room es later.place later.edge later.total) (append_assoc before (n ∷ []) path) later.offer;
+            offer = subst (λ (es : List ℕ). Offers g p ends.excluded room es later.place later.edge later.total) (append_assoc before (n ∷ []) path) later.offer;
             within = let most = later.within in omega arith;
           }
     ]
 
 -- a walk that takes an offer deviates
-deviates_at : (g : Area) (gone : List ℕ) (t u : ℕ) (path : List ℕ) (place e : ℕ) (rest : List ℕ) → Joins g u path t →
+deviates_at : (g : Area) (excluded : List ℕ) (t u : ℕ) (path : List ℕ) (place e : ℕ) (rest : List ℕ) → Joins g u path t →
     place < length path → e < length g.edges → (edge_at g e).from ≡ (edge_at g (get_or path place 0)).from →
-    e ≢ get_or path place 0 → Lacks gone e → Joins g (edge_at g e).to rest t →
-    NoneTwice (visited g (edge_at g e).to rest) → Avoids gone rest →
-    Deviates g gone t u path (take place path ++ e ∷ rest)
-deviates_at g gone t u [] place e rest joins within known from other left rest_joins once kept = absurd (omega arith)
-deviates_at g gone t u (n ∷ path) zero e rest joins within known from other left rest_joins once kept =
+    e ≢ get_or path place 0 → Lacks excluded e → Joins g (edge_at g e).to rest t →
+    NoneTwice (visited g (edge_at g e).to rest) → Avoids excluded rest →
+    Deviates g excluded t u path (take place path ++ e ∷ rest)
+deviates_at g excluded t u [] place e rest joins within known from other left rest_joins once kept = absurd (omega arith)
+deviates_at g excluded t u (n ∷ path) zero e rest joins within known from other left rest_joins once kept =
     inl (other, record { known = known; from_u = from ∙ joins.1; there = left; joins = rest_joins; none_twice = once; kept = kept })
-deviates_at g gone t u (n ∷ path) (suc place) e rest joins within known from other left rest_joins once kept =
-    inr (refl, deviates_at g gone t (edge_at g n).to path place e rest joins.2 (omega arith) known from other left rest_joins once kept)
+deviates_at g excluded t u (n ∷ path) (suc place) e rest joins within known from other left rest_joins once kept =
+    inr (refl, deviates_at g excluded t (edge_at g n).to path place e rest joins.2 (omega arith) known from other left rest_joins once kept)
 
 -- no deviation costs less than every offer, where that is within the limit
 deviation_above : (g : Area) (p : Point) (ends : Ends) (limit : ℕ) (room : Findings) (wanted : List ℕ) (most : ℕ) →
-    FitsGraph g → IsFound g p ends limit room → IsPathOf g ends wanted → most ≤ limit →
-    ((place e total : ℕ) → Offers g p ends.gone room wanted place e total → most ≤ total) → (other : List ℕ) →
-    Deviates g ends.gone ends.end ends.start wanted other → most ≤ cost g p other
+    FitsGraph g → HasDistancesBelow g p ends limit room → IsPathOf g ends wanted → most ≤ limit →
+    ((place e total : ℕ) → Offers g p ends.excluded room wanted place e total → most ≤ total) → (other : List ℕ) →
+    Deviates g ends.excluded ends.end ends.start wanted other → most ≤ cost g p other
 deviation_above g p ends limit room wanted most graph found path far above other deviates =
     elim (cases_lt (cost g p other) limit) [
       | inl near ↦
@@ -158,18 +158,18 @@ deviation_above g p ends limit room wanted most graph found path far above other
 
 -- so no rival does
 rival_above : (g : Area) (p : Point) (ends : Ends) (limit : ℕ) (room : Findings) (wanted : List ℕ) (most : ℕ) →
-    FitsGraph g → IsFound g p ends limit room → IsPathOf g ends wanted → most ≤ limit →
-    ((place e total : ℕ) → Offers g p ends.gone room wanted place e total → most ≤ total) → (other : List ℕ) →
+    FitsGraph g → HasDistancesBelow g p ends limit room → IsPathOf g ends wanted → most ≤ limit →
+    ((place e total : ℕ) → Offers g p ends.excluded room wanted place e total → most ≤ total) → (other : List ℕ) →
     IsPathOf g ends other → other ≢ wanted → most ≤ cost g p other
 rival_above g p ends limit room wanted most graph found path far above other is_path differs =
     deviation_above g p ends limit room wanted most graph found path far above other
-    (rival_deviates g ends.gone ends.end ends.start wanted other path.simple.joins path.simple.none_twice
+    (rival_deviates g ends.excluded ends.end ends.start wanted other path.simple.joins path.simple.none_twice
     is_path.simple.joins is_path.simple.none_twice is_path.kept differs)
 
 -- where every offer costs at least the path and the scale, the path leads by the scale
 pub leads_by : (g : Area) (p : Point) (ends : Ends) (limit : ℕ) (room : Findings) (wanted : List ℕ) → FitsGraph g →
-    IsFound g p ends limit room → IsPathOf g ends wanted → cost g p wanted + p.scale ≤ limit →
-    ((place e total : ℕ) → Offers g p ends.gone room wanted place e total → cost g p wanted + p.scale ≤ total) →
+    HasDistancesBelow g p ends limit room → IsPathOf g ends wanted → cost g p wanted + p.scale ≤ limit →
+    ((place e total : ℕ) → Offers g p ends.excluded room wanted place e total → cost g p wanted + p.scale ≤ total) →
     LeadsBy p.scale g p ends wanted
 leads_by g p ends limit room wanted graph found path far above =
     λ other is_path differs. rival_above g p ends limit room wanted (cost g p wanted + p.scale) graph found path far
@@ -177,29 +177,29 @@ leads_by g p ends limit room wanted graph found path far above =
 
 -- the best offer, where it is cheap, makes with any path of least cost a cheapest rival
 pub cheapest_by : (g : Area) (p : Point) (ends : Ends) (limit : ℕ) (room : Findings) (wanted : List ℕ)
-    (place e total : ℕ) → FitsGraph g → FitsPoint g p → IsFound g p ends limit room → IsPathOf g ends wanted →
-    (offer : Offers g p ends.gone room wanted place e total) →
-    ((k i other : ℕ) → Offers g p ends.gone room wanted k i other → total ≤ other) → total < cost g p wanted + p.scale →
+    (place e total : ℕ) → FitsGraph g → FitsPoint g p → HasDistancesBelow g p ends limit room → IsPathOf g ends wanted →
+    (offer : Offers g p ends.excluded room wanted place e total) →
+    ((k i other : ℕ) → Offers g p ends.excluded room wanted k i other → total ≤ other) → total < cost g p wanted + p.scale →
     cost g p wanted + p.scale ≤ limit → (rest : List ℕ) → IsPathOf g (ends_from ends (edge_at g e).to) rest →
-    cost g p rest ≡ offer.rest → IsCheapest g p ends wanted (take place wanted ++ e ∷ rest)
+    cost g p rest ≡ offer.rest → IsCheapestRival g p ends wanted (take place wanted ++ e ∷ rest)
 cheapest_by g p ends limit room wanted place e total graph fits found path offer best cheap far rest is_path costs =
     let walk : List ℕ = take place wanted ++ e ∷ rest in
-    let deviates = deviates_at g ends.gone ends.end ends.start wanted place e rest path.simple.joins offer.within
+    let deviates = deviates_at g ends.excluded ends.end ends.start wanted place e rest path.simple.joins offer.within
     offer.known offer.from offer.other offer.left is_path.simple.joins is_path.simple.none_twice is_path.kept in
     let split = sum_by-append (λ i. price_at p (edge_at g i).price) (take place wanted) (e ∷ rest) in
     let longer = sum_by-cons (λ i. price_at p (edge_at g i).price) e rest in
     let sums = offer.sums in
     let whole : cost g p (take place wanted ++ e ∷ rest) ≡ total = omega arith in
     let within : total ≤ limit = omega arith in
-    let least : (other : List ℕ) → Deviates g ends.gone ends.end ends.start wanted other → cost g p (take place wanted ++ e ∷ rest) ≤ cost g p other =
+    let least : (other : List ℕ) → Deviates g ends.excluded ends.end ends.start wanted other → cost g p (take place wanted ++ e ∷ rest) ≤ cost g p other =
     λ other off. (let above = deviation_above g p ends limit room wanted total graph found path within best other off in omega (arith, whole)) in
-    let once = least_deviation_simple g p ends.gone ends.end ends.start wanted (take place wanted ++ e ∷ rest) graph
+    let once = least_deviation_simple g p ends.excluded ends.end ends.start wanted (take place wanted ++ e ∷ rest) graph
     fits path.simple.joins path.simple.none_twice path.kept deviates (omega (arith, whole, cheap)) least in
-    let joins = deviation_joins g ends.gone ends.end ends.start wanted (take place wanted ++ e ∷ rest) path.simple.joins path.kept deviates in
+    let joins = deviation_joins g ends.excluded ends.end ends.start wanted (take place wanted ++ e ∷ rest) path.simple.joins path.kept deviates in
     record {
       rival = record {
         path = record { simple = record { start = path.simple.start; end = path.simple.end; joins = joins.0; none_twice = once }; kept = joins.1 };
-        other = deviation_differs g ends.gone ends.end ends.start wanted (take place wanted ++ e ∷ rest) deviates;
+        other = deviation_differs g ends.excluded ends.end ends.start wanted (take place wanted ++ e ∷ rest) deviates;
       };
       cheap = omega (arith, whole, cheap);
       none_less = λ other rival. (let above =
@@ -209,9 +209,9 @@ cheapest_by g p ends limit room wanted place e total graph fits found path offer
 
 -- so there is a way on from the offer's edge, behind the front of the path and that edge
 pub way_from : (g : Area) (p : Point) (ends : Ends) (limit : ℕ) (room : Findings) (wanted front : List ℕ)
-    (place e total : ℕ) → FitsGraph g → FitsPoint g p → IsFound g p ends limit room → IsPathOf g ends wanted →
-    (offer : Offers g p ends.gone room wanted place e total) →
-    ((k i other : ℕ) → Offers g p ends.gone room wanted k i other → total ≤ other) → total < cost g p wanted + p.scale →
+    (place e total : ℕ) → FitsGraph g → FitsPoint g p → HasDistancesBelow g p ends limit room → IsPathOf g ends wanted →
+    (offer : Offers g p ends.excluded room wanted place e total) →
+    ((k i other : ℕ) → Offers g p ends.excluded room wanted k i other → total ≤ other) → total < cost g p wanted + p.scale →
     cost g p wanted + p.scale ≤ limit → front ≡ take place wanted ++ e ∷ [] →
     HasWay g p ends (record room { path = front }) (edge_at g e).to
 way_from g p ends limit room wanted front place e total graph fits found path offer best cheap far is_front = record {
@@ -231,22 +231,22 @@ way_from g p ends limit room wanted front place e total graph fits found path of
 
 -- with the way that was followed the front is a cheapest rival
 pub followed_cheapest : (g : Area) (p : Point) (ends : Ends) (limit : ℕ) (room : Findings) (wanted front walk : List ℕ)
-    (place e total : ℕ) → FitsGraph g → FitsPoint g p → IsFound g p ends limit room → IsPathOf g ends wanted →
-    Offers g p ends.gone room wanted place e total →
-    ((k i other : ℕ) → Offers g p ends.gone room wanted k i other → total ≤ other) → total < cost g p wanted + p.scale →
+    (place e total : ℕ) → FitsGraph g → FitsPoint g p → HasDistancesBelow g p ends limit room → IsPathOf g ends wanted →
+    Offers g p ends.excluded room wanted place e total →
+    ((k i other : ℕ) → Offers g p ends.excluded room wanted k i other → total ≤ other) → total < cost g p wanted + p.scale →
     cost g p wanted + p.scale ≤ limit → front ≡ take place wanted ++ e ∷ [] →
-    IsFollowed g p ends (record room { path = front }) (edge_at g e).to walk → IsCheapest g p ends wanted walk
+    IsFollowedByLeast g p ends (record room { path = front }) (edge_at g e).to walk → IsCheapestRival g p ends wanted walk
 followed_cheapest g p ends limit room wanted front walk place e total graph fits found path offer best cheap far is_front followed =
     let costs = same_Some (cost g p followed.rest) offer.rest (sym followed.costs ∙ offer.distance) in
     let whole = cheapest_by g p ends limit room wanted place e total graph fits found path offer best cheap far followed.rest followed.path costs in
     let same = followed.same ∙ ap (λ (es : List ℕ). es ++ followed.rest) is_front ∙ append_assoc (take place wanted) (e ∷ []) followed.rest in
-    subst (λ (es : List ℕ). IsCheapest g p ends wanted es) (sym same) whole
+    subst (λ (es : List ℕ). IsCheapestRival g p ends wanted es) (sym same) whole
 
 -- a cheap offer that is the best shows that the path doesn't lead by the scale
 pub beaten_by : (g : Area) (p : Point) (ends : Ends) (limit : ℕ) (room : Findings) (wanted : List ℕ)
-    (place e total : ℕ) → FitsGraph g → FitsPoint g p → IsFound g p ends limit room → IsPathOf g ends wanted →
-    (offer : Offers g p ends.gone room wanted place e total) →
-    ((k i other : ℕ) → Offers g p ends.gone room wanted k i other → total ≤ other) → total < cost g p wanted + p.scale →
+    (place e total : ℕ) → FitsGraph g → FitsPoint g p → HasDistancesBelow g p ends limit room → IsPathOf g ends wanted →
+    (offer : Offers g p ends.excluded room wanted place e total) →
+    ((k i other : ℕ) → Offers g p ends.excluded room wanted k i other → total ≤ other) → total < cost g p wanted + p.scale →
     cost g p wanted + p.scale ≤ limit → LeadsBy p.scale g p ends wanted → ⊥
 beaten_by g p ends limit room wanted place e total graph fits found path offer best cheap far leads =
     let edge : FitsEdge g (edge_at g e) = graph.edges e no_edge offer.known in
@@ -258,12 +258,12 @@ beaten_by g p ends limit room wanted place e total graph fits found path offer b
     omega arith
 
 -- distances to the end of a request serve another one with the same end, that takes away the same edges
-pub found_as : (g : Area) (p : Point) (ends others : Ends) (limit : ℕ) (room : Findings) → IsFound g p ends limit room →
-    ends.end ≡ others.end → ends.gone ≡ others.gone → IsFound g p others limit room
-found_as g p ends others limit room found same_end same_gone =
-    let same : (record { start = others.start; end = ends.end; gone = ends.gone }) ≡ others =
-    λ i. record { start = others.start; end = same_end i; gone = same_gone i } in
-    subst (λ (x : Ends). IsFound g p x limit room) same (record { room_for = found.room_for; marks = found.marks; least = found.least; tight = found.tight })
+pub found_as : (g : Area) (p : Point) (ends others : Ends) (limit : ℕ) (room : Findings) → HasDistancesBelow g p ends limit room →
+    ends.end ≡ others.end → ends.excluded ≡ others.excluded → HasDistancesBelow g p others limit room
+found_as g p ends others limit room found same_end same_excluded =
+    let same : (record { start = others.start; end = ends.end; excluded = ends.excluded }) ≡ others =
+    λ i. record { start = others.start; end = same_end i; excluded = same_excluded i } in
+    subst (λ (x : Ends). HasDistancesBelow g p x limit room) same (record { room_for = found.room_for; marks = found.marks; least = found.least; tight = found.tight })
 
 -- numbers that add up
 record Sums (from to : Option ℕ) (price : ℕ) : Type 0 where
@@ -286,15 +286,15 @@ sums_of (Some x) (Some y) price h = record { x = x; y = y; from_is = refl; to_is
 
 -- a tight edge and a path of least cost from its end are a path
 pub along_tight : (g : Area) (p : Point) (ends : Ends) (limit : ℕ) (room : Findings) (v f x y : ℕ) (rest : List ℕ) →
-    FitsGraph g → FitsPoint g p → IsFound g p ends limit room → v < length g.vertices → f < length g.edges →
-    (edge_at g f).from ≡ v → Lacks ends.gone f → distance_at room v ≡ Some x → x ≡ price_at p (edge_at g f).price + y →
-    IsPathOf g (record { start = (edge_at g f).to; end = ends.end; gone = ends.gone }) rest → cost g p rest ≡ y →
-    IsPathOf g (record { start = v; end = ends.end; gone = ends.gone }) (f ∷ rest)
+    FitsGraph g → FitsPoint g p → HasDistancesBelow g p ends limit room → v < length g.vertices → f < length g.edges →
+    (edge_at g f).from ≡ v → Lacks ends.excluded f → distance_at room v ≡ Some x → x ≡ price_at p (edge_at g f).price + y →
+    IsPathOf g (record { start = (edge_at g f).to; end = ends.end; excluded = ends.excluded }) rest → cost g p rest ≡ y →
+    IsPathOf g (record { start = v; end = ends.end; excluded = ends.excluded }) (f ∷ rest)
 along_tight g p ends limit room v f x y rest graph fits found inside known from left distance adds path costs =
     let joins : Joins g v (f ∷ rest) ends.end = (known, from, path.simple.joins) in
-    let kept : Avoids ends.gone (f ∷ rest) = (left, path.kept) in
-    let simple = simple_in_walk g p ends.gone v (f ∷ rest) ends.end graph fits joins kept in
-    let least = is_least g p (record { start = v; end = ends.end; gone = ends.gone }) limit (distance_at room v) x (found.least v inside) distance in
+    let kept : Avoids ends.excluded (f ∷ rest) = (left, path.kept) in
+    let simple = simple_in_walk g p ends.excluded v (f ∷ rest) ends.end graph fits joins kept in
+    let least = is_least g p (record { start = v; end = ends.end; excluded = ends.excluded }) limit (distance_at room v) x (found.least v inside) distance in
     let longer = sum_by-cons (λ i. price_at p (edge_at g i).price) f rest in
     record {
       simple = record {
@@ -323,7 +323,7 @@ along_tight g p ends limit room v f x y rest graph fits found inside known from 
 
 -- what a way that is followed comes to
 abbrev pub IsWay : Area → Point → Ends → Findings → ℕ → List ℕ → Type 0
-IsWay g p ends room v walk = IsFollowed g p ends room v walk × (length walk < length g.vertices)
+IsWay g p ends room v walk = IsFollowedByLeast g p ends room v walk × (length walk < length g.vertices)
 
 -- where there is a way, the room's path is completed to it by any path of least cost
 pub way_completes : (g : Area) (p : Point) (ends : Ends) (room : Findings) (v : ℕ) → HasWay g p ends room v →
@@ -339,11 +339,11 @@ way_completes g p ends room v way = record {
 }
 
 -- one more tight edge
-pub completes_more : (g : Area) (p : Point) (ends : Ends) (limit : ℕ) (room : Findings) (Whole : List ℕ → Type 0)
-    (walk : List ℕ) (v f : ℕ) → FitsGraph g → FitsPoint g p → IsFound g p ends limit room →
-    Completes g p ends room Whole walk v → f < length g.edges → (edge_at g f).from ≡ v → is_tight g p room f ≡ true →
-    Lacks ends.gone f → Completes g p ends room Whole (walk ++ f ∷ []) (edge_at g f).to
-completes_more g p ends limit room Whole walk v f graph fits found so_far known from tight left =
+pub completes_more : (g : Area) (p : Point) (ends : Ends) (limit : ℕ) (room : Findings) (Holds : List ℕ → Type 0)
+    (walk : List ℕ) (v f : ℕ) → FitsGraph g → FitsPoint g p → HasDistancesBelow g p ends limit room →
+    Completes g p ends room Holds walk v → f < length g.edges → (edge_at g f).from ≡ v → is_tight g p room f ≡ true →
+    Lacks ends.excluded f → Completes g p ends room Holds (walk ++ f ∷ []) (edge_at g f).to
+completes_more g p ends limit room Holds walk v f graph fits found so_far known from tight left =
     let edge : FitsEdge g (edge_at g f) = graph.edges f no_edge known in
     let sums = sums_of (distance_at room (edge_at g f).from) (distance_at room (edge_at g f).to) (price_at p (edge_at g f).price) tight in
     let here : so_far.least ≡ sums.x = same_Some so_far.least sums.x (sym so_far.distance ∙ ap (distance_at room) (sym from) ∙ sums.from_is) in
@@ -356,30 +356,30 @@ completes_more g p ends limit room Whole walk v f graph fits found so_far known 
           let longer_path = along_tight g p ends limit room v f so_far.least sums.y rest graph fits found so_far.known
           known from left so_far.distance (here ∙ adds) path costs in
           let longer = sum_by-cons (λ i. price_at p (edge_at g i).price) f rest in
-          subst Whole (sym (append_assoc walk (f ∷ []) rest))
+          subst Holds (sym (append_assoc walk (f ∷ []) rest))
           (so_far.whole (f ∷ rest) longer_path (omega (arith, here, adds, costs, longer))));
     }
 
 -- at the end the walk is whole
-pub completed : (g : Area) (p : Point) (ends : Ends) (limit : ℕ) (room : Findings) (Whole : List ℕ → Type 0)
-    (walk : List ℕ) (v : ℕ) → IsFound g p ends limit room → Completes g p ends room Whole walk v →
-    v ≡ ends.end → Whole walk
-completed g p ends limit room Whole walk v found so_far arrived =
+pub completed : (g : Area) (p : Point) (ends : Ends) (limit : ℕ) (room : Findings) (Holds : List ℕ → Type 0)
+    (walk : List ℕ) (v : ℕ) → HasDistancesBelow g p ends limit room → Completes g p ends room Holds walk v →
+    v ≡ ends.end → Holds walk
+completed g p ends limit room Holds walk v found so_far arrived =
     let path : IsPathOf g (ends_from ends v) [] = record {
       simple = record { start = so_far.known; end = subst (λ (i : ℕ). i < length g.vertices) arrived so_far.known; joins = arrived; none_twice = (tt, tt) };
       kept = tt;
     } in
     let least = is_least g p (ends_from ends v) limit (distance_at room v) so_far.least (found.least v so_far.known) so_far.distance in
     let none_less = least.none_less [] path in
-    subst Whole (append-nil walk) (so_far.whole [] path (omega arith))
+    subst Holds (append-nil walk) (so_far.whole [] path (omega arith))
 
 -- short of the end some tight edge is left
-pub some_next : (g : Area) (p : Point) (ends : Ends) (limit : ℕ) (room : Findings) (Whole : List ℕ → Type 0)
-    (walk : List ℕ) (v : ℕ) → IsFound g p ends limit room → Completes g p ends room Whole walk v → v ≢ ends.end →
+pub some_next : (g : Area) (p : Point) (ends : Ends) (limit : ℕ) (room : Findings) (Holds : List ℕ → Type 0)
+    (walk : List ℕ) (v : ℕ) → HasDistancesBelow g p ends limit room → Completes g p ends room Holds walk v → v ≢ ends.end →
     All (λ e. is_tight g p room e ≡ true → get_or room.marks e true ≡ false → ⊥) (edges_out g v) → ⊥
-some_next g p ends limit room Whole walk v found so_far short none = by_path least.path refl
+some_next g p ends limit room Holds walk v found so_far short none = by_path least.path refl
   where
-    least : IsLeast g p (ends_from ends v) so_far.least
+    least : IsLeastOfPaths g p (ends_from ends v) so_far.least
     least = is_least g p (ends_from ends v) limit (distance_at room v) so_far.least (found.least v so_far.known) so_far.distance
 
     below : so_far.least < limit
@@ -396,10 +396,10 @@ some_next g p ends limit room Whole walk v found so_far short none = by_path lea
         path.simple.joins.1 tight.0 ((found.marks e inside).1 path.kept.0)
 
 -- where each whole walk has fewer edges than the graph has vertices, so has the walk so far
-pub short_walk : (g : Area) (p : Point) (ends : Ends) (limit : ℕ) (room : Findings) (Whole : List ℕ → Type 0)
-    (walk : List ℕ) (v : ℕ) → IsFound g p ends limit room → Completes g p ends room Whole walk v →
-    ((es : List ℕ) → Whole es → length es < length g.vertices) → length walk < length g.vertices
-short_walk g p ends limit room Whole walk v found so_far each =
+pub short_walk : (g : Area) (p : Point) (ends : Ends) (limit : ℕ) (room : Findings) (Holds : List ℕ → Type 0)
+    (walk : List ℕ) (v : ℕ) → HasDistancesBelow g p ends limit room → Completes g p ends room Holds walk v →
+    ((es : List ℕ) → Holds es → length es < length g.vertices) → length walk < length g.vertices
+short_walk g p ends limit room Holds walk v found so_far each =
     let least = is_least g p (ends_from ends v) limit (distance_at room v) so_far.least (found.least v so_far.known) so_far.distance in
     let short = each (walk ++ least.path) (so_far.whole least.path least.is_path least.costs) in
     let count = length-append walk least.path in
@@ -416,8 +416,8 @@ kept_tight g p room kept (e ∷ es) tight = (tight.0, kept_tight g p room kept e
 
 -- what a room found stays found with any path kept
 pub found_kept : (g : Area) (p : Point) (ends : Ends) (limit : ℕ) (room : Findings) (kept : List ℕ) (new : Findings) →
-    new ≡ record room { path = kept } → IsFound g p ends limit room → IsFound g p ends limit new
-found_kept g p ends limit room kept new same found = subst (IsFound g p ends limit) (sym same) (record {
+    new ≡ record room { path = kept } → HasDistancesBelow g p ends limit room → HasDistancesBelow g p ends limit new
+found_kept g p ends limit room kept new same found = subst (HasDistancesBelow g p ends limit) (sym same) (record {
   room_for = record { vertices = found.room_for.vertices; edges = found.room_for.edges };
   marks = found.marks;
   least = found.least;
@@ -427,14 +427,14 @@ found_kept g p ends limit room kept new same found = subst (IsFound g p ends lim
   );
 })
 
-pub completes_kept : (g : Area) (p : Point) (ends : Ends) (room : Findings) (Whole : List ℕ → Type 0)
-    (walk kept : List ℕ) (v : ℕ) → Completes g p ends room Whole walk v →
-    Completes g p ends (record room { path = kept }) Whole walk v
-completes_kept g p ends room Whole walk kept v so_far = record { known = so_far.known; least = so_far.least; distance = so_far.distance; whole = so_far.whole }
+pub completes_kept : (g : Area) (p : Point) (ends : Ends) (room : Findings) (Holds : List ℕ → Type 0)
+    (walk kept : List ℕ) (v : ℕ) → Completes g p ends room Holds walk v →
+    Completes g p ends (record room { path = kept }) Holds walk v
+completes_kept g p ends room Holds walk kept v so_far = record { known = so_far.known; least = so_far.least; distance = so_far.distance; whole = so_far.whole }
 
 -- where there is a way behind an edge, the room's path has fewer edges than the graph has vertices
 pub way_short : (g : Area) (p : Point) (ends : Ends) (limit : ℕ) (room : Findings) (e : ℕ) → FitsGraph g →
-    IsFound g p ends limit room → e < length g.edges → HasWay g p ends (with_edge room e) (edge_at g e).to →
+    HasDistancesBelow g p ends limit room → e < length g.edges → HasWay g p ends (with_edge room e) (edge_at g e).to →
     length room.path < length room.costs
 way_short g p ends limit room e graph found known way =
     let edge : FitsEdge g (edge_at g e) = graph.edges e no_edge known in

@@ -4,11 +4,11 @@ use Rattle.area_graph.specs.declared.Point.{Point}
 use Rattle.area_graph.specs.Area.{Area}
 use Rattle.area_graph.specs.Costs.{LeadsBy, cost}
 use Rattle.area_graph.specs.Paths.{IsPathOf}
-use Rattle.path_rows.specs.declared.problem.Request.{Request}
-use Rattle.path_rows.specs.Problems.{ends_of, request_at}
+use Rattle.design_problem.specs.declared.problem.Request.{Request}
+use Rattle.design_problem.specs.Problems.{request_ends, request_at}
 use Rattle.spf_ties.specs.Distances.{Findings, IsRoomFor}
 use Rattle.rival_separation.specs.declared.asker.Shared.{Shared}
-use Rattle.rival_separation.specs.Rivals.{IsFound}
+use Rattle.rival_separation.specs.Rivals.{HasDistancesBelow}
 
 -- what an asker shows: its room, the requests' numbers in the order in which they are looked at, and a mark for each request
 pub record Asking : Type 0 where
@@ -16,7 +16,7 @@ pub record Asking : Type 0 where
   pub order : List ℕ
   pub marks : List Bool
 
--- an asker made for a graph and so many requests: each request's number stands in the order, and no other number
+-- an asker for a graph and so many requests: the number of each stands in the order in which they are looked at
 pub record IsAskerFor (g : Area) (requests : List Request) (asker : Asking) : Type 0 where
   pub room : IsRoomFor g asker.room
   pub known : All (λ k. k < length requests) asker.order
@@ -25,11 +25,11 @@ pub record IsAskerFor (g : Area) (requests : List Request) (asker : Asking) : Ty
 
 -- the path of each request is a simple path of it
 abbrev pub ArePathsOf : Area → List Request → Type 0
-ArePathsOf g requests = All (λ r. IsPathOf g (ends_of r) r.path.edges) requests
+ArePathsOf g requests = All (λ r. IsPathOf g (request_ends r) r.path.edges) requests
 
 -- the path of a request leads at a point by the scale
 abbrev pub RequestLeads : Area → Point → Request → Type 0
-RequestLeads g p r = LeadsBy p.scale g p (ends_of r) r.path.edges
+RequestLeads g p r = LeadsBy p.scale g p (request_ends r) r.path.edges
 
 -- what a rival costs at least where the path of a request leads
 abbrev pub lead_at : Area → Point → Request → ℕ
@@ -44,15 +44,15 @@ IsMarkTrue g p requests marks k =
 -- the room has the distances to the end of a request without the edges that it takes away, those below a limit
 pub record IsShared (g : Area) (p : Point) (requests : List Request) (room : Findings) (shared : Shared) : Type 0 where
   pub known : shared.request < length requests
-  pub found : IsFound g p (ends_of (request_at requests shared.request)) shared.limit room
+  pub found : HasDistancesBelow g p (request_ends (request_at requests shared.request)) shared.limit room
 
 -- nothing is known of what the room has, or such distances
 abbrev pub MayShare : Area → Point → List Request → Findings → Option Shared → Type 0
 MayShare g p requests room None = Unit {0}
 MayShare g p requests room (Some shared) = IsShared g p requests room shared
 
--- the room has what the path of a request is compared with
-pub record IsReady (g : Area) (p : Point) (requests : List Request) (room : Findings) (k : ℕ) (shared : Shared) : Type 0 where
+-- the room has the distances up to what the path of a request is compared with
+pub record IsReadyToCompare (g : Area) (p : Point) (requests : List Request) (room : Findings) (k : ℕ) (shared : Shared) : Type 0 where
   pub of_request : shared.request ≡ k
   pub shares : IsShared g p requests room shared
   pub above : lead_at g p (request_at requests k) ≤ shared.limit

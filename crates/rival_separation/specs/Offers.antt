@@ -8,31 +8,31 @@ use Rattle.spf_ties.specs.Distances.{Findings, distance_at}
 use Rattle.rival_separation.specs.declared.deviation.Deviation.{Deviation}
 
 -- the edge isn't gone, from its end on some path costs least, and with that path it costs so much
-pub record IsOnward (g : Area) (p : Point) (gone : List ℕ) (room : Findings) (e total : ℕ) : Type 0 where
+pub record IsOnward (g : Area) (p : Point) (excluded : List ℕ) (room : Findings) (e total : ℕ) : Type 0 where
   pub rest : ℕ
-  pub left : Lacks gone e
+  pub left : Lacks excluded e
   pub distance : distance_at room (edge_at g e).to ≡ Some rest
   pub sums : total ≡ price_at p (edge_at g e).price + rest
 
 -- at the vertex of its place the path may be left by an edge that isn't gone, and from its end on some path costs least
-pub record Offers (g : Area) (p : Point) (gone : List ℕ) (room : Findings) (path : List ℕ) (place e total : ℕ) : Type 0 where
+pub record Offers (g : Area) (p : Point) (excluded : List ℕ) (room : Findings) (path : List ℕ) (place e total : ℕ) : Type 0 where
   pub rest : ℕ
   pub within : place < length path
   pub known : e < length g.edges
   pub from : (edge_at g e).from ≡ (edge_at g (slice_index path place)).from
   pub other : e ≢ slice_index path place
-  pub left : Lacks gone e
+  pub left : Lacks excluded e
   pub distance : distance_at room (edge_at g e).to ≡ Some rest
   pub sums : total ≡ cost g p (take place path) + (price_at p (edge_at g e).price + rest)
 
--- Of the offers that were seen, each a place, an edge and a cost, the best is one that none undercuts, or none was made.
-abbrev pub IsBestOf : (ℕ → ℕ → ℕ → Type 0) → (ℕ → ℕ → Type 0) → Option Deviation → Type 0
-IsBestOf Offer Seen None = (place e total : ℕ) → Seen place e → Offer place e total → ⊥
-IsBestOf Offer Seen (Some best) = Offer best.place best.edge best.cost × ((place e total : ℕ) → Seen place e → Offer place e total → best.cost ≤ total)
+-- the best of the offers that were seen: none of them costs less; or none was made
+abbrev pub IsBestOffer : (ℕ → ℕ → ℕ → Type 0) → (ℕ → ℕ → Type 0) → Option Deviation → Type 0
+IsBestOffer Offer Seen None = (place e total : ℕ) → Seen place e → Offer place e total → ⊥
+IsBestOffer Offer Seen (Some best) = Offer best.place best.edge best.cost × ((place e total : ℕ) → Seen place e → Offer place e total → best.cost ≤ total)
 
--- so it is with the ways to leave a path
-abbrev pub IsBest : Area → Point → List ℕ → Findings → List ℕ → (ℕ → ℕ → Type 0) → Option Deviation → Type 0
-IsBest g p gone room path Seen best = IsBestOf (Offers g p gone room path) Seen best
+-- the best of the offers that were seen to leave a path, if one was made
+abbrev pub IsBestDeviation : Area → Point → List ℕ → Findings → List ℕ → (ℕ → ℕ → Type 0) → Option Deviation → Type 0
+IsBestDeviation g p excluded room path Seen best = IsBestOffer (Offers g p excluded room path) Seen best
 
 -- the better of the best deviation so far and a later one: the first, unless the later one costs less
 abbrev pub IsBetter : Option Deviation → Deviation → Deviation → Type 0

@@ -3,14 +3,14 @@
 ghost use Rattle.std.specs.Prelude.{◌≡◌, ◌↔◌, ◌<◌, ◌≤◌, ℕ, All, Contains, IfOk, IsTrue, MatchBool, Some, length, slice_index, slice_index_or, true};
 ghost use Rattle.area_graph.specs.Costs.{FitsPoint};
 ghost use Rattle.area_graph.specs.Paths.{IsPathOf};
-ghost use Rattle.path_rows.specs.Problems.{ends_of, request_at};
-ghost use Rattle.rival_separation.specs.Askers.{ArePathsOf, IsAskerFor, IsMarkTrue, IsReady, IsShared, MayShare, RequestLeads, lead_at};
-ghost use Rattle.rival_separation.specs.Rivals.{IsCheapest, IsFoundTo};
+ghost use Rattle.design_problem.specs.Problems.{request_ends, request_at};
+ghost use Rattle.rival_separation.specs.Askers.{ArePathsOf, IsAskerFor, IsMarkTrue, IsReadyToCompare, IsShared, MayShare, RequestLeads, lead_at};
+ghost use Rattle.rival_separation.specs.Rivals.{IsCheapestRival, HasDistancesTo};
 
 use crate::rival::{cheap_deviation, find_rival, least_lead};
 use area_graph::{Graph, Point};
 use cost_base::OutOfMemory;
-use path_rows::Request;
+use design_problem::Request;
 use spf_ties::Room;
 use std::alloc::Global;
 use std::marker::Model;
@@ -43,8 +43,8 @@ impl Model for Asker {
 fn target_of(requests: &[Request], number: u32) -> (u32, usize, Option<u32>) {
     match requests.get(number as usize) {
         Some(request) => {
-            let gone = request.gone.as_slice();
-            (request.end, gone.len(), gone.first().copied())
+            let excluded = request.excluded.as_slice();
+            (request.end, excluded.len(), excluded.first().copied())
         }
         None => (0, 0, None),
     }
@@ -75,16 +75,16 @@ fn request_of(requests: &[Request], number: u32) -> &Request
 /// Whether distances found for one request serve another: they have one end, and take away the same edges.
 fn share(first: &Request, other: &Request) -> bool
     ensures end { IsTrue result → first.now.end ≡ other.now.end }
-    ensures gone { IsTrue result → first.now.gone ≡ other.now.gone }
+    ensures excluded { IsTrue result → first.now.excluded ≡ other.now.excluded }
 {
-    first.end == other.end && first.gone.as_slice() == other.gone.as_slice()
+    first.end == other.end && first.excluded.as_slice() == other.excluded.as_slice()
 }
 
 /// Whether a request has a rival that costs less than its path and the scale. The room has the distances below that.
 fn is_beaten(graph: &Graph, request: &Request, point: &Point, room: &Room) -> bool
     requires fits { FitsPoint graph.now point.now }
-    requires path { IsPathOf graph.now (ends_of request.now) request.now.path.edges }
-    requires found { IsFoundTo graph.now point.now (ends_of request.now) (lead_at graph.now point.now request.now) room.now }
+    requires path { IsPathOf graph.now (request_ends request.now) request.now.path.edges }
+    requires found { HasDistancesTo graph.now point.now (request_ends request.now) (lead_at graph.now point.now request.now) room.now }
     ensures { MatchBool result (RequestLeads graph.now point.now request.now → ⊥) (RequestLeads graph.now point.now request.now) }
 {
     graph.keeps_conditions();
@@ -167,13 +167,18 @@ impl Asker {
         requires place { place < length self.old.order }
         ensures asker { IsAskerFor graph.now requests.now self.new }
         ensures same { self.new ≡ record self.old { room = self.new.room } }
-        ensures ready { IsReady graph.now point.now requests.now self.new.room (slice_index self.old.order place) result }
+        ensures ready { IsReadyToCompare graph.now point.now requests.now self.new.room (slice_index self.old.order place) result }
     {
         let limit = self.limit_at(graph, requests, point, place);
         let request = self.request_at(requests, place);
         let number = self.number_at(place);
-        self.room
-            .distances_within(graph, point, request.end, request.gone.as_slice(), limit);
+        self.room.distances_within(
+            graph,
+            point,
+            request.end,
+            request.excluded.as_slice(),
+            limit,
+        );
         Shared {
             request: number,
             limit,
@@ -194,7 +199,7 @@ impl Asker {
         requires paths { ArePathsOf graph.now requests.now }
         requires place { place < length self.now.order }
         requires shared { IsShared graph.now point.now requests.now self.now.room shared }
-        ensures { IsTrue result → IsReady graph.now point.now requests.now self.now.room (slice_index self.now.order place)
+        ensures { IsTrue result → IsReadyToCompare graph.now point.now requests.now self.now.room (slice_index self.now.order place)
             (record { request = slice_index self.now.order place; limit = shared.limit }) }
     {
         let request = self.request_at(requests, place);
@@ -221,7 +226,7 @@ impl Asker {
         requires shared { MayShare graph.now point.now requests.now self.old.room shared }
         ensures asker { IsAskerFor graph.now requests.now self.new }
         ensures same { self.new ≡ record self.old { room = self.new.room } }
-        ensures ready { IsReady graph.now point.now requests.now self.new.room (slice_index self.old.order place) result }
+        ensures ready { IsReadyToCompare graph.now point.now requests.now self.new.room (slice_index self.old.order place) result }
     {
         if let Some(shared) = shared {
             if self.serves(graph, requests, point, place, shared) {
@@ -240,7 +245,7 @@ impl Asker {
         requires fits { FitsPoint graph.now point.now }
         requires paths { ArePathsOf graph.now requests.now }
         requires place { place < length self.now.order }
-        requires found { IsFoundTo graph.now point.now (ends_of (request_at requests.now (slice_index self.now.order place)))
+        requires found { HasDistancesTo graph.now point.now (request_ends (request_at requests.now (slice_index self.now.order place)))
             (lead_at graph.now point.now (request_at requests.now (slice_index self.now.order place))) self.now.room }
         ensures { MatchBool result
             (RequestLeads graph.now point.now (request_at requests.now (slice_index self.now.order place)) → ⊥)
@@ -255,7 +260,7 @@ impl Asker {
         requires fits { FitsPoint graph.now point.now }
         requires paths { ArePathsOf graph.now requests.now }
         requires place { place < length self.old.order }
-        requires found { IsFoundTo graph.now point.now (ends_of (request_at requests.now (slice_index self.old.order place)))
+        requires found { HasDistancesTo graph.now point.now (request_ends (request_at requests.now (slice_index self.old.order place)))
             (lead_at graph.now point.now (request_at requests.now (slice_index self.old.order place))) self.old.room }
         ensures asker { IsAskerFor graph.now requests.now self.new }
         ensures same { self.new ≡ record self.old { marks = self.new.marks } }
@@ -326,7 +331,7 @@ impl Asker {
         ensures asker { IsAskerFor graph.now requests.now self.new }
         ensures marks { self.new.marks ≡ self.old.marks }
         ensures rival { MatchBool result
-            (IsCheapest graph.now point.now (ends_of (request_at requests.now request)) (request_at requests.now request).path.edges self.new.room.path)
+            (IsCheapestRival graph.now point.now (request_ends (request_at requests.now request)) (request_at requests.now request).path.edges self.new.room.path)
             (RequestLeads graph.now point.now (request_at requests.now request)) }
     {
         find_rival(graph, request_of(requests, request), point, &mut self.room)

@@ -4,12 +4,12 @@ ghost use Rattle.std.specs.Prelude.{◌≡◌, ◌+◌, ◌<◌, ◌≤◌, ◌*
 ghost use Rattle.area_graph.specs.Area.{edge_at};
 ghost use Rattle.area_graph.specs.Costs.{FitsPoint, cost};
 ghost use Rattle.area_graph.specs.Paths.{IsPathOf};
-ghost use Rattle.path_rows.specs.Problems.{ends_of};
-ghost use Rattle.rival_separation.specs.Offers.{IsBest, IsBetter, IsBetterBy, IsOnward, Offers};
-ghost use Rattle.rival_separation.specs.Rivals.{IsFound};
+ghost use Rattle.design_problem.specs.Problems.{request_ends};
+ghost use Rattle.rival_separation.specs.Offers.{IsBestDeviation, IsBetter, IsBetterBy, IsOnward, Offers};
+ghost use Rattle.rival_separation.specs.Rivals.{HasDistancesBelow};
 
 use area_graph::{Graph, Point, edge_of, price_of};
-use path_rows::Request;
+use design_problem::Request;
 use spf_ties::Room;
 
 /// A walk that leaves a path, or the common beginnings of several, at a place by an edge, and costs so much.
@@ -33,11 +33,11 @@ pub fn onward(
     number: u32,
 ) -> Option<u128>
     requires fits { FitsPoint graph.now point.now }
-    requires found { (limit : ℕ) × IsFound graph.now point.now (ends_of request.now) limit room.now }
+    requires found { (limit : ℕ) × HasDistancesBelow graph.now point.now (request_ends request.now) limit room.now }
     requires known { number < length graph.now.edges }
     ensures onward { MatchOption result
-        ((total : ℕ) → IsOnward graph.now point.now request.now.gone room.now number total → ⊥)
-        (λ total. IsOnward graph.now point.now request.now.gone room.now number total) }
+        ((total : ℕ) → IsOnward graph.now point.now request.now.excluded room.now number total → ⊥)
+        (λ total. IsOnward graph.now point.now request.now.excluded room.now number total) }
     ensures below { IfSome result (λ total. total < 2 ^ 27 * point.now.scale) }
 {
     graph.keeps_conditions();
@@ -63,15 +63,15 @@ fn offer(
     number: u32,
 ) -> Option<u128>
     requires fits { FitsPoint graph.now point.now }
-    requires found { (limit : ℕ) × IsFound graph.now point.now (ends_of request.now) limit room.now }
+    requires found { (limit : ℕ) × HasDistancesBelow graph.now point.now (request_ends request.now) limit room.now }
     requires place { place < length request.now.path.edges }
     requires before { before ≡ cost graph.now point.now (take place request.now.path.edges) }
     requires near { before < 2 ^ 26 * point.now.scale }
     requires known { number < length graph.now.edges }
     requires from { (edge_at graph.now number).from ≡ (edge_at graph.now (slice_index request.now.path.edges place)).from }
     ensures { MatchOption result
-        ((total : ℕ) → Offers graph.now point.now request.now.gone room.now request.now.path.edges place number total → ⊥)
-        (λ total. Offers graph.now point.now request.now.gone room.now request.now.path.edges place number total) }
+        ((total : ℕ) → Offers graph.now point.now request.now.excluded room.now request.now.path.edges place number total → ⊥)
+        (λ total. Offers graph.now point.now request.now.excluded room.now request.now.path.edges place number total) }
 {
     if number == request.path.edges.as_slice()[place] {
         return None;
@@ -124,13 +124,13 @@ fn better_at(
     best: Option<Deviation>,
 ) -> Option<Deviation>
     requires fits { FitsPoint graph.now point.now }
-    requires found { (limit : ℕ) × IsFound graph.now point.now (ends_of request.now) limit room.now }
-    requires path { IsPathOf graph.now (ends_of request.now) request.now.path.edges }
+    requires found { (limit : ℕ) × HasDistancesBelow graph.now point.now (request_ends request.now) limit room.now }
+    requires path { IsPathOf graph.now (request_ends request.now) request.now.path.edges }
     requires place { place < length request.now.path.edges }
     requires before { before ≡ cost graph.now point.now (take place request.now.path.edges) }
     requires near { before < 2 ^ 26 * point.now.scale }
-    requires best { IsBest graph.now point.now request.now.gone room.now request.now.path.edges (λ earlier e. earlier < place) best }
-    ensures { IsBest graph.now point.now request.now.gone room.now request.now.path.edges (λ earlier e. earlier < place + 1) result }
+    requires best { IsBestDeviation graph.now point.now request.now.excluded room.now request.now.path.edges (λ earlier e. earlier < place) best }
+    ensures { IsBestDeviation graph.now point.now request.now.excluded room.now request.now.path.edges (λ earlier e. earlier < place + 1) result }
 {
     graph.keeps_conditions();
     let named = request.path.edges.as_slice()[place];
@@ -151,9 +151,9 @@ pub(crate) fn least_deviation(
     room: &Room,
 ) -> Option<Deviation>
     requires fits { FitsPoint graph.now point.now }
-    requires found { (limit : ℕ) × IsFound graph.now point.now (ends_of request.now) limit room.now }
-    requires path { IsPathOf graph.now (ends_of request.now) request.now.path.edges }
-    ensures { IsBest graph.now point.now request.now.gone room.now request.now.path.edges (λ place e. place < length request.now.path.edges) result }
+    requires found { (limit : ℕ) × HasDistancesBelow graph.now point.now (request_ends request.now) limit room.now }
+    requires path { IsPathOf graph.now (request_ends request.now) request.now.path.edges }
+    ensures { IsBestDeviation graph.now point.now request.now.excluded room.now request.now.path.edges (λ place e. place < length request.now.path.edges) result }
 {
     graph.keeps_conditions();
     let mut best = None;

@@ -1,4 +1,4 @@
-//! The cheapest rival of a requested path at a point: the test that separates a relaxed point from what it lacks.
+//! The cheapest rival of a wanted path at a point: the test that separates a relaxed point from what it lacks.
 #![tactic(auto)]
 
 mod asker;

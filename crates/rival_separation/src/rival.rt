@@ -1,23 +1,23 @@
-//! The cheapest rival of a requested path.
+//! The cheapest rival of a wanted path.
 
 ghost use Rattle.std.specs.Prelude.{◌≡◌, ◌↔◌, ◌++◌, ◌∷◌, [], ◌+◌, ◌<◌, ◌≤◌, ℕ, All, List, IsTrue, MatchBool, MatchOption, Some};
 ghost use Rattle.std.specs.Prelude.{false, length, slice_index_or, take, true};
 ghost use Rattle.area_graph.specs.Area.{edge_at, edges_out};
 ghost use Rattle.area_graph.specs.Costs.{FitsPoint, LeadsBy, cost};
 ghost use Rattle.area_graph.specs.Paths.{IsPathOf};
-ghost use Rattle.path_rows.specs.Problems.{ends_of};
+ghost use Rattle.design_problem.specs.Problems.{request_ends};
 ghost use Rattle.spf_ties.specs.Distances.{IsRoomFor, is_tight};
-ghost use Rattle.rival_separation.specs.Answers.{IsAnswer};
-ghost use Rattle.rival_separation.specs.Offers.{IsBest};
-ghost use Rattle.rival_separation.specs.Rivals.{HasWay, IsCheapest, IsFollowed, IsFound, IsFoundTo, IsNext, with_edge};
+ghost use Rattle.rival_separation.specs.Answers.{IsRivalAnswer};
+ghost use Rattle.rival_separation.specs.Offers.{IsBestDeviation};
+ghost use Rattle.rival_separation.specs.Rivals.{HasWay, IsCheapestRival, IsFollowedByLeast, HasDistancesBelow, HasDistancesTo, IsNextEdge, with_edge};
 ghost use Rattle.rival_separation.specs.declared.deviation.Deviation.{Deviation};
 
 use crate::deviation::{Deviation, least_deviation};
 use area_graph::{Graph, Point, edge_of, path_cost};
-use path_rows::Request;
+use design_problem::Request;
 use spf_ties::Room;
 
-/// What the rivals of a requested path cost at a point.
+/// What the rivals of a wanted path cost at a point.
 #[derive(Drop)]
 pub enum Rival<'a> {
     /// Every other simple path of the request costs at least the scale more.
@@ -43,7 +43,7 @@ fn next_edge(graph: &Graph, point: &Point, room: &Room, vertex: u32) -> Option<u
     requires vertex { vertex < length graph.now.vertices }
     ensures { MatchOption result
         (All (λ e. is_tight graph.now point.now room.now e ≡ true → slice_index_or room.now.marks e true ≡ false → ⊥) (edges_out graph.now vertex))
-        (λ e. IsNext graph.now point.now room.now vertex e) }
+        (λ e. IsNextEdge graph.now point.now room.now vertex e) }
 {
     for number in graph.edges_out(vertex) {
         if leads_on(graph, point, room, *number) {
@@ -68,10 +68,10 @@ pub fn put_front(room: &mut Room, edges: &[u32])
 /// each behind the path that the room keeps: a path of least cost. The room has the distances to that end.
 fn follow(graph: &Graph, request: &Request, point: &Point, start: u32, room: &mut Room)
     requires fits { FitsPoint graph.now point.now }
-    requires found { (limit : ℕ) × IsFound graph.now point.now (ends_of request.now) limit room.old }
-    requires way { HasWay graph.now point.now (ends_of request.now) room.old start }
+    requires found { (limit : ℕ) × HasDistancesBelow graph.now point.now (request_ends request.now) limit room.old }
+    requires way { HasWay graph.now point.now (request_ends request.now) room.old start }
     ensures room { IsRoomFor graph.now room.new }
-    ensures followed { IsFollowed graph.now point.now (ends_of request.now) room.old start room.new.path }
+    ensures followed { IsFollowedByLeast graph.now point.now (request_ends request.now) room.old start room.new.path }
 {
     graph.keeps_conditions();
     let mut at = start;
@@ -91,10 +91,10 @@ fn follow(graph: &Graph, request: &Request, point: &Point, start: u32, room: &mu
 pub fn leave_by(graph: &Graph, request: &Request, point: &Point, edge: u32, room: &mut Room)
     requires fits { FitsPoint graph.now point.now }
     requires known { edge < length graph.now.edges }
-    requires found { (limit : ℕ) × IsFound graph.now point.now (ends_of request.now) limit room.old }
-    requires way { HasWay graph.now point.now (ends_of request.now) (with_edge room.old edge) (edge_at graph.now edge).to }
+    requires found { (limit : ℕ) × HasDistancesBelow graph.now point.now (request_ends request.now) limit room.old }
+    requires way { HasWay graph.now point.now (request_ends request.now) (with_edge room.old edge) (edge_at graph.now edge).to }
     ensures room { IsRoomFor graph.now room.new }
-    ensures followed { IsFollowed graph.now point.now (ends_of request.now) (with_edge room.old edge) (edge_at graph.now edge).to room.new.path }
+    ensures followed { IsFollowedByLeast graph.now point.now (request_ends request.now) (with_edge room.old edge) (edge_at graph.now edge).to room.new.path }
 {
     graph.keeps_conditions();
     room.add_to_path(edge);
@@ -104,7 +104,7 @@ pub fn leave_by(graph: &Graph, request: &Request, point: &Point, edge: u32, room
 /// What a rival costs at least where the path of a request leads by the scale: what the path costs, and the scale.
 pub(crate) fn least_lead(graph: &Graph, request: &Request, point: &Point) -> u128
     requires fits { FitsPoint graph.now point.now }
-    requires path { IsPathOf graph.now (ends_of request.now) request.now.path.edges }
+    requires path { IsPathOf graph.now (request_ends request.now) request.now.path.edges }
     ensures { result ≡ cost graph.now point.now request.now.path.edges + point.now.scale }
 {
     path_cost(graph, &request.path, point) + point.scale
@@ -119,11 +119,11 @@ pub(crate) fn cheap_deviation(
     room: &Room,
 ) -> Option<Deviation>
     requires fits { FitsPoint graph.now point.now }
-    requires found { IsFoundTo graph.now point.now (ends_of request.now) (cost graph.now point.now request.now.path.edges + point.now.scale) room.now }
-    requires path { IsPathOf graph.now (ends_of request.now) request.now.path.edges }
+    requires found { HasDistancesTo graph.now point.now (request_ends request.now) (cost graph.now point.now request.now.path.edges + point.now.scale) room.now }
+    requires path { IsPathOf graph.now (request_ends request.now) request.now.path.edges }
     ensures { MatchOption result
-        (LeadsBy point.now.scale graph.now point.now (ends_of request.now) request.now.path.edges)
-        (λ best. IsBest graph.now point.now request.now.gone room.now request.now.path.edges (λ place e. place < length request.now.path.edges) (Some best)
+        (LeadsBy point.now.scale graph.now point.now (request_ends request.now) request.now.path.edges)
+        (λ best. IsBestDeviation graph.now point.now request.now.excluded room.now request.now.path.edges (λ place e. place < length request.now.path.edges) (Some best)
         × (best.cost < cost graph.now point.now request.now.path.edges + point.now.scale)) }
 {
     graph.keeps_conditions();
@@ -146,14 +146,20 @@ pub(crate) fn cheap_deviation(
 pub fn find_rival(graph: &Graph, request: &Request, point: &Point, room: &mut Room) -> bool
     requires room { IsRoomFor graph.now room.old }
     requires fits { FitsPoint graph.now point.now }
-    requires path { IsPathOf graph.now (ends_of request.now) request.now.path.edges }
+    requires path { IsPathOf graph.now (request_ends request.now) request.now.path.edges }
     ensures room { IsRoomFor graph.now room.new }
     ensures rival { MatchBool result
-        (IsCheapest graph.now point.now (ends_of request.now) request.now.path.edges room.new.path)
-        (LeadsBy point.now.scale graph.now point.now (ends_of request.now) request.now.path.edges) }
+        (IsCheapestRival graph.now point.now (request_ends request.now) request.now.path.edges room.new.path)
+        (LeadsBy point.now.scale graph.now point.now (request_ends request.now) request.now.path.edges) }
 {
     let limit = least_lead(graph, request, point);
-    room.distances_within(graph, point, request.end, request.gone.as_slice(), limit);
+    room.distances_within(
+        graph,
+        point,
+        request.end,
+        request.excluded.as_slice(),
+        limit,
+    );
     match cheap_deviation(graph, request, point, room) {
         Some(best) => {
             lay_out(graph, request, point, best, room);
@@ -166,12 +172,12 @@ pub fn find_rival(graph: &Graph, request: &Request, point: &Point, room: &mut Ro
 /// Makes the path that the room keeps the cheapest rival: up to the place of the best deviation it is the request's path.
 fn lay_out(graph: &Graph, request: &Request, point: &Point, best: Deviation, room: &mut Room)
     requires fits { FitsPoint graph.now point.now }
-    requires found { IsFoundTo graph.now point.now (ends_of request.now) (cost graph.now point.now request.now.path.edges + point.now.scale) room.old }
-    requires path { IsPathOf graph.now (ends_of request.now) request.now.path.edges }
-    requires best { IsBest graph.now point.now request.now.gone room.old request.now.path.edges (λ place e. place < length request.now.path.edges) (Some best) }
+    requires found { HasDistancesTo graph.now point.now (request_ends request.now) (cost graph.now point.now request.now.path.edges + point.now.scale) room.old }
+    requires path { IsPathOf graph.now (request_ends request.now) request.now.path.edges }
+    requires best { IsBestDeviation graph.now point.now request.now.excluded room.old request.now.path.edges (λ place e. place < length request.now.path.edges) (Some best) }
     requires cheap { best.cost < cost graph.now point.now request.now.path.edges + point.now.scale }
     ensures room { IsRoomFor graph.now room.new }
-    ensures cheapest { IsCheapest graph.now point.now (ends_of request.now) request.now.path.edges room.new.path }
+    ensures cheapest { IsCheapestRival graph.now point.now (request_ends request.now) request.now.path.edges room.new.path }
 {
     graph.keeps_conditions();
     put_front(room, &request.path.edges.as_slice()[..best.place]);
@@ -189,8 +195,8 @@ pub fn cheapest_rival<'a>(
 ) -> Rival<'a>
     requires room { IsRoomFor graph.now room.old }
     requires fits { FitsPoint graph.now point.now }
-    requires path { IsPathOf graph.now (ends_of request.now) request.now.path.edges }
-    ensures { IsAnswer graph.now point.now (ends_of request.now) request.now.path.edges result }
+    requires path { IsPathOf graph.now (request_ends request.now) request.now.path.edges }
+    ensures { IsRivalAnswer graph.now point.now (request_ends request.now) request.now.path.edges result }
 {
     if find_rival(graph, request, point, room) {
         Rival::Cheaper(room.path())

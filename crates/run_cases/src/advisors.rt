@@ -1,7 +1,7 @@
 //! Advisors of a case.
 
-use advisor_box::{Advisor, Candidate};
-use path_rows::Entry;
+use cut_advisors::{Advisor, Candidate};
+use design_problem::Entry;
 
 /// An advisor of a case.
 #[derive(Clone, Copy)]

@@ -2,9 +2,9 @@
 
 use crate::advisors::{Adviser, Always};
 use crate::case::{Case, Wanted};
-use advisor_box::{Advisor, SmallestNumber};
 use anyhow::{Result, anyhow};
 use cost_base::{MemoryShelf, MemorySink, Status, SureShelf, SureSink};
+use cut_advisors::{Advisor, SmallestNumber};
 use designer_command::run;
 use std::alloc::{AllocError, Global};
 

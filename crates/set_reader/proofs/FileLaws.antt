@@ -13,17 +13,17 @@ use Rattle.text_lines.specs.TextLeft.{TextLeft}
 use Rattle.text_lines.specs.Reading.{IsLineRead, IsLongLine}
 use Rattle.text_lines.specs.declared.line_reader.Line.{Line}
 use Rattle.text_lines.specs.declared.line_reader.LongLine.{LongLine}
-use Rattle.path_rows.specs.declared.problem.Request.{Request}
-use Rattle.path_rows.specs.Problems.{DesignProblem}
+use Rattle.design_problem.specs.declared.problem.Request.{Request}
+use Rattle.design_problem.specs.Problems.{DesignProblem}
 use Rattle.set_reader.specs.declared.stop.SetFault.{SetFault}
 use Rattle.set_reader.specs.declared.stop.SetFault.TheVariants.{BadSetLine}
 use Rattle.set_reader.specs.declared.reading.statement.Statement.{Statement}
 use Rattle.set_reader.specs.declared.reading.statement.Statement.TheVariants.{Passed, Header, Numbers, Off}
 use Rattle.set_reader.specs.declared.stop.SetStop.{SetStop}
 use Rattle.set_reader.specs.declared.stop.SetStop.TheVariants.{Refused, OutOfMemory}
-use Rattle.set_reader.specs.SetLines.{said_by, speaks, numbers_in}
+use Rattle.set_reader.specs.SetLines.{said_by, speaks, numbers_of_set}
 use Rattle.set_reader.specs.Reading.{Told, IsInOrder, AreSaid, told_by, wrong_if, fault_said, fault_of, fault_behind, end_faults, set_fault, TellsReading}
-use Rattle.set_reader.specs.ReadingSteps.{SoFar, Adds, TakesLine, told_of}
+use Rattle.set_reader.specs.ReadingSteps.{SoFar, AddsSet, TakesLine, told_of}
 use Rattle.text_lines.proofs.FaultLaws.{IsReadTo, nothing_read, one_more_read, first_told, all_read}
 use Rattle.set_reader.proofs.SetLaws.{wrong_alike}
 
@@ -32,12 +32,12 @@ spoken_push : (file : List (List ℕ)) (line : List ℕ) → (told_by (file ++ l
 spoken_push file line = list_any-append (λ l. speaks (said_by l)) file (line ∷ [])
     ∙ ap (λ (b : Bool). list_any (λ l. speaks (said_by l)) file || b) (or-false (speaks (said_by line)))
 
-sets_push : (file : List (List ℕ)) (line : List ℕ) → (told_by (file ++ line ∷ [])).sets ≡ (told_by file).sets ++ cons_option (numbers_in (said_by line)) []
-sets_push file line = filter_map-append (λ l. numbers_in (said_by l)) file (line ∷ [])
+sets_push : (file : List (List ℕ)) (line : List ℕ) → (told_by (file ++ line ∷ [])).sets ≡ (told_by file).sets ++ cons_option (numbers_of_set (said_by line)) []
+sets_push file line = filter_map-append (λ l. numbers_of_set (said_by l)) file (line ∷ [])
 
 -- the sets of the lines and of one more, each in rising order
 orders_push : (numbers : Option (List ℕ)) (said sets after : List (List ℕ)) → AllZip IsInOrder said sets →
-    Adds numbers sets after → AllZip IsInOrder (said ++ cons_option numbers []) after
+    AddsSet numbers sets after → AllZip IsInOrder (said ++ cons_option numbers []) after
 orders_push None said sets after orders adds = rw (adds, append-nil said) orders
 orders_push (Some numbers) said sets after orders adds = rw adds.2 (AllZip-push IsInOrder said sets numbers adds.0 orders adds.1)
 
@@ -102,7 +102,7 @@ read_more p bytes left next so_far after line so_read read lawful taken =
       problem = taken.problem ∙ so_read.problem;
       spoken = taken.spoken ∙ ap (λ (b : Bool). b || speaks (said_by text)) so_read.spoken ∙ sym (spoken_push so_read.file text);
       orders = rw (sets_push so_read.file text)
-          (orders_push (numbers_in (said_by text)) (told_by so_read.file).sets so_far.sets after.sets so_read.orders taken.sets);
+          (orders_push (numbers_of_set (said_by text)) (told_by so_read.file).sets so_far.sets after.sets so_read.orders taken.sets);
     }
 
 -- a stop that tells no fault tells nothing

@@ -13,9 +13,9 @@ use Rattle.std.proofs.lemmas.Map.Keys.{IsDistinct-push, IsDistinct-IsPermutation
 use Rattle.cost_base.specs.Lists.{Lacks, same_bytes}
 use Rattle.cost_base.proofs.ByteLemmas.{same_bytes-refl}
 use Rattle.cost_base.proofs.ListLemmas.{list_any-map}
-use Rattle.area_graph.specs.Distances.{AreMarks}
-use Rattle.path_rows.specs.declared.problem.Request.{Request}
-use Rattle.path_rows.specs.Problems.{request_at}
+use Rattle.area_graph.specs.Distances.{AreEdgeMarks}
+use Rattle.design_problem.specs.declared.problem.Request.{Request}
+use Rattle.design_problem.specs.Problems.{request_at}
 use Rattle.set_reader.specs.Reading.{stands_in, has_other_ends, has_edges_of, takes_away, is_wrong_behind, is_wrong_from, is_wrong_set, IsInOrder}
 use Rattle.set_reader.specs.ReadingSteps.{is_out_of_place}
 
@@ -36,7 +36,7 @@ same_false false true there back = sym (there refl)
 same_false false false there back = refl
 
 -- a number's mark tells whether it stands in the numbers that are marked
-pub mark_tells : (earlier : List ℕ) (taken : List Bool) (n : ℕ) → AreMarks earlier taken → n < length taken → get_or taken n true ≡ stands_in n earlier
+pub mark_tells : (earlier : List ℕ) (taken : List Bool) (n : ℕ) → AreEdgeMarks earlier taken → n < length taken → get_or taken n true ≡ stands_in n earlier
 mark_tells earlier taken n are within =
     same_false (get_or taken n true) (stands_in n earlier) (λ clear. lacks_stands earlier n ((are n within).0 clear))
     (λ none. (are n within).1 (stands_lacks earlier n none))
@@ -70,7 +70,7 @@ edges_at requests member = (request_at requests member).path.edges
 
 -- a number that is out of place may not stand in a set
 pub out_is_wrong : (requests : List Request) (taken : List Bool) (earlier members : List ℕ) (n : ℕ) →
-    length taken ≡ length requests → AreMarks earlier taken → is_out_of_place requests taken members n ≡ true →
+    length taken ≡ length requests → AreEdgeMarks earlier taken → is_out_of_place requests taken members n ≡ true →
     is_wrong_behind requests earlier members n ≡ true
 out_is_wrong requests taken earlier members n count are out =
     any_out (not (ltb n (length requests))) (stands_in n earlier) (stands_in n members) (has_other_ends requests members (request_at requests n))
@@ -115,12 +115,12 @@ pub record MembersTo (requests : List Request) (taken : List Bool) (numbers : Li
   pub known : All (λ member. member < length requests) members
   pub edges_are : edges ≡ map (edges_at requests) members
   pub once : IsDistinct eqb members
-  pub left : (earlier : List ℕ) → AreMarks earlier taken → is_wrong_set requests earlier numbers ≡ is_wrong_from requests earlier members (drop i numbers)
+  pub left : (earlier : List ℕ) → AreEdgeMarks earlier taken → is_wrong_set requests earlier numbers ≡ is_wrong_from requests earlier members (drop i numbers)
 
 -- the next number is wrong or right, and the others are left
 next_left : (requests : List Request) (taken : List Bool) (numbers : List ℕ) (i n : ℕ) (members : List ℕ)
     (edges : List (List ℕ)) (earlier : List ℕ) → MembersTo requests taken numbers i members edges → i < length numbers →
-    n ≡ get_or numbers i 0 → AreMarks earlier taken →
+    n ≡ get_or numbers i 0 → AreEdgeMarks earlier taken →
     is_wrong_set requests earlier numbers
     ≡ (is_wrong_behind requests earlier members n
     || is_wrong_from requests earlier (members ++ n ∷ []) (drop (i + 1) numbers))
@@ -130,7 +130,7 @@ next_left requests taken numbers i n members edges earlier to within is marks = 
 
 pub members_wrong : (requests : List Request) (taken : List Bool) (numbers : List ℕ) (i n : ℕ) (members : List ℕ)
     (edges : List (List ℕ)) (earlier : List ℕ) → MembersTo requests taken numbers i members edges → i < length numbers →
-    n ≡ get_or numbers i 0 → AreMarks earlier taken → is_wrong_behind requests earlier members n ≡ true →
+    n ≡ get_or numbers i 0 → AreEdgeMarks earlier taken → is_wrong_behind requests earlier members n ≡ true →
     is_wrong_set requests earlier numbers ≡ true
 members_wrong requests taken numbers i n members edges earlier to within is marks wrong =
     next_left requests taken numbers i n members edges earlier to within is marks
@@ -177,7 +177,7 @@ members_begin requests taken numbers members edges none no_edges = rw (none, no_
 -- all numbers were read
 pub members_done : (requests : List Request) (taken : List Bool) (numbers : List ℕ) (i : ℕ) (members : List ℕ)
     (edges : List (List ℕ)) → MembersTo requests taken numbers i members edges → length numbers ≤ i →
-    (earlier : List ℕ) → AreMarks earlier taken → is_wrong_set requests earlier numbers ≡ false
+    (earlier : List ℕ) → AreEdgeMarks earlier taken → is_wrong_set requests earlier numbers ≡ false
 members_done requests taken numbers i members edges to end earlier marks =
     to.left earlier marks ∙ ap (is_wrong_from requests earlier members) (drop_all numbers i end)
   where

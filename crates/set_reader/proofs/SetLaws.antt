@@ -12,10 +12,10 @@ use Rattle.std.proofs.lemmas.List.Sorted.{IsPermutation-refl, IsPermutation-sym,
 use Rattle.std.proofs.lemmas.Map.Views.{list_any-from_Contains}
 use Rattle.cost_base.proofs.ByteLemmas.{same_bytes-same}
 use Rattle.cost_base.proofs.ListLemmas.{none_passes}
-use Rattle.area_graph.specs.Distances.{AreMarks}
-use Rattle.area_graph.proofs.GoneMarks.{no_marks}
-use Rattle.path_rows.specs.declared.problem.Request.{Request}
-use Rattle.path_rows.specs.Problems.{DesignProblem, request_at, ends_of}
+use Rattle.area_graph.specs.Distances.{AreEdgeMarks}
+use Rattle.area_graph.proofs.ExcludedMarks.{no_marks}
+use Rattle.design_problem.specs.declared.problem.Request.{Request}
+use Rattle.design_problem.specs.Problems.{DesignProblem, request_at, request_ends}
 use Rattle.set_reader.specs.SpreadSets.{IsSetOf}
 use Rattle.set_reader.specs.Reading.{stands_in, same_ends, has_other_ends, has_edges_of, takes_away, is_wrong_behind, is_wrong_from, is_wrong_set, IsInOrder}
 use Rattle.set_reader.specs.ReadingSteps.{KeepsSets}
@@ -24,22 +24,22 @@ use Rattle.set_reader.proofs.MemberLaws.{edges_at}
 -- Numbers that may stand together behind earlier ones.
 record AreRight (requests : List Request) (earlier members : List ℕ) : Type 0 where
   known : All (λ i. i < length requests) members
-  whole : All (λ i. (request_at requests i).gone ≡ []) members
+  whole : All (λ i. (request_at requests i).excluded ≡ []) members
   new : All (λ i. stands_in i earlier ≡ false) members
-  ends : (i j : ℕ) → Contains members i → Contains members j → ends_of (request_at requests i) ≡ ends_of (request_at requests j)
+  ends : (i j : ℕ) → Contains members i → Contains members j → request_ends (request_at requests i) ≡ request_ends (request_at requests j)
   different : (i j : ℕ) → Contains members i → Contains members j → i ≢ j → edges_at requests i ≢ edges_at requests j
 
 right_none : (requests : List Request) (earlier : List ℕ) → AreRight requests earlier []
 right_none requests earlier = record {
   known = All-nil (λ i. i < length requests);
-  whole = All-nil (λ i. (request_at requests i).gone ≡ []);
+  whole = All-nil (λ i. (request_at requests i).excluded ≡ []);
   new = All-nil (λ i. stands_in i earlier ≡ false);
   ends = λ i j one other. absurd (omega (arith, one.1));
   different = λ i j one other apart same. omega (arith, one.1);
 }
 
 -- the ends of two requests that take nothing away
-whole_ends : (a b : Request) → a.gone ≡ [] → b.gone ≡ [] → same_ends a b ≡ true → ends_of a ≡ ends_of b
+whole_ends : (a b : Request) → a.excluded ≡ [] → b.excluded ≡ [] → same_ends a b ≡ true → request_ends a ≡ request_ends b
 whole_ends a b a_whole b_whole same =
     let parts = and_parts (eqb a.path.start b.path.start) (eqb a.end b.end) same in
     cc (eqb-true a.path.start b.path.start parts.0, eqb-true a.end b.end parts.1, a_whole, b_whole)
@@ -59,29 +59,29 @@ right_push requests earlier members n right lawful =
     let fourth = or_parts (outside || before || here) other fifth.0 in
     let third = or_parts (outside || before) here fourth.0 in
     let second = or_parts outside before third.0 in
-    let whole : request.gone ≡ [] = nil_from_length request.gone (omega (arith, ltb-false 0 (length request.gone) last.1)) in
-    let to_new : (i : ℕ) → Contains members i → ends_of (request_at requests i) ≡ ends_of request =
+    let whole : request.excluded ≡ [] = nil_from_length request.excluded (omega (arith, ltb-false 0 (length request.excluded) last.1)) in
+    let to_new : (i : ℕ) → Contains members i → request_ends (request_at requests i) ≡ request_ends request =
     λ i stands. new_ends members right.whole right.ends fourth.1 whole i stands in
     let edges : (i : ℕ) → Contains members i → edges_at requests i ≢ edges_at requests n = λ i stands same. new_edges fifth.1 i stands same in
     record {
       known = All-push (λ i. i < length requests) members n right.known (ltb-true n (length requests) (not-false (ltb n (length requests)) second.0));
-      whole = All-push (λ i. (request_at requests i).gone ≡ []) members n right.whole whole;
+      whole = All-push (λ i. (request_at requests i).excluded ≡ []) members n right.whole whole;
       new = All-push (λ i. stands_in i earlier ≡ false) members n right.new second.1;
       ends = λ i j one two. both_ends (Contains-push_cases members n i one) (Contains-push_cases members n j two) to_new;
       different = λ i j one two apart. both_edges (Contains-push_cases members n i one) (Contains-push_cases members n j two) apart edges;
     }
   where
-    new_ends : (ms : List ℕ) → All (λ i. (request_at requests i).gone ≡ []) ms →
+    new_ends : (ms : List ℕ) → All (λ i. (request_at requests i).excluded ≡ []) ms →
         ((i j : ℕ) → Contains ms i → Contains ms j →
-        ends_of (request_at requests i) ≡ ends_of (request_at requests j)) →
-        has_other_ends requests ms (request_at requests n) ≡ false → (request_at requests n).gone ≡ [] → (i : ℕ) →
-        Contains ms i → ends_of (request_at requests i) ≡ ends_of (request_at requests n)
+        request_ends (request_at requests i) ≡ request_ends (request_at requests j)) →
+        has_other_ends requests ms (request_at requests n) ≡ false → (request_at requests n).excluded ≡ [] → (i : ℕ) →
+        Contains ms i → request_ends (request_at requests i) ≡ request_ends (request_at requests n)
     new_ends [] all_whole ends same whole i stands = absurd (omega (arith, stands.1))
     new_ends (first ∷ more) all_whole ends same whole i stands =
         let begins : Contains (first ∷ more) first = Contains-get_or (first ∷ more) 0 first (omega arith) in
         ends i first stands begins
         ∙ whole_ends (request_at requests first) (request_at requests n)
-        (All-contains (λ m. (request_at requests m).gone ≡ []) (first ∷ more) first all_whole begins) whole
+        (All-contains (λ m. (request_at requests m).excluded ≡ []) (first ∷ more) first all_whole begins) whole
         (not-false (same_ends (request_at requests first) (request_at requests n)) same)
 
     at_member : list_any (has_edges_of requests (request_at requests n)) members ≡ false → (i k : ℕ) →
@@ -96,12 +96,12 @@ right_push requests earlier members n right lawful =
         ∙ same_bytes-same (edges_at requests n) (edges_at requests i) (sym same))
 
     both_ends : {i j : ℕ} → Contains members i ⊎ (n ≡ i) → Contains members j ⊎ (n ≡ j) →
-        ((k : ℕ) → Contains members k → ends_of (request_at requests k) ≡ ends_of (request_at requests n)) →
-        ends_of (request_at requests i) ≡ ends_of (request_at requests j)
+        ((k : ℕ) → Contains members k → request_ends (request_at requests k) ≡ request_ends (request_at requests n)) →
+        request_ends (request_at requests i) ≡ request_ends (request_at requests j)
     both_ends {i} {j} (inl one) (inl two) to_new = to_new i one ∙ sym (to_new j two)
-    both_ends {i} {j} (inl one) (inr two) to_new = to_new i one ∙ ap (λ (k : ℕ). ends_of (request_at requests k)) two
-    both_ends {i} {j} (inr one) (inl two) to_new = ap (λ (k : ℕ). ends_of (request_at requests k)) (sym one) ∙ sym (to_new j two)
-    both_ends {i} {j} (inr one) (inr two) to_new = ap (λ (k : ℕ). ends_of (request_at requests k)) (sym one ∙ two)
+    both_ends {i} {j} (inl one) (inr two) to_new = to_new i one ∙ ap (λ (k : ℕ). request_ends (request_at requests k)) two
+    both_ends {i} {j} (inr one) (inl two) to_new = ap (λ (k : ℕ). request_ends (request_at requests k)) (sym one) ∙ sym (to_new j two)
+    both_ends {i} {j} (inr one) (inr two) to_new = ap (λ (k : ℕ). request_ends (request_at requests k)) (sym one ∙ two)
 
     both_edges : {i j : ℕ} → Contains members i ⊎ (n ≡ i) → Contains members j ⊎ (n ≡ j) → i ≢ j →
         ((k : ℕ) → Contains members k → edges_at requests k ≢ edges_at requests n) →
@@ -128,7 +128,7 @@ set_is p earlier numbers set several right order =
       several = let count = length_permutation numbers set order.same in omega (arith, count, several);
       rising = order.rising;
       known = All-permutation (λ i. i < length p.paths) numbers set order.same right.known;
-      whole = All-permutation (λ i. (request_at p.paths i).gone ≡ []) numbers set order.same right.whole;
+      whole = All-permutation (λ i. (request_at p.paths i).excluded ≡ []) numbers set order.same right.whole;
       ends = λ i j one two. right.ends i j (Contains-permutation set numbers i back one) (Contains-permutation set numbers j back two);
       different = λ i j one two. right.different i j (Contains-permutation set numbers i back one) (Contains-permutation set numbers j back two);
     }
@@ -152,14 +152,14 @@ sets_begin p sets taken none clear = rw (none, clear) (record {
 
 pub sets_more : (p : DesignProblem) (sets : List (List ℕ)) (numbers set : List ℕ) (taken after : List Bool) →
     KeepsSets p sets taken → 2 ≤ length numbers → is_wrong_set p.paths (concat sets) numbers ≡ false →
-    IsInOrder numbers set → AreMarks (concat sets ++ set) after → length after ≡ length taken →
+    IsInOrder numbers set → AreEdgeMarks (concat sets ++ set) after → length after ≡ length taken →
     KeepsSets p (sets ++ set ∷ []) after
 sets_more p sets numbers set taken after kept several lawful order marks count =
     let right = right_all p.paths (concat sets) [] numbers (right_none p.paths (concat sets)) lawful in
     let back = IsPermutation-sym numbers set order.same in
     record {
       count = count ∙ kept.count;
-      marks = subst (λ (xs : List ℕ). AreMarks xs after) (ap (λ (xs : List ℕ). concat sets ++ xs) (sym (append-nil set))
+      marks = subst (λ (xs : List ℕ). AreEdgeMarks xs after) (ap (λ (xs : List ℕ). concat sets ++ xs) (sym (append-nil set))
           ∙ sym (concat-append sets (set ∷ []))) marks;
       lawful = record {
         each = All-push (IsSetOf p) sets set kept.lawful.each (set_is p (concat sets) numbers set several right order);

@@ -5,16 +5,17 @@ use Rattle.std.specs.List.Sorted.{IsStrictlyIncreasing}
 use Rattle.cost_base.specs.Lists.{first_of, same_bytes}
 use Rattle.text_lines.specs.Lines.{lines}
 use Rattle.text_lines.specs.LineFaults.{FaultyLine, fault_at, line_faults}
-use Rattle.path_rows.specs.declared.problem.Request.{Request}
-use Rattle.path_rows.specs.Problems.{DesignProblem, request_at}
+use Rattle.design_problem.specs.declared.problem.Request.{Request}
+use Rattle.design_problem.specs.Problems.{DesignProblem, request_at}
 use Rattle.set_reader.specs.declared.stop.SetFault.{SetFault}
 use Rattle.set_reader.specs.declared.stop.SetFault.TheVariants.{BadSetLine, WrongSet}
 use Rattle.set_reader.specs.declared.stop.SetStop.{SetStop}
 use Rattle.set_reader.specs.declared.stop.SetStop.TheVariants.{Refused, OutOfMemory}
 use Rattle.set_reader.specs.declared.reading.statement.Statement.{Statement}
 use Rattle.set_reader.specs.declared.reading.statement.Statement.TheVariants.{Passed, Header, Numbers, Off}
-use Rattle.set_reader.specs.SetLines.{said_by, speaks, numbers_in}
+use Rattle.set_reader.specs.SetLines.{said_by, speaks, numbers_of_set}
 
+-- the number is among these
 abbrev pub stands_in : ℕ → List ℕ → Bool
 stands_in i numbers = list_any (nat_eq i) numbers
 
@@ -31,8 +32,9 @@ has_other_ends requests (first ∷ more) request = not (same_ends (request_at re
 abbrev pub has_edges_of : List Request → Request → ℕ → Bool
 has_edges_of requests request member = same_bytes request.path.edges (request_at requests member).path.edges
 
+-- the request takes edges away
 abbrev pub takes_away : Request → Bool
-takes_away request = nat_lt 0 (length request.gone)
+takes_away request = nat_lt 0 (length request.excluded)
 
 -- A number may not stand behind these members of its set and these earlier numbers: it is no path's, or it stands there
 -- already; or its path has other ends than the first member's, or the same edges as a member's; or its request takes an edge
@@ -61,12 +63,14 @@ pub record Told : Type 0 where
   pub spoken : Bool
   pub sets : List (List ℕ)
 
+-- what these lines say together
 abbrev pub told_by : List (List ℕ) → Told
 told_by file = record {
   spoken = list_any (λ line. speaks (said_by line)) file;
-  sets = filter_map (λ line. numbers_in (said_by line)) file;
+  sets = filter_map (λ line. numbers_of_set (said_by line)) file;
 }
 
+-- fault 72, where a set is wrong
 abbrev pub wrong_if : Bool → Option SetFault
 wrong_if wrong = if wrong then Some WrongSet else None
 

@@ -13,16 +13,17 @@ header_line (spread ∷ version ∷ []) = if same_bytes spread (codes "spread") 
 header_line _ = Off
 
 -- words that are all numbers, of at most ten digits each
-abbrev pub numbers_of : List (List ℕ) → Option (List ℕ)
-numbers_of words = all_said (λ word. number word 9999999999) words
+abbrev pub numbers_by_words : List (List ℕ) → Option (List ℕ)
+numbers_by_words words = all_said (λ word. number word 9999999999) words
 
+-- a set of at least two numbers; fewer are off the table
 abbrev pub several : Option (List ℕ) → Statement
 several (Some (i ∷ j ∷ more)) = Numbers (i ∷ j ∷ more)
 several _ = Off
 
 -- `set I J ..`
 abbrev pub set_line : List (List ℕ) → Statement
-set_line words = several (numbers_of words)
+set_line words = several (numbers_by_words words)
 
 -- what the words behind the first one say
 abbrev pub line_of : List ℕ → List (List ℕ) → Statement
@@ -46,6 +47,6 @@ speaks Passed = false
 speaks _ = true
 
 -- the numbers of a `set` line
-abbrev pub numbers_in : Statement → Option (List ℕ)
-numbers_in (Numbers ns) = Some ns
-numbers_in _ = None
+abbrev pub numbers_of_set : Statement → Option (List ℕ)
+numbers_of_set (Numbers ns) = Some ns
+numbers_of_set _ = None

@@ -1,7 +1,7 @@
 -- Sets of wanted paths that are to share traffic.
 use Rattle.std.specs.Prelude.{◌≡◌, ◌≢◌, ℕ, ◌<◌, ◌≤◌, List, [], length, All, AllPairs, Contains}
 use Rattle.std.specs.List.Sorted.{IsStrictlyIncreasing}
-use Rattle.path_rows.specs.Problems.{DesignProblem, ends_of, request_at}
+use Rattle.design_problem.specs.Problems.{DesignProblem, request_ends, request_at}
 
 -- The numbers of one set's requests, in rising order: at least two, each of a wanted path. The paths lead between the
 -- same ends, no two of them have the same edges, and no request takes an edge away.
@@ -9,8 +9,8 @@ pub record IsSetOf (p : DesignProblem) (set : List ℕ) : Type 0 where
   pub several : 2 ≤ length set
   pub rising : IsStrictlyIncreasing set
   pub known : All (λ i. i < length p.paths) set
-  pub whole : All (λ i. (request_at p.paths i).gone ≡ []) set
-  pub ends : (i j : ℕ) → Contains set i → Contains set j → ends_of (request_at p.paths i) ≡ ends_of (request_at p.paths j)
+  pub whole : All (λ i. (request_at p.paths i).excluded ≡ []) set
+  pub ends : (i j : ℕ) → Contains set i → Contains set j → request_ends (request_at p.paths i) ≡ request_ends (request_at p.paths j)
   pub different : (i j : ℕ) → Contains set i → Contains set j → i ≢ j → (request_at p.paths i).path.edges ≢ (request_at p.paths j).path.edges
 
 -- sets of a problem's requests, none of which stands in two sets

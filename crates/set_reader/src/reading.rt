@@ -12,8 +12,8 @@ mod reader;
 mod statement;
 
 use crate::{SetFault, SetStop, Sets};
+use design_problem::Problem;
 use line::statement_of;
-use path_rows::Problem;
 use reader::Reader;
 use std::alloc::Global;
 use text_lines::Lines;

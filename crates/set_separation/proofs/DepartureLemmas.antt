@@ -17,14 +17,14 @@ use Rattle.area_graph.specs.Costs.{cost, price_at, FitsPoint}
 use Rattle.area_graph.proofs.Walks.{simple_in_walk}
 use Rattle.area_graph.proofs.Bounds.{cost_below}
 use Rattle.spf_ties.specs.Distances.{Findings, distance_at}
-use Rattle.path_rows.proofs.PathBounds.{simple-short}
-use Rattle.rival_separation.specs.Rivals.{HasWay, IsFollowed, IsFound, ends_from}
+use Rattle.design_problem.proofs.PathBounds.{simple-short}
+use Rattle.rival_separation.specs.Rivals.{HasWay, IsFollowedByLeast, HasDistancesBelow, ends_from}
 use Rattle.rival_separation.proofs.OfferLemmas.{OffersOnce}
 use Rattle.rival_separation.proofs.RivalLemmas.{some_least}
 use Rattle.set_separation.specs.declared.prefix_tree.Step.{Step}
 use Rattle.set_separation.specs.Outsiders.{CostAtLeast, IsCheapestOutsider, IsOutsider}
-use Rattle.set_separation.specs.PrefixTrees.{Begins, HasStep, IsTreeOf, no_step, prefix_at, step_at}
-use Rattle.set_separation.specs.Departures.{ArePlaceCosts, Departs, vertex_of}
+use Rattle.set_separation.specs.PrefixTrees.{BeginsOneOf, HasStep, IsTreeOf, no_step, prefix_of_place, step_at}
+use Rattle.set_separation.specs.Departures.{ArePlaceCosts, Departs, place_vertex}
 use Rattle.set_separation.proofs.PrefixLemmas.{any_step, is_step}
 
 -- Paths that are cut.
@@ -64,7 +64,7 @@ ends_visited g u (e ∷ es) t joins lacks = ends_visited g (edge_at g e).to es t
 
 module _ (g : Area) (ends : Ends) (wanted : List (List ℕ)) (steps : List Step) (tree : IsTreeOf g ends wanted steps) where
   abbrev prefix : ℕ → List ℕ
-  prefix k = prefix_at tree.grown.prefixes k
+  prefix k = prefix_of_place tree.grown.prefixes k
 
   -- the prefix of a place begins a path of the request
   pub begun_path : (k : ℕ) (known : k ≤ length steps) → IsPathOf g ends (prefix k ++ (tree.grown.begun k known).more)
@@ -83,7 +83,7 @@ module _ (g : Area) (ends : Ends) (wanted : List (List ℕ)) (steps : List Step)
       (tree.grown.grown i within) path.simple.joins in
       (cut g ends.start front (e ∷ []) _ (cut g ends.start (front ++ e ∷ []) (tree.grown.begun (i + 1) known).more ends.end whole).before).behind.0
 
-  pub place_joins : (k : ℕ) → k ≤ length steps → Joins g ends.start (prefix k) (vertex_of g ends steps k)
+  pub place_joins : (k : ℕ) → k ≤ length steps → Joins g ends.start (prefix k) (place_vertex g ends steps k)
   place_joins zero known = subst (λ (es : List ℕ). Joins g ends.start es ends.start) (sym tree.grown.root) refl
   place_joins (suc i) known =
       let within : i < length steps = omega arith in
@@ -95,8 +95,8 @@ module _ (g : Area) (ends : Ends) (wanted : List (List ℕ)) (steps : List Step)
       let last = cut g ends.start front (e ∷ []) parts.at_vertex (subst (λ (es : List ℕ). Joins g ends.start es parts.at_vertex) grown parts.before) in
       subst (λ (v : ℕ). Joins g ends.start (prefix (suc i)) v) (sym last.behind.2) parts.before
 
-  pub place_avoids : (k : ℕ) → k ≤ length steps → Avoids ends.gone (prefix k)
-  place_avoids k known = each_left (Lacks ends.gone) (prefix k) (tree.grown.begun k known).more (begun_path k known).kept
+  pub place_avoids : (k : ℕ) → k ≤ length steps → Avoids ends.excluded (prefix k)
+  place_avoids k known = each_left (Lacks ends.excluded) (prefix k) (tree.grown.begun k known).more (begun_path k known).kept
 
   pub place_short : FitsGraph g → (k : ℕ) → k ≤ length steps → length (prefix k) < length g.vertices
   place_short graph k known =
@@ -105,7 +105,7 @@ module _ (g : Area) (ends : Ends) (wanted : List (List ℕ)) (steps : List Step)
       let count = length-append (prefix k) (tree.grown.begun k known).more in
       omega arith
 
-  pub vertex_known : FitsGraph g → (k : ℕ) → k ≤ length steps → vertex_of g ends steps k < length g.vertices
+  pub vertex_known : FitsGraph g → (k : ℕ) → k ≤ length steps → place_vertex g ends steps k < length g.vertices
   vertex_known graph zero known = (begun_path 0 known).simple.start
   vertex_known graph (suc i) known = (graph.edges (step_at steps i).edge no_edge (step_known i (omega arith))).to
 
@@ -174,16 +174,16 @@ record Departed (g : Area) (p : Point) (ends : Ends) (room : Findings) (steps : 
   within : total ≤ most
 
 module _ (g : Area) (p : Point) (ends : Ends) (limit : ℕ) (room : Findings) (wanted : List (List ℕ)) (steps : List Step)
-    (costs : List ℕ) (graph : FitsGraph g) (found : IsFound g p ends limit room) (tree : IsTreeOf g ends wanted steps)
+    (costs : List ℕ) (graph : FitsGraph g) (found : HasDistancesBelow g p ends limit room) (tree : IsTreeOf g ends wanted steps)
     (are : ArePlaceCosts g p steps (length steps) costs) where
   abbrev place_prefix : ℕ → List ℕ
-  place_prefix k = prefix_at tree.grown.prefixes k
+  place_prefix k = prefix_of_place tree.grown.prefixes k
 
   -- a wanted path goes on behind its prefix, or is it
   ended : (q : List ℕ) → IsPathOf g ends q → (k : ℕ) → k ≤ length steps → q ≡ place_prefix k → Contains wanted q
   ended q path k known same = by_more begins.more refl
     where
-      begins : Begins wanted (place_prefix k)
+      begins : BeginsOneOf wanted (place_prefix k)
       begins = tree.grown.begun k known
 
       longer : IsPathOf g ends (place_prefix k ++ begins.more)
@@ -217,10 +217,10 @@ module _ (g : Area) (p : Point) (ends : Ends) (limit : ℕ) (room : Findings) (w
     | inr none ↦ (
         let path = subst (IsPathOf g ends) same outsider.path in
         let parts = cut g ends.start (place_prefix k) (e ∷ rest) ends.end path.simple.joins in
-        let vertex = one_end g ends.start (place_prefix k) parts.at_vertex (vertex_of g ends steps k) parts.before
+        let vertex = one_end g ends.start (place_prefix k) parts.at_vertex (place_vertex g ends steps k) parts.before
         (place_joins g ends wanted steps tree k known) in
         let once = once_behind g ends.start (place_prefix k) (e ∷ rest) parts.at_vertex parts.before path.simple.none_twice in
-        let kept = each_right (Lacks ends.gone) (place_prefix k) (e ∷ rest) path.kept in
+        let kept = each_right (Lacks ends.excluded) (place_prefix k) (e ∷ rest) path.kept in
         let edge : FitsEdge g (edge_at g e) = graph.edges e no_edge parts.behind.0 in
         let split = ap (cost g p) same ∙ sum_by-append (λ i. price_at p (edge_at g i).price) (place_prefix k) (e ∷ rest) in
         let longer = sum_by-cons (λ i. price_at p (edge_at g i).price) e rest in
@@ -269,8 +269,8 @@ module _ (g : Area) (p : Point) (ends : Ends) (limit : ℕ) (room : Findings) (w
         let within : total ≤ limit = omega arith in
         let front = place_prefix place in
         let start = place_joins g ends wanted steps tree place departs.within in
-        let joins = join g ends.start front (e ∷ rest) (vertex_of g ends steps place) ends.end start (departs.known, departs.from, path.simple.joins) in
-        let kept = each_append (Lacks ends.gone) front (e ∷ rest) (place_avoids g ends wanted steps tree place departs.within)
+        let joins = join g ends.start front (e ∷ rest) (place_vertex g ends steps place) ends.end start (departs.known, departs.from, path.simple.joins) in
+        let kept = each_append (Lacks ends.excluded) front (e ∷ rest) (place_avoids g ends wanted steps tree place departs.within)
         (departs.onward.left, path.kept) in
         let here = prefix_cost g ends wanted steps tree p costs (length steps) (omega arith) are place place (omega arith) departs.within in
         let split = sum_by-append (λ i. price_at p (edge_at g i).price) front (e ∷ rest) in
@@ -278,7 +278,7 @@ module _ (g : Area) (p : Point) (ends : Ends) (limit : ℕ) (room : Findings) (w
         let sums = departs.sums in
         let onward = departs.onward.sums in
         let whole : cost g p (front ++ e ∷ rest) ≡ total = omega arith in
-        let simple = simple_in_walk g p ends.gone ends.start (front ++ e ∷ rest) ends.end graph fits joins kept in
+        let simple = simple_in_walk g p ends.excluded ends.start (front ++ e ∷ rest) ends.end graph fits joins kept in
         let start_known = (begun_path g ends wanted steps tree 0 (omega arith)).simple.start in
         let lesser : cost g p simple.edges + p.scale ≤ cost g p (front ++ e ∷ rest) → ⊥ =
         λ less. (let outsider : IsOutsider g ends wanted simple.edges = record {
@@ -325,7 +325,7 @@ module _ (g : Area) (p : Point) (ends : Ends) (limit : ℕ) (room : Findings) (w
     }
 
     pub followed_cheapest : (walk : List ℕ) →
-        IsFollowed g p ends (record room { path = place_prefix place ++ e ∷ [] }) (edge_at g e).to walk →
+        IsFollowedByLeast g p ends (record room { path = place_prefix place ++ e ∷ [] }) (edge_at g e).to walk →
         IsCheapestOutsider g p ends wanted (most + p.scale) walk
     followed_cheapest walk followed =
         let costs_so = same_Some (cost g p followed.rest) departs.onward.rest (sym followed.costs ∙ departs.onward.distance) in

@@ -1,7 +1,7 @@
 -- Trees of prefixes as they grow.
 use Rattle.std.proofs.Common.{◌≡◌, ℕ, refl, sym, subst, List, [], ◌∷◌, arith}
 use Rattle.std.specs.Prelude.{Contains}
-use Rattle.set_separation.specs.PrefixTrees.{Begins, IsGrown, prefix_at}
+use Rattle.set_separation.specs.PrefixTrees.{BeginsOneOf, IsGrown, prefix_of_place}
 
 -- the tree of the empty prefix alone
 pub grown_first : (wanted : List (List ℕ)) (path : List ℕ) → Contains wanted path → IsGrown wanted [] []
@@ -14,6 +14,6 @@ grown_first wanted path has = record {
   different = λ k l k_in l_in same. omega arith;
   begun = λ k k_in.
       let none : k ≡ 0 = omega arith in
-      subst (λ (n : ℕ). Begins wanted (prefix_at ([] ∷ []) n)) (sym none) (record { path = path; listed = has; more = path; same = refl });
+      subst (λ (n : ℕ). BeginsOneOf wanted (prefix_of_place ([] ∷ []) n)) (sym none) (record { path = path; listed = has; more = path; same = refl });
   passed = λ done listed. absurd (omega (arith, listed.1));
 }

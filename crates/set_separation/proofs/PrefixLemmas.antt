@@ -9,7 +9,7 @@ use Rattle.std.proofs.lemmas.List.Quantifiers.{position-Some}
 use Rattle.std.proofs.Math.Seq.{get_or-append_seam}
 use Rattle.std.proofs.lemmas.List.Elements.{Contains-push_cases}
 use Rattle.set_separation.specs.declared.prefix_tree.Step.{Step}
-use Rattle.set_separation.specs.PrefixTrees.{Begins, HasStep, IsGone, IsGrown, IsStep, IsUnderway, no_step, prefix_at, step_at}
+use Rattle.set_separation.specs.PrefixTrees.{BeginsOneOf, HasStep, IsPlaceAfter, IsGrown, IsPrefixStep, IsUnderway, no_step, prefix_of_place, step_at}
 
 -- where the last element of a longer list stands: an equal list ends there, or goes on behind it
 snoc_cut : (xs : List ℕ) (x : ℕ) (pre : List ℕ) (e : ℕ) (rest : List ℕ) → xs ++ x ∷ [] ≡ pre ++ e ∷ rest →
@@ -57,7 +57,7 @@ not_longer xs e rest same = let long = ap length same in let count = length-appe
 abbrev pub is_step : ℕ → ℕ → Step → Bool
 is_step place edge step = place == step.place && edge == step.edge
 
-pub step_found : (steps : List Step) (place edge i : ℕ) → position (is_step place edge) steps ≡ Some i → IsStep steps place edge i
+pub step_found : (steps : List Step) (place edge i : ℕ) → position (is_step place edge) steps ≡ Some i → IsPrefixStep steps place edge i
 step_found steps place edge i at_i =
     let found = position-Some (is_step place edge) steps i no_step at_i in
     let both = and_parts (place == (step_at steps i).place) (edge == (step_at steps i).edge) found.1 in
@@ -95,7 +95,7 @@ underway_begins wanted done steps tree = record {
   tree = tree;
   known = omega arith;
   here = tree.root;
-  passed = λ k e rest known same. absurd (not_nil (prefix_at tree.prefixes k) e rest same);
+  passed = λ k e rest known same. absurd (not_nil (prefix_of_place tree.prefixes k) e rest same);
 }
 
 pub underway_ends : (wanted done : List (List ℕ)) (edges : List ℕ) (place : ℕ) (steps : List Step) →
@@ -116,7 +116,7 @@ underway_ends wanted done edges place steps way = record {
 
 -- the step is there already
 along : (wanted done : List (List ℕ)) (edges : List ℕ) (place e i : ℕ) (steps : List Step) →
-    IsUnderway wanted done edges place steps → IsStep steps place e i →
+    IsUnderway wanted done edges place steps → IsPrefixStep steps place e i →
     IsUnderway wanted done (edges ++ e ∷ []) (i + 1) steps
 along wanted done edges place e i steps way step =
     let within = step.within in
@@ -124,10 +124,10 @@ along wanted done edges place e i steps way step =
       tree = way.tree;
       known = omega arith;
       here = way.tree.grown i step.within
-          ∙ ap (λ (k : ℕ). prefix_at way.tree.prefixes k ++ (step_at steps i).edge ∷ []) step.from
-          ∙ ap (λ (n : ℕ). prefix_at way.tree.prefixes place ++ n ∷ []) step.by
+          ∙ ap (λ (k : ℕ). prefix_of_place way.tree.prefixes k ++ (step_at steps i).edge ∷ []) step.from
+          ∙ ap (λ (n : ℕ). prefix_of_place way.tree.prefixes place ++ n ∷ []) step.by
           ∙ ap (λ (es : List ℕ). es ++ e ∷ []) way.here;
-      passed = λ k f rest known same. elim (snoc_cut edges e (prefix_at way.tree.prefixes k) f rest same) [
+      passed = λ k f rest known same. elim (snoc_cut edges e (prefix_of_place way.tree.prefixes k) f rest same) [
         | inl last ↦ (
             let at_place : k ≡ place = way.tree.different k place known way.known (last.0 ∙ sym way.here) in
             (i, record { within = step.within; from = step.from ∙ sym at_place; by = step.by ∙ sym last.1 }))
@@ -150,7 +150,7 @@ step_kept steps more place e has =
 
 module _ (wanted done : List (List ℕ)) (edges : List ℕ) (place e : ℕ) (steps : List Step)
     (way : IsUnderway wanted done edges place steps) (none : HasStep steps place e → ⊥)
-    (begins : Begins wanted (edges ++ e ∷ [])) where
+    (begins : BeginsOneOf wanted (edges ++ e ∷ [])) where
   abbrev olds : List (List ℕ)
   olds = way.tree.prefixes
 
@@ -166,11 +166,11 @@ module _ (wanted done : List (List ℕ)) (edges : List ℕ) (place e : ℕ) (ste
   long : length longer ≡ length steps + 1
   long = length-append steps (step ∷ [])
 
-  old_prefix : (k : ℕ) → k ≤ length steps → prefix_at news k ≡ prefix_at olds k
+  old_prefix : (k : ℕ) → k ≤ length steps → prefix_of_place news k ≡ prefix_of_place olds k
   old_prefix k known = get_or_append_left olds ((edges ++ e ∷ []) ∷ []) [] k (omega (arith, way.tree.count))
 
-  new_prefix : prefix_at news (length steps + 1) ≡ edges ++ e ∷ []
-  new_prefix = ap (prefix_at news) (sym way.tree.count) ∙ get_or-append_seam olds (edges ++ e ∷ []) [] []
+  new_prefix : prefix_of_place news (length steps + 1) ≡ edges ++ e ∷ []
+  new_prefix = ap (prefix_of_place news) (sym way.tree.count) ∙ get_or-append_seam olds (edges ++ e ∷ []) [] []
 
   old_step : (i : ℕ) → i < length steps → step_at longer i ≡ step_at steps i
   old_step i within = get_or_append_left steps (step ∷ []) no_step i within
@@ -179,12 +179,12 @@ module _ (wanted done : List (List ℕ)) (edges : List ℕ) (place e : ℕ) (ste
   new_step = get_or-append_seam steps step [] no_step
 
   -- the new prefix stood nowhere
-  is_new : (k : ℕ) → k ≤ length steps → prefix_at olds k ≡ edges ++ e ∷ [] → ⊥
+  is_new : (k : ℕ) → k ≤ length steps → prefix_of_place olds k ≡ edges ++ e ∷ [] → ⊥
   is_new zero known same = not_nil edges e [] (sym way.tree.root ∙ same)
   is_new (suc i) known same =
       let within : i < length steps = omega arith in
       let s = step_at steps i in
-      let cut = snoc_cut edges e (prefix_at olds s.place) s.edge [] (sym same ∙ ap (prefix_at olds) (sym (add-one i)) ∙ way.tree.grown i within) in
+      let cut = snoc_cut edges e (prefix_of_place olds s.place) s.edge [] (sym same ∙ ap (prefix_of_place olds) (sym (add-one i)) ∙ way.tree.grown i within) in
       elim cut [
         | inl last ↦ none (
           i,
@@ -194,13 +194,13 @@ module _ (wanted done : List (List ℕ)) (edges : List ℕ) (place e : ℕ) (ste
             by = last.1;
           },
         )
-        | inr more ↦ absurd (too_long s.place s.edge more.0 more.1 (sym same ∙ ap (prefix_at olds) (sym (add-one i)) ∙ way.tree.grown i within))
+        | inr more ↦ absurd (too_long s.place s.edge more.0 more.1 (sym same ∙ ap (prefix_of_place olds) (sym (add-one i)) ∙ way.tree.grown i within))
       ]
     where
-      too_long : (k f : ℕ) (more : List ℕ) → edges ≡ prefix_at olds k ++ f ∷ more → edges ++ e ∷ [] ≡ prefix_at olds k ++ f ∷ [] → ⊥
+      too_long : (k f : ℕ) (more : List ℕ) → edges ≡ prefix_of_place olds k ++ f ∷ more → edges ++ e ∷ [] ≡ prefix_of_place olds k ++ f ∷ [] → ⊥
       too_long k f more one two =
-          let first = ap length one ∙ length-append (prefix_at olds k) (f ∷ more) in
-          let second = sym (length-append edges (e ∷ [])) ∙ ap length two ∙ length-append (prefix_at olds k) (f ∷ []) in
+          let first = ap length one ∙ length-append (prefix_of_place olds k) (f ∷ more) in
+          let second = sym (length-append edges (e ∷ [])) ∙ ap length two ∙ length-append (prefix_of_place olds k) (f ∷ []) in
           omega arith
 
   has_new : HasStep longer place e
@@ -228,38 +228,38 @@ module _ (wanted done : List (List ℕ)) (edges : List ℕ) (place e : ℕ) (ste
           let s = step_at steps i in
           let low = way.tree.before i old in
           old_prefix (i + 1) (omega arith) ∙ way.tree.grown i old ∙ ap (λ (es : List ℕ). es ++ s.edge ∷ []) (sym (old_prefix s.place (omega arith)))
-          ∙ ap (λ (t : Step). prefix_at news t.place ++ t.edge ∷ []) (sym (old_step i old)))
+          ∙ ap (λ (t : Step). prefix_of_place news t.place ++ t.edge ∷ []) (sym (old_step i old)))
       | inr past ↦ (
           let last : length steps ≡ i = omega (arith, long) in
-          subst (λ (n : ℕ). prefix_at news (n + 1) ≡ prefix_at news (step_at longer n).place ++ (step_at longer n).edge ∷ []) last
+          subst (λ (n : ℕ). prefix_of_place news (n + 1) ≡ prefix_of_place news (step_at longer n).place ++ (step_at longer n).edge ∷ []) last
           (new_prefix ∙ ap (λ (es : List ℕ). es ++ e ∷ []) (sym way.here ∙ sym (old_prefix place way.known))
-          ∙ ap (λ (t : Step). prefix_at news t.place ++ t.edge ∷ []) (sym new_step)))
+          ∙ ap (λ (t : Step). prefix_of_place news t.place ++ t.edge ∷ []) (sym new_step)))
     ];
     different = λ k l k_known l_known same. elim (cases_lt k (length steps + 1)) [
       | inl k_old ↦ elim (cases_lt l (length steps + 1)) [
         | inl l_old ↦ way.tree.different k l (omega arith) (omega arith) (sym (old_prefix k (omega arith)) ∙ same ∙ old_prefix l (omega arith))
         | inr l_new ↦ (
             let last : l ≡ length steps + 1 = omega (arith, long) in
-            absurd (is_new k (omega arith) (sym (old_prefix k (omega arith)) ∙ same ∙ ap (prefix_at news) last ∙ new_prefix)))
+            absurd (is_new k (omega arith) (sym (old_prefix k (omega arith)) ∙ same ∙ ap (prefix_of_place news) last ∙ new_prefix)))
       ]
       | inr k_new ↦ (
           let k_last : k ≡ length steps + 1 = omega (arith, long) in
           elim (cases_lt l (length steps + 1)) [
-            | inl l_old ↦ absurd (is_new l (omega arith) (sym (old_prefix l (omega arith)) ∙ sym same ∙ ap (prefix_at news) k_last ∙ new_prefix))
+            | inl l_old ↦ absurd (is_new l (omega arith) (sym (old_prefix l (omega arith)) ∙ sym same ∙ ap (prefix_of_place news) k_last ∙ new_prefix))
             | inr l_new ↦ omega (arith, long)
           ])
     ];
     begun = λ k known.
-        old_or_new (λ (n : ℕ). Begins wanted (prefix_at news n)) (length steps)
-        (λ n old. subst (Begins wanted) (sym (old_prefix n old)) (way.tree.begun n old))
-        (subst (Begins wanted) (sym new_prefix) begins) k (omega (arith, long));
+        old_or_new (λ (n : ℕ). BeginsOneOf wanted (prefix_of_place news n)) (length steps)
+        (λ n old. subst (BeginsOneOf wanted) (sym (old_prefix n old)) (way.tree.begun n old))
+        (subst (BeginsOneOf wanted) (sym new_prefix) begins) k (omega (arith, long));
     passed = λ path listed k f rest known same. elim (cases_lt k (length steps + 1)) [
       | inl old ↦ step_kept steps (step ∷ []) k f
           (way.tree.passed path listed k f rest (omega arith)
           (same ∙ ap (λ (es : List ℕ). es ++ f ∷ rest) (old_prefix k (omega arith))))
       | inr new ↦ (
           let last : k ≡ length steps + 1 = omega (arith, long) in
-          let whole = same ∙ ap (λ (n : ℕ). prefix_at news n ++ f ∷ rest) last
+          let whole = same ∙ ap (λ (n : ℕ). prefix_of_place news n ++ f ∷ rest) last
           ∙ ap (λ (es : List ℕ). es ++ f ∷ rest) new_prefix ∙ append_assoc edges (e ∷ []) (f ∷ rest)
           ∙ ap (λ (es : List ℕ). es ++ e ∷ f ∷ rest) (sym way.here) in
           absurd (none (way.tree.passed path listed place e (f ∷ rest) way.known whole)))
@@ -273,7 +273,7 @@ module _ (wanted done : List (List ℕ)) (edges : List ℕ) (place e : ℕ) (ste
     known = omega (arith, long);
     here = new_prefix;
     passed = λ k f rest known same. elim (cases_lt k (length steps + 1)) [
-      | inl old ↦ elim (snoc_cut edges e (prefix_at olds k) f rest (same ∙ ap (λ (es : List ℕ). es ++ f ∷ rest) (old_prefix k (omega arith)))) [
+      | inl old ↦ elim (snoc_cut edges e (prefix_of_place olds k) f rest (same ∙ ap (λ (es : List ℕ). es ++ f ∷ rest) (old_prefix k (omega arith)))) [
         | inl last ↦ (
             let at_place : k ≡ place = way.tree.different k place (omega arith) way.known (last.0 ∙ sym way.here) in
             subst (λ (n : ℕ). HasStep longer n f) (sym at_place) (subst (λ (n : ℕ). HasStep longer place n) (sym last.1) has_new))
@@ -281,7 +281,7 @@ module _ (wanted done : List (List ℕ)) (edges : List ℕ) (place e : ℕ) (ste
       ]
       | inr new ↦ (
           let last : k ≡ length steps + 1 = omega (arith, long) in
-          absurd (not_longer (edges ++ e ∷ []) f rest (same ∙ ap (λ (n : ℕ). prefix_at news n ++ f ∷ rest) last
+          absurd (not_longer (edges ++ e ∷ []) f rest (same ∙ ap (λ (n : ℕ). prefix_of_place news n ++ f ∷ rest) last
           ∙ ap (λ (es : List ℕ). es ++ f ∷ rest) new_prefix)))
     ];
   }
@@ -289,9 +289,9 @@ module _ (wanted done : List (List ℕ)) (edges : List ℕ) (place e : ℕ) (ste
 -- one edge more of the path
 pub underway_more : (wanted done : List (List ℕ)) (path : List ℕ) (j place next e : ℕ) (old new : List Step) →
     Contains wanted path → j < length path → e ≡ get_or path j 0 → IsUnderway wanted done (take j path) place old →
-    IsGone old new place e next → IsUnderway wanted done (take (j + 1) path) next new
-underway_more wanted done path j place next e old new listed within is way gone =
-    subst (λ (es : List ℕ). IsUnderway wanted done es next new) (sym whole) (elim gone [
+    IsPlaceAfter old new place e next → IsUnderway wanted done (take (j + 1) path) next new
+underway_more wanted done path j place next e old new listed within is way excluded =
+    subst (λ (es : List ℕ). IsUnderway wanted done es next new) (sym whole) (elim excluded [
       | inl there ↦
           subst (λ (n : ℕ). IsUnderway wanted done (take j path ++ e ∷ []) n new) (sym there.1.2)
           (subst (λ (s : List Step). IsUnderway wanted done (take j path ++ e ∷ []) (there.1.0 + 1) s) (sym there.0)
@@ -305,7 +305,7 @@ underway_more wanted done path j place next e old new listed within is way gone 
     whole : take (j + 1) path ≡ take j path ++ e ∷ []
     whole = take_more path j 0 within ∙ ap (λ (n : ℕ). take j path ++ n ∷ []) (sym is)
 
-    begins : Begins wanted (take j path ++ e ∷ [])
+    begins : BeginsOneOf wanted (take j path ++ e ∷ [])
     begins = record {
       path = path;
       listed = listed;

@@ -10,9 +10,9 @@ use Rattle.set_separation.specs.declared.prefix_tree.Step.{Step}
 use Rattle.set_separation.specs.PrefixTrees.{HasStep, IsTreeOf, step_at}
 
 -- the vertex of a place: the start, or the end of its step's edge
-abbrev pub vertex_of : Area → Ends → List Step → ℕ → ℕ
-vertex_of g ends steps zero = ends.start
-vertex_of g ends steps (suc i) = (edge_at g (step_at steps i).edge).to
+abbrev pub place_vertex : Area → Ends → List Step → ℕ → ℕ
+place_vertex g ends steps zero = ends.start
+place_vertex g ends steps (suc i) = (edge_at g (step_at steps i).edge).to
 
 -- what the prefixes of the places of the first n steps cost
 pub record ArePlaceCosts (g : Area) (p : Point) (steps : List Step) (n : ℕ) (costs : List ℕ) : Type 0 where
@@ -30,7 +30,7 @@ pub record Departs (g : Area) (p : Point) (ends : Ends) (room : Findings) (steps
   pub rest : ℕ
   pub within : place ≤ length steps
   pub known : e < length g.edges
-  pub from : (edge_at g e).from ≡ vertex_of g ends steps place
+  pub from : (edge_at g e).from ≡ place_vertex g ends steps place
   pub other : HasStep steps place e → ⊥
-  pub onward : IsOnward g p ends.gone room e rest
+  pub onward : IsOnward g p ends.excluded room e rest
   pub sums : total ≡ slice_index costs place + rest

@@ -9,24 +9,26 @@ use Rattle.set_separation.specs.declared.prefix_tree.Step.{Step}
 abbrev pub no_step : Step
 no_step = record { place = 0; edge = 0 }
 
+-- the step of a number
 abbrev pub step_at : List Step → ℕ → Step
 step_at steps i = slice_index_or steps i no_step
 
 -- step i leads from the place by the edge
-pub record IsStep (steps : List Step) (place edge i : ℕ) : Type 0 where
+pub record IsPrefixStep (steps : List Step) (place edge i : ℕ) : Type 0 where
   pub within : i < length steps
   pub from : (step_at steps i).place ≡ place
   pub by : (step_at steps i).edge ≡ edge
 
 -- some step leads from the place by the edge
 abbrev pub HasStep : List Step → ℕ → ℕ → Type 0
-HasStep steps place edge = (i : ℕ) × IsStep steps place edge i
+HasStep steps place edge = (i : ℕ) × IsPrefixStep steps place edge i
 
-abbrev pub prefix_at : List (List ℕ) → ℕ → List ℕ
-prefix_at prefixes k = slice_index_or prefixes k []
+-- the prefix at a place, as its list of edges
+abbrev pub prefix_of_place : List (List ℕ) → ℕ → List ℕ
+prefix_of_place prefixes k = slice_index_or prefixes k []
 
 -- the edges begin one of the paths
-pub record Begins (paths : List (List ℕ)) (es : List ℕ) : Type 0 where
+pub record BeginsOneOf (paths : List (List ℕ)) (es : List ℕ) : Type 0 where
   pub path : List ℕ
   pub listed : Contains paths path
   pub more : List ℕ
@@ -37,12 +39,12 @@ pub record Begins (paths : List (List ℕ)) (es : List ℕ) : Type 0 where
 pub record IsGrown (wanted done : List (List ℕ)) (steps : List Step) : Type 0 where
   pub prefixes : List (List ℕ)
   pub count : length prefixes ≡ length steps + 1
-  pub root : prefix_at prefixes 0 ≡ []
+  pub root : prefix_of_place prefixes 0 ≡ []
   pub before : (i : ℕ) → i < length steps → (step_at steps i).place ≤ i
-  pub grown : (i : ℕ) → i < length steps → prefix_at prefixes (i + 1) ≡ prefix_at prefixes (step_at steps i).place ++ (step_at steps i).edge ∷ []
-  pub different : (k l : ℕ) → k ≤ length steps → l ≤ length steps → prefix_at prefixes k ≡ prefix_at prefixes l → k ≡ l
-  pub begun : (k : ℕ) → k ≤ length steps → Begins wanted (prefix_at prefixes k)
-  pub passed : (path : List ℕ) → Contains done path → (k e : ℕ) (rest : List ℕ) → k ≤ length steps → path ≡ prefix_at prefixes k ++ e ∷ rest → HasStep steps k e
+  pub grown : (i : ℕ) → i < length steps → prefix_of_place prefixes (i + 1) ≡ prefix_of_place prefixes (step_at steps i).place ++ (step_at steps i).edge ∷ []
+  pub different : (k l : ℕ) → k ≤ length steps → l ≤ length steps → prefix_of_place prefixes k ≡ prefix_of_place prefixes l → k ≡ l
+  pub begun : (k : ℕ) → k ≤ length steps → BeginsOneOf wanted (prefix_of_place prefixes k)
+  pub passed : (path : List ℕ) → Contains done path → (k e : ℕ) (rest : List ℕ) → k ≤ length steps → path ≡ prefix_of_place prefixes k ++ e ∷ rest → HasStep steps k e
 
 -- the tree of the prefixes of wanted paths of a request
 pub record IsTreeOf (g : Area) (ends : Ends) (wanted : List (List ℕ)) (steps : List Step) : Type 0 where
@@ -53,11 +55,11 @@ pub record IsTreeOf (g : Area) (ends : Ends) (wanted : List (List ℕ)) (steps :
 pub record IsUnderway (wanted done : List (List ℕ)) (edges : List ℕ) (place : ℕ) (steps : List Step) : Type 0 where
   pub tree : IsGrown wanted done steps
   pub known : place ≤ length steps
-  pub here : prefix_at tree.prefixes place ≡ edges
-  pub passed : (k e : ℕ) (rest : List ℕ) → k ≤ length steps → edges ≡ prefix_at tree.prefixes k ++ e ∷ rest → HasStep steps k e
+  pub here : prefix_of_place tree.prefixes place ≡ edges
+  pub passed : (k e : ℕ) (rest : List ℕ) → k ≤ length steps → edges ≡ prefix_of_place tree.prefixes k ++ e ∷ rest → HasStep steps k e
 
--- the place that a step leads to, a step that is there already or a new one at the end
-abbrev pub IsGone : List Step → List Step → ℕ → ℕ → ℕ → Type 0
-IsGone old new place edge next =
-    ((new ≡ old) × ((i : ℕ) × IsStep old place edge i × (next ≡ i + 1)))
+-- the place to which an edge leads from a place: by a step that was there, or by a new one at the end
+abbrev pub IsPlaceAfter : List Step → List Step → ℕ → ℕ → ℕ → Type 0
+IsPlaceAfter old new place edge next =
+    ((new ≡ old) × ((i : ℕ) × IsPrefixStep old place edge i × (next ≡ i + 1)))
     ⊎ ((new ≡ old ++ record { place = place; edge = edge } ∷ []) × (HasStep old place edge → ⊥) × (next ≡ length old + 1))

@@ -3,15 +3,15 @@
 ghost use Rattle.std.specs.Prelude.{◌≡◌, ℕ, ◌+◌, ◌*◌, ◌^◌, ◌<◌, ◌≤◌, List, MatchOption, length, slice_index};
 ghost use Rattle.area_graph.specs.Area.{edge_at};
 ghost use Rattle.area_graph.specs.Costs.{FitsPoint};
-ghost use Rattle.path_rows.specs.Problems.{ends_of};
-ghost use Rattle.rival_separation.specs.Offers.{IsBestOf};
-ghost use Rattle.rival_separation.specs.Rivals.{IsFound};
-ghost use Rattle.set_separation.specs.Departures.{ArePlaceCosts, Departs, vertex_of};
+ghost use Rattle.design_problem.specs.Problems.{request_ends};
+ghost use Rattle.rival_separation.specs.Offers.{IsBestOffer};
+ghost use Rattle.rival_separation.specs.Rivals.{HasDistancesBelow};
+ghost use Rattle.set_separation.specs.Departures.{ArePlaceCosts, Departs, place_vertex};
 ghost use Rattle.set_separation.specs.PrefixTrees.{IsTreeOf};
 
 use crate::PrefixTree;
 use area_graph::{Graph, Point, edge_of, price_of};
-use path_rows::Request;
+use design_problem::Request;
 use rival_separation::{Deviation, better_by, onward};
 use spf_ties::Room;
 
@@ -24,7 +24,7 @@ pub(crate) fn put_place_costs(
     costs: &mut [u128],
 )
     requires fits { FitsPoint graph.now point.now }
-    requires tree { (wanted : List (List ℕ)) × IsTreeOf graph.now (ends_of request.now) wanted tree.now }
+    requires tree { (wanted : List (List ℕ)) × IsTreeOf graph.now (request_ends request.now) wanted tree.now }
     requires enough { length tree.now + 1 ≤ length costs.old }
     ensures costs { ArePlaceCosts graph.now point.now tree.now (length tree.now) costs.new }
     ensures count { length costs.new ≡ length costs.old }
@@ -38,9 +38,9 @@ pub(crate) fn put_place_costs(
 
 /// The vertex of a place.
 fn vertex_of(graph: &Graph, request: &Request, tree: &PrefixTree, place: usize) -> u32
-    requires tree { (wanted : List (List ℕ)) × IsTreeOf graph.now (ends_of request.now) wanted tree.now }
+    requires tree { (wanted : List (List ℕ)) × IsTreeOf graph.now (request_ends request.now) wanted tree.now }
     requires place { place ≤ length tree.now }
-    ensures { result ≡ vertex_of graph.now (ends_of request.now) tree.now place }
+    ensures { result ≡ place_vertex graph.now (request_ends request.now) tree.now place }
 {
     if place == 0 {
         return request.path.start;
@@ -61,15 +61,15 @@ fn departure(
     number: u32,
 ) -> Option<u128>
     requires fits { FitsPoint graph.now point.now }
-    requires found { (limit : ℕ) × IsFound graph.now point.now (ends_of request.now) limit room.now }
-    requires tree { (wanted : List (List ℕ)) × IsTreeOf graph.now (ends_of request.now) wanted tree.now }
+    requires found { (limit : ℕ) × HasDistancesBelow graph.now point.now (request_ends request.now) limit room.now }
+    requires tree { (wanted : List (List ℕ)) × IsTreeOf graph.now (request_ends request.now) wanted tree.now }
     requires costs { ArePlaceCosts graph.now point.now tree.now (length tree.now) costs.now }
     requires place { place ≤ length tree.now }
     requires known { number < length graph.now.edges }
-    requires from { (edge_at graph.now number).from ≡ vertex_of graph.now (ends_of request.now) tree.now place }
+    requires from { (edge_at graph.now number).from ≡ place_vertex graph.now (request_ends request.now) tree.now place }
     ensures { MatchOption result
-        ((total : ℕ) → Departs graph.now point.now (ends_of request.now) room.now tree.now costs.now place number total → ⊥)
-        (λ total. Departs graph.now point.now (ends_of request.now) room.now tree.now costs.now place number total) }
+        ((total : ℕ) → Departs graph.now point.now (request_ends request.now) room.now tree.now costs.now place number total → ⊥)
+        (λ total. Departs graph.now point.now (request_ends request.now) room.now tree.now costs.now place number total) }
 {
     graph.keeps_conditions();
     if tree.next(place, number).is_some() {
@@ -93,12 +93,12 @@ fn best_at(
     best: Option<Deviation>,
 ) -> Option<Deviation>
     requires fits { FitsPoint graph.now point.now }
-    requires found { (limit : ℕ) × IsFound graph.now point.now (ends_of request.now) limit room.now }
-    requires tree { (wanted : List (List ℕ)) × IsTreeOf graph.now (ends_of request.now) wanted tree.now }
+    requires found { (limit : ℕ) × HasDistancesBelow graph.now point.now (request_ends request.now) limit room.now }
+    requires tree { (wanted : List (List ℕ)) × IsTreeOf graph.now (request_ends request.now) wanted tree.now }
     requires costs { ArePlaceCosts graph.now point.now tree.now (length tree.now) costs.now }
     requires place { place ≤ length tree.now }
-    requires best { IsBestOf (Departs graph.now point.now (ends_of request.now) room.now tree.now costs.now) (λ earlier e. earlier < place) best }
-    ensures { IsBestOf (Departs graph.now point.now (ends_of request.now) room.now tree.now costs.now) (λ earlier e. earlier < place + 1) result }
+    requires best { IsBestOffer (Departs graph.now point.now (request_ends request.now) room.now tree.now costs.now) (λ earlier e. earlier < place) best }
+    ensures { IsBestOffer (Departs graph.now point.now (request_ends request.now) room.now tree.now costs.now) (λ earlier e. earlier < place + 1) result }
 {
     graph.keeps_conditions();
     let mut found = best;
@@ -120,10 +120,10 @@ pub(crate) fn least_departure(
     costs: &[u128],
 ) -> Option<Deviation>
     requires fits { FitsPoint graph.now point.now }
-    requires found { (limit : ℕ) × IsFound graph.now point.now (ends_of request.now) limit room.now }
-    requires tree { (wanted : List (List ℕ)) × IsTreeOf graph.now (ends_of request.now) wanted tree.now }
+    requires found { (limit : ℕ) × HasDistancesBelow graph.now point.now (request_ends request.now) limit room.now }
+    requires tree { (wanted : List (List ℕ)) × IsTreeOf graph.now (request_ends request.now) wanted tree.now }
     requires costs { ArePlaceCosts graph.now point.now tree.now (length tree.now) costs.now }
-    ensures { IsBestOf (Departs graph.now point.now (ends_of request.now) room.now tree.now costs.now) (λ place e. place ≤ length tree.now) result }
+    ensures { IsBestOffer (Departs graph.now point.now (request_ends request.now) room.now tree.now costs.now) (λ place e. place ≤ length tree.now) result }
 {
     let mut best = None;
     for place in 0..tree.steps().len() + 1 {

@@ -3,19 +3,19 @@
 ghost use Rattle.std.specs.Prelude.{◌≡◌, ℕ, ◌+◌, ◌<◌, ◌≤◌, List, MatchBool, Some, length};
 ghost use Rattle.area_graph.specs.Costs.{FitsPoint, cost};
 ghost use Rattle.area_graph.specs.Paths.{IsPathOf};
-ghost use Rattle.path_rows.specs.Problems.{ends_of};
-ghost use Rattle.rival_separation.specs.Offers.{IsBestOf};
-ghost use Rattle.rival_separation.specs.Rivals.{IsFoundTo};
+ghost use Rattle.design_problem.specs.Problems.{request_ends};
+ghost use Rattle.rival_separation.specs.Offers.{IsBestOffer};
+ghost use Rattle.rival_separation.specs.Rivals.{HasDistancesTo};
 ghost use Rattle.rival_separation.specs.declared.deviation.Deviation.{Deviation};
 ghost use Rattle.spf_ties.specs.Distances.{IsRoomFor};
 ghost use Rattle.set_separation.specs.Departures.{ArePlaceCosts, Departs, IsTiedTree};
 ghost use Rattle.set_separation.specs.Outsiders.{CostAtLeast, IsCheapestOutsider};
-ghost use Rattle.set_separation.specs.PrefixTrees.{IsGrown, IsTreeOf, prefix_at};
+ghost use Rattle.set_separation.specs.PrefixTrees.{IsGrown, IsTreeOf, prefix_of_place};
 
 use crate::PrefixTree;
 use crate::departure::{least_departure, put_place_costs};
 use area_graph::{Graph, Point, path_cost};
-use path_rows::Request;
+use design_problem::Request;
 use rival_separation::{Deviation, leave_by};
 use spf_ties::Room;
 
@@ -23,9 +23,9 @@ use spf_ties::Room;
 /// the path is turned around.
 fn put_prefix(graph: &Graph, request: &Request, tree: &PrefixTree, place: usize, room: &mut Room)
     requires room { IsRoomFor graph.now room.old }
-    requires tree { (wanted : List (List ℕ)) × IsTreeOf graph.now (ends_of request.now) wanted tree.now }
+    requires tree { (wanted : List (List ℕ)) × IsTreeOf graph.now (request_ends request.now) wanted tree.now }
     requires place { place ≤ length tree.now }
-    ensures { (wanted done : List (List ℕ)) (tree : IsGrown wanted done tree.now) → room.new ≡ record room.old { path = prefix_at tree.prefixes place } }
+    ensures { (wanted done : List (List ℕ)) (tree : IsGrown wanted done tree.now) → room.new ≡ record room.old { path = prefix_of_place tree.prefixes place } }
 {
     graph.keeps_conditions();
     room.clear_path();
@@ -49,18 +49,18 @@ fn lay_out(
     room: &mut Room,
 )
     requires fits { FitsPoint graph.now point.now }
-    requires found { IsFoundTo graph.now point.now (ends_of request.now)
+    requires found { HasDistancesTo graph.now point.now (request_ends request.now)
         (cost graph.now point.now request.now.path.edges + point.now.scale) room.old }
     requires tree { (wanted : List (List ℕ)) ×
-        IsTiedTree graph.now point.now (ends_of request.now) (cost graph.now point.now request.now.path.edges) wanted tree.now }
+        IsTiedTree graph.now point.now (request_ends request.now) (cost graph.now point.now request.now.path.edges) wanted tree.now }
     requires costs { ArePlaceCosts graph.now point.now tree.now (length tree.now) costs.now }
-    requires best { IsBestOf (Departs graph.now point.now (ends_of request.now) room.old tree.now costs.now)
+    requires best { IsBestOffer (Departs graph.now point.now (request_ends request.now) room.old tree.now costs.now)
         (λ place e. place ≤ length tree.now) (Some best) }
     requires cheap { best.cost < cost graph.now point.now request.now.path.edges + point.now.scale }
     ensures room { IsRoomFor graph.now room.new }
     ensures cheapest { (wanted : List (List ℕ)) →
-        IsTiedTree graph.now point.now (ends_of request.now) (cost graph.now point.now request.now.path.edges) wanted tree.now →
-        IsCheapestOutsider graph.now point.now (ends_of request.now) wanted
+        IsTiedTree graph.now point.now (request_ends request.now) (cost graph.now point.now request.now.path.edges) wanted tree.now →
+        IsCheapestOutsider graph.now point.now (request_ends request.now) wanted
         (cost graph.now point.now request.now.path.edges + point.now.scale) room.new.path }
 {
     graph.keeps_conditions();
@@ -82,23 +82,29 @@ pub fn find_outsider(
 ) -> bool
     requires room { IsRoomFor graph.now room.old }
     requires fits { FitsPoint graph.now point.now }
-    requires path { IsPathOf graph.now (ends_of request.now) request.now.path.edges }
+    requires path { IsPathOf graph.now (request_ends request.now) request.now.path.edges }
     requires tree { (wanted : List (List ℕ)) ×
-        IsTiedTree graph.now point.now (ends_of request.now) (cost graph.now point.now request.now.path.edges) wanted tree.now }
+        IsTiedTree graph.now point.now (request_ends request.now) (cost graph.now point.now request.now.path.edges) wanted tree.now }
     requires enough { length tree.now + 1 ≤ length costs.old }
     ensures room { IsRoomFor graph.now room.new }
     ensures count { length costs.new ≡ length costs.old }
     ensures outsider { (wanted : List (List ℕ)) →
-        IsTiedTree graph.now point.now (ends_of request.now) (cost graph.now point.now request.now.path.edges) wanted tree.now →
+        IsTiedTree graph.now point.now (request_ends request.now) (cost graph.now point.now request.now.path.edges) wanted tree.now →
         MatchBool result
-        (IsCheapestOutsider graph.now point.now (ends_of request.now) wanted
+        (IsCheapestOutsider graph.now point.now (request_ends request.now) wanted
         (cost graph.now point.now request.now.path.edges + point.now.scale) room.new.path)
-        (CostAtLeast graph.now point.now (ends_of request.now) wanted
+        (CostAtLeast graph.now point.now (request_ends request.now) wanted
         (cost graph.now point.now request.now.path.edges + point.now.scale)) }
 {
     graph.keeps_conditions();
     let limit = path_cost(graph, &request.path, point) + point.scale;
-    room.distances_within(graph, point, request.end, request.gone.as_slice(), limit);
+    room.distances_within(
+        graph,
+        point,
+        request.end,
+        request.excluded.as_slice(),
+        limit,
+    );
     put_place_costs(graph, request, point, tree, costs);
     let best = match least_departure(graph, request, point, room, tree, costs) {
         Some(best) => best,

@@ -1,6 +1,6 @@
 //! The tree of the common prefixes of several paths.
 ghost use Rattle.std.specs.Prelude.{◌≡◌, ℕ, ◌+◌, ◌<◌, ◌≤◌, ◌++◌, List, [], ◌∷◌, Contains, IfOk, MatchOption, OnOk, length};
-ghost use Rattle.set_separation.specs.PrefixTrees.{HasStep, IsGone, IsGrown, IsStep};
+ghost use Rattle.set_separation.specs.PrefixTrees.{HasStep, IsPlaceAfter, IsGrown, IsPrefixStep};
 ghost use Rattle.set_separation.specs.declared.prefix_tree.Step.{Step as OneStep};
 
 use cost_base::OutOfMemory;
@@ -53,7 +53,7 @@ impl PrefixTree {
 
     /// The place that the step from a place by an edge leads to.
     pub fn next(&self, place: usize, edge: u32) -> Option<usize>
-        ensures { MatchOption result (HasStep self.now place edge → ⊥) (λ next. (i : ℕ) × IsStep self.now place edge i × (next ≡ i + 1)) }
+        ensures { MatchOption result (HasStep self.now place edge → ⊥) (λ next. (i : ℕ) × IsPrefixStep self.now place edge i × (next ≡ i + 1)) }
     {
         let _few = self.steps.len();
         match self.steps.get_index_of(&Step { place, edge }) {
@@ -73,7 +73,7 @@ impl PrefixTree {
 
     /// The place that the step from a place by an edge leads to; the step is made where it isn't there.
     fn go(&mut self, place: usize, edge: u32) -> Result<usize, OutOfMemory>
-        ensures { IfOk result (IsGone self.old self.new place edge) }
+        ensures { IfOk result (IsPlaceAfter self.old self.new place edge) }
     {
         match self.next(place, edge) {
             Some(next) => Ok(next),

@@ -14,7 +14,7 @@ use Rattle.area_graph.specs.Costs.{price_at}
 use Rattle.area_graph.specs.Distances.{far, WalkWithin, through}
 use Rattle.area_graph.proofs.PassSteps.{reached_by_walk, reached_none}
 use Rattle.spf_ties.specs.declared.heap.Entry.{Entry}
-use Rattle.spf_ties.specs.Searches.{IsFront, is_settled, open_edges, MayWait, LeadsToLast, Underway}
+use Rattle.spf_ties.specs.Searches.{AreSearchNumbers, is_settled, open_edges, MayWait, LeadsToLast, Underway}
 
 clash : {P : Type 0} → true ≡ false → P
 clash h = cc
@@ -54,11 +54,11 @@ none_settled (suc n) zero = refl
 none_settled (suc n) (suc v) = none_settled n v
 
 -- an entry of a settled vertex is passed over
-pub passed_over : (g : Area) (p : Point) (gone : List ℕ) (t limit least : ℕ) (d : List ℕ) (settled : List Bool)
-    (entry : Entry) (waiting rest : List Entry) → Underway g p gone t limit least [] d settled waiting →
+pub passed_over : (g : Area) (p : Point) (excluded : List ℕ) (t limit least : ℕ) (d : List ℕ) (settled : List Bool)
+    (entry : Entry) (waiting rest : List Entry) → Underway g p excluded t limit least [] d settled waiting →
     IsPermutation waiting (entry ∷ rest) → is_settled settled entry.vertex ≡ true →
-    Underway g p gone t limit least [] d settled rest
-passed_over g p gone t limit least d settled entry waiting rest under moved done = record {
+    Underway g p excluded t limit least [] d settled rest
+passed_over g p excluded t limit least d settled entry waiting rest under moved done = record {
   reached = under.reached;
   bounded = under.bounded;
   before = under.before;
@@ -75,12 +75,12 @@ passed_over g p gone t limit least d settled entry waiting rest under moved done
 }
 
 -- the nearest vertex that waits is settled, and the edges into it are yet to be looked at
-pub settled_next : (g : Area) (p : Point) (gone : List ℕ) (t limit least : ℕ) (d : List ℕ) (settled : List Bool)
-    (entry : Entry) (waiting rest : List Entry) → IsFront g p d settled →
-    Underway g p gone t limit least [] d settled waiting → IsPermutation waiting (entry ∷ rest) →
+pub settled_next : (g : Area) (p : Point) (excluded : List ℕ) (t limit least : ℕ) (d : List ℕ) (settled : List Bool)
+    (entry : Entry) (waiting rest : List Entry) → AreSearchNumbers g p d settled →
+    Underway g p excluded t limit least [] d settled waiting → IsPermutation waiting (entry ∷ rest) →
     All (λ other. entry.distance ≤ other.distance) waiting → is_settled settled entry.vertex ≡ false →
-    Underway g p gone t limit entry.distance (edges_in g entry.vertex) d (set settled entry.vertex true) rest
-settled_next g p gone t limit least d settled entry waiting rest front under moved nearest unsettled = record {
+    Underway g p excluded t limit entry.distance (edges_in g entry.vertex) d (set settled entry.vertex true) rest
+settled_next g p excluded t limit least d settled entry waiting rest front under moved nearest unsettled = record {
   reached = under.reached;
   bounded = under.bounded;
   before = before;
@@ -148,7 +148,7 @@ settled_next g p gone t limit least d settled entry waiting rest front under mov
       last = let value = ap (λ (i : ℕ). get_or d i 0) to in let least = at_least in omega arith;
     }
 
-    closed : (e : ℕ) → e < length g.edges → Lacks gone e → is_settled (set settled entry.vertex true) (edge_at g e).to
+    closed : (e : ℕ) → e < length g.edges → Lacks excluded e → is_settled (set settled entry.vertex true) (edge_at g e).to
         ≡ true → Lacks (edges_in g entry.vertex) e → get_or d (edge_at g e).from 0 ≤ through p (edge_at g e) d
     closed e known left done lacks = elim (ℕ_discrete (edge_at g e).to entry.vertex) [
       | yes same ↦ absurd (not_lacked g entry.vertex e known same lacks)
@@ -156,11 +156,11 @@ settled_next g p gone t limit least d settled entry waiting rest front under mov
     ]
 
 -- an edge that is gone, or leads to no smaller number
-pub kept : (g : Area) (p : Point) (gone : List ℕ) (t limit least e : ℕ) (todo : List ℕ) (d : List ℕ)
-    (settled : List Bool) (waiting : List Entry) → Underway g p gone t limit least (e ∷ todo) d settled waiting →
-    (Lacks gone e → get_or d (edge_at g e).from 0 ≤ through p (edge_at g e) d) →
-    Underway g p gone t limit least todo d settled waiting
-kept g p gone t limit least e todo d settled waiting under short = record {
+pub kept : (g : Area) (p : Point) (excluded : List ℕ) (t limit least e : ℕ) (todo : List ℕ) (d : List ℕ)
+    (settled : List Bool) (waiting : List Entry) → Underway g p excluded t limit least (e ∷ todo) d settled waiting →
+    (Lacks excluded e → get_or d (edge_at g e).from 0 ≤ through p (edge_at g e) d) →
+    Underway g p excluded t limit least todo d settled waiting
+kept g p excluded t limit least e todo d settled waiting under short = record {
   reached = under.reached;
   bounded = under.bounded;
   before = under.before;
@@ -168,20 +168,20 @@ kept g p gone t limit least e todo d settled waiting under short = record {
   entries = under.entries;
   edges = All-tail (LeadsToLast g least d settled) e todo under.edges;
   closed = λ i known left done lacks. elim (ℕ_discrete i e) [
-    | yes same ↦ subst (λ (k : ℕ). Lacks gone k → get_or d (edge_at g k).from 0 ≤ through p (edge_at g k) d) (sym same) short left
+    | yes same ↦ subst (λ (k : ℕ). Lacks excluded k → get_or d (edge_at g k).from 0 ≤ through p (edge_at g k) d) (sym same) short left
     | no other ↦ under.closed i known left done (other, lacks)
   ];
 }
 
 -- an edge that leads to a smaller number: it is lowered, and its vertex waits under it
-pub lowered : (g : Area) (p : Point) (gone : List ℕ) (t limit least e : ℕ) (todo : List ℕ) (d : List ℕ)
-    (settled : List Bool) (waiting new : List Entry) → FitsGraph g → IsFront g p d settled →
-    Underway g p gone t limit least (e ∷ todo) d settled waiting → Lacks gone e →
+pub lowered : (g : Area) (p : Point) (excluded : List ℕ) (t limit least e : ℕ) (todo : List ℕ) (d : List ℕ)
+    (settled : List Bool) (waiting new : List Entry) → FitsGraph g → AreSearchNumbers g p d settled →
+    Underway g p excluded t limit least (e ∷ todo) d settled waiting → Lacks excluded e →
     through p (edge_at g e) d < get_or d (edge_at g e).from 0 →
     IsPermutation (entry_of (through p (edge_at g e) d) (edge_at g e).from ∷ waiting) new →
-    Underway g p gone t limit least todo (set d (edge_at g e).from (through p (edge_at g e) d)) settled new
-lowered g p gone t limit least e todo d settled waiting new graph front under left less moved = record {
-  reached = reached_by_walk g p gone t limit from x d within less walk under.reached;
+    Underway g p excluded t limit least todo (set d (edge_at g e).from (through p (edge_at g e) d)) settled new
+lowered g p excluded t limit least e todo d settled waiting new graph front under left less moved = record {
+  reached = reached_by_walk g p excluded t limit from x d within less walk under.reached;
   bounded = All-set (λ y. y ≤ limit) d from x (let most = bound in omega (arith, less)) under.bounded;
   before = λ v done. let old = under.before v done in let value = settled_same v done in omega arith;
   waits = waits;
@@ -231,7 +231,7 @@ lowered g p gone t limit least e todo d settled waiting new graph front under le
         go false is = is
         go true is = let early = under.before (edge_at g e).from is in let last = head.last in absurd (omega (arith, less))
 
-    walk : through p (edge_at g e) d < limit → WalkWithin g p gone (edge_at g e).from t (through p (edge_at g e) d)
+    walk : through p (edge_at g e) d < limit → WalkWithin g p excluded (edge_at g e).from t (through p (edge_at g e) d)
     walk near =
         let behind = under.reached.reached (edge_at g e).to to_within (omega arith) in
         let longer = sum_by-cons (λ i. price_at p (edge_at g i).price) e behind.edges in
@@ -294,7 +294,7 @@ lowered g p gone t limit least e todo d settled waiting new graph front under le
           (under.waits v (let same = size in omega arith) still (subst (λ (y : ℕ). y < limit) value near))))
     ]
 
-    closed : (i : ℕ) → i < length g.edges → Lacks gone i → is_settled settled (edge_at g i).to ≡ true → Lacks todo i →
+    closed : (i : ℕ) → i < length g.edges → Lacks excluded i → is_settled settled (edge_at g i).to ≡ true → Lacks todo i →
         get_or (set d (edge_at g e).from (through p (edge_at g e) d)) (edge_at g i).from 0
         ≤ through p (edge_at g i) (set d (edge_at g e).from (through p (edge_at g e) d))
     closed i known there_left done lacks =
@@ -312,11 +312,11 @@ bounded_begun : (t limit n : ℕ) → All (λ x. x ≤ limit) (set (replicate n 
 bounded_begun t limit n = All-set (λ x. x ≤ limit) (replicate n limit) t 0 (omega arith) (All-replicate (λ x. x ≤ limit) n limit (omega arith))
 
 -- the target alone waits at the start
-pub begun : (g : Area) (p : Point) (gone : List ℕ) (t limit n m : ℕ) (waiting : List Entry) → t < n →
+pub begun : (g : Area) (p : Point) (excluded : List ℕ) (t limit n m : ℕ) (waiting : List Entry) → t < n →
     IsPermutation (entry_of 0 t ∷ []) waiting →
-    Underway g p gone t limit 0 [] (set (replicate n limit) t 0) (replicate m false) waiting
-begun g p gone t limit n m waiting within moved = record {
-  reached = reached_none g p gone t limit n within;
+    Underway g p excluded t limit 0 [] (set (replicate n limit) t 0) (replicate m false) waiting
+begun g p excluded t limit n m waiting within moved = record {
+  reached = reached_none g p excluded t limit n within;
   bounded = bounded_begun t limit n;
   before = λ v done. clash (sym done ∙ none_settled m v);
   waits = λ v known unsettled near. elim (ℕ_discrete v t) [
@@ -356,7 +356,7 @@ begun g p gone t limit n m waiting within moved = record {
 
 -- the front at the start
 pub front_begun : (g : Area) (p : Point) (t limit n m : ℕ) → limit ≤ far p → n ≡ length g.vertices →
-    m ≡ length g.vertices → IsFront g p (set (replicate n limit) t 0) (replicate m false)
+    m ≡ length g.vertices → AreSearchNumbers g p (set (replicate n limit) t 0) (replicate m false)
 front_begun g p t limit n m most count marks = record {
   count = length-set (replicate n limit) t 0 ∙ length-replicate n limit ∙ count;
   marks = length-replicate m false ∙ marks;

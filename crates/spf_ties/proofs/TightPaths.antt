@@ -64,20 +64,20 @@ tight_numbers g p bound e m w d graph count inside =
     (get_or-map (cost_below bound) d (edge_at g e).to 0 None (omega (arith, edge.to, count)))
 
 -- each edge of a path that costs its start's number is tight
-tight_if_least : (g : Area) (p : Point) (gone : List ℕ) (bound t : ℕ) (m : List Bool) (w d : List ℕ) → FitsGraph g →
-    length d ≡ length g.vertices → SettledBelow (length g.edges) g p gone d → get_or d t 0 ≡ 0 → (s : ℕ) (es : List ℕ) →
-    Joins g s es t → Avoids gone es → cost g p es < bound → get_or d s 0 ≡ cost g p es →
+tight_if_least : (g : Area) (p : Point) (excluded : List ℕ) (bound t : ℕ) (m : List Bool) (w d : List ℕ) → FitsGraph g →
+    length d ≡ length g.vertices → SettledBelow (length g.edges) g p excluded d → get_or d t 0 ≡ 0 → (s : ℕ) (es : List ℕ) →
+    Joins g s es t → Avoids excluded es → cost g p es < bound → get_or d s 0 ≡ cost g p es →
     AreTight g p (room_of m w bound d) es
-tight_if_least g p gone bound t m w d graph count settled target s [] joins kept near least = tt
-tight_if_least g p gone bound t m w d graph count settled target s (e ∷ es) joins kept near least =
-    let rest = potential-le g p gone (λ u. get_or d u 0) (λ i inside lacks. settled i inside lacks) (edge_at g e).to es t joins.2 kept.1 in
+tight_if_least g p excluded bound t m w d graph count settled target s [] joins kept near least = tt
+tight_if_least g p excluded bound t m w d graph count settled target s (e ∷ es) joins kept near least =
+    let rest = potential-le g p excluded (λ u. get_or d u 0) (λ i inside lacks. settled i inside lacks) (edge_at g e).to es t joins.2 kept.1 in
     let step = settled e joins.0 kept.0 in
     let start = ap (λ (u : ℕ). get_or d u 0) joins.1 in
     let longer = sum_by-cons (λ i. price_at p (edge_at g i).price) e es in (
       tight_numbers g p bound e m w d graph count joins.0
           ∙ of_sum bound (get_or d (edge_at g e).from 0) (get_or d (edge_at g e).to 0) (price_at p (edge_at g e).price)
           (omega arith) (omega arith) (omega arith),
-      tight_if_least g p gone bound t m w d graph count settled target (edge_at g e).to es joins.2 kept.1 (omega (arith, longer, near)) (omega arith),
+      tight_if_least g p excluded bound t m w d graph count settled target (edge_at g e).to es joins.2 kept.1 (omega (arith, longer, near)) (omega arith),
     )
 
 -- a path with tight edges costs its start's number
@@ -94,13 +94,13 @@ least_if_tight g p bound t m w d graph count target s (e ∷ es) joins tight =
     omega arith
 
 -- a simple path that costs less than the limit has least cost exactly where each of its edges is tight
-pub tight_paths : (g : Area) (p : Point) (gone : List ℕ) (t limit near : ℕ) (m : List Bool) (w d : List ℕ) →
+pub tight_paths : (g : Area) (p : Point) (excluded : List ℕ) (t limit near : ℕ) (m : List Bool) (w d : List ℕ) →
     FitsGraph g → HasMetrics g → FitsPoint g p → IsNear p limit near → length d ≡ length g.vertices →
-    AreReached g p gone t near d → SettledBelow (length g.edges) g p gone d → (s : ℕ) (es : List ℕ) →
-    IsPathOf g (record { start = s; end = t; gone = gone }) es → cost g p es < limit →
+    AreReached g p excluded t near d → SettledBelow (length g.edges) g p excluded d → (s : ℕ) (es : List ℕ) →
+    IsPathOf g (record { start = s; end = t; excluded = excluded }) es → cost g p es < limit →
     (distance_at (room_of m w near d) s ≡ Some (cost g p es)) ↔ AreTight g p (room_of m w near d) es
-tight_paths g p gone t limit near m w d graph metrics fits is_near count reached settled s es path less = (
-  λ least. tight_if_least g p gone near t m w d graph count settled reached.target s es path.simple.joins path.kept
+tight_paths g p excluded t limit near m w d graph metrics fits is_near count reached settled s es path less = (
+  λ least. tight_if_least g p excluded near t m w d graph count settled reached.target s es path.simple.joins path.kept
       below (same_number near (get_or d s 0) (cost g p es) (sym value ∙ least)),
   λ tight. let same = least_if_tight g p near t m w d graph count reached.target s es path.simple.joins tight in
       value ∙ ap (cost_below near) same ∙ known near (cost g p es) below,

@@ -7,7 +7,7 @@ use Rattle.area_graph.specs.Paths.{Ends, IsPathOf}
 use Rattle.area_graph.specs.Costs.{price_at, cost}
 
 -- some path of the request costs so much, and none costs less
-pub record IsLeast (g : Area) (p : Point) (ends : Ends) (least : ℕ) : Type 0 where
+pub record IsLeastOfPaths (g : Area) (p : Point) (ends : Ends) (least : ℕ) : Type 0 where
   pub path : List ℕ
   pub is_path : IsPathOf g ends path
   pub costs : cost g p path ≡ least
@@ -15,12 +15,12 @@ pub record IsLeast (g : Area) (p : Point) (ends : Ends) (least : ℕ) : Type 0 w
 
 -- the least cost of a path of the request, None where it has no path
 abbrev pub IsLeastCost : Area → Point → Ends → Option ℕ → Type 0
-IsLeastCost g p ends (Some least) = IsLeast g p ends least
+IsLeastCost g p ends (Some least) = IsLeastOfPaths g p ends least
 IsLeastCost g p ends None = (path : List ℕ) → IsPathOf g ends path → ⊥
 
 -- the least cost of a path of the request, where it is below a limit; None where every path costs at least that
 abbrev pub IsLeastBelow : Area → Point → Ends → ℕ → Option ℕ → Type 0
-IsLeastBelow g p ends limit (Some least) = IsLeast g p ends least × (least < limit)
+IsLeastBelow g p ends limit (Some least) = IsLeastOfPaths g p ends least × (least < limit)
 IsLeastBelow g p ends limit None = (path : List ℕ) → IsPathOf g ends path → limit ≤ cost g p path
 
 -- what a room tells: each vertex's least cost to the target of the last call, a mark for each edge that the call took
@@ -34,6 +34,7 @@ pub record Findings : Type 0 where
 abbrev pub cost_below : ℕ → ℕ → Option ℕ
 cost_below far number = cond (nat_lt number far) (Some number) None
 
+-- the least cost from a vertex to the target, where a path of less than the limit was found
 abbrev pub distance_at : Findings → ℕ → Option ℕ
 distance_at room v = slice_index_or room.costs v None
 
@@ -42,6 +43,7 @@ pub record IsRoomFor (g : Area) (room : Findings) : Type 0 where
   pub vertices : length room.costs ≡ length g.vertices
   pub edges : length room.marks ≡ length g.edges
 
+-- a distance is a price and another distance
 abbrev pub adds_up : Option ℕ → ℕ → Option ℕ → Bool
 adds_up None price to = false
 adds_up (Some from) price None = false

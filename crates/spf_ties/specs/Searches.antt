@@ -8,11 +8,12 @@ use Rattle.area_graph.specs.Distances.{far, AreReached, through}
 use Rattle.spf_ties.specs.declared.heap.Entry.{Entry}
 
 -- a number and a mark for each vertex, and no number above `far`
-pub record IsFront (g : Area) (p : Point) (d : List ℕ) (settled : List Bool) : Type 0 where
+pub record AreSearchNumbers (g : Area) (p : Point) (d : List ℕ) (settled : List Bool) : Type 0 where
   pub count : length d ≡ length g.vertices
   pub marks : length settled ≡ length g.vertices
   pub bounded : All (λ x. x ≤ far p) d
 
+-- the vertex is settled: its least cost is known
 abbrev pub is_settled : List Bool → ℕ → Bool
 is_settled settled v = slice_index_or settled v false
 
@@ -35,14 +36,14 @@ pub record LeadsToLast (g : Area) (least : ℕ) (d : List ℕ) (settled : List B
 
 -- where a search for least costs below a limit stands that settled a vertex at `least` last, and has yet to look at the
 -- edges `todo` into it
-pub record Underway (g : Area) (p : Point) (gone : List ℕ) (t limit least : ℕ) (todo : List ℕ) (d : List ℕ)
+pub record Underway (g : Area) (p : Point) (excluded : List ℕ) (t limit least : ℕ) (todo : List ℕ) (d : List ℕ)
     (settled : List Bool) (waiting : List Entry) : Type 0 where
-  pub reached : AreReached g p gone t limit d
+  pub reached : AreReached g p excluded t limit d
   pub bounded : All (λ x. x ≤ limit) d
   pub before : (v : ℕ) → is_settled settled v ≡ true → slice_index d v ≤ least
   pub waits : (v : ℕ) → v < length d → is_settled settled v ≡ false → slice_index d v < limit →
       Contains waiting (record { distance = slice_index d v; vertex = v })
   pub entries : All (MayWait limit least d) waiting
   pub edges : All (LeadsToLast g least d settled) todo
-  pub closed : (e : ℕ) → e < length g.edges → Lacks gone e → is_settled settled (edge_at g e).to ≡ true → Lacks todo e →
+  pub closed : (e : ℕ) → e < length g.edges → Lacks excluded e → is_settled settled (edge_at g e).to ≡ true → Lacks todo e →
       slice_index d (edge_at g e).from ≤ through p (edge_at g e) d

@@ -1,7 +1,7 @@
 //! The room in which distances are found and kept.
 
 ghost use Rattle.std.specs.Prelude.{◌≡◌, ◌↔◌, ◌++◌, ◌∷◌, List, Some, ℕ, ◌<◌, [], replicate, length, reverse, IfOk, IsTrue, None, false, slice_index_or, true};
-ghost use Rattle.area_graph.specs.Distances.{AreMarks};
+ghost use Rattle.area_graph.specs.Distances.{AreEdgeMarks};
 ghost use Rattle.area_graph.specs.Costs.{FitsPoint, cost};
 ghost use Rattle.area_graph.specs.Paths.{IsPathOf};
 ghost use Rattle.spf_ties.specs.Distances.{AreTight, IsLeastBelow, IsLeastCost, IsRoomFor, distance_at, is_tight, tight_out};
@@ -9,7 +9,7 @@ ghost use Rattle.spf_ties.specs.Distances.{AreTight, IsLeastBelow, IsLeastCost, 
 use crate::NextHops;
 use crate::heap::Heap;
 use crate::search::{Front, find_in_either};
-use area_graph::{Graph, Point, Removal, edge_of, mark_gone, price_of};
+use area_graph::{Graph, Point, Removal, edge_of, mark_excluded, price_of};
 use cost_base::OutOfMemory;
 use std::alloc::Global;
 use std::marker::Model;
@@ -84,33 +84,33 @@ impl Room {
         requires fits { FitsPoint graph.now point.now }
         requires target { target < length graph.now.vertices }
         ensures room { IsRoomFor graph.now self.new }
-        ensures marks { AreMarks [] self.new.marks }
+        ensures marks { AreEdgeMarks [] self.new.marks }
         ensures least { (v : ℕ) → v < length graph.now.vertices →
-            IsLeastCost graph.now point.now (record { start = v; end = target; gone = [] }) (distance_at self.new v) }
-        ensures tight { (v : ℕ) (path : List ℕ) → IsPathOf graph.now (record { start = v; end = target; gone = [] }) path →
+            IsLeastCost graph.now point.now (record { start = v; end = target; excluded = [] }) (distance_at self.new v) }
+        ensures tight { (v : ℕ) (path : List ℕ) → IsPathOf graph.now (record { start = v; end = target; excluded = [] }) path →
             (distance_at self.new v ≡ Some (cost graph.now point.now path)) ↔ AreTight graph.now point.now self.new path }
     {
         self.distances_without(graph, point, target, &[]);
     }
 
-    /// Finds each vertex's least cost of a simple path to the target that has none of the edges of `gone`.
+    /// Finds each vertex's least cost of a simple path to the target that has none of the edges of `excluded`.
     /// Among these paths one has least cost exactly where each of its edges is tight.
-    pub fn distances_without(&mut self, graph: &Graph, point: &Point, target: u32, gone: &[u32])
+    pub fn distances_without(&mut self, graph: &Graph, point: &Point, target: u32, excluded: &[u32])
         requires room { IsRoomFor graph.now self.old }
         requires fits { FitsPoint graph.now point.now }
         requires target { target < length graph.now.vertices }
         ensures room { IsRoomFor graph.now self.new }
-        ensures marks { AreMarks gone.now self.new.marks }
+        ensures marks { AreEdgeMarks excluded.now self.new.marks }
         ensures least { (v : ℕ) → v < length graph.now.vertices →
-            IsLeastCost graph.now point.now (record { start = v; end = target; gone = gone.now }) (distance_at self.new v) }
-        ensures tight { (v : ℕ) (path : List ℕ) → IsPathOf graph.now (record { start = v; end = target; gone = gone.now }) path →
+            IsLeastCost graph.now point.now (record { start = v; end = target; excluded = excluded.now }) (distance_at self.new v) }
+        ensures tight { (v : ℕ) (path : List ℕ) → IsPathOf graph.now (record { start = v; end = target; excluded = excluded.now }) path →
             (distance_at self.new v ≡ Some (cost graph.now point.now path)) ↔ AreTight graph.now point.now self.new path }
     {
         graph.keeps_conditions();
-        self.distances_within(graph, point, target, gone, (1 << 26) * point.scale);
+        self.distances_within(graph, point, target, excluded, (1 << 26) * point.scale);
     }
 
-    /// Finds each vertex's least cost of a simple path to the target that has none of the edges of `gone`, where that is
+    /// Finds each vertex's least cost of a simple path to the target that has none of the edges of `excluded`, where that is
     /// below a limit. Among the paths that cost less than the limit one has least cost exactly where each of its edges is
     /// tight. It takes time in proportion to the edges near the target, times the logarithm of their number; at scales from
     /// 2^37 on it goes over all edges, again and again until no number falls.
@@ -119,24 +119,24 @@ impl Room {
         graph: &Graph,
         point: &Point,
         target: u32,
-        gone: &[u32],
+        excluded: &[u32],
         limit: u128,
     )
         requires room { IsRoomFor graph.now self.old }
         requires fits { FitsPoint graph.now point.now }
         requires target { target < length graph.now.vertices }
         ensures room { IsRoomFor graph.now self.new }
-        ensures marks { AreMarks gone.now self.new.marks }
+        ensures marks { AreEdgeMarks excluded.now self.new.marks }
         ensures least { (v : ℕ) → v < length graph.now.vertices →
-            IsLeastBelow graph.now point.now (record { start = v; end = target; gone = gone.now }) limit (distance_at self.new v) }
-        ensures tight { (v : ℕ) (path : List ℕ) → IsPathOf graph.now (record { start = v; end = target; gone = gone.now }) path →
+            IsLeastBelow graph.now point.now (record { start = v; end = target; excluded = excluded.now }) limit (distance_at self.new v) }
+        ensures tight { (v : ℕ) (path : List ℕ) → IsPathOf graph.now (record { start = v; end = target; excluded = excluded.now }) path →
             cost graph.now point.now path < limit →
             (distance_at self.new v ≡ Some (cost graph.now point.now path)) ↔ AreTight graph.now point.now self.new path }
     {
         graph.keeps_conditions();
-        mark_gone(&mut self.marks, gone);
+        mark_excluded(&mut self.marks, excluded);
         let removal = Removal {
-            gone,
+            excluded,
             marks: self.marks.as_slice(),
         };
         self.far = limit.min((1 << 26) * point.scale);

@@ -6,7 +6,7 @@ ghost use Rattle.area_graph.specs.Area.{edge_at, edges_in};
 ghost use Rattle.area_graph.specs.Costs.{FitsPoint, IsPriced, price_at};
 ghost use Rattle.area_graph.specs.Distances.{AreReached, SettledBelow, far};
 ghost use Rattle.spf_ties.specs.declared.heap.Entry.{Entry};
-ghost use Rattle.spf_ties.specs.Searches.{IsFront, Underway, is_settled, open_edges};
+ghost use Rattle.spf_ties.specs.Searches.{AreSearchNumbers, Underway, is_settled, open_edges};
 
 use crate::heap::{Entry, Heap};
 use area_graph::{Graph, Point, Price, Removal, edge_of, put_distances};
@@ -39,9 +39,9 @@ fn look(graph: &Graph, point: &Point, removal: &Removal, number: u32, front: &mu
     requires fits { FitsPoint graph.now point.now }
     requires scale { point.now.scale < 2 ^ 37 }
     requires known { number < length graph.now.edges }
-    requires front { IsFront graph.now point.now front.old.numbers.items front.old.settled.items }
+    requires front { AreSearchNumbers graph.now point.now front.old.numbers.items front.old.settled.items }
     requires room { length front.old.waiting.entries < front.old.waiting.places }
-    ensures front { IsFront graph.now point.now front.new.numbers.items front.new.settled.items }
+    ensures front { AreSearchNumbers graph.now point.now front.new.numbers.items front.new.settled.items }
     ensures settled { front.new.settled.items ≡ front.old.settled.items }
     ensures places { front.old.waiting.places ≤ front.new.waiting.places }
     ensures one { length front.new.waiting.entries ≤ length front.old.waiting.entries + 1 }
@@ -69,10 +69,10 @@ fn settle(graph: &Graph, point: &Point, removal: &Removal, vertex: u32, front: &
     requires fits { FitsPoint graph.now point.now }
     requires scale { point.now.scale < 2 ^ 37 }
     requires vertex { vertex < length graph.now.vertices }
-    requires front { IsFront graph.now point.now front.old.numbers.items front.old.settled.items }
+    requires front { AreSearchNumbers graph.now point.now front.old.numbers.items front.old.settled.items }
     requires waited { is_settled front.old.settled.items vertex ≡ false }
     requires room { length front.old.waiting.entries + open_edges graph.now front.old.settled.items ≤ front.old.waiting.places }
-    ensures front { IsFront graph.now point.now front.new.numbers.items front.new.settled.items }
+    ensures front { AreSearchNumbers graph.now point.now front.new.numbers.items front.new.settled.items }
     ensures places { front.old.waiting.places ≤ front.new.waiting.places }
     ensures fewer { length front.new.waiting.entries + open_edges graph.now front.new.settled.items ≤
         length front.old.waiting.entries + open_edges graph.now front.old.settled.items }
@@ -92,9 +92,9 @@ fn take_in(graph: &Graph, point: &Point, removal: &Removal, entry: Entry, front:
     requires fits { FitsPoint graph.now point.now }
     requires scale { point.now.scale < 2 ^ 37 }
     requires vertex { entry.vertex < length graph.now.vertices }
-    requires front { IsFront graph.now point.now front.old.numbers.items front.old.settled.items }
+    requires front { AreSearchNumbers graph.now point.now front.old.numbers.items front.old.settled.items }
     requires room { length front.old.waiting.entries + open_edges graph.now front.old.settled.items ≤ front.old.waiting.places }
-    ensures front { IsFront graph.now point.now front.new.numbers.items front.new.settled.items }
+    ensures front { AreSearchNumbers graph.now point.now front.new.numbers.items front.new.settled.items }
     ensures places { front.old.waiting.places ≤ front.new.waiting.places }
     ensures fewer { length front.new.waiting.entries + open_edges graph.now front.new.settled.items ≤
         length front.old.waiting.entries + open_edges graph.now front.old.settled.items }

@@ -1,34 +1,38 @@
 -- Sets that are asked one after another.
 use Rattle.std.proofs.Common.{◌≡◌, ℕ, ◌+◌, ◌<◌, ◌≤◌, refl, sym, ◌∙◌, ap, subst, inl, inr, List, [], ◌∷◌, ◌++◌, length, arith, append_assoc}
-use Rattle.std.specs.Prelude.{◌↔◌}
+use Rattle.std.specs.Prelude.{◌↔◌, All}
 use Rattle.std.proofs.lemmas.Bool.{cases_lt}
 use Rattle.std.proofs.lemmas.List.{map-append}
-use Rattle.std.proofs.lemmas.List.Elements.{All-contains, All-from_get_or, All-push}
+use Rattle.std.proofs.lemmas.List.Elements.{All-contains, All-from_get_or, All-push, All-weaker}
+use Rattle.std.proofs.lemmas.List.Quantifiers.{all_pairs_push}
 use Rattle.area_graph.specs.declared.Point.{Point}
 use Rattle.area_graph.specs.declared.Path.{Path}
-use Rattle.path_rows.specs.Forms.{Form, AreMet}
-use Rattle.path_rows.specs.Problems.{DesignProblem}
-use Rattle.form_search.specs.Sources.{IsAnswered, SameSource}
+use Rattle.design_problem.specs.Forms.{Form, AreMet}
+use Rattle.design_problem.specs.Problems.{DesignProblem}
+use Rattle.form_search.specs.Sources.{IsSourceAnswer, SameSource}
 use Rattle.form_search.specs.declared.source.Asked.{Asked}
 use Rattle.form_search.specs.declared.source.Asked.TheVariants.{Nothing, Added}
-use Rattle.cost_branching.specs.Rivals.{IsKept}
+use Rattle.cost_branching.specs.Rivals.{IsProblemOnGraph}
 use Rattle.form_search.proofs.SourceLaws.{grows_none}
 use Rattle.cost_branching.proofs.NewForms.{between_negative, grows_more, new_rival}
 use Rattle.spread_sets.specs.declared.spread.SetRow.{SetRow}
 use Rattle.spread_sets.specs.declared.spread.SetRow.TheVariants.{Rival}
-use Rattle.spread_sets.specs.Spreads.{IsSetRow, Shares, SharesEach, edges_of, first_of, form_of_set_row}
-use Rattle.spread_sets.specs.MemberSets.{AreMemberSets}
-use Rattle.spread_sets.specs.Sources.{AreInStep, IsTooCheap, IsTrueOfSets, KnownSets, candidates_of, set_at, tie_rows}
-use Rattle.spread_sets.specs.Asking.{AnswersBelow, AreAllAsked, AreAsked, NoRow, OneRow}
+use Rattle.spread_sets.specs.Spreads.{IsSetRow, SetRowsDiffer, Shares, SharesEach, edges_of, name_of_set, form_of_set_row}
+use Rattle.spread_sets.specs.MemberSets.{AreDistinctSets, AreMemberSets}
+use Rattle.spread_sets.specs.Sources.{IsPoolOfSets, IsOutsiderTooCheap, IsTrueOfSets, KnownSets, candidates_of, set_at, tie_rows}
+use Rattle.spread_sets.specs.Asking.{AnswersSetsBelow, AreAllSetsAsked, AreSetsAsked, IsPassed, NoSetRow, OneSetRow}
+use Rattle.spread_sets.proofs.DistinctRows.{passed_differs, passed_more}
+use Rattle.spread_sets.proofs.Ties.{rows_met}
 use Rattle.spread_sets.proofs.SetLaws.{listed_at}
 
 -- no set was asked yet
-pub none_asked : (point : Point) (s : KnownSets) (forms : List Form) → AreInStep s forms → AreAsked point 0 s forms s forms Nothing
-none_asked point s forms in_step = record {
+pub none_asked : (point : Point) (s : KnownSets) (forms : List Form) → IsPoolOfSets s forms → AreMet forms point → AreSetsAsked point 0 s forms s forms Nothing
+none_asked point s forms in_step met = record {
   problem = refl;
   sets = refl;
   in_step = in_step;
   grows = grows_none (IsTrueOfSets s.problem s.sets) forms;
+  passed = λ k d k_in. inr (rows_met s.problem s.rows forms point in_step.forms met k d k_in);
   answer = (refl, λ k k_in. absurd (omega arith));
 }
 
@@ -43,8 +47,8 @@ shares_more p sets point count before shares k k_in = elim (cases_lt k count) [
 
 -- one set more, which shares
 answers_more : (old : KnownSets) (point : Point) (count : ℕ) (old_forms forms : List Form) (asked : Asked) →
-    AnswersBelow old point count old_forms forms asked → Shares old.problem point (set_at old.sets count) →
-    AnswersBelow old point (count + 1) old_forms forms asked
+    AnswersSetsBelow old point count old_forms forms asked → Shares old.problem point (set_at old.sets count) →
+    AnswersSetsBelow old point (count + 1) old_forms forms asked
 answers_more old point count old_forms forms Nothing answer shares = (answer.0, shares_more old.problem old.sets point count answer.1 shares)
 answers_more old point count old_forms forms Added answer shares = answer
 
@@ -57,16 +61,17 @@ shares_as p q sets others point place same_problem same_sets shares =
 
 pub more_share : (point : Point) (count : ℕ) (old : KnownSets) (old_forms : List Form) (now : KnownSets)
     (forms : List Form) (new : KnownSets) (new_forms : List Form) (asked : Asked) →
-    AreAsked point count old old_forms now forms asked → NoRow point count now forms new new_forms →
-    AreAsked point (count + 1) old old_forms new new_forms asked
+    AreSetsAsked point count old old_forms now forms asked → NoSetRow point count now forms new new_forms →
+    AreSetsAsked point (count + 1) old old_forms new new_forms asked
 more_share point count old old_forms now forms new new_forms asked are one =
-    subst (λ (s : KnownSets). AreAsked point (count + 1) old old_forms s new_forms asked) (sym one.rows)
-    (subst (λ (fs : List Form). AreAsked point (count + 1) old old_forms now fs asked) (sym one.forms)
+    subst (λ (s : KnownSets). AreSetsAsked point (count + 1) old old_forms s new_forms asked) (sym one.rows)
+    (subst (λ (fs : List Form). AreSetsAsked point (count + 1) old old_forms now fs asked) (sym one.forms)
     (record {
       problem = are.problem;
       sets = are.sets;
       in_step = are.in_step;
       grows = are.grows;
+      passed = All-weaker (IsPassed old point count) (IsPassed old point (count + 1)) (passed_more old point count) now.rows are.passed;
       answer = answers_more old point count old_forms forms asked are.answer
           (shares_as old.problem now.problem old.sets now.sets point count are.problem are.sets one.shares);
     }))
@@ -74,41 +79,48 @@ more_share point count old old_forms now forms new new_forms asked are one =
 -- one set more, of which a row came
 
 -- rows with one more
-pub in_step_more : (now : KnownSets) (forms : List Form) (row : SetRow) → AreInStep now forms →
-    IsSetRow now.problem now.sets row →
-    AreInStep (record now { rows = now.rows ++ row ∷ [] }) (forms ++ form_of_set_row now.problem row ∷ [])
-in_step_more now forms row in_step is = record {
+pub in_step_more : (now : KnownSets) (forms : List Form) (row : SetRow) → IsPoolOfSets now forms →
+    IsSetRow now.problem now.sets row → (AreDistinctSets now.sets → All (λ other. SetRowsDiffer other row) now.rows) →
+    IsPoolOfSets (record now { rows = now.rows ++ row ∷ [] }) (forms ++ form_of_set_row now.problem row ∷ [])
+in_step_more now forms row in_step is differ = record {
   true_rows = All-push (IsSetRow now.problem now.sets) now.rows row in_step.true_rows is;
   more = in_step.more ++ row ∷ [];
   begun = ap (λ (rs : List SetRow). rs ++ row ∷ []) in_step.begun ∙ append_assoc (tie_rows now.sets) in_step.more (row ∷ []);
+  once = λ distinct. all_pairs_push SetRowsDiffer now.rows row (in_step.once distinct) (differ distinct);
   forms = ap (λ (fs : List Form). fs ++ form_of_set_row now.problem row ∷ []) in_step.forms
       ∙ sym (map-append (form_of_set_row now.problem) now.rows (row ∷ []));
 }
 
-pub too_cheap_not : (p : DesignProblem) (point : Point) (set es : List ℕ) → IsTooCheap p point set es → Shares p point set → ⊥
+pub too_cheap_not : (p : DesignProblem) (point : Point) (set es : List ℕ) → IsOutsiderTooCheap p point set es → Shares p point set → ⊥
 too_cheap_not p point set es cheap shares = (let more = shares.dearer es cheap.rival in let less = cheap.cheap in absurd (omega arith))
 
 row_added : (point : Point) (count : ℕ) (p : DesignProblem) (sets : List (List ℕ)) (old_rows : List SetRow)
     (old_forms : List Form) (rows : List SetRow) (forms : List Form) (asked : Asked) (rival : Path) →
-    AreAsked point count (record { problem = p; sets = sets; rows = old_rows }) old_forms
+    AreSetsAsked point count (record { problem = p; sets = sets; rows = old_rows }) old_forms
     (record { problem = p; sets = sets; rows = rows }) forms asked →
-    AreMet old_forms point → length point.values ≡ length p.low → IsKept p → AreMemberSets p sets →
-    count < length sets → IsTooCheap p point (set_at sets count) rival.edges →
-    AreAsked point (count + 1) (record { problem = p; sets = sets; rows = old_rows }) old_forms
-    (record { problem = p; sets = sets; rows = rows ++ Rival (first_of (set_at sets count)) rival ∷ [] })
-    (forms ++ form_of_set_row p (Rival (first_of (set_at sets count)) rival) ∷ []) Added
+    AreMet old_forms point → length point.values ≡ length p.low → IsProblemOnGraph p → AreMemberSets p sets →
+    count < length sets → IsOutsiderTooCheap p point (set_at sets count) rival.edges →
+    AreSetsAsked point (count + 1) (record { problem = p; sets = sets; rows = old_rows }) old_forms
+    (record { problem = p; sets = sets; rows = rows ++ Rival (name_of_set (set_at sets count)) rival ∷ [] })
+    (forms ++ form_of_set_row p (Rival (name_of_set (set_at sets count)) rival) ∷ []) Added
 row_added point count p sets old_rows old_forms rows forms asked rival are met length_is kept members inside cheap =
+    let old : KnownSets = record { problem = p; sets = sets; rows = old_rows } in
     let set = set_at sets count in
-    let row : SetRow = Rival (first_of set) rival in
+    let row : SetRow = Rival (name_of_set set) rival in
     let has = listed_at sets count [] inside in
-    let negative = between_negative p point (edges_of p (first_of set)) rival.edges kept.problem length_is cheap.cheap in
+    let negative = between_negative p point (edges_of p (name_of_set set)) rival.edges kept.problem length_is cheap.cheap in
     let is_row : IsSetRow p sets row = (set, record { listed = has; first = refl }, cheap.rival) in
     record {
       problem = refl;
       sets = refl;
-      in_step = in_step_more (record { problem = p; sets = sets; rows = rows }) forms row are.in_step is_row;
+      in_step = in_step_more (record { problem = p; sets = sets; rows = rows }) forms row are.in_step is_row
+          (λ distinct. All-weaker (IsPassed old point count) (λ other. SetRowsDiffer other row)
+          (λ other passed. passed_differs old point count other rival distinct inside negative passed) rows are.passed);
       grows = grows_more (IsTrueOfSets p sets) old_forms forms (form_of_set_row p row) are.grows
           (record { kept = kept; are = members; of_row = record { row = row; is_row = is_row; same = refl } });
+      passed = All-push (IsPassed old point (count + 1)) rows row
+          (All-weaker (IsPassed old point count) (IsPassed old point (count + 1)) (passed_more old point count) rows are.passed)
+          (inl (count, omega arith, refl));
       answer = (
         λ each. too_cheap_not p point set rival.edges cheap (All-contains (Shares p point) sets set each has),
         new_rival point old_forms forms (form_of_set_row p row) met negative,
@@ -117,50 +129,50 @@ row_added point count p sets old_rows old_forms rows forms asked rival are met l
 
 pub one_added : (point : Point) (count : ℕ) (old : KnownSets) (old_forms : List Form) (now : KnownSets)
     (forms : List Form) (new : KnownSets) (new_forms : List Form) (asked : Asked) →
-    AreAsked point count old old_forms now forms asked → AreMet old_forms point →
+    AreSetsAsked point count old old_forms now forms asked → AreMet old_forms point →
     length point.values ≡ length old.problem.low → count < length old.sets →
-    OneRow point count now forms new new_forms →
-    AreAsked point (count + 1) old old_forms new new_forms Added
+    OneSetRow point count now forms new new_forms →
+    AreSetsAsked point (count + 1) old old_forms new new_forms Added
 one_added point count old old_forms now forms new new_forms asked are met length_is inside one =
-    subst (λ (s : KnownSets). AreAsked point (count + 1) old old_forms s new_forms Added) (sym one.rows)
-    (subst (λ (fs : List Form). AreAsked point (count + 1) old old_forms
-    (record now { rows = now.rows ++ Rival (first_of (set_at now.sets count)) one.rival ∷ [] }) fs Added)
+    subst (λ (s : KnownSets). AreSetsAsked point (count + 1) old old_forms s new_forms Added) (sym one.rows)
+    (subst (λ (fs : List Form). AreSetsAsked point (count + 1) old old_forms
+    (record now { rows = now.rows ++ Rival (name_of_set (set_at now.sets count)) one.rival ∷ [] }) fs Added)
     (sym one.forms)
     (by_names now.problem now.sets are.problem are.sets are one.kept one.are one.cheap))
   where
     by_names : (q : DesignProblem) (others : List (List ℕ)) → q ≡ old.problem → others ≡ old.sets →
-        AreAsked point count old old_forms (record { problem = q; sets = others; rows = now.rows }) forms asked →
-        IsKept q → AreMemberSets q others → IsTooCheap q point (set_at others count) one.rival.edges →
-        AreAsked point (count + 1) old old_forms
+        AreSetsAsked point count old old_forms (record { problem = q; sets = others; rows = now.rows }) forms asked →
+        IsProblemOnGraph q → AreMemberSets q others → IsOutsiderTooCheap q point (set_at others count) one.rival.edges →
+        AreSetsAsked point (count + 1) old old_forms
         (record {
           problem = q;
           sets = others;
-          rows = now.rows ++ Rival (first_of (set_at others count)) one.rival ∷ [];
+          rows = now.rows ++ Rival (name_of_set (set_at others count)) one.rival ∷ [];
         })
-        (forms ++ form_of_set_row q (Rival (first_of (set_at others count)) one.rival) ∷ []) Added
+        (forms ++ form_of_set_row q (Rival (name_of_set (set_at others count)) one.rival) ∷ []) Added
     by_names q others same_problem same_sets =
-        subst (λ (r : DesignProblem). AreAsked point count old old_forms
-        (record { problem = r; sets = others; rows = now.rows }) forms asked → IsKept r → AreMemberSets r others →
-        IsTooCheap r point (set_at others count) one.rival.edges →
-        AreAsked point (count + 1) old old_forms
+        subst (λ (r : DesignProblem). AreSetsAsked point count old old_forms
+        (record { problem = r; sets = others; rows = now.rows }) forms asked → IsProblemOnGraph r → AreMemberSets r others →
+        IsOutsiderTooCheap r point (set_at others count) one.rival.edges →
+        AreSetsAsked point (count + 1) old old_forms
         (record {
           problem = r;
           sets = others;
-          rows = now.rows ++ Rival (first_of (set_at others count)) one.rival ∷ [];
+          rows = now.rows ++ Rival (name_of_set (set_at others count)) one.rival ∷ [];
         })
-        (forms ++ form_of_set_row r (Rival (first_of (set_at others count)) one.rival) ∷ []) Added)
+        (forms ++ form_of_set_row r (Rival (name_of_set (set_at others count)) one.rival) ∷ []) Added)
         (sym same_problem)
         (subst (λ (ss : List (List ℕ)).
-        AreAsked point count old old_forms (record { problem = old.problem; sets = ss; rows = now.rows }) forms
-        asked → IsKept old.problem → AreMemberSets old.problem ss →
-        IsTooCheap old.problem point (set_at ss count) one.rival.edges →
-        AreAsked point (count + 1) old old_forms
+        AreSetsAsked point count old old_forms (record { problem = old.problem; sets = ss; rows = now.rows }) forms
+        asked → IsProblemOnGraph old.problem → AreMemberSets old.problem ss →
+        IsOutsiderTooCheap old.problem point (set_at ss count) one.rival.edges →
+        AreSetsAsked point (count + 1) old old_forms
         (record {
           problem = old.problem;
           sets = ss;
-          rows = now.rows ++ Rival (first_of (set_at ss count)) one.rival ∷ [];
+          rows = now.rows ++ Rival (name_of_set (set_at ss count)) one.rival ∷ [];
         })
-        (forms ++ form_of_set_row old.problem (Rival (first_of (set_at ss count)) one.rival) ∷ []) Added)
+        (forms ++ form_of_set_row old.problem (Rival (name_of_set (set_at ss count)) one.rival) ∷ []) Added)
         (sym same_sets)
         (λ here kept members cheap. row_added point count old.problem old.sets old.rows old_forms now.rows forms asked
         one.rival here met length_is kept members inside cheap))
@@ -168,11 +180,11 @@ one_added point count old old_forms now forms new new_forms asked are met length
 -- all sets were asked
 pub all_asked : (point : Point) (count : ℕ) (old : KnownSets) (old_forms : List Form) (new : KnownSets)
     (new_forms : List Form) (asked : Asked) → length old.sets ≤ count →
-    AreAsked point count old old_forms new new_forms asked → AreAllAsked point old old_forms new new_forms asked
+    AreSetsAsked point count old old_forms new new_forms asked → AreAllSetsAsked point old old_forms new new_forms asked
 all_asked point count old old_forms new new_forms asked all are = record { in_step = are.in_step; answer = by_answer asked are.answer }
   where
-    by_answer : (asked : Asked) → AnswersBelow old point count old_forms new_forms asked →
-        IsAnswered (SharesEach old.problem old.sets) point old_forms new_forms asked
+    by_answer : (asked : Asked) → AnswersSetsBelow old point count old_forms new_forms asked →
+        IsSourceAnswer (SharesEach old.problem old.sets) point old_forms new_forms asked
     by_answer Nothing answer = (All-from_get_or (Shares old.problem point) old.sets [] (λ k k_in. answer.1 k (omega arith)), answer.0)
     by_answer Added answer = answer
 

@@ -7,4 +7,5 @@ pub mod MadeSets
 pub mod LineNumbers
 pub mod TieForms
 pub mod Separations
+pub mod DistinctRows
 pub mod Findings

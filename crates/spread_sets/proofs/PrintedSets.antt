@@ -1,41 +1,42 @@
 -- The rows and the tree that are printed of a search over sets, and what they show.
 use Rattle.std.proofs.Common.{◌≡◌, ◌≢◌, ℕ, zero, suc, ◌^◌, ◌<◌, ◌≤◌, refl, ◌∙◌, subst, get_or, List, [], ◌∷◌, length, min, arith}
-use Rattle.std.specs.Prelude.{All, Contains, codes, slice_get, slice_index}
+use Rattle.std.specs.Prelude.{All, AllPairs, Contains, codes, slice_get, slice_index}
 use Rattle.std.proofs.lemmas.List.{get_or-map, length-map}
 use Rattle.std.proofs.lemmas.List.Elements.{All-contains, All-cons, All-map, All-nil}
 use Rattle.cost_base.specs.Decimal.{decimal}
 use Rattle.area_graph.specs.Area.{Area}
 use Rattle.area_graph.specs.Paths.{IsPathOf}
-use Rattle.path_rows.specs.declared.problem.Request.{Request}
-use Rattle.path_rows.specs.declared.form.Row.{Row}
-use Rattle.path_rows.specs.declared.tree.Entry.{Entry}
-use Rattle.path_rows.specs.declared.tree.Entry.TheVariants.{Undone}
-use Rattle.path_rows.specs.Problems.{DesignProblem, IsProblem, ends_of, request_at}
-use Rattle.path_rows.specs.Boxes.{IsInBox}
-use Rattle.path_rows.specs.Rows.{IsRivalOf, IsRouteOf, IsRow, box_of}
-use Rattle.path_rows.specs.Trees.{IsClosed, IsSoundTree, entry_count}
-use Rattle.path_rows.specs.Answers.{greatest_bound, whole_box}
-use Rattle.path_rows.proofs.ProblemTrees.{le_greatest}
-use Rattle.path_rows.proofs.TreeLaws.{closed_tree_none}
-use Rattle.path_rows.proofs.TreeShapes.{few_entries}
+use Rattle.design_problem.specs.declared.problem.Request.{Request}
+use Rattle.design_problem.specs.declared.form.Row.{Row}
+use Rattle.design_problem.specs.declared.tree.Entry.{Entry}
+use Rattle.design_problem.specs.declared.tree.Entry.TheVariants.{Undone}
+use Rattle.design_problem.specs.Problems.{DesignProblem, IsProblem, request_ends, request_at}
+use Rattle.design_problem.specs.Boxes.{IsInBox}
+use Rattle.design_problem.specs.Rows.{IsRivalOf, IsRouteOf, IsRow, box_of}
+use Rattle.design_problem.specs.Trees.{IsClosed, IsSoundTree, entry_count}
+use Rattle.design_problem.specs.Answers.{greatest_bound, whole_box}
+use Rattle.design_problem.proofs.ProblemTrees.{le_greatest}
+use Rattle.design_problem.proofs.TreeLaws.{closed_tree_none}
+use Rattle.design_problem.proofs.TreeShapes.{few_entries}
 use Rattle.form_search.specs.Finds.{IsSearchTree}
-use Rattle.cost_branching.specs.Rivals.{IsKept}
-use Rattle.printed_rows.specs.NamedRows.{NamesBelow, is_named}
-use Rattle.printed_rows.specs.NewNumbers.{IsPrinted}
+use Rattle.cost_branching.specs.Rivals.{IsProblemOnGraph}
+use Rattle.printed_rows.specs.NamedRows.{NamesBelow, is_row_named}
+use Rattle.printed_rows.specs.NewNumbers.{IsTreePrinted}
 use Rattle.printed_rows.proofs.AnswerLines.{fit_text}
 use Rattle.printed_rows.proofs.CapBoxes.{bounds_box, cost_bounds, floor_below_ceiling}
 use Rattle.printed_rows.proofs.MetForms.{Met, meets_all}
 use Rattle.printed_rows.proofs.RowLines.{rows_short}
+use Rattle.printed_rows.proofs.SheetLaws.{tree_sheet}
 use Rattle.printed_rows.proofs.TreeCopies.{IsCopy, all_printed, copy_closed, copy_printable, copy_printed, copy_spent, printed_copy, search_names}
 use Rattle.printed_rows.proofs.TreeLines.{spaced-le, thing_digits}
 use Rattle.set_separation.specs.Outsiders.{IsOutsider}
 use Rattle.spread_sets.specs.declared.spread.SetRow.{SetRow}
 use Rattle.spread_sets.specs.declared.spread.SetRow.TheVariants.{Rival, Same}
-use Rattle.spread_sets.specs.declared.spread.Spread.TheVariants.{Fit, Impossible, Unknown}
-use Rattle.spread_sets.specs.Spreads.{IsFormOfSetRow, IsSetRow, SharesEach, edges_of, ends_in, first_of, form_of_set_row, forms_of_set_rows, paths_of}
-use Rattle.printed_rows.specs.FittingTexts.{FitText, IsLine}
-use Rattle.spread_sets.specs.Answers.{HasNoSpread, IsSpentOfSets, IsTreeOfSets, set_row_line}
-use Rattle.spread_sets.specs.Laws.{LargeBudgetsSettle}
+use Rattle.spread_sets.specs.declared.spread.Spread.TheVariants.{Fit, Impossible, Undecided}
+use Rattle.spread_sets.specs.Spreads.{IsFormOfSetRow, IsSetRow, SetRowsDiffer, SharesEach, edges_of, ends_in, name_of_set, form_of_set_row, forms_of_set_rows, paths_of}
+use Rattle.printed_rows.specs.FittingTexts.{FitText, IsTextLine}
+use Rattle.spread_sets.specs.Answers.{HasNoSpread, IsSheetOfSets, IsUndecidedOfSets, IsTreeOfSets, set_row_line}
+use Rattle.spread_sets.specs.Laws.{SpreadUnspentIfLarge, SpreadSettlesUnspent}
 use Rattle.spread_sets.specs.MemberSets.{AreMemberSets, IsMemberSet}
 use Rattle.spread_sets.specs.SourceLaws.{first_listed, member_known}
 use Rattle.spread_sets.proofs.SpreadLaws.{fit_met}
@@ -44,36 +45,36 @@ use Rattle.spread_sets.proofs.SpreadLaws.{fit_met}
 
 -- a simple path of a request, other than its own
 pub rival_is : (g : Area) (paths : List Request) (k : ℕ) (es : List ℕ) → k < length paths →
-    IsPathOf g (ends_of (request_at paths k)) es → es ≢ (request_at paths k).path.edges →
+    IsPathOf g (request_ends (request_at paths k)) es → es ≢ (request_at paths k).path.edges →
     IsRivalOf g (slice_get paths k) es
 rival_is g [] k es known path other = absurd (omega arith)
 rival_is g (r ∷ rs) zero es known path other = (path, other)
 rival_is g (r ∷ rs) (suc k) es known path other = rival_is g rs k es (omega arith) path other
 
 pub route_is : (g : Area) (paths : List Request) (k : ℕ) (es : List ℕ) → k < length paths →
-    IsPathOf g (ends_of (request_at paths k)) es → IsRouteOf g (slice_get paths k) es
+    IsPathOf g (request_ends (request_at paths k)) es → IsRouteOf g (slice_get paths k) es
 route_is g [] k es known path = absurd (omega arith)
 route_is g (r ∷ rs) zero es known path = path
 route_is g (r ∷ rs) (suc k) es known path = route_is g rs k es (omega arith) path
 
 -- an outsider differs from the first member's path
-first_other : (p : DesignProblem) (set es : List ℕ) → 0 < length set → All (λ w. es ≢ w) (paths_of p set) → es ≢ edges_of p (first_of set)
+first_other : (p : DesignProblem) (set es : List ℕ) → 0 < length set → All (λ w. es ≢ w) (paths_of p set) → es ≢ edges_of p (name_of_set set)
 first_other p [] es some other = absurd (omega arith)
 first_other p (i ∷ more) es some other = other 0 [] (omega arith)
 
 rival_row : (p : DesignProblem) (set : List ℕ) (rival : List ℕ) → IsMemberSet p set →
     IsOutsider p.graph (ends_in p set) (paths_of p set) rival →
-    IsRivalOf p.graph (slice_get p.paths (first_of set)) rival
+    IsRivalOf p.graph (slice_get p.paths (name_of_set set)) rival
 rival_row p set rival is outsider =
-    rival_is p.graph p.paths (first_of set) rival (member_known p set (first_of set) is (first_listed set is.some))
+    rival_is p.graph p.paths (name_of_set set) rival (member_known p set (name_of_set set) is (first_listed set is.some))
     outsider.path (first_other p set rival is.some outsider.other)
 
-same_short : (name i j : ℕ) → name < 2 ^ 32 → i < 2 ^ 32 → j < 2 ^ 32 → IsLine (set_row_line (Same name i j))
+same_short : (name i j : ℕ) → name < 2 ^ 32 → i < 2 ^ 32 → j < 2 ^ 32 → IsTextLine (set_row_line (Same name i j))
 same_short name i j first second third =
     let words = spaced-le (codes "same" ∷ decimal name ∷ decimal i ∷ decimal j ∷ []) in
     omega (arith, thing_digits name first, thing_digits i second, thing_digits j third)
 
-set_row_short : (p : DesignProblem) (sets : List (List ℕ)) (row : SetRow) → IsKept p → AreMemberSets p sets → IsSetRow p sets row → IsLine (set_row_line row)
+set_row_short : (p : DesignProblem) (sets : List (List ℕ)) (row : SetRow) → IsProblemOnGraph p → AreMemberSets p sets → IsSetRow p sets row → IsTextLine (set_row_line row)
 set_row_short p sets (Rival name rival) kept are is =
     let set_is = All-contains (IsMemberSet p) sets is.0 are is.1.listed in
     let row : Row = record { request = name; rival = rival } in
@@ -85,7 +86,7 @@ set_row_short p sets (Same name i j) kept are is =
     let few = kept.problem.path_count in
     let first : name < length p.paths =
     subst (λ (k : ℕ). k < length p.paths) is.1.first
-    (member_known p set (first_of set) set_is (first_listed set set_is.some)) in
+    (member_known p set (name_of_set set) set_is (first_listed set set_is.some)) in
     let second = member_known p set i set_is is.2 in
     let third = member_known p set j set_is is.3 in
     same_short name i j (omega arith) (omega arith) (omega arith)
@@ -94,7 +95,7 @@ set_row_short p sets (Same name i j) kept are is =
 
 -- what a problem, its sets and a budget keep
 pub record CanPrintSets (p : DesignProblem) (sets : List (List ℕ)) (nodes : ℕ) : Type 0 where
-  pub kept : IsKept p
+  pub kept : IsProblemOnGraph p
   pub are : AreMemberSets p sets
   pub small : greatest_bound p ≤ 65535
   pub budget : nodes ≤ 10000000
@@ -106,7 +107,7 @@ tree_names p sets top rows tree search = search_names (SharesEach p sets) top (f
 
 copied : (p : DesignProblem) (sets : List (List ℕ)) (top : ℕ) (old rows : List SetRow) (tree new_tree : List Entry) →
     IsSearchTree (SharesEach p sets) top (forms_of_set_rows p old) (whole_box p) tree →
-    IsPrinted old tree rows new_tree → IsCopy (is_named tree) old rows tree new_tree
+    IsTreePrinted old tree rows new_tree → IsCopy (is_row_named tree) old rows tree new_tree
 copied p sets top old rows tree new_tree search printed = printed_copy old rows tree new_tree printed (tree_names p sets top old tree search)
 
 forms_true : (p : DesignProblem) (sets : List (List ℕ)) (rows : List SetRow) → All (IsSetRow p sets) rows →
@@ -116,40 +117,47 @@ forms_true p sets rows true_rows k d k_in = record { row = get_or rows k d; is_r
 text_fits : (p : DesignProblem) (sets : List (List ℕ)) (top nodes : ℕ) (old rows : List SetRow)
     (tree new_tree : List Entry) → CanPrintSets p sets nodes → All (IsSetRow p sets) old →
     IsSearchTree (SharesEach p sets) top (forms_of_set_rows p old) (whole_box p) tree → entry_count tree ≤ nodes →
-    IsPrinted old tree rows new_tree → FitText set_row_line (greatest_bound p) rows new_tree
+    IsTreePrinted old tree rows new_tree → FitText set_row_line (greatest_bound p) rows new_tree
 text_fits p sets top nodes old rows tree new_tree can true_rows search few printed =
     let copy = copied p sets top old rows tree new_tree search printed in
     let bounds = cost_bounds p (greatest_bound p) can.kept.problem (floor_below_ceiling p can.kept.problem) can.small in
-    let are = all_printed (IsSetRow p sets) (is_named tree) old rows copy.kept true_rows in
+    let are = all_printed (IsSetRow p sets) (is_row_named tree) old rows copy.kept true_rows in
     fit_text set_row_line (greatest_bound p) rows new_tree copy.kept.few
     (λ k d k_in. set_row_short p sets (get_or rows k d) can.kept can.are (are k d k_in))
     (copy_printable (SharesEach p sets) top nodes (greatest_bound p) (form_of_set_row p) (whole_box p)
-    (is_named tree) old rows tree new_tree copy bounds can.small can.budget search few)
+    (is_row_named tree) old rows tree new_tree copy bounds can.small can.budget search few)
+
+sheet_is : (p : DesignProblem) (sets : List (List ℕ)) (top : ℕ) (old rows : List SetRow) (tree new_tree : List Entry) →
+    All (IsSetRow p sets) old → AllPairs SetRowsDiffer old →
+    IsSearchTree (SharesEach p sets) top (forms_of_set_rows p old) (whole_box p) tree →
+    IsTreePrinted old tree rows new_tree → IsSheetOfSets p sets rows new_tree
+sheet_is p sets top old rows tree new_tree true_rows once search printed =
+    tree_sheet (IsSetRow p sets) SetRowsDiffer old rows tree new_tree true_rows once (tree_names p sets top old tree search) printed
 
 pub shown_tree : (p : DesignProblem) (sets : List (List ℕ)) (top nodes : ℕ) (old rows : List SetRow)
-    (tree new_tree : List Entry) → CanPrintSets p sets nodes → All (IsSetRow p sets) old →
+    (tree new_tree : List Entry) → CanPrintSets p sets nodes → All (IsSetRow p sets) old → AllPairs SetRowsDiffer old →
     IsSearchTree (SharesEach p sets) top (forms_of_set_rows p old) (whole_box p) tree → entry_count tree ≤ nodes →
-    IsPrinted old tree rows new_tree → IsTreeOfSets p sets top nodes rows new_tree
-shown_tree p sets top nodes old rows tree new_tree can true_rows search few printed =
+    IsTreePrinted old tree rows new_tree → IsTreeOfSets p sets top nodes rows new_tree
+shown_tree p sets top nodes old rows tree new_tree can true_rows once search few printed =
     let copy = copied p sets top old rows tree new_tree search printed in
     record {
-      true_rows = all_printed (IsSetRow p sets) (is_named tree) old rows copy.kept true_rows;
+      sheet = sheet_is p sets top old rows tree new_tree true_rows once search printed;
       printed = copy_printed (SharesEach p sets) (IsFormOfSetRow p sets) top nodes (form_of_set_row p) (whole_box p)
-          (is_named tree) old rows tree new_tree copy (forms_true p sets old true_rows) search few;
+          (is_row_named tree) old rows tree new_tree copy (forms_true p sets old true_rows) search few;
       fits = text_fits p sets top nodes old rows tree new_tree can true_rows search few printed;
     }
 
 pub shown_spent : (p : DesignProblem) (sets : List (List ℕ)) (top nodes : ℕ) (old rows : List SetRow)
-    (tree new_tree : List Entry) → CanPrintSets p sets nodes → All (IsSetRow p sets) old →
+    (tree new_tree : List Entry) → CanPrintSets p sets nodes → All (IsSetRow p sets) old → AllPairs SetRowsDiffer old →
     IsSearchTree (SharesEach p sets) top (forms_of_set_rows p old) (whole_box p) tree → Contains tree Undone →
     entry_count tree ≡ nodes →
-    IsPrinted old tree rows new_tree → IsSpentOfSets p sets top nodes rows new_tree
-shown_spent p sets top nodes old rows tree new_tree can true_rows search undone spent printed =
+    IsTreePrinted old tree rows new_tree → IsUndecidedOfSets p sets top nodes rows new_tree
+shown_spent p sets top nodes old rows tree new_tree can true_rows once search undone spent printed =
     let copy = copied p sets top old rows tree new_tree search printed in
     record {
-      true_rows = all_printed (IsSetRow p sets) (is_named tree) old rows copy.kept true_rows;
+      sheet = sheet_is p sets top old rows tree new_tree true_rows once search printed;
       spent = copy_spent (SharesEach p sets) (IsFormOfSetRow p sets) top nodes (form_of_set_row p) (whole_box p)
-          (is_named tree) old rows tree new_tree copy (forms_true p sets old true_rows) search undone spent;
+          (is_row_named tree) old rows tree new_tree copy (forms_true p sets old true_rows) search undone spent;
       fits = text_fits p sets top nodes old rows tree new_tree can true_rows search (omega (arith, spent)) printed;
     }
 
@@ -179,21 +187,25 @@ no_spread p sets rows tree kept true_rows sound closed w fit =
     (λ k d k_in. fit_met p sets w kept fit (get_or rows k d) (true_rows k d k_in))))
 
 pub shown_closed : (p : DesignProblem) (sets : List (List ℕ)) (top nodes : ℕ) (old rows : List SetRow)
-    (tree new_tree : List Entry) → CanPrintSets p sets nodes → All (IsSetRow p sets) old →
+    (tree new_tree : List Entry) → CanPrintSets p sets nodes → All (IsSetRow p sets) old → AllPairs SetRowsDiffer old →
     IsSearchTree (SharesEach p sets) top (forms_of_set_rows p old) (whole_box p) tree → entry_count tree ≤ nodes →
     IsClosed tree →
-    IsPrinted old tree rows new_tree → IsTreeOfSets p sets top nodes rows new_tree × IsClosed new_tree × HasNoSpread p sets
-shown_closed p sets top nodes old rows tree new_tree can true_rows search few closed printed =
-    let shown = shown_tree p sets top nodes old rows tree new_tree can true_rows search few printed in
-    let stays = copy_closed (is_named tree) old rows tree new_tree (copied p sets top old rows tree new_tree search printed) closed in
-    (shown, stays, no_spread p sets rows new_tree can.kept.problem shown.true_rows shown.printed.earnest.sound stays)
+    IsTreePrinted old tree rows new_tree → IsTreeOfSets p sets top nodes rows new_tree × IsClosed new_tree × HasNoSpread p sets
+shown_closed p sets top nodes old rows tree new_tree can true_rows once search few closed printed =
+    let shown = shown_tree p sets top nodes old rows tree new_tree can true_rows once search few printed in
+    let stays = copy_closed (is_row_named tree) old rows tree new_tree (copied p sets top old rows tree new_tree search printed) closed in
+    (shown, stays, no_spread p sets rows new_tree can.kept.problem shown.sheet.true_rows shown.printed.earnest.sound stays)
 
--- A large budget settles it.
+-- Where no tree uses the budget up, the sets are settled.
 
-pub large_settle : LargeBudgetsSettle
-large_settle p lines top nodes (Fit w) kept enough found = tt
-large_settle p lines top nodes (Impossible rows tree) kept enough found = tt
-large_settle p lines top nodes (Unknown rows tree) kept enough found =
-    let few = (few_entries (length p.low) (forms_of_set_rows p rows.items) (whole_box p) tree
-    (bounds_box p kept) found.spent.printed.earnest.sound).unfinished found.spent.undone in
-    absurd (omega (arith, few, enough, found.spent.spent))
+pub unspent_settle : SpreadSettlesUnspent
+unspent_settle p lines top nodes (Fit w) cannot found = tt
+unspent_settle p lines top nodes (Impossible rows tree) cannot found = tt
+unspent_settle p lines top nodes (Undecided rows tree) cannot found =
+    absurd (cannot rows.items tree found.sheet.true_rows found.spent.printed.earnest found.spent.undone found.spent.spent)
+
+pub large_suffice : SpreadUnspentIfLarge
+large_suffice p lines top nodes kept enough rows tree true_rows earnest undone spent =
+    let few = (few_entries (length p.low) (forms_of_set_rows p rows) (whole_box p) tree
+    (bounds_box p kept) earnest.sound).unfinished undone in
+    absurd (omega (arith, few, enough, spent))

@@ -7,35 +7,35 @@ use Rattle.area_graph.specs.declared.Point.{Point}
 use Rattle.area_graph.specs.Area.{Area}
 use Rattle.area_graph.specs.Paths.{Ends, IsPathOf}
 use Rattle.area_graph.specs.Costs.{cost}
-use Rattle.path_rows.specs.declared.problem.Request.{Request}
-use Rattle.path_rows.specs.Problems.{DesignProblem, IsProblem, ends_of, no_request, request_at}
-use Rattle.path_rows.specs.Rows.{IsRouteOf, form_between, form_of_row, path_edges}
-use Rattle.path_rows.specs.declared.form.Row.{Row}
-use Rattle.path_rows.proofs.PathBounds.{request_of_route}
+use Rattle.design_problem.specs.declared.problem.Request.{Request}
+use Rattle.design_problem.specs.Problems.{DesignProblem, IsProblem, request_ends, no_request, request_at}
+use Rattle.design_problem.specs.Rows.{IsRouteOf, form_between, form_of_row, path_edges}
+use Rattle.design_problem.specs.declared.form.Row.{Row}
+use Rattle.design_problem.proofs.PathBounds.{request_of_route}
 use Rattle.spf_ties.specs.Distances.{Findings, IsRoomFor}
 use Rattle.set_separation.specs.Departures.{IsTiedTree}
 use Rattle.set_separation.specs.Outsiders.{CostAtLeast, IsCheapestOutsider}
 use Rattle.spread_sets.specs.declared.member_sets.MemberSet.{MemberSet}
 use Rattle.spread_sets.specs.declared.spread.SetRow.{SetRow}
 use Rattle.spread_sets.specs.declared.spread.SetRow.TheVariants.{Rival}
-use Rattle.spread_sets.specs.Spreads.{AreTied, Shares, cost_in, edges_of, ends_in, first_of, form_of_set_row, paths_of}
-use Rattle.spread_sets.specs.MemberSets.{AreMemberSets, HasTree, IsMemberSet, IsReady, sets_in}
-use Rattle.spread_sets.specs.Sources.{IsDearer, IsTooCheap, KnownSets, set_at}
+use Rattle.spread_sets.specs.Spreads.{AreTied, Shares, cost_of_set, edges_of, ends_in, name_of_set, form_of_set_row, paths_of}
+use Rattle.spread_sets.specs.MemberSets.{AreMemberSets, HasTree, IsMemberSet, HasTreeWithin, sets_in}
+use Rattle.spread_sets.specs.Sources.{OutsidersAreDearer, IsOutsiderTooCheap, KnownSets, set_at}
 use Rattle.spread_sets.specs.SourceLaws.{first_listed, member_known, member_path}
 use Rattle.spread_sets.proofs.SetLaws.{listed_at}
 use Rattle.spread_sets.proofs.AskedSets.{too_cheap_not}
 use Rattle.spread_sets.proofs.PrintedSets.{route_is}
 
 -- the first member is a wanted path, and its path is one of its request
-pub first_known : (p : DesignProblem) (set : List ℕ) → IsMemberSet p set → first_of set < length p.paths
-first_known p set is = member_known p set (first_of set) is (first_listed set is.some)
+pub first_known : (p : DesignProblem) (set : List ℕ) → IsMemberSet p set → name_of_set set < length p.paths
+first_known p set is = member_known p set (name_of_set set) is (first_listed set is.some)
 
-pub first_path : (p : DesignProblem) (set : List ℕ) → IsProblem p → IsMemberSet p set → IsPathOf p.graph (ends_in p set) (edges_of p (first_of set))
-first_path p set kept is = member_path p set (first_of set) kept is (first_listed set is.some)
+pub first_path : (p : DesignProblem) (set : List ℕ) → IsProblem p → IsMemberSet p set → IsPathOf p.graph (ends_in p set) (edges_of p (name_of_set set))
+first_path p set kept is = member_path p set (name_of_set set) kept is (first_listed set is.some)
 
 pub tied_tree : (p : DesignProblem) (point : Point) (s : MemberSet) → IsProblem p → HasTree p s →
     AreTied p point s.members →
-    IsTiedTree p.graph point (ends_in p s.members) (cost_in p point s.members) (paths_of p s.members) s.tree
+    IsTiedTree p.graph point (ends_in p s.members) (cost_of_set p point s.members) (paths_of p s.members) s.tree
 tied_tree p point s kept has tied = record {
   tree = record {
     grown = has.tree;
@@ -47,14 +47,14 @@ tied_tree p point s kept has tied = record {
 
 pub told : (p : DesignProblem) (point : Point) (set es : List ℕ) (beaten : Bool) →
     MatchBool beaten (IsCheapestOutsider p.graph point (ends_in p set) (paths_of p set)
-    (cost_in p point set + point.scale) es)
-    (CostAtLeast p.graph point (ends_in p set) (paths_of p set) (cost_in p point set + point.scale)) →
-    MatchBool beaten (IsTooCheap p point set es) (IsDearer p point set)
+    (cost_of_set p point set + point.scale) es)
+    (CostAtLeast p.graph point (ends_in p set) (paths_of p set) (cost_of_set p point set + point.scale)) →
+    MatchBool beaten (IsOutsiderTooCheap p point set es) (OutsidersAreDearer p point set)
 told p point set es true cheapest = record { rival = cheapest.outsider; cheap = cheapest.cheap }
 told p point set es false least = least
 
 -- the sets with trees
-pub sets_kept : (p : DesignProblem) (places : ℕ) (sets : List MemberSet) → All (IsReady p places) sets → AreMemberSets p (sets_in sets)
+pub sets_kept : (p : DesignProblem) (places : ℕ) (sets : List MemberSet) → All (HasTreeWithin p places) sets → AreMemberSets p (sets_in sets)
 sets_kept p places sets ready = All-map (IsMemberSet p) (λ (s : MemberSet). s.members) sets (λ k d k_in. (ready k d k_in).has_tree.is_set)
 
 -- a member's path is a route of another one's request
@@ -63,56 +63,56 @@ pub tie_route : (p : DesignProblem) (set : List ℕ) (first second : ℕ) → Is
 tie_route p set first second kept is has_first has_second =
     route_is p.graph p.paths first (edges_of p second) (member_known p set first is has_first)
     (subst (λ (ends : Ends). IsPathOf p.graph ends (edges_of p second))
-    (sym (All-contains (λ i. ends_of (request_at p.paths i) ≡ ends_in p set) set first is.ends has_first))
+    (sym (All-contains (λ i. request_ends (request_at p.paths i) ≡ ends_in p set) set first is.ends has_first))
     (member_path p set second kept is has_second))
 
 -- members cost as much as the first one
-pub all_tied : (p : DesignProblem) (point : Point) (set : List ℕ) (n first : ℕ) → first ≡ cost_in p point set →
+pub all_tied : (p : DesignProblem) (point : Point) (set : List ℕ) (n first : ℕ) → first ≡ cost_of_set p point set →
     length set ≤ n → ((k : ℕ) → k < n → cost p.graph point (edges_of p (get_or set k 0)) ≡ first) → AreTied p point set
 all_tied p point set n first is all same =
-    All-map (λ es. cost p.graph point es ≡ cost_in p point set) (edges_of p) set
-    (λ k d k_in. subst (λ (i : ℕ). cost p.graph point (edges_of p i) ≡ cost_in p point set) (get_or_default set k 0 d k_in) (same k (omega arith) ∙ is))
+    All-map (λ es. cost p.graph point es ≡ cost_of_set p point set) (edges_of p) set
+    (λ k d k_in. subst (λ (i : ℕ). cost p.graph point (edges_of p i) ≡ cost_of_set p point set) (get_or_default set k 0 d k_in) (same k (omega arith) ∙ is))
 
-pub not_tied : (p : DesignProblem) (point : Point) (set : List ℕ) (k first : ℕ) → first ≡ cost_in p point set →
+pub not_tied : (p : DesignProblem) (point : Point) (set : List ℕ) (k first : ℕ) → first ≡ cost_of_set p point set →
     k < length set → (cost p.graph point (edges_of p (get_or set k 0)) ≡ first → ⊥) → AreTied p point set → ⊥
 not_tied p point set k first is inside other tied =
-    other (All-contains (λ es. cost p.graph point es ≡ cost_in p point set) (paths_of p set) (edges_of p (get_or set k 0)) tied
+    other (All-contains (λ es. cost p.graph point es ≡ cost_of_set p point set) (paths_of p set) (edges_of p (get_or set k 0)) tied
     (k, omega (arith, length-map set (edges_of p)), get_or-map (edges_of p) set k 0 (edges_of p (get_or set k 0)) inside) ∙ sym is)
 
 -- under the names by which code has read the graph and the first member's request
 pub tree_as : (p : DesignProblem) (point : Point) (s : MemberSet) (g : Area) (r : Request) → IsProblem p → HasTree p s →
-    AreTied p point s.members → g ≡ p.graph → r ≡ request_at p.paths (first_of s.members) →
-    IsTiedTree g point (ends_of r) (cost g point r.path.edges) (paths_of p s.members) s.tree
+    AreTied p point s.members → g ≡ p.graph → r ≡ request_at p.paths (name_of_set s.members) →
+    IsTiedTree g point (request_ends r) (cost g point r.path.edges) (paths_of p s.members) s.tree
 tree_as p point s g r kept has tied same_graph same_request =
-    subst (λ (h : Area). IsTiedTree h point (ends_of r) (cost h point r.path.edges) (paths_of p s.members) s.tree) (sym same_graph)
-    (subst (λ (q : Request). IsTiedTree p.graph point (ends_of q) (cost p.graph point q.path.edges)
+    subst (λ (h : Area). IsTiedTree h point (request_ends r) (cost h point r.path.edges) (paths_of p s.members) s.tree) (sym same_graph)
+    (subst (λ (q : Request). IsTiedTree p.graph point (request_ends q) (cost p.graph point q.path.edges)
     (paths_of p s.members) s.tree) (sym same_request) (tied_tree p point s kept has tied))
 
 abbrev Tells : DesignProblem → Point → List ℕ → List ℕ → Bool → Area → Request → Type 0
 Tells p point set es beaten g r =
-    MatchBool beaten (IsCheapestOutsider g point (ends_of r) (paths_of p set) (cost g point r.path.edges + point.scale)
-    es) (CostAtLeast g point (ends_of r) (paths_of p set) (cost g point r.path.edges + point.scale))
+    MatchBool beaten (IsCheapestOutsider g point (request_ends r) (paths_of p set) (cost g point r.path.edges + point.scale)
+    es) (CostAtLeast g point (request_ends r) (paths_of p set) (cost g point r.path.edges + point.scale))
 
 pub told_as : (p : DesignProblem) (point : Point) (set es : List ℕ) (beaten : Bool) (g : Area) (r : Request) →
-    g ≡ p.graph → r ≡ request_at p.paths (first_of set) → Tells p point set es beaten g r →
-    MatchBool beaten (IsTooCheap p point set es) (IsDearer p point set)
+    g ≡ p.graph → r ≡ request_at p.paths (name_of_set set) → Tells p point set es beaten g r →
+    MatchBool beaten (IsOutsiderTooCheap p point set es) (OutsidersAreDearer p point set)
 told_as p point set es beaten g r same_graph same_request tells =
     told p point set es beaten
     (subst (λ (q : Request). Tells p point set es beaten p.graph q) same_request (subst (λ (h : Area). Tells p point set es beaten h r) same_graph tells))
 
 -- a rival that is too cheap, under other names
 pub cheap_as : (p q : DesignProblem) (set members es edges : List ℕ) (point : Point) → q ≡ p → members ≡ set →
-    edges ≡ es → IsTooCheap q point members es → IsTooCheap p point set edges
+    edges ≡ es → IsOutsiderTooCheap q point members es → IsOutsiderTooCheap p point set edges
 cheap_as p q set members es edges point same_problem same_set same_edges cheap =
-    subst (λ (r : DesignProblem). IsTooCheap r point set edges) same_problem
-    (subst (λ (s : List ℕ). IsTooCheap q point s edges) same_set (subst (IsTooCheap q point members) (sym same_edges) cheap))
+    subst (λ (r : DesignProblem). IsOutsiderTooCheap r point set edges) same_problem
+    (subst (λ (s : List ℕ). IsOutsiderTooCheap q point s edges) same_set (subst (IsOutsiderTooCheap q point members) (sym same_edges) cheap))
 
 -- it is a route of the first member's request
 pub cheap_route : (p : DesignProblem) (point : Point) (set es : List ℕ) (name : ℕ) → IsMemberSet p set →
-    IsTooCheap p point set es → name ≡ first_of set → IsRouteOf p.graph (slice_get p.paths name) es
+    IsOutsiderTooCheap p point set es → name ≡ name_of_set set → IsRouteOf p.graph (slice_get p.paths name) es
 cheap_route p point set es name is cheap same =
     subst (λ (k : ℕ). IsRouteOf p.graph (slice_get p.paths k) es) (sym same)
-    (route_is p.graph p.paths (first_of set) es (first_known p set is) cheap.rival.path)
+    (route_is p.graph p.paths (name_of_set set) es (first_known p set is) cheap.rival.path)
 
 -- the form of a row of a request is that of a rival of its path
 pub row_form : (p : DesignProblem) (row : Row) → IsRouteOf p.graph (slice_get p.paths row.request) row.rival.edges →
@@ -122,7 +122,7 @@ row_form p row route =
     (ap path_edges (request_of_route p.graph p.paths row.request no_request row.rival.edges route).is_there)
 
 pub ready_all : (p : DesignProblem) (places count : ℕ) (sets : List MemberSet) → count ≡ places → All (HasTree p) sets →
-    All (λ (set : MemberSet). length set.tree + 1 ≤ places) sets → All (IsReady p count) sets
+    All (λ (set : MemberSet). length set.tree + 1 ≤ places) sets → All (HasTreeWithin p count) sets
 ready_all p places count sets same trees most k d k_in =
     record {
       has_tree = trees k d k_in;
@@ -131,12 +131,12 @@ ready_all p places count sets same trees most k d k_in =
 
 -- a set shares where its members tie and every other path is dearer
 pub shares_there : (p q : DesignProblem) (point : Point) (set members : List ℕ) → q ≡ p → members ≡ set →
-    AreTied q point members → IsDearer q point members → Shares p point set
+    AreTied q point members → OutsidersAreDearer q point members → Shares p point set
 shares_there p q point set members same_problem same_set tied dearer =
     subst (λ (r : DesignProblem). Shares r point set) same_problem (subst (Shares q point) same_set (record { tied = tied; dearer = dearer }))
 
 pub beaten_there : (p q : DesignProblem) (point : Point) (set members es : List ℕ) → q ≡ p → members ≡ set →
-    IsTooCheap q point members es → Shares p point set → ⊥
+    IsOutsiderTooCheap q point members es → Shares p point set → ⊥
 beaten_there p q point set members es same_problem same_set cheap shares =
     too_cheap_not p point set es (cheap_as p q set members es es point same_problem same_set refl cheap) shares
 
@@ -164,8 +164,8 @@ room_new g h room same is =
 
 -- what is known of the row that is made of a rival of a set
 pub record IsRivalRow (p : DesignProblem) (point : Point) (set : List ℕ) (row : Row) : Type 0 where
-  pub name : row.request ≡ first_of set
-  pub cheap : IsTooCheap p point set row.rival.edges
+  pub name : row.request ≡ name_of_set set
+  pub cheap : IsOutsiderTooCheap p point set row.rival.edges
   pub route : IsRouteOf p.graph (slice_get p.paths row.request) row.rival.edges
 
 -- the row of the path that was found for the set that code has read at a place
@@ -173,13 +173,13 @@ pub rival_row : (p : DesignProblem) (sets : List MemberSet) (rows : List SetRow)
     (point : Point) (m : MemberSet) (path : List ℕ) (row : Row) →
     record { problem = p; sets = sets_in sets; rows = rows } ≡ s → place < length s.sets →
     AreMemberSets s.problem s.sets →
-    m ≡ get_or sets place m → IsTooCheap p point m.members path → row.request ≡ first_of m.members →
+    m ≡ get_or sets place m → IsOutsiderTooCheap p point m.members path → row.request ≡ name_of_set m.members →
     row.rival.edges ≡ path → IsRivalRow p point (set_at (sets_in sets) place) row
 rival_row p sets rows s place point m path row view inside are is cheap request edges =
     let here : place < length (sets_in sets) = subst (λ (k : KnownSets). place < length k.sets) (sym view) inside in
     let members : AreMemberSets p (sets_in sets) = subst (λ (k : KnownSets). AreMemberSets k.problem k.sets) (sym view) are in
     let set : m.members ≡ set_at (sets_in sets) place = indexed sets place m here is in
-    let name : row.request ≡ first_of (set_at (sets_in sets) place) = request ∙ ap first_of set in
+    let name : row.request ≡ name_of_set (set_at (sets_in sets) place) = request ∙ ap name_of_set set in
     let rival = cheap_as p p (set_at (sets_in sets) place) m.members path row.rival.edges point refl set edges cheap in
     record {
       name = name;

@@ -4,10 +4,10 @@ use Rattle.std.specs.Prelude.{All, Contains}
 use Rattle.std.proofs.lemmas.List.{get_or_default}
 use Rattle.std.proofs.lemmas.List.Elements.{All-cons, All-head, All-map, All-nil, All-tail}
 use Rattle.cost_base.proofs.ListLemmas.{all_kept}
-use Rattle.path_rows.specs.Problems.{DesignProblem, ends_of, request_at}
+use Rattle.design_problem.specs.Problems.{DesignProblem, request_ends, request_at}
 use Rattle.set_reader.specs.Reading.{stands_in}
 use Rattle.set_reader.specs.SpreadSets.{AreSetsOf, IsSetOf}
-use Rattle.spread_sets.specs.Spreads.{all_sets, ends_in, first_of, is_first, set_of}
+use Rattle.spread_sets.specs.Spreads.{all_sets, ends_in, name_of_set, is_first, set_of}
 use Rattle.spread_sets.specs.MemberSets.{AreMemberSets, IsMemberSet}
 use Rattle.spread_sets.specs.SourceLaws.{first_listed}
 
@@ -21,7 +21,7 @@ line_set p set is =
     record {
       some = some;
       known = is.known;
-      ends = λ k d k_in. is.ends (get_or set k d) (first_of set) (listed_at set k d k_in) (first_listed set some);
+      ends = λ k d k_in. is.ends (get_or set k d) (name_of_set set) (listed_at set k d k_in) (first_listed set some);
     }
 
 -- a path by itself
@@ -29,8 +29,8 @@ lone_set : (p : DesignProblem) (path : ℕ) → path < length p.paths → IsMemb
 lone_set p path known = record {
   some = omega arith;
   known = All-cons (λ i. i < length p.paths) path [] known (All-nil (λ i. i < length p.paths));
-  ends = All-cons (λ i. ends_of (request_at p.paths i) ≡ ends_in p (path ∷ [])) path [] refl
-      (All-nil (λ i. ends_of (request_at p.paths i) ≡ ends_in p (path ∷ [])));
+  ends = All-cons (λ i. request_ends (request_at p.paths i) ≡ ends_in p (path ∷ [])) path [] refl
+      (All-nil (λ i. request_ends (request_at p.paths i) ≡ ends_in p (path ∷ [])));
 }
 
 set_kept : (p : DesignProblem) (lines : List (List ℕ)) (path : ℕ) → All (IsSetOf p) lines → path < length p.paths → IsMemberSet p (set_of lines path)

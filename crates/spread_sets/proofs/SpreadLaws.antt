@@ -7,13 +7,13 @@ use Rattle.cost_base.specs.Lists.{same_bytes}
 use Rattle.cost_base.proofs.ByteLemmas.{same_bytes-true, same_bytes-same}
 use Rattle.area_graph.specs.Paths.{IsPathOf}
 use Rattle.area_graph.specs.Costs.{at_costs, cost}
-use Rattle.path_rows.specs.Problems.{DesignProblem, IsProblem}
-use Rattle.path_rows.proofs.AtCosts.{value_at_costs}
+use Rattle.design_problem.specs.Problems.{DesignProblem, IsProblem}
+use Rattle.design_problem.proofs.AtCosts.{value_at_costs}
 use Rattle.spread_sets.specs.declared.spread.SetRow.TheVariants.{Rival, Same}
-use Rattle.spread_sets.specs.Spreads.{IsNamed, IsSpreadFit, Shares, all_sets, cost_in, edges_of, ends_in, first_of, form_of_set_row, paths_of}
+use Rattle.spread_sets.specs.Spreads.{IsNamed, IsSpreadFit, Shares, all_sets, cost_of_set, edges_of, ends_in, name_of_set, form_of_set_row, paths_of}
 use Rattle.spread_sets.specs.MemberSets.{IsMemberSet}
 use Rattle.spread_sets.specs.Laws.{CheapestAreMembers, MeetsSetRows, SpreadMeansMet}
-use Rattle.spread_sets.specs.SourceLaws.{between_at, first_listed, member_path, row_met, tie_at}
+use Rattle.spread_sets.specs.SourceLaws.{between_at, first_listed, member_path, set_row_met, tie_at}
 use Rattle.spread_sets.proofs.SetLaws.{all_sets_are, listed_at}
 use Rattle.spread_sets.proofs.Ties.{same_cost}
 
@@ -21,7 +21,7 @@ use Rattle.spread_sets.proofs.Ties.{same_cost}
 pub fit_met : (p : DesignProblem) (sets : List (List ℕ)) (w : List ℕ) → IsProblem p → IsSpreadFit p sets w → MeetsSetRows p sets w
 fit_met p sets w kept fit row is =
     subst (λ (z : ℤ). pos 0 ≤ℤ z) (value_at_costs (form_of_set_row p row) w)
-    (row_met p sets row (at_costs w) kept (sym fit.within.low_count) is fit.shares)
+    (set_row_met p sets row (at_costs w) kept (sym fit.within.low_count) is fit.shares)
 
 dearer : (a b : ℕ) → pos 0 ≤ℤ ((pos a -ℤ pos b) -ℤ pos 1) → b + 1 ≤ a
 dearer a b met = omega (arith, ints)
@@ -30,12 +30,12 @@ dearer a b met = omega (arith, ints)
 set_shares : (p : DesignProblem) (sets : List (List ℕ)) (w set : List ℕ) → IsProblem p → length w ≡ length p.low →
     MeetsSetRows p sets w → Contains sets set → Shares p (at_costs w) set
 set_shares p sets w set kept count meets has =
-    let first = first_of set in
+    let first = name_of_set set in
     let named : IsNamed sets first set = record { listed = has; first = refl } in
     let cost_of : List ℕ → ℕ = cost p.graph (at_costs w) in
     record {
       tied =
-          All-map (λ es. cost_of es ≡ cost_in p (at_costs w) set) (edges_of p) set
+          All-map (λ es. cost_of es ≡ cost_of_set p (at_costs w) set) (edges_of p) set
           (λ k d k_in.
           let i = get_or set k d in
           let has_i = listed_at set k d k_in in
@@ -78,11 +78,11 @@ listed_or (path ∷ paths) es = by_first (same_bytes es path) refl (listed_or pa
     by_first false is (inr none) = inr (All-cons (λ w. es ≢ w) path paths (λ same. cc (is, same_bytes-same es path same)) none)
 
 above_all : (p : DesignProblem) (w set es others : List ℕ) → Shares p (at_costs w) set →
-    cost p.graph (at_costs w) es ≡ cost_in p (at_costs w) set → IsPathOf p.graph (ends_in p set) others →
+    cost p.graph (at_costs w) es ≡ cost_of_set p (at_costs w) set → IsPathOf p.graph (ends_in p set) others →
     cost p.graph (at_costs w) es ≤ cost p.graph (at_costs w) others
 above_all p w set es others shares same path =
     elim (listed_or (paths_of p set) others) [
-      | inl has ↦ (let tied = All-contains (λ xs. cost p.graph (at_costs w) xs ≡ cost_in p (at_costs w) set)
+      | inl has ↦ (let tied = All-contains (λ xs. cost p.graph (at_costs w) xs ≡ cost_of_set p (at_costs w) set)
           (paths_of p set) others shares.tied has in omega (arith, same, tied))
       | inr none ↦ (let more = shares.dearer others (record { path = path; other = none }) in omega (arith, same, more))
     ]
@@ -91,20 +91,20 @@ pub cheapest_listed : CheapestAreMembers
 cheapest_listed p lines w set es kept are fit has =
     let is : IsMemberSet p set = All-contains (IsMemberSet p) (all_sets p lines) set (all_sets_are p lines are) has in
     let shares : Shares p (at_costs w) set = All-contains (Shares p (at_costs w)) (all_sets p lines) set fit.shares has in
-    let first_path = member_path p set (first_of set) kept is (first_listed set is.some) in (
+    let first_path = member_path p set (name_of_set set) kept is (first_listed set is.some) in (
       λ cheapest.
           elim (listed_or (paths_of p set) es) [
             | inl found ↦ found
             | inr none ↦ (
                 let more = shares.dearer es (record { path = cheapest.path; other = none }) in
-                let less = cheapest.none_less (edges_of p (first_of set)) first_path in
+                let less = cheapest.none_less (edges_of p (name_of_set set)) first_path in
                 absurd (omega (arith, more, less)))
           ],
       λ found.
           let paths : All (IsPathOf p.graph (ends_in p set)) (paths_of p set) =
           All-map (IsPathOf p.graph (ends_in p set)) (edges_of p) set
           (λ k d k_in. member_path p set (get_or set k d) kept is (listed_at set k d k_in)) in
-          let same = All-contains (λ xs. cost p.graph (at_costs w) xs ≡ cost_in p (at_costs w) set) (paths_of p set) es shares.tied found in
+          let same = All-contains (λ xs. cost p.graph (at_costs w) xs ≡ cost_of_set p (at_costs w) set) (paths_of p set) es shares.tied found in
           record {
             path = All-contains (IsPathOf p.graph (ends_in p set)) (paths_of p set) es paths found;
             none_less = λ others path. above_all p w set es others shares same path;

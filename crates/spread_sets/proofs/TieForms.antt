@@ -3,14 +3,14 @@ use Rattle.std.proofs.Common.{◌≡◌, ◌≢◌, ℕ, zero, suc, ◌^◌, ◌
 use Rattle.std.specs.Prelude.{ℤ, pos, negsuc, ◌+ℤ◌, ◌-ℤ◌, nat_abs, All, slice_get}
 use Rattle.std.proofs.lemmas.Int.{ints, to_z-of_z}
 use Rattle.std.proofs.lemmas.List.Elements.{All-nil, All-cons}
-use Rattle.path_rows.specs.declared.form.Row.{Row}
-use Rattle.path_rows.specs.declared.form.Term.{Term}
-use Rattle.path_rows.specs.Forms.{Form}
-use Rattle.path_rows.specs.Forms.{AreTerms, form_by, terms_from, terms_of}
-use Rattle.path_rows.specs.Problems.{DesignProblem, no_request}
-use Rattle.path_rows.specs.Rows.{IsRouteOf, fixed_cost, form_between, form_of_row, path_edges}
-use Rattle.path_rows.proofs.PathBounds.{request_of_route}
-use Rattle.path_rows.proofs.TermLaws.{form_by_terms, rising_from, terms_known}
+use Rattle.design_problem.specs.declared.form.Row.{Row}
+use Rattle.design_problem.specs.declared.form.Term.{Term}
+use Rattle.design_problem.specs.Forms.{Form}
+use Rattle.design_problem.specs.Forms.{AreTerms, form_by, terms_from, terms_of}
+use Rattle.design_problem.specs.Problems.{DesignProblem, no_request}
+use Rattle.design_problem.specs.Rows.{IsRouteOf, fixed_cost, form_between, form_of_row, path_edges}
+use Rattle.design_problem.proofs.PathBounds.{request_of_route}
+use Rattle.design_problem.proofs.TermLaws.{form_by_terms, rising_from, terms_known}
 use Rattle.spread_sets.specs.Spreads.{edges_of, form_of_tie}
 
 abbrev IsSome : Term → Type 0

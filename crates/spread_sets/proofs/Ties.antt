@@ -1,20 +1,21 @@
 -- The rows that keep the members of sets at one cost.
 use Rattle.std.proofs.Common.{◌≡◌, ℕ, zero, suc, ◌+◌, ◌-◌, ◌<◌, ◌≤◌, refl, sym, ◌∙◌, ap, subst, List, [], ◌∷◌, ◌++◌, length, take, drop, append-nil, append_assoc, arith}
-use Rattle.std.specs.Prelude.{ℤ, pos, ◌-ℤ◌, ◌≤ℤ◌, All, Contains, slice_index}
+use Rattle.std.specs.Prelude.{ℤ, pos, ◌-ℤ◌, ◌≤ℤ◌, All, AllPairs, Contains, slice_index}
 use Rattle.std.proofs.lemmas.Int.{ints}
 use Rattle.std.proofs.lemmas.List.{get_or-map, length-drop, length-map, map-append, take_all}
 use Rattle.std.proofs.lemmas.List.Elements.{All-append, All-cons, All-head, All-map, All-nil, All-tail}
 use Rattle.cost_base.proofs.ListLemmas.{All-left, All-right}
 use Rattle.area_graph.specs.declared.Point.{Point}
 use Rattle.area_graph.specs.Costs.{cost}
-use Rattle.path_rows.specs.Forms.{Form, AreMet}
-use Rattle.path_rows.specs.Forms.{no_form, value_at}
-use Rattle.path_rows.specs.Problems.{DesignProblem, IsProblem}
+use Rattle.design_problem.specs.Forms.{Form, AreMet}
+use Rattle.design_problem.specs.Forms.{no_form, value_at}
+use Rattle.design_problem.specs.Problems.{DesignProblem, IsProblem}
 use Rattle.spread_sets.specs.declared.spread.SetRow.{SetRow}
 use Rattle.spread_sets.specs.declared.spread.SetRow.TheVariants.{Same}
-use Rattle.spread_sets.specs.Spreads.{AreTied, IsNamed, IsSetRow, cost_in, edges_of, first_of, form_of_set_row, forms_of_set_rows}
-use Rattle.spread_sets.specs.Sources.{AreInStep, AreTiesPut, KnownSets, both_ways, set_at, tie_rows, ties_in, ties_of}
+use Rattle.spread_sets.specs.Spreads.{AreTied, IsNamed, IsSetRow, SetRowsDiffer, cost_of_set, edges_of, name_of_set, form_of_set_row, forms_of_set_rows}
+use Rattle.spread_sets.specs.Sources.{IsPoolOfSets, AreTiesPut, KnownSets, both_ways, set_at, tie_rows, ties_in, ties_of}
 use Rattle.spread_sets.specs.SourceLaws.{value_of_tie}
+use Rattle.spread_sets.proofs.DistinctRows.{tie_rows_differ}
 use Rattle.spread_sets.proofs.SetLaws.{listed_at}
 
 -- Rows that are put one after another.
@@ -67,19 +68,20 @@ pub tie_rows_true : (p : DesignProblem) (whole sets : List (List ℕ)) → All (
 tie_rows_true p whole [] all = All-nil (IsSetRow p whole)
 tie_rows_true p whole (set ∷ sets) all =
     All-append (IsSetRow p whole) (ties_in set) (tie_rows sets)
-    (ties_true p whole set (first_of set) set (record { listed = All-head (Contains whole) set sets all; first = refl }) (λ k d k_in. listed_at set k d k_in))
+    (ties_true p whole set (name_of_set set) set (record { listed = All-head (Contains whole) set sets all; first = refl }) (λ k d k_in. listed_at set k d k_in))
     (tie_rows_true p whole sets (All-tail (Contains whole) set sets all))
 
 -- what begins a search
 pub begun_in_step : (s : KnownSets) (pool : List Form) (count : ℕ) (rows : List SetRow) → s.rows ≡ rows →
     rows ≡ tie_rows (take count s.sets) → length s.sets ≤ count → pool ≡ forms_of_set_rows s.problem rows →
-    AreInStep s pool
+    IsPoolOfSets s pool
 begun_in_step s pool count rows same is all forms =
     let whole : s.rows ≡ tie_rows s.sets = same ∙ is ∙ ap tie_rows (take_all count s.sets all) in
     record {
       true_rows = subst (All (IsSetRow s.problem s.sets)) (sym whole) (tie_rows_true s.problem s.sets s.sets (λ k d k_in. listed_at s.sets k d k_in));
       more = [];
       begun = whole ∙ sym (append-nil (tie_rows s.sets));
+      once = λ distinct. subst (AllPairs SetRowsDiffer) (sym whole) (tie_rows_differ s.sets distinct.names distinct.members);
       forms = forms ∙ ap (forms_of_set_rows s.problem) (sym same);
     }
 
@@ -116,9 +118,9 @@ ties_tie p point name i (j ∷ more) kept count met =
 
 set_ties : (p : DesignProblem) (point : Point) (set : List ℕ) → IsProblem p → length point.values ≡ length p.low →
     All (RowMet p point) (ties_in set) → AreTied p point set
-set_ties p point [] kept count met = All-nil (λ es. cost p.graph point es ≡ cost_in p point [])
+set_ties p point [] kept count met = All-nil (λ es. cost p.graph point es ≡ cost_of_set p point [])
 set_ties p point (i ∷ more) kept count met =
-    All-map (λ es. cost p.graph point es ≡ cost_in p point (i ∷ more)) (edges_of p) (i ∷ more) (ties_tie p point i i more kept count met)
+    All-map (λ es. cost p.graph point es ≡ cost_of_set p point (i ∷ more)) (edges_of p) (i ∷ more) (ties_tie p point i i more kept count met)
 
 sets_tie : (p : DesignProblem) (point : Point) (sets : List (List ℕ)) (place : ℕ) → IsProblem p →
     length point.values ≡ length p.low → All (RowMet p point) (tie_rows sets) → place < length sets →
@@ -130,7 +132,7 @@ sets_tie p point (set ∷ sets) (suc place) kept count met inside =
 
 -- the members of each set tie at a point where the pool's forms are at least 0
 pub tied_there : (s : KnownSets) (pool : List Form) (point : Point) (place : ℕ) → IsProblem s.problem →
-    length point.values ≡ length s.problem.low → AreInStep s pool → AreMet pool point → place < length s.sets →
+    length point.values ≡ length s.problem.low → IsPoolOfSets s pool → AreMet pool point → place < length s.sets →
     AreTied s.problem point (set_at s.sets place)
 tied_there s pool point place kept count in_step met inside =
     let all = rows_met s.problem s.rows pool point in_step.forms met in
@@ -152,21 +154,21 @@ pub ties_put : (place number first second : ℕ) (old : KnownSets) (old_forms : 
     (forms : List Form) (new : KnownSets) (new_forms : List Form) → AreTiesPut place number old old_forms now forms →
     number < length (set_at old.sets place) → first ≡ slice_index (set_at now.sets place) (number - 1) →
     second ≡ slice_index (set_at now.sets place) number →
-    new ≡ record now { rows = now.rows ++ both_ways (first_of (set_at now.sets place)) first second } →
-    new_forms ≡ forms ++ forms_of_set_rows now.problem (both_ways (first_of (set_at now.sets place)) first second) →
+    new ≡ record now { rows = now.rows ++ both_ways (name_of_set (set_at now.sets place)) first second } →
+    new_forms ≡ forms ++ forms_of_set_rows now.problem (both_ways (name_of_set (set_at now.sets place)) first second) →
     AreTiesPut place (number + 1) old old_forms new new_forms
 ties_put place number first second old old_forms now forms new new_forms are inside is_first is_second is_new is_forms =
     let set = set_at old.sets place in
-    let name = first_of set in
+    let name = name_of_set set in
     let k = are.before in
     let set_now : set_at now.sets place ≡ set = ap (λ (ss : List (List ℕ)). set_at ss place) are.sets in
     let at_first : first ≡ slice_index set k = is_first ∙ ap (λ (s : List ℕ). slice_index s (number - 1)) set_now
     ∙ ap (slice_index set) (let next = are.next in let e : number - 1 ≡ k = omega arith in e) in
     let at_second : second ≡ slice_index set (k + 1) = is_second ∙ ap (λ (s : List ℕ). slice_index s number) set_now ∙ ap (slice_index set) are.next in
-    let both : both_ways (first_of (set_at now.sets place)) first second
+    let both : both_ways (name_of_set (set_at now.sets place)) first second
     ≡ both_ways name (slice_index set k) (slice_index set (k + 1)) =
-    same_both name first second (first_of (set_at now.sets place)) (slice_index set k) (slice_index set (k + 1))
-    (ap first_of set_now) at_first at_second in
+    same_both name first second (name_of_set (set_at now.sets place)) (slice_index set k) (slice_index set (k + 1))
+    (ap name_of_set set_now) at_first at_second in
     let step = ties_step name set k (let next = are.next in omega arith) in
     let put = both_ways name (slice_index set k) (slice_index set (k + 1)) in
     record {
@@ -188,9 +190,9 @@ ties_put place number first second old old_forms now forms new new_forms are ins
 
 none_left : (place number : ℕ) (old : KnownSets) (old_forms : List Form) (new : KnownSets) (new_forms : List Form)
     (are : AreTiesPut place number old old_forms new new_forms) → length (set_at old.sets place) ≤ number →
-    ties_of (first_of (set_at old.sets place)) (drop are.before (set_at old.sets place)) ≡ []
+    ties_of (name_of_set (set_at old.sets place)) (drop are.before (set_at old.sets place)) ≡ []
 none_left place number old old_forms new new_forms are ended =
-    short_no_ties (first_of (set_at old.sets place)) (drop are.before (set_at old.sets place)) (let next = are.next in
+    short_no_ties (name_of_set (set_at old.sets place)) (drop are.before (set_at old.sets place)) (let next = are.next in
     omega (arith, length-drop are.before (set_at old.sets place)))
 
 all_put : {X : Type 0} (new rest all : List X) → rest ≡ [] → new ++ rest ≡ all → new ≡ all
@@ -201,7 +203,7 @@ pub ties_ended : (place number : ℕ) (old : KnownSets) (old_forms : List Form) 
     length (set_at old.sets place) ≤ number → new ≡ record old { rows = old.rows ++ ties_in (set_at old.sets place) }
 ties_ended place number old old_forms new new_forms are ended =
     known_same new old (old.rows ++ ties_in (set_at old.sets place)) are.problem are.sets
-    (all_put new.rows (ties_of (first_of (set_at old.sets place)) (drop are.before (set_at old.sets place)))
+    (all_put new.rows (ties_of (name_of_set (set_at old.sets place)) (drop are.before (set_at old.sets place)))
     (old.rows ++ ties_in (set_at old.sets place))
     (none_left place number old old_forms new new_forms are ended) are.rows)
 
@@ -211,7 +213,7 @@ pub ties_forms : (place number : ℕ) (old : KnownSets) (old_forms : List Form) 
     new_forms ≡ old_forms ++ forms_of_set_rows old.problem (ties_in (set_at old.sets place))
 ties_forms place number old old_forms new new_forms are ended =
     all_put new_forms (forms_of_set_rows old.problem
-    (ties_of (first_of (set_at old.sets place)) (drop are.before (set_at old.sets place))))
+    (ties_of (name_of_set (set_at old.sets place)) (drop are.before (set_at old.sets place))))
     (old_forms ++ forms_of_set_rows old.problem (ties_in (set_at old.sets place)))
     (ap (forms_of_set_rows old.problem) (none_left place number old old_forms new new_forms are ended)) are.forms
 

@@ -8,27 +8,28 @@ use Rattle.whole_numbers.proofs.Ring.{var, num, ◌⊕◌, ◌⊖◌, ◌⊗◌,
 use Rattle.area_graph.specs.declared.Point.{Point}
 use Rattle.area_graph.specs.Paths.{Ends, IsPathOf}
 use Rattle.area_graph.specs.Costs.{at_costs, cost}
-use Rattle.path_rows.specs.declared.problem.Request.{Request}
-use Rattle.path_rows.specs.Forms.{Form}
-use Rattle.path_rows.specs.Forms.{dot, value, value_at}
-use Rattle.path_rows.specs.Problems.{DesignProblem, IsProblem, ends_of, no_request, request_at}
-use Rattle.path_rows.specs.Rows.{fixed_cost, form_between}
-use Rattle.path_rows.proofs.AtCosts.{value_at_costs}
-use Rattle.path_rows.proofs.FormBounds.{simple_form_small}
+use Rattle.design_problem.specs.declared.problem.Request.{Request}
+use Rattle.design_problem.specs.Forms.{Form}
+use Rattle.design_problem.specs.Forms.{dot, value_for_costs, value_at}
+use Rattle.design_problem.specs.Problems.{DesignProblem, IsProblem, request_ends, no_request, request_at}
+use Rattle.design_problem.specs.Rows.{fixed_cost, form_between}
+use Rattle.design_problem.proofs.AtCosts.{value_at_costs}
+use Rattle.design_problem.proofs.FormBounds.{simple_form_small}
 use Rattle.form_search.specs.Sources.{IsTrueForm, scaled}
 use Rattle.cost_branching.specs.Candidates.{edge_lists}
-use Rattle.cost_branching.specs.Rivals.{IsKept}
-use Rattle.cost_branching.specs.SourceLaws.{at_least, contains-map, divided, path_listed, scaled_cost, small_value, value_between}
+use Rattle.cost_branching.specs.Rivals.{IsProblemOnGraph}
+use Rattle.cost_branching.specs.SourceLaws.{at_least, contains-map, multiple_divided, path_listed, scaled_cost, small_value, value_between}
 use Rattle.set_separation.specs.Outsiders.{IsOutsider}
 use Rattle.spread_sets.specs.declared.spread.SetRow.{SetRow}
 use Rattle.spread_sets.specs.declared.spread.SetRow.TheVariants.{Rival, Same}
-use Rattle.spread_sets.specs.Spreads.{IsSetRow, Shares, SharesEach, cost_in, edges_of, ends_in, first_of, form_of_set_row, form_of_tie, paths_of}
+use Rattle.spread_sets.specs.Spreads.{IsSetRow, Shares, SharesEach, cost_of_set, edges_of, ends_in, name_of_set, form_of_set_row, form_of_tie, paths_of}
 use Rattle.spread_sets.specs.MemberSets.{AreMemberSets, IsMemberSet}
 use Rattle.spread_sets.specs.Sources.{IsTrueOfSets, candidates_of, forms_of_pairs}
 
 -- The paths of members.
 
-pub first_listed : (set : List ℕ) → 0 < length set → Contains set (first_of set)
+-- the first member of a set is one of its members
+pub first_listed : (set : List ℕ) → 0 < length set → Contains set (name_of_set set)
 first_listed [] some = absurd (omega arith)
 first_listed (i ∷ more) some = (0, omega arith, refl)
 
@@ -40,23 +41,25 @@ member_known p set i is has = All-contains (λ j. j < length p.paths) set i is.k
 pub member_path : (p : DesignProblem) (set : List ℕ) (i : ℕ) → IsProblem p → IsMemberSet p set → Contains set i →
     IsPathOf p.graph (ends_in p set) (edges_of p i)
 member_path p set i kept is has =
-    subst (λ (ends : Ends). IsPathOf p.graph ends (edges_of p i)) (All-contains (λ j. ends_of (request_at p.paths j) ≡ ends_in p set) set i is.ends has)
+    subst (λ (ends : Ends). IsPathOf p.graph ends (edges_of p i)) (All-contains (λ j. request_ends (request_at p.paths j) ≡ ends_in p set) set i is.ends has)
     (kept.paths i no_request (member_known p set i is has))
 
 -- what a member costs where the set shares
 pub member_cost : (p : DesignProblem) (point : Point) (set : List ℕ) (i : ℕ) → Shares p point set → Contains set i →
-    cost p.graph point (edges_of p i) ≡ cost_in p point set
+    cost p.graph point (edges_of p i) ≡ cost_of_set p point set
 member_cost p point set i shares has =
-    All-contains (λ es. cost p.graph point es ≡ cost_in p point set) (paths_of p set) (edges_of p i) shares.tied (contains-map (edges_of p) set i has)
+    All-contains (λ es. cost p.graph point es ≡ cost_of_set p point set) (paths_of p set) (edges_of p i) shares.tied (contains-map (edges_of p) set i has)
 
 -- The value of a tie's form at a point.
 
+-- a value that has the scale subtracted, without that scale
 one_scale : (a b s d x : ℤ) → ((((a -ℤ b) -ℤ pos 1) *ℤ s) +ℤ d) ≡ (x -ℤ s) → (((a -ℤ b) *ℤ s) +ℤ d) ≡ x
 one_scale a b s d x same =
     ring (a ∷ b ∷ s ∷ d ∷ []) ((var 0 ⊖ var 1) ⊗ var 2 ⊕ var 3) (((((var 0 ⊖ var 1) ⊖ num (pos 1)) ⊗ var 2) ⊕ var 3) ⊕ var 2) refl
     ∙ ap (λ (z : ℤ). z +ℤ s) same
     ∙ ring (x ∷ s ∷ []) ((var 0 ⊖ var 1) ⊕ var 1) (var 0) refl
 
+-- the value of a tie's form at a point: cost(second) - cost(first)
 pub value_of_tie : (p : DesignProblem) (point : Point) (first second : List ℕ) → IsProblem p →
     length point.values ≡ length p.low → value_at (form_of_tie p.graph (length p.low) first second) point
     ≡ (pos (cost p.graph point second) -ℤ pos (cost p.graph point first))
@@ -71,24 +74,25 @@ value_of_tie p point first second kept count =
 rival_met : (p : DesignProblem) (sets : List (List ℕ)) (set es : List ℕ) (point : Point) → IsProblem p →
     length point.values ≡ length p.low → Contains sets set → IsOutsider p.graph (ends_in p set) (paths_of p set) es →
     SharesEach p sets point →
-    pos 0 ≤ℤ value_at (form_between p.graph (length p.low) (edges_of p (first_of set)) es) point
+    pos 0 ≤ℤ value_at (form_between p.graph (length p.low) (edges_of p (name_of_set set)) es) point
 rival_met p sets set es point kept count has outsider each =
     let shares = All-contains (Shares p point) sets set each has in
-    subst (λ (z : ℤ). pos 0 ≤ℤ z) (sym (value_between p point (edges_of p (first_of set)) es kept count))
-    (at_least (cost p.graph point es) (cost_in p point set) point.scale (shares.dearer es outsider))
+    subst (λ (z : ℤ). pos 0 ≤ℤ z) (sym (value_between p point (edges_of p (name_of_set set)) es kept count))
+    (at_least (cost p.graph point es) (cost_of_set p point set) point.scale (shares.dearer es outsider))
 
-rival_holds : (p : DesignProblem) (sets : List (List ℕ)) (set es : List ℕ) → IsKept p → AreMemberSets p sets →
+-- the form of a rival is a true form
+rival_holds : (p : DesignProblem) (sets : List (List ℕ)) (set es : List ℕ) → IsProblemOnGraph p → AreMemberSets p sets →
     Contains sets set → IsOutsider p.graph (ends_in p set) (paths_of p set) es →
-    IsTrueForm (length p.low) (SharesEach p sets) (form_between p.graph (length p.low) (edges_of p (first_of set)) es)
+    IsTrueForm (length p.low) (SharesEach p sets) (form_between p.graph (length p.low) (edges_of p (name_of_set set)) es)
 rival_holds p sets set es kept are has outsider =
     let is = All-contains (IsMemberSet p) sets set are has in
-    let wanted = member_path p set (first_of set) kept.problem is (first_listed set is.some) in
-    let small = simple_form_small p.graph (length p.low) (ends_in p set) (ends_in p set) (edges_of p (first_of set)) es
+    let wanted = member_path p set (name_of_set set) kept.problem is (first_listed set is.some) in
+    let small = simple_form_small p.graph (length p.low) (ends_in p set) (ends_in p set) (edges_of p (name_of_set set)) es
     kept.graph kept.metrics kept.problem.priced wanted outsider.path in
     record {
       count = small.count;
       sizes = small.sizes;
-      values = λ w count each. small_value (length p.low) (form_between p.graph (length p.low) (edges_of p (first_of set)) es) w small each;
+      values = λ w count each. small_value (length p.low) (form_between p.graph (length p.low) (edges_of p (name_of_set set)) es) w small each;
       met = λ point count each. rival_met p sets set es point kept.problem count has outsider each;
     }
 
@@ -96,35 +100,40 @@ rival_holds p sets set es kept are has outsider =
 difference_small : (a b : ℕ) → nat_abs ((pos b -ℤ pos a) -ℤ pos 1) < 2 ^ 27 → nat_abs ((pos a -ℤ pos b) -ℤ pos 1) < 2 ^ 27 → nat_abs (pos b -ℤ pos a) < 2 ^ 27
 difference_small a b first other = omega (arith, ints)
 
+-- the difference of two numbers that equal a third is at least 0
 none_between : (a b c : ℕ) → a ≡ c → b ≡ c → pos 0 ≤ℤ (pos b -ℤ pos a)
 none_between a b c first other = omega (arith, ints)
 
+-- the form of a tie is at least 0 where each set shares
 tie_met : (p : DesignProblem) (sets : List (List ℕ)) (set : List ℕ) (i j : ℕ) (point : Point) → IsProblem p →
     length point.values ≡ length p.low → Contains sets set → Contains set i → Contains set j → SharesEach p sets point →
     pos 0 ≤ℤ value_at (form_of_tie p.graph (length p.low) (edges_of p i) (edges_of p j)) point
 tie_met p sets set i j point kept count has has_i has_j each =
     let shares = All-contains (Shares p point) sets set each has in
     subst (λ (z : ℤ). pos 0 ≤ℤ z) (sym (value_of_tie p point (edges_of p i) (edges_of p j) kept count))
-    (none_between (cost p.graph point (edges_of p i)) (cost p.graph point (edges_of p j)) (cost_in p point set)
+    (none_between (cost p.graph point (edges_of p i)) (cost p.graph point (edges_of p j)) (cost_of_set p point set)
     (member_cost p point set i shares has_i) (member_cost p point set j shares has_j))
 
 -- the value of the form of two paths at costs
 pub between_at : (p : DesignProblem) (w first second : List ℕ) → IsProblem p → length w ≡ length p.low →
-    value (form_between p.graph (length p.low) first second) w
+    value_for_costs (form_between p.graph (length p.low) first second) w
     ≡ ((pos (cost p.graph (at_costs w) second) -ℤ pos (cost p.graph (at_costs w) first)) -ℤ pos 1)
 between_at p w first second kept count = sym (value_at_costs (form_between p.graph (length p.low) first second) w)
     ∙ value_between p (at_costs w) first second kept count
 
+-- the value of a tie's form at costs: cost(second) - cost(first)
 pub tie_at : (p : DesignProblem) (w first second : List ℕ) → IsProblem p → length w ≡ length p.low →
-    value (form_of_tie p.graph (length p.low) first second) w
+    value_for_costs (form_of_tie p.graph (length p.low) first second) w
     ≡ (pos (cost p.graph (at_costs w) second) -ℤ pos (cost p.graph (at_costs w) first))
 tie_at p w first second kept count = sym (value_at_costs (form_of_tie p.graph (length p.low) first second) w)
     ∙ value_of_tie p (at_costs w) first second kept count
 
-abbrev IsBelow : ℤ → Type 0
-IsBelow z = nat_abs z < 2 ^ 27
+-- a whole number below 2^27 in size
+abbrev IsBelow2To27 : ℤ → Type 0
+IsBelow2To27 z = nat_abs z < 2 ^ 27
 
-tie_holds : (p : DesignProblem) (sets : List (List ℕ)) (set : List ℕ) (i j : ℕ) → IsKept p → AreMemberSets p sets →
+-- the form of a tie is a true form
+tie_holds : (p : DesignProblem) (sets : List (List ℕ)) (set : List ℕ) (i j : ℕ) → IsProblemOnGraph p → AreMemberSets p sets →
     Contains sets set → Contains set i → Contains set j →
     IsTrueForm (length p.low) (SharesEach p sets) (form_of_tie p.graph (length p.low) (edges_of p i) (edges_of p j))
 tie_holds p sets set i j kept are has has_i has_j =
@@ -139,37 +148,40 @@ tie_holds p sets set i j kept are has has_i has_j =
       count = there.count;
       sizes = there.sizes;
       values = λ w count each.
-          subst IsBelow (sym (tie_at p w (edges_of p i) (edges_of p j) kept.problem count))
+          subst IsBelow2To27 (sym (tie_at p w (edges_of p i) (edges_of p j) kept.problem count))
           (difference_small (cost p.graph (at_costs w) (edges_of p i)) (cost p.graph (at_costs w) (edges_of p j))
-          (subst IsBelow (between_at p w (edges_of p i) (edges_of p j) kept.problem count)
+          (subst IsBelow2To27 (between_at p w (edges_of p i) (edges_of p j) kept.problem count)
           (small_value n (form_between p.graph n (edges_of p i) (edges_of p j)) w there each))
-          (subst IsBelow (between_at p w (edges_of p j) (edges_of p i) kept.problem count)
+          (subst IsBelow2To27 (between_at p w (edges_of p j) (edges_of p i) kept.problem count)
           (small_value n (form_between p.graph n (edges_of p j) (edges_of p i)) w back each)));
       met = λ point count each. tie_met p sets set i j point kept.problem count has has_i has_j each;
     }
 
-row_holds : (p : DesignProblem) (sets : List (List ℕ)) (row : SetRow) → IsKept p → AreMemberSets p sets →
+-- the form of each row of the sets is a true form
+row_holds : (p : DesignProblem) (sets : List (List ℕ)) (row : SetRow) → IsProblemOnGraph p → AreMemberSets p sets →
     IsSetRow p sets row → IsTrueForm (length p.low) (SharesEach p sets) (form_of_set_row p row)
 row_holds p sets (Rival name rival) kept are is =
     subst (λ (k : ℕ). IsTrueForm (length p.low) (SharesEach p sets) (form_between p.graph (length p.low) (edges_of p k) rival.edges)) is.1.first
     (rival_holds p sets is.0 rival.edges kept are is.1.listed is.2)
 row_holds p sets (Same name i j) kept are is = tie_holds p sets is.0 i j kept are is.1.listed is.2 is.3
 
-pub true_forms_hold : (p : DesignProblem) (sets : List (List ℕ)) (form : Form) → IsTrueOfSets p sets form → IsTrueForm (length p.low) (SharesEach p sets) form
-true_forms_hold p sets form is =
+-- a true form is small, and at least 0 at each point where each set shares
+pub set_forms_hold : (p : DesignProblem) (sets : List (List ℕ)) (form : Form) → IsTrueOfSets p sets form → IsTrueForm (length p.low) (SharesEach p sets) form
+set_forms_hold p sets form is =
     subst (λ (f : Form). IsTrueForm (length p.low) (SharesEach p sets) f) is.of_row.same (row_holds p sets is.of_row.row is.kept is.are is.of_row.is_row)
 
 -- a row's form is at least 0 where each set shares
-pub row_met : (p : DesignProblem) (sets : List (List ℕ)) (row : SetRow) (point : Point) → IsProblem p →
+pub set_row_met : (p : DesignProblem) (sets : List (List ℕ)) (row : SetRow) (point : Point) → IsProblem p →
     length point.values ≡ length p.low → IsSetRow p sets row → SharesEach p sets point →
     pos 0 ≤ℤ value_at (form_of_set_row p row) point
-row_met p sets (Rival name rival) point kept count is each =
+set_row_met p sets (Rival name rival) point kept count is each =
     subst (λ (k : ℕ). pos 0 ≤ℤ value_at (form_between p.graph (length p.low) (edges_of p k) rival.edges) point) is.1.first
     (rival_met p sets is.0 rival.edges point kept count is.1.listed is.2 each)
-row_met p sets (Same name i j) point kept count is each = tie_met p sets is.0 i j point kept count is.1.listed is.2 is.3 each
+set_row_met p sets (Same name i j) point kept count is each = tie_met p sets is.0 i j point kept count is.1.listed is.2 is.3 each
 
 -- Every true form stands in the list of the candidates.
 
+-- the form of a wanted path and a short list of edges is among those of all such pairs
 pair_listed : (p : DesignProblem) (form : List ℕ → List ℕ → Form) (paths : List Request) (k : ℕ) (es : List ℕ) →
     k < length paths → Contains (edge_lists p) es →
     Contains (forms_of_pairs p form paths) (form (request_at paths k).path.edges es)
@@ -181,7 +193,8 @@ pair_listed p form (r ∷ rs) (suc k) es known has =
     Contains-append_right (map (form r.path.edges) (edge_lists p)) (forms_of_pairs p form rs)
     (form (request_at rs k).path.edges es) (pair_listed p form rs k es (omega arith) has)
 
-row_listed : (p : DesignProblem) (sets : List (List ℕ)) (row : SetRow) → IsKept p → AreMemberSets p sets →
+-- the form of each row of the sets is among the candidates
+row_listed : (p : DesignProblem) (sets : List (List ℕ)) (row : SetRow) → IsProblemOnGraph p → AreMemberSets p sets →
     IsSetRow p sets row → Contains (candidates_of p) (form_of_set_row p row)
 row_listed p sets (Rival name rival) kept are is =
     let set = is.0 in
@@ -189,7 +202,7 @@ row_listed p sets (Rival name rival) kept are is =
     let between = form_between p.graph (length p.low) in
     let known : name < length p.paths =
     subst (λ (k : ℕ). k < length p.paths) is.1.first
-    (member_known p set (first_of set) is_set (first_listed set is_set.some)) in
+    (member_known p set (name_of_set set) is_set (first_listed set is_set.some)) in
     Contains-append_left (forms_of_pairs p between p.paths)
     (forms_of_pairs p (form_of_tie p.graph (length p.low)) p.paths) (between (edges_of p name) rival.edges)
     (pair_listed p between p.paths name rival.edges known (path_listed p (ends_in p set) rival.edges kept.graph is.2.path))
@@ -201,42 +214,47 @@ row_listed p sets (Same name i j) kept are is =
     (pair_listed p tie p.paths i (edges_of p j) (member_known p set i is_set is.2)
     (path_listed p (ends_in p set) (edges_of p j) kept.graph (member_path p set j kept.problem is_set is.3)))
 
-pub true_forms_listed : (p : DesignProblem) (sets : List (List ℕ)) (form : Form) → IsTrueOfSets p sets form → Contains (candidates_of p) form
-true_forms_listed p sets form is =
+-- each true form is among the candidates
+pub set_forms_listed : (p : DesignProblem) (sets : List (List ℕ)) (form : Form) → IsTrueOfSets p sets form → Contains (candidates_of p) form
+set_forms_listed p sets form is =
     subst (λ (f : Form). Contains (candidates_of p) f) is.of_row.same
     (row_listed p sets is.of_row.row is.kept is.are is.of_row.is_row)
 
 -- Sets that share at multiples of costs share at the costs.
 
+-- numbers whose multiples by the scale are equal: the one is at most the other
 same_less : (a b scale : ℕ) → 0 < scale → a * scale ≡ b * scale → a ≤ b
 same_less a b scale some same = divided_less a b scale some (omega arith)
   where
     divided_less : (a b scale : ℕ) → 0 < scale → a * scale + scale ≤ b * scale + scale → a ≤ b
     divided_less a b scale some more =
-        (let found = divided a (b + 1) scale some (let e : (b + 1) * scale ≡ b * scale + scale = omega arith in
+        (let found = multiple_divided a (b + 1) scale some (let e : (b + 1) * scale ≡ b * scale + scale = omega arith in
         omega arith) in omega arith)
 
+-- numbers whose multiples by the scale are equal are equal
 same_divided : (a b scale : ℕ) → 0 < scale → a * scale ≡ b * scale → a ≡ b
 same_divided a b scale some same =
     let less = same_less a b scale some same in
     let more = same_less b a scale some (sym same) in
     omega arith
 
+-- a set that shares at multiples of costs shares at the costs
 set_free : (p : DesignProblem) (w : List ℕ) (scale : ℕ) (set : List ℕ) → 0 < scale → Shares p (scaled w scale) set → Shares p (at_costs w) set
 set_free p w scale set some shares = record {
   tied = λ k d k_in.
       let es = get_or (paths_of p set) k d in
-      let first = edges_of p (first_of set) in
+      let first = edges_of p (name_of_set set) in
       same_divided (cost p.graph (at_costs w) es) (cost p.graph (at_costs w) first) scale some
       (sym (scaled_cost p.graph w scale es) ∙ shares.tied k d k_in ∙ scaled_cost p.graph w scale first);
   dearer = λ es outsider.
-      let first = edges_of p (first_of set) in
+      let first = edges_of p (name_of_set set) in
       let more = shares.dearer es outsider in
-      divided (cost p.graph (at_costs w) first) (cost p.graph (at_costs w) es) scale some
+      multiple_divided (cost p.graph (at_costs w) first) (cost p.graph (at_costs w) es) scale some
       (subst (λ (n : ℕ). n + scale ≤ cost p.graph (at_costs w) es * scale) (scaled_cost p.graph w scale first)
       (subst (λ (n : ℕ). cost p.graph (scaled w scale) first + scale ≤ n) (scaled_cost p.graph w scale es) more));
 }
 
-pub scale_is_free : (p : DesignProblem) (sets : List (List ℕ)) (w : List ℕ) (scale : ℕ) → 0 < scale →
+-- where each set shares at multiples of costs, each shares at the costs
+pub set_scale_is_free : (p : DesignProblem) (sets : List (List ℕ)) (w : List ℕ) (scale : ℕ) → 0 < scale →
     SharesEach p sets (scaled w scale) → SharesEach p sets (at_costs w)
-scale_is_free p sets w scale some each k d k_in = set_free p w scale (get_or sets k d) some (each k d k_in)
+set_scale_is_free p sets w scale some each k d k_in = set_free p w scale (get_or sets k d) some (each k d k_in)

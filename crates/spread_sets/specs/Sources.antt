@@ -1,21 +1,21 @@
 -- The source of a search for spread-fit costs: the sets of a problem, the rows that are known, and the forms that are true.
-use Rattle.std.specs.Prelude.{◌≡◌, ℕ, ◌+◌, ◌<◌, List, [], ◌∷◌, ◌++◌, map, length, drop, slice_index_or, All}
+use Rattle.std.specs.Prelude.{◌≡◌, ℕ, ◌+◌, ◌<◌, List, [], ◌∷◌, ◌++◌, map, length, drop, slice_index_or, All, AllPairs}
 use Rattle.area_graph.specs.declared.Point.{Point}
 use Rattle.area_graph.specs.Costs.{cost}
-use Rattle.path_rows.specs.declared.form.CostBox.{CostBox}
-use Rattle.path_rows.specs.Forms.{Form}
-use Rattle.path_rows.specs.declared.problem.Request.{Request}
-use Rattle.path_rows.specs.Problems.{DesignProblem}
-use Rattle.path_rows.specs.Rows.{form_between}
-use Rattle.form_search.specs.Finds.{IsFound}
+use Rattle.design_problem.specs.declared.form.CostBox.{CostBox}
+use Rattle.design_problem.specs.Forms.{Form}
+use Rattle.design_problem.specs.declared.problem.Request.{Request}
+use Rattle.design_problem.specs.Problems.{DesignProblem}
+use Rattle.design_problem.specs.Rows.{form_between}
+use Rattle.form_search.specs.Finds.{IsSearchResult}
 use Rattle.cost_branching.specs.Candidates.{edge_lists}
-use Rattle.cost_branching.specs.Rivals.{IsKept}
+use Rattle.cost_branching.specs.Rivals.{IsProblemOnGraph}
 use Rattle.set_separation.specs.Outsiders.{CostAtLeast, IsOutsider}
 use Rattle.spread_sets.specs.declared.spread.SetRow.{SetRow}
 use Rattle.spread_sets.specs.declared.spread.SetRow.TheVariants.{Same}
 use Rattle.spread_sets.specs.declared.finding.Sought.{Sought}
-use Rattle.spread_sets.specs.Spreads.{IsFormOfSetRow, IsSetRow, SharesEach, cost_in, ends_in, first_of, form_of_tie, forms_of_set_rows, paths_of}
-use Rattle.spread_sets.specs.MemberSets.{AreMemberSets}
+use Rattle.spread_sets.specs.Spreads.{IsFormOfSetRow, IsSetRow, SetRowsDiffer, SharesEach, cost_of_set, ends_in, name_of_set, form_of_tie, forms_of_set_rows, paths_of}
+use Rattle.spread_sets.specs.MemberSets.{AreDistinctSets, AreMemberSets}
 
 -- a problem, its sets, and the rows that are known of them
 pub record KnownSets : Type 0 where
@@ -23,47 +23,51 @@ pub record KnownSets : Type 0 where
   pub sets : List (List ℕ)
   pub rows : List SetRow
 
+-- the set at a place
 abbrev pub set_at : List (List ℕ) → ℕ → List ℕ
 set_at sets place = slice_index_or sets place []
 
 -- a true form: that of a row of the sets
 pub record IsTrueOfSets (p : DesignProblem) (sets : List (List ℕ)) (form : Form) : Type 0 where
-  pub kept : IsKept p
+  pub kept : IsProblemOnGraph p
   pub are : AreMemberSets p sets
   pub of_row : IsFormOfSetRow p sets form
 
 -- every other simple path of the members' request costs at least the scale more
-abbrev pub IsDearer : DesignProblem → Point → List ℕ → Type 0
-IsDearer p point set = CostAtLeast p.graph point (ends_in p set) (paths_of p set) (cost_in p point set + point.scale)
+abbrev pub OutsidersAreDearer : DesignProblem → Point → List ℕ → Type 0
+OutsidersAreDearer p point set = CostAtLeast p.graph point (ends_in p set) (paths_of p set) (cost_of_set p point set + point.scale)
 
 -- a rival of a set that costs less at a point than its first member and the scale
-pub record IsTooCheap (p : DesignProblem) (point : Point) (set : List ℕ) (edges : List ℕ) : Type 0 where
+pub record IsOutsiderTooCheap (p : DesignProblem) (point : Point) (set : List ℕ) (edges : List ℕ) : Type 0 where
   pub rival : IsOutsider p.graph (ends_in p set) (paths_of p set) edges
-  pub cheap : cost p.graph point edges < cost_in p point set + point.scale
+  pub cheap : cost p.graph point edges < cost_of_set p point set + point.scale
 
 -- the rows that keep two members at one cost
 abbrev pub both_ways : ℕ → ℕ → ℕ → List SetRow
 both_ways name i j = Same name i j ∷ Same name j i ∷ []
 
--- those of each two neighbours
+-- the rows that keep each two neighbours of some members at one cost
 abbrev pub ties_of : ℕ → List ℕ → List SetRow
 ties_of name [] = []
 ties_of name (i ∷ []) = []
 ties_of name (i ∷ j ∷ more) = both_ways name i j ++ ties_of name (j ∷ more)
 
+-- the rows that keep all members of a set at one cost: those of each two neighbours, both ways
 abbrev pub ties_in : List ℕ → List SetRow
-ties_in set = ties_of (first_of set) set
+ties_in set = ties_of (name_of_set set) set
 
 -- the rows with which a search begins: those of each set, in order
 abbrev pub tie_rows : List (List ℕ) → List SetRow
 tie_rows [] = []
 tie_rows (set ∷ sets) = ties_in set ++ tie_rows sets
 
--- The rows are the sets', those with which the search began come first, and the pool's forms are theirs, in order.
-pub record AreInStep (s : KnownSets) (pool : List Form) : Type 0 where
+-- The rows are the sets', none twice where the sets are distinct; those with which the search began come first, and the
+-- pool's forms are theirs, in order.
+pub record IsPoolOfSets (s : KnownSets) (pool : List Form) : Type 0 where
   pub true_rows : All (IsSetRow s.problem s.sets) s.rows
   pub more : List SetRow
   pub begun : s.rows ≡ tie_rows s.sets ++ more
+  pub once : AreDistinctSets s.sets → AllPairs SetRowsDiffer s.rows
   pub forms : pool ≡ forms_of_set_rows s.problem s.rows
 
 -- the forms of the requests' paths with every list of edges that is short enough for a simple path
@@ -76,9 +80,10 @@ abbrev pub candidates_of : DesignProblem → List Form
 candidates_of p = forms_of_pairs p (form_between p.graph (length p.low)) p.paths ++ forms_of_pairs p (form_of_tie p.graph (length p.low)) p.paths
 
 -- what a search over a box found, by the forms of rows of the sets
-pub record IsSought (p : DesignProblem) (sets : List (List ℕ)) (top nodes : ℕ) (box : CostBox) (sought : Sought) : Type 0 where
+pub record IsSpreadSought (p : DesignProblem) (sets : List (List ℕ)) (top nodes : ℕ) (box : CostBox) (sought : Sought) : Type 0 where
   pub true_rows : All (IsSetRow p sets) sought.rows.items
-  pub found : IsFound (SharesEach p sets) top nodes (forms_of_set_rows p sought.rows.items) box sought.found
+  pub once : AreDistinctSets sets → AllPairs SetRowsDiffer sought.rows.items
+  pub found : IsSearchResult (SharesEach p sets) top nodes (forms_of_set_rows p sought.rows.items) box sought.found
 
 -- The rows of the set at a place were put up to those of its members before a number: with the rows of the members from that
 -- one on they are all the rows of the set.
@@ -87,7 +92,7 @@ pub record AreTiesPut (place number : ℕ) (old : KnownSets) (old_forms : List F
   pub next : number ≡ before + 1
   pub problem : new.problem ≡ old.problem
   pub sets : new.sets ≡ old.sets
-  pub rows : new.rows ++ ties_of (first_of (set_at old.sets place)) (drop before (set_at old.sets place)) ≡ old.rows ++ ties_in (set_at old.sets place)
+  pub rows : new.rows ++ ties_of (name_of_set (set_at old.sets place)) (drop before (set_at old.sets place)) ≡ old.rows ++ ties_in (set_at old.sets place)
   pub forms : new_forms ++ forms_of_set_rows old.problem
-      (ties_of (first_of (set_at old.sets place)) (drop before (set_at old.sets place))) ≡ old_forms
+      (ties_of (name_of_set (set_at old.sets place)) (drop before (set_at old.sets place))) ≡ old_forms
       ++ forms_of_set_rows old.problem (ties_in (set_at old.sets place))

@@ -5,10 +5,10 @@ use Rattle.area_graph.specs.declared.Point.{Point}
 use Rattle.area_graph.specs.Area.{Area}
 use Rattle.area_graph.specs.Paths.{Ends}
 use Rattle.area_graph.specs.Costs.{at_costs, cost}
-use Rattle.path_rows.specs.declared.form.Form.{Form}
-use Rattle.path_rows.specs.Problems.{DesignProblem, ends_of, request_at}
-use Rattle.path_rows.specs.Boxes.{IsInBox}
-use Rattle.path_rows.specs.Rows.{box_of, fixed_cost, form_between, uses}
+use Rattle.design_problem.specs.declared.form.Form.{Form}
+use Rattle.design_problem.specs.Problems.{DesignProblem, request_ends, request_at}
+use Rattle.design_problem.specs.Boxes.{IsInBox}
+use Rattle.design_problem.specs.Rows.{box_of, fixed_cost, form_between, uses}
 use Rattle.set_reader.specs.Reading.{stands_in}
 use Rattle.set_separation.specs.Outsiders.{CostAtLeast, IsOutsider}
 use Rattle.spread_sets.specs.declared.spread.SetRow.{SetRow}
@@ -20,11 +20,12 @@ set_of [] path = path ∷ []
 set_of (set ∷ sets) path = if stands_in path set then set else set_of sets path
 
 -- the number by which a set is named: that of its first member, which is the least
-abbrev pub first_of : List ℕ → ℕ
-first_of set = slice_index_or set 0 0
+abbrev pub name_of_set : List ℕ → ℕ
+name_of_set set = slice_index_or set 0 0
 
+-- the path is the first member of its set, by which the set is named
 abbrev pub is_first : List (List ℕ) → ℕ → Bool
-is_first lines path = first_of (set_of lines path) == path
+is_first lines path = name_of_set (set_of lines path) == path
 
 -- the sets of a problem, in rising order of their names: those of lines, and each path in no line by itself
 abbrev pub all_sets : DesignProblem → List (List ℕ) → List (List ℕ)
@@ -40,22 +41,22 @@ paths_of p set = map (edges_of p) set
 
 -- the ends between which the members lead, and the edges that their request takes away
 abbrev pub ends_in : DesignProblem → List ℕ → Ends
-ends_in p set = ends_of (request_at p.paths (first_of set))
+ends_in p set = request_ends (request_at p.paths (name_of_set set))
 
 -- what the first member costs at a point
-abbrev pub cost_in : DesignProblem → Point → List ℕ → ℕ
-cost_in p point set = cost p.graph point (edges_of p (first_of set))
+abbrev pub cost_of_set : DesignProblem → Point → List ℕ → ℕ
+cost_of_set p point set = cost p.graph point (edges_of p (name_of_set set))
 
 -- the members of a set cost the same at a point
 abbrev pub AreTied : DesignProblem → Point → List ℕ → Type 0
-AreTied p point set = All (λ es. cost p.graph point es ≡ cost_in p point set) (paths_of p set)
+AreTied p point set = All (λ es. cost p.graph point es ≡ cost_of_set p point set) (paths_of p set)
 
--- and every other simple path of their request costs at least the scale more
+-- the members cost the same, and every other simple path of their request costs at least the scale more
 pub record Shares (p : DesignProblem) (point : Point) (set : List ℕ) : Type 0 where
   pub tied : AreTied p point set
-  pub dearer : CostAtLeast p.graph point (ends_in p set) (paths_of p set) (cost_in p point set + point.scale)
+  pub dearer : CostAtLeast p.graph point (ends_in p set) (paths_of p set) (cost_of_set p point set + point.scale)
 
--- so it is with each of the sets
+-- each of the sets shares at the point
 abbrev pub SharesEach : DesignProblem → List (List ℕ) → Point → Type 0
 SharesEach p sets point = All (Shares p point) sets
 
@@ -68,7 +69,7 @@ pub record IsSpreadFit (p : DesignProblem) (sets : List (List ℕ)) (w : List �
 -- one of the sets has this name
 pub record IsNamed (sets : List (List ℕ)) (name : ℕ) (set : List ℕ) : Type 0 where
   pub listed : Contains sets set
-  pub first : first_of set ≡ name
+  pub first : name_of_set set ≡ name
 
 -- a row: a rival of a set is a simple path of the request that is no member, and two members of a set are kept at one cost
 abbrev pub IsSetRow : DesignProblem → List (List ℕ) → SetRow → Type 0
@@ -88,6 +89,7 @@ abbrev pub form_of_set_row : DesignProblem → SetRow → Form
 form_of_set_row p (Rival name rival) = form_between p.graph (length p.low) (edges_of p name) rival.edges
 form_of_set_row p (Same name i j) = form_of_tie p.graph (length p.low) (edges_of p i) (edges_of p j)
 
+-- the forms of rows of sets, in their order
 abbrev pub forms_of_set_rows : DesignProblem → List SetRow → List Form
 forms_of_set_rows p rows = map (form_of_set_row p) rows
 
@@ -96,3 +98,15 @@ pub record IsFormOfSetRow (p : DesignProblem) (sets : List (List ℕ)) (form : F
   pub row : SetRow
   pub is_row : IsSetRow p sets row
   pub same : form_of_set_row p row ≡ form
+
+-- the name of a row's set
+abbrev pub name_of : SetRow → ℕ
+name_of (Rival name rival) = name
+name_of (Same name i j) = name
+
+-- the rows differ in their sets, in their rivals' edges, or in their two members
+abbrev pub SetRowsDiffer : SetRow → SetRow → Type 0
+SetRowsDiffer (Rival a rival) (Rival b other) = a ≡ b → rival.edges ≡ other.edges → ⊥
+SetRowsDiffer (Same a i j) (Same b k l) = a ≡ b → i ≡ k → j ≡ l → ⊥
+SetRowsDiffer (Rival a rival) (Same b i j) = Unit {0}
+SetRowsDiffer (Same a i j) (Rival b rival) = Unit {0}

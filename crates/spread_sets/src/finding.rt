@@ -1,19 +1,19 @@
 //! Costs that spread traffic over sets of wanted paths.
 ghost use Rattle.std.specs.Prelude.{◌≡◌, ℕ, ◌≤◌, List, length, All, IfOk};
-ghost use Rattle.path_rows.specs.Answers.{greatest_bound, whole_box};
-ghost use Rattle.path_rows.specs.Boxes.{IsBox};
+ghost use Rattle.design_problem.specs.Answers.{greatest_bound, whole_box};
+ghost use Rattle.design_problem.specs.Boxes.{IsBox};
 ghost use Rattle.set_reader.specs.SpreadSets.{AreSetsOf};
 ghost use Rattle.spread_sets.specs.Answers.{IsFoundOf, IsSpreadFound};
-ghost use Rattle.spread_sets.specs.MemberSets.{AreMemberSets, HasTree, sets_in};
-ghost use Rattle.spread_sets.specs.Sources.{IsSought};
+ghost use Rattle.spread_sets.specs.MemberSets.{AreDistinctSets, AreMemberSets, HasTree, sets_in};
+ghost use Rattle.spread_sets.specs.Sources.{IsSpreadSought};
 
 use crate::member_sets::{MemberSet, all_sets, with_trees};
 use crate::source::{Begun, Spreads};
 use crate::spread::{SetRow, Spread};
 use cost_base::OutOfMemory;
 use cost_branching::{keeps_conditions, path_count};
+use design_problem::{CostBox, Problem, box_at, greatest_of};
 use form_search::{FormPool, Found, search};
-use path_rows::{CostBox, Problem, box_at, greatest_of};
 use printed_rows::{PrintedTree, printed};
 use set_reader::Sets;
 use std::alloc::Global;
@@ -40,7 +40,7 @@ fn search_sets<B: Begun>(
     requires trees { All (HasTree problem.now) sets.items }
     requires ranges { IsBox (length problem.now.low) costs.now }
     requires lows { All (λ low. 1 ≤ low) costs.now.low }
-    ensures { IfOk result (IsSought problem.now (sets_in sets.items) limits.now.top limits.now.nodes costs.now) }
+    ensures { IfOk result (IsSpreadSought problem.now (sets_in sets.items) limits.now.top limits.now.nodes costs.now) }
 {
     keeps_conditions(problem);
     let mut source = Spreads::<B>::new(alloc, problem, sets)?;
@@ -63,9 +63,9 @@ fn answered(
 ) -> Result<Spread, OutOfMemory>
     requires ceiling { greatest_bound problem.now ≤ 65535 }
     requires sought { (sets : List (List ℕ)) × AreMemberSets problem.now sets ×
-        IsSought problem.now sets limits.now.top limits.now.nodes (whole_box problem.now) sought }
-    ensures { (sets : List (List ℕ)) → AreMemberSets problem.now sets →
-        IsSought problem.now sets limits.now.top limits.now.nodes (whole_box problem.now) sought →
+        IsSpreadSought problem.now sets limits.now.top limits.now.nodes (whole_box problem.now) sought }
+    ensures { (sets : List (List ℕ)) → AreMemberSets problem.now sets → AreDistinctSets sets →
+        IsSpreadSought problem.now sets limits.now.top limits.now.nodes (whole_box problem.now) sought →
         IfOk result (IsFoundOf problem.now sets limits.now.top limits.now.nodes) }
 {
     keeps_conditions(problem);
@@ -76,9 +76,9 @@ fn answered(
             let PrintedTree { rows, tree } = printed(alloc, rows, &tree)?;
             Ok(Spread::Impossible { rows, tree })
         }
-        Found::Spent(tree) => {
+        Found::Undecided(tree) => {
             let PrintedTree { rows, tree } = printed(alloc, rows, &tree)?;
-            Ok(Spread::Unknown { rows, tree })
+            Ok(Spread::Undecided { rows, tree })
         }
     }
 }

@@ -1,14 +1,14 @@
 //! The sets of a problem: those of the lines, and each path in no line by itself.
 ghost use Rattle.std.specs.Prelude.{◌≡◌, ◌+◌, ◌<◌, ◌≤◌, ◌++◌, ◌∷◌, [], map, filter, length, cond, slice_index_or, All, IfOk, OnOk};
 ghost use Rattle.cost_base.specs.Lists.{numbers_from};
-ghost use Rattle.path_rows.specs.Problems.{request_at};
+ghost use Rattle.design_problem.specs.Problems.{request_at};
 ghost use Rattle.set_separation.specs.PrefixTrees.{IsGrown};
-ghost use Rattle.spread_sets.specs.Spreads.{first_of, is_first, paths_of, set_of};
-ghost use Rattle.spread_sets.specs.MemberSets.{HasTree, IsMemberSet, line_of, sets_in};
+ghost use Rattle.spread_sets.specs.Spreads.{name_of_set, is_first, paths_of, set_of};
+ghost use Rattle.spread_sets.specs.MemberSets.{HasTree, IsMemberSet, line_with_path, sets_in};
 
 use crate::line_numbers::line_numbers;
 use cost_base::{Listed, OutOfMemory};
-use path_rows::{Problem, Request};
+use design_problem::{Problem, Request};
 use set_separation::PrefixTree;
 use std::alloc::Global;
 
@@ -21,7 +21,7 @@ pub(crate) struct MemberSet {
 
 /// The number by which a set is named.
 pub(crate) fn first_of(set: &[u32]) -> u32
-    ensures { result ≡ first_of set.now }
+    ensures { result ≡ name_of_set set.now }
 {
     match set.first() {
         Some(first) => *first,
@@ -39,7 +39,7 @@ fn line_at(lines: &[Listed<u32>], number: usize) -> &[u32]
 
 /// Whether a path is the first member of its set, where its line has that number.
 fn is_first(lines: &[Listed<u32>], line: Option<usize>, path: u32) -> bool
-    requires { line ≡ line_of 0 lines.now path }
+    requires { line ≡ line_with_path 0 lines.now path }
     ensures { result ≡ is_first lines.now path }
 {
     match line {
@@ -55,7 +55,7 @@ fn set_of(
     line: Option<usize>,
     path: u32,
 ) -> Result<Listed<u32>, OutOfMemory>
-    requires { line ≡ line_of 0 lines.now path }
+    requires { line ≡ line_with_path 0 lines.now path }
     ensures { IfOk result (λ set. set ≡ set_of lines.now path) }
 {
     match line {
@@ -72,7 +72,7 @@ fn push_first(
     path: u32,
     sets: &mut Vec<Listed<u32>>,
 ) -> Result<(), OutOfMemory>
-    requires { line ≡ line_of 0 lines.now path }
+    requires { line ≡ line_with_path 0 lines.now path }
     ensures { OnOk result (sets.new.items ≡ cond (is_first lines.now path) (sets.old.items ++ set_of lines.now path ∷ []) sets.old.items) }
 {
     if is_first(lines, line, path) {

@@ -1,12 +1,12 @@
 //! The forms of the rows of sets.
 ghost use Rattle.std.specs.Prelude.{◌≡◌, ◌^◌, ◌<◌, pos, ◌+ℤ◌, nat_abs, length, slice_get, IfOk};
-ghost use Rattle.path_rows.specs.Rows.{IsRouteOf};
+ghost use Rattle.design_problem.specs.Rows.{IsRouteOf};
 ghost use Rattle.spread_sets.specs.Spreads.{edges_of, form_of_tie};
 
 use crate::member_sets::request_of;
 use cost_base::OutOfMemory;
 use cost_branching::row_of;
-use path_rows::{Form, Problem, Term, form_of};
+use design_problem::{Form, Problem, Term, form_of};
 use std::alloc::Global;
 
 /// The same terms.

@@ -2,15 +2,15 @@
 ghost use Rattle.std.specs.Prelude.{◌≡◌, ◌<◌, ◌++◌, ◌∷◌, [], ◌↔◌, length, slice_index, All, Contains};
 ghost use Rattle.std.specs.Prelude.{IfOk, IsTrue, MatchBool, OnErr, OnOk};
 ghost use Rattle.area_graph.specs.Costs.{cost};
-ghost use Rattle.path_rows.specs.Forms.{AreMet};
+ghost use Rattle.design_problem.specs.Forms.{AreMet};
 ghost use Rattle.spf_ties.specs.Distances.{IsRoomFor};
 ghost use Rattle.form_search.specs.Sources.{Grows, IsCostPoint};
 ghost use Rattle.spread_sets.specs.declared.spread.SetRow.TheVariants.{Same};
-ghost use Rattle.spread_sets.specs.Spreads.{AreTied, Shares, SharesEach, edges_of, first_of, form_of_set_row, forms_of_set_rows};
-ghost use Rattle.cost_branching.specs.Rivals.{IsKept};
-ghost use Rattle.spread_sets.specs.MemberSets.{AreMemberSets, HasTree, IsReady, sets_in};
-ghost use Rattle.spread_sets.specs.Sources.{AreInStep, IsDearer, IsTooCheap, IsTrueOfSets, both_ways, set_at, tie_rows, ties_in};
-ghost use Rattle.spread_sets.specs.Asking.{AreAllAsked, IsAskedOf};
+ghost use Rattle.spread_sets.specs.Spreads.{AreTied, Shares, SharesEach, edges_of, name_of_set, form_of_set_row, forms_of_set_rows};
+ghost use Rattle.cost_branching.specs.Rivals.{IsProblemOnGraph};
+ghost use Rattle.spread_sets.specs.MemberSets.{AreMemberSets, HasTree, HasTreeWithin, sets_in};
+ghost use Rattle.spread_sets.specs.Sources.{IsPoolOfSets, OutsidersAreDearer, IsOutsiderTooCheap, IsTrueOfSets, both_ways, set_at, tie_rows, ties_in};
+ghost use Rattle.spread_sets.specs.Asking.{AreAllSetsAsked, IsSetAsked};
 
 use crate::member_sets::{MemberSet, first_of, most_places, request_of};
 use crate::row_forms::form_of_tie;
@@ -18,8 +18,8 @@ use crate::spread::SetRow;
 use area_graph::{Point, path_cost};
 use cost_base::OutOfMemory;
 use cost_branching::{keeps_conditions, row_of, variable_count};
+use design_problem::{Form, Problem, form_of};
 use form_search::{Asked, FormPool, RowSource};
-use path_rows::{Form, Problem, form_of};
 use set_separation::find_outsider;
 use spf_ties::Room;
 use std::alloc::Global;
@@ -28,7 +28,7 @@ use std::marker::{Brand, Model, PhantomData};
 /// The problem of a search and its sets, for proofs alone: each call of a search picks its own.
 pub(crate) trait Begun {
     ghost use Rattle.std.specs.Prelude.{ℕ, List};
-    ghost use Rattle.path_rows.specs.Problems.{DesignProblem};
+    ghost use Rattle.design_problem.specs.Problems.{DesignProblem};
 
     ghost problem: { DesignProblem };
 
@@ -63,7 +63,7 @@ pub(crate) struct Spreads<'a, B: Begun> {
 impl<'a, B: Begun> Model for Spreads<'a, B> {
     ghost use Rattle.std.specs.Prelude.{◌≡◌, length, All};
     ghost use Rattle.spf_ties.specs.Distances.{IsRoomFor};
-    ghost use Rattle.spread_sets.specs.MemberSets.{IsReady, sets_in};
+    ghost use Rattle.spread_sets.specs.MemberSets.{HasTreeWithin, sets_in};
     ghost use Rattle.spread_sets.specs.Sources.{KnownSets};
 
     ghost Value = { KnownSets };
@@ -74,7 +74,7 @@ impl<'a, B: Begun> Model for Spreads<'a, B> {
       problem : s.problem.now ≡ B.problem;
       sets : sets_in s.sets.items ≡ B.sets;
       room : IsRoomFor s.problem.now.graph s.room;
-      ready : All (IsReady s.problem.now (length s.costs.items)) s.sets.items;
+      ready : All (HasTreeWithin s.problem.now (length s.costs.items)) s.sets.items;
     } };
 }
 
@@ -115,11 +115,11 @@ fn is_beaten(
 ) -> bool
     requires room { IsRoomFor problem.now.graph room.old }
     requires point { IsCostPoint (length problem.now.low) point.now }
-    requires ready { IsReady problem.now (length costs.old.items) set.now }
+    requires ready { HasTreeWithin problem.now (length costs.old.items) set.now }
     requires tied { AreTied problem.now point.now set.now.members }
     ensures room { IsRoomFor problem.now.graph room.new }
     ensures count { length costs.new.items ≡ length costs.old.items }
-    ensures rival { MatchBool result (IsTooCheap problem.now point.now set.now.members room.new.path) (IsDearer problem.now point.now set.now.members) }
+    ensures rival { MatchBool result (IsOutsiderTooCheap problem.now point.now set.now.members room.new.path) (OutsidersAreDearer problem.now point.now set.now.members) }
 {
     keeps_conditions(problem);
     let first = first_of(set.members.as_slice());
@@ -177,7 +177,7 @@ impl<'a, B: Begun> Spreads<'a, B> {
 
     /// The problem keeps its conditions, and the sets theirs.
     fn keeps(&self)
-        ensures kept { IsKept self.now.problem }
+        ensures kept { IsProblemOnGraph self.now.problem }
         ensures sets { AreMemberSets self.now.problem self.now.sets }
     {
         keeps_conditions(self.problem);
@@ -209,7 +209,7 @@ impl<'a, B: Begun> Spreads<'a, B> {
     /// The number by which the set at a place is named.
     fn name(&self, place: usize) -> u32
         requires { place < length self.now.sets }
-        ensures { result ≡ first_of (set_at self.now.sets place) }
+        ensures { result ≡ name_of_set (set_at self.now.sets place) }
     {
         first_of(self.sets[place].members.as_slice())
     }
@@ -243,9 +243,9 @@ impl<'a, B: Begun> Spreads<'a, B> {
         requires place { place < length self.old.sets }
         requires first { Contains (set_at self.old.sets place) first }
         requires second { Contains (set_at self.old.sets place) second }
-        ensures row { OnOk result (self.new ≡ record self.old { rows = self.old.rows ++ Same (first_of (set_at self.old.sets place)) first second ∷ [] }) }
+        ensures row { OnOk result (self.new ≡ record self.old { rows = self.old.rows ++ Same (name_of_set (set_at self.old.sets place)) first second ∷ [] }) }
         ensures form { OnOk result (pool.new ≡ pool.old ++
-            form_of_set_row self.old.problem (Same (first_of (set_at self.old.sets place)) first second) ∷ []) }
+            form_of_set_row self.old.problem (Same (name_of_set (set_at self.old.sets place)) first second) ∷ []) }
     {
         self.keeps();
         let name = self.name(place);
@@ -265,9 +265,9 @@ impl<'a, B: Begun> Spreads<'a, B> {
         requires place { place < length self.old.sets }
         requires first { Contains (set_at self.old.sets place) first }
         requires second { Contains (set_at self.old.sets place) second }
-        ensures rows { OnOk result (self.new ≡ record self.old { rows = self.old.rows ++ both_ways (first_of (set_at self.old.sets place)) first second }) }
+        ensures rows { OnOk result (self.new ≡ record self.old { rows = self.old.rows ++ both_ways (name_of_set (set_at self.old.sets place)) first second }) }
         ensures forms { OnOk result (pool.new ≡ pool.old ++ forms_of_set_rows self.old.problem
-            (both_ways (first_of (set_at self.old.sets place)) first second)) }
+            (both_ways (name_of_set (set_at self.old.sets place)) first second)) }
     {
         self.push_tie(alloc, place, first, second, pool)?;
         self.push_tie(alloc, place, second, first, pool)?;
@@ -298,7 +298,7 @@ impl<'a, B: Begun> Spreads<'a, B> {
         requires rows { self.old.rows ≡ [] }
         requires forms { pool.old ≡ [] }
         ensures same { OnOk result (self.new ≡ record self.old { rows = tie_rows self.old.sets }) }
-        ensures in_step { OnOk result (AreInStep self.new pool.new) }
+        ensures in_step { OnOk result (IsPoolOfSets self.new pool.new) }
     {
         for place in 0..self.count() {
             self.push_ties(alloc, place, pool)?;
@@ -318,7 +318,7 @@ impl<'a, B: Begun> Spreads<'a, B> {
         requires point { IsCostPoint (length self.old.problem.low) point.now }
         requires place { place < length self.old.sets }
         requires tied { AreTied self.old.problem point.now (set_at self.old.sets place) }
-        ensures one { IfOk result (IsAskedOf point.now place self.old pool.old self.new pool.new) }
+        ensures one { IfOk result (IsSetAsked point.now place self.old pool.old self.new pool.new) }
         ensures same_rows { OnErr result (self.new ≡ self.old) }
         ensures same_forms { OnErr result (pool.new ≡ pool.old) }
     {
@@ -359,10 +359,10 @@ impl<'a, B: Begun> Spreads<'a, B> {
         point: &Point,
         pool: &mut FormPool,
     ) -> Result<Asked, OutOfMemory>
-        requires in_step { AreInStep self.old pool.old }
+        requires in_step { IsPoolOfSets self.old pool.old }
         requires point { IsCostPoint (length self.old.problem.low) point.now }
         requires met { AreMet pool.old point.now }
-        ensures asked { IfOk result (AreAllAsked point.now self.old pool.old self.new pool.new) }
+        ensures asked { IfOk result (AreAllSetsAsked point.now self.old pool.old self.new pool.new) }
         ensures grows { Grows (IsTrueOfSets self.old.problem self.old.sets) pool.old pool.new }
         ensures problem { self.new.problem ≡ self.old.problem }
         ensures sets { self.new.sets ≡ self.old.sets }
@@ -395,8 +395,8 @@ impl<'a, B: Begun> Spreads<'a, B> {
 impl<'a, B: Begun> RowSource for Spreads<'a, B> {
     ghost use Rattle.std.specs.Prelude.{length};
     ghost use Rattle.spread_sets.specs.Spreads.{SharesEach};
-    ghost use Rattle.spread_sets.specs.Sources.{AreInStep, IsTrueOfSets, candidates_of};
-    ghost use Rattle.spread_sets.specs.SourceLaws.{scale_is_free, true_forms_hold, true_forms_listed};
+    ghost use Rattle.spread_sets.specs.Sources.{IsPoolOfSets, IsTrueOfSets, candidates_of};
+    ghost use Rattle.spread_sets.specs.SourceLaws.{set_scale_is_free, set_forms_hold, set_forms_listed};
 
     ghost count = { λ s. length s.problem.low };
 
@@ -404,7 +404,7 @@ impl<'a, B: Begun> RowSource for Spreads<'a, B> {
 
     ghost true_form = { λ s. IsTrueOfSets s.problem s.sets };
 
-    ghost in_step = { λ s forms. AreInStep s forms };
+    ghost in_step = { λ s forms. IsPoolOfSets s forms };
 
     ghost candidates = { λ s. candidates_of s.problem };
 
@@ -425,9 +425,9 @@ impl<'a, B: Begun> RowSource for Spreads<'a, B> {
         self.shares_each(point)
     }
 
-    ghost true_forms_hold = { λ s. true_forms_hold s.problem s.sets };
+    ghost true_forms_hold = { λ s. set_forms_hold s.problem s.sets };
 
-    ghost true_forms_listed = { λ s. true_forms_listed s.problem s.sets };
+    ghost true_forms_listed = { λ s. set_forms_listed s.problem s.sets };
 
-    ghost scale_is_free = { λ s. scale_is_free s.problem s.sets };
+    ghost scale_is_free = { λ s. set_scale_is_free s.problem s.sets };
 }

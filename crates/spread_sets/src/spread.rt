@@ -1,6 +1,6 @@
 //! What is found of the sets of a problem.
 use area_graph::Path;
-use path_rows::{CostList, Tree};
+use design_problem::{CostList, Tree};
 
 /// A row of a set, which is named by the least number in it.
 #[derive(Drop)]
@@ -26,7 +26,7 @@ pub enum Spread {
         tree: Tree,
     },
     /// The node budget was used up.
-    Unknown {
+    Undecided {
         /// The rows that the tree uses.
         rows: Vec<SetRow>,
         /// The unfinished tree over the box at the greatest upper bound.

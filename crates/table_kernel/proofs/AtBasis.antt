@@ -10,23 +10,23 @@ use Rattle.whole_numbers.specs.Fractions.{Fraction}
 use Rattle.whole_numbers.proofs.Ring.{var, num, ◌⊕◌, ◌⊗◌, ring}
 use Rattle.whole_numbers.proofs.FractionLaws.{cancel}
 use Rattle.whole_numbers.specs.Lists.{number_at}
-use Rattle.path_rows.specs.declared.form.Form.{Form}
-use Rattle.path_rows.specs.declared.form.CostBox.{CostBox}
-use Rattle.path_rows.specs.declared.tree.Member.{Member}
-use Rattle.path_rows.specs.declared.tree.Member.TheVariants.{Low}
-use Rattle.path_rows.specs.Basis.{IsFormOf, LeadsPositive, coordinate, forms_of, mixture, one_form}
-use Rattle.path_rows.specs.Boxes.{IsBox}
-use Rattle.path_rows.specs.Forms.{no_form, value}
+use Rattle.design_problem.specs.declared.form.Form.{Form}
+use Rattle.design_problem.specs.declared.form.CostBox.{CostBox}
+use Rattle.design_problem.specs.declared.tree.Member.{Member}
+use Rattle.design_problem.specs.declared.tree.Member.TheVariants.{Low}
+use Rattle.design_problem.specs.Basis.{IsFormOf, LeadsPositive, coordinate, forms_of, mixture, one_form}
+use Rattle.design_problem.specs.Boxes.{IsBox}
+use Rattle.design_problem.specs.Forms.{no_form, value_for_costs}
 use Rattle.fraction_table.specs.Pivots.{member_at}
 use Rattle.fraction_table.specs.Tableaus.{FitsBox}
-use Rattle.fraction_table.specs.Wholes.{AllLong, AreMixtures, IsLine, IsUnboxed, from_lows, low_forms, members_of, number_of}
+use Rattle.fraction_table.specs.ValidTables.{AllLong, AreMixtures, IsTableLine, IsUnboxed, from_lows, low_forms, members_of_box, number_of_form}
 use Rattle.fraction_table.proofs.theory.Zips.{zip_from}
 use Rattle.whole_numbers.proofs.Sizes.{size_positive}
 use Rattle.integer_pivots.proofs.Sizes.{number_within, size_most}
 use Rattle.table_kernel.specs.declared.kernel.Kernel.{Kernel}
-use Rattle.table_kernel.specs.Kernels.{IsBounded, IsKernel, IsMoving, IsShaped, lines_of, lows_of, stated, width_of}
+use Rattle.table_kernel.specs.Kernels.{IsBounded, IsKernel, IsMoving, IsShaped, kernel_lines, lows_of, stated, width_of}
 use Rattle.table_kernel.specs.Numbers.{fraction_line}
-use Rattle.table_kernel.specs.Turns.{form_in}
+use Rattle.table_kernel.specs.Turns.{form_of_place}
 use Rattle.table_kernel.proofs.Columns.{column_number, place_number_within}
 use Rattle.table_kernel.proofs.OverCommon.{over_numbers, over_stand, pos_size}
 
@@ -39,9 +39,9 @@ pub record AreAtBasis (costs : CostBox) (rows : List Form) (basis : List Member)
   pub positive : 0 < D
   pub long : AllLong (suc (length costs.low)) lows
   pub mixtures : AreMixtures D (forms_of costs rows basis) (low_forms (length costs.low) 0 costs.low) lows
-  pub own : (k : ℕ) → k < length costs.low → number_of D costs.low lows (slice_index_or (forms_of costs rows basis) k no_form) (suc k) ≡ pos D
+  pub own : (k : ℕ) → k < length costs.low → number_of_form D costs.low lows (slice_index_or (forms_of costs rows basis) k no_form) (suc k) ≡ pos D
   pub elsewhere : (k place : ℕ) → k < length costs.low → place ≤ length costs.low → place ≢ suc k →
-      number_of D costs.low lows (slice_index_or (forms_of costs rows basis) k no_form) place ≡ pos 0
+      number_of_form D costs.low lows (slice_index_or (forms_of costs rows basis) k no_form) place ≡ pos 0
   pub lead : (k : ℕ) → k < length costs.low → LeadsPositive (map (λ ts. number_at ts (suc k)) lows)
 
 pub at_basis : (top : ℕ) (costs : CostBox) (rows : List Form) (basis : List Member) (table : List (List Fraction))
@@ -62,7 +62,7 @@ at_basis top costs rows basis table u = record {
 -- with lines it is a table's
 abbrev pub unboxed_of : (top D : ℕ) (costs : CostBox) (rows : List Form) (basis : List Member) (lows : List (List ℤ))
     (table : List (List Fraction)) → AreAtBasis costs rows basis D lows →
-    AllZip (IsLine top D costs rows lows) (members_of costs (length rows)) table → IsUnboxed top costs rows basis table
+    AllZip (IsTableLine top D costs rows lows) (members_of_box costs (length rows)) table → IsUnboxed top costs rows basis table
 unboxed_of top D costs rows basis lows table b lines = record {
   high_count = b.high_count;
   counts = b.counts;
@@ -102,10 +102,10 @@ lows_up g (c ∷ cs) (ts ∷ lows) place =
 
 -- the numbers of any form are multiplied, too
 pub number_up : (D g : ℕ) (low : List ℕ) (lows : List (List ℤ)) (f : Form) (place : ℕ) →
-    number_of (D * g) low (map (scaled_by g) lows) f place ≡ (number_of D low lows f place *ℤ pos g)
+    number_of_form (D * g) low (map (scaled_by g) lows) f place ≡ (number_of_form D low lows f place *ℤ pos g)
 number_up D g low lows f zero =
-    ap (λ z. (pos (D * g) *ℤ value f low) +ℤ z) (lows_up g f.coefficients lows 0)
-    ∙ ring (pos D ∷ pos g ∷ value f low ∷ from_lows f.coefficients lows 0 ∷ []) ((var 0 ⊗ var 1) ⊗ var 2 ⊕ var 3 ⊗ var 1) ((var 0 ⊗ var 2 ⊕ var 3) ⊗ var 1) refl
+    ap (λ z. (pos (D * g) *ℤ value_for_costs f low) +ℤ z) (lows_up g f.coefficients lows 0)
+    ∙ ring (pos D ∷ pos g ∷ value_for_costs f low ∷ from_lows f.coefficients lows 0 ∷ []) ((var 0 ⊗ var 1) ⊗ var 2 ⊕ var 3 ⊗ var 1) ((var 0 ⊗ var 2 ⊕ var 3) ⊗ var 1) refl
 number_up D g low lows f (suc k) = lows_up g f.coefficients lows (suc k)
 
 mixture_up : (g : ℕ) (ms : List ℤ) (fs : List Form) (i : ℕ) → mixture (scaled_by g ms) fs i ≡ (mixture ms fs i *ℤ pos g)
@@ -172,10 +172,10 @@ scaled_down costs rows basis D g lows D_positive g_positive b = record {
     none n = ring (pos n ∷ []) (num (pos 0)) (num (pos 0) ⊗ var 0) refl
 
 -- the lines of a table that is stated are those of the kernel
-pub stated_lines : (k : Kernel) → IsShaped k → (stated k).lines.items ≡ lines_of k
+pub stated_lines : (k : Kernel) → IsShaped k → (stated k).lines.items ≡ kernel_lines k
 stated_lines k s =
-    with_items_is k.table.lines (lines_of k)
-    (length-map (members_of k.table.costs (length k.table.rows.items)) (fraction_line (nat_abs k.common) k.table.costs k.table.rows.items (lows_of k))
+    with_items_is k.table.lines (kernel_lines k)
+    (length-map (members_of_box k.table.costs (length k.table.rows.items)) (fraction_line (nat_abs k.common) k.table.costs k.table.rows.items (lows_of k))
     ∙ sym s.constants
     ∙ sym s.lines
     ∙ sym k.table.lines.ok.0)
@@ -183,7 +183,7 @@ stated_lines k s =
 -- the constants that a kernel holds are those of its forms
 abbrev pub ConstantsAre : Kernel → Type 0
 ConstantsAre k = (place : ℕ) → place < length k.constants.items →
-    number_at k.constants.items place ≡ number_of (nat_abs k.common) k.table.costs.low (lows_of k) (form_in k place) 0
+    number_at k.constants.items place ≡ number_of_form (nat_abs k.common) k.table.costs.low (lows_of k) (form_of_place k place) 0
 
 -- the basis of a kernel, and a kernel of a basis
 pub moving_basis : (k : Kernel) → IsMoving k → AreAtBasis k.table.costs k.table.rows.items k.table.basis.items (nat_abs k.common) (lows_of k) × ConstantsAre k
@@ -195,8 +195,8 @@ moving_basis k m =
       subst (AreAtBasis k.table.costs k.table.rows.items k.table.basis.items (nat_abs k.common)) m.numbers.lows b,
       λ place place_in.
           m.numbers.constants place place_in
-          ∙ ap (λ D. number_of D k.table.costs.low u.lows (form_in k place) 0) common
-          ∙ ap (λ lows. number_of (nat_abs k.common) k.table.costs.low lows (form_in k place) 0) m.numbers.lows,
+          ∙ ap (λ D. number_of_form D k.table.costs.low u.lows (form_of_place k place) 0) common
+          ∙ ap (λ lows. number_of_form (nat_abs k.common) k.table.costs.low lows (form_of_place k place) 0) m.numbers.lows,
     )
 
 -- a kernel whose bounds moved is one again, where the ranges are a box that the rows fit
@@ -212,22 +212,22 @@ kernel_basis k m = moving_basis k (kernel_moves k m)
 -- no number of a place's form is greater than the limit of constants
 number_small : (k : Kernel) (s : IsShaped k) (b : IsBounded k) (c : ConstantsAre k) (line : ℕ) →
     line < length k.constants.items → (place : ℕ) →
-    nat_abs (number_of (nat_abs k.common) k.table.costs.low (lows_of k) (form_in k line) place) ≤ 2 ^ 39
+    nat_abs (number_of_form (nat_abs k.common) k.table.costs.low (lows_of k) (form_of_place k line) place) ≤ 2 ^ 39
 number_small k s b c line line_in zero =
     subst (λ (z : ℤ). nat_abs z ≤ 2 ^ 39) (c line line_in) (number_within (2 ^ 39) k.constants.items line b.constants)
 number_small k s b c line line_in (suc column) =
     let small = place_number_within k s b line line_in column in
-    subst (λ (z : ℤ). nat_abs z ≤ 2 ^ 39) (sym (column_number k s (nat_abs k.common) k.table.costs.low (form_in k line) column)) (omega (arith, small))
+    subst (λ (z : ℤ). nat_abs z ≤ 2 ^ 39) (sym (column_number k s (nat_abs k.common) k.table.costs.low (form_of_place k line) column)) (omega (arith, small))
 
 -- the line of a place
 pub line_is : (k : Kernel) → IsShaped k → IsBounded k → ConstantsAre k → (line : ℕ) → line < length k.constants.items →
-    IsLine k.table.top (nat_abs k.common) k.table.costs k.table.rows.items (lows_of k) (member_at k.table line)
+    IsTableLine k.table.top (nat_abs k.common) k.table.costs k.table.rows.items (lows_of k) (member_at k.table line)
     (fraction_line (nat_abs k.common) k.table.costs k.table.rows.items (lows_of k) (member_at k.table line))
 line_is k s b c line line_in =
     let D = nat_abs k.common in
     let positive : 0 < D = size_positive k.common b.positive in
     let small : D ≤ 2 ^ 22 = size_most k.common (2 ^ 22) b.positive b.common in
-    let number = number_of D k.table.costs.low (lows_of k) (form_in k line) in
+    let number = number_of_form D k.table.costs.low (lows_of k) (form_of_place k line) in
     let most : (place : ℕ) → nat_abs (number place) ≤ k.table.top = λ place. let n = number_small k s b c line line_in place in omega (arith, n, b.top) in
     record {
       numbers = over_numbers k.table.top D number 0 (suc (width_of k)) positive (omega (arith, small, b.top)) most;
@@ -235,14 +235,14 @@ line_is k s b c line line_in =
     }
 
 lines_are : (k : Kernel) → IsShaped k → IsBounded k → ConstantsAre k →
-    AllZip (IsLine k.table.top (nat_abs k.common) k.table.costs k.table.rows.items (lows_of k))
-    (members_of k.table.costs (length k.table.rows.items)) (lines_of k)
+    AllZip (IsTableLine k.table.top (nat_abs k.common) k.table.costs k.table.rows.items (lows_of k))
+    (members_of_box k.table.costs (length k.table.rows.items)) (kernel_lines k)
 lines_are k s b c =
-    let members = members_of k.table.costs (length k.table.rows.items) in
+    let members = members_of_box k.table.costs (length k.table.rows.items) in
     let line_of = fraction_line (nat_abs k.common) k.table.costs k.table.rows.items (lows_of k) in
-    zip_from (IsLine k.table.top (nat_abs k.common) k.table.costs k.table.rows.items (lows_of k)) members (lines_of k) (Low 0 0) []
+    zip_from (IsTableLine k.table.top (nat_abs k.common) k.table.costs k.table.rows.items (lows_of k)) members (kernel_lines k) (Low 0 0) []
     (sym (length-map members line_of))
-    (λ line line_in. subst (IsLine k.table.top (nat_abs k.common) k.table.costs k.table.rows.items (lows_of k)
+    (λ line line_in. subst (IsTableLine k.table.top (nat_abs k.common) k.table.costs k.table.rows.items (lows_of k)
     (member_at k.table line)) (sym (get_or-map line_of members line (Low 0 0) [] line_in))
     (line_is k s b c line (subst (λ (n : ℕ). line < n) (sym s.constants) line_in)))
 
@@ -251,8 +251,8 @@ pub basis_moving : (k : Kernel) → IsShaped k → IsBounded k →
     ConstantsAre k → IsMoving k
 basis_moving k s b a c =
     let D = nat_abs k.common in
-    let lines = subst (AllZip (IsLine k.table.top D k.table.costs k.table.rows.items (lows_of k))
-    (members_of k.table.costs (length k.table.rows.items))) (sym (stated_lines k s)) (lines_are k s b c) in
+    let lines = subst (AllZip (IsTableLine k.table.top D k.table.costs k.table.rows.items (lows_of k))
+    (members_of_box k.table.costs (length k.table.rows.items))) (sym (stated_lines k s)) (lines_are k s b c) in
     record {
       shaped = s;
       bounded = b;

@@ -1,11 +1,11 @@
 -- The moves of a lower bound and of an upper one.
 use Rattle.std.proofs.Common.{◌≡◌, ℕ, ◌+◌, ◌*◌, ◌^◌, ◌<◌, sym, ◌∙◌, ap, subst, List, map, length, arith, drop}
 use Rattle.std.specs.Prelude.{ℤ, pos, ◌-ℤ◌, ◌*ℤ◌, Option, None, Some, nat_abs, slice_index, slice_set}
-use Rattle.path_rows.specs.declared.form.CostBox.{CostBox}
-use Rattle.path_rows.specs.declared.tree.Member.{Member}
-use Rattle.path_rows.specs.declared.tree.Member.TheVariants.{Low, High}
-use Rattle.path_rows.specs.Basis.{forms_of, member_form}
-use Rattle.path_rows.specs.Boxes.{with_high, with_low}
+use Rattle.design_problem.specs.declared.form.CostBox.{CostBox}
+use Rattle.design_problem.specs.declared.tree.Member.{Member}
+use Rattle.design_problem.specs.declared.tree.Member.TheVariants.{Low, High}
+use Rattle.design_problem.specs.Basis.{forms_of, member_form}
+use Rattle.design_problem.specs.Boxes.{with_high, with_low}
 use Rattle.fraction_table.specs.Moves.{IsColumnOf, IsMoved}
 use Rattle.fraction_table.proofs.Bases.{members_begin}
 use Rattle.fraction_table.proofs.MovedTables.{high_fall, high_moved, low_fall, low_moved, raised_rows}
@@ -17,7 +17,7 @@ use Rattle.std.proofs.lemmas.Int.{ints}
 use Rattle.std.proofs.lemmas.List.{length-map}
 use Rattle.table_kernel.specs.declared.kernel.Kernel.{Kernel}
 use Rattle.table_kernel.specs.Kernels.{IsMoving, stated, width_of}
-use Rattle.table_kernel.specs.Moves.{IsShifted, KeepsOthers}
+use Rattle.table_kernel.specs.Moves.{IsKernelShifted, KeepsInMove}
 use Rattle.table_kernel.specs.Turns.{MayMove, step_of}
 use Rattle.table_kernel.proofs.Columns.{lows_few}
 use Rattle.table_kernel.proofs.MovedConstants.{room_left}
@@ -92,7 +92,7 @@ put_lows s now = put_costs s (record { low = now; high = s.table.costs.high })
 abbrev pub put_highs : Kernel → List ℕ → Kernel
 put_highs s now = put_costs s (record { low = s.table.costs.low; high = now })
 
-others_kept : (k s : Kernel) (now : CostBox) → KeepsOthers k s → KeepsOthers k (put_costs s now)
+others_kept : (k s : Kernel) (now : CostBox) → KeepsInMove k s → KeepsInMove k (put_costs s now)
 others_kept k s now o = record {
   top = o.top;
   rows = o.rows;
@@ -111,16 +111,16 @@ others_kept k s now o = record {
 }
 
 pub low_moves : (k s : Kernel) (m : IsMoving k) (v bound low : ℕ) (fall : ℤ) (now : List ℕ) → v < width_of k →
-    KeepsOthers k s → s.table.costs ≡ k.table.costs → low ≡ slice_index k.table.costs.low v →
-    fall ≡ (pos bound -ℤ pos low) → IsShifted k s v (Low v low) (Low v bound) fall →
+    KeepsInMove k s → s.table.costs ≡ k.table.costs → low ≡ slice_index k.table.costs.low v →
+    fall ≡ (pos bound -ℤ pos low) → IsKernelShifted k s v (Low v low) (Low v bound) fall →
     now ≡ slice_set s.table.costs.low v bound →
     MayMove k (nat_abs (pos bound -ℤ pos (slice_index k.table.costs.low v))) →
     IsMoving (put_lows s now) × IsMoved (stated k) (with_low k.table.costs v bound) (stated (put_lows s now))
 low_moves k s m v bound low fall now v_in keeps costs_same low_is fall_is shifted now_is may =
     let fall_at : fall ≡ (pos bound -ℤ pos (slice_index k.table.costs.low v)) = fall_is ∙ ap (λ (l : ℕ). pos bound -ℤ pos l) low_is in
-    let sh = subst (λ (l : ℕ). IsShifted k s v (Low v l) (Low v bound)
+    let sh = subst (λ (l : ℕ). IsKernelShifted k s v (Low v l) (Low v bound)
     (pos bound -ℤ pos (slice_index k.table.costs.low v))) low_is
-    (subst (λ z. IsShifted k s v (Low v low) (Low v bound) z) fall_at shifted) in
+    (subst (λ z. IsKernelShifted k s v (Low v low) (Low v bound) z) fall_at shifted) in
     let costs_are : record { low = now; high = s.table.costs.high } ≡ with_low k.table.costs v bound =
     ap (λ (bs : List ℕ). record { low = bs; high = s.table.costs.high }) now_is ∙ ap (λ (costs : CostBox). with_low costs v bound) costs_same in
     moved_moving k (put_lows s now) m (with_low k.table.costs v bound) _ (Low v (slice_index k.table.costs.low v))
@@ -134,18 +134,18 @@ low_moves k s m v bound low fall now v_in keeps costs_same low_is fall_is shifte
     }) may
 
 pub high_moves : (k s : Kernel) (m : IsMoving k) (v bound high own : ℕ) (fall : ℤ) (now : List ℕ) → v < width_of k →
-    own ≡ width_of k + v → KeepsOthers k s → s.table.costs ≡ k.table.costs → high ≡ slice_index k.table.costs.high v →
-    fall ≡ (pos high -ℤ pos bound) → IsShifted k s own (High v high) (High v bound) fall →
+    own ≡ width_of k + v → KeepsInMove k s → s.table.costs ≡ k.table.costs → high ≡ slice_index k.table.costs.high v →
+    fall ≡ (pos high -ℤ pos bound) → IsKernelShifted k s own (High v high) (High v bound) fall →
     now ≡ slice_set s.table.costs.high v bound →
     MayMove k (nat_abs (pos (slice_index k.table.costs.high v) -ℤ pos bound)) → IsMoving (put_highs s now)
     × IsMoved (stated k) (with_high k.table.costs v bound) (stated (put_highs s now))
 high_moves k s m v bound high own fall now v_in own_is keeps costs_same high_is fall_is shifted now_is may =
     let fall_at : fall ≡ (pos (slice_index k.table.costs.high v) -ℤ pos bound) = fall_is ∙ ap (λ (h : ℕ). pos h -ℤ pos bound) high_is in
-    let sh = subst (λ (place : ℕ). IsShifted k s place (High v (slice_index k.table.costs.high v)) (High v bound)
+    let sh = subst (λ (place : ℕ). IsKernelShifted k s place (High v (slice_index k.table.costs.high v)) (High v bound)
     (pos (slice_index k.table.costs.high v) -ℤ pos bound)) own_is
-    (subst (λ (h : ℕ). IsShifted k s own (High v h) (High v bound)
+    (subst (λ (h : ℕ). IsKernelShifted k s own (High v h) (High v bound)
     (pos (slice_index k.table.costs.high v) -ℤ pos bound)) high_is
-    (subst (λ z. IsShifted k s own (High v high) (High v bound) z) fall_at shifted)) in
+    (subst (λ z. IsKernelShifted k s own (High v high) (High v bound) z) fall_at shifted)) in
     let costs_are : record { low = s.table.costs.low; high = now } ≡ with_high k.table.costs v bound =
     ap (λ (bs : List ℕ). record { low = s.table.costs.low; high = bs }) now_is ∙ ap (λ (costs : CostBox). with_high costs v bound) costs_same in
     moved_moving k (put_highs s now) m (with_high k.table.costs v bound) _ (High v (slice_index k.table.costs.high v))
@@ -160,7 +160,7 @@ high_moves k s m v bound high own fall now v_in own_is keeps costs_same high_is 
 
 -- the room that is left
 pub shift_room : (k s : Kernel) (m : IsMoving k) (own : ℕ) (before after : Member) (fall : ℤ) (far more : ℕ) →
-    own < length k.constants.items → KeepsOthers k s → IsShifted k s own before after fall → nat_abs fall ≡ far →
+    own < length k.constants.items → KeepsInMove k s → IsKernelShifted k s own before after fall → nat_abs fall ≡ far →
     MayMove k (far + more) → MayMove s more
 shift_room k s m own before after fall far more own_in keeps shifted far_is may =
     let step_is : step_of s ≡ step_of k =

@@ -2,14 +2,14 @@
 use Rattle.std.proofs.Common.{◌≡◌, ℕ, suc, ◌+◌, ◌*◌, ◌<◌, sym, ◌∙◌, ap, subst, List, length, arith}
 use Rattle.std.specs.Prelude.{pos, ◌-ℤ◌, nat_abs, slice_index, All}
 use Rattle.std.proofs.lemmas.Int.{ints}
-use Rattle.path_rows.specs.declared.form.Form.{Form}
-use Rattle.path_rows.specs.declared.form.CostBox.{CostBox}
-use Rattle.path_rows.specs.Boxes.{IsBox}
+use Rattle.design_problem.specs.declared.form.Form.{Form}
+use Rattle.design_problem.specs.declared.form.CostBox.{CostBox}
+use Rattle.design_problem.specs.Boxes.{IsBox}
 use Rattle.fraction_table.specs.Tableaus.{FitsBox, between}
 use Rattle.fraction_table.proofs.BetweenBoxes.{AreAlike, at_between}
 use Rattle.table_kernel.specs.declared.kernel.Kernel.{Kernel}
 use Rattle.table_kernel.specs.Kernels.{IsKernel, IsMoving, width_of}
-use Rattle.table_kernel.specs.Turns.{KeepsBounds, MayMove, step_of}
+use Rattle.table_kernel.specs.Turns.{KeepsNumberBounds, MayMove, step_of}
 use Rattle.table_kernel.proofs.AtBasis.{moved_kernel}
 use Rattle.table_kernel.proofs.Distances.{left_of, left_step}
 
@@ -81,7 +81,7 @@ high_may old t costs v bound alike v_in bound_is costs_are may =
     (high_room old t costs v bound alike v_in bound_is costs_are may)
 
 -- what two moves in a row keep
-pub both_keep : (old t s : Kernel) → KeepsBounds old t → KeepsBounds t s → KeepsBounds old s
+pub both_keep : (old t s : Kernel) → KeepsNumberBounds old t → KeepsNumberBounds t s → KeepsNumberBounds old s
 both_keep old t s first second =
     record {
       top = second.top ∙ first.top;
@@ -94,7 +94,7 @@ both_keep old t s first second =
     }
 
 -- in the box that it moved to it is a kernel
-pub settled : (old s : Kernel) (costs : CostBox) → IsMoving s → KeepsBounds old s → s.table.costs ≡ costs →
+pub settled : (old s : Kernel) (costs : CostBox) → IsMoving s → KeepsNumberBounds old s → s.table.costs ≡ costs →
     IsBox (width_of old) costs → All (FitsBox costs) old.table.rows.items → IsKernel s
 settled old s costs m keeps costs_are box fit =
     moved_kernel s m

@@ -9,13 +9,13 @@ use Rattle.std.proofs.lemmas.List.Sums.{sum_by-cons}
 use Rattle.whole_numbers.proofs.Ring.{var, num, neg, ◌⊗◌, ring}
 use Rattle.whole_numbers.specs.Lists.{number_at}
 use Rattle.whole_numbers.proofs.Sizes.{sum_size}
-use Rattle.path_rows.specs.declared.form.Form.{Form}
-use Rattle.path_rows.specs.declared.tree.Member.{Member}
-use Rattle.path_rows.specs.declared.tree.Member.TheVariants.{Low, High, Row}
-use Rattle.path_rows.specs.Forms.{no_form, value}
-use Rattle.path_rows.specs.Basis.{IsFormOf, member_form, unit}
+use Rattle.design_problem.specs.declared.form.Form.{Form}
+use Rattle.design_problem.specs.declared.tree.Member.{Member}
+use Rattle.design_problem.specs.declared.tree.Member.TheVariants.{Low, High, Row}
+use Rattle.design_problem.specs.Forms.{no_form, value_for_costs}
+use Rattle.design_problem.specs.Basis.{IsFormOf, member_form, unit}
 use Rattle.fraction_table.specs.Pivots.{member_at}
-use Rattle.fraction_table.specs.Wholes.{from_lows, number_of}
+use Rattle.fraction_table.specs.ValidTables.{from_lows, number_of_form}
 use Rattle.fraction_table.proofs.Pivots.{members_long}
 use Rattle.fraction_table.proofs.StartingTables.{members_are}
 use Rattle.fraction_table.proofs.theory.Units.{unit_from_lows}
@@ -23,8 +23,8 @@ use Rattle.integer_pivots.specs.Numbers.{AllWithin, product_sum, weight_of}
 use Rattle.integer_pivots.proofs.Sizes.{number_within}
 use Rattle.table_kernel.specs.declared.kernel.Kernel.{Kernel}
 use Rattle.table_kernel.specs.Kernels.{IsBounded, IsShaped, lows_of, width_of}
-use Rattle.table_kernel.specs.Numbers.{lows_by, number_in}
-use Rattle.table_kernel.specs.Turns.{column_of, form_in}
+use Rattle.table_kernel.specs.Numbers.{lows_by, number_at_column}
+use Rattle.table_kernel.specs.Turns.{column_of, form_of_place}
 
 -- at a column, a sum over the numbers of x - low is one over a number for each variable
 pub from_lows_by : (cs constants : List ℤ) (rows : List (List ℤ)) (c : ℕ) → length rows ≤ length constants →
@@ -46,14 +46,14 @@ from_lows_first (x ∷ cs) (z ∷ constants) (row ∷ rows) few many = ap (λ s.
 pub lows_few : (k : Kernel) → IsShaped k → length k.lows.items ≤ length k.constants.items
 lows_few k s = omega (arith, s.lows, s.constants, members_long k.table.costs (length k.table.rows.items))
 
-pub column_number : (k : Kernel) → IsShaped k → (D : ℕ) (low : List ℕ) (f : Form) (c : ℕ) → number_of D low (lows_of k) f (suc c) ≡ number_in f (column_of k c)
+pub column_number : (k : Kernel) → IsShaped k → (D : ℕ) (low : List ℕ) (f : Form) (c : ℕ) → number_of_form D low (lows_of k) f (suc c) ≡ number_at_column f (column_of k c)
 column_number k s D low f c = from_lows_by f.coefficients k.constants.items k.lows.items c (lows_few k s)
 
 pub constant_number : (k : Kernel) → IsShaped k → (D : ℕ) (low : List ℕ) (f : Form) →
     length f.coefficients ≤ width_of k →
-    number_of D low (lows_of k) f 0 ≡ ((pos D *ℤ value f low) +ℤ product_sum f.coefficients k.constants.items)
+    number_of_form D low (lows_of k) f 0 ≡ ((pos D *ℤ value_for_costs f low) +ℤ product_sum f.coefficients k.constants.items)
 constant_number k s D low f few =
-    ap (λ z. (pos D *ℤ value f low) +ℤ z) (from_lows_first f.coefficients k.constants.items k.lows.items (omega (arith, s.lows, few)) (lows_few k s))
+    ap (λ z. (pos D *ℤ value_for_costs f low) +ℤ z) (from_lows_first f.coefficients k.constants.items k.lows.items (omega (arith, s.lows, few)) (lows_few k s))
 
 pub column_long : (k : Kernel) → IsShaped k → (c : ℕ) → length (column_of k c) ≡ width_of k
 column_long k s c = length-map k.lows.items (λ (row : List ℤ). number_at row c) ∙ s.lows
@@ -76,12 +76,12 @@ unit_sum n v c zs v_in counted =
     ∙ ap (λ (ts : List ℤ). c *ℤ number_at ts 0) (get_or-map (λ (z : ℤ). z ∷ []) zs v (pos 0) [] (omega (arith, v_in, counted)))
 
 pub low_number_in : (n : ℕ) (rows : List Form) (v bound : ℕ) (zs : List ℤ) → v < n → n ≡ length zs →
-    number_in (member_form n rows (Low v bound)) zs ≡ number_at zs v
+    number_at_column (member_form n rows (Low v bound)) zs ≡ number_at zs v
 low_number_in n rows v bound zs v_in counted =
     unit_sum n v (pos 1) zs v_in counted ∙ ring (number_at zs v ∷ []) (num (pos 1) ⊗ var 0) (var 0) refl
 
 pub high_number_in : (n : ℕ) (rows : List Form) (v bound : ℕ) (zs : List ℤ) → v < n → n ≡ length zs →
-    number_in (member_form n rows (High v bound)) zs ≡ neg_ℤ (number_at zs v)
+    number_at_column (member_form n rows (High v bound)) zs ≡ neg_ℤ (number_at zs v)
 high_number_in n rows v bound zs v_in counted =
     unit_sum n v (negsuc 0) zs v_in counted ∙ ring (number_at zs v ∷ []) (num (negsuc 0) ⊗ var 0) (neg (var 0)) refl
 
@@ -110,7 +110,7 @@ reach_within reach weight some product = omega (arith, product, mul-le-mul_right
 -- those of a form of the box or of the rows are at most reach times weight
 pub form_number_size : (k : Kernel) → IsShaped k → IsBounded k → (member : Member) →
     IsFormOf k.table.costs k.table.rows.items member → (c : ℕ) →
-    nat_abs (number_in (member_form (width_of k) k.table.rows.items member) (column_of k c))
+    nat_abs (number_at_column (member_form (width_of k) k.table.rows.items member) (column_of k c))
     ≤ nat_abs k.reach * nat_abs k.weight
 form_number_size k s b (Low v bound) of c =
     let some : 1 ≤ nat_abs k.weight = omega (arith, ints, b.weight) in
@@ -131,12 +131,12 @@ form_number_size k s b (Row row) of c =
 -- and so within the limit
 pub form_number_within : (k : Kernel) → IsShaped k → IsBounded k → (member : Member) →
     IsFormOf k.table.costs k.table.rows.items member → (c : ℕ) →
-    nat_abs (number_in (member_form (width_of k) k.table.rows.items member) (column_of k c)) ≤ 2 ^ 22
+    nat_abs (number_at_column (member_form (width_of k) k.table.rows.items member) (column_of k c)) ≤ 2 ^ 22
 form_number_within k s b member of c = omega (arith, form_number_size k s b member of c, b.product)
 
 pub place_is : (k : Kernel) → IsShaped k → (place : ℕ) → place < length k.constants.items → IsFormOf k.table.costs k.table.rows.items (member_at k.table place)
 place_is k s place place_in = members_are k.table.costs k.table.rows.items place (Low 0 0) (omega (arith, s.constants, place_in))
 
 pub place_number_within : (k : Kernel) → IsShaped k → IsBounded k → (place : ℕ) → place < length k.constants.items →
-    (c : ℕ) → nat_abs (number_in (form_in k place) (column_of k c)) ≤ 2 ^ 22
+    (c : ℕ) → nat_abs (number_at_column (form_of_place k place) (column_of k c)) ≤ 2 ^ 22
 place_number_within k s b place place_in c = form_number_within k s b (member_at k.table place) (place_is k s place place_in) c

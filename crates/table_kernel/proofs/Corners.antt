@@ -12,17 +12,17 @@ use Rattle.whole_numbers.proofs.Divisors.{gcd_is, quotient_positive}
 use Rattle.whole_numbers.proofs.Ring.{var, ◌⊗◌, ring}
 use Rattle.area_graph.specs.declared.Point.{Point}
 use Rattle.whole_numbers.specs.Lists.{number_at}
-use Rattle.path_rows.specs.Basis.{entry, member_form}
-use Rattle.path_rows.specs.Earnest.{IsLeast}
-use Rattle.path_rows.specs.Forms.{AreMet}
+use Rattle.design_problem.specs.Basis.{entry, member_form}
+use Rattle.design_problem.specs.Earnest.{IsLeastPoint}
+use Rattle.design_problem.specs.Forms.{AreMet}
 use Rattle.fraction_rows.proofs.RowLaws.{number_at as number_there}
-use Rattle.fraction_table.specs.Pivots.{AreHigh, line_at, line_numbers, member_at}
+use Rattle.fraction_table.specs.Pivots.{AreHigh, line_at, numbers_of_line, member_at}
 use Rattle.fraction_table.proofs.CornerLeast.{corner_is_least}
 use Rattle.fraction_table.proofs.CornerPoints.{same_point}
 use Rattle.fraction_table.proofs.CornerScales.{corner_at, same_sum}
 use Rattle.fraction_table.proofs.Pivots.{line_long, lines_long, members_long, whole_line}
 use Rattle.fraction_table.proofs.Solutions.{corner_long, corner_of, corner_point, counted_lows, high_number}
-use Rattle.fraction_table.proofs.WholeTurns.{stand_at}
+use Rattle.fraction_table.proofs.IntegralTurns.{stand_at}
 use Rattle.fraction_table.proofs.theory.TurnedNumbers.{numbers_at, numbers_long}
 use Rattle.fraction_table.proofs.theory.Zips.{zip_from}
 use Rattle.integer_pivots.proofs.Sizes.{number_within, read_number}
@@ -112,7 +112,7 @@ high_at k m high line line_in =
     let f = member_form n k.table.rows.items (member_at t line) in
     let l = whole_line t w line line_in in
     let here = number_there t.top (line_at t line) 0 l.numbers (omega (arith, line_long t w line line_in)) in
-    let stands = stand_at w.unboxed.common (line_at t line) (line_numbers t w line) 0 l.stand
+    let stands = stand_at w.unboxed.common (line_at t line) (numbers_of_line t w line) 0 l.stand
     (omega (arith, numbers_long n w.unboxed.common t.costs.low w.unboxed.lows f)) in
     let place_in : line < length k.constants.items =
     omega (
@@ -123,8 +123,8 @@ high_at k m high line line_in =
       members_long k.table.costs (length k.table.rows.items),
     ) in
     let is = m.numbers.constants line place_in ∙ sym (numbers_at n w.unboxed.common t.costs.low w.unboxed.lows f 0 (omega arith)) in
-    let number : pos 0 ≤ℤ number_at (line_numbers t w line) 0 = subst (λ (z : ℤ). pos 0 ≤ℤ z) is (high line (pos 0) place_in) in
-    high_number (number_at (line_numbers t w line) 0) (entry (line_at t line) 0).numerator w.unboxed.common
+    let number : pos 0 ≤ℤ number_at (numbers_of_line t w line) 0 = subst (λ (z : ℤ). pos 0 ≤ℤ z) is (high line (pos 0) place_in) in
+    high_number (number_at (numbers_of_line t w line) 0) (entry (line_at t line) 0).numerator w.unboxed.common
     (entry (line_at t line) 0).denominator w.unboxed.positive here.lowest.positive (sym stands) number
 
 stated_high : (k : Kernel) (m : IsKernel k) → All (λ z. pos 0 ≤ℤ z) k.constants.items → AreHigh (stated k)
@@ -156,7 +156,7 @@ pub corner_least : (k : Kernel) (m : IsKernel k) → All (λ z. pos 0 ≤ℤ z) 
     IsDivisor k.common k.constants.items (width_of k) divisor → p.scale ≡ nat_abs k.common / divisor →
     length p.values ≡ width_of k →
     ((v : ℕ) → v < width_of k → slice_index p.values v ≡ value_over k divisor p.scale v) →
-    IsLeast (AreMet k.table.rows.items) k.table.costs p
+    IsLeastPoint (AreMet k.table.rows.items) k.table.costs p
 corner_least k m high divisor p d scale_is counted values =
     let t = stated k in
     let w = m.whole in

@@ -8,8 +8,8 @@ use Rattle.cost_base.specs.Lists.{Has}
 use lib.IntN.{zero-*ℤ}
 use Rattle.whole_numbers.proofs.FractionLaws.{product_positive}
 use Rattle.whole_numbers.specs.Lists.{number_at}
-use Rattle.path_rows.specs.Basis.{LeadsPositive}
-use Rattle.fraction_table.specs.Pivots.{LeadsNoNegative, numbers_in, turned_column}
+use Rattle.design_problem.specs.Basis.{LeadsPositive}
+use Rattle.fraction_table.specs.Pivots.{LeadsNoNegative, numbers_in_column, turned_column}
 use Rattle.fraction_table.proofs.ColumnOrders.{prefix_leads, zeros_lead, column_at, column_long, level_zero, greater_rise}
 use Rattle.integer_pivots.specs.Choices.{AreLatest, AreLeast, IsPositiveAt, crosswise}
 use Rattle.integer_pivots.specs.Leads.{AreLeads, IsLead}
@@ -18,10 +18,10 @@ use Rattle.integer_pivots.proofs.Narrowing.{has_at}
 use Rattle.whole_numbers.proofs.Sizes.{positive_is}
 use Rattle.integer_pivots.proofs.Sizes.{wider}
 use Rattle.integer_pivots.proofs.ColumnLeads.{positive_some}
-use Rattle.table_kernel.specs.Choices.{AreLeft, ComesFirst}
+use Rattle.table_kernel.specs.Choices.{AreColumnsLeft, ComesFirst}
 use Rattle.table_kernel.specs.declared.kernel.Kernel.{Kernel}
 use Rattle.table_kernel.specs.Kernels.{IsBounded, IsKernel, IsShaped, width_of}
-use Rattle.table_kernel.specs.Turns.{IsBestOf}
+use Rattle.table_kernel.specs.Turns.{IsBestColumn}
 use Rattle.table_kernel.proofs.Columns.{lows_few, reach_within}
 use Rattle.table_kernel.proofs.Pivoting.{columns_by}
 
@@ -31,14 +31,14 @@ lead_sign (pos zero) zs leads = inl (refl, leads)
 lead_sign (pos (suc n)) zs leads = inr (omega (arith, ints))
 lead_sign (negsuc n) zs leads = absurd leads
 
-pub lead_positive : (rows : List (List ℤ)) (c lead : ℕ) → LeadsPositive (numbers_in c rows) → IsLead rows c lead →
+pub lead_positive : (rows : List (List ℤ)) (c lead : ℕ) → LeadsPositive (numbers_in_column c rows) → IsLead rows c lead →
     (lead < length rows) × (pos 0 <ℤ number_at (slice_index_or rows lead []) c)
 lead_positive [] c lead leads is = absurd leads
-lead_positive (row ∷ rows) c zero leads is = elim (lead_sign (number_at row c) (numbers_in c rows) leads) [
+lead_positive (row ∷ rows) c zero leads is = elim (lead_sign (number_at row c) (numbers_in_column c rows) leads) [
   | inl none ↦ absurd (is.there (omega arith) none.0)
   | inr positive ↦ (omega arith, positive)
 ]
-lead_positive (row ∷ rows) c (suc lead) leads is = elim (lead_sign (number_at row c) (numbers_in c rows) leads) [
+lead_positive (row ∷ rows) c (suc lead) leads is = elim (lead_sign (number_at row c) (numbers_in_column c rows) leads) [
   | inl none ↦
       let rest : IsLead rows c lead =
       record {
@@ -70,20 +70,20 @@ module _ (rows : List (List ℤ)) (line : List ℤ) (c d : ℕ) (c_is : IsPositi
 
   column_zero : (u : ℕ) → u < length rows →
       crosswise (slice_index_or rows u []) line c d ≡ crosswise (slice_index_or rows u []) line d c →
-      number_at (turned_column own (numbers_in d rows) (pos others) (numbers_in c rows)) u ≡ pos 0
+      number_at (turned_column own (numbers_in_column d rows) (pos others) (numbers_in_column c rows)) u ≡ pos 0
   column_zero u u_in level =
       column_at own (pos others) d c rows u u_in ∙ level_zero (there u c) (there u d) own others (own_read u ∙ sym level ∙ sym (others_read u))
 
-  read_first : LeadsNoNegative (turned_column own (numbers_in d rows) (pos others) (numbers_in c rows)) → ComesFirst rows line c d
+  read_first : LeadsNoNegative (turned_column own (numbers_in_column d rows) (pos others) (numbers_in_column c rows)) → ComesFirst rows line c d
   read_first leads =
-      subst (λ z. LeadsNoNegative (turned_column own (numbers_in d rows) z (numbers_in c rows))) (sym (positive_is (number_at line d) d_is.1)) leads
+      subst (λ z. LeadsNoNegative (turned_column own (numbers_in_column d rows) z (numbers_in_column c rows))) (sym (positive_is (number_at line d) d_is.1)) leads
 
   pub level_first : ((u : ℕ) → u < length rows →
       crosswise (slice_index_or rows u []) line c d ≡ crosswise (slice_index_or rows u []) line d c) →
       ComesFirst rows line c d
   level_first level =
       read_first
-      (zeros_lead (turned_column own (numbers_in d rows) (pos others) (numbers_in c rows))
+      (zeros_lead (turned_column own (numbers_in_column d rows) (pos others) (numbers_in_column c rows))
       (λ u u_in. (let within : u < length rows = omega (arith, column_long own (pos others) d c rows, u_in) in column_zero u within (level u within))))
 
   pub less_first : (count : ℕ) → count < length rows →
@@ -93,7 +93,7 @@ module _ (rows : List (List ℤ)) (line : List ℤ) (c d : ℕ) (c_is : IsPositi
       ComesFirst rows line c d
   less_first count count_in level less =
       read_first
-      (prefix_leads (turned_column own (numbers_in d rows) (pos others) (numbers_in c rows)) count
+      (prefix_leads (turned_column own (numbers_in_column d rows) (pos others) (numbers_in_column c rows)) count
       (λ u u_in. column_zero u (omega (arith, u_in, count_in)) (level u u_in))
       (omega (arith, column_long own (pos others) d c rows, count_in))
       (subst (λ z. pos 0 <ℤ z) (sym (column_at own (pos others) d c rows count count_in))
@@ -110,8 +110,8 @@ times_positive (negsuc a) b a_is b_is = absurd (omega (arith, ints, a_is))
 
 -- those that lead latest have 0 before there, where the others have their first number, which is positive
 pub latest_left : (rows : List (List ℤ)) (line : List ℤ) (leads : List ℕ) (latest : ℕ) (left : List ℕ) →
-    length leads ≡ length line → AreLeads rows leads → ((c : ℕ) → c < length line → LeadsPositive (numbers_in c rows)) →
-    AreLatest line leads (length line) latest left → AreLeft rows line latest left
+    length leads ≡ length line → AreLeads rows leads → ((c : ℕ) → c < length line → LeadsPositive (numbers_in_column c rows)) →
+    AreLatest line leads (length line) latest left → AreColumnsLeft rows line latest left
 latest_left rows line leads latest left counted lead positive are = record {
   each = λ c has. (are.each c has).0;
   level = λ c d u has other before. none c d u has before ∙ sym (none d c u other before);
@@ -140,8 +140,8 @@ latest_left rows line leads latest left counted lead positive are = record {
 
 -- one more was
 pub one_more : (rows : List (List ℤ)) (line : List ℤ) (count : ℕ) (left least : List ℕ) → count < length rows →
-    AreLeft rows line count left → AreLeast (slice_index_or rows count []) line left least →
-    AreLeft rows line (count + 1) least
+    AreColumnsLeft rows line count left → AreLeast (slice_index_or rows count []) line left least →
+    AreColumnsLeft rows line (count + 1) least
 one_more rows line count left least count_in are narrow = record {
   each = λ c has. are.each c (narrow.within c has);
   level = λ c d u has other before. elim (cases_eq u count) [
@@ -168,7 +168,7 @@ only_one (x ∷ y ∷ ys) c d one has other = absurd (omega arith)
 
 -- where one is left, the other variables need no look
 pub one_left : (rows : List (List ℤ)) (line : List ℤ) (count more : ℕ) (left : List ℕ) → length left ≡ 1 →
-    AreLeft rows line count left → AreLeft rows line more left
+    AreColumnsLeft rows line count left → AreColumnsLeft rows line more left
 one_left rows line count more left one are = record {
   each = are.each;
   level = λ c d u has other before.
@@ -179,7 +179,7 @@ one_left rows line count more left one are = record {
 
 -- each column that is left comes first
 pub left_first : (rows : List (List ℤ)) (line : List ℤ) (left : List ℕ) (c d : ℕ) →
-    AreLeft rows line (length rows) left → Has left c → IsPositiveAt line d → ComesFirst rows line c d
+    AreColumnsLeft rows line (length rows) left → Has left c → IsPositiveAt line d → ComesFirst rows line c d
 left_first rows line left c d are has d_is =
     elim (are.others d d_is) [
       | inl other ↦ level_first rows line c d (are.each c has) d_is (λ u u_in. are.level c d u has other u_in)
@@ -208,19 +208,19 @@ latest_read k line leads latest left line_is leads_are are =
 
 pub left_of : (k : Kernel) (latest : ℕ) (left : List ℕ) → IsKernel k →
     AreLatest k.line.items k.leads.items (length k.line.items) latest left →
-    AreLeft k.lows.items k.line.items latest left
+    AreColumnsLeft k.lows.items k.line.items latest left
 left_of k latest left m are =
     latest_left k.lows.items k.line.items k.leads.items latest left (m.shaped.leads ∙ sym m.shaped.line) m.shaped.lead
     (λ c c_in. (let inside : c < width_of k = omega (arith, c_in, m.shaped.line) in
     subst LeadsPositive (columns_by k.constants.items k.lows.items c (lows_few k m.shaped))
-    (subst (λ (rows : List (List ℤ)). LeadsPositive (numbers_in (suc c) rows)) m.numbers.lows
+    (subst (λ (rows : List (List ℤ)). LeadsPositive (numbers_in_column (suc c) rows)) m.numbers.lows
     (m.whole.unboxed.lead c inside))))
     are
 
 -- the choice among those that are left at last
 pub chosen_best : (k : Kernel) (left : List ℕ) (best : ℕ) → IsShaped k →
-    AreLeft k.lows.items k.line.items (length k.lows.items) left → 0 < length left → best ≡ slice_index_or left 0 best →
-    IsBestOf k (Some best)
+    AreColumnsLeft k.lows.items k.line.items (length k.lows.items) left → 0 < length left → best ≡ slice_index_or left 0 best →
+    IsBestColumn k (Some best)
 chosen_best k left best s are some is =
     let has : Has left best = subst (Has left) (sym (is ∙ get_or_default left 0 best 0 some)) (has_at left 0 some) in
     let best_is = are.each best has in (
@@ -231,7 +231,7 @@ chosen_best k left best s are some is =
 
 -- and where there is none
 pub none_best : (k : Kernel) (latest : ℕ) (left : List ℕ) → IsShaped k →
-    AreLatest k.line.items k.leads.items (length k.line.items) latest left → length left ≡ 0 → IsBestOf k None
+    AreLatest k.line.items k.leads.items (length k.line.items) latest left → length left ≡ 0 → IsBestColumn k None
 none_best k latest left s are none c c_in =
     by_sign (number_at k.line.items c)
     (λ positive. (let inside : c < length k.line.items = omega (arith, c_in, s.line) in

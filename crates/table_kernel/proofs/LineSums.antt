@@ -5,9 +5,9 @@ use Rattle.std.proofs.lemmas.Int.{fits_signed_from_abs, ints}
 use Rattle.std.proofs.lemmas.List.{at_drop_all, get_or-map}
 use Rattle.whole_numbers.specs.Lists.{number_at}
 use Rattle.whole_numbers.proofs.Sizes.{sum_size}
-use Rattle.path_rows.specs.declared.form.Term.{Term}
-use Rattle.path_rows.specs.Forms.{terms_from, no_term}
-use Rattle.path_rows.proofs.TermLaws.{total, total_from, total_is, total_more}
+use Rattle.design_problem.specs.declared.form.Term.{Term}
+use Rattle.design_problem.specs.Forms.{terms_from, no_term}
+use Rattle.design_problem.proofs.TermLaws.{total, total_from, total_is, total_more}
 use Rattle.integer_pivots.specs.Numbers.{AllWithin, more_sums, product_sum}
 use Rattle.integer_pivots.proofs.Crossings.{product_small}
 use Rattle.integer_pivots.proofs.Sizes.{product_size, read, read_number}

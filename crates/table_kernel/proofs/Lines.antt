@@ -10,13 +10,13 @@ use Rattle.cost_base.proofs.ListLemmas.{get_or-map-numbers_from, length-map-numb
 use Rattle.whole_numbers.proofs.Ring.{var, num, neg, ◌⊖◌, ◌⊗◌, ring}
 use Rattle.whole_numbers.proofs.Sizes.{factor_most}
 use Rattle.whole_numbers.specs.Lists.{number_at}
-use Rattle.path_rows.specs.declared.form.Form.{Form}
-use Rattle.path_rows.specs.declared.tree.Member.{Member}
-use Rattle.path_rows.specs.declared.tree.Member.TheVariants.{Low, High, Row}
-use Rattle.path_rows.specs.Forms.{no_form}
-use Rattle.path_rows.specs.Basis.{member_form}
+use Rattle.design_problem.specs.declared.form.Form.{Form}
+use Rattle.design_problem.specs.declared.tree.Member.{Member}
+use Rattle.design_problem.specs.declared.tree.Member.TheVariants.{Low, High, Row}
+use Rattle.design_problem.specs.Forms.{no_form}
+use Rattle.design_problem.specs.Basis.{member_form}
 use Rattle.fraction_table.specs.Pivots.{member_at}
-use Rattle.fraction_table.specs.Wholes.{members_of}
+use Rattle.fraction_table.specs.ValidTables.{members_of_box}
 use Rattle.fraction_table.proofs.Bases.{members_begin}
 use Rattle.fraction_table.proofs.Pivots.{high_place, members_long, row_place}
 use Rattle.fraction_table.proofs.StartingTables.{members_are}
@@ -24,8 +24,8 @@ use Rattle.integer_pivots.specs.Numbers.{AllWithin, weight_of}
 use Rattle.integer_pivots.proofs.Sizes.{number_within, read, read_number, wider}
 use Rattle.table_kernel.specs.declared.kernel.Kernel.{Kernel}
 use Rattle.table_kernel.specs.Kernels.{IsBounded, IsShaped, width_of}
-use Rattle.table_kernel.specs.Numbers.{number_in}
-use Rattle.table_kernel.specs.Turns.{along_numbers, column_of, form_in, line_numbers}
+use Rattle.table_kernel.specs.Numbers.{number_at_column}
+use Rattle.table_kernel.specs.Turns.{along_numbers, column_of, form_of_place, numbers_of_place}
 use Rattle.table_kernel.proofs.Columns.{column_at, column_long, form_number_within, high_number_in, low_number_in, place_number_within, reach_within}
 use Rattle.table_kernel.proofs.LineSums.{sums_agree}
 
@@ -58,18 +58,18 @@ negated z small =
 
 -- a line is told by its columns
 pub line_is : (k : Kernel) (place : ℕ) (new : List ℤ) → length new ≡ width_of k →
-    ((column : ℕ) → column < width_of k → number_at new column ≡ number_in (form_in k place) (column_of k column)) →
-    new ≡ line_numbers k place
+    ((column : ℕ) → column < width_of k → number_at new column ≡ number_at_column (form_of_place k place) (column_of k column)) →
+    new ≡ numbers_of_place k place
 line_is k place new long each =
-    let number = λ (column : ℕ). number_in (form_in k place) (column_of k column) in
-    ext_get_or (pos 0) new (line_numbers k place) (omega (arith, long, length-map-numbers_from number 0 (width_of k)))
+    let number = λ (column : ℕ). number_at_column (form_of_place k place) (column_of k column) in
+    ext_get_or (pos 0) new (numbers_of_place k place) (omega (arith, long, length-map-numbers_from number 0 (width_of k)))
     (λ column column_in.
     let inside : column < width_of k = omega (arith, column_in, long) in
     each column inside ∙ sym (get_or-map-numbers_from number 0 (width_of k) column (pos 0) inside ∙ ap number (let e : 0 + column ≡ column = omega arith in e)))
 
-pub line_small : (k : Kernel) → IsShaped k → IsBounded k → (place : ℕ) → place < length k.constants.items → AllWithin (2 ^ 22) (line_numbers k place)
+pub line_small : (k : Kernel) → IsShaped k → IsBounded k → (place : ℕ) → place < length k.constants.items → AllWithin (2 ^ 22) (numbers_of_place k place)
 line_small k s b place place_in =
-    All-map (λ (z : ℤ). nat_abs z ≤ 2 ^ 22) (λ (column : ℕ). number_in (form_in k place) (column_of k column)) (numbers_from 0 (width_of k))
+    All-map (λ (z : ℤ). nat_abs z ≤ 2 ^ 22) (λ (column : ℕ). number_at_column (form_of_place k place) (column_of k column)) (numbers_from 0 (width_of k))
     (λ i d i_in. place_number_within k s b place place_in (get_or (numbers_from 0 (width_of k)) i d))
 
 module _ (k : Kernel) (s : IsShaped k) (place v bound : ℕ) (row d new : List ℤ) (v_in : v < width_of k) (is : row ≡ get_or k.lows.items v d) where
@@ -79,7 +79,7 @@ module _ (k : Kernel) (s : IsShaped k) (place v bound : ℕ) (row d new : List �
   at_column : (column : ℕ) → number_at row column ≡ number_at (column_of k column) v
   at_column column = ap (λ (r : List ℤ). number_at r column) is ∙ sym (column_at k s column v d v_in)
 
-  pub low_line : Low v bound ≡ member_at k.table place → new ≡ map (λ z. pos 1 *ℤ z) row → new ≡ line_numbers k place
+  pub low_line : Low v bound ≡ member_at k.table place → new ≡ map (λ z. pos 1 *ℤ z) row → new ≡ numbers_of_place k place
   low_line member put =
       line_is k place new (ap length put ∙ length-map row (λ (z : ℤ). pos 1 *ℤ z) ∙ row_long)
       (λ column column_in.
@@ -88,9 +88,9 @@ module _ (k : Kernel) (s : IsShaped k) (place v bound : ℕ) (row d new : List �
       ∙ ring (number_at row column ∷ []) (num (pos 1) ⊗ var 0) (var 0) refl
       ∙ at_column column
       ∙ sym (low_number_in (width_of k) k.table.rows.items v bound (column_of k column) v_in (sym (column_long k s column)))
-      ∙ ap (λ (m : Member). number_in (member_form (width_of k) k.table.rows.items m) (column_of k column)) member)
+      ∙ ap (λ (m : Member). number_at_column (member_form (width_of k) k.table.rows.items m) (column_of k column)) member)
 
-  pub high_line : High v bound ≡ member_at k.table place → new ≡ map (λ z. negsuc 0 *ℤ z) row → new ≡ line_numbers k place
+  pub high_line : High v bound ≡ member_at k.table place → new ≡ map (λ z. negsuc 0 *ℤ z) row → new ≡ numbers_of_place k place
   high_line member put =
       line_is k place new (ap length put ∙ length-map row (λ (z : ℤ). negsuc 0 *ℤ z) ∙ row_long)
       (λ column column_in.
@@ -99,18 +99,18 @@ module _ (k : Kernel) (s : IsShaped k) (place v bound : ℕ) (row d new : List �
       ∙ ring (number_at row column ∷ []) (num (negsuc 0) ⊗ var 0) (neg (var 0)) refl
       ∙ ap neg_ℤ (at_column column)
       ∙ sym (high_number_in (width_of k) k.table.rows.items v bound (column_of k column) v_in (sym (column_long k s column)))
-      ∙ ap (λ (m : Member). number_in (member_form (width_of k) k.table.rows.items m) (column_of k column)) member)
+      ∙ ap (λ (m : Member). number_at_column (member_form (width_of k) k.table.rows.items m) (column_of k column)) member)
 
 pub row_line : (k : Kernel) (place row : ℕ) (f : Form) (new : List ℤ) → Row row ≡ member_at k.table place →
     f ≡ slice_index_or k.table.rows.items row no_form → length new ≡ width_of k →
-    ((column : ℕ) → column < width_of k → number_at new column ≡ number_in f (column_of k column)) →
-    new ≡ line_numbers k place
+    ((column : ℕ) → column < width_of k → number_at new column ≡ number_at_column f (column_of k column)) →
+    new ≡ numbers_of_place k place
 row_line k place row f new member is long each =
     line_is k place new long
     (λ column column_in.
     each column column_in
-    ∙ ap (λ (g : Form). number_in g (column_of k column)) is
-    ∙ ap (λ (m : Member). number_in (member_form (width_of k) k.table.rows.items m) (column_of k column)) member)
+    ∙ ap (λ (g : Form). number_at_column g (column_of k column)) is
+    ∙ ap (λ (m : Member). number_at_column (member_form (width_of k) k.table.rows.items m) (column_of k column)) member)
 
 -- places are those of x - low, of high - x, or of rows
 place_cases : (n r i : ℕ) → i < n + n + r → (i < n) ⊎ ((j : ℕ) × (j < n) × (n + j ≡ i)) ⊎ ((j : ℕ) × (j < r) × (n + n + j ≡ i))
@@ -128,14 +128,14 @@ pub along_is : (k : Kernel) → IsShaped k → (column : ℕ) (new : List ℤ) �
     ((v : ℕ) → v < width_of k → number_at new v ≡ number_at (column_of k column) v) →
     ((v : ℕ) → v < width_of k → number_at new (width_of k + v) ≡ neg_ℤ (number_at (column_of k column) v)) →
     ((row : ℕ) → row < length k.table.rows.items →
-    number_at new (width_of k + width_of k + row) ≡ number_in (slice_index_or k.table.rows.items row no_form)
+    number_at new (width_of k + width_of k + row) ≡ number_at_column (slice_index_or k.table.rows.items row no_form)
     (column_of k column)) → new ≡ along_numbers k column
 along_is k s column new long lows highs rows =
     let n = width_of k in
     let many = length k.table.rows.items in
-    let members = members_of k.table.costs many in
+    let members = members_of_box k.table.costs many in
     let here = column_of k column in
-    let number = λ (member : Member). number_in (member_form n k.table.rows.items member) here in
+    let number = λ (member : Member). number_at_column (member_form n k.table.rows.items member) here in
     let counted : length new ≡ length members = long ∙ s.constants in
     ext_get_or (pos 0) new (along_numbers k column) (counted ∙ sym (length-map members number))
     (λ i i_in.
@@ -163,8 +163,8 @@ along_is k s column new long lows highs rows =
 
 pub along_small : (k : Kernel) → IsShaped k → IsBounded k → (column : ℕ) → AllWithin (2 ^ 22) (along_numbers k column)
 along_small k s b column =
-    let members = members_of k.table.costs (length k.table.rows.items) in
-    All-map (λ (z : ℤ). nat_abs z ≤ 2 ^ 22) (λ (member : Member). number_in (member_form (width_of k) k.table.rows.items member) (column_of k column)) members
+    let members = members_of_box k.table.costs (length k.table.rows.items) in
+    All-map (λ (z : ℤ). nat_abs z ≤ 2 ^ 22) (λ (member : Member). number_at_column (member_form (width_of k) k.table.rows.items member) (column_of k column)) members
     (λ i d i_in. form_number_within k s b (get_or members i d) (members_are k.table.costs k.table.rows.items i d i_in) column)
 
 -- what stands in front of the rows is small where the numbers of x - low are
@@ -189,7 +189,7 @@ bounds_small lows along column small low high v v_in =
 pub by_column : (lows : List (List ℤ)) (along : List ℤ) (column : ℕ) (f : Form) → length f.coefficients ≤ length lows →
     length lows ≤ length along →
     ((v : ℕ) → v < length lows → number_at along v ≡ number_at (slice_index_or lows v []) column) →
-    number_in f along ≡ number_in f (map (λ row. number_at row column) lows)
+    number_at_column f along ≡ number_at_column f (map (λ row. number_at row column) lows)
 by_column lows along column f few room low =
     sums_agree f.coefficients along (map (λ row. number_at row column) lows) (omega (arith, few, room))
     (omega (arith, few, length-map lows (λ (row : List ℤ). number_at row column)))
@@ -204,7 +204,7 @@ pub put_all : (k : Kernel) → IsShaped k → (column : ℕ) (new : List ℤ) (l
     ((v : ℕ) → v < length lows →
     number_at new (length lows + v) ≡ neg_ℤ (number_at (slice_index_or lows v []) column)) →
     ((row : ℕ) → row < length rows →
-    number_at new (length lows + length lows + row) ≡ number_in (slice_index_or rows row no_form)
+    number_at new (length lows + length lows + row) ≡ number_at_column (slice_index_or rows row no_form)
     (map (λ r. number_at r column) lows)) → new ≡ along_numbers k column
 put_all k s column new lows rows long lows_are rows_are low high each =
     let n_is : length lows ≡ width_of k = ap length lows_are ∙ s.lows in
@@ -216,5 +216,5 @@ put_all k s column new lows rows long lows_are rows_are low high each =
     (λ row row_in.
     ap (λ (n : ℕ). number_at new (n + n + row)) (sym n_is)
     ∙ each row (omega (arith, row_in, ap length rows_are))
-    ∙ ap (λ (fs : List Form). number_in (slice_index_or fs row no_form) (map (λ r. number_at r column) lows)) rows_are
-    ∙ ap (λ (rs : List (List ℤ)). number_in (slice_index_or k.table.rows.items row no_form) (map (λ r. number_at r column) rs)) lows_are)
+    ∙ ap (λ (fs : List Form). number_at_column (slice_index_or fs row no_form) (map (λ r. number_at r column) lows)) rows_are
+    ∙ ap (λ (rs : List (List ℤ)). number_at_column (slice_index_or k.table.rows.items row no_form) (map (λ r. number_at r column) rs)) lows_are)

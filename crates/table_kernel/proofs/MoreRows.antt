@@ -9,16 +9,16 @@ use Rattle.std.proofs.lemmas.List.Elements.{All-append, All-weaker}
 use Rattle.whole_numbers.specs.Fractions.{Fraction}
 use Rattle.whole_numbers.specs.Lists.{number_at}
 use Rattle.whole_numbers.proofs.Sizes.{positive_is}
-use Rattle.path_rows.specs.declared.form.Form.{Form}
-use Rattle.path_rows.specs.declared.form.CostBox.{CostBox}
-use Rattle.path_rows.specs.declared.tree.Member.{Member}
-use Rattle.path_rows.specs.declared.tree.Member.TheVariants.{Low, Row}
-use Rattle.path_rows.specs.Forms.{no_form, value}
-use Rattle.path_rows.specs.Basis.{member_form}
-use Rattle.path_rows.specs.Boxes.{IsBox}
+use Rattle.design_problem.specs.declared.form.Form.{Form}
+use Rattle.design_problem.specs.declared.form.CostBox.{CostBox}
+use Rattle.design_problem.specs.declared.tree.Member.{Member}
+use Rattle.design_problem.specs.declared.tree.Member.TheVariants.{Low, Row}
+use Rattle.design_problem.specs.Forms.{no_form, value_for_costs}
+use Rattle.design_problem.specs.Basis.{member_form}
+use Rattle.design_problem.specs.Boxes.{IsBox}
 use Rattle.fraction_table.specs.RowLines.{HoldsRow}
 use Rattle.fraction_table.specs.Tableaus.{FitsBox}
-use Rattle.fraction_table.specs.Wholes.{AreMixtures, low_forms, members_of, number_of}
+use Rattle.fraction_table.specs.ValidTables.{AreMixtures, low_forms, members_of_box, number_of_form}
 use Rattle.fraction_table.proofs.MoreRows.{form_kept, forms_kept, member_kept, members_more, one_all}
 use Rattle.fraction_table.proofs.Pivots.{members_long}
 use Rattle.fraction_table.proofs.StartingTables.{members_are}
@@ -50,9 +50,9 @@ basis_more costs rows basis D lows f counted b =
       positive = b.positive;
       long = b.long;
       mixtures = subst (λ (bs : List Form). AreMixtures D bs (low_forms n 0 costs.low) lows) same b.mixtures;
-      own = subst (λ (bs : List Form). (k : ℕ) → k < n → number_of D costs.low lows (slice_index_or bs k no_form) (suc k) ≡ pos D) same b.own;
+      own = subst (λ (bs : List Form). (k : ℕ) → k < n → number_of_form D costs.low lows (slice_index_or bs k no_form) (suc k) ≡ pos D) same b.own;
       elsewhere = subst (λ (bs : List Form). (k place : ℕ) → k < n → place ≤ n → place ≢ suc k →
-          number_of D costs.low lows (slice_index_or bs k no_form) place ≡ pos 0) same b.elsewhere;
+          number_of_form D costs.low lows (slice_index_or bs k no_form) place ≡ pos 0) same b.elsewhere;
       lead = b.lead;
     }
 
@@ -60,23 +60,23 @@ basis_more costs rows basis D lows f counted b =
 abbrev pub AreConstants : CostBox → List Form → ℕ → List (List ℤ) → List ℤ → Type 0
 AreConstants costs rows D lows constants =
     (place : ℕ) → place < length constants →
-    number_at constants place ≡ number_of D costs.low lows
-    (member_form (length costs.low) rows (slice_index_or (members_of costs (length rows)) place (Low 0 0))) 0
+    number_at constants place ≡ number_of_form D costs.low lows
+    (member_form (length costs.low) rows (slice_index_or (members_of_box costs (length rows)) place (Low 0 0))) 0
 
 members_grown : (costs : CostBox) (rows : List Form) (f : Form) →
-    members_of costs (length (rows ++ f ∷ [])) ≡ members_of costs (length rows) ++ Row (length rows) ∷ []
+    members_of_box costs (length (rows ++ f ∷ [])) ≡ members_of_box costs (length rows) ++ Row (length rows) ∷ []
 members_grown costs rows f =
     let counted : length (rows ++ f ∷ []) ≡ length rows + 1 = omega (arith, length-append rows (f ∷ [])) in
-    ap (members_of costs) counted ∙ members_more costs (length rows)
+    ap (members_of_box costs) counted ∙ members_more costs (length rows)
 
 constants_more : (costs : CostBox) (rows : List Form) (D : ℕ) (lows : List (List ℤ)) (constants : List ℤ) (f : Form)
-    (z : ℤ) → length constants ≡ length (members_of costs (length rows)) → z ≡ number_of D costs.low lows f 0 →
+    (z : ℤ) → length constants ≡ length (members_of_box costs (length rows)) → z ≡ number_of_form D costs.low lows f 0 →
     AreConstants costs rows D lows constants → AreConstants costs (rows ++ f ∷ []) D lows (constants ++ z ∷ [])
 constants_more costs rows D lows constants f z counted z_is are place place_in =
     let n = length costs.low in
-    let members = members_of costs (length rows) in
-    let at : Member → ℤ = λ member. number_of D costs.low lows (member_form n (rows ++ f ∷ []) member) 0 in
-    let grown : slice_index_or (members_of costs (length (rows ++ f ∷ []))) place (Low 0 0)
+    let members = members_of_box costs (length rows) in
+    let at : Member → ℤ = λ member. number_of_form D costs.low lows (member_form n (rows ++ f ∷ []) member) 0 in
+    let grown : slice_index_or (members_of_box costs (length (rows ++ f ∷ []))) place (Low 0 0)
     ≡ slice_index_or (members ++ Row (length rows) ∷ []) place (Low 0 0) =
     ap (λ (ms : List Member). slice_index_or ms place (Low 0 0)) (members_grown costs rows f) in
     elim (cases_lt place (length constants)) [
@@ -85,14 +85,14 @@ constants_more costs rows D lows constants f z counted z_is are place place_in =
           let there : place < length members = omega (arith, before, counted) in
           get_or_append_left constants (z ∷ []) (pos 0) place before
           ∙ are place before
-          ∙ ap (λ (g : Form). number_of D costs.low lows g 0) (sym (form_kept n costs rows f member (members_are costs rows place (Low 0 0) there)))
+          ∙ ap (λ (g : Form). number_of_form D costs.low lows g 0) (sym (form_kept n costs rows f member (members_are costs rows place (Low 0 0) there)))
           ∙ ap at (sym (grown ∙ get_or_append_left members (Row (length rows) ∷ []) (Low 0 0) place there))
       | inr past ↦
           let last : length constants ≡ place = omega (arith, past, place_in, length-append constants (z ∷ [])) in
           let last_member : length members ≡ place = omega (arith, last, counted) in
           subst (λ (p : ℕ). number_at (constants ++ z ∷ []) p ≡ z) last (get_or-append_seam constants z [] (pos 0))
           ∙ z_is
-          ∙ ap (λ (g : Form). number_of D costs.low lows g 0) (sym (get_or-append_seam rows f [] no_form))
+          ∙ ap (λ (g : Form). number_of_form D costs.low lows g 0) (sym (get_or-append_seam rows f [] no_form))
           ∙ ap at
           (sym (grown ∙ subst (λ (p : ℕ). slice_index_or (members ++ Row (length rows) ∷ []) p (Low 0 0)
           ≡ Row (length rows)) last_member (get_or-append_seam members (Row (length rows)) [] (Low 0 0))))
@@ -196,8 +196,8 @@ kernel_more old new f line m fits covered g =
     let D = nat_abs old.common in
     let s = m.shaped in
     let there = kernel_basis old m in
-    let constant : row_constant_of old f ≡ number_of D costs.low (lows_of old) f 0 =
-    ap (λ (z : ℤ). (z *ℤ value f costs.low) +ℤ product_sum f.coefficients old.constants.items) (positive_is old.common m.bounded.positive)
+    let constant : row_constant_of old f ≡ number_of_form D costs.low (lows_of old) f 0 =
+    ap (λ (z : ℤ). (z *ℤ value_for_costs f costs.low) +ℤ product_sum f.coefficients old.constants.items) (positive_is old.common m.bounded.positive)
     ∙ sym (constant_number old s D costs.low f (omega (arith, fits.count))) in
     let at = basis_more costs old.table.rows.items basis D (lows_of old) f fits.count there.0 in
     let are = constants_more costs old.table.rows.items D (lows_of old) old.constants.items f (row_constant_of old f) s.constants constant there.1 in

@@ -7,36 +7,36 @@ use Rattle.std.proofs.lemmas.Int.{ints, unsigned_abs-mul}
 use Rattle.std.proofs.lemmas.List.{get_or-map, get_or_default, length-map, length-set}
 use Rattle.whole_numbers.proofs.Ring.{var, num, ◌⊕◌, ◌⊗◌, ring}
 use Rattle.whole_numbers.specs.Lists.{number_at}
-use Rattle.path_rows.specs.declared.form.Form.{Form}
-use Rattle.path_rows.specs.declared.tree.Member.{Member}
-use Rattle.path_rows.specs.declared.tree.Member.TheVariants.{Low}
-use Rattle.path_rows.specs.Basis.{member_form}
+use Rattle.design_problem.specs.declared.form.Form.{Form}
+use Rattle.design_problem.specs.declared.tree.Member.{Member}
+use Rattle.design_problem.specs.declared.tree.Member.TheVariants.{Low}
+use Rattle.design_problem.specs.Basis.{member_form}
 use Rattle.fraction_table.specs.Pivots.{member_at}
-use Rattle.fraction_table.specs.Wholes.{members_of}
+use Rattle.fraction_table.specs.ValidTables.{members_of_box}
 use Rattle.integer_pivots.specs.Numbers.{AllWithin, more_sums}
 use Rattle.integer_pivots.proofs.PartSums.{more_at, more_long}
 use Rattle.table_kernel.specs.declared.kernel.Kernel.{Kernel}
 use Rattle.table_kernel.specs.Kernels.{IsBounded, IsShaped, width_of}
 use Rattle.table_kernel.specs.Moves.{shifted_constants}
-use Rattle.table_kernel.specs.Numbers.{number_in}
-use Rattle.table_kernel.specs.Turns.{MayMove, along_numbers, column_of, form_in, step_of}
+use Rattle.table_kernel.specs.Numbers.{number_at_column}
+use Rattle.table_kernel.specs.Turns.{MayMove, along_numbers, column_of, form_of_place, step_of}
 use Rattle.table_kernel.proofs.Columns.{form_number_size, place_is}
 
 -- a form's number in the column, if there is one
 abbrev pub slope_in : Kernel → Option ℕ → Form → ℤ
 slope_in k None f = pos 0
-slope_in k (Some j) f = number_in f (column_of k j)
+slope_in k (Some j) f = number_at_column f (column_of k j)
 
 along_at : (k : Kernel) → IsShaped k → (j place : ℕ) → place < length k.constants.items →
-    number_at (along_numbers k j) place ≡ number_in (form_in k place) (column_of k j)
+    number_at (along_numbers k j) place ≡ number_at_column (form_of_place k place) (column_of k j)
 along_at k s j place place_in =
-    get_or-map (λ (member : Member). number_in (member_form (width_of k) k.table.rows.items member) (column_of k j))
-    (members_of k.table.costs (length k.table.rows.items)) place (Low 0 0) (pos 0)
+    get_or-map (λ (member : Member). number_at_column (member_form (width_of k) k.table.rows.items member) (column_of k j))
+    (members_of_box k.table.costs (length k.table.rows.items)) place (Low 0 0) (pos 0)
     (omega (arith, s.constants, place_in))
 
 along_long : (k : Kernel) → IsShaped k → (j : ℕ) → length (along_numbers k j) ≡ length k.constants.items
-along_long k s j = length-map (members_of k.table.costs (length k.table.rows.items))
-    (λ (member : Member). number_in (member_form (width_of k) k.table.rows.items member) (column_of k j))
+along_long k s j = length-map (members_of_box k.table.costs (length k.table.rows.items))
+    (λ (member : Member). number_at_column (member_form (width_of k) k.table.rows.items member) (column_of k j))
     ∙ sym s.constants
 
 -- there are as many
@@ -48,7 +48,7 @@ length-shifted k (Some j) own fall = length-set (more_sums k.constants.items fal
 -- all but the bound's own rise by their forms' numbers
 pub shifted_other : (k : Kernel) → IsShaped k → (column : Option ℕ) (own place : ℕ) (fall : ℤ) → place ≢ own →
     place < length k.constants.items → number_at (shifted_constants k column own fall) place
-    ≡ (number_at k.constants.items place +ℤ (slope_in k column (form_in k place) *ℤ fall))
+    ≡ (number_at k.constants.items place +ℤ (slope_in k column (form_of_place k place) *ℤ fall))
 shifted_other k s None own place fall apart place_in =
     get_or-set_other k.constants.items own place _ (pos 0) apart
     ∙ ring (number_at k.constants.items place ∷ fall ∷ []) (var 0) (var 0 ⊕ num (pos 0) ⊗ var 1) refl
@@ -56,7 +56,7 @@ shifted_other k s (Some j) own place fall apart place_in =
     get_or-set_other (more_sums k.constants.items fall (along_numbers k j)) own place (pos 0) (pos 0) apart
     ∙ more_at k.constants.items fall (along_numbers k j) place place_in (omega (arith, along_long k s j, place_in))
     ∙ ap (λ z. number_at k.constants.items place +ℤ (fall *ℤ z)) (along_at k s j place place_in)
-    ∙ ring (number_at k.constants.items place ∷ fall ∷ number_in (form_in k place) (column_of k j) ∷ []) (var 0 ⊕ var 1 ⊗ var 2) (var 0 ⊕ var 2 ⊗ var 1) refl
+    ∙ ring (number_at k.constants.items place ∷ fall ∷ number_at_column (form_of_place k place) (column_of k j) ∷ []) (var 0 ⊕ var 1 ⊗ var 2) (var 0 ⊕ var 2 ⊗ var 1) refl
 
 pub shifted_own : (k : Kernel) (own : ℕ) (fall : ℤ) → own < length k.constants.items →
     number_at (shifted_constants k None own fall) own ≡ (number_at k.constants.items own -ℤ (k.common *ℤ fall))
@@ -69,7 +69,7 @@ shifted_zero k j own fall own_in =
 
 slope_size : (k : Kernel) → IsShaped k → IsBounded k → (column : Option ℕ) (place : ℕ) →
     place < length k.constants.items →
-    nat_abs (slope_in k column (form_in k place)) ≤ nat_abs k.reach * nat_abs k.weight
+    nat_abs (slope_in k column (form_of_place k place)) ≤ nat_abs k.reach * nat_abs k.weight
 slope_size k s b None place place_in = omega arith
 slope_size k s b (Some j) place place_in = form_number_size k s b (member_at k.table place) (place_is k s place place_in) j
 
@@ -98,7 +98,7 @@ shifted_within k s b column own fall most own_in within place d place_in =
       | inl same ↦ subst (λ (p : ℕ). nat_abs (number_at (shifted_constants k column own fall) p) ≤ most + nat_abs fall * step_of k) (sym same) (here column)
       | inr other ↦
           subst (λ (z : ℤ). nat_abs z ≤ most + nat_abs fall * step_of k) (sym (shifted_other k s column own place fall other there))
-          (moved_size (number_at k.constants.items place) (slope_in k column (form_in k place)) fall most (step_of k)
+          (moved_size (number_at k.constants.items place) (slope_in k column (form_of_place k place)) fall most (step_of k)
           (within place (pos 0) there) (omega (arith, slope_size k s b column place there)))
     ])
   where

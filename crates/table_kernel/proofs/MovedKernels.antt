@@ -6,16 +6,16 @@ use Rattle.std.proofs.lemmas.List.{get_or-map, length-map}
 use Rattle.whole_numbers.proofs.Ring.{var, num, ◌⊕◌, ◌⊖◌, ◌⊗◌, ring}
 use Rattle.whole_numbers.specs.Fractions.{Fraction}
 use Rattle.whole_numbers.specs.Lists.{number_at}
-use Rattle.path_rows.specs.declared.form.Form.{Form}
-use Rattle.path_rows.specs.declared.form.CostBox.{CostBox}
-use Rattle.path_rows.specs.declared.tree.Member.{Member}
-use Rattle.path_rows.specs.declared.tree.Member.TheVariants.{Low}
-use Rattle.path_rows.specs.Basis.{forms_of, low_member, member_form}
-use Rattle.path_rows.specs.Forms.{no_form}
+use Rattle.design_problem.specs.declared.form.Form.{Form}
+use Rattle.design_problem.specs.declared.form.CostBox.{CostBox}
+use Rattle.design_problem.specs.declared.tree.Member.{Member}
+use Rattle.design_problem.specs.declared.tree.Member.TheVariants.{Low}
+use Rattle.design_problem.specs.Basis.{forms_of, low_member, member_form}
+use Rattle.design_problem.specs.Forms.{no_form}
 use Rattle.fraction_table.specs.Moves.{IsColumnOf, IsMoved, fallen, put_at}
 use Rattle.fraction_table.specs.Pivots.{member_at}
-use Rattle.fraction_table.specs.Tableaus.{moved, moved_member}
-use Rattle.fraction_table.specs.Wholes.{AllLong, AreMixtures, low_forms, members_of, number_of}
+use Rattle.fraction_table.specs.Tableaus.{moved_basis, moved_member}
+use Rattle.fraction_table.specs.ValidTables.{AllLong, AreMixtures, low_forms, members_of_box, number_of_form}
 use Rattle.fraction_table.proofs.Bases.{members_begin}
 use Rattle.fraction_table.proofs.MovedTables.{AreMoved, IsFall, fallen_basis, slope}
 use Rattle.fraction_table.proofs.MovedWholes.{all_moved, column_inside, column_own, forms_fallen, kept_columns, kept_constants, members_moved, moved_put, place_of, place_there}
@@ -29,9 +29,9 @@ use Rattle.integer_pivots.specs.Numbers.{AllWithin, weight_of}
 use Rattle.integer_pivots.proofs.Sizes.{wider}
 use Rattle.table_kernel.specs.declared.kernel.Kernel.{Kernel}
 use Rattle.table_kernel.specs.Kernels.{IsBounded, IsMoving, IsShaped, lows_of, stated, width_of}
-use Rattle.table_kernel.specs.Moves.{KeepsOthers, shifted_constants}
+use Rattle.table_kernel.specs.Moves.{KeepsInMove, shifted_constants}
 use Rattle.table_kernel.specs.Numbers.{lows_by}
-use Rattle.table_kernel.specs.Turns.{MayMove, form_in, step_of}
+use Rattle.table_kernel.specs.Turns.{MayMove, form_of_place, step_of}
 use Rattle.table_kernel.proofs.AtBasis.{AreAtBasis, ConstantsAre, basis_moving}
 use Rattle.table_kernel.proofs.Columns.{column_number, lows_few, place_is}
 use Rattle.table_kernel.proofs.MovedConstants.{length-shifted, shifted_other, shifted_own, shifted_within, shifted_zero, slope_in}
@@ -85,15 +85,15 @@ pub record IsKernelMove (k : Kernel) (m : IsMoving k) (next : CostBox) (news : L
 slope_is : (k : Kernel) (m : IsMoving k) (column : Option ℕ) (f : Form) → slope m.unboxed.common k.table.costs.low m.unboxed.lows column f ≡ slope_in k column f
 slope_is k m None f = refl
 slope_is k m (Some j) f =
-    ap (λ (lows : List (List ℤ)). number_of m.unboxed.common k.table.costs.low lows f (suc j)) m.numbers.lows
+    ap (λ (lows : List (List ℤ)). number_of_form m.unboxed.common k.table.costs.low lows f (suc j)) m.numbers.lows
     ∙ column_number k m.shaped m.unboxed.common k.table.costs.low f j
 
 -- the number of the bound's form in the next box
 fallen_number : (k : Kernel) (m : IsMoving k) (next : CostBox) (news : List (List ℤ)) (before after : Member) (fall : ℤ)
     (column : Option ℕ) (own : ℕ) → IsKernelMove k m next news before after fall column own →
-    number_of m.unboxed.common next.low news
+    number_of_form m.unboxed.common next.low news
     (member_form (width_of k) k.table.rows.items (moved_member next (member_at k.table own))) 0
-    ≡ ((number_of m.unboxed.common k.table.costs.low m.unboxed.lows (member_form (width_of k) k.table.rows.items before)
+    ≡ ((number_of_form m.unboxed.common k.table.costs.low m.unboxed.lows (member_form (width_of k) k.table.rows.items before)
     0 -ℤ (pos m.unboxed.common *ℤ fall))
     +ℤ (slope m.unboxed.common k.table.costs.low m.unboxed.lows column
     (fallen (member_form (width_of k) k.table.rows.items before) fall) *ℤ fall))
@@ -102,24 +102,24 @@ fallen_number k m next news before after fall column own mv =
     let n = width_of k in
     let rows = k.table.rows.items in
     let g = member_form n rows before in
-    ap (λ (b : Member). number_of D next.low news (member_form n rows (moved_member next b)) 0) mv.own_is
-    ∙ ap (λ (b : Member). number_of D next.low news (member_form n rows b) 0) mv.falls.own
-    ∙ ap (λ (f : Form). number_of D next.low news f 0) mv.falls.form
+    ap (λ (b : Member). number_of_form D next.low news (member_form n rows (moved_member next b)) 0) mv.own_is
+    ∙ ap (λ (b : Member). number_of_form D next.low news (member_form n rows b) 0) mv.falls.own
+    ∙ ap (λ (f : Form). number_of_form D next.low news f 0) mv.falls.form
     ∙ mv.numbers.constants (fallen g fall)
     ∙ ap (λ z. z +ℤ (slope D k.table.costs.low m.unboxed.lows column (fallen g fall) *ℤ fall)) (fallen_constant D k.table.costs.low m.unboxed.lows g fall)
 
 -- the constant of the bound's form is its number in the next box
 own_moved : (k : Kernel) (m : IsMoving k) (next : CostBox) (news : List (List ℤ)) (before after : Member) (fall : ℤ)
     (column : Option ℕ) (own : ℕ) → IsKernelMove k m next news before after fall column own →
-    number_at (shifted_constants k column own fall) own ≡ number_of m.unboxed.common next.low news
+    number_at (shifted_constants k column own fall) own ≡ number_of_form m.unboxed.common next.low news
     (member_form (width_of k) k.table.rows.items (moved_member next (member_at k.table own))) 0
 own_moved k m next news before after fall None own mv =
     let D = m.unboxed.common in
     let g = member_form (width_of k) k.table.rows.items before in
-    let number = number_of D k.table.costs.low m.unboxed.lows g 0 in
+    let number = number_of_form D k.table.costs.low m.unboxed.lows g 0 in
     let was : number_at k.constants.items own ≡ number =
     m.numbers.constants own mv.own_in
-    ∙ ap (λ (b : Member). number_of D k.table.costs.low m.unboxed.lows
+    ∙ ap (λ (b : Member). number_of_form D k.table.costs.low m.unboxed.lows
     (member_form (width_of k) k.table.rows.items b) 0) mv.own_is in
     shifted_own k own fall mv.own_in
     ∙ ap (λ z. z -ℤ (k.common *ℤ fall)) was
@@ -133,7 +133,7 @@ own_moved k m next news before after fall (Some j) own mv =
     let numbers = column_own k.table.top k.table.costs k.table.rows.items k.table.basis.items (stated k).lines.items u before j mv.found.0 mv.found.1 in
     shifted_zero k j own fall mv.own_in
     ∙ sym (fallen_number k m next news before after fall (Some j) own mv
-    ∙ ap (λ z. (z -ℤ (pos D *ℤ fall)) +ℤ (number_of D k.table.costs.low u.lows g (suc j) *ℤ fall)) numbers.0
+    ∙ ap (λ z. (z -ℤ (pos D *ℤ fall)) +ℤ (number_of_form D k.table.costs.low u.lows g (suc j) *ℤ fall)) numbers.0
     ∙ ap (λ z. (pos 0 -ℤ (pos D *ℤ fall)) +ℤ (z *ℤ fall)) numbers.1
     ∙ ring (pos D ∷ fall ∷ []) ((num (pos 0) ⊖ var 0 ⊗ var 1) ⊕ var 0 ⊗ var 1) (num (pos 0)) refl)
 
@@ -141,7 +141,7 @@ own_moved k m next news before after fall (Some j) own mv =
 constant_moved : (k : Kernel) (m : IsMoving k) (next : CostBox) (news : List (List ℤ)) (before after : Member)
     (fall : ℤ) (column : Option ℕ) (own : ℕ) → IsKernelMove k m next news before after fall column own → (place : ℕ) →
     place < length k.constants.items → number_at (shifted_constants k column own fall) place
-    ≡ number_of m.unboxed.common next.low news
+    ≡ number_of_form m.unboxed.common next.low news
     (member_form (width_of k) k.table.rows.items (moved_member next (member_at k.table place))) 0
 constant_moved k m next news before after fall column own mv place place_in =
     let D = m.unboxed.common in
@@ -150,18 +150,18 @@ constant_moved k m next news before after fall column own mv place place_in =
     elim (cases_eq place own) [
       | inl same ↦
           subst (λ (p : ℕ). number_at (shifted_constants k column own fall) p
-          ≡ number_of D next.low news (member_form n rows (moved_member next (member_at k.table p))) 0) (sym same)
+          ≡ number_of_form D next.low news (member_form n rows (moved_member next (member_at k.table p))) 0) (sym same)
           (own_moved k m next news before after fall column own mv)
       | inr other ↦
-          let f = form_in k place in
+          let f = form_of_place k place in
           let apart : member_at k.table place ≢ before =
           λ h. (other (sym (place_there k.table.costs (length rows) place (omega (arith, m.shaped.constants, place_in))) ∙ ap (place_of n) (h ∙ sym mv.own_is)
           ∙ place_there k.table.costs (length rows) own (omega (arith, m.shaped.constants, mv.own_in)))) in
           shifted_other k m.shaped column own place fall other place_in
           ∙ ap (λ z. z +ℤ (slope_in k column f *ℤ fall)) (m.numbers.constants place place_in)
-          ∙ ap (λ z. number_of D k.table.costs.low m.unboxed.lows f 0 +ℤ (z *ℤ fall)) (sym (slope_is k m column f))
+          ∙ ap (λ z. number_of_form D k.table.costs.low m.unboxed.lows f 0 +ℤ (z *ℤ fall)) (sym (slope_is k m column f))
           ∙ sym (mv.numbers.constants f)
-          ∙ ap (λ (b : Member). number_of D next.low news (member_form n rows b) 0)
+          ∙ ap (λ (b : Member). number_of_form D next.low news (member_form n rows b) 0)
           (sym (mv.falls.others (member_at k.table place) (place_is k m.shaped place place_in) apart))
     ]
 
@@ -179,9 +179,9 @@ lows_moved k m next news before after fall column own mv =
     lows_by_is n (shifted_constants k column own fall) k.lows.items news long mv.rests (omega (arith, lows_few k s, length-shifted k column own fall))
     (λ v v_in. (
     constant_moved k m next news before after fall column own mv v (omega (arith, lows_few k s, v_in))
-    ∙ ap (λ (b : Member). number_of m.unboxed.common next.low news (member_form n rows (moved_member next b)) 0)
+    ∙ ap (λ (b : Member). number_of_form m.unboxed.common next.low news (member_form n rows (moved_member next b)) 0)
     (members_begin k.table.costs (length rows) v (Low 0 0) (omega (arith, v_in, s.lows)))
-    ∙ ap (λ (w : ℕ). number_of m.unboxed.common next.low news (member_form w rows (low_member next v)) 0) (sym width)
+    ∙ ap (λ (w : ℕ). number_of_form m.unboxed.common next.low news (member_form w rows (low_member next v)) 0) (sym width)
     ∙ sym (numbers_at (length next.low) m.unboxed.common next.low news (member_form (length next.low) rows (low_member next v)) 0 (omega arith))
     ∙ ap (λ (ts : List ℤ). number_at ts 0)
     (low_numbers m.unboxed.common next.low news rows v (width ∙ sym as_many)
@@ -191,7 +191,7 @@ lows_moved k m next news before after fall column own mv =
 -- the basis in the next box
 basis_moved : (k : Kernel) (m : IsMoving k) (next : CostBox) (news : List (List ℤ)) (before after : Member) (fall : ℤ)
     (column : Option ℕ) (own : ℕ) → IsKernelMove k m next news before after fall column own →
-    AreAtBasis next k.table.rows.items (moved next k.table.basis.items) m.unboxed.common news
+    AreAtBasis next k.table.rows.items (moved_basis next k.table.basis.items) m.unboxed.common news
 basis_moved k m next news before after fall column own mv =
     let n = width_of k in
     let u = m.unboxed in
@@ -213,18 +213,18 @@ basis_moved k m next news before after fall column own mv =
           subst (λ (fs : List Form). AreMixtures u.common fs (low_forms (length next.low) 0 next.low) news) (sym forms_are)
           (subst (λ (w : ℕ). AreMixtures u.common (fallen_basis column fall bs) (low_forms w 0 next.low) news) (sym width) numbered.mixtures);
       own = λ j j_in.
-          ap (λ (fs : List Form). number_of u.common next.low news (slice_index_or fs j no_form) (suc j)) forms_are
+          ap (λ (fs : List Form). number_of_form u.common next.low news (slice_index_or fs j no_form) (suc j)) forms_are
           ∙ mv.numbers.others (slice_index_or (fallen_basis column fall bs) j no_form) j
           ∙ kept_columns u.common k.table.costs.low u.lows bs column fall j j (omega (arith, as_many, width, j_in))
           ∙ u.own j (omega (arith, width, j_in));
       elsewhere = λ j place j_in place_in apart.
-          ap (λ (fs : List Form). number_of u.common next.low news (slice_index_or fs j no_form) place) forms_are
+          ap (λ (fs : List Form). number_of_form u.common next.low news (slice_index_or fs j no_form) place) forms_are
           ∙ none j place (omega (arith, width, j_in)) (omega (arith, width, place_in)) apart;
       lead = λ j j_in. numbered.lead j (omega (arith, width, j_in));
     }
   where
     none : (j place : ℕ) → j < width_of k → place ≤ width_of k → place ≢ suc j →
-        number_of m.unboxed.common next.low news
+        number_of_form m.unboxed.common next.low news
         (slice_index_or (fallen_basis column fall (forms_of k.table.costs k.table.rows.items k.table.basis.items)) j
         no_form) place ≡ pos 0
     none j zero j_in place_in apart =
@@ -243,7 +243,7 @@ basis_moved k m next news before after fall column own mv =
 
 -- the kernel after the move: it differs in its box, its basis and its constants
 pub record IsKernelMoved (k s : Kernel) (next : CostBox) (before after : Member) (fall : ℤ) (column : Option ℕ) (own : ℕ) : Type 0 where
-  pub keeps : KeepsOthers k s
+  pub keeps : KeepsInMove k s
   pub costs : s.table.costs ≡ next
   pub basis : s.table.basis.items ≡ put_at column after k.table.basis.items
   pub constants : s.constants.items ≡ shifted_constants k column own fall
@@ -344,34 +344,34 @@ moved_moving k s m next news before after fall column own mv is may =
     ap (λ (cs : List ℤ). lows_by cs s.lows.items) is.constants
     ∙ ap (λ lows. lows_by (shifted_constants k column own fall) lows.items) is.keeps.lows
     ∙ lows_moved k m next news before after fall column own mv in
-    let basis_is : s.table.basis.items ≡ moved next k.table.basis.items =
+    let basis_is : s.table.basis.items ≡ moved_basis next k.table.basis.items =
     is.basis ∙ sym (moved_put k.table.top k.table.costs next rows k.table.basis.items (stated k).lines.items m.unboxed
     before after fall column mv.falls mv.found) in
     let D_is : nat_abs s.common ≡ D = ap nat_abs (is.keeps.common ∙ sym m.numbers.common) in
     let rows_are : s.table.rows.items ≡ rows = ap (λ rows. rows.items) is.keeps.rows in
     let as_many : length s.constants.items ≡ length k.constants.items = ap length is.constants ∙ length-shifted k column own fall in
     let at_basis = basis_as s.table.costs next s.table.rows.items rows s.table.basis.items
-    (moved next k.table.basis.items) (nat_abs s.common) D (lows_of s) news (sym is.costs) (sym rows_are)
+    (moved_basis next k.table.basis.items) (nat_abs s.common) D (lows_of s) news (sym is.costs) (sym rows_are)
     (sym basis_is) (sym D_is) (sym lows_are) (basis_moved k m next news before after fall column own mv) in
     let width : width_of s ≡ n = ap (λ (costs : CostBox). length costs.low) is.costs ∙ mv.falls.width in
     let constants : ConstantsAre s =
     λ place place_in. (
     let there : place < length k.constants.items = omega (arith, as_many, place_in) in
     let member_is : member_at s.table place ≡ moved_member next (member_at k.table place) =
-    ap (λ (costs : CostBox). slice_index_or (members_of costs (length s.table.rows.items)) place (Low 0 0)) is.costs
-    ∙ ap (λ (fs : List Form). slice_index_or (members_of next (length fs)) place (Low 0 0)) rows_are
+    ap (λ (costs : CostBox). slice_index_or (members_of_box costs (length s.table.rows.items)) place (Low 0 0)) is.costs
+    ∙ ap (λ (fs : List Form). slice_index_or (members_of_box next (length fs)) place (Low 0 0)) rows_are
     ∙ ap (λ (ms : List Member). slice_index_or ms place (Low 0 0)) (members_moved k.table.costs next (length rows) mv.falls.width)
-    ∙ get_or-map (moved_member next) (members_of k.table.costs (length rows)) place (Low 0 0) (Low 0 0) (omega (arith, m.shaped.constants, there)) in
-    let form_is : form_in s place ≡ member_form n rows (moved_member next (member_at k.table place)) =
+    ∙ get_or-map (moved_member next) (members_of_box k.table.costs (length rows)) place (Low 0 0) (Low 0 0) (omega (arith, m.shaped.constants, there)) in
+    let form_is : form_of_place s place ≡ member_form n rows (moved_member next (member_at k.table place)) =
     ap (λ (w : ℕ). member_form w s.table.rows.items (member_at s.table place)) width
     ∙ ap (λ (fs : List Form). member_form n fs (member_at s.table place)) rows_are
     ∙ ap (member_form n rows) member_is in
     ap (λ (cs : List ℤ). number_at cs place) is.constants
     ∙ constant_moved k m next news before after fall column own mv place there
-    ∙ sym (ap (λ (d : ℕ). number_of d s.table.costs.low (lows_of s) (form_in s place) 0) D_is
-    ∙ ap (λ (costs : CostBox). number_of D costs.low (lows_of s) (form_in s place) 0) is.costs
-    ∙ ap (λ (lows : List (List ℤ)). number_of D next.low lows (form_in s place) 0) lows_are
-    ∙ ap (λ (f : Form). number_of D next.low news f 0) form_is)
+    ∙ sym (ap (λ (d : ℕ). number_of_form d s.table.costs.low (lows_of s) (form_of_place s place) 0) D_is
+    ∙ ap (λ (costs : CostBox). number_of_form D costs.low (lows_of s) (form_of_place s place) 0) is.costs
+    ∙ ap (λ (lows : List (List ℤ)). number_of_form D next.low lows (form_of_place s place) 0) lows_are
+    ∙ ap (λ (f : Form). number_of_form D next.low news f 0) form_is)
     ) in (
       basis_moving s shape (moved_bounds k s m next before after fall column own mv.own_in is may) at_basis constants,
       record { costs_are = is.costs; basis = basis_is },

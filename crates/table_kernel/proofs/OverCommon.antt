@@ -7,21 +7,21 @@ use Rattle.std.proofs.lemmas.List.Elements.{All-tail}
 use Rattle.cost_base.specs.Lists.{numbers_from}
 use Rattle.whole_numbers.specs.Fractions.{gcd}
 use Rattle.whole_numbers.proofs.FractionLaws.{nat_abs-over, reduced_lowest, reduced_stands}
-use Rattle.fraction_rows.specs.TableRows.{AreNumbers, IsNumber}
-use Rattle.fraction_table.specs.Wholes.{Stand}
+use Rattle.fraction_rows.specs.TableRows.{AreTableNumbers, IsTableNumber}
+use Rattle.fraction_table.specs.ValidTables.{Stand}
 use Rattle.integer_pivots.specs.Numbers.{AllWithin}
-use Rattle.table_kernel.specs.Numbers.{over}
+use Rattle.table_kernel.specs.Numbers.{over_common}
 
 -- a number that isn't negative is its size
 pub pos_size : (z : ℤ) → pos 0 ≤ℤ z → pos (nat_abs z) ≡ z
 pos_size (pos n) high = refl
 pos_size (negsuc n) high = absurd (omega (arith, ints))
 
-pub over_as : (D E : ℕ) (y z : ℤ) → D ≡ E → y ≡ z → over D y ≡ over E z
-over_as D E y z D_is y_is = ap (λ (n : ℕ). over n y) D_is ∙ ap (over E) y_is
+pub over_as : (D E : ℕ) (y z : ℤ) → D ≡ E → y ≡ z → over_common D y ≡ over_common E z
+over_as D E y z D_is y_is = ap (λ (n : ℕ). over_common n y) D_is ∙ ap (over_common E) y_is
 
 -- it is a number of the table, where both are within the top
-pub over_number : (top D : ℕ) (z : ℤ) → 0 < D → D ≤ top → nat_abs z ≤ top → IsNumber top (over D z)
+pub over_number : (top D : ℕ) (z : ℤ) → 0 < D → D ≤ top → nat_abs z ≤ top → IsTableNumber top (over_common D z)
 over_number top D z D_positive D_small z_small =
     let size = nat_abs-over z (gcd (nat_abs z) D) in
     record {
@@ -33,17 +33,17 @@ over_number top D z D_positive D_small z_small =
     }
 
 pub over_numbers : (top D : ℕ) (f : ℕ → ℤ) (a m : ℕ) → 0 < D → D ≤ top → ((place : ℕ) → nat_abs (f place) ≤ top) →
-    AreNumbers top (map (over D) (map f (numbers_from a m)))
+    AreTableNumbers top (map (over_common D) (map f (numbers_from a m)))
 over_numbers top D f a zero D_positive D_small small = tt
 over_numbers top D f a (suc m) D_positive D_small small =
     (over_number top D (f a) D_positive D_small (small a), over_numbers top D f (a + 1) m D_positive D_small small)
 
 -- each stands for its number
-pub over_stand : (D : ℕ) (ms : List ℤ) → 0 < D → Stand D (map (over D) ms) ms
+pub over_stand : (D : ℕ) (ms : List ℤ) → 0 < D → Stand D (map (over_common D) ms) ms
 over_stand D [] D_positive = tt
 over_stand D (m ∷ ms) D_positive = (reduced_stands m D D_positive, over_stand D ms D_positive)
 
-pub over_all : (top D : ℕ) (zs : List ℤ) → 0 < D → D ≤ top → AllWithin top zs → AreNumbers top (map (over D) zs)
+pub over_all : (top D : ℕ) (zs : List ℤ) → 0 < D → D ≤ top → AllWithin top zs → AreTableNumbers top (map (over_common D) zs)
 over_all top D [] D_positive D_small small = tt
 over_all top D (z ∷ zs) D_positive D_small small = (
   over_number top D z D_positive D_small (small 0 (pos 0) (omega arith)),

@@ -7,16 +7,16 @@ use Rattle.cost_base.specs.Lists.{numbers_from}
 use Rattle.cost_base.proofs.ListLemmas.{length-map-numbers_from, get_or-map-numbers_from}
 use Rattle.whole_numbers.specs.Fractions.{Fraction}
 use Rattle.whole_numbers.specs.Lists.{number_at}
-use Rattle.path_rows.specs.declared.form.Form.{Form}
-use Rattle.path_rows.specs.declared.form.CostBox.{CostBox}
-use Rattle.path_rows.specs.declared.tree.Member.{Member}
-use Rattle.path_rows.specs.declared.tree.Member.TheVariants.{Low}
-use Rattle.path_rows.specs.Basis.{LeadsPositive, member_form}
-use Rattle.path_rows.specs.Boxes.{IsBox}
-use Rattle.fraction_table.specs.Pivots.{IsLeast, KeepsForms, LeadsNoNegative, member_at, numbers_in, turned_column}
+use Rattle.design_problem.specs.declared.form.Form.{Form}
+use Rattle.design_problem.specs.declared.form.CostBox.{CostBox}
+use Rattle.design_problem.specs.declared.tree.Member.{Member}
+use Rattle.design_problem.specs.declared.tree.Member.TheVariants.{Low}
+use Rattle.design_problem.specs.Basis.{LeadsPositive, member_form}
+use Rattle.design_problem.specs.Boxes.{IsBox}
+use Rattle.fraction_table.specs.Pivots.{IsLeastColumn, KeepsBoxAndRows, LeadsNoNegative, member_at, numbers_in_column, turned_column}
 use Rattle.fraction_table.specs.Ranks.{rank}
 use Rattle.fraction_table.specs.Tableaus.{FitsBox}
-use Rattle.fraction_table.specs.Wholes.{AllLong, members_of, number_of}
+use Rattle.fraction_table.specs.ValidTables.{AllLong, members_of_box, number_of_form}
 use Rattle.fraction_table.proofs.Bases.{members_begin}
 use Rattle.fraction_table.proofs.Ranks.{negative_size, rank_rises_to}
 use Rattle.fraction_table.proofs.theory.Rise.{constants_rise, rise}
@@ -29,11 +29,11 @@ use Rattle.integer_pivots.proofs.UseLaws.{uses_kept}
 use Rattle.whole_numbers.proofs.Sizes.{positive_is, size_positive}
 use Rattle.integer_pivots.specs.Leads.{AreLeads}
 use Rattle.integer_pivots.specs.Numbers.{AllWithin, weight_of}
-use Rattle.integer_pivots.specs.Turns.{IsTurned, IsTurnedRow, turn_of}
+use Rattle.integer_pivots.specs.Turns.{IsNumberTurned, IsTurnedRow, turn_of}
 use Rattle.table_kernel.specs.declared.kernel.Kernel.{Kernel}
 use Rattle.table_kernel.specs.Kernels.{IsBounded, IsKernel, IsShaped, lows_of, stated, width_of}
-use Rattle.table_kernel.specs.Numbers.{lows_by, number_in}
-use Rattle.table_kernel.specs.Turns.{IsBestOf, column_of, form_in, line_numbers}
+use Rattle.table_kernel.specs.Numbers.{lows_by, number_at_column}
+use Rattle.table_kernel.specs.Turns.{IsBestColumn, column_of, form_of_place, numbers_of_place}
 use Rattle.table_kernel.specs.Turnings.{AreWithinReach}
 use Rattle.table_kernel.proofs.AtBasis.{AreAtBasis, ConstantsAre, basis_kernel, kernel_basis, scaled_by}
 use Rattle.table_kernel.proofs.Columns.{column_at, column_long, column_number, low_number_in, lows_few, place_is}
@@ -67,33 +67,33 @@ pub record IsPivoted (k n : Kernel) (place column : ℕ) : Type 0 where
       IsTurnedRow (number_at k.line.items column) k.common (number_at (slice_index_or k.lows.items v []) column) column
       k.line.items (slice_index_or k.lows.items v []) (slice_index_or n.lows.items v [])
   pub constants : (p : ℕ) → p < length k.constants.items →
-      IsTurned (turn_of (number_at k.line.items column) k.common (number_at k.constants.items place))
-      (number_at k.constants.items p) (number_in (form_in k p) (column_of k column)) (number_at n.constants.items p)
+      IsNumberTurned (turn_of (number_at k.line.items column) k.common (number_at k.constants.items place))
+      (number_at k.constants.items p) (number_at_column (form_of_place k p) (column_of k column)) (number_at n.constants.items p)
 
 -- What a pivot of a kernel needs.
 pub record IsPivotIn (k : Kernel) (place column : ℕ) : Type 0 where
   pub kernel : IsKernel k
   pub place_in : place < length k.constants.items
   pub below : number_at k.constants.items place <ℤ pos 0
-  pub line : k.line.items ≡ line_numbers k place
+  pub line : k.line.items ≡ numbers_of_place k place
   pub column_in : column < width_of k
-  pub best : IsBestOf k (Some column)
+  pub best : IsBestColumn k (Some column)
 
 pub pivot_in : (k : Kernel) (place column : ℕ) → IsKernel k → place < length k.constants.items →
-    number_at k.constants.items place <ℤ pos 0 → k.line.items ≡ line_numbers k place → column < width_of k →
-    IsBestOf k (Some column) → IsPivotIn k place column
+    number_at k.constants.items place <ℤ pos 0 → k.line.items ≡ numbers_of_place k place → column < width_of k →
+    IsBestColumn k (Some column) → IsPivotIn k place column
 pivot_in k place column kernel place_in below line column_in best =
     record { kernel = kernel; place_in = place_in; below = below; line = line; column_in = column_in; best = best }
 
 -- the numbers of x - low at a column
 pub columns_by : (cs : List ℤ) (rows : List (List ℤ)) (c : ℕ) → length rows ≤ length cs →
-    numbers_in (suc c) (lows_by cs rows) ≡ map (λ row. number_at row c) rows
+    numbers_in_column (suc c) (lows_by cs rows) ≡ map (λ row. number_at row c) rows
 columns_by cs [] c few = refl
 columns_by [] (row ∷ rows) c few = absurd (omega (arith, few))
 columns_by (z ∷ cs) (row ∷ rows) c few = ap (λ zs. number_at row c ∷ zs) (columns_by cs rows c (omega (arith, few)))
 
 scaled_column : (D : ℕ) (rows : List (List ℤ)) (cs : List ℤ) →
-    numbers_in 0 (map (scaled_by D) (lows_by cs rows)) ≡ map (λ z. z *ℤ pos D) (numbers_in 0 (lows_by cs rows))
+    numbers_in_column 0 (map (scaled_by D) (lows_by cs rows)) ≡ map (λ z. z *ℤ pos D) (numbers_in_column 0 (lows_by cs rows))
 scaled_column D [] cs = refl
 scaled_column D (row ∷ rows) [] = refl
 scaled_column D (row ∷ rows) (z ∷ cs) = ap (λ zs. (z *ℤ pos D) ∷ zs) (scaled_column D rows cs)
@@ -106,25 +106,25 @@ module _ (k : Kernel) (place column : ℕ) (p : IsPivotIn k place column) where
   pivot_is = positive_is (number_at k.line.items column) p.best.1
 
   -- the line's number at a column
-  line_at_column : (c : ℕ) → c < width_of k → number_at k.line.items c ≡ number_in (form_in k place) (column_of k c)
+  line_at_column : (c : ℕ) → c < width_of k → number_at k.line.items c ≡ number_at_column (form_of_place k place) (column_of k c)
   line_at_column c c_in =
       ap (λ (zs : List ℤ). number_at zs c) p.line
-      ∙ get_or-map-numbers_from (λ i. number_in (form_in k place) (column_of k i)) 0 (width_of k) c (pos 0) c_in
-      ∙ ap (λ i. number_in (form_in k place) (column_of k i)) (zero-add c)
+      ∙ get_or-map-numbers_from (λ i. number_at_column (form_of_place k place) (column_of k i)) 0 (width_of k) c (pos 0) c_in
+      ∙ ap (λ i. number_at_column (form_of_place k place) (column_of k i)) (zero-add c)
 
-  number_is : (c : ℕ) → c < width_of k → number_of (nat_abs k.common) k.table.costs.low (lows_of k) (form_in k place) (suc c) ≡ number_at k.line.items c
-  number_is c c_in = column_number k p.kernel.shaped (nat_abs k.common) k.table.costs.low (form_in k place) c ∙ sym (line_at_column c c_in)
+  number_is : (c : ℕ) → c < width_of k → number_of_form (nat_abs k.common) k.table.costs.low (lows_of k) (form_of_place k place) (suc c) ≡ number_at k.line.items c
+  number_is c c_in = column_number k p.kernel.shaped (nat_abs k.common) k.table.costs.low (form_of_place k place) c ∙ sym (line_at_column c c_in)
 
   entering_at : (c : ℕ) → c < width_of k →
       number_at (entering_numbers k.table.costs k.table.rows.items (nat_abs k.common) (lows_of k)
       (member_at k.table place)) (suc c) ≡ number_at k.line.items c
-  entering_at c c_in = numbers_at (width_of k) (nat_abs k.common) k.table.costs.low (lows_of k) (form_in k place)
+  entering_at c c_in = numbers_at (width_of k) (nat_abs k.common) k.table.costs.low (lows_of k) (form_of_place k place)
       (suc c) (omega (arith, c_in)) ∙ number_is c c_in
 
-  column_is : (c : ℕ) → numbers_in (suc c) (lows_of k) ≡ column_of k c
+  column_is : (c : ℕ) → numbers_in_column (suc c) (lows_of k) ≡ column_of k c
   column_is c = columns_by k.constants.items k.lows.items c (lows_few k p.kernel.shaped)
 
-  pub is_least : IsLeast (width_of k) (lows_of k)
+  pub is_least : IsLeastColumn (width_of k) (lows_of k)
       (entering_numbers k.table.costs k.table.rows.items (nat_abs k.common) (lows_of k)
       (member_at k.table place)) column
   is_least c c_in other b b_is above =
@@ -135,8 +135,8 @@ module _ (k : Kernel) (place column : ℕ) (p : IsPivotIn k place column) where
       subst LeadsNoNegative
       (ap (λ m. turned_column m (column_of k c) (number_at k.line.items c) (column_of k column)) b_same
       ∙ ap (λ zs. turned_column b zs (number_at k.line.items c) (column_of k column)) (sym (column_is c))
-      ∙ ap (λ z. turned_column b (numbers_in (suc c) (lows_of k)) z (column_of k column)) (sym at_c)
-      ∙ ap (λ zs. turned_column b (numbers_in (suc c) (lows_of k))
+      ∙ ap (λ z. turned_column b (numbers_in_column (suc c) (lows_of k)) z (column_of k column)) (sym at_c)
+      ∙ ap (λ zs. turned_column b (numbers_in_column (suc c) (lows_of k))
       (number_at (entering_numbers k.table.costs k.table.rows.items (nat_abs k.common) (lows_of k)
       (member_at k.table place)) (suc c)) zs) (sym (column_is column)))
       leads
@@ -157,7 +157,7 @@ module _ (k : Kernel) (place column : ℕ) (p : IsPivotIn k place column) where
   entering_is =
       let b = kernel_basis k p.kernel in
       let n = width_of k in
-      let g : ℕ → ℤ = number_of (nat_abs k.common) k.table.costs.low (lows_of k) (form_in k place) in
+      let g : ℕ → ℤ = number_of_form (nat_abs k.common) k.table.costs.low (lows_of k) (form_of_place k place) in
       let rest : map g (numbers_from 1 n) ≡ k.line.items =
       ext_get_or (pos 0) (map g (numbers_from 1 n)) k.line.items
       (length-map-numbers_from g 1 n ∙ sym p.kernel.shaped.line)
@@ -168,24 +168,24 @@ module _ (k : Kernel) (place column : ℕ) (p : IsPivotIn k place column) where
       ap (λ z. z ∷ map g (numbers_from 1 n)) (sym (b.1 place p.place_in)) ∙ ap (λ zs. number_at k.constants.items place ∷ zs) rest
 
   -- the number of x - low is that of its row
-  pub own_number : (v : ℕ) → v < width_of k → number_in (form_in k v) (column_of k column) ≡ number_at (slice_index_or k.lows.items v []) column
+  pub own_number : (v : ℕ) → v < width_of k → number_at_column (form_of_place k v) (column_of k column) ≡ number_at (slice_index_or k.lows.items v []) column
   own_number v v_in =
-      ap (λ (m : Member). number_in (member_form (width_of k) k.table.rows.items m) (column_of k column))
+      ap (λ (m : Member). number_at_column (member_form (width_of k) k.table.rows.items m) (column_of k column))
       (members_begin k.table.costs (length k.table.rows.items) v (Low 0 0) v_in)
       ∙ low_number_in (width_of k) k.table.rows.items v (slice_index k.table.costs.low v) (column_of k column) v_in (sym (column_long k p.kernel.shaped column))
       ∙ column_at k p.kernel.shaped column v [] v_in
 
   -- a constant turns by the pivot's number over the old denominator
   constant_turned : (n : Kernel) → IsPivoted k n place column → (c : ℕ) → c < length k.constants.items →
-      IsTurned (turn_of (pos (nat_abs (number_at k.line.items column))) (pos (nat_abs k.common))
+      IsNumberTurned (turn_of (pos (nat_abs (number_at k.line.items column))) (pos (nat_abs k.common))
       (number_at k.constants.items place)) (number_at k.constants.items c)
-      (number_in (form_in k c) (column_of k column)) (number_at n.constants.items c)
+      (number_at_column (form_of_place k c) (column_of k column)) (number_at n.constants.items c)
   constant_turned n q c c_in =
-      subst (λ (z : ℤ). IsTurned (turn_of z (pos (nat_abs k.common)) (number_at k.constants.items place))
-      (number_at k.constants.items c) (number_in (form_in k c) (column_of k column))
+      subst (λ (z : ℤ). IsNumberTurned (turn_of z (pos (nat_abs k.common)) (number_at k.constants.items place))
+      (number_at k.constants.items c) (number_at_column (form_of_place k c) (column_of k column))
       (number_at n.constants.items c)) pivot_is
-      (subst (λ (z : ℤ). IsTurned (turn_of (number_at k.line.items column) z (number_at k.constants.items place))
-      (number_at k.constants.items c) (number_in (form_in k c) (column_of k column))
+      (subst (λ (z : ℤ). IsNumberTurned (turn_of (number_at k.line.items column) z (number_at k.constants.items place))
+      (number_at k.constants.items c) (number_at_column (form_of_place k c) (column_of k column))
       (number_at n.constants.items c)) common_is (q.constants c c_in))
 
   module _ (n : Kernel) (q : IsPivoted k n place column) where
@@ -213,7 +213,7 @@ module _ (k : Kernel) (place column : ℕ) (p : IsPivotIn k place column) where
                   (subst (λ (z : ℤ). IsTurnedRow (number_at k.line.items column) z (number_at row column) column
                   k.line.items row after) common_is (q.lows v v_in));
               constant =
-                  subst (λ (z : ℤ). IsTurned
+                  subst (λ (z : ℤ). IsNumberTurned
                   (turn_of (pos (nat_abs (number_at k.line.items column))) (pos (nat_abs k.common))
                   (number_at k.constants.items place)) (number_at k.constants.items v) z
                   (number_at n.constants.items v)) (own_number v (omega (arith, v_in, p.kernel.shaped.lows)))
@@ -230,15 +230,15 @@ module _ (k : Kernel) (place column : ℕ) (p : IsPivotIn k place column) where
 
     -- a form's constant after the pivot
     pub constant_is : (c : ℕ) → c < length k.constants.items →
-        number_at n.constants.items c ≡ number_of (nat_abs (number_at k.line.items column)) k.table.costs.low
-        (lows_of n) (form_in k c) 0
+        number_at n.constants.items c ≡ number_of_form (nat_abs (number_at k.line.items column)) k.table.costs.low
+        (lows_of n) (form_of_place k c) 0
     constant_is c c_in =
         let b = kernel_basis k p.kernel in
         constant_after k.table.costs k.table.rows.items k.table.basis.items (nat_abs k.common) (lows_of k) (lows_of n)
-        (member_at k.table place) column (nat_abs (number_at k.line.items column)) (form_in k c)
-        (number_at k.constants.items c) (number_in (form_in k c) (column_of k column)) (number_at k.constants.items place) (number_at n.constants.items c)
+        (member_at k.table place) column (nat_abs (number_at k.line.items column)) (form_of_place k c)
+        (number_at k.constants.items c) (number_at_column (form_of_place k c) (column_of k column)) (number_at k.constants.items place) (number_at n.constants.items c)
         b.0 turn_is rows_are (b.1 c c_in)
-        (sym (column_number k p.kernel.shaped (nat_abs k.common) k.table.costs.low (form_in k c) column))
+        (sym (column_number k p.kernel.shaped (nat_abs k.common) k.table.costs.low (form_of_place k c) column))
         (b.1 place p.place_in) (constant_turned n q c c_in)
 
     wide_is : width_of n ≡ width_of k
@@ -258,8 +258,8 @@ module _ (k : Kernel) (place column : ℕ) (p : IsPivotIn k place column) where
           leads = q.leads_count ∙ s.leads ∙ sym wide_is;
           lead = q.leads s.lead;
           constants = q.constants_count ∙ s.constants
-              ∙ ap (λ (rows : Vec Form Global). length (members_of k.table.costs (length rows.items))) (sym q.rows)
-              ∙ ap (λ (c : CostBox). length (members_of c (length n.table.rows.items))) (sym q.costs);
+              ∙ ap (λ (rows : Vec Form Global). length (members_of_box k.table.costs (length rows.items))) (sym q.rows)
+              ∙ ap (λ (c : CostBox). length (members_of_box c (length n.table.rows.items))) (sym q.costs);
           uses = uses_kept k.uses.items n.uses.items k.table.rows.items n.table.rows.items (width_of k) (width_of n)
               (ap (λ (us : Vec (Vec Use Global) Global). held_in us.items) q.uses)
               (ap (λ (rows : Vec Form Global). rows.items) q.rows) wide_is s.uses;
@@ -311,41 +311,41 @@ module _ (k : Kernel) (place column : ℕ) (p : IsPivotIn k place column) where
       where
         -- the form of a place by the box and the rows
         form_by : CostBox → List Form → ℕ → Form
-        form_by costs rows c = member_form (length costs.low) rows (slice_index_or (members_of costs (length rows)) c (Low 0 0))
+        form_by costs rows c = member_form (length costs.low) rows (slice_index_or (members_of_box costs (length rows)) c (Low 0 0))
 
         constants_are : ConstantsAre n
         constants_are c c_in =
             constant_is c (omega (arith, c_in, q.constants_count))
-            ∙ ap (λ (m : ℕ). number_of m k.table.costs.low (lows_of n) (form_by k.table.costs k.table.rows.items c) 0) (sym (ap nat_abs q.common))
-            ∙ ap (λ (box : CostBox). number_of (nat_abs n.common) box.low (lows_of n) (form_by box k.table.rows.items c) 0) (sym q.costs)
-            ∙ ap (λ (rows : Vec Form Global). number_of (nat_abs n.common) n.table.costs.low (lows_of n) (form_by n.table.costs rows.items c) 0) (sym q.rows)
+            ∙ ap (λ (m : ℕ). number_of_form m k.table.costs.low (lows_of n) (form_by k.table.costs k.table.rows.items c) 0) (sym (ap nat_abs q.common))
+            ∙ ap (λ (box : CostBox). number_of_form (nat_abs n.common) box.low (lows_of n) (form_by box k.table.rows.items c) 0) (sym q.costs)
+            ∙ ap (λ (rows : Vec Form Global). number_of_form (nat_abs n.common) n.table.costs.low (lows_of n) (form_by n.table.costs rows.items c) 0) (sym q.rows)
 
-    pub forms_kept : KeepsForms (stated k) (stated n)
+    pub forms_kept : KeepsBoxAndRows (stated k) (stated n)
     forms_kept = record { top = q.top; costs = q.costs; rows = ap (λ (rows : Vec Form Global). rows.items) q.rows }
 
     -- the constants rise
     leads : LeadsPositive (rise (nat_abs k.common) (nat_abs (number_at k.line.items column))
-        (map (λ z. z *ℤ pos (nat_abs k.common)) (numbers_in 0 (lows_of n))) (numbers_in 0 (lows_of k)))
+        (map (λ z. z *ℤ pos (nat_abs k.common)) (numbers_in_column 0 (lows_of n))) (numbers_in_column 0 (lows_of k)))
     leads =
         let b = kernel_basis k p.kernel in
         let ts = entering_numbers k.table.costs k.table.rows.items (nat_abs k.common) (lows_of k) (member_at k.table place) in
-        let counted : length ts ≡ suc (width_of k) = numbers_long (width_of k) (nat_abs k.common) k.table.costs.low (lows_of k) (form_in k place) in
+        let counted : length ts ≡ suc (width_of k) = numbers_long (width_of k) (nat_abs k.common) k.table.costs.low (lows_of k) (form_of_place k place) in
         let long : AllLong (length ts) (lows_of k) = subst (λ (m : ℕ). AllLong m (lows_of k)) (sym counted) b.0.long in
         let first : number_at ts 0 ≡ number_at k.constants.items place =
-        numbers_at (width_of k) (nat_abs k.common) k.table.costs.low (lows_of k) (form_in k place) 0 (omega arith) ∙ sym (b.1 place p.place_in) in
+        numbers_at (width_of k) (nat_abs k.common) k.table.costs.low (lows_of k) (form_of_place k place) 0 (omega arith) ∙ sym (b.1 place p.place_in) in
         let negative : number_at ts 0 <ℤ pos 0 = subst (λ (z : ℤ). z <ℤ pos 0) (sym first) p.below in
         let size = negative_size (number_at ts 0) negative in
         let rises = constants_rise (nat_abs k.common) (nat_abs (number_at k.line.items column))
-        (numbers_in 0 (lows_of k)) size.0 (number_at ts 0) (numbers_in (suc column) (lows_of k)) b.0.positive size.1
+        (numbers_in_column 0 (lows_of k)) size.0 (number_at ts 0) (numbers_in_column (suc column) (lows_of k)) b.0.positive size.1
         size.2 (length-numbers_in 0 (lows_of k) (suc column)) (b.0.lead column p.column_in) in
-        let is : turned_column (nat_abs (number_at k.line.items column)) (numbers_in 0 (lows_of k)) (number_at ts 0)
-        (numbers_in (suc column) (lows_of k)) ≡ map (λ z. z *ℤ pos (nat_abs k.common)) (numbers_in 0 (lows_of n)) =
+        let is : turned_column (nat_abs (number_at k.line.items column)) (numbers_in_column 0 (lows_of k)) (number_at ts 0)
+        (numbers_in_column (suc column) (lows_of k)) ≡ map (λ z. z *ℤ pos (nat_abs k.common)) (numbers_in_column 0 (lows_of n)) =
         sym (column_other (nat_abs (number_at k.line.items column)) (nat_abs k.common) (lows_of k) ts
         (suc column) 0 long (entering_at column p.column_in ∙ pivot_is) (λ same. omega (arith, same))
         (omega (arith, counted)))
-        ∙ ap (λ (rows : List (List ℤ)). numbers_in 0 rows) rows_are
+        ∙ ap (λ (rows : List (List ℤ)). numbers_in_column 0 rows) rows_are
         ∙ scaled_column (nat_abs k.common) n.lows.items n.constants.items in
-        subst (λ (ys : List ℤ). LeadsPositive (rise (nat_abs k.common) (nat_abs (number_at k.line.items column)) ys (numbers_in 0 (lows_of k)))) is rises
+        subst (λ (ys : List ℤ). LeadsPositive (rise (nat_abs k.common) (nat_abs (number_at k.line.items column)) ys (numbers_in_column 0 (lows_of k)))) is rises
 
     pub rank_rose : rank (stated k) < rank (stated n)
     rank_rose =
@@ -356,15 +356,15 @@ module _ (k : Kernel) (place column : ℕ) (p : IsPivotIn k place column) where
         rank_rises_to (stated k) (stated n) w v forms_kept
         (subst (λ (rows : List (List ℤ)).
         LeadsPositive (rise w.unboxed.common v.unboxed.common
-        (map (λ z. z *ℤ pos w.unboxed.common) (numbers_in 0 v.unboxed.lows)) (numbers_in 0 rows)))
+        (map (λ z. z *ℤ pos w.unboxed.common) (numbers_in_column 0 v.unboxed.lows)) (numbers_in_column 0 rows)))
         (sym p.kernel.numbers.lows)
         (subst (λ (rows : List (List ℤ)).
         LeadsPositive (rise w.unboxed.common v.unboxed.common
-        (map (λ z. z *ℤ pos w.unboxed.common) (numbers_in 0 rows)) (numbers_in 0 (lows_of k))))
+        (map (λ z. z *ℤ pos w.unboxed.common) (numbers_in_column 0 rows)) (numbers_in_column 0 (lows_of k))))
         (sym kernel_is.numbers.lows)
         (subst (λ (m : ℕ). LeadsPositive
-        (rise w.unboxed.common m (map (λ z. z *ℤ pos w.unboxed.common) (numbers_in 0 (lows_of n)))
-        (numbers_in 0 (lows_of k)))) (sym common_after)
+        (rise w.unboxed.common m (map (λ z. z *ℤ pos w.unboxed.common) (numbers_in_column 0 (lows_of n)))
+        (numbers_in_column 0 (lows_of k)))) (sym common_after)
         (subst (λ (m : ℕ). LeadsPositive
-        (rise m (nat_abs (number_at k.line.items column)) (map (λ z. z *ℤ pos m) (numbers_in 0 (lows_of n)))
-        (numbers_in 0 (lows_of k)))) (sym common_before) leads))))
+        (rise m (nat_abs (number_at k.line.items column)) (map (λ z. z *ℤ pos m) (numbers_in_column 0 (lows_of n)))
+        (numbers_in_column 0 (lows_of k)))) (sym common_before) leads))))

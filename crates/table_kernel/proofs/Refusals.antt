@@ -10,12 +10,12 @@ use Rattle.integer_pivots.proofs.Crossings.{item_is, positive_size}
 use Rattle.integer_pivots.proofs.Sizes.{read, read_number}
 use Rattle.table_kernel.specs.declared.kernel.OutOfRange.{OutOfRange}
 use Rattle.table_kernel.specs.declared.kernel.Kernel.{Kernel}
-use Rattle.table_kernel.specs.Turns.{IsBestOf, IsFoundNegative, KeepsNumbers, along_numbers, line_numbers}
-use Rattle.table_kernel.specs.Turnings.{IsHeldUp, IsReady, IsRefusedAt, MayTurn, turn_at}
+use Rattle.table_kernel.specs.Turns.{IsBestColumn, IsFoundNegative, KeepsNumbers, along_numbers, numbers_of_place}
+use Rattle.table_kernel.specs.Turnings.{IsHeldUp, IsReadyToTurn, IsRefusedAt, MayTurn, turn_at}
 use Rattle.table_kernel.proofs.SameButRoom.{rebuilt}
 
 -- what is read of the line, of the denominator and of the constants is the turn at a place and a column
-pub turn_at_is : (k : Kernel) (place column : ℕ) (pivot across : ℤ) → IsReady k → place < length k.constants.items →
+pub turn_at_is : (k : Kernel) (place column : ℕ) (pivot across : ℤ) → IsReadyToTurn k → place < length k.constants.items →
     column < length k.line.items → pivot ≡ slice_index_or k.line.items column pivot →
     across ≡ slice_index_or k.constants.items place across →
     turn_of (read pivot) (read k.common) (read across) ≡ turn_at k place column
@@ -36,14 +36,14 @@ on_err (Err error) fact = fact
 
 -- once the numbers at the column stand along
 pub refused_at : (k m : Kernel) (place column : ℕ) → KeepsNumbers k m → m.line ≡ k.line →
-    k.line.items ≡ line_numbers k place → IsBestOf k (Some column) → m.along.items ≡ along_numbers k column →
+    k.line.items ≡ numbers_of_place k place → IsBestColumn k (Some column) → m.along.items ≡ along_numbers k column →
     (MayTurn m place column → ⊥) → IsRefusedAt m place column
 refused_at k m place column keeps line_kept line_is best along_is refused =
     let same = rebuilt k m keeps in
     record {
-      line = ap (λ (ls : Vec ℤ Global). ls.items) line_kept ∙ line_is ∙ sym (ap (λ (h : Kernel). line_numbers h place) same);
-      best = subst (λ (h : Kernel). IsBestOf h (Some column)) (sym same)
-          (subst (λ (ls : Vec ℤ Global). IsBestOf (record k { left = m.left; line = ls; along = m.along }) (Some column)) (sym line_kept) best);
+      line = ap (λ (ls : Vec ℤ Global). ls.items) line_kept ∙ line_is ∙ sym (ap (λ (h : Kernel). numbers_of_place h place) same);
+      best = subst (λ (h : Kernel). IsBestColumn h (Some column)) (sym same)
+          (subst (λ (ls : Vec ℤ Global). IsBestColumn (record k { left = m.left; line = ls; along = m.along }) (Some column)) (sym line_kept) best);
       along = along_is ∙ sym (ap (λ (h : Kernel). along_numbers h column) same);
       refused = refused;
     }

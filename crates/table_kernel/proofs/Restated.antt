@@ -8,44 +8,44 @@ use Rattle.cost_base.specs.Lists.{numbers_from}
 use Rattle.cost_base.proofs.ListLemmas.{length-map-numbers_from, map-numbers_from-agree}
 use Rattle.whole_numbers.specs.Fractions.{Fraction}
 use Rattle.whole_numbers.specs.Lists.{number_at}
-use Rattle.path_rows.specs.declared.tree.Member.{Member}
-use Rattle.path_rows.specs.declared.tree.Member.TheVariants.{Low}
-use Rattle.path_rows.specs.Basis.{member_form}
+use Rattle.design_problem.specs.declared.tree.Member.{Member}
+use Rattle.design_problem.specs.declared.tree.Member.TheVariants.{Low}
+use Rattle.design_problem.specs.Basis.{member_form}
 use Rattle.fraction_table.specs.RowLines.{HasPlace}
-use Rattle.fraction_table.specs.Wholes.{HasRoom, IsWhole, IsWholeTable, members_of, number_of, numbers_of}
+use Rattle.fraction_table.specs.ValidTables.{HasRoom, IsTableauOf, IsTableau, members_of_box, number_of_form, numbers_of_form}
 use Rattle.fraction_table.proofs.BetweenBoxes.{all_written, length-written, written_next}
 use Rattle.fraction_table.proofs.Restarts.{keeps_lines}
 use Rattle.fraction_table.proofs.theory.Blends.{shifted}
 use Rattle.table_kernel.specs.declared.kernel.Kernel.{Kernel}
-use Rattle.table_kernel.specs.Kernels.{IsBounded, IsKernel, IsMoving, IsShaped, lines_of, lows_of, width_of}
-use Rattle.table_kernel.specs.Numbers.{fraction_line, number_in, over}
+use Rattle.table_kernel.specs.Kernels.{IsBounded, IsKernel, IsMoving, IsShaped, kernel_lines, lows_of, width_of}
+use Rattle.table_kernel.specs.Numbers.{fraction_line, number_at_column, over_common}
 use Rattle.table_kernel.specs.Restated.{KeepsAllButRoom}
-use Rattle.table_kernel.specs.Turns.{KeepsNumbers, column_of, form_in, line_numbers}
+use Rattle.table_kernel.specs.Turns.{KeepsNumbers, column_of, form_of_place, numbers_of_place}
 use Rattle.table_kernel.proofs.AtBasis.{AreAtBasis, ConstantsAre, basis_moving, moving_basis, stated_lines}
 use Rattle.table_kernel.proofs.Columns.{column_number}
 
 -- the numbers of a place's form are its constant and those at the columns
 pub place_numbers : (k : Kernel) → IsShaped k → ConstantsAre k → (place : ℕ) → place < length k.constants.items →
-    numbers_of (width_of k) (nat_abs k.common) k.table.costs.low (lows_of k) (form_in k place)
-    ≡ number_at k.constants.items place ∷ line_numbers k place
+    numbers_of_form (width_of k) (nat_abs k.common) k.table.costs.low (lows_of k) (form_of_place k place)
+    ≡ number_at k.constants.items place ∷ numbers_of_place k place
 place_numbers k s c place place_in =
-    let number = number_of (nat_abs k.common) k.table.costs.low (lows_of k) (form_in k place) in
+    let number = number_of_form (nat_abs k.common) k.table.costs.low (lows_of k) (form_of_place k place) in
     ap (λ (z : ℤ). z ∷ map number (numbers_from 1 (width_of k))) (sym (c place place_in))
     ∙ ap (λ (zs : List ℤ). number_at k.constants.items place ∷ zs)
     (shifted number 0 (width_of k)
-    ∙ map-numbers_from-agree (λ p. number (suc p)) (λ column. number_in (form_in k place) (column_of k column)) 0 (width_of k)
-    (λ column from column_in. column_number k s (nat_abs k.common) k.table.costs.low (form_in k place) column))
+    ∙ map-numbers_from-agree (λ p. number (suc p)) (λ column. number_at_column (form_of_place k place) (column_of k column)) 0 (width_of k)
+    (λ column from column_in. column_number k s (nat_abs k.common) k.table.costs.low (form_of_place k place) column))
 
 -- the line of a place, by its numbers
 pub line_of_place : (k : Kernel) → IsMoving k → (place : ℕ) → place < length k.constants.items →
     (line : List Fraction) → line
-    ≡ map (over (nat_abs k.common)) (number_at k.constants.items place ∷ line_numbers k place) →
-    line ≡ slice_index_or (lines_of k) place []
+    ≡ map (over_common (nat_abs k.common)) (number_at k.constants.items place ∷ numbers_of_place k place) →
+    line ≡ slice_index_or (kernel_lines k) place []
 line_of_place k m place place_in line line_is =
     let basis = moving_basis k m in
-    let members = members_of k.table.costs (length k.table.rows.items) in
+    let members = members_of_box k.table.costs (length k.table.rows.items) in
     line_is
-    ∙ ap (map (over (nat_abs k.common))) (sym (place_numbers k m.shaped basis.1 place place_in))
+    ∙ ap (map (over_common (nat_abs k.common))) (sym (place_numbers k m.shaped basis.1 place place_in))
     ∙ sym (get_or-map (fraction_line (nat_abs k.common) k.table.costs k.table.rows.items (lows_of k)) members place
     (Low 0 0) [] (subst (λ (n : ℕ). place < n) m.shaped.constants place_in))
 
@@ -58,7 +58,7 @@ basis_kept old new k a = rw (k.table.costs, k.table.rows, k.table.basis, k.commo
 pub constants_kept : (old new : Kernel) → KeepsAllButRoom old new → ConstantsAre old → ConstantsAre new
 constants_kept old new k c = rw (k.table.costs, k.table.rows, k.common, k.lows, k.constants) c
 
-pub lines_kept : (old new : Kernel) → KeepsAllButRoom old new → lines_of new ≡ lines_of old
+pub lines_kept : (old new : Kernel) → KeepsAllButRoom old new → kernel_lines new ≡ kernel_lines old
 lines_kept old new k = rw (k.table.costs, k.table.rows, k.common, k.lows, k.constants) refl
 
 pub bounded_kept : (old new : Kernel) → KeepsAllButRoom old new → IsBounded old → IsBounded new
@@ -172,59 +172,59 @@ keeps_itself k =
 
 -- the lines of the first places are put
 abbrev pub restated_to : Kernel → ℕ → List (List Fraction)
-restated_to k place = take place (lines_of k) ++ drop place k.table.lines.items
+restated_to k place = take place (kernel_lines k) ++ drop place k.table.lines.items
 
 -- there is one for each constant
-pub lines_many : (k : Kernel) → IsShaped k → length (lines_of k) ≡ length k.constants.items
+pub lines_many : (k : Kernel) → IsShaped k → length (kernel_lines k) ≡ length k.constants.items
 lines_many k s =
-    length-map (members_of k.table.costs (length k.table.rows.items))
+    length-map (members_of_box k.table.costs (length k.table.rows.items))
     (fraction_line (nat_abs k.common) k.table.costs k.table.rows.items (lows_of k)) ∙ sym s.constants
 
-lines_wide : (k : Kernel) → All (λ line. length line ≡ suc (width_of k)) (lines_of k)
+lines_wide : (k : Kernel) → All (λ line. length line ≡ suc (width_of k)) (kernel_lines k)
 lines_wide k =
     All-map (λ line. length line ≡ suc (width_of k))
     (fraction_line (nat_abs k.common) k.table.costs k.table.rows.items (lows_of k))
-    (members_of k.table.costs (length k.table.rows.items))
-    (λ place d place_in. wide (slice_index_or (members_of k.table.costs (length k.table.rows.items)) place d))
+    (members_of_box k.table.costs (length k.table.rows.items))
+    (λ place d place_in. wide (slice_index_or (members_of_box k.table.costs (length k.table.rows.items)) place d))
   where
     wide : (member : Member) → length (fraction_line (nat_abs k.common) k.table.costs k.table.rows.items (lows_of k) member) ≡ suc (width_of k)
     wide member =
-        let number = number_of (nat_abs k.common) k.table.costs.low (lows_of k) (member_form (width_of k) k.table.rows.items member) in
-        length-map (map number (numbers_from 0 (suc (width_of k)))) (over (nat_abs k.common)) ∙ length-map-numbers_from number 0 (suc (width_of k))
+        let number = number_of_form (nat_abs k.common) k.table.costs.low (lows_of k) (member_form (width_of k) k.table.rows.items member) in
+        length-map (map number (numbers_from 0 (suc (width_of k)))) (over_common (nat_abs k.common)) ∙ length-map-numbers_from number 0 (suc (width_of k))
 
 -- a kernel while its lines are put
 pub restating : (old new : Kernel) (place : ℕ) → IsMoving old → KeepsAllButRoom old new → new.table.lines.items ≡ restated_to old place → IsMoving new
 restating old new place m k lines =
-    let same : length old.table.lines.items ≡ length (lines_of old) = m.shaped.lines ∙ sym (lines_many old m.shaped) in
-    moving_kept old new k (ap length lines ∙ length-written old.table.lines.items (lines_of old) place same)
+    let same : length old.table.lines.items ≡ length (kernel_lines old) = m.shaped.lines ∙ sym (lines_many old m.shaped) in
+    moving_kept old new k (ap length lines ∙ length-written old.table.lines.items (kernel_lines old) place same)
     (subst (All (λ line. length line ≡ suc (width_of old))) (sym lines)
-    (All-append (λ line. length line ≡ suc (width_of old)) (take place (lines_of old)) (drop place old.table.lines.items)
-    (All-take (λ line. length line ≡ suc (width_of old)) place (lines_of old) (lines_wide old))
+    (All-append (λ line. length line ≡ suc (width_of old)) (take place (kernel_lines old)) (drop place old.table.lines.items)
+    (All-take (λ line. length line ≡ suc (width_of old)) place (kernel_lines old) (lines_wide old))
     (All-drop (λ line. length line ≡ suc (width_of old)) place old.table.lines.items m.shaped.wide)))
     m
 
 pub restated_next : (old mid : Kernel) (place : ℕ) (news : List (List Fraction)) → IsMoving old →
     KeepsAllButRoom old mid → place < length old.constants.items → mid.table.lines.items ≡ restated_to old place →
-    news ≡ slice_set mid.table.lines.items place (slice_index_or (lines_of mid) place []) →
+    news ≡ slice_set mid.table.lines.items place (slice_index_or (kernel_lines mid) place []) →
     news ≡ restated_to old (place + 1)
 restated_next old mid place news m k place_in lines news_are =
     news_are
-    ∙ ap (λ ls. slice_set ls place (slice_index_or (lines_of mid) place [])) lines
-    ∙ written_next old.table.lines.items (lines_of old) place [] (slice_index_or (lines_of mid) place [])
+    ∙ ap (λ ls. slice_set ls place (slice_index_or (kernel_lines mid) place [])) lines
+    ∙ written_next old.table.lines.items (kernel_lines old) place [] (slice_index_or (kernel_lines mid) place [])
     (omega (arith, place_in, m.shaped.lines)) (omega (arith, place_in, lines_many old m.shaped))
     (ap (λ ls. slice_index_or ls place []) (lines_kept old mid k))
 
 pub restated_all : (old : Kernel) (place : ℕ) (news : List (List Fraction)) → IsMoving old →
-    place ≡ length old.constants.items → news ≡ restated_to old place → news ≡ lines_of old
+    place ≡ length old.constants.items → news ≡ restated_to old place → news ≡ kernel_lines old
 restated_all old place news m all lines =
-    lines ∙ all_written old.table.lines.items (lines_of old) place (m.shaped.lines ∙ sym all) (lines_many old m.shaped ∙ sym all)
+    lines ∙ all_written old.table.lines.items (kernel_lines old) place (m.shaped.lines ∙ sym all) (lines_many old m.shaped ∙ sym all)
 
 -- the table in fractions is whole
-pub restated_whole : (old new : Kernel) → IsKernel old → KeepsAllButRoom old new → new.table.lines.items ≡ lines_of old → IsWholeTable new.table
+pub restated_whole : (old new : Kernel) → IsKernel old → KeepsAllButRoom old new → new.table.lines.items ≡ kernel_lines old → IsTableau new.table
 restated_whole old new m k lines =
     let w = m.whole in
-    let stated_whole : IsWhole old.table.top old.table.costs old.table.rows.items old.table.basis.items (lines_of old) =
-    subst (IsWhole old.table.top old.table.costs old.table.rows.items old.table.basis.items) (stated_lines old m.shaped) w in
+    let stated_whole : IsTableauOf old.table.top old.table.costs old.table.rows.items old.table.basis.items (kernel_lines old) =
+    subst (IsTableauOf old.table.top old.table.costs old.table.rows.items old.table.basis.items) (stated_lines old m.shaped) w in
     rw (k.table.top, k.table.costs, k.table.rows, k.table.basis, lines) stated_whole
 
 pub restated_room : (old new : Kernel) → IsKernel old → KeepsAllButRoom old new → HasRoom new.table

@@ -3,19 +3,19 @@ use Rattle.std.specs.declared.alloc.Global.{Global}
 use Rattle.std.proofs.Common.{Vec, ◌≡◌, ℕ, suc, ◌*◌, ◌^◌, ◌≤◌, refl, sym, ◌∙◌, ap, subst, List, length, arith}
 use Rattle.std.specs.Prelude.{ℤ, pos, ◌<ℤ◌, ◌≤ℤ◌, nat_abs, All}
 use Rattle.whole_numbers.specs.Fractions.{Fraction}
-use Rattle.path_rows.specs.declared.form.Form.{Form}
-use Rattle.path_rows.specs.declared.form.CostBox.{CostBox}
-use Rattle.path_rows.specs.declared.tree.Member.{Member}
-use Rattle.path_rows.specs.Boxes.{IsBox}
+use Rattle.design_problem.specs.declared.form.Form.{Form}
+use Rattle.design_problem.specs.declared.form.CostBox.{CostBox}
+use Rattle.design_problem.specs.declared.tree.Member.{Member}
+use Rattle.design_problem.specs.Boxes.{IsBox}
 use Rattle.fraction_table.specs.declared.table.Table.{Table}
 use Rattle.fraction_table.specs.RowLines.{HoldsSame}
 use Rattle.fraction_table.specs.Tableaus.{FitsBox}
-use Rattle.fraction_table.specs.Wholes.{members_of}
+use Rattle.fraction_table.specs.ValidTables.{members_of_box}
 use Rattle.integer_pivots.proofs.UseLaws.{uses_kept}
 use Rattle.integer_pivots.specs.Leads.{AreLeads}
 use Rattle.integer_pivots.specs.Numbers.{AllWithin, weight_of}
 use Rattle.table_kernel.specs.declared.kernel.Kernel.{Kernel}
-use Rattle.table_kernel.specs.Kernels.{IsBounded, IsKernel, IsShaped, lines_of, lows_of, stated, width_of}
+use Rattle.table_kernel.specs.Kernels.{IsBounded, IsKernel, IsShaped, kernel_lines, lows_of, stated, width_of}
 use Rattle.table_kernel.specs.Numbers.{lows_by}
 use Rattle.table_kernel.specs.Turns.{HoldsNumbers}
 use Rattle.table_kernel.proofs.AtBasis.{AreAtBasis, basis_kernel, kernel_basis, stated_lines}
@@ -25,9 +25,9 @@ same_shaped : (old new : Kernel) → HoldsSame old.table new.table → HoldsNumb
 same_shaped old new t h s =
     let width : width_of new ≡ width_of old = ap (λ (costs : CostBox). length costs.low) t.costs in
     let constants = ap length h.constants in
-    let counted : length (members_of new.table.costs (length new.table.rows.items)) ≡ length (members_of old.table.costs (length old.table.rows.items)) =
-    ap (λ (costs : CostBox). length (members_of costs (length new.table.rows.items))) t.costs
-    ∙ ap (λ (rows : List Form). length (members_of old.table.costs (length rows))) t.rows in
+    let counted : length (members_of_box new.table.costs (length new.table.rows.items)) ≡ length (members_of_box old.table.costs (length old.table.rows.items)) =
+    ap (λ (costs : CostBox). length (members_of_box costs (length new.table.rows.items))) t.costs
+    ∙ ap (λ (rows : List Form). length (members_of_box old.table.costs (length rows))) t.rows in
     record {
       room = record {
         few = omega (arith, width, s.room.few);
@@ -99,5 +99,5 @@ lines_same old new t k kernel =
     ∙ same
     ∙ sym (stated_lines old kernel.shaped)
   where
-    same : lines_of new ≡ lines_of old
+    same : kernel_lines new ≡ kernel_lines old
     same = rw (t.costs, t.rows, k.common, k.lows, k.constants) refl

@@ -5,26 +5,26 @@ use Rattle.std.proofs.lemmas.List.{get_or_default}
 use Rattle.cost_base.proofs.ListLemmas.{get_or-map-numbers_from}
 use Rattle.whole_numbers.specs.Fractions.{Fraction, StandsFor}
 use Rattle.whole_numbers.specs.Lists.{number_at}
-use Rattle.path_rows.specs.Basis.{entry}
-use Rattle.path_rows.specs.Steps.{IsStuck}
+use Rattle.design_problem.specs.Basis.{entry}
+use Rattle.design_problem.specs.Steps.{IsStuck}
 use Rattle.fraction_table.specs.declared.table.Table.{Table}
 use Rattle.fraction_table.specs.Pivots.{line_at}
-use Rattle.fraction_table.specs.Wholes.{number_of}
+use Rattle.fraction_table.specs.ValidTables.{number_of_form}
 use Rattle.fraction_rows.proofs.RowLaws.{number_at as number_there}
 use Rattle.fraction_table.proofs.Pivots.{line_long, lines_long, members_long, whole_line}
 use Rattle.fraction_table.proofs.Solutions.{high_number, low_number, negative_number}
-use Rattle.fraction_table.proofs.WholeTurns.{stand_at}
+use Rattle.fraction_table.proofs.IntegralTurns.{stand_at}
 use Rattle.fraction_table.proofs.theory.TurnedNumbers.{numbers_at, numbers_long}
 use Rattle.table_kernel.specs.declared.kernel.Kernel.{Kernel}
 use Rattle.table_kernel.specs.Kernels.{IsKernel, stated, width_of}
-use Rattle.table_kernel.specs.Numbers.{number_in}
-use Rattle.table_kernel.specs.Turns.{IsBestOf, KeepsNumbers, column_of, form_in, line_numbers}
+use Rattle.table_kernel.specs.Numbers.{number_at_column}
+use Rattle.table_kernel.specs.Turns.{IsBestColumn, KeepsNumbers, column_of, form_of_place, numbers_of_place}
 use Rattle.table_kernel.proofs.Columns.{column_number}
 
 -- a line's entry has the sign of its number
 module _ (k : Kernel) (m : IsKernel k) (place : ℕ) (place_in : place < length k.constants.items) where
   abbrev here : ℕ → ℤ
-  here j = number_of m.whole.unboxed.common k.table.costs.low m.whole.unboxed.lows (form_in k place) j
+  here j = number_of_form m.whole.unboxed.common k.table.costs.low m.whole.unboxed.lows (form_of_place k place) j
 
   pub line_in : place < length (stated k).lines.items
   line_in = omega (arith, place_in, m.shaped.constants, members_long k.table.costs (length k.table.rows.items), lines_long (stated k) m.whole)
@@ -35,12 +35,12 @@ module _ (k : Kernel) (m : IsKernel k) (place : ℕ) (place_in : place < length 
       let w = m.whole in
       let l = whole_line t w place line_in in
       subst (λ z. StandsFor (entry (line_at t place) j) z w.unboxed.common)
-      (numbers_at (width_of k) w.unboxed.common t.costs.low w.unboxed.lows (form_in k place) j j_in)
+      (numbers_at (width_of k) w.unboxed.common t.costs.low w.unboxed.lows (form_of_place k place) j j_in)
       (stand_at w.unboxed.common (line_at t place) _ j l.stand
       (omega (
         arith,
         numbers_long (width_of k) w.unboxed.common t.costs.low w.unboxed.lows
-            (form_in k place),
+            (form_of_place k place),
         j_in,
       )))
 
@@ -61,17 +61,17 @@ module _ (k : Kernel) (m : IsKernel k) (place : ℕ) (place_in : place < length 
       m.whole.unboxed.positive (entry_over 0 (omega arith)) (sym (entry_stands 0 (omega arith)))
       (subst (λ z. pos 0 ≤ℤ z) (m.numbers.constants place place_in) high)
 
-  column_here : (c : ℕ) → c < width_of k → number_at (line_numbers k place) c ≡ here (suc c)
+  column_here : (c : ℕ) → c < width_of k → number_at (numbers_of_place k place) c ≡ here (suc c)
   column_here c c_in =
-      get_or-map-numbers_from (λ column. number_in (form_in k place) (column_of k column)) 0 (width_of k) c (pos 0) c_in
-      ∙ ap (λ (j : ℕ). number_in (form_in k place) (column_of k j)) (from_none c)
-      ∙ sym (column_number k m.shaped m.whole.unboxed.common k.table.costs.low (form_in k place) c)
-      ∙ ap (λ lows. number_of m.whole.unboxed.common k.table.costs.low lows (form_in k place) (suc c)) (sym m.numbers.lows)
+      get_or-map-numbers_from (λ column. number_at_column (form_of_place k place) (column_of k column)) 0 (width_of k) c (pos 0) c_in
+      ∙ ap (λ (j : ℕ). number_at_column (form_of_place k place) (column_of k j)) (from_none c)
+      ∙ sym (column_number k m.shaped m.whole.unboxed.common k.table.costs.low (form_of_place k place) c)
+      ∙ ap (λ lows. number_of_form m.whole.unboxed.common k.table.costs.low lows (form_of_place k place) (suc c)) (sym m.numbers.lows)
     where
       from_none : (n : ℕ) → 0 + n ≡ n
       from_none n = omega arith
 
-  entry_low : (c : ℕ) → c < width_of k → number_at (line_numbers k place) c ≤ℤ pos 0 → (entry (line_at (stated k) place) (suc c)).numerator ≤ℤ pos 0
+  entry_low : (c : ℕ) → c < width_of k → number_at (numbers_of_place k place) c ≤ℤ pos 0 → (entry (line_at (stated k) place) (suc c)).numerator ≤ℤ pos 0
   entry_low c c_in low =
       low_number (here (suc c)) (entry (line_at (stated k) place) (suc c)).numerator m.whole.unboxed.common
       (entry (line_at (stated k) place) (suc c)).denominator
@@ -80,7 +80,7 @@ module _ (k : Kernel) (m : IsKernel k) (place : ℕ) (place_in : place < length 
 
   -- a line that is positive at no column is stuck, where its constant is negative
   pub line_stuck : number_at k.constants.items place <ℤ pos 0 →
-      ((c : ℕ) → c < width_of k → number_at (line_numbers k place) c ≤ℤ pos 0) →
+      ((c : ℕ) → c < width_of k → number_at (numbers_of_place k place) c ≤ℤ pos 0) →
       IsStuck (stated k).basis.items (line_at (stated k) place)
   line_stuck below low = record { below = entry_below below; none_above = none }
     where
@@ -105,8 +105,8 @@ lines_high k m high place d place_is =
     (entry_high k m place place_in (high place (pos 0) place_in))
 
 -- a line that is put down, where it is positive at no column
-pub none_positive : (old new : Kernel) (place : ℕ) → KeepsNumbers old new → new.line.items ≡ line_numbers old place →
-    IsBestOf new None → (c : ℕ) → c < width_of old → number_at (line_numbers old place) c ≤ℤ pos 0
+pub none_positive : (old new : Kernel) (place : ℕ) → KeepsNumbers old new → new.line.items ≡ numbers_of_place old place →
+    IsBestColumn new None → (c : ℕ) → c < width_of old → number_at (numbers_of_place old place) c ≤ℤ pos 0
 none_positive old new place keeps line_is best c c_in =
     subst (λ (zs : List ℤ). number_at zs c ≤ℤ pos 0) line_is
     (best c (subst (λ (t : Table). c < length t.costs.low) (sym keeps.table) c_in))

@@ -8,19 +8,19 @@ use Rattle.cost_base.specs.Lists.{numbers_from}
 use Rattle.cost_base.proofs.ListLemmas.{length-numbers_from, get_or-numbers_from, length-map-numbers_from, map-numbers_from-agree, get_or-map-numbers_from}
 use Rattle.whole_numbers.specs.Fractions.{Fraction}
 use Rattle.whole_numbers.specs.Lists.{number_at}
-use Rattle.path_rows.specs.declared.form.Form.{Form}
-use Rattle.path_rows.specs.declared.form.CostBox.{CostBox}
-use Rattle.path_rows.specs.declared.tree.Member.{Member}
-use Rattle.path_rows.specs.declared.tree.Member.TheVariants.{Low}
-use Rattle.path_rows.specs.Forms.{value}
-use Rattle.path_rows.specs.Boxes.{IsBox}
-use Rattle.path_rows.specs.Basis.{IsFormOf, low_member, member_form, unit}
+use Rattle.design_problem.specs.declared.form.Form.{Form}
+use Rattle.design_problem.specs.declared.form.CostBox.{CostBox}
+use Rattle.design_problem.specs.declared.tree.Member.{Member}
+use Rattle.design_problem.specs.declared.tree.Member.TheVariants.{Low}
+use Rattle.design_problem.specs.Forms.{value_for_costs}
+use Rattle.design_problem.specs.Boxes.{IsBox}
+use Rattle.design_problem.specs.Basis.{IsFormOf, low_member, member_form, unit}
 use Rattle.fraction_table.specs.Tableaus.{FitsBox, Held, starting}
-use Rattle.fraction_table.specs.Wholes.{HasRoom, IsSound, IsWholeTable, high_member, held_of, members_of, number_of}
+use Rattle.fraction_table.specs.ValidTables.{HasRoom, IsSound, IsTableau, high_member, held_of, members_of_box, number_of_form}
 use Rattle.fraction_table.specs.declared.stage.Stage.TheVariants.{Open}
 use Rattle.fraction_table.proofs.Pivots.{line_long, lines_long, members_long}
 use Rattle.fraction_table.proofs.StartingTables.{all_mapped, elsewhere_none, members_are, number_start, start_rows, starting_leads, starting_mixtures, starting_own, starts_long}
-use Rattle.fraction_table.proofs.WholeTurns.{coefficients_long}
+use Rattle.fraction_table.proofs.IntegralTurns.{coefficients_long}
 use Rattle.fraction_table.proofs.theory.Resolved.{unit_same, unit_other}
 use Rattle.fraction_table.proofs.theory.Units.{high_value, low_value}
 use Rattle.integer_pivots.specs.Uses.{held_in, uses_by}
@@ -66,10 +66,10 @@ first_long costs =
     ∙ ap (λ (k : ℕ). n + k) (length-map-numbers_from (λ v. pos (slice_index costs.high v) -ℤ pos (slice_index costs.low v)) 0 n)
 
 -- they are the values of the box's forms there
-values_first : (costs : CostBox) → map (λ member. value (member_form (length costs.low) [] member) costs.low) (members_of costs 0) ≡ first_constants costs
+values_first : (costs : CostBox) → map (λ member. value_for_costs (member_form (length costs.low) [] member) costs.low) (members_of_box costs 0) ≡ first_constants costs
 values_first costs =
     let n = length costs.low in
-    let at : Member → ℤ = λ member. value (member_form n [] member) costs.low in
+    let at : Member → ℤ = λ member. value_for_costs (member_form n [] member) costs.low in
     let lows = map (low_member costs) (numbers_from 0 n) in
     let highs = map (high_member costs) (numbers_from 0 n) in
     ap (map at) (append-nil (lows ++ highs))
@@ -84,15 +84,15 @@ values_first costs =
 
 first_at : (costs : CostBox) (rows : List Form) (place : ℕ) → rows ≡ [] → place < length (first_constants costs) →
     number_at (first_constants costs) place
-    ≡ value (member_form (length costs.low) rows
-    (slice_index_or (members_of costs (length rows)) place (Low 0 0))) costs.low
+    ≡ value_for_costs (member_form (length costs.low) rows
+    (slice_index_or (members_of_box costs (length rows)) place (Low 0 0))) costs.low
 first_at costs rows place rows_are place_in =
     let n = length costs.low in
     subst (λ (fs : List Form). number_at (first_constants costs) place
-    ≡ value (member_form n fs (slice_index_or (members_of costs (length fs)) place (Low 0 0))) costs.low)
+    ≡ value_for_costs (member_form n fs (slice_index_or (members_of_box costs (length fs)) place (Low 0 0))) costs.low)
     (sym rows_are)
     (ap (λ zs. number_at zs place) (sym (values_first costs))
-    ∙ get_or-map (λ member. value (member_form n [] member) costs.low) (members_of costs 0) place (Low 0 0) (pos 0)
+    ∙ get_or-map (λ member. value_for_costs (member_form n [] member) costs.low) (members_of_box costs 0) place (Low 0 0) (pos 0)
     (omega (arith, first_long costs, members_long costs 0, place_in)))
 
 -- the numbers of x - low, by the units
@@ -141,7 +141,7 @@ pub record IsStarting (k : Kernel) (costs : CostBox) : Type 0 where
   pub line : length k.line.items ≡ length costs.low
   pub along : length k.along.items ≡ length costs.low + length costs.low
 
-starting_shaped : (k : Kernel) → IsWholeTable k.table → HasRoom k.table → k.table.rows.items ≡ [] → IsStarting k k.table.costs → IsShaped k
+starting_shaped : (k : Kernel) → IsTableau k.table → HasRoom k.table → k.table.rows.items ≡ [] → IsStarting k k.table.costs → IsShaped k
 starting_shaped k w room rows_are s =
     let n = width_of k in
     let none : length k.table.rows.items ≡ 0 = ap length rows_are in
@@ -186,7 +186,7 @@ starting_bounded k top rows_are s =
     }
 
 -- the kernel of a box without rows
-starting_is : (k : Kernel) → 2 ^ 39 ≤ k.table.top → IsWholeTable k.table → HasRoom k.table → k.table.rows.items ≡ [] →
+starting_is : (k : Kernel) → 2 ^ 39 ≤ k.table.top → IsTableau k.table → HasRoom k.table → k.table.rows.items ≡ [] →
     k.table.basis.items ≡ starting k.table.costs → IsStarting k k.table.costs → IsKernel k
 starting_is k top w room rows_are basis_is s =
     let n = width_of k in
@@ -204,14 +204,14 @@ starting_is k top w room rows_are basis_is s =
     (subst (λ (basis : List Member). AreAtBasis costs rows basis 1 (start_rows n 0 n)) (sym basis_is) (start_at_basis costs rows w.box w.fit))))
     (λ place place_in.
     let place_there : place < length (first_constants costs) = subst (λ (zs : List ℤ). place < length zs) s.constants place_in in
-    let member = slice_index_or (members_of costs (length rows)) place (Low 0 0) in
+    let member = slice_index_or (members_of_box costs (length rows)) place (Low 0 0) in
     let is = members_are costs rows place (Low 0 0) (omega (arith, shaped.constants, place_in)) in
     let f = member_form n rows member in
     ap (λ zs. number_at zs place) s.constants
     ∙ first_at costs rows place rows_are place_there
     ∙ sym (number_start n costs.low f 0 (coefficients_long costs rows member w.fit is) (omega arith))
-    ∙ ap (λ (D : ℕ). number_of D costs.low (start_rows n 0 n) f 0) (sym one)
-    ∙ ap (λ lows. number_of (nat_abs k.common) costs.low lows f 0) (sym lows_are))
+    ∙ ap (λ (D : ℕ). number_of_form D costs.low (start_rows n 0 n) f 0) (sym one)
+    ∙ ap (λ lows. number_of_form (nat_abs k.common) costs.low lows f 0) (sym lows_are))
 
 pub started : (k : Kernel) (costs : CostBox) (top : ℕ) →
     held_of k.table Open ≡ record { top = top; costs = costs; rows = []; basis = starting costs; stage = Open } →

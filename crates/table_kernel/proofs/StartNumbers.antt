@@ -4,7 +4,7 @@ use Rattle.std.specs.Prelude.{ℤ, pos, ◌==◌, nat_abs, slice_index_or, slice
 use Rattle.std.proofs.lemmas.List.Elements.{All-append}
 use Rattle.cost_base.specs.Lists.{numbers_from}
 use Rattle.cost_base.proofs.ListLemmas.{length-map-numbers_from}
-use Rattle.path_rows.specs.Basis.{unit}
+use Rattle.design_problem.specs.Basis.{unit}
 use Rattle.fraction_rows.proofs.Columns.{same_test, other_test}
 use Rattle.fraction_rows.proofs.FilledRows.{mapped_written}
 use Rattle.fraction_table.proofs.StartingTables.{all_mapped}

@@ -6,11 +6,11 @@ use Rattle.std.proofs.lemmas.Int.{ints, unsigned_abs-mul}
 use Rattle.whole_numbers.specs.Lists.{number_at}
 use Rattle.integer_pivots.specs.declared.turn.Turn.{Turn}
 use Rattle.integer_pivots.specs.Numbers.{AllWithin, greatest_of}
-use Rattle.integer_pivots.specs.Turns.{AreTurnedWithin, IsTurned, size_after, turn_of}
+use Rattle.integer_pivots.specs.Turns.{AreTurnedWithin, IsNumberTurned, size_after, turn_of}
 use Rattle.integer_pivots.proofs.SizesAfter.{after_read, greatest_within, within_after}
 use Rattle.integer_pivots.proofs.Sizes.{number_within}
 use Rattle.table_kernel.specs.declared.kernel.Kernel.{Kernel}
-use Rattle.table_kernel.specs.Turnings.{IsReady, LowsStay, StaysWithin}
+use Rattle.table_kernel.specs.Turnings.{IsReadyToTurn, LowsStay, StaysWithin}
 
 pub entries_read : (k : Kernel) (t : Turn) (p : ℤ) (along across : ℕ) → p ≡ t.pivot → t.common ≡ k.common →
     along ≡ greatest_of k.along.items → across ≡ greatest_of k.line.items → LowsStay k p along across
@@ -27,7 +27,7 @@ difference_size : (x y : ℤ) → nat_abs (x -ℤ y) ≤ nat_abs x + nat_abs y
 difference_size x y = omega (arith, ints)
 
 -- the size of a number after a turn, over the old denominator
-pub turned_size : (p d r z y new : ℤ) (m n : ℕ) → nat_abs y ≤ m → nat_abs r ≤ n → IsTurned (turn_of p d r) z y new →
+pub turned_size : (p d r z y new : ℤ) (m n : ℕ) → nat_abs y ≤ m → nat_abs r ≤ n → IsNumberTurned (turn_of p d r) z y new →
     nat_abs new * nat_abs d ≤ nat_abs p * nat_abs z + m * n
 turned_size p d r z y new m n y_small r_small is =
     let product = unsigned_abs-mul new d in
@@ -39,15 +39,15 @@ turned_size p d r z y new m n y_small r_small is =
 
 -- a constant stays within its limit
 pub limit_stays : (p d r z y new : ℤ) (most m : ℕ) → 0 < nat_abs d → nat_abs z ≤ most → nat_abs y ≤ m →
-    size_after p d most m (nat_abs r) ≤ 2 ^ 39 → IsTurned (turn_of p d r) z y new → nat_abs new ≤ 2 ^ 39
+    size_after p d most m (nat_abs r) ≤ 2 ^ 39 → IsNumberTurned (turn_of p d r) z y new → nat_abs new ≤ 2 ^ 39
 limit_stays p d r z y new most m d_positive z_small y_small enough is =
     let size = turned_size p d r z y new m (nat_abs r) y_small (let e : nat_abs r ≤ nat_abs r = omega arith in e) is in
     le_trans (within_after (nat_abs p) most m (nat_abs r) (nat_abs d) (nat_abs z) (nat_abs new) d_positive z_small size) enough
 
 -- a number that the turn of a row makes is small: times the weight it is within the limit
-turned_stays : (k : Kernel) (t : Turn) (var column : ℕ) (new : ℤ) → IsReady k → StaysWithin k t → t.common ≡ k.common →
+turned_stays : (k : Kernel) (t : Turn) (var column : ℕ) (new : ℤ) → IsReadyToTurn k → StaysWithin k t → t.common ≡ k.common →
     AllWithin (nat_abs k.reach) (slice_index_or k.lows.items var []) →
-    IsTurned (turn_of t.pivot k.common (number_at k.line.items column))
+    IsNumberTurned (turn_of t.pivot k.common (number_at k.line.items column))
     (number_at (slice_index_or k.lows.items var []) column) (number_at k.along.items var) new →
     nat_abs k.weight * nat_abs new ≤ 2 ^ 22
 turned_stays k t var column new r s common_is row turned =
@@ -66,7 +66,7 @@ turned_stays k t var column new r s common_is row turned =
     (subst (λ (d : ℤ). nat_abs k.weight * size_after t.pivot d (nat_abs k.reach) along across ≤ 2 ^ 22) common_is s.entries)
 
 -- so it is within the limit over the weight
-pub turned_within : (k : Kernel) (t : Turn) (var : ℕ) → IsReady k → StaysWithin k t → t.common ≡ k.common →
+pub turned_within : (k : Kernel) (t : Turn) (var : ℕ) → IsReadyToTurn k → StaysWithin k t → t.common ≡ k.common →
     AllWithin (nat_abs k.reach) (slice_index_or k.lows.items var []) →
     AreTurnedWithin t.pivot k.common (number_at k.along.items var) k.line.items (slice_index_or k.lows.items var [])
     (2 ^ 22 / nat_abs k.weight)

@@ -9,10 +9,10 @@ use Rattle.integer_pivots.specs.Turns.{AreSmallTurns}
 use Rattle.integer_pivots.proofs.Sizes.{read, read_number, wider}
 use Rattle.integer_pivots.proofs.Crossings.{item_is}
 use Rattle.table_kernel.specs.declared.kernel.Kernel.{Kernel}
-use Rattle.table_kernel.specs.Turnings.{IsReady}
+use Rattle.table_kernel.specs.Turnings.{IsReadyToTurn}
 use Rattle.table_kernel.proofs.Columns.{reach_within}
 
-pub along_number : (k : Kernel) → IsReady k → (var : ℕ) → var < length k.lows.items → nat_abs (number_at k.along.items var) ≤ 2 ^ 22
+pub along_number : (k : Kernel) → IsReadyToTurn k → (var : ℕ) → var < length k.lows.items → nat_abs (number_at k.along.items var) ≤ 2 ^ 22
 along_number k r var var_in = r.along var (pos 0) (omega (arith, var_in, r.lows))
 
 -- What the turn of a variable's row is given, as it is read.
@@ -23,7 +23,7 @@ pub record IsRowRead (k : Kernel) (var : ℕ) (d w : ℤ) (across row : List ℤ
   pub row_is : row ≡ slice_index_or k.lows.items var []
   pub columns_is : columns ≡ k.left.items
 
-pub row_read : (k : Kernel) (var : ℕ) (d w : ℤ) (across row other : List ℤ) (columns : List ℕ) → IsReady k →
+pub row_read : (k : Kernel) (var : ℕ) (d w : ℤ) (across row other : List ℤ) (columns : List ℕ) → IsReadyToTurn k →
     var < length k.lows.items → d ≡ k.common → w ≡ slice_index_or k.along.items var w → across ≡ k.line.items →
     row ≡ slice_index_or k.lows.items var other → columns ≡ k.left.items → IsRowRead k var d (read w) across row columns
 row_read k var d w across row other columns r var_in common_is w_is across_is row_is columns_is =
@@ -51,15 +51,15 @@ row_from_read P k var d w across row columns a holds =
     rw (sym a.common_is, sym a.along_is, sym a.across_is, sym a.row_is, sym a.columns_is) holds
 
 -- the reach is small
-pub reach_small : (k : Kernel) → IsReady k → nat_abs k.reach ≤ 2 ^ 22
+pub reach_small : (k : Kernel) → IsReadyToTurn k → nat_abs k.reach ≤ 2 ^ 22
 reach_small k r = reach_within k.reach k.weight r.weight r.product
 
 -- and so is the weight
-pub weight_small : (k : Kernel) → IsReady k → nat_abs k.weight ≤ 2 ^ 22
+pub weight_small : (k : Kernel) → IsReadyToTurn k → nat_abs k.weight ≤ 2 ^ 22
 weight_small k r = factor_most k.reach k.weight (2 ^ 22) r.reach r.product
 
 -- the turns of a row of a kernel are small
-pub row_small : (k : Kernel) (p : ℤ) (var : ℕ) → IsReady k → (pos 0 <ℤ p) × (p ≤ℤ pos (2 ^ 22)) →
+pub row_small : (k : Kernel) (p : ℤ) (var : ℕ) → IsReadyToTurn k → (pos 0 <ℤ p) × (p ≤ℤ pos (2 ^ 22)) →
     var < length k.lows.items → AllWithin (nat_abs k.reach) (slice_index_or k.lows.items var []) →
     AreSmallTurns p k.common (number_at k.along.items var) k.line.items (slice_index_or k.lows.items var [])
 row_small k p var r p_small var_in row =

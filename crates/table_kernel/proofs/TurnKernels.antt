@@ -5,38 +5,38 @@ use Rattle.std.specs.Prelude.{ℤ, pos, ◌≤ℤ◌, nat_abs, slice_index_or, s
 use Rattle.std.proofs.lemmas.List.{get_or-map}
 use Rattle.cost_base.proofs.ListLemmas.{get_or-map-numbers_from}
 use Rattle.whole_numbers.specs.Lists.{number_at}
-use Rattle.path_rows.specs.declared.tree.Member.{Member}
-use Rattle.path_rows.specs.declared.tree.Member.TheVariants.{Low}
-use Rattle.path_rows.specs.Basis.{member_form}
+use Rattle.design_problem.specs.declared.tree.Member.{Member}
+use Rattle.design_problem.specs.declared.tree.Member.TheVariants.{Low}
+use Rattle.design_problem.specs.Basis.{member_form}
 use Rattle.fraction_table.specs.declared.table.Table.{Table}
 use Rattle.fraction_table.specs.Pivots.{member_at}
-use Rattle.fraction_table.specs.Wholes.{members_of}
+use Rattle.fraction_table.specs.ValidTables.{members_of_box}
 use Rattle.integer_pivots.specs.Leads.{AreLeads}
 use Rattle.integer_pivots.specs.Numbers.{AllWithin}
-use Rattle.integer_pivots.specs.Turns.{IsTurned, IsTurnedRow, turn_of}
+use Rattle.integer_pivots.specs.Turns.{IsNumberTurned, IsTurnedRow, turn_of}
 use Rattle.table_kernel.specs.declared.kernel.Kernel.{Kernel}
 use Rattle.table_kernel.specs.Kernels.{IsKernel, width_of}
-use Rattle.table_kernel.specs.Numbers.{number_in}
-use Rattle.table_kernel.specs.Turns.{KeepsNumbers, along_numbers, column_of, form_in, line_numbers}
-use Rattle.table_kernel.specs.Turnings.{HasTurned, IsReady}
+use Rattle.table_kernel.specs.Numbers.{number_at_column}
+use Rattle.table_kernel.specs.Turns.{KeepsNumbers, along_numbers, column_of, form_of_place, numbers_of_place}
+use Rattle.table_kernel.specs.Turnings.{HasTurned, IsReadyToTurn}
 use Rattle.table_kernel.proofs.Columns.{lows_few, place_number_within}
 use Rattle.table_kernel.proofs.Pivoting.{IsPivotIn, IsPivoted, own_number}
 use Rattle.table_kernel.proofs.SameButRoom.{rebuilt}
 
 -- the line is within the limit
-line_within : (k : Kernel) (place : ℕ) → IsKernel k → place < length k.constants.items → k.line.items ≡ line_numbers k place → AllWithin (2 ^ 22) k.line.items
+line_within : (k : Kernel) (place : ℕ) → IsKernel k → place < length k.constants.items → k.line.items ≡ numbers_of_place k place → AllWithin (2 ^ 22) k.line.items
 line_within k place m place_in line_is c d c_in =
     let inside : c < width_of k = omega (arith, c_in, m.shaped.line) in
-    let is : slice_index_or k.line.items c d ≡ number_in (form_in k place) (column_of k c) =
+    let is : slice_index_or k.line.items c d ≡ number_at_column (form_of_place k place) (column_of k c) =
     ap (λ (zs : List ℤ). slice_index_or zs c d) line_is
-    ∙ get_or-map-numbers_from (λ i. number_in (form_in k place) (column_of k i)) 0 (width_of k) c d inside
-    ∙ ap (λ i. number_in (form_in k place) (column_of k i)) (zero-add c) in
+    ∙ get_or-map-numbers_from (λ i. number_at_column (form_of_place k place) (column_of k i)) 0 (width_of k) c d inside
+    ∙ ap (λ i. number_at_column (form_of_place k place) (column_of k i)) (zero-add c) in
     subst (λ (z : ℤ). nat_abs z ≤ 2 ^ 22) (sym is) (place_number_within k m.shaped m.bounded place place_in c)
 
 -- a kernel is ready for a turn
 ready_room : (k n : Kernel) (place : ℕ) → IsKernel k → place < length k.constants.items →
-    k.line.items ≡ line_numbers k place → KeepsNumbers k n → n.line ≡ k.line → AllWithin (2 ^ 22) n.along.items →
-    IsReady (record k { left = n.left; line = n.line; along = n.along })
+    k.line.items ≡ numbers_of_place k place → KeepsNumbers k n → n.line ≡ k.line → AllWithin (2 ^ 22) n.along.items →
+    IsReadyToTurn (record k { left = n.left; line = n.line; along = n.along })
 ready_room k n place m place_in line_is e line_kept along_within =
     record {
       lows = omega (arith, lows_few k m.shaped, m.shaped.along, e.along);
@@ -53,17 +53,17 @@ ready_room k n place m place_in line_is e line_kept along_within =
     }
 
 pub ready_of : (k n : Kernel) (place : ℕ) → IsKernel k → place < length k.constants.items →
-    k.line.items ≡ line_numbers k place → KeepsNumbers k n → n.line ≡ k.line →
-    AllWithin (2 ^ 22) n.along.items → IsReady n
+    k.line.items ≡ numbers_of_place k place → KeepsNumbers k n → n.line ≡ k.line →
+    AllWithin (2 ^ 22) n.along.items → IsReadyToTurn n
 ready_of k n place m place_in line_is e line_kept along_within =
-    subst IsReady (sym (rebuilt k n e)) (ready_room k n place m place_in line_is e line_kept along_within)
+    subst IsReadyToTurn (sym (rebuilt k n e)) (ready_room k n place m place_in line_is e line_kept along_within)
 
 -- the number of a place's form stands along
 pub along_at : (k : Kernel) (column c : ℕ) → IsKernel k → c < length k.constants.items →
-    number_at (along_numbers k column) c ≡ number_in (form_in k c) (column_of k column)
+    number_at (along_numbers k column) c ≡ number_at_column (form_of_place k c) (column_of k column)
 along_at k column c m c_in =
-    get_or-map (λ (member : Member). number_in (member_form (width_of k) k.table.rows.items member)
-    (column_of k column)) (members_of k.table.costs (length k.table.rows.items)) c (Low 0 0) (pos 0)
+    get_or-map (λ (member : Member). number_at_column (member_form (width_of k) k.table.rows.items member)
+    (column_of k column)) (members_of_box k.table.costs (length k.table.rows.items)) c (Low 0 0) (pos 0)
     (omega (arith, c_in, m.shaped.constants))
 
 -- the kernel with another basis
@@ -150,23 +150,23 @@ pivoted_from k m h basis place column p e line_kept along_is t basis_is =
         (t.lows v (subst (λ (ls : Vec (List ℤ) Global). v < length ls.items) (sym e.lows) v_in)))))
 
     constants : (c : ℕ) → c < length k.constants.items →
-        IsTurned (turn_of (number_at k.line.items column) k.common (number_at k.constants.items place))
-        (number_at k.constants.items c) (number_in (form_in k c) (column_of k column)) (number_at h.constants.items c)
+        IsNumberTurned (turn_of (number_at k.line.items column) k.common (number_at k.constants.items place))
+        (number_at k.constants.items c) (number_at_column (form_of_place k c) (column_of k column)) (number_at h.constants.items c)
     constants c c_in =
-        let along_own : number_at m.along.items c ≡ number_in (form_in k c) (column_of k column) =
+        let along_own : number_at m.along.items c ≡ number_at_column (form_of_place k c) (column_of k column) =
         ap (λ (zs : List ℤ). number_at zs c) along_is ∙ along_at k column c p.kernel c_in in
-        subst (λ (ls : Vec ℤ Global). IsTurned
+        subst (λ (ls : Vec ℤ Global). IsNumberTurned
         (turn_of (number_at ls.items column) k.common (number_at k.constants.items place))
-        (number_at k.constants.items c) (number_in (form_in k c) (column_of k column))
+        (number_at k.constants.items c) (number_at_column (form_of_place k c) (column_of k column))
         (number_at h.constants.items c)) line_kept
-        (subst (λ (z : ℤ). IsTurned (turn_of (number_at m.line.items column) z (number_at k.constants.items place))
-        (number_at k.constants.items c) (number_in (form_in k c) (column_of k column))
+        (subst (λ (z : ℤ). IsNumberTurned (turn_of (number_at m.line.items column) z (number_at k.constants.items place))
+        (number_at k.constants.items c) (number_at_column (form_of_place k c) (column_of k column))
         (number_at h.constants.items c)) e.common
-        (subst (λ (z : ℤ). IsTurned (turn_of (number_at m.line.items column) m.common
+        (subst (λ (z : ℤ). IsNumberTurned (turn_of (number_at m.line.items column) m.common
         (number_at k.constants.items place)) (number_at k.constants.items c) z
         (number_at h.constants.items c)) along_own
         (subst (λ (ls : Vec ℤ Global).
-        IsTurned (turn_of (number_at m.line.items column) m.common (number_at ls.items place))
+        IsNumberTurned (turn_of (number_at m.line.items column) m.common (number_at ls.items place))
         (number_at ls.items c) (number_at m.along.items c) (number_at h.constants.items c)) e.constants
         (t.constants c (subst (λ (ls : Vec ℤ Global). c < length ls.items) (sym e.constants) c_in)))))
 

@@ -8,24 +8,24 @@ use Rattle.whole_numbers.specs.Lists.{number_at}
 use Rattle.integer_pivots.specs.declared.turn.Turn.{Turn}
 use Rattle.integer_pivots.specs.Leads.{AreLeads}
 use Rattle.integer_pivots.specs.Numbers.{AllWithin, greatest_of}
-use Rattle.integer_pivots.specs.Turns.{AreTurnedRows, AreWholeTurns, IsTurned, IsTurnedRow, turn_of}
+use Rattle.integer_pivots.specs.Turns.{AreTurnedRows, AreIntegralTurns, IsNumberTurned, IsTurnedRow, turn_of}
 use Rattle.integer_pivots.proofs.Sizes.{number_within}
 use Rattle.integer_pivots.proofs.SizesAfter.{greatest_within}
 use Rattle.table_kernel.specs.declared.kernel.Kernel.{Kernel}
-use Rattle.table_kernel.specs.Turnings.{AreWithinReach, ConstantsAreWhole, HasTurned, IsReady, IsTurnedAt, KeepsLows, KeepsOthers, StandAlong, StaysWithin}
+use Rattle.table_kernel.specs.Turnings.{AreWithinReach, ConstantsStayIntegral, HasTurned, IsReadyToTurn, IsTurnedAt, KeepsLows, KeepsAllButLows, StandAlong, StaysWithin}
 use Rattle.table_kernel.proofs.StayingWithin.{limit_stays}
 
-pub whole_moved : (k m : Kernel) (p : ℤ) (v : ℕ) → KeepsOthers k m →
+pub whole_moved : (k m : Kernel) (p : ℤ) (v : ℕ) → KeepsAllButLows k m →
     slice_index_or m.lows.items v [] ≡ slice_index_or k.lows.items v [] →
-    AreWholeTurns p k.common (number_at k.along.items v) k.line.items (slice_index_or k.lows.items v []) →
-    AreWholeTurns p m.common (number_at m.along.items v) m.line.items (slice_index_or m.lows.items v [])
+    AreIntegralTurns p k.common (number_at k.along.items v) k.line.items (slice_index_or k.lows.items v []) →
+    AreIntegralTurns p m.common (number_at m.along.items v) m.line.items (slice_index_or m.lows.items v [])
 whole_moved k m p v o same whole =
-    subst (λ (z : ℤ). AreWholeTurns p z (number_at m.along.items v) m.line.items (slice_index_or m.lows.items v [])) (sym o.common)
-    (subst (λ (ls : Vec ℤ Global). AreWholeTurns p k.common (number_at ls.items v) m.line.items (slice_index_or m.lows.items v [])) (sym o.along)
-    (subst (λ (ls : Vec ℤ Global). AreWholeTurns p k.common (number_at k.along.items v) ls.items (slice_index_or m.lows.items v [])) (sym o.line)
-    (subst (λ (row : List ℤ). AreWholeTurns p k.common (number_at k.along.items v) k.line.items row) (sym same) whole)))
+    subst (λ (z : ℤ). AreIntegralTurns p z (number_at m.along.items v) m.line.items (slice_index_or m.lows.items v [])) (sym o.common)
+    (subst (λ (ls : Vec ℤ Global). AreIntegralTurns p k.common (number_at ls.items v) m.line.items (slice_index_or m.lows.items v [])) (sym o.along)
+    (subst (λ (ls : Vec ℤ Global). AreIntegralTurns p k.common (number_at k.along.items v) ls.items (slice_index_or m.lows.items v [])) (sym o.line)
+    (subst (λ (row : List ℤ). AreIntegralTurns p k.common (number_at k.along.items v) k.line.items row) (sym same) whole)))
 
-pub turned_moved : (k m h : Kernel) (p : ℤ) (own v : ℕ) → KeepsOthers k m →
+pub turned_moved : (k m h : Kernel) (p : ℤ) (own v : ℕ) → KeepsAllButLows k m →
     slice_index_or m.lows.items v [] ≡ slice_index_or k.lows.items v [] → IsTurnedAt m h p own v →
     IsTurnedAt k h p own v
 turned_moved k m h p own v o same turned =
@@ -37,7 +37,7 @@ turned_moved k m h p own v o same turned =
     (slice_index_or k.lows.items v []) (slice_index_or h.lows.items v [])) o.line
     (subst (λ (row : List ℤ). IsTurnedRow p m.common (number_at m.along.items v) own m.line.items row (slice_index_or h.lows.items v [])) same turned)))
 
-pub others_kept : (k m h : Kernel) → KeepsOthers k m → KeepsOthers m h → KeepsOthers k h
+pub others_kept : (k m h : Kernel) → KeepsAllButLows k m → KeepsAllButLows m h → KeepsAllButLows k h
 others_kept k m h first second =
     record {
       table = second.table ∙ first.table;
@@ -52,13 +52,13 @@ others_kept k m h first second =
       lows = second.lows ∙ first.lows;
     }
 
-pub constants_moved : (k m : Kernel) (t : Turn) → KeepsOthers k m → ConstantsAreWhole k t → ConstantsAreWhole m t
+pub constants_moved : (k m : Kernel) (t : Turn) → KeepsAllButLows k m → ConstantsStayIntegral k t → ConstantsStayIntegral m t
 constants_moved k m t o whole =
     subst (λ (ls : Vec ℤ Global). (p : ℕ) → p < length m.constants.items → IsWhole ls m.constants p) (sym o.along)
     (subst (λ (cs : Vec ℤ Global). (p : ℕ) → p < length cs.items → IsWhole k.along cs p) (sym o.constants) whole)
   where
     IsWhole : Vec ℤ Global → Vec ℤ Global → ℕ → Type 0
-    IsWhole ls cs p = (x : ℤ) × IsTurned t (number_at cs.items p) (number_at ls.items p) x
+    IsWhole ls cs p = (x : ℤ) × IsNumberTurned t (number_at cs.items p) (number_at ls.items p) x
 
 abbrev pub with_common : Kernel → Vec ℕ Global → ℤ → Kernel
 with_common h leads z = record {
@@ -76,23 +76,23 @@ with_common h leads z = record {
 }
 
 -- after its rows, its constants and its leads
-pub has_turned : (k m h : Kernel) (t : Turn) (place own : ℕ) (leads : Vec ℕ Global) (z : ℤ) → KeepsOthers k m →
-    KeepsLows m h → IsReady k → IsReady m → AreWithinReach m → StaysWithin k t → t.pivot ≡ number_at k.line.items own →
+pub has_turned : (k m h : Kernel) (t : Turn) (place own : ℕ) (leads : Vec ℕ Global) (z : ℤ) → KeepsAllButLows k m →
+    KeepsLows m h → IsReadyToTurn k → IsReadyToTurn m → AreWithinReach m → StaysWithin k t → t.pivot ≡ number_at k.line.items own →
     t.across ≡ number_at k.constants.items place → t.common ≡ k.common → z ≡ t.pivot →
     ((v : ℕ) → v < length k.lows.items → IsTurnedAt k m t.pivot own v) →
     length h.constants.items ≡ length m.constants.items →
     ((p : ℕ) → p < length m.constants.items →
-    IsTurned t (number_at m.constants.items p) (number_at m.along.items p) (number_at h.constants.items p)) →
+    IsNumberTurned t (number_at m.constants.items p) (number_at m.along.items p) (number_at h.constants.items p)) →
     length leads.items ≡ length h.leads.items →
     (AreLeads k.lows.items k.leads.items → AreLeads h.lows.items leads.items) →
     HasTurned k (with_common h leads z) place own
 has_turned k m h t place own leads z o l ready after within_reach s pivot_is across_is common_is z_is rows counted turned leads_counted lead =
     let constants_count : length h.constants.items ≡ length k.constants.items = counted ∙ ap (λ (cs : Vec ℤ Global). length cs.items) o.constants in
     let from_k : (p : ℕ) → p < length k.constants.items →
-    IsTurned t (number_at k.constants.items p) (number_at k.along.items p) (number_at h.constants.items p) =
+    IsNumberTurned t (number_at k.constants.items p) (number_at k.along.items p) (number_at h.constants.items p) =
     λ p p_in. (
-    subst (λ (cs : Vec ℤ Global). IsTurned t (number_at cs.items p) (number_at k.along.items p) (number_at h.constants.items p)) o.constants
-    (subst (λ (ls : Vec ℤ Global). IsTurned t (number_at m.constants.items p) (number_at ls.items p) (number_at h.constants.items p)) o.along
+    subst (λ (cs : Vec ℤ Global). IsNumberTurned t (number_at cs.items p) (number_at k.along.items p) (number_at h.constants.items p)) o.constants
+    (subst (λ (ls : Vec ℤ Global). IsNumberTurned t (number_at m.constants.items p) (number_at ls.items p) (number_at h.constants.items p)) o.along
     (turned p (subst (λ (cs : Vec ℤ Global). p < length cs.items) (sym o.constants) p_in)))
     ) in
     record {
@@ -128,17 +128,17 @@ has_turned k m h t place own leads z o l ready after within_reach s pivot_is acr
           IsTurnedRow t.pivot k.common (number_at k.along.items v) own k.line.items
           (slice_index_or k.lows.items v []) (slice_index_or ls.items v [])) (sym l.lows) (rows v v_in));
       constants = λ p p_in.
-          subst (λ (x : ℤ). IsTurned (turn_of x k.common (number_at k.constants.items place))
+          subst (λ (x : ℤ). IsNumberTurned (turn_of x k.common (number_at k.constants.items place))
           (number_at k.constants.items p) (number_at k.along.items p) (number_at h.constants.items p)) pivot_is
-          (subst (λ (x : ℤ). IsTurned (turn_of t.pivot x (number_at k.constants.items place))
+          (subst (λ (x : ℤ). IsNumberTurned (turn_of t.pivot x (number_at k.constants.items place))
           (number_at k.constants.items p) (number_at k.along.items p) (number_at h.constants.items p)) common_is
-          (subst (λ (x : ℤ). IsTurned (turn_of t.pivot t.common x) (number_at k.constants.items p)
+          (subst (λ (x : ℤ). IsNumberTurned (turn_of t.pivot t.common x) (number_at k.constants.items p)
           (number_at k.along.items p) (number_at h.constants.items p)) across_is (from_k p p_in)));
     }
 
 -- the leads turn with the rows
 pub leads_moved : (k m h : Kernel) (pivot : ℤ) (own : ℕ) (befores afters : List ℕ) (lows : List (List ℤ))
-    (line : List ℤ) → KeepsOthers k m → KeepsLows m h → pos 0 <ℤ pivot → pos 0 <ℤ k.common → StandAlong k own →
+    (line : List ℤ) → KeepsAllButLows k m → KeepsLows m h → pos 0 <ℤ pivot → pos 0 <ℤ k.common → StandAlong k own →
     ((v : ℕ) → v < length k.lows.items → IsTurnedAt k m pivot own v) → befores ≡ h.leads.items → lows ≡ h.lows.items →
     line ≡ h.line.items → ((olds : List (List ℤ)) (p d : ℤ) → AreTurnedRows p d own line olds lows →
     AreLeads olds befores → AreLeads lows afters) → AreLeads k.lows.items k.leads.items → AreLeads h.lows.items afters

@@ -8,21 +8,21 @@ use Rattle.std.proofs.lemmas.List.Elements.{All-set}
 use Rattle.whole_numbers.proofs.FractionLaws.{cancel}
 use Rattle.whole_numbers.proofs.Ring.{var, ◌⊖◌, ◌⊗◌, ring}
 use Rattle.whole_numbers.specs.Lists.{number_at}
-use Rattle.path_rows.specs.declared.form.Form.{Form}
-use Rattle.path_rows.specs.declared.form.CostBox.{CostBox}
-use Rattle.path_rows.specs.declared.tree.Member.{Member}
-use Rattle.path_rows.specs.Basis.{IsFormOf, IsMixture, forms_of, member_form}
-use Rattle.path_rows.specs.Forms.{no_form}
-use Rattle.fraction_table.specs.Pivots.{IsLeast}
-use Rattle.fraction_table.specs.Wholes.{AllLong, low_forms, number_of, numbers_of}
+use Rattle.design_problem.specs.declared.form.Form.{Form}
+use Rattle.design_problem.specs.declared.form.CostBox.{CostBox}
+use Rattle.design_problem.specs.declared.tree.Member.{Member}
+use Rattle.design_problem.specs.Basis.{IsFormOf, IsMixture, forms_of, member_form}
+use Rattle.design_problem.specs.Forms.{no_form}
+use Rattle.fraction_table.specs.Pivots.{IsLeastColumn}
+use Rattle.fraction_table.specs.ValidTables.{AllLong, low_forms, number_of_form, numbers_of_form}
 use Rattle.fraction_table.proofs.theory.Blends.{form_mixture}
 use Rattle.fraction_table.proofs.theory.Pivot.{crossed, crossed_at, length-crossed, turned}
 use Rattle.fraction_table.proofs.theory.Resolved.{resolved}
 use Rattle.fraction_table.proofs.theory.TurnedLeads.{leads_turned}
 use Rattle.fraction_table.proofs.theory.TurnedNumbers.{IsEntry, elsewhere_turned, long_turned, mixtures_turned, numbers_at, numbers_long, own_turned}
 use Rattle.fraction_table.proofs.theory.Turns.{number_other, turned_rows}
-use Rattle.fraction_table.proofs.WholeTurns.{form_long}
-use Rattle.integer_pivots.specs.Turns.{IsTurned, IsTurnedRow, turn_of}
+use Rattle.fraction_table.proofs.IntegralTurns.{form_long}
+use Rattle.integer_pivots.specs.Turns.{IsNumberTurned, IsTurnedRow, turn_of}
 use Rattle.table_kernel.specs.Numbers.{lows_by}
 use Rattle.table_kernel.proofs.AtBasis.{AreAtBasis, number_up, scaled_by, scaled_down}
 
@@ -31,13 +31,13 @@ use Rattle.table_kernel.proofs.AtBasis.{AreAtBasis, number_up, scaled_by, scaled
 pub record IsTurnOf (costs : CostBox) (rows : List Form) (D : ℕ) (lows : List (List ℤ)) (entering : Member) (j a : ℕ) : Type 0 where
   pub member : IsFormOf costs rows entering
   pub j_in : j < length costs.low
-  pub at_j : number_of D costs.low lows (member_form (length costs.low) rows entering) (suc j) ≡ pos a
+  pub at_j : number_of_form D costs.low lows (member_form (length costs.low) rows entering) (suc j) ≡ pos a
   pub positive : 0 < a
-  pub least : IsLeast (length costs.low) lows (numbers_of (length costs.low) D costs.low lows (member_form (length costs.low) rows entering)) j
+  pub least : IsLeastColumn (length costs.low) lows (numbers_of_form (length costs.low) D costs.low lows (member_form (length costs.low) rows entering)) j
 
 -- the numbers of the entering form
 abbrev pub entering_numbers : CostBox → List Form → ℕ → List (List ℤ) → Member → List ℤ
-entering_numbers costs rows D lows entering = numbers_of (length costs.low) D costs.low lows (member_form (length costs.low) rows entering)
+entering_numbers costs rows D lows entering = numbers_of_form (length costs.low) D costs.low lows (member_form (length costs.low) rows entering)
 
 -- the basis after the pivot, with the numbers over the product of both denominators
 pub basis_turned : (costs : CostBox) (rows : List Form) (basis : List Member) (D : ℕ) (lows : List (List ℤ))
@@ -96,9 +96,9 @@ basis_after costs rows basis D lows news entering j a b p news_are =
 pub constant_after : (costs : CostBox) (rows : List Form) (basis : List Member) (D : ℕ) (lows news : List (List ℤ))
     (entering : Member) (j a : ℕ) (f : Form) (z y r new : ℤ) → AreAtBasis costs rows basis D lows →
     IsTurnOf costs rows D lows entering j a → turned_rows lows (entering_numbers costs rows D lows entering) (suc j) D
-    ≡ map (scaled_by D) news → z ≡ number_of D costs.low lows f 0 → y ≡ number_of D costs.low lows f (suc j) →
-    r ≡ number_of D costs.low lows (member_form (length costs.low) rows entering) 0 →
-    IsTurned (turn_of (pos a) (pos D) r) z y new → new ≡ number_of a costs.low news f 0
+    ≡ map (scaled_by D) news → z ≡ number_of_form D costs.low lows f 0 → y ≡ number_of_form D costs.low lows f (suc j) →
+    r ≡ number_of_form D costs.low lows (member_form (length costs.low) rows entering) 0 →
+    IsNumberTurned (turn_of (pos a) (pos D) r) z y new → new ≡ number_of_form a costs.low news f 0
 constant_after costs rows basis D lows news entering j a f z y r new b p news_are z_is y_is r_is is =
     let n = length costs.low in
     let g = member_form n rows entering in
@@ -108,16 +108,16 @@ constant_after costs rows basis D lows news entering j a f z y r new b p news_ar
     let at_j : number_at rs (suc j) ≡ pos a = numbers_at n D costs.low lows g (suc j) (omega (arith, p.j_in)) ∙ p.at_j in
     let r_at : number_at rs 0 ≡ r = numbers_at n D costs.low lows g 0 (omega arith) ∙ sym r_is in
     let other = number_other D a costs.low lows f rs j 0 long at_j (λ same. omega (arith, same)) (omega (arith, counted)) in
-    let over : number_of (D * a) costs.low (turned_rows lows rs (suc j) D) f 0 ≡ (number_of a costs.low news f 0 *ℤ pos D) =
-    ap (λ m. number_of m costs.low (turned_rows lows rs (suc j) D) f 0) (mul_comm D a)
-    ∙ ap (λ ms. number_of (a * D) costs.low ms f 0) news_are
+    let over : number_of_form (D * a) costs.low (turned_rows lows rs (suc j) D) f 0 ≡ (number_of_form a costs.low news f 0 *ℤ pos D) =
+    ap (λ m. number_of_form m costs.low (turned_rows lows rs (suc j) D) f 0) (mul_comm D a)
+    ∙ ap (λ ms. number_of_form (a * D) costs.low ms f 0) news_are
     ∙ number_up a D costs.low news f 0 in
-    cancel D new (number_of a costs.low news f 0) b.positive
+    cancel D new (number_of_form a costs.low news f 0) b.positive
     (is
     ∙ ring (pos a ∷ z ∷ y ∷ r ∷ []) ((var 0 ⊗ var 1) ⊖ (var 2 ⊗ var 3)) ((var 1 ⊗ var 0) ⊖ (var 2 ⊗ var 3)) refl
     ∙ ap (λ x. (x *ℤ pos a) -ℤ (y *ℤ r)) z_is
-    ∙ ap (λ x. (number_of D costs.low lows f 0 *ℤ pos a) -ℤ (x *ℤ r)) y_is
-    ∙ ap (λ x. (number_of D costs.low lows f 0 *ℤ pos a) -ℤ (number_of D costs.low lows f (suc j) *ℤ x)) (sym r_at)
+    ∙ ap (λ x. (number_of_form D costs.low lows f 0 *ℤ pos a) -ℤ (x *ℤ r)) y_is
+    ∙ ap (λ x. (number_of_form D costs.low lows f 0 *ℤ pos a) -ℤ (number_of_form D costs.low lows f (suc j) *ℤ x)) (sym r_at)
     ∙ sym other
     ∙ over)
 
@@ -125,7 +125,7 @@ constant_after costs rows basis D lows news entering j a f z y r new b p news_ar
 pub record IsTurnedEntry (D a j : ℕ) (r : ℤ) (line : List ℤ) (z new : ℤ) (row after : List ℤ) : Type 0 where
   pub long : length row ≡ length line
   pub turn : IsTurnedRow (pos a) (pos D) (number_at row j) j line row after
-  pub constant : IsTurned (turn_of (pos a) (pos D) r) z (number_at row j) new
+  pub constant : IsNumberTurned (turn_of (pos a) (pos D) r) z (number_at row j) new
 
 -- that is a row of the turned table over the old denominator
 row_turned : (D a j : ℕ) (r : ℤ) (line : List ℤ) (z new : ℤ) (row after : List ℤ) → j < length line →

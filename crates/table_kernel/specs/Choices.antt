@@ -2,16 +2,16 @@
 use Rattle.std.specs.Prelude.{◌≡◌, ℕ, ◌<◌, ◌⊎◌, List, [], ℤ, nat_abs, slice_index_or}
 use Rattle.cost_base.specs.Lists.{Has}
 use Rattle.whole_numbers.specs.Lists.{number_at}
-use Rattle.fraction_table.specs.Pivots.{LeadsNoNegative, numbers_in, turned_column}
+use Rattle.fraction_table.specs.Pivots.{LeadsNoNegative, numbers_in_column, turned_column}
 use Rattle.integer_pivots.specs.Choices.{IsPositiveAt, crosswise}
 
 -- the first column, over the line's number there, doesn't come after the second one over its own
 abbrev pub ComesFirst : List (List ℤ) → List ℤ → ℕ → ℕ → Type 0
 ComesFirst rows line first second =
-    LeadsNoNegative (turned_column (nat_abs (number_at line first)) (numbers_in second rows) (number_at line second) (numbers_in first rows))
+    LeadsNoNegative (turned_column (nat_abs (number_at line first)) (numbers_in_column second rows) (number_at line second) (numbers_in_column first rows))
 
 -- the columns that are left once so many variables were looked at
-pub record AreLeft (rows : List (List ℤ)) (line : List ℤ) (count : ℕ) (left : List ℕ) : Type 0 where
+pub record AreColumnsLeft (rows : List (List ℤ)) (line : List ℤ) (count : ℕ) (left : List ℕ) : Type 0 where
   pub each : (c : ℕ) → Has left c → IsPositiveAt line c
   pub level : (c d u : ℕ) → Has left c → Has left d → u < count → crosswise (slice_index_or rows u []) line c d ≡ crosswise (slice_index_or rows u []) line d c
   pub others : (c : ℕ) → IsPositiveAt line c → Has left c ⊎ ((d : ℕ) → Has left d → ComesFirst rows line d c)

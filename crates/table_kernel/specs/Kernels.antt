@@ -3,9 +3,9 @@ use Rattle.std.specs.Prelude.{◌≡◌, ℕ, suc, ◌*◌, ◌^◌, ◌<◌, �
 use Rattle.std.specs.Vec.{with_items}
 use Rattle.whole_numbers.specs.Fractions.{Fraction}
 use Rattle.whole_numbers.specs.Lists.{number_at}
-use Rattle.path_rows.specs.Basis.{member_form}
+use Rattle.design_problem.specs.Basis.{member_form}
 use Rattle.fraction_table.specs.declared.table.Table.{Table}
-use Rattle.fraction_table.specs.Wholes.{HasRoom, IsUnboxedTable, IsWholeTable, members_of, number_of}
+use Rattle.fraction_table.specs.ValidTables.{HasRoom, IsUnboxedTable, IsTableau, members_of_box, number_of_form}
 use Rattle.fraction_table.specs.Pivots.{member_at}
 use Rattle.integer_pivots.specs.Leads.{AreLeads}
 use Rattle.integer_pivots.specs.Numbers.{AllWithin, weight_of}
@@ -22,8 +22,8 @@ abbrev pub lows_of : Kernel → List (List ℤ)
 lows_of k = lows_by k.constants.items k.lows.items
 
 -- the lines of all forms, in fractions
-abbrev pub lines_of : Kernel → List (List Fraction)
-lines_of k = fraction_lines (nat_abs k.common) k.table.costs k.table.rows.items (lows_of k)
+abbrev pub kernel_lines : Kernel → List (List Fraction)
+kernel_lines k = fraction_lines (nat_abs k.common) k.table.costs k.table.rows.items (lows_of k)
 
 -- the table in fractions that the kernel stands for
 abbrev pub stated : Kernel → Table
@@ -32,7 +32,7 @@ stated k = record {
   costs = k.table.costs;
   rows = k.table.rows;
   basis = k.table.basis;
-  lines = with_items k.table.lines (lines_of k);
+  lines = with_items k.table.lines (kernel_lines k);
   quotients = k.table.quotients;
   scratch = k.table.scratch;
 }
@@ -44,7 +44,7 @@ pub record IsShaped (k : Kernel) : Type 0 where
   pub each : All (λ row. length row ≡ width_of k) k.lows.items
   pub leads : length k.leads.items ≡ width_of k
   pub lead : AreLeads k.lows.items k.leads.items
-  pub constants : length k.constants.items ≡ length (members_of k.table.costs (length k.table.rows.items))
+  pub constants : length k.constants.items ≡ length (members_of_box k.table.costs (length k.table.rows.items))
   pub uses : held_in k.uses.items ≡ uses_by k.table.rows.items (width_of k)
   pub line : length k.line.items ≡ width_of k
   pub left : width_of k ≤ vec_capacity k.left
@@ -65,11 +65,11 @@ pub record IsBounded (k : Kernel) : Type 0 where
   pub constants : AllWithin (2 ^ 39) k.constants.items
 
 -- the numbers of the table that the kernel stands for are those that it holds
-pub record AreNumbers (k : Kernel) (u : IsUnboxedTable (stated k)) : Type 0 where
+pub record AreKernelNumbers (k : Kernel) (u : IsUnboxedTable (stated k)) : Type 0 where
   pub common : pos u.common ≡ k.common
   pub lows : u.lows ≡ lows_of k
   pub constants : (place : ℕ) → place < length k.constants.items →
-      number_at k.constants.items place ≡ number_of u.common k.table.costs.low u.lows
+      number_at k.constants.items place ≡ number_of_form u.common k.table.costs.low u.lows
       (member_form (width_of k) k.table.rows.items (member_at k.table place)) 0
 
 -- a kernel while its bounds move: the ranges may be empty
@@ -77,11 +77,11 @@ pub record IsMoving (k : Kernel) : Type 0 where
   pub shaped : IsShaped k
   pub bounded : IsBounded k
   pub unboxed : IsUnboxedTable (stated k)
-  pub numbers : AreNumbers k unboxed
+  pub numbers : AreKernelNumbers k unboxed
 
 -- a kernel of a box and of rows at a basis
 pub record IsKernel (k : Kernel) : Type 0 where
   pub shaped : IsShaped k
   pub bounded : IsBounded k
-  pub whole : IsWholeTable (stated k)
-  pub numbers : AreNumbers k whole.unboxed
+  pub whole : IsTableau (stated k)
+  pub numbers : AreKernelNumbers k whole.unboxed

@@ -4,12 +4,12 @@ use Rattle.whole_numbers.specs.Lists.{number_at}
 use Rattle.integer_pivots.specs.declared.turn.Turn.{Turn}
 use Rattle.integer_pivots.specs.Leads.{AreLeads}
 use Rattle.integer_pivots.specs.Numbers.{AllWithin, greatest_of}
-use Rattle.integer_pivots.specs.Turns.{AreTouched, AreWholeTurns, IsTurned, IsTurnedRow, IsWholeTurn, size_after, turn_of}
+use Rattle.integer_pivots.specs.Turns.{AreTouched, AreIntegralTurns, IsNumberTurned, IsTurnedRow, IsIntegralTurn, size_after, turn_of}
 use Rattle.table_kernel.specs.declared.kernel.Kernel.{Kernel}
-use Rattle.table_kernel.specs.Turns.{IsBestOf, IsFoundNegative, along_numbers, line_numbers}
+use Rattle.table_kernel.specs.Turns.{IsBestColumn, IsFoundNegative, along_numbers, numbers_of_place}
 
 -- what the turn of a kernel needs of its numbers
-pub record IsReady (k : Kernel) : Type 0 where
+pub record IsReadyToTurn (k : Kernel) : Type 0 where
   pub lows : length k.lows.items ≤ length k.along.items
   pub each : All (λ row. length row ≡ length k.line.items) k.lows.items
   pub leads : length k.leads.items ≡ length k.line.items
@@ -41,24 +41,25 @@ abbrev pub AreWithinReach : Kernel → Type 0
 AreWithinReach k = All (AllWithin (nat_abs k.reach)) k.lows.items
 
 -- the numbers of a variable turn into whole ones
-abbrev pub RowIsWhole : Kernel → ℤ → ℕ → Type 0
-RowIsWhole k pivot var = AreWholeTurns pivot k.common (number_at k.along.items var) k.line.items (slice_index_or k.lows.items var [])
+abbrev pub RowStaysIntegral : Kernel → ℤ → ℕ → Type 0
+RowStaysIntegral k pivot var = AreIntegralTurns pivot k.common (number_at k.along.items var) k.line.items (slice_index_or k.lows.items var [])
 
 -- all numbers of x - low turn into whole ones, and all constants
-abbrev pub LowsAreWhole : Kernel → ℤ → Type 0
-LowsAreWhole k pivot = (var : ℕ) → var < length k.lows.items → RowIsWhole k pivot var
+abbrev pub LowsStayIntegral : Kernel → ℤ → Type 0
+LowsStayIntegral k pivot = (var : ℕ) → var < length k.lows.items → RowStaysIntegral k pivot var
 
 -- the numbers of the variables at the column stand along
 abbrev pub StandAlong : Kernel → ℕ → Type 0
 StandAlong k column =
     (var : ℕ) → var < length k.lows.items → number_at (slice_index_or k.lows.items var []) column ≡ number_at k.along.items var
 
-abbrev pub ConstantsAreWhole : Kernel → Turn → Type 0
-ConstantsAreWhole k turn =
-    (place : ℕ) → place < length k.constants.items → IsWholeTurn turn (number_at k.constants.items place) (number_at k.along.items place)
+-- all constants turn into whole numbers
+abbrev pub ConstantsStayIntegral : Kernel → Turn → Type 0
+ConstantsStayIntegral k turn =
+    (place : ℕ) → place < length k.constants.items → IsIntegralTurn turn (number_at k.constants.items place) (number_at k.along.items place)
 
 -- what a turn of the numbers of x - low leaves as it is
-pub record KeepsOthers (old new : Kernel) : Type 0 where
+pub record KeepsAllButLows (old new : Kernel) : Type 0 where
   pub table : new.table ≡ old.table
   pub common : new.common ≡ old.common
   pub weight : new.weight ≡ old.weight
@@ -80,7 +81,7 @@ IsTurnedAt old new pivot own var =
 abbrev pub ConstantsAreTurned : Kernel → Kernel → Turn → Type 0
 ConstantsAreTurned old new turn =
     (place : ℕ) → place < length old.constants.items →
-    IsTurned turn (number_at old.constants.items place) (number_at old.along.items place)
+    IsNumberTurned turn (number_at old.constants.items place) (number_at old.along.items place)
     (number_at new.constants.items place)
 
 -- what a turn of the constants leaves as it is
@@ -97,9 +98,9 @@ pub record KeepsLows (old new : Kernel) : Type 0 where
   pub along : new.along ≡ old.along
 
 -- all numbers turn into whole ones
-pub record AreWhole (k : Kernel) (turn : Turn) : Type 0 where
-  pub lows : LowsAreWhole k turn.pivot
-  pub constants : ConstantsAreWhole k turn
+pub record StayIntegral (k : Kernel) (turn : Turn) : Type 0 where
+  pub lows : LowsStayIntegral k turn.pivot
+  pub constants : ConstantsStayIntegral k turn
 
 -- what the turn of all numbers leaves, by the constant of a place and the line's number at a column
 pub record HasTurned (old new : Kernel) (place column : ℕ) : Type 0 where
@@ -121,7 +122,7 @@ pub record HasTurned (old new : Kernel) (place column : ℕ) : Type 0 where
   pub lows : (var : ℕ) → var < length old.lows.items → IsTurnedAt old new (number_at old.line.items column) column var
   pub leads : AreLeads old.lows.items old.leads.items → AreLeads new.lows.items new.leads.items
   pub constants : (p : ℕ) → p < length old.constants.items →
-      IsTurned (turn_of (number_at old.line.items column) old.common (number_at old.constants.items place))
+      IsNumberTurned (turn_of (number_at old.line.items column) old.common (number_at old.constants.items place))
       (number_at old.constants.items p) (number_at old.along.items p) (number_at new.constants.items p)
 
 -- what turns the numbers at a pivot: the line's number at the column, and the constant of the place
@@ -131,12 +132,12 @@ turn_at k place column = turn_of (number_at k.line.items column) k.common (numbe
 -- the bounds cover the turn by a place's constant and the line's number at a column: the numbers stay within the limits and whole
 pub record MayTurn (k : Kernel) (place column : ℕ) : Type 0 where
   pub within : StaysWithin k (turn_at k place column)
-  pub whole : AreWhole k (turn_at k place column)
+  pub whole : StayIntegral k (turn_at k place column)
 
 -- the pivot at a place's line and its best column isn't covered
 pub record IsRefusedAt (k : Kernel) (place column : ℕ) : Type 0 where
-  pub line : k.line.items ≡ line_numbers k place
-  pub best : IsBestOf k (Some column)
+  pub line : k.line.items ≡ numbers_of_place k place
+  pub best : IsBestColumn k (Some column)
   pub along : k.along.items ≡ along_numbers k column
   pub refused : MayTurn k place column → ⊥
 

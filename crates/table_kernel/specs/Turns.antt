@@ -2,17 +2,17 @@
 use Rattle.std.specs.Prelude.{◌≡◌, ◌≢◌, ℕ, ◌+◌, ◌*◌, ◌^◌, ◌<◌, ◌≤◌, List, [], ◌∷◌, ℤ, pos, ◌-ℤ◌, ◌*ℤ◌, ◌+ℤ◌, ◌<ℤ◌, ◌≤ℤ◌, nat_abs, Option, None, Some, map, length, vec_capacity, vec_len, All}
 use Rattle.cost_base.specs.Lists.{numbers_from}
 use Rattle.whole_numbers.specs.Lists.{number_at}
-use Rattle.path_rows.specs.declared.form.CostBox.{CostBox}
-use Rattle.path_rows.specs.declared.form.Form.{Form}
-use Rattle.path_rows.specs.Basis.{member_form}
-use Rattle.path_rows.specs.Forms.{value}
+use Rattle.design_problem.specs.declared.form.CostBox.{CostBox}
+use Rattle.design_problem.specs.declared.form.Form.{Form}
+use Rattle.design_problem.specs.Basis.{member_form}
+use Rattle.design_problem.specs.Forms.{value_for_costs}
 use Rattle.fraction_table.specs.Pivots.{LeadsNoNegative, member_at, turned_column}
 use Rattle.fraction_table.specs.RowLines.{HasPlace}
-use Rattle.fraction_table.specs.Wholes.{members_of}
+use Rattle.fraction_table.specs.ValidTables.{members_of_box}
 use Rattle.integer_pivots.specs.Numbers.{AllWithin, product_sum, weight_of}
 use Rattle.integer_pivots.specs.Uses.{HaveRoom, held_in}
 use Rattle.table_kernel.specs.declared.kernel.Kernel.{Kernel}
-use Rattle.table_kernel.specs.Numbers.{number_in}
+use Rattle.table_kernel.specs.Numbers.{number_at_column}
 use Rattle.table_kernel.specs.Kernels.{width_of}
 
 -- the kernels differ in their room alone
@@ -30,33 +30,33 @@ pub record KeepsNumbers (old new : Kernel) : Type 0 where
   pub left : vec_capacity old.left ≤ vec_capacity new.left
 
 -- the form of a place
-abbrev pub form_in : Kernel → ℕ → Form
-form_in k place = member_form (width_of k) k.table.rows.items (member_at k.table place)
+abbrev pub form_of_place : Kernel → ℕ → Form
+form_of_place k place = member_form (width_of k) k.table.rows.items (member_at k.table place)
 
 -- the numbers of x - low for each variable at a column
 abbrev pub column_of : Kernel → ℕ → List ℤ
 column_of k column = map (λ row. number_at row column) k.lows.items
 
 -- the numbers of a place's form at the columns
-abbrev pub line_numbers : Kernel → ℕ → List ℤ
-line_numbers k place = map (λ column. number_in (form_in k place) (column_of k column)) (numbers_from 0 (width_of k))
+abbrev pub numbers_of_place : Kernel → ℕ → List ℤ
+numbers_of_place k place = map (λ column. number_at_column (form_of_place k place) (column_of k column)) (numbers_from 0 (width_of k))
 
 -- the numbers of all forms at a column
 abbrev pub along_numbers : Kernel → ℕ → List ℤ
 along_numbers k column =
-    map (λ member. number_in (member_form (width_of k) k.table.rows.items member) (column_of k column)) (members_of k.table.costs (length k.table.rows.items))
+    map (λ member. number_at_column (member_form (width_of k) k.table.rows.items member) (column_of k column)) (members_of_box k.table.costs (length k.table.rows.items))
 
 -- the first column, over its positive number in the line, doesn't come after the second one over its own
-abbrev pub IsNotAfter : Kernel → ℕ → ℕ → Type 0
-IsNotAfter k first second =
+abbrev pub IsNotAfterInKernel : Kernel → ℕ → ℕ → Type 0
+IsNotAfterInKernel k first second =
     LeadsNoNegative (turned_column (nat_abs (number_at k.line.items first)) (column_of k second) (number_at k.line.items second) (column_of k first))
 
 -- a best of the columns in which the line is positive; none where it is positive in none
-abbrev pub IsBestOf : Kernel → Option ℕ → Type 0
-IsBestOf k None = (c : ℕ) → c < width_of k → number_at k.line.items c ≤ℤ pos 0
-IsBestOf k (Some best) =
+abbrev pub IsBestColumn : Kernel → Option ℕ → Type 0
+IsBestColumn k None = (c : ℕ) → c < width_of k → number_at k.line.items c ≤ℤ pos 0
+IsBestColumn k (Some best) =
     (best < width_of k) × (pos 0 <ℤ number_at k.line.items best)
-    × ((c : ℕ) → c < width_of k → c ≢ best → pos 0 <ℤ number_at k.line.items c → IsNotAfter k best c)
+    × ((c : ℕ) → c < width_of k → c ≢ best → pos 0 <ℤ number_at k.line.items c → IsNotAfterInKernel k best c)
 
 -- what a search for the first negative constant finds
 abbrev pub IsFoundNegative : Kernel → Option ℕ → Type 0
@@ -66,7 +66,7 @@ IsFoundNegative k (Some place) =
 
 -- a form's constant at the basis, by those of x - low
 abbrev pub row_constant_of : Kernel → Form → ℤ
-row_constant_of k f = (k.common *ℤ value f k.table.costs.low) +ℤ product_sum f.coefficients k.constants.items
+row_constant_of k f = (k.common *ℤ value_for_costs f k.table.costs.low) +ℤ product_sum f.coefficients k.constants.items
 
 -- the kernel's bounds hold with the row, too
 pub record IsCovered (k : Kernel) (f : Form) : Type 0 where
@@ -112,7 +112,7 @@ abbrev pub MayMove : Kernel → ℕ → Type 0
 MayMove k far = (most : ℕ) × (AllWithin most k.constants.items × (most + far * step_of k ≤ 2 ^ 39))
 
 -- a move keeps what bounds the numbers
-pub record KeepsBounds (old new : Kernel) : Type 0 where
+pub record KeepsNumberBounds (old new : Kernel) : Type 0 where
   pub top : new.table.top ≡ old.table.top
   pub rows : new.table.rows ≡ old.table.rows
   pub width : length new.table.costs.low ≡ length old.table.costs.low

@@ -3,7 +3,7 @@ ghost use Rattle.std.specs.Prelude.{◌≡◌, ◌⊎◌, ◌^◌, ◌*◌, ◌<
 ghost use Rattle.fraction_rows.specs.TableRows.{blank_row};
 ghost use Rattle.fraction_table.specs.RowLines.{HoldsSame};
 ghost use Rattle.fraction_table.specs.Tableaus.{FitsBox};
-ghost use Rattle.fraction_table.specs.Wholes.{held_of};
+ghost use Rattle.fraction_table.specs.ValidTables.{held_of};
 ghost use Rattle.fraction_table.specs.declared.stage.Stage.TheVariants.{Open};
 ghost use Rattle.integer_pivots.specs.Numbers.{AllWithin, product_sum, weight_of};
 ghost use Rattle.table_kernel.specs.Kernels.{IsKernel, width_of};
@@ -11,9 +11,9 @@ ghost use Rattle.table_kernel.specs.Turns.{HasRowPlace, HoldsNumbers, IsCovered,
 
 use crate::Kernel;
 use cost_base::OutOfMemory;
+use design_problem::Form;
 use fraction_table::{BlankRow, corner_value};
 use integer_pivots::{CONSTANT_LIMIT, ENTRY_LIMIT, push_uses, reserve_uses, within};
-use path_rows::Form;
 use std::alloc::Global;
 
 /// The sum of the sizes of a form's coefficients.

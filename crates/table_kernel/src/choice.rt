@@ -1,9 +1,9 @@
 //! The choice of a pivot's column.
 ghost use Rattle.std.specs.Prelude.{◌≡◌, ◌+◌, ◌^◌, ◌<◌, length, vec_capacity, vec_len};
 ghost use Rattle.integer_pivots.specs.Numbers.{AllWithin};
-ghost use Rattle.table_kernel.specs.Choices.{AreLeft};
+ghost use Rattle.table_kernel.specs.Choices.{AreColumnsLeft};
 ghost use Rattle.table_kernel.specs.Kernels.{IsKernel};
-ghost use Rattle.table_kernel.specs.Turns.{IsBestOf, KeepsNumbers};
+ghost use Rattle.table_kernel.specs.Turns.{IsBestColumn, KeepsNumbers};
 
 use crate::Kernel;
 use integer_pivots::{keep_least, put_latest};
@@ -15,8 +15,8 @@ impl Kernel {
         requires line { AllWithin (2 ^ 22) self.old.line.items }
         requires var { var < length self.old.lows.items }
         requires some { 0 < vec_len self.old.left }
-        requires left { AreLeft self.old.lows.items self.old.line.items var self.old.left.items }
-        ensures left { AreLeft self.new.lows.items self.new.line.items (var + 1) self.new.left.items }
+        requires left { AreColumnsLeft self.old.lows.items self.old.line.items var self.old.left.items }
+        ensures left { AreColumnsLeft self.new.lows.items self.new.line.items (var + 1) self.new.left.items }
         ensures some { 0 < vec_len self.new.left }
         ensures room { vec_capacity self.new.left ≡ vec_capacity self.old.left }
         ensures keeps { self.new ≡ record self.old { left = self.new.left } }
@@ -33,8 +33,8 @@ impl Kernel {
         requires kernel { IsKernel self.old }
         requires line { AllWithin (2 ^ 22) self.old.line.items }
         requires some { 0 < vec_len self.old.left }
-        requires left { AreLeft self.old.lows.items self.old.line.items first self.old.left.items }
-        ensures left { AreLeft self.new.lows.items self.new.line.items (length self.new.lows.items) self.new.left.items }
+        requires left { AreColumnsLeft self.old.lows.items self.old.line.items first self.old.left.items }
+        ensures left { AreColumnsLeft self.new.lows.items self.new.line.items (length self.new.lows.items) self.new.left.items }
         ensures some { 0 < vec_len self.new.left }
         ensures room { vec_capacity self.new.left ≡ vec_capacity self.old.left }
         ensures keeps { self.new ≡ record self.old { left = self.new.left } }
@@ -52,7 +52,7 @@ impl Kernel {
     pub fn choose(&mut self) -> Option<usize>
         requires kernel { IsKernel self.old }
         requires line { AllWithin (2 ^ 22) self.old.line.items }
-        ensures best { IsBestOf self.old result }
+        ensures best { IsBestColumn self.old result }
         ensures line { self.new.line ≡ self.old.line }
         ensures keeps { KeepsNumbers self.old self.new }
     {

@@ -2,8 +2,8 @@
 ghost use Rattle.std.specs.Prelude.{◌≡◌, ℕ, ◌^◌, ◌+◌, ◌*◌, ◌/◌, ◌<◌, ◌≤◌, pos, ◌≤ℤ◌, nat_abs, length, slice_index, All};
 ghost use Prim.Native.Nat.{◌∣◌};
 ghost use Rattle.whole_numbers.specs.Lists.{number_at};
-ghost use Rattle.path_rows.specs.Earnest.{IsLeast};
-ghost use Rattle.path_rows.specs.Forms.{AreMet};
+ghost use Rattle.design_problem.specs.Earnest.{IsLeastPoint};
+ghost use Rattle.design_problem.specs.Forms.{AreMet};
 ghost use Rattle.table_kernel.specs.Kernels.{IsKernel, width_of};
 
 use crate::Kernel;
@@ -65,7 +65,7 @@ impl Kernel {
         requires kernel { IsKernel self.now }
         requires high { All (λ z. pos 0 ≤ℤ z) self.now.constants.items }
         requires places { length into.old.values ≡ width_of self.now }
-        ensures least { IsLeast (AreMet self.now.table.rows.items) self.now.table.costs into.new }
+        ensures least { IsLeastPoint (AreMet self.now.table.rows.items) self.now.table.costs into.new }
         ensures small { into.new.scale < 2 ^ 100 }
     {
         let divisor = self.common_divisor();

@@ -1,18 +1,18 @@
 //! The numbers of one form at all columns, and of all forms at one column.
 ghost use Rattle.std.specs.Prelude.{◌≡◌, ℕ, ◌^◌, ◌+◌, ◌<◌, ◌≤◌, [], neg_ℤ, pos, nat_abs, length, map, slice_index_or, All};
 ghost use Rattle.whole_numbers.specs.Lists.{number_at};
-ghost use Rattle.path_rows.specs.Basis.{IsFormOf, member_form};
-ghost use Rattle.path_rows.specs.Forms.{no_form};
+ghost use Rattle.design_problem.specs.Basis.{IsFormOf, member_form};
+ghost use Rattle.design_problem.specs.Forms.{no_form};
 ghost use Rattle.integer_pivots.specs.Numbers.{AllWithin, weight_of};
 ghost use Rattle.integer_pivots.specs.Uses.{held_in, uses_by};
 ghost use Rattle.table_kernel.specs.Kernels.{IsKernel, IsMoving, width_of};
-ghost use Rattle.table_kernel.specs.Numbers.{number_in};
-ghost use Rattle.table_kernel.specs.Turns.{KeepsNumbers, along_numbers, column_of, line_numbers};
+ghost use Rattle.table_kernel.specs.Numbers.{number_at_column};
+ghost use Rattle.table_kernel.specs.Turns.{KeepsNumbers, along_numbers, column_of, numbers_of_place};
 
 use crate::Kernel;
 use cost_base::Listed;
+use design_problem::{Form, Member};
 use integer_pivots::{Use, clear, put_multiple, put_scaled, put_uses};
-use path_rows::{Form, Member};
 
 /// A form's number at a column, by the numbers of x - low for each variable: the sum of its coefficients times these.
 fn row_entry(form: &Form, lows: &[Listed<i64>], column: usize) -> i64
@@ -20,7 +20,7 @@ fn row_entry(form: &Form, lows: &[Listed<i64>], column: usize) -> i64
     requires light { weight_of form.now ≤ 2 ^ 22 }
     requires long { All (λ row. column < length row) lows.now }
     requires small { All (AllWithin (2 ^ 22)) lows.now }
-    ensures { result ≡ number_in form.now (map (λ row. number_at row column) lows.now) }
+    ensures { result ≡ number_at_column form.now (map (λ row. number_at row column) lows.now) }
 {
     let mut sum = 0;
     for term in form.terms() {
@@ -36,7 +36,7 @@ fn put_sums(line: &mut [i64], form: &Form, lows: &[Listed<i64>])
     requires light { weight_of form.now ≤ 2 ^ 22 }
     requires long { All (λ row. length row ≡ length line.old) lows.now }
     requires small { All (AllWithin (2 ^ 22)) lows.now }
-    ensures { (column : ℕ) → column < length line.old → number_at line.new column ≡ number_in form.now (map (λ row. number_at row column) lows.now) }
+    ensures { (column : ℕ) → column < length line.old → number_at line.new column ≡ number_at_column form.now (map (λ row. number_at row column) lows.now) }
 {
     clear(line);
     for term in form.terms() {
@@ -80,7 +80,7 @@ fn put_rows(along: &mut [i64], rows: &[Form], uses: &[Vec<Use>], first: usize)
     requires light { All (λ f. weight_of f ≤ 2 ^ 22) rows.now }
     requires small { (v : ℕ) → v < first → nat_abs (number_at along.old v) ≤ 2 ^ 22 }
     ensures before { (v : ℕ) → v < first → number_at along.new v ≡ number_at along.old v }
-    ensures rows { (row : ℕ) → row < length rows.now → number_at along.new (first + row) ≡ number_in (slice_index_or rows.now row no_form) along.old }
+    ensures rows { (row : ℕ) → row < length rows.now → number_at along.new (first + row) ≡ number_at_column (slice_index_or rows.now row no_form) along.old }
 {
     clear_rows(along, rows, first);
     for var in 0..uses.len() {
@@ -107,7 +107,7 @@ fn put_forms(
     ensures high { (v : ℕ) → v < length lows.now → number_at along.new (length lows.now + v) ≡ neg_ℤ (number_at (slice_index_or lows.now v []) column) }
     ensures rows { (row : ℕ) → row < length rows.now →
         number_at along.new (length lows.now + length lows.now + row) ≡
-        number_in (slice_index_or rows.now row no_form) (map (λ row. number_at row column) lows.now) }
+        number_at_column (slice_index_or rows.now row no_form) (map (λ row. number_at row column) lows.now) }
 {
     put_bounds(along, lows, column);
     put_rows(along, rows, uses, lows.len() + lows.len());
@@ -119,7 +119,7 @@ impl Kernel {
         requires kernel { IsKernel self.now }
         requires member { IsFormOf self.now.table.costs self.now.table.rows.items member }
         requires column { column < width_of self.now }
-        ensures { result ≡ number_in (member_form (width_of self.now) self.now.table.rows.items member) (column_of self.now column) }
+        ensures { result ≡ number_at_column (member_form (width_of self.now) self.now.table.rows.items member) (column_of self.now column) }
     {
         match member {
             Member::Low(var, _) => self.lows[var as usize].as_slice()[column],
@@ -136,7 +136,7 @@ impl Kernel {
     pub fn put_line(&mut self, place: usize)
         requires kernel { IsMoving self.old }
         requires place { place < length self.old.constants.items }
-        ensures line { self.new.line.items ≡ line_numbers self.old place }
+        ensures line { self.new.line.items ≡ numbers_of_place self.old place }
         ensures within { AllWithin (2 ^ 22) self.new.line.items }
         ensures along { self.new.along ≡ self.old.along }
         ensures keeps { KeepsNumbers self.old self.new }

@@ -1,17 +1,17 @@
 //! The move of the kernel to another box, bound by bound.
 ghost use Rattle.std.specs.Prelude.{◌≡◌, ℕ, ◌^◌, ◌+◌, ◌<◌, ◌≤◌, ◌↔◌, pos, ◌-ℤ◌, length, ◌*◌, ◌<ℤ◌, ◌≤ℤ◌, nat_abs, slice_index, All, IsTrue, OnErr, OnOk};
-ghost use Rattle.path_rows.specs.Boxes.{IsBox, with_high, with_low};
-ghost use Rattle.fraction_table.specs.Moves.{IsMoved, KeepsRows};
+ghost use Rattle.design_problem.specs.Boxes.{IsBox, with_high, with_low};
+ghost use Rattle.fraction_table.specs.Moves.{IsMoved, KeepsTableRows};
 ghost use Rattle.fraction_table.specs.Tableaus.{FitsBox};
 ghost use Rattle.table_kernel.specs.Kernels.{IsKernel, IsMoving, stated, width_of};
-ghost use Rattle.table_kernel.specs.Moves.{IsShifted, KeepsOthers};
-ghost use Rattle.table_kernel.specs.Turns.{KeepsBounds, MayMove, box_distance, distance_of, step_of};
+ghost use Rattle.table_kernel.specs.Moves.{IsKernelShifted, KeepsInMove};
+ghost use Rattle.table_kernel.specs.Turns.{KeepsNumberBounds, MayMove, box_distance, distance_of, step_of};
 
 use crate::Kernel;
 use crate::kernel::OutOfRange;
+use design_problem::{CostBox, Member};
 use fraction_table::{column_of, range_of};
 use integer_pivots::{CONSTANT_LIMIT, greatest, put_multiple};
-use path_rows::{CostBox, Member};
 
 /// The sum of the differences of two lists, place by place.
 fn distance(first: &[u16], second: &[u16]) -> i64
@@ -45,8 +45,8 @@ impl Kernel {
         requires kernel { IsMoving self.old }
         requires own { own < length self.old.constants.items }
         requires small { nat_abs fall ≤ 2 ^ 22 }
-        ensures shifted { IsShifted self.old self.new own before after fall }
-        ensures keeps { KeepsOthers self.old self.new }
+        ensures shifted { IsKernelShifted self.old self.new own before after fall }
+        ensures keeps { KeepsInMove self.old self.new }
         ensures costs { self.new.table.costs ≡ self.old.table.costs }
     {
         match column_of(self.table.basis.as_slice(), before) {
@@ -68,7 +68,7 @@ impl Kernel {
         requires room { MayMove self.old (nat_abs (pos bound -ℤ pos (slice_index self.old.table.costs.low var))) }
         ensures kernel { IsMoving self.new }
         ensures moved { IsMoved (stated self.old) (with_low self.old.table.costs var bound) (stated self.new) }
-        ensures keeps { KeepsBounds self.old self.new }
+        ensures keeps { KeepsNumberBounds self.old self.new }
         ensures room { (more : ℕ) → MayMove self.old (nat_abs (pos bound -ℤ pos (slice_index self.old.table.costs.low var)) + more) → MayMove self.new more }
     {
         let place = var as usize;
@@ -88,7 +88,7 @@ impl Kernel {
         requires room { MayMove self.old (nat_abs (pos (slice_index self.old.table.costs.high var) -ℤ pos bound)) }
         ensures kernel { IsMoving self.new }
         ensures moved { IsMoved (stated self.old) (with_high self.old.table.costs var bound) (stated self.new) }
-        ensures keeps { KeepsBounds self.old self.new }
+        ensures keeps { KeepsNumberBounds self.old self.new }
         ensures room { (more : ℕ) → MayMove self.old (nat_abs (pos (slice_index self.old.table.costs.high var) -ℤ pos bound) + more) → MayMove self.new more }
     {
         let place = var as usize;
@@ -134,7 +134,7 @@ impl Kernel {
         requires ranges { IsBox (width_of self.old) costs.now }
         requires fits { All (FitsBox costs.now) self.old.table.rows.items }
         ensures kernel { IsKernel self.new }
-        ensures keeps { KeepsRows (stated self.old) (stated self.new) }
+        ensures keeps { KeepsTableRows (stated self.old) (stated self.new) }
         ensures moved { OnOk result (IsMoved (stated self.old) costs.now (stated self.new)) }
         ensures same { OnErr result (self.new ≡ self.old) }
         ensures refused { OnErr result (MayMove self.old (box_distance self.old.table.costs costs.now) → ⊥) }

@@ -1,7 +1,7 @@
 //! Whole multipliers of rows that refute a box.
 ghost use Rattle.std.specs.Prelude.{◌≡◌, suc, ◌<◌, ◌≤◌, length, IfErr, IfOk};
-ghost use Rattle.path_rows.specs.Boxes.{Refutes};
-ghost use Rattle.path_rows.specs.Steps.{IsStuck};
+ghost use Rattle.design_problem.specs.Boxes.{Refutes};
+ghost use Rattle.design_problem.specs.Steps.{IsStuck};
 ghost use Rattle.fraction_table.specs.Multipliers.{IsToldOf, fractions_of};
 ghost use Rattle.fraction_table.specs.Pivots.{line_at, member_at};
 ghost use Rattle.table_kernel.specs.Kernels.{IsKernel, stated, width_of};
@@ -9,8 +9,8 @@ ghost use Rattle.table_kernel.specs.Kernels.{IsKernel, stated, width_of};
 use crate::Kernel;
 use crate::restate::fraction_over;
 use cost_base::OutOfMemory;
+use design_problem::Parts;
 use fraction_table::{SimplexStop, put_fraction, put_negated, whole_multipliers};
-use path_rows::Parts;
 use std::alloc::Global;
 use wide_fraction::Frac;
 

@@ -2,9 +2,9 @@
 ghost use Rattle.std.specs.Prelude.{ℕ, ◌<◌, length, pos, ◌<ℤ◌, IfOk, OnErr};
 ghost use Rattle.whole_numbers.specs.Lists.{number_at};
 ghost use Rattle.fraction_table.specs.declared.stage.Stage.TheVariants.{Ended};
-ghost use Rattle.fraction_table.specs.Pivots.{IsAhead, KeepsForms};
-ghost use Rattle.fraction_table.specs.Wholes.{IsShown};
-ghost use Rattle.table_kernel.specs.Kernels.{IsKernel, lines_of, stated};
+ghost use Rattle.fraction_table.specs.Pivots.{IsAhead, KeepsBoxAndRows};
+ghost use Rattle.fraction_table.specs.ValidTables.{IsShown};
+ghost use Rattle.table_kernel.specs.Kernels.{IsKernel, kernel_lines, stated};
 ghost use Rattle.table_kernel.specs.Turnings.{IsHeldUp, IsRefusedAt};
 ghost use Rattle.table_kernel.specs.Turns.{IsFoundNegative, KeepsNumbers};
 
@@ -37,7 +37,7 @@ impl Kernel {
         requires below { number_at self.old.constants.items place <ℤ pos 0 }
         ensures kernel { IsKernel self.new }
         ensures ahead { IfOk result (λ solved. IsAhead (stated self.old) (stated self.new) solved) }
-        ensures keeps { KeepsForms (stated self.old) (stated self.new) }
+        ensures keeps { KeepsBoxAndRows (stated self.old) (stated self.new) }
         ensures same { OnErr result (KeepsNumbers self.old self.new) }
         ensures refused { OnErr result ((column : ℕ) × IsRefusedAt self.new place column) }
     {
@@ -61,7 +61,7 @@ impl Kernel {
         requires kernel { IsKernel self.old }
         ensures kernel { IsKernel self.new }
         ensures ahead { IfOk result (λ solved. IsAhead (stated self.old) (stated self.new) solved) }
-        ensures keeps { KeepsForms (stated self.old) (stated self.new) }
+        ensures keeps { KeepsBoxAndRows (stated self.old) (stated self.new) }
         ensures held_up { OnErr result (IsHeldUp self.new) }
     {
         match self.first_negative() {
@@ -79,8 +79,8 @@ impl Kernel {
     pub fn settle(&mut self) -> Result<Solved, OutOfRange>
         requires kernel { IsKernel self.old }
         ensures kernel { IsKernel self.new }
-        ensures shown { IfOk result (λ solved. IsShown self.new.table.basis.items (lines_of self.new) (Ended solved)) }
-        ensures keeps { KeepsForms (stated self.old) (stated self.new) }
+        ensures shown { IfOk result (λ solved. IsShown self.new.table.basis.items (kernel_lines self.new) (Ended solved)) }
+        ensures keeps { KeepsBoxAndRows (stated self.old) (stated self.new) }
         ensures held_up { OnErr result (IsHeldUp self.new) }
     {
         'pivots: loop {

@@ -1,19 +1,19 @@
 //! The kernel of a box without rows.
 ghost use Rattle.std.specs.Prelude.{◌≡◌, ◌^◌, ◌<◌, ◌≤◌, ◌++◌, [], pos, ◌-ℤ◌, length, map, slice_index, vec_capacity, IfOk};
 ghost use Rattle.cost_base.specs.Lists.{numbers_from};
-ghost use Rattle.path_rows.specs.Basis.{unit};
-ghost use Rattle.path_rows.specs.Boxes.{IsBox};
+ghost use Rattle.design_problem.specs.Basis.{unit};
+ghost use Rattle.design_problem.specs.Boxes.{IsBox};
 ghost use Rattle.fraction_table.specs.declared.stage.Stage.TheVariants.{Open};
 ghost use Rattle.fraction_table.specs.Tableaus.{starting};
-ghost use Rattle.fraction_table.specs.Wholes.{IsSound, held_of};
+ghost use Rattle.fraction_table.specs.ValidTables.{IsSound, held_of};
 ghost use Rattle.integer_pivots.specs.Numbers.{AllWithin};
 ghost use Rattle.table_kernel.specs.Kernels.{IsKernel};
 
 use crate::Kernel;
 use cost_base::{Listed, OutOfMemory};
+use design_problem::CostBox;
 use fraction_table::{range_of, starting_table};
 use integer_pivots::empty_uses;
-use path_rows::CostBox;
 use std::alloc::Global;
 use wide_fraction::Top;
 

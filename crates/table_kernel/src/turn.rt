@@ -2,15 +2,15 @@
 ghost use Rattle.std.specs.Prelude.{◌≡◌, ◌≢◌, ℕ, ◌^◌, ◌*◌, ◌<◌, ◌≤◌, ◌↔◌, [], pos, nat_abs, ◌<ℤ◌, ◌≤ℤ◌, length, slice_index_or};
 ghost use Rattle.std.specs.Prelude.{Some, OnErr, OnOk, IsTrue, vec_capacity};
 ghost use Rattle.whole_numbers.specs.Lists.{number_at};
-ghost use Rattle.fraction_table.specs.Pivots.{KeepsForms};
+ghost use Rattle.fraction_table.specs.Pivots.{KeepsBoxAndRows};
 ghost use Rattle.fraction_table.specs.Ranks.{rank};
 ghost use Rattle.integer_pivots.specs.Numbers.{AllWithin};
 ghost use Rattle.integer_pivots.specs.Reciprocals.{IsDivisorOf, IsShare};
 ghost use Rattle.integer_pivots.specs.Turns.{IsSmallTurn};
 ghost use Rattle.table_kernel.specs.Kernels.{IsKernel, stated, width_of};
-ghost use Rattle.table_kernel.specs.Turns.{IsBestOf, KeepsNumbers, along_numbers, line_numbers};
-ghost use Rattle.table_kernel.specs.Turnings.{AreTouchedBy, AreWhole, AreWithinReach, ConstantsAreTurned, ConstantsAreWhole, HasTurned, IsReady, IsRefusedAt};
-ghost use Rattle.table_kernel.specs.Turnings.{IsTurnedAt, KeepsLows, KeepsOthers, LowsAreWhole, LowsStay, MayTurn, RowIsWhole, StandAlong, StaysWithin};
+ghost use Rattle.table_kernel.specs.Turns.{IsBestColumn, KeepsNumbers, along_numbers, numbers_of_place};
+ghost use Rattle.table_kernel.specs.Turnings.{AreTouchedBy, StayIntegral, AreWithinReach, ConstantsAreTurned, ConstantsStayIntegral, HasTurned, IsReadyToTurn, IsRefusedAt};
+ghost use Rattle.table_kernel.specs.Turnings.{IsTurnedAt, KeepsLows, KeepsAllButLows, LowsStayIntegral, LowsStay, MayTurn, RowStaysIntegral, StandAlong, StaysWithin};
 
 use crate::Kernel;
 use crate::kernel::OutOfRange;
@@ -26,12 +26,12 @@ impl Kernel {
         requires share { IsShare (nat_abs self.now.common) self.now.line.items (length self.now.line.items) share }
         requires small { share ≤ 2 ^ 22 }
         requires divisor { IsDivisorOf turn.common divisor }
-        requires ready { IsReady self.now }
+        requires ready { IsReadyToTurn self.now }
         requires numbers { AreWithinReach self.now }
         requires var { var < length self.now.lows.items }
         requires turn { (pos 0 <ℤ turn.pivot) × (turn.pivot ≤ℤ pos (2 ^ 22)) × (turn.common ≡ self.now.common) }
         requires touched { AreTouchedBy self.now turn.pivot }
-        ensures { IsTrue result ↔ RowIsWhole self.now turn.pivot var }
+        ensures { IsTrue result ↔ RowStaysIntegral self.now turn.pivot var }
     {
         let along = self.along[var];
         if turn.pivot == turn.common {
@@ -50,11 +50,11 @@ impl Kernel {
     /// Whether the numbers of all variables turn into whole ones.
     fn turn_whole(&self, turn: Turn, divisor: Divisor) -> bool
         requires divisor { IsDivisorOf turn.common divisor }
-        requires ready { IsReady self.now }
+        requires ready { IsReadyToTurn self.now }
         requires numbers { AreWithinReach self.now }
         requires turn { (pos 0 <ℤ turn.pivot) × (turn.pivot ≤ℤ pos (2 ^ 22)) × (turn.common ≡ self.now.common) }
         requires touched { AreTouchedBy self.now turn.pivot }
-        ensures { IsTrue result ↔ LowsAreWhole self.now turn.pivot }
+        ensures { IsTrue result ↔ LowsStayIntegral self.now turn.pivot }
     {
         let share = share_of(self.line.as_slice(), divisor);
         for var in 0..self.lows.len() {
@@ -68,9 +68,9 @@ impl Kernel {
     /// Whether all constants turn into whole ones.
     fn constants_turn_whole(&self, turn: Turn, divisor: Divisor) -> bool
         requires divisor { IsDivisorOf turn.common divisor }
-        requires ready { IsReady self.now }
+        requires ready { IsReadyToTurn self.now }
         requires small { IsSmallTurn turn }
-        ensures { IsTrue result ↔ ConstantsAreWhole self.now turn }
+        ensures { IsTrue result ↔ ConstantsStayIntegral self.now turn }
     {
         for place in 0..self.constants.len() {
             if !turn.is_whole(self.constants[place], self.along[place], divisor) {
@@ -82,7 +82,7 @@ impl Kernel {
 
     /// Whether all numbers of x - low stay within the limit.
     fn lows_stay(&self, pivot: i64, along: i64, across: i64) -> bool
-        requires ready { IsReady self.now }
+        requires ready { IsReadyToTurn self.now }
         requires pivot { (pos 0 <ℤ pivot) × (pivot ≤ℤ pos (2 ^ 22)) }
         requires along { (pos 0 ≤ℤ along) × (along ≤ℤ pos (2 ^ 22)) }
         requires across { (pos 0 ≤ℤ across) × (across ≤ℤ pos (2 ^ 22)) }
@@ -98,7 +98,7 @@ impl Kernel {
 
     /// Whether all numbers stay within the limits.
     fn stays_within(&self, constants: Turn) -> bool
-        requires ready { IsReady self.now }
+        requires ready { IsReadyToTurn self.now }
         requires pivot { (pos 0 <ℤ constants.pivot) × (constants.pivot ≤ℤ pos (2 ^ 22)) }
         requires across { nat_abs constants.across ≤ 2 ^ 39 }
         requires common { constants.common ≡ self.now.common }
@@ -115,18 +115,18 @@ impl Kernel {
     /// Turns the numbers of a variable, and gives the greatest size that they may have then.
     fn turn_row(&mut self, var: usize, column: usize, turn: Turn, divisor: Divisor) -> i64
         requires divisor { IsDivisorOf turn.common divisor }
-        requires ready { IsReady self.old }
+        requires ready { IsReadyToTurn self.old }
         requires var { var < length self.old.lows.items }
         requires column { column < length self.old.line.items }
         requires turn { (pos 0 <ℤ turn.pivot) × (turn.common ≡ self.old.common) }
         requires within { StaysWithin self.old turn }
         requires row { AllWithin (nat_abs self.old.reach) (slice_index_or self.old.lows.items var []) }
-        requires whole { RowIsWhole self.old turn.pivot var }
+        requires whole { RowStaysIntegral self.old turn.pivot var }
         requires along { number_at (slice_index_or self.old.lows.items var []) column ≡ number_at self.old.along.items var }
         requires touched { AreTouchedBy self.old turn.pivot }
-        ensures ready { IsReady self.new }
+        ensures ready { IsReadyToTurn self.new }
         ensures within { StaysWithin self.new turn }
-        ensures keeps { KeepsOthers self.old self.new }
+        ensures keeps { KeepsAllButLows self.old self.new }
         ensures turned { IsTurnedAt self.old self.new turn.pivot column var }
         ensures reach { self.new.reach ≡ self.old.reach }
         ensures others { (v : ℕ) → v ≢ var → slice_index_or self.new.lows.items v [] ≡ slice_index_or self.old.lows.items v [] }
@@ -153,17 +153,17 @@ impl Kernel {
     /// Turns the numbers of all variables.
     fn turn_lows(&mut self, column: usize, turn: Turn, divisor: Divisor)
         requires divisor { IsDivisorOf turn.common divisor }
-        requires ready { IsReady self.old }
+        requires ready { IsReadyToTurn self.old }
         requires numbers { AreWithinReach self.old }
         requires column { column < length self.old.line.items }
         requires turn { (pos 0 <ℤ turn.pivot) × (turn.common ≡ self.old.common) }
         requires within { StaysWithin self.old turn }
-        requires whole { LowsAreWhole self.old turn.pivot }
+        requires whole { LowsStayIntegral self.old turn.pivot }
         requires along { StandAlong self.old column }
         requires touched { AreTouchedBy self.old turn.pivot }
-        ensures ready { IsReady self.new }
+        ensures ready { IsReadyToTurn self.new }
         ensures numbers { AreWithinReach self.new }
-        ensures keeps { KeepsOthers self.old self.new }
+        ensures keeps { KeepsAllButLows self.old self.new }
         ensures turned { (var : ℕ) → var < length self.old.lows.items → IsTurnedAt self.old self.new turn.pivot column var }
     {
         let mut reach = self.reach;
@@ -177,9 +177,9 @@ impl Kernel {
     /// Turns the constants of all forms.
     fn turn_constants(&mut self, turn: Turn, divisor: Divisor)
         requires divisor { IsDivisorOf turn.common divisor }
-        requires ready { IsReady self.old }
+        requires ready { IsReadyToTurn self.old }
         requires small { IsSmallTurn turn }
-        requires whole { ConstantsAreWhole self.old turn }
+        requires whole { ConstantsStayIntegral self.old turn }
         ensures count { length self.new.constants.items ≡ length self.old.constants.items }
         ensures turned { ConstantsAreTurned self.old self.new turn }
         ensures others { KeepsLows self.old self.new }
@@ -192,12 +192,12 @@ impl Kernel {
     /// Whether all numbers turn into whole ones.
     fn all_whole(&self, turn: Turn, divisor: Divisor) -> bool
         requires divisor { IsDivisorOf turn.common divisor }
-        requires ready { IsReady self.now }
+        requires ready { IsReadyToTurn self.now }
         requires numbers { AreWithinReach self.now }
         requires small { IsSmallTurn turn }
         requires common { turn.common ≡ self.now.common }
         requires touched { AreTouchedBy self.now turn.pivot }
-        ensures { IsTrue result ↔ AreWhole self.now turn }
+        ensures { IsTrue result ↔ StayIntegral self.now turn }
     {
         if turn.common == 1 {
             return true;
@@ -246,7 +246,7 @@ impl Kernel {
     ///
     /// `OutOfRange` where the bounds don't cover that. Then the kernel is as before.
     fn turn_numbers(&mut self, place: usize, column: usize) -> Result<(), OutOfRange>
-        requires ready { IsReady self.old }
+        requires ready { IsReadyToTurn self.old }
         requires numbers { AreWithinReach self.old }
         requires place { place < length self.old.constants.items }
         requires column { column < length self.old.line.items }
@@ -291,12 +291,12 @@ impl Kernel {
         requires kernel { IsKernel self.old }
         requires place { place < length self.old.constants.items }
         requires below { number_at self.old.constants.items place <ℤ pos 0 }
-        requires line { self.old.line.items ≡ line_numbers self.old place }
+        requires line { self.old.line.items ≡ numbers_of_place self.old place }
         requires column { column < width_of self.old }
-        requires best { IsBestOf self.old (Some column) }
+        requires best { IsBestColumn self.old (Some column) }
         ensures kernel { IsKernel self.new }
         ensures rises { OnOk result (rank (stated self.old) < rank (stated self.new)) }
-        ensures keeps { KeepsForms (stated self.old) (stated self.new) }
+        ensures keeps { KeepsBoxAndRows (stated self.old) (stated self.new) }
         ensures same { OnErr result (KeepsNumbers self.old self.new) }
         ensures refused { OnErr result (IsRefusedAt self.new place column) }
     {

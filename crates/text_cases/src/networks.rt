@@ -43,8 +43,8 @@ impl<'a> fmt::Display for Shown<'a> {
             "{name} of {} at line {}, to {:?}",
             link.router, link.line, link.to
         )?;
-        if let Some(mate) = link.mate {
-            write!(f, ", mate {mate}")?;
+        if let Some(link_back) = link.link_back {
+            write!(f, ", mate {link_back}")?;
         }
         if let Some(cost) = link.cost {
             write!(f, ", cost {cost}")?;

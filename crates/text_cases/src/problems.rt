@@ -3,9 +3,9 @@
 use crate::requests::requests_of;
 use area_graph::{Edge, Price};
 use case_scripts::Written;
+use design_problem::{Problem, Request};
 use lsdb_build::Lsdb;
 use path_requests::{resolve, resolve_present};
-use path_rows::{Problem, Request};
 use std::alloc::{AllocError, Global};
 use std::fmt;
 use wanted_paths::ResolutionStop;
@@ -37,9 +37,9 @@ fn variables(alloc: Global, problem: &Problem) -> Result<Vec<u32>, AllocError> {
 /// A wanted path: its edges, its end, and the edges that it goes without.
 fn path_text(alloc: Global, wanted: &Request) -> Result<String, AllocError> {
     let edges = Written(wanted.path.edges.as_slice());
-    let gone = Written(wanted.gone.as_slice());
+    let excluded = Written(wanted.excluded.as_slice());
     format!(in alloc;
-        "\n  path {} to {} over {edges} without {gone}",
+        "\n  path {} to {} over {edges} without {excluded}",
         wanted.path.start, wanted.end
     )
 }

@@ -2,7 +2,7 @@
 
 use crate::configs::LONGEST;
 use cost_base::Name;
-use request_reader::{Hops, Item, Part, RequestStop, Requests, Wish, read_requests};
+use request_reader::{Directive, Hops, Item, Part, RequestFile, RequestStop, read_requests};
 use std::alloc::{AllocError, Global};
 use std::fmt;
 
@@ -51,25 +51,25 @@ impl<'a> fmt::Display for Shown<'a> {
     fn fmt<W: fmt::Write>(&self, f: &mut fmt::Formatter<W>) -> fmt::Result {
         write!(f, "line {}: ", self.0.line)?;
         match &self.0.what {
-            Wish::FreeAll(low, high) => write!(f, "each free {low} to {high}"),
-            Wish::Free(router, interface, low, high) => {
+            Directive::FreeAll(low, high) => write!(f, "each free {low} to {high}"),
+            Directive::Free(router, interface, low, high) => {
                 let (router, interface) = (Called(router), Called(interface));
                 write!(f, "{interface} of {router} free {low} to {high}")
             }
-            Wish::Fix(router, interface) => {
+            Directive::Fix(router, interface) => {
                 write!(f, "{} of {} fixed", Called(interface), Called(router))
             }
-            Wish::SymmetricAll => write!(f, "each symmetric"),
-            Wish::Symmetric(router, interface) => {
+            Directive::SymmetricAll => write!(f, "each symmetric"),
+            Directive::Symmetric(router, interface) => {
                 write!(f, "{} of {} symmetric", Called(interface), Called(router))
             }
-            Wish::Path(hops, without) => write_path(hops, without.as_slice(), f),
+            Directive::Path(hops, without) => write_path(hops, without.as_slice(), f),
         }
     }
 }
 
 /// What a request file asks for that isn't longer than any text of a script.
-pub(crate) fn requests_of(alloc: Global, bytes: &[u8]) -> Result<Requests, RequestStop> {
+pub(crate) fn requests_of(alloc: Global, bytes: &[u8]) -> Result<RequestFile, RequestStop> {
     if bytes.len() > LONGEST {
         return Err(RequestStop::OutOfMemory);
     }

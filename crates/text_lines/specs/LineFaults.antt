@@ -6,6 +6,7 @@ pub record FaultyLine (F : Type 0) : Type 0 where
   pub fault : F
   pub line : ℕ
 
+-- the fault as one of the line of number n
 abbrev pub fault_at : {F : Type 0} → ℕ → F → FaultyLine F
 fault_at {F} n fault = record { fault = fault; line = n }
 
@@ -14,6 +15,7 @@ abbrev pub fault_in_line : {F : Type 0} → ℕ → Option F → Option (FaultyL
 fault_in_line {F} n None = None
 fault_in_line {F} n (Some fault) = Some (fault_at n fault)
 
+-- the fault of the line of number n as a list, which is empty where the line has none
 abbrev pub faults_at : {F : Type 0} → ℕ → Option F → List (FaultyLine F)
 faults_at {F} n None = []
 faults_at {F} n (Some fault) = fault_at n fault ∷ []

@@ -1,7 +1,7 @@
 //! Numbers as decimal digits.
 ghost use Rattle.std.specs.Prelude.{◌≡◌, ◌<◌, ◌≤◌, ◌^◌, ◌+◌, ℕ, length, take, OnOk, OnErr};
 ghost use Rattle.cost_base.specs.Decimal.{decimal};
-ghost use Rattle.cost_base.specs.Outside.{HasCause, GotWhole, GotPart};
+ghost use Rattle.cost_base.specs.Outside.{HasCause, GotAll, GotPart};
 
 use cost_base::{PutFailed, Sink};
 
@@ -27,7 +27,7 @@ pub fn number_bytes(value: u128, room: &mut [u8; 40]) -> usize
 ///
 /// What the sink refused.
 pub fn put_number<K: Sink>(value: u128, out: &mut K) -> Result<(), PutFailed>
-    ensures whole { OnOk result (GotWhole (K.got out.old) (K.got out.new) (decimal value)) }
+    ensures whole { OnOk result (GotAll (K.got out.old) (K.got out.new) (decimal value)) }
     ensures part { OnErr result (GotPart (K.got out.old) (K.got out.new) (decimal value)) }
     ensures cause { HasCause (K.faults out.old) (K.faults out.new) result }
 {

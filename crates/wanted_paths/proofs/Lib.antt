@@ -2,6 +2,6 @@ pub mod RouteLaws
 pub mod LookUps
 pub mod Walks
 pub mod TakenEdges
-pub mod GoneLaws
+pub mod ExcludedLaws
 pub mod Withouts
 pub mod Outline

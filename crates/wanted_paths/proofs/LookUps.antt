@@ -15,9 +15,9 @@ use Rattle.area_graph.proofs.Vertices.{vertices_length}
 use Rattle.area_graph.specs.Area.{Area, edge_at, edges_out}
 use Rattle.lsdb_build.specs.declared.Far.TheVariants.{Router}
 use Rattle.lsdb_build.specs.declared.Linked.{Linked}
-use Rattle.lsdb_build.specs.Graphs.{Database, IsDatabase, IsLink}
+use Rattle.lsdb_build.specs.Graphs.{Database, IsAreaDatabase, IsDatabaseLink}
 use Rattle.lsdb_build.proofs.Pairs.{pair_at, all_at}
-use Rattle.wanted_paths.specs.Paths.{is_named, names_link, link_number, router_number, edge_to}
+use Rattle.wanted_paths.specs.Paths.{is_link_named, names_link, link_number, router_number, edge_between}
 use Rattle.wanted_paths.specs.Paths.{outline}
 use Rattle.wanted_paths.specs.Resolution.{knows_router, knows_link}
 use Rattle.wanted_paths.specs.Keys.{link_key}
@@ -25,18 +25,18 @@ use Rattle.wanted_paths.proofs.RouteLaws.{first_passing, router_known, router_nu
 
 -- what a read past the last link gives
 abbrev pub no_link : Linked
-no_link = record { router = 0; interface = []; line = 0; cost = None; to = Router 0; mate = None }
+no_link = record { router = 0; interface = []; line = 0; cost = None; to = Router 0; link_back = None }
 
 -- a router's name is found at its number
-pub router_at : (d : Database) (r : ℕ) (name : List ℕ) → IsDatabase d → r < length d.routers → get_or d.routers r [] ≡ name → router_number d name ≡ r
+pub router_at : (d : Database) (r : ℕ) (name : List ℕ) → IsAreaDatabase d → r < length d.routers → get_or d.routers r [] ≡ name → router_number d name ≡ r
 router_at d r name base within stands = router_number_is d r name base.different within stands
 
 -- a link is named by its router's number and its interface
-pub named_is : (d : Database) (router interface : List ℕ) (link : Linked) → IsDatabase d →
-    knows_router d router ≡ true → IsLink d link →
-    is_named d router interface link ≡ (router_number d router == link.router && same_bytes interface link.interface)
+pub named_is : (d : Database) (router interface : List ℕ) (link : Linked) → IsAreaDatabase d →
+    knows_router d router ≡ true → IsDatabaseLink d link →
+    is_link_named d router interface link ≡ (router_number d router == link.router && same_bytes interface link.interface)
 named_is d router interface link base known is =
-    same_test (is_named d router interface link) (router_number d router == link.router && same_bytes interface link.interface)
+    same_test (is_link_named d router interface link) (router_number d router == link.router && same_bytes interface link.interface)
     (λ named. let parts = and_parts (same_bytes (slice_index_or d.routers link.router []) router) (same_bytes link.interface interface) named in
     and_from (router_number d router == link.router) (same_bytes interface link.interface)
     (eq-eqb (router_number d router) link.router
@@ -51,8 +51,8 @@ named_is d router interface link base known is =
     (same_bytes-same link.interface interface (sym (same_bytes-true interface link.interface parts.1))))
 
 -- where a link stands that is the interface of that router, there is its number
-pub link_number_is : (d : Database) (l : ℕ) (link : Linked) (router interface : List ℕ) → IsDatabase d →
-    slice_get d.links l ≡ Some link → is_named d router interface link ≡ true → link_number d router interface ≡ l
+pub link_number_is : (d : Database) (l : ℕ) (link : Linked) (router interface : List ℕ) → IsAreaDatabase d →
+    slice_get d.links l ≡ Some link → is_link_named d router interface link ≡ true → link_number d router interface ≡ l
 link_number_is d l link router interface base there named =
     let here : names_link d router interface (slice_get d.links l) ≡ true = rw there named in
     let first = first_passing (λ k. names_link d router interface (slice_get d.links k)) 0 (length d.links) l
@@ -60,8 +60,8 @@ link_number_is d l link router interface base there named =
     let is : link_number d router interface ≡ first.number = rw first.found refl in
     is ∙ by_link (slice_get d.links first.number) first.number refl first.passes
   where
-    one_router : (a b : Linked) → is_named d router interface a ≡ true → is_named d router interface b ≡ true →
-        IsLink d a → IsLink d b → (a.router ≡ b.router) × (a.interface ≡ b.interface)
+    one_router : (a b : Linked) → is_link_named d router interface a ≡ true → is_link_named d router interface b ≡ true →
+        IsDatabaseLink d a → IsDatabaseLink d b → (a.router ≡ b.router) × (a.interface ≡ b.interface)
     one_router a b first second is_a is_b =
         let one = and_parts (same_bytes (slice_index_or d.routers a.router []) router) (same_bytes a.interface interface) first in
         let two = and_parts (same_bytes (slice_index_or d.routers b.router []) router) (same_bytes b.interface interface) second in (
@@ -75,8 +75,8 @@ link_number_is d l link router interface base there named =
     by_link : (o : Option Linked) (k : ℕ) → slice_get d.links k ≡ o → names_link d router interface o ≡ true → k ≡ l
     by_link None k at passes = absurd (false≢true passes)
     by_link (Some other) k at passes =
-        let is_other = all_at (IsLink d) d.links base.each_link k other at in
-        let is_link = all_at (IsLink d) d.links base.each_link l link there in
+        let is_other = all_at (IsDatabaseLink d) d.links base.each_link k other at in
+        let is_link = all_at (IsDatabaseLink d) d.links base.each_link l link there in
         let same = one_router other link passes named is_other is_link in
         elim (cases_order k l) [
           | inl equal ↦ equal
@@ -90,7 +90,7 @@ link_number_is d l link router interface base there named =
 
 -- the place of a router's name in a list of such is its number
 pub router_placed : {K : Type 0} (d : Database) (name : List ℕ) (now : K → List ℕ) (keys : List K) (k : K) (r : ℕ) →
-    IsDatabase d → map now keys ≡ d.routers → position (λ key. same_bytes name (now key)) keys ≡ Some r →
+    IsAreaDatabase d → map now keys ≡ d.routers → position (λ key. same_bytes name (now key)) keys ≡ Some r →
     router_number d name ≡ r
 router_placed d name now keys k r base are at =
     let found = position-Some (λ key. same_bytes name (now key)) keys r k at in
@@ -124,7 +124,7 @@ keys_step {K} {X} now test keys k xs i different within are is finds =
         absurd (different any.0 i (now any.1) before within (stands ∙ is (now any.1)))
 
 -- the router and the interface of each link are different
-pub keys_differ : (d : Database) → IsDatabase d → AllPairs (λ a b. a ≢ b) (map link_key d.links)
+pub keys_differ : (d : Database) → IsAreaDatabase d → AllPairs (λ a b. a ≢ b) (map link_key d.links)
 keys_differ d base = λ i j k before within.
     let short : j < length d.links = omega (arith, length-map d.links link_key) in
     let first = get_or-map link_key d.links i no_link k (omega arith) in
@@ -134,7 +134,7 @@ keys_differ d base = λ i j k before within.
 
 -- the link at a place whose router and interface are those
 pub link_placed : {K : Type 0} (d : Database) (router interface : List ℕ) (now : K → ℕ × List ℕ) (keys : List K) (k : K)
-    (l : ℕ) → IsDatabase d → knows_router d router ≡ true → map now keys ≡ map link_key d.links →
+    (l : ℕ) → IsAreaDatabase d → knows_router d router ≡ true → map now keys ≡ map link_key d.links →
     position (λ key. router_number d router == (now key).0 && same_bytes interface (now key).1) keys ≡ Some l →
     link_number d router interface ≡ l
 link_placed d router interface now keys k l base known are at =
@@ -149,17 +149,17 @@ link_placed d router interface now keys k l base known are at =
     ap (λ (key : ℕ × List ℕ). router_number d router == key.0 && same_bytes interface key.1) (sym stands)
     ∙ found.1 in
     link_number_is d l link router interface base there
-    (named_is d router interface link base known (all_at (IsLink d) d.links base.each_link l link there) ∙ placed)
+    (named_is d router interface link base known (all_at (IsDatabaseLink d) d.links base.each_link l link there) ∙ placed)
 
 pub link_found : {K : Type 0} (d : Database) (router interface : List ℕ) (now : K → ℕ × List ℕ) (keys : List K) →
-    IsDatabase d → knows_router d router ≡ true → map now keys ≡ map link_key d.links →
+    IsAreaDatabase d → knows_router d router ≡ true → map now keys ≡ map link_key d.links →
     list_any (λ key. router_number d router == (now key).0 && same_bytes interface (now key).1) keys
     ≡ knows_link d router interface
 link_found d router interface now keys base known are =
     let test : ℕ × List ℕ → Bool = λ key. router_number d router == key.0 && same_bytes interface key.1 in
     sym (list_any-map test now keys) ∙ ap (list_any test) are ∙ list_any-map test link_key d.links
-    ∙ sym (list_any-agree (is_named d router interface) (λ link. router_number d router == link.router && same_bytes interface link.interface) d.links
-    (All-weaker (IsLink d) (λ link. is_named d router interface link
+    ∙ sym (list_any-agree (is_link_named d router interface) (λ link. router_number d router == link.router && same_bytes interface link.interface) d.links
+    (All-weaker (IsDatabaseLink d) (λ link. is_link_named d router interface link
     ≡ (router_number d router == link.router && same_bytes interface link.interface))
     (λ link is. named_is d router interface link base known is) d.links base.each_link))
 
@@ -183,14 +183,14 @@ link_unknown d router interface unknown =
     rw (none_passing (λ l. names_link d router interface (slice_get d.links l)) 0 (length d.links)
     (λ l from below. let within : l < length d.links = omega arith in
     rw (slice_get-get_or d.links l no_link within)
-    (none_passes (is_named d router interface) d.links unknown l no_link within))) refl
+    (none_passes (is_link_named d router interface) d.links unknown l no_link within))) refl
 
 -- a router without a name that is known has no link
-pub no_router_link : (d : Database) (router interface : List ℕ) → IsDatabase d → knows_router d router ≡ false → knows_link d router interface ≡ false
+pub no_router_link : (d : Database) (router interface : List ℕ) → IsAreaDatabase d → knows_router d router ≡ false → knows_link d router interface ≡ false
 no_router_link d router interface base unknown =
-    list_any_none (is_named d router interface) d.links
-    (All-weaker (IsLink d) (λ link. is_named d router interface link ≡ false)
-    (λ link is. false_from_ne_true (is_named d router interface link)
+    list_any_none (is_link_named d router interface) d.links
+    (All-weaker (IsDatabaseLink d) (λ link. is_link_named d router interface link ≡ false)
+    (λ link is. false_from_ne_true (is_link_named d router interface link)
     (λ named. let parts = and_parts (same_bytes (slice_index_or d.routers link.router []) router) (same_bytes link.interface interface) named in
     false≢true (sym (none_passes (same_bytes router) d.routers unknown link.router [] is.router)
     ∙ same_bytes-same router (get_or d.routers link.router [])
@@ -212,7 +212,7 @@ filter_twice p q (x ∷ xs) =
     ]
 
 -- the first edge out of a vertex that leads to a router
-pub edge_to_first : (g : Area) (from router : ℕ) → edge_to g from router ≡ unwrap_or (first_of (filter (λ e. (edge_at g e).to == router) (edges_out g from))) 0
+pub edge_to_first : (g : Area) (from router : ℕ) → edge_between g from router ≡ unwrap_or (first_of (filter (λ e. (edge_at g e).to == router) (edges_out g from))) 0
 edge_to_first g from router = ap (λ (es : List ℕ). unwrap_or (first_of es) 0)
     (sym (filter_twice (λ e. (edge_at g e).from == from) (λ e. (edge_at g e).to == router)
     (numbers_from 0 (length g.edges))))

@@ -16,11 +16,11 @@ use Rattle.lsdb_build.specs.declared.Linked.{Linked}
 use Rattle.lsdb_build.specs.Graphs.{Database, graph_at, link_edges}
 use Rattle.request_reader.specs.declared.Part.{Part}
 use Rattle.request_reader.specs.declared.Part.TheVariants.{Router, Interface}
-use Rattle.request_reader.specs.declared.Wish.{Wish}
-use Rattle.request_reader.specs.declared.Wish.TheVariants.{FreeAll, Free, Fix, Path, SymmetricAll, Symmetric}
+use Rattle.request_reader.specs.declared.Directive.{Directive}
+use Rattle.request_reader.specs.declared.Directive.TheVariants.{FreeAll, Free, Fix, Path, SymmetricAll, Symmetric}
 use Rattle.request_reader.specs.declared.Item.{Item}
-use Rattle.request_reader.specs.Wishes.{Route}
-use Rattle.wanted_paths.specs.Paths.{next_name, router_number, link_number, edge_to, hop_edges, route_edges, link_takes, takes, gone_edges, request_of}
+use Rattle.request_reader.specs.WrittenRoutes.{Route}
+use Rattle.wanted_paths.specs.Paths.{next_name, router_number, link_number, edge_between, hop_edges, route_edges, link_takes, takes, excluded_edges, request_of}
 use Rattle.wanted_paths.specs.Resolution.{is_none_twice, is_loop_free}
 use Rattle.wanted_paths.specs.Paths.{outline}
 
@@ -67,7 +67,7 @@ as_outline d prices same =
       to = λ e. link_to n d.links prices ones _ e same count;
     }
 
-edge_to_same : (g h : Area) (source target : ℕ) → SameEnds g h → edge_to g source target ≡ edge_to h source target
+edge_to_same : (g h : Area) (source target : ℕ) → SameEnds g h → edge_between g source target ≡ edge_between h source target
 edge_to_same g h source target same =
     ap (λ (es : List ℕ). unwrap_or (first_of es) 0)
     (filter-numbers_from-agree (λ e. (edge_at g e).from == source && (edge_at g e).to == target)
@@ -92,10 +92,10 @@ route_same d g h (hop ∷ hops) last same =
 
 link_takes_same : (d : Database) (g h : Area) (l : ℕ) (o : Option Linked) (e : ℕ) → SameEnds g h → link_takes d g l o e ≡ link_takes d h l o e
 link_takes_same d g h l None e same = refl
-link_takes_same d g h l (Some link) e same = by_far link.mate link.to
+link_takes_same d g h l (Some link) e same = by_far link.link_back link.to
   where
-    by_far : (mate : Option ℕ) (far : Far) → link_takes d g l (Some (record link { mate = mate; to = far })) e
-        ≡ link_takes d h l (Some (record link { mate = mate; to = far })) e
+    by_far : (link_back : Option ℕ) (far : Far) → link_takes d g l (Some (record link { link_back = link_back; to = far })) e
+        ≡ link_takes d h l (Some (record link { link_back = link_back; to = far })) e
     by_far None (ToRouter r) = refl
     by_far (Some m) (ToRouter r) = refl
     by_far None (ToSubnet s) = rw (same.from e, same.to e) refl
@@ -111,14 +111,14 @@ any_takes_same : (d : Database) (g h : Area) (e : ℕ) (parts : List Part) → S
 any_takes_same d g h e [] same = refl
 any_takes_same d g h e (part ∷ parts) same = rw (takes_same d g h e part same, any_takes_same d g h e parts same) refl
 
-pub gone_same : (d : Database) (g h : Area) (parts : List Part) → SameEnds g h → gone_edges d g parts ≡ gone_edges d h parts
-gone_same d g h parts same =
+pub excluded_same : (d : Database) (g h : Area) (parts : List Part) → SameEnds g h → excluded_edges d g parts ≡ excluded_edges d h parts
+excluded_same d g h parts same =
     filter-numbers_from-agree (λ e. list_any (takes d g e) parts) (λ e. list_any (takes d h e) parts) 0 (length g.edges)
     (λ e above below. any_takes_same d g h e parts same)
     ∙ ap (λ n. filter (λ e. list_any (takes d h e) parts) (numbers_from 0 n)) same.count
 
-request_same : (d : Database) (g h : Area) (wish : Wish) → SameEnds g h → request_of d g wish ≡ request_of d h wish
-request_same d g h (Path route parts) same = rw (route_same d g h route.hops route.last same, gone_same d g h parts same) refl
+request_same : (d : Database) (g h : Area) (directive : Directive) → SameEnds g h → request_of d g directive ≡ request_of d h directive
+request_same d g h (Path route parts) same = rw (route_same d g h route.hops route.last same, excluded_same d g h parts same) refl
 request_same d g h (FreeAll lo hi) same = refl
 request_same d g h (Free router interface lo hi) same = refl
 request_same d g h (Fix router interface) same = refl

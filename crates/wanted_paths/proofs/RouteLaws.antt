@@ -17,9 +17,9 @@ use Rattle.area_graph.specs.Paths.{Joins, visited, IsSimple, Avoids}
 use Rattle.lsdb_build.specs.declared.Far.{Far}
 use Rattle.lsdb_build.specs.declared.Far.TheVariants.{Router as ToRouter, Subnet as ToSubnet}
 use Rattle.lsdb_build.specs.declared.Linked.{Linked}
-use Rattle.lsdb_build.specs.Graphs.{Database, IsDatabase, graph_at, far_vertex, link_edges, subnet_edges, router_of}
-use Rattle.request_reader.specs.Wishes.{Route}
-use Rattle.wanted_paths.specs.Paths.{is_named, names_link, next_name, link_number, router_number, edge_to, hop_edges, route_edges}
+use Rattle.lsdb_build.specs.Graphs.{Database, IsAreaDatabase, graph_at, far_vertex, link_edges, subnet_edges, router_of}
+use Rattle.request_reader.specs.WrittenRoutes.{Route}
+use Rattle.wanted_paths.specs.Paths.{is_link_named, names_link, next_name, link_number, router_number, edge_between, hop_edges, route_edges}
 use Rattle.wanted_paths.specs.Resolution.{knows_router, knows_link, leads_to_router, is_known, is_joined, is_none_twice, is_loop_free, resolves_route}
 
 -- the first number of a run that passes a test
@@ -81,11 +81,11 @@ router_number_is d r name different within stands =
 pub record IsKnownLink (d : Database) (router interface : List ℕ) : Type 0 where
   pub link : Linked
   pub there : slice_get d.links (link_number d router interface) ≡ Some link
-  pub named : is_named d router interface link ≡ true
+  pub named : is_link_named d router interface link ≡ true
 
 pub link_known : (d : Database) (router interface : List ℕ) → knows_link d router interface ≡ true → IsKnownLink d router interface
 link_known d router interface known =
-    let any = Any-from_list_any (is_named d router interface) d.links known in
+    let any = Any-from_list_any (is_link_named d router interface) d.links known in
     let there : slice_get d.links any.0 ≡ Some any.1 = slice_get-get_or d.links any.0 any.1 any.2 ∙ ap Some any.3 in
     let here : names_link d router interface (slice_get d.links any.0) ≡ true = rw there any.4 in
     let first = first_passing (λ l. names_link d router interface (slice_get d.links l)) 0 (length d.links) any.0 (omega arith) (omega (arith, any.2)) here in
@@ -176,14 +176,14 @@ link_edge n (first ∷ links) (price ∷ prices) more (suc l) link same there =
 
 -- the edge out of a vertex to a router is one, where there is one
 pub edge_to_known : (g : Area) (source target : ℕ) → HasEdge g.edges source target →
-    (edge_to g source target < length g.edges) × ((edge_at g (edge_to g source target)).from ≡ source)
-    × ((edge_at g (edge_to g source target)).to ≡ target)
+    (edge_between g source target < length g.edges) × ((edge_at g (edge_between g source target)).from ≡ source)
+    × ((edge_at g (edge_between g source target)).to ≡ target)
 edge_to_known g source target has =
     let first = first_passing (λ e. (edge_at g e).from == source && (edge_at g e).to == target) 0
     (length g.edges) has.place (omega arith) (omega (arith, has.within))
     (and_from ((edge_at g has.place).from == source) ((edge_at g has.place).to == target)
     (eq-eqb (edge_at g has.place).from source has.from) (eq-eqb (edge_at g has.place).to target has.to)) in
-    let is : edge_to g source target ≡ first.number = rw first.found refl in
+    let is : edge_between g source target ≡ first.number = rw first.found refl in
     let parts = and_parts ((edge_at g first.number).from == source) ((edge_at g first.number).to == target) first.passes in (
       omega (arith, first.below),
       ap (λ e. (edge_at g e).from) is ∙ eqb-true (edge_at g first.number).from source parts.0,
@@ -213,7 +213,7 @@ hop_joins d g l link next t rest edge members leads joins = by_far link.to refl
         )
 
 -- each hop of a route leads on: its edges join from its first router to its last
-pub route_joins : (d : Database) (prices : List Price) (hops : List (List ℕ × List ℕ)) (last : List ℕ) → IsDatabase d →
+pub route_joins : (d : Database) (prices : List Price) (hops : List (List ℕ × List ℕ)) (last : List ℕ) → IsAreaDatabase d →
     length prices ≡ length d.links → is_known d hops last ≡ true → is_joined d hops last ≡ true →
     Joins (graph_at d prices) (router_number d (next_name hops last)) (route_edges d (graph_at d prices) hops last)
     (router_number d last)
@@ -274,7 +274,7 @@ last_known d [] last known = known
 last_known d (hop ∷ hops) last known = last_known d hops last (and_parts (knows_router d hop.0 && knows_link d hop.0 hop.1) (is_known d hops last) known).1
 
 -- a route that resolves is a simple path from its first router to its last
-pub route_simple : (d : Database) (prices : List Price) (route : Route) → IsDatabase d →
+pub route_simple : (d : Database) (prices : List Price) (route : Route) → IsAreaDatabase d →
     length prices ≡ length d.links → resolves_route d (graph_at d prices) route ≡ true →
     IsSimple (graph_at d prices) (router_number d (next_name route.hops route.last))
     (route_edges d (graph_at d prices) route.hops route.last) (router_number d route.last)

@@ -10,14 +10,14 @@ use Rattle.std.proofs.lemmas.Bool.{cases_Bool, cases_eq, eq-eqb, ne_eqb, false�
 use Rattle.cost_base.specs.Lists.{numbers_from}
 use Rattle.cost_base.proofs.ListLemmas.{filter-numbers_from-agree, list_any-agree}
 use Rattle.area_graph.specs.Area.{Area, edge_at, edges_out, edges_in}
-use Rattle.area_graph.specs.Distances.{AreMarks}
+use Rattle.area_graph.specs.Distances.{AreEdgeMarks}
 use Rattle.lsdb_build.specs.declared.Far.{Far}
 use Rattle.lsdb_build.specs.declared.Far.TheVariants.{Router as ToRouter, Subnet as ToSubnet}
 use Rattle.lsdb_build.specs.declared.Linked.{Linked}
 use Rattle.lsdb_build.specs.Graphs.{Database}
 use Rattle.request_reader.specs.declared.Part.{Part}
 use Rattle.request_reader.specs.declared.Part.TheVariants.{Router, Interface}
-use Rattle.wanted_paths.specs.Paths.{link_number, router_number, link_takes, takes, gone_edges}
+use Rattle.wanted_paths.specs.Paths.{link_number, router_number, link_takes, takes, excluded_edges}
 use Rattle.wanted_paths.specs.Taken.{taken_from, taken_at, taken_by, taken_by_all}
 use Rattle.wanted_paths.proofs.LookUps.{filter_twice}
 use Rattle.wanted_paths.proofs.RouteLaws.{lacks_from, lacks_test}
@@ -63,9 +63,9 @@ has_kept test a (suc n) e from below =
         ∙ later (a + 1) a n (omega arith) ∙ sym fails)
 
 -- what a link takes away, part by part
-abbrev mate_takes_of : ℕ → Option ℕ → Bool
-mate_takes_of e None = false
-mate_takes_of e (Some m) = e == m
+abbrev link_back_takes_of : ℕ → Option ℕ → Bool
+link_back_takes_of e None = false
+link_back_takes_of e (Some m) = e == m
 
 abbrev far_takes_of : Database → Area → ℕ → ℕ → Far → Bool
 far_takes_of d g e router (ToRouter r) = false
@@ -78,25 +78,25 @@ has_far d g e router (ToSubnet s) within =
     ap (has e) (filter_twice (λ e. (edge_at g e).from == length d.routers + s) (λ e. (edge_at g e).to == router) (numbers_from 0 (length g.edges)))
     ∙ has_kept (λ e. (edge_at g e).from == length d.routers + s && (edge_at g e).to == router) 0 (length g.edges) e (omega arith) (omega arith)
 
-has_mate : (e : ℕ) (mate : Option ℕ) → has e (option_to_list mate) ≡ mate_takes_of e mate
-has_mate e None = refl
-has_mate e (Some m) = or-false (e == m)
+has_link_back : (e : ℕ) (link_back : Option ℕ) → has e (option_to_list link_back) ≡ link_back_takes_of e link_back
+has_link_back e None = refl
+has_link_back e (Some m) = or-false (e == m)
 
 has_link : (d : Database) (g : Area) (l e : ℕ) (o : Option Linked) → e < length g.edges → has e (taken_at d g l o) ≡ link_takes d g l o e
 has_link d g l e None within = refl
 has_link d g l e (Some link) within =
-    ap (λ b. e == l || b) (list_any-append (λ x. e == x) (option_to_list link.mate) (taken_from d g link.router link.to))
-    ∙ by_parts (e == l) (has e (option_to_list link.mate)) (has e (taken_from d g link.router link.to))
-    ∙ ap (λ b. e == l || b || has e (taken_from d g link.router link.to)) (has_mate e link.mate)
-    ∙ ap (λ b. e == l || mate_takes_of e link.mate || b) (has_far d g e link.router link.to within)
-    ∙ sym (takes_is link.mate link.to)
+    ap (λ b. e == l || b) (list_any-append (λ x. e == x) (option_to_list link.link_back) (taken_from d g link.router link.to))
+    ∙ by_parts (e == l) (has e (option_to_list link.link_back)) (has e (taken_from d g link.router link.to))
+    ∙ ap (λ b. e == l || b || has e (taken_from d g link.router link.to)) (has_link_back e link.link_back)
+    ∙ ap (λ b. e == l || link_back_takes_of e link.link_back || b) (has_far d g e link.router link.to within)
+    ∙ sym (takes_is link.link_back link.to)
   where
     by_parts : (a b c : Bool) → (a || (b || c)) ≡ (a || b || c)
     by_parts true b c = refl
     by_parts false b c = refl
 
-    takes_is : (mate : Option ℕ) (far : Far) → link_takes d g l (Some (record link { mate = mate; to = far })) e
-        ≡ (e == l || mate_takes_of e mate || far_takes_of d g e link.router far)
+    takes_is : (link_back : Option ℕ) (far : Far) → link_takes d g l (Some (record link { link_back = link_back; to = far })) e
+        ≡ (e == l || link_back_takes_of e link_back || far_takes_of d g e link.router far)
     takes_is None (ToRouter r) = refl
     takes_is None (ToSubnet s) = refl
     takes_is (Some m) (ToRouter r) = refl
@@ -122,7 +122,7 @@ has_parts d g e (part ∷ parts) within =
 
 -- a mark tells whether the edge is taken away
 pub mark_is : (d : Database) (g : Area) (parts : List Part) (taken : List ℕ) (marks : List Bool) (e : ℕ) →
-    AreMarks taken marks → taken ≡ taken_by_all d g parts → length marks ≡ length g.edges → e < length g.edges →
+    AreEdgeMarks taken marks → taken ≡ taken_by_all d g parts → length marks ≡ length g.edges → e < length g.edges →
     slice_index_or marks e false ≡ list_any (takes d g e) parts
 mark_is d g parts taken marks e are is count within =
     let here = are e (omega arith) in
@@ -139,8 +139,8 @@ mark_is d g parts taken marks e are is count within =
 
 -- the marked edges are those that the parts take away
 pub marked_are : (d : Database) (g : Area) (parts : List Part) (taken : List ℕ) (marks : List Bool) →
-    AreMarks taken marks → taken ≡ taken_by_all d g parts → length marks ≡ length g.edges →
-    filter (λ e. slice_index_or marks e false) (numbers_from 0 (length marks)) ≡ gone_edges d g parts
+    AreEdgeMarks taken marks → taken ≡ taken_by_all d g parts → length marks ≡ length g.edges →
+    filter (λ e. slice_index_or marks e false) (numbers_from 0 (length marks)) ≡ excluded_edges d g parts
 marked_are d g parts taken marks are is count =
     filter-numbers_from-agree (λ e. slice_index_or marks e false) (λ e. list_any (takes d g e) parts) 0 (length marks)
     (λ e above below. mark_is d g parts taken marks e are is count (omega arith))
@@ -148,7 +148,7 @@ marked_are d g parts taken marks are is count =
 
 -- a path has a marked edge exactly where one of its edges is taken away
 pub path_marked : (d : Database) (g : Area) (parts : List Part) (taken : List ℕ) (marks : List Bool) (es : List ℕ) →
-    AreMarks taken marks → taken ≡ taken_by_all d g parts → length marks ≡ length g.edges →
+    AreEdgeMarks taken marks → taken ≡ taken_by_all d g parts → length marks ≡ length g.edges →
     All (λ e. e < length g.edges) es →
     list_any (λ e. slice_index_or marks e false) es ≡ list_any (λ e. list_any (takes d g e) parts) es
 path_marked d g parts taken marks es are is count within =

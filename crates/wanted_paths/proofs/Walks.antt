@@ -10,9 +10,9 @@ use Rattle.area_graph.specs.declared.Price.{Price}
 use Rattle.area_graph.specs.declared.Price.TheVariants.{Fixed}
 use Rattle.area_graph.specs.Paths.{visited, IsSimple}
 use Rattle.lsdb_build.specs.declared.Linked.{Linked}
-use Rattle.lsdb_build.specs.Graphs.{Database, IsDatabase}
+use Rattle.lsdb_build.specs.Graphs.{Database, IsAreaDatabase}
 use Rattle.wanted_paths.specs.declared.routes.Walk.{Walk}
-use Rattle.request_reader.specs.Wishes.{Route}
+use Rattle.request_reader.specs.WrittenRoutes.{Route}
 use Rattle.wanted_paths.specs.Paths.{next_name, router_number, route_edges}
 use Rattle.wanted_paths.specs.Resolution.{knows_router, knows_link, is_known, is_joined, is_none_twice, is_loop_free}
 use Rattle.wanted_paths.specs.declared.stop.ResolutionFault.{ResolutionFault}
@@ -76,7 +76,7 @@ none_twice_test (x ∷ xs) once =
     (not_from_false (list_any (λ y. x == y) xs) (lacks_test xs x once.0)) (none_twice_test xs once.1)
 
 -- a route whose words are known and whose hops join is a simple path of the outline where no vertex comes twice
-pub outline_simple : (d : Database) (route : Route) → IsDatabase d → is_known d route.hops route.last ≡ true →
+pub outline_simple : (d : Database) (route : Route) → IsAreaDatabase d → is_known d route.hops route.last ≡ true →
     is_joined d route.hops route.last ≡ true → is_loop_free d (outline d) route ≡ true →
     IsSimple (outline d) (router_number d (next_name route.hops route.last))
     (route_edges d (outline d) route.hops route.last) (router_number d route.last)
@@ -87,7 +87,7 @@ outline_simple d route base known joined free =
     (and_from (is_known d route.hops route.last) (is_joined d route.hops route.last) known joined) free)
 
 -- the walk's one fault where its words are known and its hops join
-pub walk_faults_are : (d : Database) (line : ℕ) (route : Route) (walk : Walk) (simple : Bool) → IsDatabase d →
+pub walk_faults_are : (d : Database) (line : ℕ) (route : Route) (walk : Walk) (simple : Bool) → IsAreaDatabase d →
     hop_faults d line route.hops route.last ≡ [] → broken_faults d line 1 route.hops route.last ≡ [] →
     IsWalk d route walk → (IsTrue simple ↔ IsSimple (outline d) walk.path.start walk.path.edges walk.end) →
     walk_faults d line route ≡ fault_unless simple (LoopPath line)

@@ -4,25 +4,25 @@ use Rattle.std.specs.Prelude.{slice_index_or, not, ◌||◌}
 use Rattle.std.specs.List.{list_any}
 use Rattle.cost_base.proofs.ListLemmas.{append-none}
 use Rattle.area_graph.specs.Area.{Area}
-use Rattle.area_graph.specs.Distances.{AreMarks}
+use Rattle.area_graph.specs.Distances.{AreEdgeMarks}
 use Rattle.area_graph.proofs.Visits.{joined_known}
-use Rattle.lsdb_build.specs.Graphs.{Database, IsDatabase}
+use Rattle.lsdb_build.specs.Graphs.{Database, IsAreaDatabase}
 use Rattle.request_reader.specs.declared.Part.{Part}
 use Rattle.wanted_paths.specs.declared.routes.Walk.{Walk}
-use Rattle.request_reader.specs.Wishes.{Route}
+use Rattle.request_reader.specs.WrittenRoutes.{Route}
 use Rattle.wanted_paths.specs.Paths.{next_name, router_number, route_edges}
 use Rattle.wanted_paths.specs.Resolution.{is_loop_free}
-use Rattle.wanted_paths.specs.LineFaults.{fault_unless, hop_faults, broken_faults, walk_faults, parts_faults, without_faults, is_router_part, is_path_gone}
+use Rattle.wanted_paths.specs.LineFaults.{fault_unless, hop_faults, broken_faults, walk_faults, parts_faults, without_faults, is_router_part, is_path_excluded}
 use Rattle.wanted_paths.specs.Paths.{outline}
 use Rattle.wanted_paths.specs.Walks.{IsWalk}
 use Rattle.wanted_paths.specs.Taken.{taken_by_all}
 use Rattle.wanted_paths.proofs.Walks.{well_from, words_known, hops_joined, outline_simple}
 use Rattle.wanted_paths.proofs.TakenEdges.{path_marked}
-use Rattle.wanted_paths.specs.declared.stop.ResolutionFault.TheVariants.{LoopPath, PathGone}
+use Rattle.wanted_paths.specs.declared.stop.ResolutionFault.TheVariants.{LoopPath, PathExcluded}
 use Rattle.area_graph.specs.Paths.{IsSimple}
 
 -- a walk without a fault is a simple path of the outline
-pub walk_simple : (d : Database) (line : ℕ) (route : Route) → IsDatabase d → walk_faults d line route ≡ [] →
+pub walk_simple : (d : Database) (line : ℕ) (route : Route) → IsAreaDatabase d → walk_faults d line route ≡ [] →
     IsSimple (outline d) (router_number d (next_name route.hops route.last))
     (route_edges d (outline d) route.hops route.last) (router_number d route.last)
 walk_simple d line route base none =
@@ -35,33 +35,33 @@ walk_simple d line route base none =
     (hops_joined d line 1 route.hops route.last parts.1) (well_from free (LoopPath line) whole.1)
 
 -- what is taken away of the outline, as a list and as marks
-pub record AreGone (d : Database) (parts : List Part) (taken : List ℕ) (marks : List Bool) : Type 0 where
-  pub are : AreMarks taken marks
+pub record AreExcluded (d : Database) (parts : List Part) (taken : List ℕ) (marks : List Bool) : Type 0 where
+  pub are : AreEdgeMarks taken marks
   pub all : taken ≡ taken_by_all d (outline d) parts
   pub count : length marks ≡ length (outline d).edges
 
 -- the marks that were set by a list as it was lent
-pub gone_marks : (d : Database) (g : Area) (parts : List Part) (lent taken : List ℕ) (old marks : List Bool) →
-    g ≡ outline d → lent ≡ taken → AreMarks lent marks → taken ≡ taken_by_all d g parts →
-    length marks ≡ length old → length old ≡ length g.edges → AreGone d parts taken marks
-gone_marks d g parts lent taken old marks graph same are all kept count = record {
-  are = subst (λ (xs : List ℕ). AreMarks xs marks) same are;
+pub excluded_marks : (d : Database) (g : Area) (parts : List Part) (lent taken : List ℕ) (old marks : List Bool) →
+    g ≡ outline d → lent ≡ taken → AreEdgeMarks lent marks → taken ≡ taken_by_all d g parts →
+    length marks ≡ length old → length old ≡ length g.edges → AreExcluded d parts taken marks
+excluded_marks d g parts lent taken old marks graph same are all kept count = record {
+  are = subst (λ (xs : List ℕ). AreEdgeMarks xs marks) same are;
   all = all ∙ ap (λ (h : Area). taken_by_all d h parts) graph;
   count = kept ∙ count ∙ ap (λ (h : Area). length h.edges) graph;
 }
 
 pub without_faults_are : (d : Database) (line : ℕ) (route : Route) (walk : Walk) (parts : List Part) (taken : List ℕ)
-    (marks : List Bool) (gone : Bool) → IsDatabase d → IsWalk d route walk → walk_faults d line route ≡ [] →
-    parts_faults d line parts ≡ [] → AreGone d parts taken marks →
-    gone ≡ (list_any (is_router_part (next_name route.hops route.last)) parts
+    (marks : List Bool) (excluded : Bool) → IsAreaDatabase d → IsWalk d route walk → walk_faults d line route ≡ [] →
+    parts_faults d line parts ≡ [] → AreExcluded d parts taken marks →
+    excluded ≡ (list_any (is_router_part (next_name route.hops route.last)) parts
     || list_any (λ e. slice_index_or marks e false) walk.path.edges) →
-    without_faults d line route parts ≡ fault_unless (not gone) (PathGone line)
-without_faults_are d line route walk parts taken marks gone base is walks words taken_are tests =
+    without_faults d line route parts ≡ fault_unless (not excluded) (PathExcluded line)
+without_faults_are d line route walk parts taken marks excluded base is walks words taken_are tests =
     let simple = walk_simple d line route base walks in
     let edges = route_edges d (outline d) route.hops route.last in
     let start = list_any (is_router_part (next_name route.hops route.last)) parts in
     let within = joined_known (outline d) (router_number d (next_name route.hops route.last)) edges (router_number d route.last) simple.joins in
-    let same : is_path_gone d route parts ≡ gone
+    let same : is_path_excluded d route parts ≡ excluded
     =
     ap (λ b. start || b) (sym (path_marked d (outline d) parts taken marks edges taken_are.are taken_are.all
     taken_are.count within)

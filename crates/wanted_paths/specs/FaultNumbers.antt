@@ -1,7 +1,7 @@
 -- How the faults of resolution are written.
 use Rattle.std.specs.Prelude.{ℕ}
 use Rattle.wanted_paths.specs.declared.stop.ResolutionFault.{ResolutionFault}
-use Rattle.wanted_paths.specs.declared.stop.ResolutionFault.TheVariants.{UnknownRouter, UnknownInterface, NotALink, BrokenPath, LoopPath, PathGone, EndsDiffer, TooManyVariables, NoCost}
+use Rattle.wanted_paths.specs.declared.stop.ResolutionFault.TheVariants.{UnknownRouter, UnknownInterface, NotALink, BrokenPath, LoopPath, PathExcluded, EndsDiffer, TooManyVariables, NoCost}
 
 -- the number of a fault
 abbrev pub number_of : ResolutionFault → ℕ
@@ -13,7 +13,7 @@ number_of (NoCost link) = 26
 number_of TooManyVariables = 27
 number_of (NotALink line) = 28
 number_of (EndsDiffer line) = 29
-number_of (PathGone line) = 70
+number_of (PathExcluded line) = 70
 
 -- the line of the request file at which a fault stands, 0 where it is none of one line
 abbrev pub line_of : ResolutionFault → ℕ
@@ -25,4 +25,4 @@ line_of (NoCost link) = 0
 line_of TooManyVariables = 0
 line_of (NotALink line) = line
 line_of (EndsDiffer line) = line
-line_of (PathGone line) = line
+line_of (PathExcluded line) = line

@@ -6,12 +6,12 @@ use Rattle.lsdb_build.specs.declared.Linked.{Linked}
 use Rattle.lsdb_build.specs.Graphs.{Database}
 use Rattle.request_reader.specs.declared.Part.{Part}
 use Rattle.request_reader.specs.declared.Part.TheVariants.{Router, Interface}
-use Rattle.request_reader.specs.declared.Wish.{Wish}
-use Rattle.request_reader.specs.declared.Wish.TheVariants.{FreeAll, Free, Fix, Path, SymmetricAll, Symmetric}
+use Rattle.request_reader.specs.declared.Directive.{Directive}
+use Rattle.request_reader.specs.declared.Directive.TheVariants.{FreeAll, Free, Fix, Path, SymmetricAll, Symmetric}
 use Rattle.request_reader.specs.declared.Item.{Item}
-use Rattle.request_reader.specs.Wishes.{Route}
+use Rattle.request_reader.specs.WrittenRoutes.{Route}
 use Rattle.wanted_paths.specs.declared.stop.ResolutionFault.{ResolutionFault}
-use Rattle.wanted_paths.specs.declared.stop.ResolutionFault.TheVariants.{UnknownRouter, UnknownInterface, NotALink, BrokenPath, LoopPath, PathGone}
+use Rattle.wanted_paths.specs.declared.stop.ResolutionFault.TheVariants.{UnknownRouter, UnknownInterface, NotALink, BrokenPath, LoopPath, PathExcluded}
 use Rattle.wanted_paths.specs.declared.stop.ResolutionStop.{ResolutionStop}
 use Rattle.wanted_paths.specs.declared.stop.ResolutionStop.TheVariants.{Refused, OutOfMemory}
 use Rattle.wanted_paths.specs.Paths.{next_name, link_number, router_number, route_edges, takes, outline}
@@ -23,20 +23,25 @@ fault_unless well fault = if well then [] else fault ∷ []
 
 -- The faults of words.
 
+-- no configuration has the router's name
 abbrev pub router_faults : Database → ℕ → List ℕ → List ResolutionFault
 router_faults d line router = fault_unless (knows_router d router) (UnknownRouter line)
 
+-- no configuration has the router's name, or the router has no linked interface of that name
 abbrev pub interface_faults : Database → ℕ → List ℕ → List ℕ → List ResolutionFault
 interface_faults d line router interface = router_faults d line router ++ fault_unless (knows_link d router interface) (UnknownInterface line)
 
+-- the faults of the words of a path: of each hop, then of the last router
 abbrev pub hop_faults : Database → ℕ → List (List ℕ × List ℕ) → List ℕ → List ResolutionFault
 hop_faults d line [] last = router_faults d line last
 hop_faults d line (hop ∷ hops) last = interface_faults d line hop.0 hop.1 ++ hop_faults d line hops last
 
+-- the faults of one word behind `without`
 abbrev pub part_faults : Database → ℕ → Part → List ResolutionFault
 part_faults d line (Router router) = router_faults d line router
 part_faults d line (Interface router interface) = interface_faults d line router interface
 
+-- the faults of the words behind `without`, in their order
 abbrev pub parts_faults : Database → ℕ → List Part → List ResolutionFault
 parts_faults d line [] = []
 parts_faults d line (part ∷ parts) = part_faults d line part ++ parts_faults d line parts
@@ -53,13 +58,14 @@ broken_faults d line number [] last = []
 broken_faults d line number (hop ∷ hops) last =
     (if leads_on d hop (next_name hops last) then [] else BrokenPath line number ∷ []) ++ broken_faults d line (number + 1) hops last
 
+-- the part is the router of this name
 abbrev pub is_router_part : List ℕ → Part → Bool
 is_router_part name (Router router) = same_bytes router name
 is_router_part name (Interface router interface) = false
 
 -- the path's start is taken away, or an edge of the path
-abbrev pub is_path_gone : Database → Route → List Part → Bool
-is_path_gone d route parts =
+abbrev pub is_path_excluded : Database → Route → List Part → Bool
+is_path_excluded d route parts =
     list_any (is_router_part (next_name route.hops route.last)) parts
     || list_any (λ e. list_any (takes d (outline d) e) parts) (route_edges d (outline d) route.hops route.last)
 
@@ -72,34 +78,37 @@ walk_faults d line route =
 
 -- the words after `without` one by one, then what they take away of the path
 abbrev pub without_faults : Database → ℕ → Route → List Part → List ResolutionFault
-without_faults d line route parts = parts_faults d line parts ++ fault_unless (not (is_path_gone d route parts)) (PathGone line)
+without_faults d line route parts = parts_faults d line parts ++ fault_unless (not (is_path_excluded d route parts)) (PathExcluded line)
 
+-- the faults of a `path` line: of the path, then of what is taken away
 abbrev pub path_faults : Database → ℕ → Route → List Part → List ResolutionFault
 path_faults d line route parts = walk_faults d line route ++ without_faults d line route parts
 
 -- The faults of lines.
 
--- the link is one of a point-to-point subnet
-abbrev pub has_mate : Option Linked → Bool
-has_mate None = false
-has_mate (Some link) = is_there link.mate
+-- the link is one of a point-to-point subnet: it has a link back
+abbrev pub has_link_back : Option Linked → Bool
+has_link_back None = false
+has_link_back (Some link) = is_there link.link_back
   where
     is_there : Option ℕ → Bool
     is_there None = false
     is_there (Some m) = true
 
-abbrev pub wish_faults : Database → ℕ → Wish → List ResolutionFault
-wish_faults d line (FreeAll lo hi) = []
-wish_faults d line (Free router interface lo hi) = interface_faults d line router interface
-wish_faults d line (Fix router interface) = interface_faults d line router interface
-wish_faults d line (Path route parts) = path_faults d line route parts
-wish_faults d line SymmetricAll = []
-wish_faults d line (Symmetric router interface) =
-    interface_faults d line router interface ++ fault_unless (has_mate (slice_get d.links (link_number d router interface))) (NotALink line)
+-- the faults of one line
+abbrev pub directive_faults : Database → ℕ → Directive → List ResolutionFault
+directive_faults d line (FreeAll lo hi) = []
+directive_faults d line (Free router interface lo hi) = interface_faults d line router interface
+directive_faults d line (Fix router interface) = interface_faults d line router interface
+directive_faults d line (Path route parts) = path_faults d line route parts
+directive_faults d line SymmetricAll = []
+directive_faults d line (Symmetric router interface) =
+    interface_faults d line router interface ++ fault_unless (has_link_back (slice_get d.links (link_number d router interface))) (NotALink line)
 
+-- the faults of all lines, in their order
 abbrev pub line_faults : Database → List Item → List ResolutionFault
 line_faults d [] = []
-line_faults d (item ∷ items) = wish_faults d item.line item.what ++ line_faults d items
+line_faults d (item ∷ items) = directive_faults d item.line item.what ++ line_faults d items
 
 -- the refusal tells the fault; want of memory says nothing
 abbrev pub TellsResolution : Option ResolutionFault → ResolutionStop → Type 0

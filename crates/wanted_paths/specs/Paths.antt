@@ -8,32 +8,34 @@ use Rattle.lsdb_build.specs.declared.Far.{Far}
 use Rattle.lsdb_build.specs.declared.Far.TheVariants.{Router as ToRouter, Subnet as ToSubnet}
 use Rattle.lsdb_build.specs.declared.Linked.{Linked}
 use Rattle.lsdb_build.specs.Graphs.{Database, graph_at}
-use Rattle.path_rows.specs.declared.problem.Request.{Request}
+use Rattle.design_problem.specs.declared.problem.Request.{Request}
 use Rattle.request_reader.specs.declared.Part.{Part}
 use Rattle.request_reader.specs.declared.Part.TheVariants.{Router, Interface}
-use Rattle.request_reader.specs.declared.Wish.{Wish}
-use Rattle.request_reader.specs.declared.Wish.TheVariants.{Path}
+use Rattle.request_reader.specs.declared.Directive.{Directive}
+use Rattle.request_reader.specs.declared.Directive.TheVariants.{Path}
 
 -- the link is the interface of that router
-abbrev pub is_named : Database → List ℕ → List ℕ → Linked → Bool
-is_named d router interface link =
+abbrev pub is_link_named : Database → List ℕ → List ℕ → Linked → Bool
+is_link_named d router interface link =
     same_bytes (slice_index_or d.routers link.router []) router && same_bytes link.interface interface
 
 -- the number of the router of a name, and of the link of an interface
 abbrev pub router_number : Database → List ℕ → ℕ
 router_number d name = unwrap_or (first_of (filter (λ r. same_bytes (slice_index_or d.routers r []) name) (numbers_from 0 (length d.routers)))) 0
 
+-- the link, where there is one, is the interface of that router
 abbrev pub names_link : Database → List ℕ → List ℕ → Option Linked → Bool
 names_link d router interface None = false
-names_link d router interface (Some link) = is_named d router interface link
+names_link d router interface (Some link) = is_link_named d router interface link
 
+-- the number of the link of a router's interface
 abbrev pub link_number : Database → List ℕ → List ℕ → ℕ
 link_number d router interface =
     unwrap_or (first_of (filter (λ l. names_link d router interface (slice_get d.links l)) (numbers_from 0 (length d.links)))) 0
 
 -- the edge out of a vertex to a router
-abbrev pub edge_to : Area → ℕ → ℕ → ℕ
-edge_to g from router =
+abbrev pub edge_between : Area → ℕ → ℕ → ℕ
+edge_between g from router =
     unwrap_or (first_of (filter (λ e. (edge_at g e).from == from && (edge_at g e).to == router) (numbers_from 0 (length g.edges)))) 0
 
 -- the edges of a hop: over a transit subnet there are two
@@ -43,13 +45,14 @@ hop_edges d g l (Some link) next = far_edges link.to
   where
     far_edges : Far → List ℕ
     far_edges (ToRouter r) = l ∷ []
-    far_edges (ToSubnet s) = l ∷ edge_to g (length d.routers + s) next ∷ []
+    far_edges (ToSubnet s) = l ∷ edge_between g (length d.routers + s) next ∷ []
 
 -- the router that a route goes on from
 abbrev pub next_name : List (List ℕ × List ℕ) → List ℕ → List ℕ
 next_name [] last = last
 next_name (hop ∷ hops) last = hop.0
 
+-- the edges of a route, hop by hop
 abbrev pub route_edges : Database → Area → List (List ℕ × List ℕ) → List ℕ → List ℕ
 route_edges d g [] last = []
 route_edges d g (hop ∷ hops) last =
@@ -59,31 +62,34 @@ route_edges d g (hop ∷ hops) last =
 -- a part takes an edge away: those of a router, or those of an interface's link in both directions
 abbrev pub link_takes : Database → Area → ℕ → Option Linked → ℕ → Bool
 link_takes d g l None e = false
-link_takes d g l (Some link) e = e == l || mate_takes link.mate || far_takes link.to
+link_takes d g l (Some link) e = e == l || link_back_takes link.link_back || far_takes link.to
   where
-    mate_takes : Option ℕ → Bool
-    mate_takes None = false
-    mate_takes (Some m) = e == m
+    link_back_takes : Option ℕ → Bool
+    link_back_takes None = false
+    link_back_takes (Some m) = e == m
 
     far_takes : Far → Bool
     far_takes (ToRouter r) = false
     far_takes (ToSubnet s) = (edge_at g e).from == length d.routers + s && (edge_at g e).to == link.router
 
+-- a part takes the edge away: its router is at one of its ends, or its interface's link has the edge
 abbrev pub takes : Database → Area → ℕ → Part → Bool
 takes d g e (Router name) = (edge_at g e).from == router_number d name || (edge_at g e).to == router_number d name
 takes d g e (Interface router interface) =
     let l = link_number d router interface in
     link_takes d g l (slice_get d.links l) e
 
-abbrev pub gone_edges : Database → Area → List Part → List ℕ
-gone_edges d g parts = filter (λ e. list_any (takes d g e) parts) (numbers_from 0 (length g.edges))
+-- the numbers of the edges that the parts take away, in rising order
+abbrev pub excluded_edges : Database → Area → List Part → List ℕ
+excluded_edges d g parts = filter (λ e. list_any (takes d g e) parts) (numbers_from 0 (length g.edges))
 
-abbrev pub request_of : Database → Area → Wish → Option Request
+-- the request of a `path` line: the edges between its ends, and the edges that are taken away
+abbrev pub request_of : Database → Area → Directive → Option Request
 request_of d g (Path route without) =
     Some (record {
       path = record { start = router_number d (next_name route.hops route.last); edges = route_edges d g route.hops route.last };
       end = router_number d route.last;
-      gone = gone_edges d g without;
+      excluded = excluded_edges d g without;
     })
 request_of d g _ = None
 

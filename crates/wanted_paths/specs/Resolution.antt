@@ -8,8 +8,8 @@ use Rattle.lsdb_build.specs.declared.Far.{Far}
 use Rattle.lsdb_build.specs.declared.Far.TheVariants.{Router as ToRouter, Subnet as ToSubnet}
 use Rattle.lsdb_build.specs.declared.Linked.{Linked}
 use Rattle.lsdb_build.specs.Graphs.{Database, router_of}
-use Rattle.request_reader.specs.Wishes.{Route}
-use Rattle.wanted_paths.specs.Paths.{is_named, next_name, link_number, router_number, route_edges}
+use Rattle.request_reader.specs.WrittenRoutes.{Route}
+use Rattle.wanted_paths.specs.Paths.{is_link_named, next_name, link_number, router_number, route_edges}
 
 -- a configuration has the name
 abbrev pub knows_router : Database → List ℕ → Bool
@@ -17,7 +17,7 @@ knows_router d name = list_any (same_bytes name) d.routers
 
 -- the router has a linked interface of the name
 abbrev pub knows_link : Database → List ℕ → List ℕ → Bool
-knows_link d router interface = list_any (is_named d router interface) d.links
+knows_link d router interface = list_any (is_link_named d router interface) d.links
 
 -- the link leads to the router, over a transit subnet where the router is a member
 abbrev pub leads_to_router : Database → ℕ → Option Linked → Bool
@@ -39,6 +39,7 @@ is_joined d [] last = true
 is_joined d (hop ∷ hops) last =
     leads_to_router d (router_number d (next_name hops last)) (slice_get d.links (link_number d hop.0 hop.1)) && is_joined d hops last
 
+-- no number comes twice
 abbrev pub is_none_twice : List ℕ → Bool
 is_none_twice [] = true
 is_none_twice (x ∷ xs) = not (list_any (λ y. x == y) xs) && is_none_twice xs

@@ -16,18 +16,21 @@ taken_from d g router (ToSubnet s) = filter (λ e. (edge_at g e).to == router) (
 
 -- the edge of the link, that of its other end, and that out of its subnet
 abbrev pub taken_by_link : Database → Area → ℕ → Linked → List ℕ
-taken_by_link d g l link = l ∷ option_to_list link.mate ++ taken_from d g link.router link.to
+taken_by_link d g l link = l ∷ option_to_list link.link_back ++ taken_from d g link.router link.to
 
+-- the edges that a link takes away, where there is one
 abbrev pub taken_at : Database → Area → ℕ → Option Linked → List ℕ
 taken_at d g l None = []
 taken_at d g l (Some link) = taken_by_link d g l link
 
+-- the edges that one part takes away
 abbrev pub taken_by : Database → Area → Part → List ℕ
 taken_by d g (Router name) = edges_out g (router_number d name) ++ edges_in g (router_number d name)
 taken_by d g (Interface router interface) =
     let l = link_number d router interface in
     taken_at d g l (slice_get d.links l)
 
+-- the edges that the parts take away, part by part
 abbrev pub taken_by_all : Database → Area → List Part → List ℕ
 taken_by_all d g [] = []
 taken_by_all d g (part ∷ parts) = taken_by d g part ++ taken_by_all d g parts

@@ -2,7 +2,7 @@
 use Rattle.std.specs.Prelude.{◌≡◌}
 use Rattle.lsdb_build.specs.Graphs.{Database}
 use Rattle.wanted_paths.specs.declared.routes.Walk.{Walk}
-use Rattle.request_reader.specs.Wishes.{Route}
+use Rattle.request_reader.specs.WrittenRoutes.{Route}
 use Rattle.wanted_paths.specs.Paths.{next_name, router_number, route_edges}
 use Rattle.wanted_paths.specs.Paths.{outline}
 

@@ -3,24 +3,24 @@ ghost use Rattle.std.specs.Prelude.{◌≡◌, ◌++◌, [], Some, length, slice
 ghost use Rattle.std.specs.List.{filter_map};
 ghost use Rattle.cost_base.specs.Lists.{first_of};
 ghost use Rattle.wanted_paths.specs.Paths.{request_of};
-ghost use Rattle.wanted_paths.specs.LineFaults.{has_mate, wish_faults, line_faults, TellsResolution};
+ghost use Rattle.wanted_paths.specs.LineFaults.{has_link_back, directive_faults, line_faults, TellsResolution};
 ghost use Rattle.wanted_paths.specs.Paths.{outline};
-ghost use Rattle.request_reader.specs.declared.Wish.TheVariants.{Symmetric as SymmetricWish};
+ghost use Rattle.request_reader.specs.declared.Directive.TheVariants.{Symmetric as SymmetricDirective};
 
 use crate::names::Names;
 use crate::paths::resolve_path;
 use crate::{ResolutionFault, ResolutionStop};
 use area_graph::Graph;
-use path_rows::Request;
-use request_reader::{Item, Wish};
+use design_problem::Request;
+use request_reader::{Directive, Item};
 use std::alloc::Global;
 
 /// Whether the link of a number is one of a point-to-point subnet.
-fn has_mate(names: &Names, number: u32) -> bool
-    ensures { result ≡ has_mate (slice_get names.now.links number) }
+fn has_link_back(names: &Names, number: u32) -> bool
+    ensures { result ≡ has_link_back (slice_get names.now.links number) }
 {
     match names.links().get(number as usize) {
-        Some(link) => link.mate.is_some(),
+        Some(link) => link.link_back.is_some(),
         None => false,
     }
 }
@@ -32,11 +32,11 @@ fn check_symmetric(
     router: &[u8],
     interface: &[u8],
 ) -> Result<(), ResolutionStop>
-    ensures made { OnOk result (wish_faults names.now line (SymmetricWish router.now interface.now) ≡ []) }
-    ensures refused { IfErr result (TellsResolution (first_of (wish_faults names.now line (SymmetricWish router.now interface.now)))) }
+    ensures made { OnOk result (directive_faults names.now line (SymmetricDirective router.now interface.now) ≡ []) }
+    ensures refused { IfErr result (TellsResolution (first_of (directive_faults names.now line (SymmetricDirective router.now interface.now)))) }
 {
     let number = names.link(line, router, interface)?;
-    if !has_mate(names, number) {
+    if !has_link_back(names, number) {
         return Err(ResolutionStop::Refused(ResolutionFault::NotALink { line }));
     }
     Ok(())
@@ -54,30 +54,30 @@ fn push_request(
 ) -> Result<(), ResolutionStop>
     requires graph { graph.now ≡ outline names.now }
     requires marks { length marks.old.items ≡ length graph.now.edges }
-    ensures resolves { OnOk result (wish_faults names.now item.now.line item.now.what ≡ []) }
+    ensures resolves { OnOk result (directive_faults names.now item.now.line item.now.what ≡ []) }
     ensures made { OnOk result (made.new.items ≡ made.old.items ++ option_to_list (request_of names.now (outline names.now) item.now.what)) }
-    ensures refused { IfErr result (TellsResolution (first_of (wish_faults names.now item.now.line item.now.what))) }
+    ensures refused { IfErr result (TellsResolution (first_of (directive_faults names.now item.now.line item.now.what))) }
     ensures marks { length marks.new.items ≡ length graph.now.edges }
 {
     let line = item.line;
     match &item.what {
-        Wish::Path(route, parts) => {
+        Directive::Path(route, parts) => {
             let request = resolve_path(alloc, names, graph, marks, line, route, parts.as_slice())?;
             if made.push(request).is_err() {
                 return Err(ResolutionStop::OutOfMemory);
             }
         }
-        Wish::Free(router, interface, _, _) => {
+        Directive::Free(router, interface, _, _) => {
             names.link(line, router.as_bytes(), interface.as_bytes())?;
         }
-        Wish::Fix(router, interface) => {
+        Directive::Fix(router, interface) => {
             names.link(line, router.as_bytes(), interface.as_bytes())?;
         }
-        Wish::Symmetric(router, interface) => {
+        Directive::Symmetric(router, interface) => {
             check_symmetric(names, line, router.as_bytes(), interface.as_bytes())?;
         }
-        Wish::FreeAll(_, _) => {}
-        Wish::SymmetricAll => {}
+        Directive::FreeAll(_, _) => {}
+        Directive::SymmetricAll => {}
     }
     Ok(())
 }

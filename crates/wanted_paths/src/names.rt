@@ -2,7 +2,7 @@
 ghost use Rattle.std.specs.Prelude.{◌≡◌, ◌≢◌, ℕ, List, ◌<◌, [], true, false, length, map, slice_index_or, All, AllPairs, MatchOption, IfOk, IfErr};
 ghost use Rattle.cost_base.specs.Lists.{first_of};
 ghost use Rattle.area_graph.specs.declared.Price.TheVariants.{Fixed};
-ghost use Rattle.lsdb_build.specs.Graphs.{IsDatabase, IsLinkPrice, graph_at, router_of};
+ghost use Rattle.lsdb_build.specs.Graphs.{IsAreaDatabase, IsLinkPrice, graph_at, router_of};
 ghost use Rattle.wanted_paths.specs.Paths.{router_number, link_number};
 ghost use Rattle.wanted_paths.specs.Keys.{link_key};
 ghost use Rattle.wanted_paths.specs.Resolution.{knows_router, knows_link};
@@ -29,14 +29,14 @@ pub struct Names<'a> {
 impl<'a> Model for Names<'a> {
     ghost use Rattle.std.specs.Prelude.{◌≡◌, ℕ, List, map};
     ghost use Rattle.wanted_paths.specs.Keys.{link_key};
-    ghost use Rattle.lsdb_build.specs.Graphs.{Database, IsDatabase};
+    ghost use Rattle.lsdb_build.specs.Graphs.{Database, IsAreaDatabase};
 
     ghost Value = { Database };
 
     ghost view = { λ n. n.lsdb.now };
 
     ghost invariant = { λ n. record {
-      base : IsDatabase n.lsdb.now;
+      base : IsAreaDatabase n.lsdb.now;
       routers : map (λ name. name.now) n.routers.keys ≡ n.lsdb.now.routers;
       links : map {B = ℕ × List ℕ} (λ key. (key.0, key.1.now)) n.links.keys ≡ map link_key n.lsdb.now.links;
     } };
@@ -45,7 +45,7 @@ impl<'a> Model for Names<'a> {
 /// The names of the routers, in order.
 fn routers(lsdb: &Lsdb) -> &[Name]
     ensures value { result.now ≡ lsdb.now.routers }
-    ensures base { IsDatabase lsdb.now }
+    ensures base { IsAreaDatabase lsdb.now }
 {
     lsdb.routers.as_slice()
 }
@@ -53,7 +53,7 @@ fn routers(lsdb: &Lsdb) -> &[Name]
 /// The links, in order.
 fn links(lsdb: &Lsdb) -> &[Linked]
     ensures value { result.now ≡ lsdb.now.links }
-    ensures base { IsDatabase lsdb.now }
+    ensures base { IsAreaDatabase lsdb.now }
 {
     lsdb.links.as_slice()
 }
@@ -123,7 +123,7 @@ impl<'a> Names<'a> {
 
     /// The number of the router of a name.
     fn find_router(&self, name: &[u8]) -> Option<u32>
-        ensures base { IsDatabase self.now }
+        ensures base { IsAreaDatabase self.now }
         ensures found { MatchOption result (knows_router self.now name.now ≡ false)
             (λ r. (knows_router self.now name.now ≡ true) × (r ≡ router_number self.now name.now)) }
     {
@@ -154,7 +154,7 @@ impl<'a> Names<'a> {
 
     /// The number of the link of an interface, by the name of its router.
     pub fn find_interface(&self, router: &[u8], interface: &[u8]) -> Option<u32>
-        ensures base { IsDatabase self.now }
+        ensures base { IsAreaDatabase self.now }
         ensures found { MatchOption result (knows_link self.now router.now interface.now ≡ false)
             (λ l. (knows_link self.now router.now interface.now ≡ true) × (l ≡ link_number self.now router.now interface.now)) }
     {
@@ -205,7 +205,7 @@ impl<'a> Names<'a> {
     /// The routers' names, in order.
     pub fn routers(&self) -> &[Name]
         ensures value { result.now ≡ self.now.routers }
-        ensures base { IsDatabase self.now }
+        ensures base { IsAreaDatabase self.now }
     {
         routers(self.lsdb)
     }
@@ -213,7 +213,7 @@ impl<'a> Names<'a> {
     /// The links, in order.
     pub fn links(&self) -> &[Linked]
         ensures value { result.now ≡ self.now.links }
-        ensures base { IsDatabase self.now }
+        ensures base { IsAreaDatabase self.now }
     {
         links(self.lsdb)
     }

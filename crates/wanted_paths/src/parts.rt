@@ -68,8 +68,8 @@ fn push_link(
     ensures { OnOk result (taken.new.items ≡ taken.old.items ++ taken_by_link names.now graph.now number link.now) }
 {
     taken.push(number)?;
-    if let Some(mate) = link.mate {
-        taken.push(mate)?;
+    if let Some(link_back) = link.link_back {
+        taken.push(link_back)?;
     }
     push_from(names, graph, link.router, link.to, taken)
 }

@@ -2,8 +2,8 @@
 ghost use Rattle.std.specs.Prelude.{◌≡◌, ◌||◌, [], Some, false, length, slice_index_or, IfOk, IfErr};
 ghost use Rattle.std.specs.List.{list_any};
 ghost use Rattle.cost_base.specs.Lists.{first_of};
-ghost use Rattle.request_reader.specs.declared.Wish.TheVariants.{Path as WantedPath};
-ghost use Rattle.wanted_paths.specs.Paths.{next_name, gone_edges, request_of};
+ghost use Rattle.request_reader.specs.declared.Directive.TheVariants.{Path as WantedPath};
+ghost use Rattle.wanted_paths.specs.Paths.{next_name, excluded_edges, request_of};
 ghost use Rattle.wanted_paths.specs.LineFaults.{is_router_part, walk_faults, without_faults, path_faults, TellsResolution};
 ghost use Rattle.wanted_paths.specs.Paths.{outline};
 ghost use Rattle.wanted_paths.specs.Walks.{IsWalk};
@@ -12,14 +12,14 @@ use crate::names::Names;
 use crate::parts::{has_marked, has_router, marked, taken_by};
 use crate::routes::{Walk, next_name, resolve_walk};
 use crate::{ResolutionFault, ResolutionStop};
-use area_graph::{Graph, mark_gone};
+use area_graph::{Graph, mark_excluded};
 use cost_base::Listed;
-use path_rows::Request;
+use design_problem::Request;
 use request_reader::{Hops, Part};
 use std::alloc::Global;
 
 /// Whether the start of a walk is taken away, or one of its edges is marked.
-fn is_gone(route: &Hops, walk: &Walk, parts: &[Part], marks: &[bool]) -> bool
+fn is_excluded(route: &Hops, walk: &Walk, parts: &[Part], marks: &[bool]) -> bool
     ensures { result ≡ (list_any (is_router_part (next_name route.now.hops route.now.last)) parts.now ||
         list_any (λ e. slice_index_or marks.now e false) walk.now.path.edges) }
 {
@@ -43,17 +43,17 @@ fn resolve_without(
     requires marks { length marks.old.items ≡ length graph.now.edges }
     requires walk { IsWalk names.now route.now walk.now }
     requires walks { walk_faults names.now line route.now ≡ [] }
-    ensures made { IfOk result (λ gone. (without_faults names.now line route.now parts.now ≡ []) ×
-        (gone.items ≡ gone_edges names.now (outline names.now) parts.now)) }
+    ensures made { IfOk result (λ excluded. (without_faults names.now line route.now parts.now ≡ []) ×
+        (excluded.items ≡ excluded_edges names.now (outline names.now) parts.now)) }
     ensures refused { IfErr result (TellsResolution (first_of (without_faults names.now line route.now parts.now))) }
     ensures marks { length marks.new.items ≡ length graph.now.edges }
 {
     let _links = names.links();
     graph.keeps_conditions();
     let taken = taken_by(alloc, names, graph, line, parts)?;
-    mark_gone(marks, &taken);
-    if is_gone(route, walk, parts, marks) {
-        return Err(ResolutionStop::Refused(ResolutionFault::PathGone { line }));
+    mark_excluded(marks, &taken);
+    if is_excluded(route, walk, parts, marks) {
+        return Err(ResolutionStop::Refused(ResolutionFault::PathExcluded { line }));
     }
     Ok(marked(alloc, marks)?)
 }
@@ -77,10 +77,10 @@ pub fn resolve_path(
     ensures marks { length marks.new.items ≡ length graph.now.edges }
 {
     let walk = resolve_walk(alloc, names, graph, line, route)?;
-    let gone = resolve_without(alloc, names, graph, marks, line, route, &walk, parts)?;
+    let excluded = resolve_without(alloc, names, graph, marks, line, route, &walk, parts)?;
     Ok(Request {
         path: walk.path,
         end: walk.end,
-        gone: Listed::from_items(gone),
+        excluded: Listed::from_items(excluded),
     })
 }

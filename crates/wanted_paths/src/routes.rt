@@ -6,7 +6,7 @@ ghost use Rattle.cost_base.specs.Lists.{first_of};
 ghost use Rattle.area_graph.specs.Area.{edge_at};
 ghost use Rattle.area_graph.specs.Paths.{IsSimple};
 ghost use Rattle.lsdb_build.specs.Graphs.{router_of, IsFar};
-ghost use Rattle.wanted_paths.specs.Paths.{next_name, router_number, link_number, edge_to, hop_edges, route_edges};
+ghost use Rattle.wanted_paths.specs.Paths.{next_name, router_number, link_number, edge_between, hop_edges, route_edges};
 ghost use Rattle.wanted_paths.specs.Resolution.{leads_to_router};
 ghost use Rattle.wanted_paths.specs.LineFaults.{hop_faults, leads_on, broken_faults, walk_faults, TellsResolution};
 ghost use Rattle.wanted_paths.specs.Paths.{outline};
@@ -124,7 +124,7 @@ fn first_into(graph: &Graph, edges: &[u32], vertex: u32) -> Option<u32>
 /// The edge out of a vertex to a router, 0 where there is none.
 fn edge_to(graph: &Graph, from: u32, router: u32) -> u32
     requires { from < length graph.now.vertices }
-    ensures { result ≡ edge_to graph.now from router }
+    ensures { result ≡ edge_between graph.now from router }
 {
     first_into(graph, graph.edges_out(from), router).unwrap_or(0)
 }

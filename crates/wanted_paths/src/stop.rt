@@ -18,7 +18,7 @@ pub enum ResolutionFault {
     /// A router or a transit subnet comes twice.
     LoopPath { line: u32 },
     /// An edge of the path, or its start, is taken away.
-    PathGone { line: u32 },
+    PathExcluded { line: u32 },
     /// A symmetric link has one free and one fixed end, or two free ends with different bounds.
     EndsDiffer { line: u32 },
     /// There are more than 1,000 variables.
@@ -41,7 +41,7 @@ impl ResolutionFault {
             ResolutionFault::TooManyVariables => 27,
             ResolutionFault::NotALink { .. } => 28,
             ResolutionFault::EndsDiffer { .. } => 29,
-            ResolutionFault::PathGone { .. } => 70,
+            ResolutionFault::PathExcluded { .. } => 70,
         }
     }
 
@@ -58,7 +58,7 @@ impl ResolutionFault {
             ResolutionFault::TooManyVariables => 0,
             ResolutionFault::NotALink { line } => line,
             ResolutionFault::EndsDiffer { line } => line,
-            ResolutionFault::PathGone { line } => line,
+            ResolutionFault::PathExcluded { line } => line,
         }
     }
 }

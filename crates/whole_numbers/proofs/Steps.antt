@@ -4,7 +4,7 @@ use Rattle.std.specs.Prelude.{ℤ, pos, negsuc, ◌+ℤ◌, ◌*ℤ◌, nat_abs}
 use Rattle.std.proofs.lemmas.Int.{unsigned_abs-mul}
 use Prim.Native.Nat.{◌∣◌}
 use native.Mathlib.Nat.{div-mul_cancel, mul-div_assoc, dvd-mul_right, mul-zero}
-use Rattle.whole_numbers.specs.Fractions.{Fraction, IsLowest, StandsFor, gcd, over, plus, times}
+use Rattle.whole_numbers.specs.Fractions.{Fraction, IsLowest, StandsFor, gcd, exact_quotient, plus, times}
 use Rattle.whole_numbers.proofs.Ring.{var, num, ◌⊕◌, ◌⊖◌, ◌⊗◌, neg, ring_by, nothing, using}
 use Rattle.whole_numbers.proofs.Divisors.{gcd_is, gcd_positive, quotient_positive}
 use Rattle.whole_numbers.proofs.FractionLaws.{cancel, over-mul, nat_abs-over, product_positive, reduced_lowest, reduced_stands}
@@ -15,7 +15,7 @@ pub sum_exact : (p q : Fraction) → IsLowest p → IsLowest q → (s : ℤ) →
     ((p.numerator *ℤ pos (q.denominator / gcd p.denominator q.denominator))
     +ℤ (q.numerator *ℤ pos (p.denominator / gcd p.denominator q.denominator))) ≡ s →
     record {
-      numerator = over s (gcd (nat_abs s) (gcd p.denominator q.denominator));
+      numerator = exact_quotient s (gcd (nat_abs s) (gcd p.denominator q.denominator));
       denominator = (p.denominator / gcd p.denominator q.denominator)
           * (q.denominator / gcd (nat_abs s) (gcd p.denominator q.denominator));
     } ≡ plus p q
@@ -44,7 +44,7 @@ sum_exact p q p_lowest q_lowest s s_is =
     (apart_from_gcd (nat_abs q.numerator) q.denominator q_lowest.lowest) in
     let lowest = sum_lowest p.numerator q.numerator b d g d_positive g_positive p_apart q_apart
     (quotients_apart p.denominator q.denominator q_lowest.positive) (nat_abs s) (ap nat_abs s_is) in
-    let result : Fraction = record { numerator = over s h; denominator = b * (q.denominator / h) } in
+    let result : Fraction = record { numerator = exact_quotient s h; denominator = b * (q.denominator / h) } in
     let same : b * (q.denominator / h) ≡ b * (d * k) = ap (λ (n : ℕ). b * n) whole_part in
     let result_lowest : IsLowest result = record {
       positive = subst (λ (n : ℕ). 0 < n) (sym same) (product_positive b (d * k) b_positive (product_positive d k d_positive k_positive));
@@ -61,7 +61,7 @@ sum_exact p q p_lowest q_lowest s s_is =
     (reduced_lowest ((p.numerator *ℤ pos q.denominator) +ℤ (q.numerator *ℤ pos p.denominator))
     (p.denominator * q.denominator) both)
     (cancel (g * h) _ _ (product_positive g h g_positive h_positive)
-    (ring_by (over s h ∷ pos (plus p q).denominator ∷ (plus p q).numerator ∷ p.numerator ∷ q.numerator ∷ pos b ∷ pos d
+    (ring_by (exact_quotient s h ∷ pos (plus p q).denominator ∷ (plus p q).numerator ∷ p.numerator ∷ q.numerator ∷ pos b ∷ pos d
     ∷ pos k ∷ pos h ∷ pos g ∷ pos p.denominator ∷ pos q.denominator ∷ s ∷ pos (q.denominator / h) ∷ [])
     ((var 0 ⊗ var 1) ⊗ (var 9 ⊗ var 8)) ((var 2 ⊗ (var 5 ⊗ var 13)) ⊗ (var 9 ⊗ var 8))
     (using (var 1 ⊗ var 9) (var 0 ⊗ var 8) (var 12) top_is
@@ -81,7 +81,7 @@ apart_from_product a b (suc c) first second = apart-product a b (suc c) (omega a
 -- the numbers of a product: with g = gcd(a, d) and h = gcd(c, b) the product is (a/g)(c/h) over (b/h)(d/g)
 pub product_exact : (p q : Fraction) → IsLowest p → IsLowest q →
     record {
-      numerator = over p.numerator (gcd (nat_abs p.numerator) q.denominator) *ℤ over q.numerator
+      numerator = exact_quotient p.numerator (gcd (nat_abs p.numerator) q.denominator) *ℤ exact_quotient q.numerator
           (gcd (nat_abs q.numerator) p.denominator);
       denominator =
           (p.denominator / gcd (nat_abs q.numerator) p.denominator)
@@ -119,9 +119,9 @@ product_exact p q p_lowest q_lowest =
     let lowest : Apart (a * c) (b * d) =
     apart_from_product (a * c) b d (apart-swap b (a * c) (apart_from_product b a c ab cb))
     (apart-swap d (a * c) (apart_from_product d a c ad cd)) in
-    let top = over p.numerator g *ℤ over q.numerator h in
-    let size : nat_abs top ≡ a * c = unsigned_abs-mul (over p.numerator g) (over q.numerator h)
-    ∙ ap (λ (n : ℕ). n * nat_abs (over q.numerator h)) (nat_abs-over p.numerator g)
+    let top = exact_quotient p.numerator g *ℤ exact_quotient q.numerator h in
+    let size : nat_abs top ≡ a * c = unsigned_abs-mul (exact_quotient p.numerator g) (exact_quotient q.numerator h)
+    ∙ ap (λ (n : ℕ). n * nat_abs (exact_quotient q.numerator h)) (nat_abs-over p.numerator g)
     ∙ ap (λ (n : ℕ). a * n) (nat_abs-over q.numerator h) in
     let result : Fraction = record { numerator = top; denominator = b * d } in
     let result_lowest : IsLowest result = record {
@@ -133,7 +133,7 @@ product_exact p q p_lowest q_lowest =
     reduced_stands (p.numerator *ℤ q.numerator) (p.denominator * q.denominator) both in
     lowest_unique result (times p q) result_lowest (reduced_lowest (p.numerator *ℤ q.numerator) (p.denominator * q.denominator) both)
     (cancel (g * h) _ _ (product_positive g h g_positive h_positive)
-    (ring_by (over p.numerator g ∷ over q.numerator h ∷ pos (times p q).denominator ∷ (times p q).numerator
+    (ring_by (exact_quotient p.numerator g ∷ exact_quotient q.numerator h ∷ pos (times p q).denominator ∷ (times p q).numerator
     ∷ p.numerator ∷ q.numerator ∷ pos b ∷ pos d ∷ pos g ∷ pos h ∷ pos p.denominator ∷ pos q.denominator ∷ [])
     (((var 0 ⊗ var 1) ⊗ var 2) ⊗ (var 8 ⊗ var 9)) ((var 3 ⊗ (var 6 ⊗ var 7)) ⊗ (var 8 ⊗ var 9))
     (using (var 1 ⊗ var 9 ⊗ var 2) (var 0 ⊗ var 8) (var 4) (over-mul p.numerator g (div-mul_cancel g g_divides.0))

@@ -6,11 +6,11 @@ use Rattle.std.proofs.lemmas.Int.{unsigned_abs-mul}
 use native.Mathlib.Nat.{div-le_self, div-one}
 use mathlib.Core.Path.{ap₂}
 use Rattle.whole_numbers.proofs.Laws.{times_one}
-use Rattle.whole_numbers.specs.Fractions.{Fraction, IsLowest, gcd, over, plus, times, whole, listed_of_sum, listed_of_product}
+use Rattle.whole_numbers.specs.Fractions.{Fraction, IsLowest, gcd, exact_quotient, plus, times, whole, numbers_of_sum, numbers_of_product}
 use Rattle.whole_numbers.proofs.FractionLaws.{nat_abs-over, product_positive, reduced_lowest, whole_lowest}
 use Rattle.whole_numbers.proofs.Divisors.{gcd-one}
 use Rattle.whole_numbers.proofs.Steps.{sum_exact, product_exact}
-use Rattle.wide_fraction.specs.Widths.{IsKept, IsAnswer, IsCrossWide, IsCrossWithin, IsWithin}
+use Rattle.wide_fraction.specs.Widths.{IsFractionIn127Bits, IsExactOrTooWide, IsCrossWide, IsCrossWithin, IsWithin}
 
 -- each of four numbers is within the top
 each_of_four : (top a b c d : ℕ) → a ≤ top → b ≤ top → c ≤ top → d ≤ top → All (λ n. n ≤ top) (a ∷ b ∷ c ∷ d ∷ [])
@@ -39,7 +39,7 @@ right_share p q g b d shares = shares.right ∙ ap (λ (n : ℕ). q.denominator 
 
 -- one of the first three numbers of a sum passes the top
 pub sum_crossed : (top : ℕ) (p q : Fraction) (g b d : ℕ) → Shares p q g b d →
-    IsCrossWide top (p.numerator *ℤ pos d) (q.numerator *ℤ pos b) → Any (λ n. top < n) (listed_of_sum p q)
+    IsCrossWide top (p.numerator *ℤ pos d) (q.numerator *ℤ pos b) → Any (λ n. top < n) (numbers_of_sum p q)
 sum_crossed top p q g b d shares wide =
     let u_is = ap (λ (n : ℕ). p.numerator *ℤ pos n) (right_share p q g b d shares) in
     let v_is = ap (λ (n : ℕ). q.numerator *ℤ pos n) (left_share p q g b d shares) in
@@ -94,7 +94,7 @@ below_seen p q g b d s h e adds =
 
 -- the denominator passes the top
 pub sum_denominator_passes : (top : ℕ) (p q : Fraction) (g b d : ℕ) (s : ℤ) (h e : ℕ) → Adds p q g b d s h e →
-    top < b * e → Any (λ n. top < n) (listed_of_sum p q)
+    top < b * e → Any (λ n. top < n) (numbers_of_sum p q)
 sum_denominator_passes top p q g b d s h e adds wide =
     let seen = sum_seen p q g b d s h e adds in
     let size = below_seen p q g b d s h e adds
@@ -113,21 +113,21 @@ sum_denominator_passes top p q g b d s h e adds wide =
 
 -- the fraction that these numbers make is the sum
 pub sum_made : (p q : Fraction) (g b d : ℕ) (s : ℤ) (h e : ℕ) (z : ℤ) (m : ℕ) → IsLowest p → IsLowest q →
-    Adds p q g b d s h e → z ≡ over s h → m ≡ b * e → record { numerator = z; denominator = m } ≡ plus p q
+    Adds p q g b d s h e → z ≡ exact_quotient s h → m ≡ b * e → record { numerator = z; denominator = m } ≡ plus p q
 sum_made p q g b d s h e z m p_lowest q_lowest adds z_is m_is =
     ap₂ (λ (t : ℤ) (n : ℕ). record { numerator = t; denominator = n })
-    (z_is ∙ ap (over s) (common_seen p q g b d s h e adds)) (m_is ∙ below_seen p q g b d s h e adds)
+    (z_is ∙ ap (exact_quotient s) (common_seen p q g b d s h e adds)) (m_is ∙ below_seen p q g b d s h e adds)
     ∙ sum_exact p q p_lowest q_lowest s (sum_seen p q g b d s h e adds)
 
-over_within : (top : ℕ) (s : ℤ) (h : ℕ) (z : ℤ) → z ≡ over s h → nat_abs s ≤ top → nat_abs z ≤ top
+over_within : (top : ℕ) (s : ℤ) (h : ℕ) (z : ℤ) → z ≡ exact_quotient s h → nat_abs s ≤ top → nat_abs z ≤ top
 over_within top s h z z_is within =
     let size : nat_abs z ≡ nat_abs s / h = ap nat_abs z_is ∙ nat_abs-over s h in
     omega (arith, size, div-le_self (nat_abs s) h)
 
 -- it is within the top, and so is each number on its way
 pub sum_answer : (top : ℕ) (p q : Fraction) (g b d : ℕ) (s : ℤ) (h e : ℕ) (z : ℤ) (m : ℕ) → IsLowest p → IsLowest q →
-    Adds p q g b d s h e → IsCrossWithin top (p.numerator *ℤ pos d) (q.numerator *ℤ pos b) → z ≡ over s h → m ≡ b * e →
-    m ≤ top → IsAnswer top (listed_of_sum p q) (plus p q) (Some (record { numerator = z; denominator = m }))
+    Adds p q g b d s h e → IsCrossWithin top (p.numerator *ℤ pos d) (q.numerator *ℤ pos b) → z ≡ exact_quotient s h → m ≡ b * e →
+    m ≤ top → IsExactOrTooWide top (numbers_of_sum p q) (plus p q) (Some (record { numerator = z; denominator = m }))
 sum_answer top p q g b d s h e z m p_lowest q_lowest adds within z_is m_is m_within =
     let seen = sum_seen p q g b d s h e adds in
     let s_within : nat_abs s ≤ top = subst (λ (x : ℤ). nat_abs x ≤ top) (sym adds.sum) within.2 in
@@ -154,8 +154,8 @@ sum_answer top p q g b d s h e z m p_lowest q_lowest adds within z_is m_is m_wit
 
 -- and a `Frac` can hold it
 pub sum_kept : (top : ℕ) (p q : Fraction) (g b d : ℕ) (s : ℤ) (h e : ℕ) (z : ℤ) (m : ℕ) → top < 2 ^ 127 → IsLowest p →
-    IsLowest q → Adds p q g b d s h e → IsCrossWithin top (p.numerator *ℤ pos d) (q.numerator *ℤ pos b) → z ≡ over s h →
-    m ≡ b * e → m ≤ top → IsKept (record { numerator = z; denominator = m })
+    IsLowest q → Adds p q g b d s h e → IsCrossWithin top (p.numerator *ℤ pos d) (q.numerator *ℤ pos b) → z ≡ exact_quotient s h →
+    m ≡ b * e → m ≤ top → IsFractionIn127Bits (record { numerator = z; denominator = m })
 sum_kept top p q g b d s h e z m top_fits p_lowest q_lowest adds within z_is m_is m_within =
     let s_within : nat_abs s ≤ top = subst (λ (x : ℤ). nat_abs x ≤ top) (sym adds.sum) within.2 in
     let z_within = over_within top s h z z_is s_within in
@@ -173,28 +173,28 @@ sum_kept top p q g b d s h e z m top_fits p_lowest q_lowest adds within z_is m_i
 pub record Crosses (p q : Fraction) (g h : ℕ) (x y : ℤ) : Type 0 where
   pub left_common : g ≡ gcd (nat_abs p.numerator) q.denominator
   pub right_common : h ≡ gcd (nat_abs q.numerator) p.denominator
-  pub left : x ≡ over p.numerator g
-  pub right : y ≡ over q.numerator h
+  pub left : x ≡ exact_quotient p.numerator g
+  pub right : y ≡ exact_quotient q.numerator h
 
 above_seen : (p q : Fraction) (g h : ℕ) (x y : ℤ) → Crosses p q g h x y →
-    (x *ℤ y) ≡ (over p.numerator (gcd (nat_abs p.numerator) q.denominator) *ℤ over q.numerator
+    (x *ℤ y) ≡ (exact_quotient p.numerator (gcd (nat_abs p.numerator) q.denominator) *ℤ exact_quotient q.numerator
     (gcd (nat_abs q.numerator) p.denominator))
 above_seen p q g h x y crosses =
-    ap₂ (λ (m n : ℤ). m *ℤ n) (crosses.left ∙ ap (over p.numerator) crosses.left_common) (crosses.right ∙ ap (over q.numerator) crosses.right_common)
+    ap₂ (λ (m n : ℤ). m *ℤ n) (crosses.left ∙ ap (exact_quotient p.numerator) crosses.left_common) (crosses.right ∙ ap (exact_quotient q.numerator) crosses.right_common)
 
 above_size : (p q : Fraction) (g h : ℕ) (x y : ℤ) → Crosses p q g h x y →
     nat_abs (x *ℤ y) ≡ (nat_abs p.numerator / gcd (nat_abs p.numerator) q.denominator)
     * (nat_abs q.numerator / gcd (nat_abs q.numerator) p.denominator)
 above_size p q g h x y crosses =
     unsigned_abs-mul x y
-    ∙ ap₂ (λ (m n : ℕ). m * n) (ap nat_abs (crosses.left ∙ ap (over p.numerator) crosses.left_common)
+    ∙ ap₂ (λ (m n : ℕ). m * n) (ap nat_abs (crosses.left ∙ ap (exact_quotient p.numerator) crosses.left_common)
     ∙ nat_abs-over p.numerator (gcd (nat_abs p.numerator) q.denominator))
-    (ap nat_abs (crosses.right ∙ ap (over q.numerator) crosses.right_common)
+    (ap nat_abs (crosses.right ∙ ap (exact_quotient q.numerator) crosses.right_common)
     ∙ nat_abs-over q.numerator (gcd (nat_abs q.numerator) p.denominator))
 
 -- the numerator of a product passes the top
 pub product_numerator_passes : (top : ℕ) (p q : Fraction) (g h : ℕ) (x y : ℤ) → Crosses p q g h x y →
-    top < nat_abs (x *ℤ y) → Any (λ n. top < n) (listed_of_product p q)
+    top < nat_abs (x *ℤ y) → Any (λ n. top < n) (numbers_of_product p q)
 product_numerator_passes top p q g h x y crosses wide = (
   0,
   (nat_abs p.numerator / gcd (nat_abs p.numerator) q.denominator)
@@ -219,7 +219,7 @@ product_below p q g h x y b d multiplies =
 
 -- its denominator passes the top
 pub product_denominator_passes : (top : ℕ) (p q : Fraction) (g h : ℕ) (x y : ℤ) (b d : ℕ) → Multiplies p q g h x y b d →
-    top < b * d → Any (λ n. top < n) (listed_of_product p q)
+    top < b * d → Any (λ n. top < n) (numbers_of_product p q)
 product_denominator_passes top p q g h x y b d multiplies wide = (
   1,
   (p.denominator / gcd (nat_abs q.numerator) p.denominator)
@@ -240,7 +240,7 @@ product_made p q g h x y b d z m p_lowest q_lowest multiplies z_is m_is =
 -- it is within the top, and so is each number on its way
 pub product_answer : (top : ℕ) (p q : Fraction) (g h : ℕ) (x y : ℤ) (b d : ℕ) (z : ℤ) (m : ℕ) → IsLowest p →
     IsLowest q → Multiplies p q g h x y b d → nat_abs (x *ℤ y) ≤ top → z ≡ (x *ℤ y) → m ≡ b * d → m ≤ top →
-    IsAnswer top (listed_of_product p q) (times p q) (Some (record { numerator = z; denominator = m }))
+    IsExactOrTooWide top (numbers_of_product p q) (times p q) (Some (record { numerator = z; denominator = m }))
 product_answer top p q g h x y b d z m p_lowest q_lowest multiplies above_within z_is m_is below_within = (
   product_made p q g h x y b d z m p_lowest q_lowest multiplies z_is m_is,
   record { numerator = subst (λ (t : ℤ). nat_abs t ≤ top) (sym z_is) above_within; denominator = below_within },
@@ -258,7 +258,7 @@ product_answer top p q g h x y b d z m p_lowest q_lowest multiplies above_within
 -- and a `Frac` can hold it
 pub product_kept : (top : ℕ) (p q : Fraction) (g h : ℕ) (x y : ℤ) (b d : ℕ) (z : ℤ) (m : ℕ) → top < 2 ^ 127 →
     IsLowest p → IsLowest q → Multiplies p q g h x y b d → nat_abs (x *ℤ y) ≤ top → z ≡ (x *ℤ y) → m ≡ b * d → m ≤ top →
-    IsKept (record { numerator = z; denominator = m })
+    IsFractionIn127Bits (record { numerator = z; denominator = m })
 product_kept top p q g h x y b d z m top_fits p_lowest q_lowest multiplies above_within z_is m_is below_within =
     let both = product_positive p.denominator q.denominator p_lowest.positive q_lowest.positive in
     let z_within : nat_abs z ≤ top = subst (λ (t : ℤ). nat_abs t ≤ top) (sym z_is) above_within in
@@ -270,7 +270,7 @@ product_kept top p q g h x y b d z m top_fits p_lowest q_lowest multiplies above
       denominator = omega arith;
     }
 
-over_one : (a : ℤ) → over a 1 ≡ a
+over_one : (a : ℤ) → exact_quotient a 1 ≡ a
 over_one (pos n) = ap pos (div-one n)
 over_one (negsuc n) = ap (λ (m : ℕ). neg_ℤ (pos m)) (div-one (suc n))
 
@@ -279,7 +279,7 @@ whole_shares : (a c : ℤ) → Shares (whole a) (whole c) 1 1 1
 whole_shares a c = record { common = refl; left = refl; right = refl }
 
 -- their sum passes the top
-pub whole_sum_passes : (top : ℕ) (a c : ℤ) → top < nat_abs (a +ℤ c) → Any (λ n. top < n) (listed_of_sum (whole a) (whole c))
+pub whole_sum_passes : (top : ℕ) (a c : ℤ) → top < nat_abs (a +ℤ c) → Any (λ n. top < n) (numbers_of_sum (whole a) (whole c))
 whole_sum_passes top a c wide =
     sum_crossed top (whole a) (whole c) 1 1 1 (whole_shares a c)
     (inr
@@ -288,7 +288,7 @@ whole_sum_passes top a c wide =
 
 -- or is the answer
 pub whole_sum_answer : (top : ℕ) (a c s : ℤ) → IsWithin top (whole a) → IsWithin top (whole c) → s ≡ (a +ℤ c) →
-    nat_abs (a +ℤ c) ≤ top → IsAnswer top (listed_of_sum (whole a) (whole c)) (plus (whole a) (whole c))
+    nat_abs (a +ℤ c) ≤ top → IsExactOrTooWide top (numbers_of_sum (whole a) (whole c)) (plus (whole a) (whole c))
     (Some (whole s))
 whole_sum_answer top a c s a_within c_within s_is within =
     let both = ap₂ (λ (x y : ℤ). x +ℤ y) (sym (times_one a)) (sym (times_one c)) in
@@ -310,18 +310,18 @@ whole_crosses a c = record {
 }
 
 -- their product passes the top
-pub whole_product_passes : (top : ℕ) (a c : ℤ) → top < nat_abs (a *ℤ c) → Any (λ n. top < n) (listed_of_product (whole a) (whole c))
+pub whole_product_passes : (top : ℕ) (a c : ℤ) → top < nat_abs (a *ℤ c) → Any (λ n. top < n) (numbers_of_product (whole a) (whole c))
 whole_product_passes top a c wide = product_numerator_passes top (whole a) (whole c) 1 1 a c (whole_crosses a c) wide
 
 -- or is the answer
 pub whole_product_answer : (top : ℕ) (a c z : ℤ) → IsWithin top (whole a) → z ≡ (a *ℤ c) → nat_abs (a *ℤ c) ≤ top →
-    IsAnswer top (listed_of_product (whole a) (whole c)) (times (whole a) (whole c)) (Some (whole z))
+    IsExactOrTooWide top (numbers_of_product (whole a) (whole c)) (times (whole a) (whole c)) (Some (whole z))
 whole_product_answer top a c z a_within z_is within =
     product_answer top (whole a) (whole c) 1 1 a c 1 1 z 1 (whole_lowest a) (whole_lowest c)
     (record { crosses = whole_crosses a c; left = refl; right = refl }) within z_is refl a_within.denominator
 
 -- the whole number that a short way made is the answer of its step
 pub whole_answer : (most top : ℕ) (made : List ℕ) (exact q : Fraction) (n : ℤ) → most ≡ top → q ≡ whole n →
-    IsAnswer most made exact (Some (whole n)) → IsAnswer top made exact (Some q)
+    IsExactOrTooWide most made exact (Some (whole n)) → IsExactOrTooWide top made exact (Some q)
 whole_answer most top made exact q n top_is q_is answer =
-    subst (λ (r : Fraction). IsAnswer top made exact (Some r)) (sym q_is) (subst (λ (t : ℕ). IsAnswer t made exact (Some (whole n))) top_is answer)
+    subst (λ (r : Fraction). IsExactOrTooWide top made exact (Some r)) (sym q_is) (subst (λ (t : ℕ). IsExactOrTooWide t made exact (Some (whole n))) top_is answer)

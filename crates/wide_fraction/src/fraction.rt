@@ -1,7 +1,7 @@
 //! Fractions in lowest terms.
 ghost use Rattle.std.specs.Prelude.{◌≡◌, ℕ, ◌^◌, ◌<◌, ◌≤◌, ℤ, pos, ◌<ℤ◌, nat_abs, ◌≢◌, IsTrue, ◌↔◌, MatchOption};
 ghost use Rattle.whole_numbers.specs.Fractions.{whole, negated, inverse, reduced};
-ghost use Rattle.wide_fraction.specs.Widths.{IsKept, IsWithin, IsTooWide};
+ghost use Rattle.wide_fraction.specs.Widths.{IsFractionIn127Bits, IsWithin, IsFractionTooWide};
 
 use crate::Top;
 use crate::words::{quotient, signed_quotient, with_sign_of};
@@ -17,13 +17,13 @@ pub struct Frac {
 
 impl Model for Frac {
     ghost use Rattle.whole_numbers.specs.Fractions.{Fraction};
-    ghost use Rattle.wide_fraction.specs.Widths.{IsKept};
+    ghost use Rattle.wide_fraction.specs.Widths.{IsFractionIn127Bits};
 
     ghost Value = { Fraction };
 
     ghost view = { λ q. record { numerator = q.numerator; denominator = q.denominator } };
 
-    ghost invariant = { λ q. IsKept (record { numerator = q.numerator; denominator = q.denominator }) };
+    ghost invariant = { λ q. IsFractionIn127Bits (record { numerator = q.numerator; denominator = q.denominator }) };
 
     ghost inverse = { λ q. record { numerator = q.numerator; denominator = q.denominator } };
 }
@@ -33,7 +33,7 @@ impl Frac {
     pub fn new(numerator: i128, denominator: i128, top: Top) -> Option<Frac>
         requires positive { pos 0 <ℤ denominator }
         requires not_least { nat_abs numerator < 2 ^ 127 }
-        ensures { MatchOption result (IsTooWide top (reduced numerator (nat_abs denominator)))
+        ensures { MatchOption result (IsFractionTooWide top (reduced numerator (nat_abs denominator)))
             (λ q. (q ≡ reduced numerator (nat_abs denominator)) × IsWithin top q) }
     {
         let fraction = Frac::reduced(numerator, denominator as u128);
@@ -84,7 +84,7 @@ impl Frac {
     /// The number above the line.
     pub fn numerator(&self) -> i128
         ensures value { result ≡ self.now.numerator }
-        ensures kept { IsKept self.now }
+        ensures kept { IsFractionIn127Bits self.now }
     {
         self.numerator
     }
@@ -92,7 +92,7 @@ impl Frac {
     /// The number below the line.
     pub fn denominator(&self) -> i128
         ensures value { result ≡ pos self.now.denominator }
-        ensures kept { IsKept self.now }
+        ensures kept { IsFractionIn127Bits self.now }
     {
         self.denominator as i128
     }

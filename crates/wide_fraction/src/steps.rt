@@ -1,7 +1,7 @@
 //! Steps of fractions, each exact or refused.
 ghost use Rattle.std.specs.Prelude.{◌≡◌, ◌≢◌, ℕ, ◌*◌, ◌^◌, ◌<◌, ◌≤◌, ◌<ℤ◌, ◌≤ℤ◌, pos, ◌*ℤ◌, nat_abs, MatchOption, IfOk, IfErr, OnOk, OnErr};
-ghost use Rattle.whole_numbers.specs.Fractions.{plus, minus, times, divided, whole, lcm, listed_of_sum, listed_of_product};
-ghost use Rattle.wide_fraction.specs.Widths.{IsWithin, Fits, Passes, IsAnswer};
+ghost use Rattle.whole_numbers.specs.Fractions.{plus, minus, times, divided, whole, lcm, numbers_of_sum, numbers_of_product};
+ghost use Rattle.wide_fraction.specs.Widths.{IsWithin, Fits, Passes, IsExactOrTooWide};
 
 use crate::words::{
     bounded_cross_sum, bounded_product, bounded_signed_product, bounded_sum, quotient,
@@ -102,7 +102,7 @@ pub fn div(left: Frac, right: Frac, top: Top) -> Result<Frac, Wide>
 fn sum(left: Frac, right: Frac, top: Top) -> Option<Frac>
     requires left_within { IsWithin top left }
     requires right_within { IsWithin top right }
-    ensures { IsAnswer top (listed_of_sum left right) (plus left right) result }
+    ensures { IsExactOrTooWide top (numbers_of_sum left right) (plus left right) result }
 {
     if left.denominator != 1 {
         fraction_sum(left, right, top)
@@ -118,7 +118,7 @@ fn sum(left: Frac, right: Frac, top: Top) -> Option<Frac>
 fn whole_sum(left: i128, right: i128, top: Top) -> Option<Frac>
     requires left_within { IsWithin top (whole left) }
     requires right_within { IsWithin top (whole right) }
-    ensures { IsAnswer top (listed_of_sum (whole left) (whole right)) (plus (whole left) (whole right)) result }
+    ensures { IsExactOrTooWide top (numbers_of_sum (whole left) (whole right)) (plus (whole left) (whole right)) result }
 {
     match bounded_sum(left, right, top.size()) {
         None => None,
@@ -130,7 +130,7 @@ fn whole_sum(left: i128, right: i128, top: Top) -> Option<Frac>
 fn fraction_sum(left: Frac, right: Frac, top: Top) -> Option<Frac>
     requires left_within { IsWithin top left }
     requires right_within { IsWithin top right }
-    ensures { IsAnswer top (listed_of_sum left right) (plus left right) result }
+    ensures { IsExactOrTooWide top (numbers_of_sum left right) (plus left right) result }
 {
     let most = top.size();
     let shared = greatest_common_divisor(left.denominator, right.denominator);
@@ -155,7 +155,7 @@ fn fraction_sum(left: Frac, right: Frac, top: Top) -> Option<Frac>
 #[inline]
 fn product(left: Frac, right: Frac, top: Top) -> Option<Frac>
     requires { IsWithin top left }
-    ensures { IsAnswer top (listed_of_product left right) (times left right) result }
+    ensures { IsExactOrTooWide top (numbers_of_product left right) (times left right) result }
 {
     if left.denominator != 1 {
         fraction_product(left, right, top)
@@ -170,7 +170,7 @@ fn product(left: Frac, right: Frac, top: Top) -> Option<Frac>
 #[inline]
 fn whole_product(left: i128, right: i128, top: Top) -> Option<Frac>
     requires { IsWithin top (whole left) }
-    ensures { IsAnswer top (listed_of_product (whole left) (whole right)) (times (whole left) (whole right)) result }
+    ensures { IsExactOrTooWide top (numbers_of_product (whole left) (whole right)) (times (whole left) (whole right)) result }
 {
     match bounded_signed_product(left, right, top.size()) {
         None => None,
@@ -180,7 +180,7 @@ fn whole_product(left: i128, right: i128, top: Top) -> Option<Frac>
 
 /// The product of two fractions.
 fn fraction_product(left: Frac, right: Frac, top: Top) -> Option<Frac>
-    ensures { IsAnswer top (listed_of_product left right) (times left right) result }
+    ensures { IsExactOrTooWide top (numbers_of_product left right) (times left right) result }
 {
     let most = top.size();
     let left_common = greatest_common_divisor(left.numerator.unsigned_abs(), right.denominator);

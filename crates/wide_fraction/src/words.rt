@@ -2,7 +2,7 @@
 ghost use Rattle.std.specs.Prelude.{◌≡◌, ℕ, ◌*◌, ◌/◌, ◌%◌, ◌^◌, ◌<◌, ◌≤◌, pos, ◌+ℤ◌, ◌*ℤ◌, nat_abs, MatchOption};
 ghost use Rattle.wide_fraction.specs.Laws.{signed_by};
 ghost use Rattle.wide_fraction.specs.Widths.{IsCrossWide, IsCrossWithin};
-ghost use Rattle.whole_numbers.specs.Fractions.{over};
+ghost use Rattle.whole_numbers.specs.Fractions.{exact_quotient};
 
 /// The greatest number of 64 bits.
 const WORD: u128 = 18446744073709551615;
@@ -67,7 +67,7 @@ pub(crate) fn with_sign_of(value: i128, size: u128) -> i128
 pub(crate) fn signed_quotient(value: i128, divisor: u128) -> i128
     requires positive { 0 < divisor }
     requires not_least { nat_abs value < 2 ^ 127 }
-    ensures { result ≡ over value divisor }
+    ensures { result ≡ exact_quotient value divisor }
 {
     with_sign_of(value, quotient(value.unsigned_abs(), divisor))
 }

@@ -1,6 +1,6 @@
 use Rattle.std.proofs.Common.{◌∙◌, ap}
 use Rattle.command_words.specs.Commands.{row_of_word}
-use Rattle.command_words.specs.Words.{texts}
+use Rattle.text_lines.specs.Arguments.{texts}
 use Rattle.command_words.proofs.JobSteps.{named_row, no_words}
 use Rattle.command_words.proofs.named.Goals as goal
 

@@ -1,4 +1,4 @@
-use Rattle.command_words.specs.Words.{texts}
+use Rattle.text_lines.specs.Arguments.{texts}
 use Rattle.command_words.proofs.Ranges.{answered_in}
 use Rattle.command_words.proofs.read_words.Goals as goal
 

@@ -4,10 +4,10 @@ use Rattle.std.specs.Prelude.{ℤ, pos, ◌+ℤ◌, ◌*ℤ◌}
 use Rattle.cost_base.specs.Lists.{numbers_from}
 use Rattle.whole_numbers.proofs.Ring.{var, num, ◌⊕◌, ◌⊗◌, ring, ring_by, nothing, using}
 use Rattle.whole_numbers.specs.Lists.{number_at}
-use Rattle.path_rows.specs.declared.form.Form.{Form}
-use Rattle.path_rows.specs.Forms.{value}
-use Rattle.path_rows.specs.Basis.{coordinate, mixture, one_form, IsMixture}
-use Rattle.fraction_table.specs.Wholes.{from_lows, number_of, numbers_of, AllLong, AreMixtures}
+use Rattle.design_problem.specs.declared.form.Form.{Form}
+use Rattle.design_problem.specs.Forms.{value_for_costs}
+use Rattle.design_problem.specs.Basis.{coordinate, mixture, one_form, IsMixture}
+use Rattle.fraction_table.specs.ValidTables.{from_lows, number_of_form, numbers_of_form, AllLong, AreMixtures}
 
 -- the mixture by sums is the sum of the mixtures
 mixture_blend : (c : ℤ) (g h : ℕ → ℤ) (a m : ℕ) (vs : List Form) (i : ℕ) →
@@ -61,14 +61,14 @@ lows_mixture D n (c ∷ cs) (g ∷ gs) (ts ∷ rows) basis i long are =
 -- A form that is its value at the low corner plus the blend of the forms x - low is the mixture by its own numbers.
 pub form_mixture : (D n : ℕ) (low : List ℕ) (gs : List Form) (rows : List (List ℤ)) (basis : List Form) (f : Form) →
     AllLong (suc n) rows → AreMixtures D basis gs rows →
-    ((i : ℕ) → coordinate f i ≡ ((value f low *ℤ coordinate one_form i) +ℤ mixture f.coefficients gs i)) →
-    IsMixture f basis D (numbers_of n D low rows f)
+    ((i : ℕ) → coordinate f i ≡ ((value_for_costs f low *ℤ coordinate one_form i) +ℤ mixture f.coefficients gs i)) →
+    IsMixture f basis D (numbers_of_form n D low rows f)
 form_mixture D n low gs rows basis f long are resolved i =
     let others = map (from_lows f.coefficients rows) (numbers_from 1 n) in
-    let rest : mixture (map (number_of D low rows f) (numbers_from 1 n)) basis i ≡ mixture others basis i =
-    ap (λ zs. mixture zs basis i) (shifted (number_of D low rows f) 0 n ∙ sym (shifted (from_lows f.coefficients rows) 0 n)) in
+    let rest : mixture (map (number_of_form D low rows f) (numbers_from 1 n)) basis i ≡ mixture others basis i =
+    ap (λ zs. mixture zs basis i) (shifted (number_of_form D low rows f) 0 n ∙ sym (shifted (from_lows f.coefficients rows) 0 n)) in
     ap (λ z. pos D *ℤ z) (resolved i)
-    ∙ ring_by (pos D ∷ value f low ∷ coordinate one_form i ∷ mixture f.coefficients gs i ∷ from_lows f.coefficients rows 0 ∷ mixture others basis i ∷ [])
+    ∙ ring_by (pos D ∷ value_for_costs f low ∷ coordinate one_form i ∷ mixture f.coefficients gs i ∷ from_lows f.coefficients rows 0 ∷ mixture others basis i ∷ [])
     (var 0 ⊗ (var 1 ⊗ var 2 ⊕ var 3)) ((var 0 ⊗ var 1 ⊕ var 4) ⊗ var 2 ⊕ var 5)
     (using (num (pos 1)) (var 0 ⊗ var 3) (var 4 ⊗ var 2 ⊕ var 5) (lows_mixture D (suc n) f.coefficients gs rows basis i long are) nothing) refl
-    ∙ ap (λ z. (((pos D *ℤ value f low) +ℤ from_lows f.coefficients rows 0) *ℤ coordinate one_form i) +ℤ z) (sym rest)
+    ∙ ap (λ z. (((pos D *ℤ value_for_costs f low) +ℤ from_lows f.coefficients rows 0) *ℤ coordinate one_form i) +ℤ z) (sym rest)

@@ -8,10 +8,10 @@ use Rattle.whole_numbers.proofs.Orders.{negative_factor, negative_product, oppos
 use Rattle.whole_numbers.proofs.Ring.{var, num, ◌⊕◌, ◌⊗◌, ring}
 use Rattle.area_graph.specs.declared.Point.{Point}
 use Rattle.whole_numbers.specs.Lists.{number_at}
-use Rattle.path_rows.specs.declared.form.Form.{Form}
-use Rattle.path_rows.specs.Forms.{AreMet, value_at}
-use Rattle.path_rows.specs.Basis.{one_form, IsMixture, LeadsPositive}
-use Rattle.path_rows.specs.Earnest.{LexLess}
+use Rattle.design_problem.specs.declared.form.Form.{Form}
+use Rattle.design_problem.specs.Forms.{AreMet, value_at}
+use Rattle.design_problem.specs.Basis.{one_form, IsMixture, LeadsPositive}
+use Rattle.design_problem.specs.Earnest.{LexLess}
 use Rattle.fraction_table.specs.Pivots.{LeadsNoNegative}
 use Rattle.fraction_table.proofs.theory.Points.{mixed_at, equation_at}
 use Rattle.fraction_table.proofs.theory.Lex.{summed, scaled, weaker, scaled_follows, sum_follows}

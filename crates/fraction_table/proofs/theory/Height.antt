@@ -2,7 +2,7 @@
 use Rattle.std.proofs.Common.{◌≡◌, ℕ, suc, ◌*◌, ◌^◌, ◌<◌, ◌≤◌, ap, List, [], ◌∷◌, length, inl, inr, arith}
 use Rattle.std.specs.List.{AllByRecursion}
 use native.Mathlib.Nat.{div-mul-le_self, le-div_iff_mul-le, mul-le-mul_right, le_of_mul-le-mul_right, pow-suc, pow-zero}
-use Rattle.path_rows.specs.Earnest.{LexLess}
+use Rattle.design_problem.specs.Earnest.{LexLess}
 use Rattle.fraction_table.specs.Ranks.{height, digits_number}
 
 products-le : (b d top : ℕ) → b ≤ top → d ≤ top → d * b ≤ top * top

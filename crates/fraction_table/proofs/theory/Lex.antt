@@ -2,7 +2,7 @@
 use Rattle.std.proofs.Common.{◌≡◌, ℕ, zero, suc, ◌*◌, ◌<◌, List, [], ◌∷◌, length, arith}
 use Rattle.std.specs.Prelude.{ℤ, pos, negsuc, ◌+ℤ◌, ◌*ℤ◌, ◌<ℤ◌}
 use Rattle.std.proofs.lemmas.Int.{ints}
-use Rattle.path_rows.specs.Basis.{LeadsPositive}
+use Rattle.design_problem.specs.Basis.{LeadsPositive}
 use Rattle.fraction_table.specs.Pivots.{LeadsNoNegative}
 
 -- the sum, place by place, and a multiple

@@ -4,11 +4,11 @@ use Rattle.std.proofs.Common.{◌≡◌, ℕ, zero, suc, ◌+◌, ◌<◌, refl,
 use Rattle.std.specs.Prelude.{ℤ, pos, ◌+ℤ◌, ◌-ℤ◌, ◌*ℤ◌, slice_index, slice_index_or, slice_set}
 use Rattle.whole_numbers.proofs.Ring.{var, num, ◌⊕◌, ◌⊖◌, ◌⊗◌, neg, ring, ring_by, nothing, using}
 use Rattle.whole_numbers.specs.Lists.{number_at}
-use Rattle.path_rows.specs.declared.form.Form.{Form}
-use Rattle.path_rows.specs.declared.tree.Member.TheVariants.{Low, High}
-use Rattle.path_rows.specs.Forms.{dot, no_form, value}
-use Rattle.path_rows.specs.Basis.{IsMixture, LeadsPositive, coordinate, member_form, mixture, one_form}
-use Rattle.fraction_table.specs.Wholes.{AllLong, AreMixtures, from_lows, low_forms, number_of}
+use Rattle.design_problem.specs.declared.form.Form.{Form}
+use Rattle.design_problem.specs.declared.tree.Member.TheVariants.{Low, High}
+use Rattle.design_problem.specs.Forms.{dot, no_form, value_for_costs}
+use Rattle.design_problem.specs.Basis.{IsMixture, LeadsPositive, coordinate, member_form, mixture, one_form}
+use Rattle.fraction_table.specs.ValidTables.{AllLong, AreMixtures, from_lows, low_forms, number_of_form}
 use Rattle.fraction_table.specs.Moves.{fallen}
 
 -- the numbers of which that at place 0 rises by that in the column, times the fall
@@ -47,20 +47,20 @@ lows_rest (c ∷ cs) (ts ∷ rows) column k fall =
     ∙ ap (λ z. (c *ℤ number_at ts (suc k)) +ℤ z) (lows_rest cs rows column k fall)
 
 pub raised_constant : (D : ℕ) (low : List ℕ) (lows : List (List ℤ)) (f : Form) (column : ℕ) (fall : ℤ) →
-    number_of D low (map (raised column fall) lows) f 0
-    ≡ (number_of D low lows f 0 +ℤ (number_of D low lows f (suc column) *ℤ fall))
+    number_of_form D low (map (raised column fall) lows) f 0
+    ≡ (number_of_form D low lows f 0 +ℤ (number_of_form D low lows f (suc column) *ℤ fall))
 raised_constant D low lows f column fall =
-    ap (λ z. (pos D *ℤ value f low) +ℤ z) (lows_first f.coefficients lows column fall)
-    ∙ ring (pos D ∷ value f low ∷ from_lows f.coefficients lows 0 ∷ from_lows f.coefficients lows (suc column) ∷ fall ∷ [])
+    ap (λ z. (pos D *ℤ value_for_costs f low) +ℤ z) (lows_first f.coefficients lows column fall)
+    ∙ ring (pos D ∷ value_for_costs f low ∷ from_lows f.coefficients lows 0 ∷ from_lows f.coefficients lows (suc column) ∷ fall ∷ [])
     (var 0 ⊗ var 1 ⊕ (var 2 ⊕ var 3 ⊗ var 4)) ((var 0 ⊗ var 1 ⊕ var 2) ⊕ var 3 ⊗ var 4) refl
 
 pub raised_other : (D : ℕ) (low : List ℕ) (lows : List (List ℤ)) (f : Form) (column k : ℕ) (fall : ℤ) →
-    number_of D low (map (raised column fall) lows) f (suc k) ≡ number_of D low lows f (suc k)
+    number_of_form D low (map (raised column fall) lows) f (suc k) ≡ number_of_form D low lows f (suc k)
 raised_other D low lows f column k fall = lows_rest f.coefficients lows column k fall
 
 -- the numbers of a form that is less by z
 pub fallen_constant : (D : ℕ) (low : List ℕ) (lows : List (List ℤ)) (f : Form) (z : ℤ) →
-    number_of D low lows (fallen f z) 0 ≡ (number_of D low lows f 0 -ℤ (pos D *ℤ z))
+    number_of_form D low lows (fallen f z) 0 ≡ (number_of_form D low lows f 0 -ℤ (pos D *ℤ z))
 fallen_constant D low lows f z =
     ring (pos D ∷ f.constant ∷ dot f.coefficients low ∷ from_lows f.coefficients lows 0 ∷ z ∷ [])
     (var 0 ⊗ ((var 1 ⊖ var 4) ⊕ var 2) ⊕ var 3) ((var 0 ⊗ (var 1 ⊕ var 2) ⊕ var 3) ⊖ var 0 ⊗ var 4) refl
@@ -170,8 +170,8 @@ dot_set (c ∷ cs) (l ∷ ls) (suc v) bound v_in =
 -- a lower bound that moves, with its row, leaves the numbers of every form
 pub lowered_number : (D n : ℕ) (low : List ℕ) (lows : List (List ℤ)) (f : Form) (v bound : ℕ) → AllLong (suc n) lows →
     v < length low → v < length lows → (place : ℕ) →
-    number_of D (slice_set low v bound) (lowered_rows v (pos D *ℤ (pos bound -ℤ pos (slice_index low v))) lows) f place
-    ≡ number_of D low lows f place
+    number_of_form D (slice_set low v bound) (lowered_rows v (pos D *ℤ (pos bound -ℤ pos (slice_index low v))) lows) f place
+    ≡ number_of_form D low lows f place
 lowered_number D n low lows f v bound long v_in row_in zero =
     let d = pos bound -ℤ pos (slice_index low v) in
     ap (λ w. (pos D *ℤ (f.constant +ℤ w)) +ℤ from_lows f.coefficients (lowered_rows v (pos D *ℤ d) lows) 0) (dot_set f.coefficients low v bound v_in)

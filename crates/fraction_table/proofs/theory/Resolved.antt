@@ -7,11 +7,11 @@ use Rattle.std.proofs.lemmas.List.{get_or_past}
 use Rattle.cost_base.proofs.ListLemmas.{length-map-numbers_from, get_or-map-numbers_from}
 use Rattle.whole_numbers.specs.Fractions.{Fraction, IsLowest}
 use Rattle.whole_numbers.proofs.Ring.{var, num, ◌⊕◌, ◌⊗◌, neg, ring}
-use Rattle.path_rows.specs.declared.form.Form.{Form}
-use Rattle.path_rows.specs.Forms.{dot, value}
-use Rattle.path_rows.specs.Basis.{AreEntries, coordinate, mixture, one_form, unit}
-use Rattle.fraction_rows.specs.TableRows.{AreNumbers}
-use Rattle.fraction_table.specs.Wholes.{number_of, numbers_of, AllLong, AreMixtures, low_forms, Stand}
+use Rattle.design_problem.specs.declared.form.Form.{Form}
+use Rattle.design_problem.specs.Forms.{dot, value_for_costs}
+use Rattle.design_problem.specs.Basis.{AreEntries, coordinate, mixture, one_form, unit}
+use Rattle.fraction_rows.specs.TableRows.{AreTableNumbers}
+use Rattle.fraction_table.specs.ValidTables.{number_of_form, numbers_of_form, AllLong, AreMixtures, low_forms, Stand}
 use Rattle.fraction_rows.proofs.Columns.{same_test, other_test}
 use Rattle.fraction_table.proofs.theory.Blends.{form_mixture}
 
@@ -74,14 +74,14 @@ blend_there n a (suc k) u (c ∷ cs) (l ∷ ls) same fits there =
 
 -- a form at each coordinate: its value at the low corner, and the blend of the forms x - low
 pub resolved : (low : List ℕ) (f : Form) → length f.coefficients ≡ length low → (i : ℕ) →
-    coordinate f i ≡ ((value f low *ℤ coordinate one_form i) +ℤ mixture f.coefficients
+    coordinate f i ≡ ((value_for_costs f low *ℤ coordinate one_form i) +ℤ mixture f.coefficients
     (low_forms (length low) 0 low) i)
 resolved low f same zero =
     ring (f.constant ∷ dot f.coefficients low ∷ []) (var 0) ((var 0 ⊕ var 1) ⊗ num (pos 1) ⊕ neg (var 1)) refl
-    ∙ ap (λ z. (value f low *ℤ pos 1) +ℤ z) (sym (blend_constant (length low) 0 f.coefficients low))
+    ∙ ap (λ z. (value_for_costs f low *ℤ pos 1) +ℤ z) (sym (blend_constant (length low) 0 f.coefficients low))
 resolved low f same (suc u) =
-    ring (slice_index_or f.coefficients u (pos 0) ∷ value f low ∷ []) (var 0) (var 1 ⊗ num (pos 0) ⊕ var 0) refl
-    ∙ ap (λ z. (value f low *ℤ pos 0) +ℤ z) (sym (blend_there (length low) 0 u u f.coefficients low same (omega arith) (sym (zero-add u))))
+    ring (slice_index_or f.coefficients u (pos 0) ∷ value_for_costs f low ∷ []) (var 0) (var 1 ⊗ num (pos 0) ⊕ var 0) refl
+    ∙ ap (λ z. (value_for_costs f low *ℤ pos 0) +ℤ z) (sym (blend_there (length low) 0 u u f.coefficients low same (omega arith) (sym (zero-add u))))
 
 pub stand_length : (D : ℕ) (qs : List Fraction) (ms : List ℤ) → Stand D qs ms → length qs ≡ length ms
 stand_length D [] [] stand = refl
@@ -89,7 +89,7 @@ stand_length D [] (m ∷ ms) stand = absurd stand
 stand_length D (q ∷ qs) [] stand = absurd stand
 stand_length D (q ∷ qs) (m ∷ ms) stand = ap suc (stand_length D qs ms stand.1)
 
-pub all_lowest : (top : ℕ) (qs : List Fraction) → AreNumbers top qs → All IsLowest qs
+pub all_lowest : (top : ℕ) (qs : List Fraction) → AreTableNumbers top qs → All IsLowest qs
 all_lowest top [] numbers k d k_in = absurd (omega arith)
 all_lowest top (q ∷ qs) numbers zero d k_in = numbers.0.lowest
 all_lowest top (q ∷ qs) numbers (suc k) d k_in = all_lowest top qs numbers.1 k d (omega arith)
@@ -97,16 +97,16 @@ all_lowest top (q ∷ qs) numbers (suc k) d k_in = all_lowest top qs numbers.1 k
 -- Fractions that stand for a form's numbers are its entries over the basis.
 pub are_entries : (top D : ℕ) (low : List ℕ) (rows : List (List ℤ)) (basis : List Form) (f : Form)
     (entries : List Fraction) → 0 < D → length basis ≡ length low → length f.coefficients ≡ length low →
-    AllLong (suc (length low)) rows → AreMixtures D basis (low_forms (length low) 0 low) rows → AreNumbers top entries →
-    Stand D entries (numbers_of (length low) D low rows f) → AreEntries basis f entries
+    AllLong (suc (length low)) rows → AreMixtures D basis (low_forms (length low) 0 low) rows → AreTableNumbers top entries →
+    Stand D entries (numbers_of_form (length low) D low rows f) → AreEntries basis f entries
 are_entries top D low rows basis f entries positive as_many same long are numbers stand =
     record {
-      count = stand_length D entries (numbers_of (length low) D low rows f) stand
-          ∙ ap suc (length-map-numbers_from (number_of D low rows f) 1 (length low) ∙ sym as_many);
+      count = stand_length D entries (numbers_of_form (length low) D low rows f) stand
+          ∙ ap suc (length-map-numbers_from (number_of_form D low rows f) 1 (length low) ∙ sym as_many);
       lowest = all_lowest top entries numbers;
       common = D;
       positive = positive;
-      numbers = numbers_of (length low) D low rows f;
+      numbers = numbers_of_form (length low) D low rows f;
       stand = stand;
       equation = form_mixture D (length low) low (low_forms (length low) 0 low) rows basis f long are (resolved low f same);
     }

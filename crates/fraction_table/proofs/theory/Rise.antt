@@ -3,7 +3,7 @@ use Rattle.std.proofs.Common.{◌≡◌, ℕ, suc, ◌*◌, ◌<◌, refl, sym, 
 use Rattle.std.specs.Prelude.{ℤ, pos, ◌+ℤ◌, ◌-ℤ◌, ◌*ℤ◌, neg_ℤ}
 use Rattle.std.proofs.lemmas.Int.{ints}
 use Rattle.whole_numbers.proofs.Ring.{var, ◌⊕◌, ◌⊖◌, ◌⊗◌, neg, ring}
-use Rattle.path_rows.specs.Basis.{LeadsPositive}
+use Rattle.design_problem.specs.Basis.{LeadsPositive}
 use Rattle.fraction_table.specs.Pivots.{turned_column}
 use Rattle.fraction_table.proofs.theory.Lex.{summed, scaled, weaker, scaled_leads, scaled_follows, sum_leads}
 

@@ -4,11 +4,11 @@ use Rattle.std.proofs.Common.{◌≡◌, ℕ, suc, ◌*◌, ◌<◌, refl, ◌�
 use Rattle.std.specs.Prelude.{ℤ, pos, ◌+ℤ◌, ◌-ℤ◌, ◌*ℤ◌}
 use Rattle.whole_numbers.proofs.Ring.{var, num, ◌⊕◌, ◌⊖◌, ◌⊗◌, neg, ring, ring_by, nothing, using}
 use Rattle.whole_numbers.specs.Lists.{number_at}
-use Rattle.path_rows.specs.declared.form.Form.{Form}
-use Rattle.path_rows.specs.Forms.{dot, value_at}
-use Rattle.path_rows.specs.Basis.{LeadsPositive}
-use Rattle.path_rows.specs.Earnest.{LexLess}
-use Rattle.fraction_table.specs.Wholes.{from_lows, number_of}
+use Rattle.design_problem.specs.declared.form.Form.{Form}
+use Rattle.design_problem.specs.Forms.{dot, value_at}
+use Rattle.design_problem.specs.Basis.{LeadsPositive}
+use Rattle.design_problem.specs.Earnest.{LexLess}
+use Rattle.fraction_table.specs.ValidTables.{from_lows, number_of_form}
 use Rattle.fraction_table.proofs.theory.Corner.{row_sum, differences, less_leads, columns_follow, rest_columns}
 
 -- the values of the corner, times D
@@ -33,7 +33,7 @@ dot-corner D (c ∷ cs) (l ∷ low) (ts ∷ rows) [] corner = absurd corner
 
 -- a form's number at place 0 is its value at the corner
 pub corner_value : (D : ℕ) (low : List ℕ) (rows : List (List ℤ)) (xs : List ℕ) (f : Form) → IsCorner D low rows xs →
-    value_at f (record { scale = D; values = xs }) ≡ number_of D low rows f 0
+    value_at f (record { scale = D; values = xs }) ≡ number_of_form D low rows f 0
 corner_value D low rows xs f corner =
     ap (λ z. (f.constant *ℤ pos D) +ℤ z) (dot-corner D f.coefficients low rows xs corner)
     ∙ ring (f.constant ∷ pos D ∷ dot f.coefficients low ∷ from_lows f.coefficients rows 0 ∷ [])

@@ -7,9 +7,9 @@ use Rattle.std.proofs.lemmas.Bool.{cases_eq}
 use Rattle.std.proofs.lemmas.Int.{ints}
 use Rattle.whole_numbers.proofs.Ring.{var, num, ◌⊕◌, ◌⊖◌, ◌⊗◌, ring, ring_by, using, nothing}
 use Rattle.whole_numbers.specs.Lists.{number_at}
-use Rattle.path_rows.specs.Basis.{LeadsPositive}
-use Rattle.fraction_table.specs.Wholes.{AllLong, from_lows}
-use Rattle.fraction_table.specs.Pivots.{LeadsNoNegative, turned_column, numbers_in, IsLeast}
+use Rattle.design_problem.specs.Basis.{LeadsPositive}
+use Rattle.fraction_table.specs.ValidTables.{AllLong, from_lows}
+use Rattle.fraction_table.specs.Pivots.{LeadsNoNegative, turned_column, numbers_in_column, IsLeastColumn}
 use Rattle.fraction_table.proofs.theory.Lex.{scaled, scaled_leads}
 use Rattle.fraction_table.proofs.theory.Rise.{turned_leads}
 use Rattle.fraction_table.proofs.theory.Pivot.{turned}
@@ -17,8 +17,8 @@ use Rattle.fraction_table.proofs.theory.Turns.{turned_rows, turned_other, turned
 
 pub column_other : (a D : ℕ) (lows : List (List ℤ)) (rs : List ℤ) (j place : ℕ) → AllLong (length rs) lows →
     number_at rs j ≡ pos a → place ≢ j → place < length rs →
-    numbers_in place (turned_rows lows rs j D) ≡ turned_column a (numbers_in place lows) (number_at rs place)
-    (numbers_in j lows)
+    numbers_in_column place (turned_rows lows rs j D) ≡ turned_column a (numbers_in_column place lows) (number_at rs place)
+    (numbers_in_column j lows)
 column_other a D [] rs j place long at_j other place_in = refl
 column_other a D (ts ∷ lows) rs j place long at_j other place_in =
     cc (first, column_other a D lows rs j place long.1 at_j other place_in)
@@ -31,7 +31,7 @@ column_other a D (ts ∷ lows) rs j place long at_j other place_in =
         ((var 0 ⊗ var 1) ⊖ (var 2 ⊗ var 3)) ((var 1 ⊗ var 0) ⊖ (var 3 ⊗ var 2)) refl
 
 column_same : (D : ℕ) (lows : List (List ℤ)) (rs : List ℤ) (j : ℕ) → AllLong (length rs) lows → j < length rs →
-    numbers_in j (turned_rows lows rs j D) ≡ scaled D (numbers_in j lows)
+    numbers_in_column j (turned_rows lows rs j D) ≡ scaled D (numbers_in_column j lows)
 column_same D [] rs j long j_in = refl
 column_same D (ts ∷ lows) rs j long j_in =
     cc (first, column_same D lows rs j long.1 j_in)
@@ -56,7 +56,7 @@ leads_or_zero (negsuc n ∷ zs) leads = absurd leads
 
 -- columns that are multiples of one another are so in every form
 multiples_from_lows : (a : ℕ) (b : ℤ) (k j : ℕ) (cs : List ℤ) (lows : List (List ℤ)) →
-    AllZero (turned_column a (numbers_in k lows) b (numbers_in j lows)) →
+    AllZero (turned_column a (numbers_in_column k lows) b (numbers_in_column j lows)) →
     (pos a *ℤ from_lows cs lows k) ≡ (b *ℤ from_lows cs lows j)
 multiples_from_lows a b k j [] lows zeros = ring (pos a ∷ b ∷ []) (var 0 ⊗ num (pos 0)) (var 1 ⊗ num (pos 0)) refl
 multiples_from_lows a b k j (c ∷ cs) [] zeros = ring (pos a ∷ b ∷ []) (var 0 ⊗ num (pos 0)) (var 1 ⊗ num (pos 0)) refl
@@ -76,17 +76,17 @@ positive_product (negsuc n) D b_positive D_positive h = absurd (omega (arith, in
 -- A form that has D at the one column and 0 at the other tells the two apart, so the least column is less.
 pub least_leads : (a D : ℕ) (b : ℤ) (k j : ℕ) (cs : List ℤ) (lows : List (List ℤ)) → 0 < D → pos 0 <ℤ b →
     from_lows cs lows j ≡ pos D → from_lows cs lows k ≡ pos 0 →
-    LeadsNoNegative (turned_column a (numbers_in k lows) b (numbers_in j lows)) →
-    LeadsPositive (turned_column a (numbers_in k lows) b (numbers_in j lows))
+    LeadsNoNegative (turned_column a (numbers_in_column k lows) b (numbers_in_column j lows)) →
+    LeadsPositive (turned_column a (numbers_in_column k lows) b (numbers_in_column j lows))
 least_leads a D b k j cs lows D_positive b_positive at_j at_k leads =
-    elim (leads_or_zero (turned_column a (numbers_in k lows) b (numbers_in j lows)) leads) [
+    elim (leads_or_zero (turned_column a (numbers_in_column k lows) b (numbers_in_column j lows)) leads) [
       | inl positive ↦ positive
       | inr zeros ↦
           absurd (positive_product b D b_positive D_positive
           (ap (λ z. b *ℤ z) (sym at_j) ∙ sym (multiples_from_lows a b k j cs lows zeros) ∙ ap (λ z. pos a *ℤ z) at_k ∙ lib.IntN.*ℤ-zero (pos a)))
     ]
 
-pub length-numbers_in : (place : ℕ) (lows : List (List ℤ)) → (other : ℕ) → length (numbers_in place lows) ≡ length (numbers_in other lows)
+pub length-numbers_in : (place : ℕ) (lows : List (List ℤ)) → (other : ℕ) → length (numbers_in_column place lows) ≡ length (numbers_in_column other lows)
 length-numbers_in place [] other = refl
 length-numbers_in place (ts ∷ lows) other = ap suc (length-numbers_in place lows other)
 
@@ -99,18 +99,18 @@ by_sign (negsuc n) P low high = low (suc n) (omega (arith, ints))
 pub leads_turned : (n a D : ℕ) (lows : List (List ℤ)) (rs cs : List ℤ) (j : ℕ) → length rs ≡ suc n →
     AllLong (length rs) lows → number_at rs (suc j) ≡ pos a → 0 < a → 0 < D → j < n →
     from_lows cs lows (suc j) ≡ pos D → ((k : ℕ) → k < n → k ≢ j → from_lows cs lows (suc k) ≡ pos 0) →
-    IsLeast n lows rs j → ((k : ℕ) → k < n → LeadsPositive (numbers_in (suc k) lows)) → (k : ℕ) → k < n →
-    LeadsPositive (numbers_in (suc k) (turned_rows lows rs (suc j) D))
+    IsLeastColumn n lows rs j → ((k : ℕ) → k < n → LeadsPositive (numbers_in_column (suc k) lows)) → (k : ℕ) → k < n →
+    LeadsPositive (numbers_in_column (suc k) (turned_rows lows rs (suc j) D))
 leads_turned n a D lows rs cs j counted long at_j a_positive D_positive j_in own elsewhere least lead k k_in =
     elim (cases_eq k j) [
       | inl same ↦
-          subst (λ (i : ℕ). LeadsPositive (numbers_in (suc i) (turned_rows lows rs (suc j) D))) (sym same)
+          subst (λ (i : ℕ). LeadsPositive (numbers_in_column (suc i) (turned_rows lows rs (suc j) D))) (sym same)
           (subst LeadsPositive (sym (column_same D lows rs (suc j) long (omega (arith, counted))))
-          (scaled_leads D (numbers_in (suc j) lows) D_positive (lead j j_in)))
+          (scaled_leads D (numbers_in_column (suc j) lows) D_positive (lead j j_in)))
       | inr other ↦
           subst LeadsPositive (sym (column_other a D lows rs (suc j) (suc k) long at_j (λ h. other (suc_inj h)) (omega (arith, counted))))
-          (by_sign (number_at rs (suc k)) (LeadsPositive (turned_column a (numbers_in (suc k) lows) (number_at rs (suc k)) (numbers_in (suc j) lows)))
-          (λ u low. turned_leads a (numbers_in (suc k) lows) u (number_at rs (suc k)) (numbers_in (suc j) lows)
+          (by_sign (number_at rs (suc k)) (LeadsPositive (turned_column a (numbers_in_column (suc k) lows) (number_at rs (suc k)) (numbers_in_column (suc j) lows)))
+          (λ u low. turned_leads a (numbers_in_column (suc k) lows) u (number_at rs (suc k)) (numbers_in_column (suc j) lows)
           a_positive low (length-numbers_in (suc k) lows (suc j)) (lead k k_in) (lead j j_in))
           (λ high. least_leads a D (number_at rs (suc k)) (suc k) (suc j) cs lows D_positive high own
           (elsewhere k k_in other) (least k k_in other a at_j high)))

@@ -4,9 +4,9 @@ use Rattle.std.proofs.Common.{◌≡◌, ◌≢◌, ℕ, zero, suc, ◌*◌, ◌
 use Rattle.std.specs.Prelude.{ℤ, pos, ◌+ℤ◌, ◌-ℤ◌, ◌*ℤ◌}
 use Rattle.whole_numbers.proofs.Ring.{var, num, ◌⊕◌, ◌⊖◌, ◌⊗◌, ring}
 use Rattle.whole_numbers.specs.Lists.{number_at}
-use Rattle.path_rows.specs.declared.form.Form.{Form}
-use Rattle.path_rows.specs.Forms.{value}
-use Rattle.fraction_table.specs.Wholes.{from_lows, number_of, AllLong}
+use Rattle.design_problem.specs.declared.form.Form.{Form}
+use Rattle.design_problem.specs.Forms.{value_for_costs}
+use Rattle.fraction_table.specs.ValidTables.{from_lows, number_of_form, AllLong}
 use Rattle.fraction_table.proofs.theory.Pivot.{crossed, turned, length-crossed, crossed_at}
 
 pub turned_other : (fs rs : List ℤ) (j D place : ℕ) → length fs ≡ length rs → place ≢ j → place < length fs →
@@ -52,12 +52,12 @@ lows_same (c ∷ cs) (ts ∷ rows) rs j D long j_in =
 -- the numbers of any form after the pivot on the column j + 1 with the number a there
 pub number_other : (D a : ℕ) (low : List ℕ) (rows : List (List ℤ)) (f : Form) (rs : List ℤ) (j place : ℕ) →
     AllLong (length rs) rows → number_at rs (suc j) ≡ pos a → place ≢ suc j → place < length rs →
-    number_of (D * a) low (turned_rows rows rs (suc j) D) f place
-    ≡ ((number_of D low rows f place *ℤ pos a) -ℤ (number_of D low rows f (suc j) *ℤ number_at rs place))
+    number_of_form (D * a) low (turned_rows rows rs (suc j) D) f place
+    ≡ ((number_of_form D low rows f place *ℤ pos a) -ℤ (number_of_form D low rows f (suc j) *ℤ number_at rs place))
 number_other D a low rows f rs j zero long at_j other place_in =
-    ap (λ z. (pos (D * a) *ℤ value f low) +ℤ z) (lows_other f.coefficients rows rs (suc j) D zero long other place_in)
-    ∙ ap (λ z. (pos (D * a) *ℤ value f low) +ℤ ((from_lows f.coefficients rows 0 *ℤ z) -ℤ (from_lows f.coefficients rows (suc j) *ℤ number_at rs 0))) at_j
-    ∙ ring (pos D ∷ pos a ∷ value f low ∷ from_lows f.coefficients rows 0 ∷ from_lows f.coefficients rows (suc j) ∷ number_at rs 0 ∷ [])
+    ap (λ z. (pos (D * a) *ℤ value_for_costs f low) +ℤ z) (lows_other f.coefficients rows rs (suc j) D zero long other place_in)
+    ∙ ap (λ z. (pos (D * a) *ℤ value_for_costs f low) +ℤ ((from_lows f.coefficients rows 0 *ℤ z) -ℤ (from_lows f.coefficients rows (suc j) *ℤ number_at rs 0))) at_j
+    ∙ ring (pos D ∷ pos a ∷ value_for_costs f low ∷ from_lows f.coefficients rows 0 ∷ from_lows f.coefficients rows (suc j) ∷ number_at rs 0 ∷ [])
     ((var 0 ⊗ var 1) ⊗ var 2 ⊕ ((var 3 ⊗ var 1) ⊖ (var 4 ⊗ var 5)))
     (((var 0 ⊗ var 2 ⊕ var 3) ⊗ var 1) ⊖ (var 4 ⊗ var 5)) refl
 number_other D a low rows f rs j (suc k) long at_j other place_in =
@@ -65,27 +65,27 @@ number_other D a low rows f rs j (suc k) long at_j other place_in =
     ∙ ap (λ z. (from_lows f.coefficients rows (suc k) *ℤ z) -ℤ (from_lows f.coefficients rows (suc j) *ℤ number_at rs (suc k))) at_j
 
 pub number_same : (D a : ℕ) (low : List ℕ) (rows : List (List ℤ)) (f : Form) (rs : List ℤ) (j : ℕ) →
-    AllLong (length rs) rows → suc j < length rs → number_of (D * a) low (turned_rows rows rs (suc j) D) f (suc j)
-    ≡ (number_of D low rows f (suc j) *ℤ pos D)
+    AllLong (length rs) rows → suc j < length rs → number_of_form (D * a) low (turned_rows rows rs (suc j) D) f (suc j)
+    ≡ (number_of_form D low rows f (suc j) *ℤ pos D)
 number_same D a low rows f rs j long j_in = lows_same f.coefficients rows rs (suc j) D long j_in
 
 -- a form with 0 at the pivot's column keeps its entries: its numbers are multiplied by a, as D is
 pub stays : (D a : ℕ) (low : List ℕ) (rows : List (List ℤ)) (f : Form) (rs : List ℤ) (j place : ℕ) →
     AllLong (length rs) rows → number_at rs (suc j) ≡ pos a → place ≢ suc j → place < length rs →
-    number_of D low rows f (suc j) ≡ pos 0 → number_of (D * a) low (turned_rows rows rs (suc j) D) f place
-    ≡ (number_of D low rows f place *ℤ pos a)
+    number_of_form D low rows f (suc j) ≡ pos 0 → number_of_form (D * a) low (turned_rows rows rs (suc j) D) f place
+    ≡ (number_of_form D low rows f place *ℤ pos a)
 stays D a low rows f rs j place long at_j other place_in none =
     number_other D a low rows f rs j place long at_j other place_in
-    ∙ ap (λ z. (number_of D low rows f place *ℤ pos a) -ℤ (z *ℤ number_at rs place)) none
-    ∙ ring (number_of D low rows f place ∷ pos a ∷ number_at rs place ∷ []) ((var 0 ⊗ var 1) ⊖ (num (pos 0) ⊗ var 2)) (var 0 ⊗ var 1) refl
+    ∙ ap (λ z. (number_of_form D low rows f place *ℤ pos a) -ℤ (z *ℤ number_at rs place)) none
+    ∙ ring (number_of_form D low rows f place ∷ pos a ∷ number_at rs place ∷ []) ((var 0 ⊗ var 1) ⊖ (num (pos 0) ⊗ var 2)) (var 0 ⊗ var 1) refl
 
 -- the pivot's form has 0 at every other place, and the new denominator at its own
 pub enters : (D a : ℕ) (low : List ℕ) (rows : List (List ℤ)) (r : Form) (rs : List ℤ) (j place : ℕ) →
     AllLong (length rs) rows → number_at rs (suc j) ≡ pos a →
-    ((i : ℕ) → i < length rs → number_of D low rows r i ≡ number_at rs i) → place ≢ suc j → place < length rs →
-    suc j < length rs → number_of (D * a) low (turned_rows rows rs (suc j) D) r place ≡ pos 0
+    ((i : ℕ) → i < length rs → number_of_form D low rows r i ≡ number_at rs i) → place ≢ suc j → place < length rs →
+    suc j < length rs → number_of_form (D * a) low (turned_rows rows rs (suc j) D) r place ≡ pos 0
 enters D a low rows r rs j place long at_j is other place_in j_in =
     number_other D a low rows r rs j place long at_j other place_in
-    ∙ ap (λ z. (z *ℤ pos a) -ℤ (number_of D low rows r (suc j) *ℤ number_at rs place)) (is place place_in)
+    ∙ ap (λ z. (z *ℤ pos a) -ℤ (number_of_form D low rows r (suc j) *ℤ number_at rs place)) (is place place_in)
     ∙ ap (λ z. (number_at rs place *ℤ pos a) -ℤ (z *ℤ number_at rs place)) (is (suc j) j_in ∙ at_j)
     ∙ ring (number_at rs place ∷ pos a ∷ []) ((var 0 ⊗ var 1) ⊖ (var 1 ⊗ var 0)) (num (pos 0)) refl

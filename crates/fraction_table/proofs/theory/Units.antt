@@ -6,11 +6,11 @@ use Rattle.cost_base.specs.Lists.{numbers_from}
 use Rattle.cost_base.proofs.ListLemmas.{map-numbers_from-agree, all_from_each}
 use Rattle.whole_numbers.proofs.Ring.{var, num, ◌⊕◌, ◌⊖◌, ◌⊗◌, neg, ring}
 use Rattle.whole_numbers.specs.Lists.{number_at}
-use Rattle.path_rows.specs.declared.form.Form.{Form}
-use Rattle.path_rows.specs.declared.tree.Member.TheVariants.{Low, High}
-use Rattle.path_rows.specs.Forms.{dot, value}
-use Rattle.path_rows.specs.Basis.{member_form, unit}
-use Rattle.fraction_table.specs.Wholes.{AllLong, from_lows, number_of, numbers_of}
+use Rattle.design_problem.specs.declared.form.Form.{Form}
+use Rattle.design_problem.specs.declared.tree.Member.TheVariants.{Low, High}
+use Rattle.design_problem.specs.Forms.{dot, value_for_costs}
+use Rattle.design_problem.specs.Basis.{member_form, unit}
+use Rattle.fraction_table.specs.ValidTables.{AllLong, from_lows, number_of_form, numbers_of_form}
 use Rattle.fraction_rows.proofs.Columns.{same_test, other_test}
 use Rattle.fraction_table.proofs.theory.Blends.{listed_at}
 
@@ -66,13 +66,13 @@ unit_dot v c xs v_in =
     ∙ ap (λ (ts : List ℤ). c *ℤ number_at ts 0) (get_or-map (λ (x : ℕ). pos x ∷ []) xs v 0 [] v_in)
 
 -- x - low is 0 at the low corner, and high - x is high - low there
-pub low_value : (low : List ℕ) (rows : List Form) (v : ℕ) → v < length low → value (member_form (length low) rows (Low v (slice_index low v))) low ≡ pos 0
+pub low_value : (low : List ℕ) (rows : List Form) (v : ℕ) → v < length low → value_for_costs (member_form (length low) rows (Low v (slice_index low v))) low ≡ pos 0
 low_value low rows v v_in =
     ap (λ z. neg_ℤ (pos (slice_index low v)) +ℤ z) (unit_dot v (pos 1) low v_in)
     ∙ ring (pos (slice_index low v) ∷ []) (neg (var 0) ⊕ num (pos 1) ⊗ var 0) (num (pos 0)) refl
 
 pub high_value : (low : List ℕ) (rows : List Form) (v bound : ℕ) → v < length low →
-    value (member_form (length low) rows (High v bound)) low ≡ (pos bound -ℤ pos (slice_index low v))
+    value_for_costs (member_form (length low) rows (High v bound)) low ≡ (pos bound -ℤ pos (slice_index low v))
 high_value low rows v bound v_in =
     ap (λ z. pos bound +ℤ z) (unit_dot v (negsuc 0) low v_in)
     ∙ ring (pos bound ∷ pos (slice_index low v) ∷ []) (var 0 ⊕ num (negsuc 0) ⊗ var 1) (var 0 ⊖ var 1) refl
@@ -83,7 +83,7 @@ long_at n lows v long v_in = all_from_each (λ (ts : List ℤ). length ts ≡ n)
 -- the numbers of x - low are those of its row
 pub low_numbers : (D : ℕ) (low : List ℕ) (lows : List (List ℤ)) (rows : List Form) (v : ℕ) → length low ≡ length lows →
     AllLong (suc (length low)) lows → v < length low →
-    numbers_of (length low) D low lows (member_form (length low) rows (Low v (slice_index low v)))
+    numbers_of_form (length low) D low lows (member_form (length low) rows (Low v (slice_index low v)))
     ≡ slice_index_or lows v []
 low_numbers D low lows rows v counted long v_in =
     let n = length low in
@@ -91,13 +91,13 @@ low_numbers D low lows rows v counted long v_in =
     let ts = slice_index_or lows v [] in
     let own : (place : ℕ) → from_lows f.coefficients lows place ≡ number_at ts place =
     λ place. unit_from_lows n v place (pos 1) lows v_in counted ∙ ring (number_at ts place ∷ []) (num (pos 1) ⊗ var 0) (var 0) refl in
-    map-numbers_from-agree (number_of D low lows f) (number_at ts) 0 (suc n) (λ place from place_in. here f ts (low_value low rows v v_in) own place)
+    map-numbers_from-agree (number_of_form D low lows f) (number_at ts) 0 (suc n) (λ place from place_in. here f ts (low_value low rows v v_in) own place)
     ∙ ap (λ m. map (number_at ts) (numbers_from 0 m)) (sym (long_at (suc n) lows v long (omega (arith, counted))))
     ∙ listed_at ts
   where
-    here : (f : Form) (ts : List ℤ) → value f low ≡ pos 0 →
+    here : (f : Form) (ts : List ℤ) → value_for_costs f low ≡ pos 0 →
         ((place : ℕ) → from_lows f.coefficients lows place ≡ number_at ts place) → (place : ℕ) →
-        number_of D low lows f place ≡ number_at ts place
+        number_of_form D low lows f place ≡ number_at ts place
     here f ts none own zero =
         ap (λ z. (pos D *ℤ z) +ℤ from_lows f.coefficients lows 0) none
         ∙ ap (λ z. (pos D *ℤ pos 0) +ℤ z) (own 0)

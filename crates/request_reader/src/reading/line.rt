@@ -5,7 +5,7 @@ ghost use Rattle.request_reader.specs.ReadingLines as definition;
 
 use crate::reading::path::{is_router, path_line};
 use crate::reading::statement::{Bounds, Statement};
-use crate::{RequestFault, Wish};
+use crate::{Directive, RequestFault};
 use cost_base::{Name, OutOfMemory};
 use std::alloc::Global;
 use text_lines::{area, first_word, is_comment_word, number};
@@ -130,7 +130,7 @@ fn area_line(rest: &[u8]) -> Statement
 
 /// `default-cost N`, without its first word.
 fn cost_line(rest: &[u8]) -> Statement
-    ensures { result ≡ definition.cost_line (words rest.now) }
+    ensures { result ≡ definition.default_cost_line (words rest.now) }
 {
     let Some(word) = one_word(rest) else {
         return Statement::Refused(RequestFault::BadRequestLine);
@@ -189,7 +189,7 @@ fn free_all(all: &[u8], low: &[u8], high: &[u8]) -> Statement
         return Statement::Refused(RequestFault::BadRequestLine);
     }
     match bounds(low, high) {
-        Ok(bounds) => Statement::Ask(Wish::FreeAll(bounds.lowest, bounds.highest)),
+        Ok(bounds) => Statement::Ask(Directive::FreeAll(bounds.lowest, bounds.highest)),
         Err(fault) => Statement::Refused(fault),
     }
 }
@@ -211,7 +211,7 @@ fn free_one(
         Ok(bounds) => {
             let router = Name::from_bytes(alloc, router)?;
             let interface = Name::from_bytes(alloc, interface)?;
-            Ok(Statement::Ask(Wish::Free(router, interface, bounds.lowest, bounds.highest)))
+            Ok(Statement::Ask(Directive::Free(router, interface, bounds.lowest, bounds.highest)))
         }
         Err(fault) => Ok(Statement::Refused(fault)),
     }
@@ -225,7 +225,7 @@ fn fix_line(alloc: Global, rest: &[u8]) -> Result<Statement, OutOfMemory>
         Some((router, interface)) if is_router(router) => {
             let router = Name::from_bytes(alloc, router)?;
             let interface = Name::from_bytes(alloc, interface)?;
-            Ok(Statement::Ask(Wish::Fix(router, interface)))
+            Ok(Statement::Ask(Directive::Fix(router, interface)))
         }
         _ => Ok(Statement::Refused(RequestFault::BadRequestLine)),
     }
@@ -242,7 +242,7 @@ fn symmetric_line(alloc: Global, rest: &[u8]) -> Result<Statement, OutOfMemory>
         Some((router, interface)) if is_router(router) => {
             let router = Name::from_bytes(alloc, router)?;
             let interface = Name::from_bytes(alloc, interface)?;
-            Ok(Statement::Ask(Wish::Symmetric(router, interface)))
+            Ok(Statement::Ask(Directive::Symmetric(router, interface)))
         }
         _ => Ok(Statement::Refused(RequestFault::BadRequestLine)),
     }
@@ -253,7 +253,7 @@ fn symmetric_all(all: &[u8]) -> Statement
     ensures { result ≡ definition.symmetric_line (all.now ∷ []) }
 {
     if all == ALL {
-        Statement::Ask(Wish::SymmetricAll)
+        Statement::Ask(Directive::SymmetricAll)
     } else {
         Statement::Refused(RequestFault::BadRequestLine)
     }

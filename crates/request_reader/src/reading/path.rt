@@ -3,10 +3,10 @@ ghost use Rattle.std.specs.Prelude.{◌≡◌, ◌∷◌, ◌++◌, [], None, So
 ghost use Rattle.text_lines.specs.Lines.{words};
 ghost use Rattle.request_reader.specs.Routes.{route_of, hop_of};
 ghost use Rattle.request_reader.specs.ReadingLines as definition;
-ghost use Rattle.request_reader.specs.ReadingLines.{to_without, behind_without, taken_away, parts_of};
+ghost use Rattle.request_reader.specs.ReadingLines.{to_without, behind_without, taken_away, parts_by_words};
 
 use crate::reading::statement::Statement;
-use crate::{Hops, Part, RequestFault, Wish};
+use crate::{Directive, Hops, Part, RequestFault};
 use cost_base::{Listed, Name, OutOfMemory};
 use std::alloc::Global;
 use text_lines::{cut, first_word};
@@ -27,7 +27,7 @@ pub(crate) fn path_line(alloc: Global, rest: &[u8]) -> Result<Statement, OutOfMe
     let Some(without) = read_taken_away(alloc, more)? else {
         return Ok(Statement::Refused(RequestFault::BadRequestLine));
     };
-    Ok(Statement::Ask(Wish::Path(hops, without)))
+    Ok(Statement::Ask(Directive::Path(hops, without)))
 }
 
 /// The next word of a text and what stands behind it; None exactly where there is none, or it is `without`.
@@ -67,7 +67,7 @@ fn read_route(alloc: Global, first: &[u8], text: &[u8]) -> Result<Option<Hops>, 
 
 /// Whether a word is a router's: it has no `:`.
 pub(crate) fn is_router(word: &[u8]) -> bool
-    ensures { result ≡ definition.is_router word.now }
+    ensures { result ≡ definition.is_router_word word.now }
 {
     cut(word, b':').is_none()
 }
@@ -126,7 +126,7 @@ fn read_taken_away(alloc: Global, text: &[u8]) -> Result<Option<Listed<Part>>, O
 
 /// The parts of words R and R:IF; None exactly where a word is neither.
 fn read_parts(alloc: Global, text: &[u8]) -> Result<Option<Listed<Part>>, OutOfMemory>
-    ensures { IfOk result (λ parts. parts ≡ parts_of (words text.now)) }
+    ensures { IfOk result (λ parts. parts ≡ parts_by_words (words text.now)) }
 {
     let mut parts = Vec::new(alloc);
     let mut left = text;

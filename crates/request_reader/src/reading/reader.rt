@@ -1,14 +1,14 @@
 //! What the lines of a request file say together.
 ghost use Rattle.std.specs.Prelude.{◌≡◌, ◌+◌, ◌-◌, ◌^◌, ◌<◌, ◌++◌, ◌∷◌, [], Some, None, true, false, IfOk, IfErr, OnOk, OnErr, is_some};
 ghost use Rattle.text_lines.specs.LineFaults.{fault_at, fault_in_line};
-ghost use Rattle.request_reader.specs.Asked.{KeepsBounds, is_path};
+ghost use Rattle.request_reader.specs.Asked.{HasGoodBounds, is_path};
 ghost use Rattle.request_reader.specs.Reading.{told_by, fault_said, fault_behind_header, asked_of, TellsReading};
 ghost use Rattle.request_reader.specs.ReadingSteps.{told_with, KeepsRules};
 ghost use Rattle.request_reader.specs.declared.stop.RequestFault.TheVariants.{BadRequestLine};
 ghost use Rattle.request_reader.specs.declared.reading.statement.Statement.TheVariants.{Area as AreaSaid, DefaultCost as DefaultCostSaid, Ask as AskSaid};
 
 use crate::reading::statement::Statement;
-use crate::{Item, RequestFault, RequestStop, Requests, Wish};
+use crate::{Directive, Item, RequestFault, RequestFile, RequestStop};
 use cost_base::{Listed, OutOfMemory};
 use std::alloc::Global;
 use std::marker::Model;
@@ -67,7 +67,7 @@ impl Reader {
             }
             (true, Statement::Area(area)) => self.take_area(line, area),
             (true, Statement::DefaultCost(cost)) => self.take_default_cost(line, cost),
-            (true, Statement::Ask(wish)) => self.take_wish(line, wish),
+            (true, Statement::Ask(directive)) => self.take_directive(line, directive),
             (true, Statement::Refused(fault)) => Err(refusal(line, fault)),
             (_, _) => Err(refusal(line, RequestFault::BadRequestLine)),
         }
@@ -101,8 +101,8 @@ impl Reader {
     }
 
     /// Takes what a line behind the header asks for, unless it is a path too many.
-    fn take_wish(&mut self, line: u32, what: Wish) -> Result<(), RequestStop>
-        requires { KeepsBounds what }
+    fn take_directive(&mut self, line: u32, what: Directive) -> Result<(), RequestStop>
+        requires { HasGoodBounds what }
         ensures taken { OnOk result (fault_behind_header self.old (AskSaid what) ≡ None) }
         ensures told { OnOk result (self.new ≡ told_with self.old line (AskSaid what)) }
         ensures refused { IfErr result (TellsReading (fault_in_line line (fault_behind_header self.old (AskSaid what)))) }
@@ -117,7 +117,7 @@ impl Reader {
 
     /// Takes a path, unless it is one too many.
     fn take_path(&mut self, path: Item) -> Result<(), RequestStop>
-        requires bounds { KeepsBounds path.what }
+        requires bounds { HasGoodBounds path.what }
         requires path { is_path path ≡ true }
         ensures taken { OnOk result (fault_behind_header self.old (AskSaid path.what) ≡ None) }
         ensures told { OnOk result (self.new ≡ told_with self.old path.line (AskSaid path.what)) }
@@ -132,13 +132,13 @@ impl Reader {
     }
 
     /// What the lines ask for. `lines` is how many there are.
-    pub(crate) fn finish(self, lines: u32) -> Result<Requests, RequestStop>
+    pub(crate) fn finish(self, lines: u32) -> Result<RequestFile, RequestStop>
         requires { lines < 2 ^ 32 - 1 }
         ensures made { IfOk result (λ r. (is_some self.area ≡ true) × (r ≡ asked_of self)) }
         ensures refused { IfErr result (λ stop. (is_some self.area ≡ false) × TellsReading (Some (fault_at (lines + 1) BadRequestLine)) stop) }
     {
         match self.area {
-            Some(area) => Ok(Requests {
+            Some(area) => Ok(RequestFile {
                 area,
                 default_cost: self.default_cost,
                 items: Listed::from_items(self.items),
@@ -152,7 +152,7 @@ impl Reader {
 fn is_path(item: &Item) -> bool
     ensures { result ≡ is_path item.now }
 {
-    matches!(item.what, Wish::Path(_, _))
+    matches!(item.what, Directive::Path(_, _))
 }
 
 /// Adds an item.

@@ -1,5 +1,5 @@
 //! What a line of a request file says.
-use crate::{RequestFault, Wish};
+use crate::{Directive, RequestFault};
 
 /// The bounds of a cost.
 #[derive(Clone, Copy)]
@@ -16,6 +16,6 @@ pub(crate) enum Statement {
     Header,
     Area(u32),
     DefaultCost(u16),
-    Ask(Wish),
+    Ask(Directive),
     Refused(RequestFault),
 }

@@ -2,7 +2,7 @@
 ghost use Rattle.std.specs.Prelude.{◌≡◌, ◌++◌, ◌∷◌, [], IfOk, OnOk};
 ghost use Rattle.text_lines.specs.Lines.{words};
 ghost use Rattle.set_reader.specs.SetLines as definition;
-ghost use Rattle.set_reader.specs.SetLines.{numbers_of};
+ghost use Rattle.set_reader.specs.SetLines.{numbers_by_words};
 ghost use Rattle.set_reader.specs.ReadingSteps.{HasSeveral};
 
 use crate::reading::statement::Statement;
@@ -80,7 +80,7 @@ fn set_line(alloc: Global, rest: &[u8]) -> Result<Statement, OutOfMemory>
 
 /// The numbers of a text's words, of at most ten digits each; None exactly where a word is no such number.
 fn read_numbers(alloc: Global, text: &[u8]) -> Result<Option<Listed<u64>>, OutOfMemory>
-    ensures { IfOk result (λ numbers. numbers ≡ numbers_of (words text.now)) }
+    ensures { IfOk result (λ numbers. numbers ≡ numbers_by_words (words text.now)) }
 {
     let mut numbers = Vec::new(alloc);
     let mut left = text;

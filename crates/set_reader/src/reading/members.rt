@@ -3,8 +3,8 @@ ghost use Rattle.std.specs.Prelude.{◌≡◌, ◌↔◌, ◌^◌, ◌<◌, ℕ,
 ghost use Rattle.std.specs.Prelude.{IfOk, IfErr, IfSome, OnOk, MatchOption, slice_index_or};
 ghost use Rattle.std.specs.List.{list_any};
 ghost use Rattle.cost_base.specs.Lists.{same_bytes};
-ghost use Rattle.area_graph.specs.Distances.{AreMarks};
-ghost use Rattle.path_rows.specs.Problems.{request_at};
+ghost use Rattle.area_graph.specs.Distances.{AreEdgeMarks};
+ghost use Rattle.design_problem.specs.Problems.{request_at};
 ghost use Rattle.text_lines.specs.LineFaults.{fault_in_line};
 ghost use Rattle.set_reader.specs.Reading.{same_ends, has_other_ends, takes_away, is_wrong_set, wrong_if, IsInOrder, TellsReading};
 ghost use Rattle.set_reader.specs.ReadingSteps.{is_out_of_place};
@@ -12,8 +12,8 @@ ghost use Rattle.set_reader.specs.ReadingSteps.{is_out_of_place};
 use crate::reading::refusal;
 use crate::{SetFault, SetStop};
 use cost_base::OutOfMemory;
+use design_problem::Request;
 use indexmap::IndexSet;
-use path_rows::Request;
 use std::alloc::Global;
 
 /// Whether the paths of two requests lead between the same ends.
@@ -27,7 +27,7 @@ fn same_ends(first: &Request, other: &Request) -> bool
 fn takes_away(request: &Request) -> bool
     ensures { result ≡ takes_away request.now }
 {
-    !request.gone.as_slice().is_empty()
+    !request.excluded.as_slice().is_empty()
 }
 
 /// Whether a request's path has other ends than that of the first member.
@@ -86,8 +86,8 @@ pub(crate) fn read_members(
     requires count { length taken.now ≡ length requests.now }
     ensures made { IfOk result (λ members. IsInOrder numbers.now members.items) }
     ensures known { IfOk result (λ members. All (λ member. member < length requests.now) members.items) }
-    ensures lawful { IfOk result (λ members. (earlier : List ℕ) → AreMarks earlier taken.now → is_wrong_set requests.now earlier numbers.now ≡ false) }
-    ensures refused { IfErr result (λ stop. (earlier : List ℕ) → AreMarks earlier taken.now →
+    ensures lawful { IfOk result (λ members. (earlier : List ℕ) → AreEdgeMarks earlier taken.now → is_wrong_set requests.now earlier numbers.now ≡ false) }
+    ensures refused { IfErr result (λ stop. (earlier : List ℕ) → AreEdgeMarks earlier taken.now →
         TellsReading (fault_in_line line (wrong_if (is_wrong_set requests.now earlier numbers.now))) stop) }
 {
     let mut members = Vec::new(alloc);
@@ -115,7 +115,7 @@ fn add_member(members: &mut Vec<u32>, member: u32) -> Result<(), OutOfMemory>
 /// Marks the members of a set, beside what is marked.
 pub(crate) fn mark_members(taken: &mut Vec<bool>, members: &[u32])
     requires { All (λ member. member < length taken.old.items) members.now }
-    ensures marks { (earlier : List ℕ) → AreMarks earlier taken.old.items → AreMarks (earlier ++ members.now) taken.new.items }
+    ensures marks { (earlier : List ℕ) → AreEdgeMarks earlier taken.old.items → AreEdgeMarks (earlier ++ members.now) taken.new.items }
     ensures count { length taken.new.items ≡ length taken.old.items }
 {
     for member in members {

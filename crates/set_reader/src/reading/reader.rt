@@ -12,7 +12,7 @@ use crate::reading::refusal;
 use crate::reading::statement::Statement;
 use crate::{SetFault, SetStop, Sets};
 use cost_base::{Listed, OutOfMemory};
-use path_rows::Problem;
+use design_problem::Problem;
 use std::alloc::Global;
 use std::marker::Model;
 

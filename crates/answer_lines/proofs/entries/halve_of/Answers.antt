@@ -1,5 +1,5 @@
 use Rattle.std.proofs.Common.{◌≡◌, sym, ◌∙◌}
-use Rattle.path_rows.specs.Text.{members_words}
+use Rattle.design_problem.specs.Text.{members_words}
 use Rattle.answer_lines.specs.Words.{words_left}
 use Rattle.answer_lines.proofs.EntryWords.{only_halve, members-some, front-rest, front_of, front-fits}
 use Rattle.answer_lines.proofs.entries.halve_of.Goals as goal

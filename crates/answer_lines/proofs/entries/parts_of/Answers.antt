@@ -1,7 +1,7 @@
 use Rattle.std.proofs.Common.{◌<◌, ◌^◌, ℕ, ◌++◌, All, length, get_or, ◌≤◌, sym, ap, subst, ◌∙◌, arith}
 use Rattle.std.proofs.lemmas.List.Quantifiers.{all_pairs_push}
-use Rattle.path_rows.specs.Bounds.{BoundsParts, IsRowNumber}
-use Rattle.path_rows.specs.Text.{part_words}
+use Rattle.design_problem.specs.Bounds.{BoundsParts, IsRowNumber}
+use Rattle.design_problem.specs.Text.{part_words}
 use Rattle.answer_lines.specs.Words.{words_left}
 use Rattle.answer_lines.proofs.ListParts.{not-both}
 use Rattle.answer_lines.proofs.NumberWords.{All-more}

@@ -1,6 +1,6 @@
 use Rattle.std.proofs.Common.{◌≡◌, ◌++◌, ◌<◌, ◌^◌, All, length}
-use Rattle.path_rows.specs.Bounds.{BoundsParts}
-use Rattle.path_rows.specs.Text.{part_words}
+use Rattle.design_problem.specs.Bounds.{BoundsParts}
+use Rattle.design_problem.specs.Text.{part_words}
 use Rattle.answer_lines.specs.Words.{words_left}
 use Rattle.answer_lines.proofs.entries.parts_of.Given as goal
 

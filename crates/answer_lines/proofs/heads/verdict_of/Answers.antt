@@ -2,9 +2,9 @@ use Rattle.std.proofs.Common.{◌≢◌, ℕ, ◌≤◌, ◌++◌, List, codes, 
 use Rattle.std.specs.Cmp.Lexicographic.{pointwise_decides}
 use Rattle.std.proofs.lemmas.Bool.Decides.{Decides-eqb}
 use Rattle.cost_base.specs.Decimal.{decimal}
-use Rattle.path_rows.specs.declared.answer.Verdict.{Verdict}
-use Rattle.path_rows.specs.declared.answer.Verdict.TheVariants.{Optimal, Impossible, Budget}
-use Rattle.path_rows.specs.Bounds.{BoundsVerdict}
+use Rattle.design_problem.specs.declared.answer.Verdict.{Verdict}
+use Rattle.design_problem.specs.declared.answer.Verdict.TheVariants.{Optimal, Impossible, Undecided}
+use Rattle.design_problem.specs.Bounds.{BoundsVerdict}
 use Rattle.evidence_text.specs.Parts.{verdict_line}
 use Rattle.answer_lines.proofs.heads.verdict_of.Goals as goal
 
@@ -12,7 +12,7 @@ none_said : (line : List ℕ) → line ≢ codes "verdict impossible" → ((n : 
     ((n : ℕ) → n ≤ 65535 → line ≢ codes "verdict undecided budget " ++ decimal n) → (verdict : Verdict) → BoundsVerdict verdict → line ≢ verdict_line verdict
 none_said line first second third (Optimal k) bounds e = second k (omega arith) e
 none_said line first second third Impossible bounds e = first e
-none_said line first second third (Budget cap) bounds e = third cap (omega arith) e
+none_said line first second third (Undecided cap) bounds e = third cap (omega arith) e
 
 pub returns-in_err-cap : goal.returns-in_err-cap
 returns-in_err-cap c =

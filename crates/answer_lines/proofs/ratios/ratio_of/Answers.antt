@@ -1,7 +1,7 @@
 use Rattle.std.proofs.Common.{arith, ap, ◌∙◌}
 use Rattle.std.specs.Int.{w128}
 use Rattle.std.proofs.lemmas.Int.{to_z-of_z, fits_signed_from_abs}
-use Rattle.path_rows.specs.Text.{integer}
+use Rattle.design_problem.specs.Text.{integer}
 use Rattle.answer_lines.proofs.RatioWords.{no_slash, same_slash, printed-above, printed-below, ratio_found}
 use Rattle.answer_lines.proofs.ratios.ratio_of.Goals as goal
 

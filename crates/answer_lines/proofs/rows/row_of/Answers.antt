@@ -1,5 +1,5 @@
 use Rattle.std.proofs.Common.{◌≡◌, ◌∷◌, ◌∙◌, map, codes, sym, ap, subst, refl, arith, ◌<◌, ◌^◌, All}
-use Rattle.path_rows.specs.Bounds.{IsThing}
+use Rattle.design_problem.specs.Bounds.{IsThing}
 use Rattle.cost_base.specs.Decimal.{decimal}
 use Rattle.answer_lines.specs.Words.{words_left}
 use Rattle.answer_lines.proofs.ListParts.{rest-is, more-is}

@@ -1,6 +1,6 @@
 use Rattle.std.proofs.Common.{◌↔◌, subst, ℕ, List, IsTrue}
 use Rattle.area_graph.specs.Paths.{Ends}
-use Rattle.area_graph.specs.Distances.{Leads}
+use Rattle.area_graph.specs.Distances.{OtherEdgesLeadToMore}
 use Rattle.area_graph.proofs.Leads.{leads_only}
 use Rattle.area_graph.proofs.only_cheapest.is_only_cheapest.Goals as goal
 
@@ -10,8 +10,8 @@ returns c =
     let point = c.args.point.now in
     let path = c.args.path.now.edges in
     let d = c.in_ok-distances.distances.items in
-    let ends : Ends = record { start = c.args.path.now.start; end = c.args.end; gone = c.args.gone.now } in
-    let leads = subst (λ (ds : List ℕ). IsTrue c.leads.result ↔ Leads graph point c.args.gone.now ds path) c.as_slice-2.ensures.value c.leads.ensures.leads in
+    let ends : Ends = record { start = c.args.path.now.start; end = c.args.end; excluded = c.args.excluded.now } in
+    let leads = subst (λ (ds : List ℕ). IsTrue c.leads.result ↔ OtherEdgesLeadToMore graph point c.args.excluded.now ds path) c.as_slice-2.ensures.value c.leads.ensures.leads in
     let only = leads_only graph point ends d path c.keeps_conditions.ensures.fits c.requires.fits
     c.in_ok-distances.ensures.count c.in_ok-distances.ensures.reached c.in_ok-distances.ensures.settled
     c.leads.ensures.below c.requires.path in

@@ -1,10 +1,10 @@
 use Rattle.std.proofs.Common.{◌≡◌, ◌↔◌, drop}
 use Rattle.area_graph.specs.Costs.{cost}
-use Rattle.area_graph.specs.Distances.{Leads}
+use Rattle.area_graph.specs.Distances.{OtherEdgesLeadToMore}
 use Rattle.area_graph.proofs.only_cheapest.leads.Given as goal
 
 abbrev pub invariant-loop-number : goal.invariant-loop-number
 invariant-loop-number l = record {
   rest : l.rest ≡ cost l.graph l.point (drop l.number-index l.path.edges);
-  same : Leads l.graph l.point l.removal l.distances l.path.edges ↔ Leads l.graph l.point l.removal l.distances (drop l.number-index l.path.edges);
+  same : OtherEdgesLeadToMore l.graph l.point l.removal l.distances l.path.edges ↔ OtherEdgesLeadToMore l.graph l.point l.removal l.distances (drop l.number-index l.path.edges);
 }

@@ -1,8 +1,8 @@
 use Rattle.std.proofs.Common.{All, take}
 use Rattle.area_graph.specs.Area.{edge_at, edges_out}
-use Rattle.area_graph.specs.Distances.{IsDearer}
+use Rattle.area_graph.specs.Distances.{LeadsToMore}
 use Rattle.area_graph.proofs.only_cheapest.others_are_dearer.Given as goal
 
 abbrev pub invariant-loop-other : goal.invariant-loop-other
 invariant-loop-other l =
-    All (IsDearer l.graph l.point l.removal l.distances l.named l.most) (take l.other-index (edges_out l.graph (edge_at l.graph l.named).from))
+    All (LeadsToMore l.graph l.point l.removal l.distances l.named l.most) (take l.other-index (edges_out l.graph (edge_at l.graph l.named).from))

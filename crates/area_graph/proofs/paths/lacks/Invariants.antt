@@ -3,4 +3,4 @@ use Rattle.cost_base.specs.Lists.{Lacks}
 use Rattle.area_graph.proofs.paths.lacks.Given as goal
 
 abbrev pub invariant-loop-other : goal.invariant-loop-other
-invariant-loop-other l = Lacks l.gone l.edge ↔ Lacks (drop l.other-index l.gone) l.edge
+invariant-loop-other l = Lacks l.excluded l.edge ↔ Lacks (drop l.other-index l.excluded) l.edge

@@ -1,20 +1,20 @@
 use Rattle.std.proofs.Common.{◌≡◌, false, subst}
-use Rattle.path_rows.specs.Text.{side_word}
-use Rattle.begun_lines.specs.BegunLines.{Alone, IsStep, IsNumber, vars, values, EndWords}
+use Rattle.design_problem.specs.Text.{side_word}
+use Rattle.begun_lines.specs.BegunLines.{Alone, IsWordStep, IsNumberInRange, vars, values, EndWords}
 use Rattle.begun_lines.proofs.BegunWords.{stops, goes}
 use Rattle.begun_lines.proofs.entries.ends_with_bound.Goals as goal
 
 pub returns-in_default-number : goal.returns-in_default-number
 returns-in_default-number c =
     goes (λ w. w ≡ side_word c.args.side) EndWords c.args.line c.in-Some.at_var
-    (subst (λ l. IsStep (λ w. w ≡ l) c.args.line c.in-Some.at_var) c.side_word.ensures c.in-Some.ensures)
+    (subst (λ l. IsWordStep (λ w. w ≡ l) c.args.line c.in-Some.at_var) c.side_word.ensures c.in-Some.ensures)
     (λ x. x) false
-    (stops (IsNumber vars) (Alone (IsNumber values)) c.in-Some.at_var c.in_default-number.ensures (λ x. x))
+    (stops (IsNumberInRange vars) (Alone (IsNumberInRange values)) c.in-Some.at_var c.in_default-number.ensures (λ x. x))
 
 pub returns : goal.returns
 returns c =
     goes (λ w. w ≡ side_word c.args.side) EndWords c.args.line c.in-Some.at_var
-    (subst (λ l. IsStep (λ w. w ≡ l) c.args.line c.in-Some.at_var) c.side_word.ensures c.in-Some.ensures)
+    (subst (λ l. IsWordStep (λ w. w ≡ l) c.args.line c.in-Some.at_var) c.side_word.ensures c.in-Some.ensures)
     (λ x. x) c.last_number.result
-    (goes (IsNumber vars) (Alone (IsNumber values)) c.in-Some.at_var c.in-Some-number.at_value c.in-Some-number.ensures
+    (goes (IsNumberInRange vars) (Alone (IsNumberInRange values)) c.in-Some.at_var c.in-Some-number.at_value c.in-Some-number.ensures
     (λ x. x) c.last_number.result c.last_number.ensures)

@@ -1,6 +1,6 @@
 use Rattle.std.proofs.Common.{◌≡◌}
-use Rattle.path_rows.specs.declared.tree.Side.TheVariants.{Low, High}
-use Rattle.path_rows.specs.Text.{side_word}
+use Rattle.design_problem.specs.declared.tree.Side.TheVariants.{Low, High}
+use Rattle.design_problem.specs.Text.{side_word}
 use Rattle.begun_lines.specs.BegunLines.{Then, IsSide, EndWords}
 use Rattle.begun_lines.proofs.BegunKinds.{first_holds, first_fails, then_as, then_either, either_side}
 use Rattle.begun_lines.proofs.entries.ends_with_bounds.Goals as goal

@@ -1,5 +1,5 @@
 use Rattle.std.proofs.Common.{◌≡◌, inl, inr}
-use Rattle.path_rows.specs.Text.{step_word}
+use Rattle.design_problem.specs.Text.{step_word}
 use Rattle.begun_lines.specs.BegunLines.{Then, IsEitherStep, BasisWords}
 use Rattle.begun_lines.proofs.BegunKinds.{first_holds, first_fails, then_as, then_either}
 use Rattle.begun_lines.proofs.entries.goes_on_with_either.Goals as goal

@@ -1,7 +1,7 @@
 use Rattle.std.proofs.Common.{◌≡◌, [], length, eqb, sym, subst, ap, ◌∙◌, arith}
 use Rattle.std.proofs.lemmas.Grind.{common_steps}
 use Rattle.cost_base.specs.Decimal.{decimal}
-use Rattle.begun_lines.specs.BegunLines.{IsMissing, IsNumber}
+use Rattle.begun_lines.specs.BegunLines.{IsMissing, IsNumberInRange}
 use Rattle.answer_lines.proofs.ListParts.{not-both}
 use Rattle.begun_lines.proofs.BegunNumbers.{missing_whole, missing_zero, missing_none, missing_more}
 use Rattle.begun_lines.proofs.numbers.missing_digits.Goals as goal
@@ -9,7 +9,7 @@ use Rattle.begun_lines.proofs.numbers.missing_digits.Goals as goal
 pub returns-then-is_empty : goal.returns-then-is_empty
 returns-then-is_empty c =
     let empty : c.args.word.now ≡ [] = grind (arith, common_steps) in
-    subst (λ w. IsMissing (IsNumber c.args.numbers) w c.all_digits.result) (sym empty)
+    subst (λ w. IsMissing (IsNumberInRange c.args.numbers) w c.all_digits.result) (sym empty)
     (missing_whole c.args.numbers c.all_digits.result c.requires.coprime c.all_digits.ensures)
 
 pub returns-in_err-begun : goal.returns-in_err-begun

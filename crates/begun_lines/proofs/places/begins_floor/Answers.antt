@@ -1,5 +1,5 @@
 use Rattle.std.proofs.Common.{◌↔◌, ◌⊎◌, IsTrue, codes, refl}
-use Rattle.begun_lines.specs.Begun.{IsFront}
+use Rattle.begun_lines.specs.Begun.{IsLineFront}
 use Rattle.begun_lines.proofs.TruthLaws.{through, either-first, either-second}
 use Rattle.begun_lines.proofs.BegunPlaces.{floor-begun}
 use Rattle.begun_lines.proofs.places.begins_floor.Goals.{then-begins_line, else-begins_line}
@@ -7,7 +7,7 @@ use Rattle.begun_lines.proofs.places.begins_floor.Goals as goal
 
 pub returns-else-begins_line-2 : goal.returns-else-begins_line-2
 returns-else-begins_line-2 c =
-    let early : IsTrue c.if-begins_line.value ↔ (IsFront c.args.rest.now (codes "floor none") ⊎ IsFront c.args.rest.now (codes "floor empty")) =
+    let early : IsTrue c.if-begins_line.value ↔ (IsLineFront c.args.rest.now (codes "floor none") ⊎ IsLineFront c.args.rest.now (codes "floor empty")) =
     elim c.if-begins_line.branch [
       | then-begins_line w ↦ either-first c.begins_line.result c.if-begins_line.value c.begins_line.ensures w.if-begins_line.true w.value-is
       | else-begins_line w ↦

@@ -2,7 +2,7 @@ use Rattle.std.proofs.Common.{◌≡◌, [], codes, length, eqb, subst, sym, ap,
 use Rattle.std.specs.Cmp.Lexicographic.{pointwise_decides}
 use Rattle.std.proofs.lemmas.Bool.Decides.{Decides-eqb}
 use Rattle.std.proofs.lemmas.Grind.{common_steps}
-use Rattle.begun_lines.specs.BegunLines.{IsLeast, IsRatio}
+use Rattle.begun_lines.specs.BegunLines.{IsLeastCompletion, IsRatio}
 use Rattle.answer_lines.proofs.ListParts.{not-both}
 use Rattle.begun_lines.proofs.BegunRatios.{least_nothing, least_minus, least_whole, never_whole}
 use Rattle.begun_lines.proofs.ratios.missing_of_numerator.Goals as goal
@@ -13,12 +13,12 @@ returns-then-is_empty c =
     elim c.then-is_empty.branch [
       | then-is_empty-via-then-is_empty w ↦
           let empty : c.args.word.now ≡ [] = grind (arith, common_steps) in
-          subst (λ l. IsLeast IsRatio l 3) (sym empty) least_nothing
+          subst (λ l. IsLeastCompletion IsRatio l 3) (sym empty) least_nothing
       | then-is_empty-via-else-is_empty+then-eq w ↦
           let minus : c.args.word.now ≡ codes "-" =
           (pointwise_decides Decides-eqb c.args.word.now w.as_slice.result.now).0 (sym w.if-eq.ensures)
           ∙ w.as_slice.ensures in
-          subst (λ l. IsLeast IsRatio l 3) (sym minus) least_minus
+          subst (λ l. IsLeastCompletion IsRatio l 3) (sym minus) least_minus
     ]
 
 pub returns-in_err-integer_of : goal.returns-in_err-integer_of

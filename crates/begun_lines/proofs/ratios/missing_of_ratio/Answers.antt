@@ -2,7 +2,7 @@ use Rattle.std.proofs.Common.{nat_abs, ◌≡◌, ◌^◌, ◌<◌, ◌↔◌, �
 use Rattle.std.specs.Int.{w128}
 use Rattle.std.proofs.lemmas.Int.{to_z-of_z, fits_signed_from_abs}
 use Rattle.whole_numbers.specs.Fractions.{gcd}
-use Rattle.begun_lines.specs.BegunLines.{IsAmong}
+use Rattle.begun_lines.specs.BegunLines.{IsCoprimeInRange}
 use Rattle.begun_lines.proofs.BegunRatios.{never_above, missing_below}
 use Rattle.begun_lines.proofs.ratios.missing_of_ratio.Goals as goal
 
@@ -18,5 +18,5 @@ returns-in_ok-numerator-in-Some c =
     let size = c.unsigned_abs.ensures.value ∙ ap nat_abs (to_z-of_z w128 numerator (fits_signed_from_abs w128 numerator stands.0)) in
     missing_below c.args.word.now c.in-Some.above.now c.in-Some.below.now numerator c.denominators.result
     c.missing_digits.result c.in-Some.ensures.parts c.in-Some.ensures.pieces stands.0 stands.1
-    (subst (λ s. (n : ℕ) → (IsAmong c.denominators.result n ↔ ((0 < n) × (n < 2 ^ 127) × (gcd s n ≡ 1)))) size
+    (subst (λ s. (n : ℕ) → (IsCoprimeInRange c.denominators.result n ↔ ((0 < n) × (n < 2 ^ 127) × (gcd s n ≡ 1)))) size
     c.denominators.ensures.among) c.missing_digits.ensures

@@ -2,7 +2,7 @@ use Rattle.std.proofs.Common.{◌≡◌, Some, [], ◌∷◌, ◌++◌, sym, sub
 use Rattle.std.proofs.lemmas.List.{append_cancel_right}
 use Rattle.std.proofs.lemmas.Slice.Eq.{strip_suffix_is}
 use Rattle.std.proofs.lemmas.Bool.Decides.{Decides-eqb}
-use Rattle.begun_lines.specs.Begun.{IsRowLine}
+use Rattle.begun_lines.specs.Begun.{IsLineOfRow}
 use Rattle.begun_lines.proofs.rows.begins_edge.Goals as goal
 
 pub returns-in-Some : goal.returns-in-Some
@@ -12,5 +12,5 @@ returns-in-Some c =
     (Some c.in-Some.line) c.in-Some.ensures.cases in
     let parts : c.args.rest.now ≡ c.in-Some.line.now ++ 32 ∷ [] = cut ∙ ap (λ bytes. c.in-Some.line.now ++ bytes) c.as_slice.ensures in (
       λ yes. (c.in-Some.line.now, c.is_row.ensures.0 yes, parts, c.if-rest-ge-LONGEST.false),
-      λ edge. c.is_row.ensures.1 (subst IsRowLine (append_cancel_right edge.0 c.in-Some.line.now (32 ∷ []) (sym edge.2 ∙ parts)) edge.1),
+      λ edge. c.is_row.ensures.1 (subst IsLineOfRow (append_cancel_right edge.0 c.in-Some.line.now (32 ∷ []) (sym edge.2 ∙ parts)) edge.1),
     )

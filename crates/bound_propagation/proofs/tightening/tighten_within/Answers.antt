@@ -3,10 +3,10 @@ use Rattle.std.specs.Int.{w128}
 use Rattle.std.specs.Prelude.{ℤ, pos, negsuc, nat_abs, ◌≤ℤ◌, AllPairs}
 use Rattle.std.proofs.lemmas.Bool.{cases_lt}
 use Rattle.std.proofs.lemmas.Int.{ints, to_z-of_z}
-use Rattle.path_rows.specs.declared.form.Term.{Term}
-use Rattle.path_rows.specs.declared.tree.Side.{Side}
-use Rattle.path_rows.proofs.TermLaws.{rising_from}
-use Rattle.path_rows.specs.Forms.{no_term}
+use Rattle.design_problem.specs.declared.form.Term.{Term}
+use Rattle.design_problem.specs.declared.tree.Side.{Side}
+use Rattle.design_problem.proofs.TermLaws.{rising_from}
+use Rattle.design_problem.specs.Forms.{no_term}
 use Rattle.bound_propagation.proofs.Tightenings.{place_of, exact_of_range, none_of_range, none_before}
 use Rattle.bound_propagation.proofs.tightening.tighten_within.Goals as goal
 

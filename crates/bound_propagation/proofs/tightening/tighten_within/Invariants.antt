@@ -1,5 +1,5 @@
 use Rattle.std.proofs.Common.{ℕ, ◌<◌, get_or}
-use Rattle.path_rows.specs.Forms.{no_term}
+use Rattle.design_problem.specs.Forms.{no_term}
 use Rattle.bound_propagation.specs.Tightening.{NoneAt}
 use Rattle.bound_propagation.proofs.tightening.tighten_within.Given as goal
 

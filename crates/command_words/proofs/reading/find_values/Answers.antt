@@ -3,7 +3,7 @@ use Rattle.clap.specs.Faults.{fault_of, is_simple_and_free}
 use Rattle.clap.specs.Simple.{app_of, is_simple, matches_of}
 use Rattle.clap.specs.Values.{kind_of}
 use Rattle.clap.specs.Walk.{is_empty}
-use Rattle.command_words.specs.Words.{texts}
+use Rattle.text_lines.specs.Arguments.{texts}
 use Rattle.command_words.proofs.Taken.{free_row, simple_row, some_fault}
 use Rattle.command_words.proofs.reading.find_values.Goals as goal
 

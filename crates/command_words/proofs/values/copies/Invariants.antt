@@ -1,6 +1,6 @@
 use Rattle.std.proofs.Common.{◌≡◌, take}
 use Rattle.command_words.specs.Forms.{now_texts}
-use Rattle.command_words.specs.Words.{texts}
+use Rattle.text_lines.specs.Arguments.{texts}
 use Rattle.command_words.proofs.values.copies.Given as goal
 
 -- the words so far are copied

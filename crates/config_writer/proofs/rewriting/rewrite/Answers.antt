@@ -1,6 +1,6 @@
 use Rattle.std.proofs.Common.{sym, subst, ◌≤◌, List, ℕ}
 use Rattle.std.proofs.lemmas.List.Elements.{All-map}
-use Rattle.path_rows.specs.declared.answer.CostLine.{CostLine}
+use Rattle.design_problem.specs.declared.answer.CostLine.{CostLine}
 use Rattle.config_writer.specs.Rewriting.{costs_of, ReadsBack}
 use Rattle.config_writer.proofs.ReadingBack.{reads_back, ok_both}
 use Rattle.config_writer.proofs.rewriting.rewrite.Goals as goal

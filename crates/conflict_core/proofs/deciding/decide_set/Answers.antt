@@ -1,8 +1,8 @@
 -- The cap is the greatest upper bound of the restricted problem, which is that of the whole one.
 use Rattle.std.proofs.Common.{◌≡◌, ◌∙◌, refl, ap}
-use Rattle.path_rows.specs.Problems.{DesignProblem}
-use Rattle.path_rows.specs.Rows.{greatest_cost}
-use Rattle.path_rows.specs.Answers.{greatest_bound}
+use Rattle.design_problem.specs.Problems.{DesignProblem}
+use Rattle.design_problem.specs.Rows.{greatest_cost}
+use Rattle.design_problem.specs.Answers.{greatest_bound}
 use Rattle.form_search.proofs.AdvisorLaws.{left_alike}
 use Rattle.conflict_core.proofs.Sets.{cap_above}
 use Rattle.conflict_core.proofs.deciding.decide_set.Goals as goal

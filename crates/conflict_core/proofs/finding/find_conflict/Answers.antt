@@ -2,7 +2,7 @@
 use Rattle.std.proofs.Common.{refl, subst}
 use Rattle.form_search.proofs.AdvisorLaws.{left_alike, left_then}
 use Rattle.conflict_core.specs.declared.deciding.Decided.{Decided}
-use Rattle.conflict_core.specs.declared.deciding.Decided.TheVariants.{Spent}
+use Rattle.conflict_core.specs.declared.deciding.Decided.TheVariants.{Undecided}
 use Rattle.conflict_core.specs.Deciding.{IsSetDecided}
 use Rattle.conflict_core.proofs.Sets.{all_set, fit_all}
 use Rattle.conflict_core.proofs.finding.find_conflict.Goals as goal
@@ -23,11 +23,11 @@ returns-in-Costs-clause-found g c =
 pub returns-in-Refuted-clause-advisors : goal.returns-in-Refuted-clause-advisors
 returns-in-Refuted-clause-advisors g c = left_then _ _ _ _ c.decide_set.ensures.advisors c.shrink.ensures.advisors
 
-pub returns-in-Spent-clause-found : goal.returns-in-Spent-clause-found
-returns-in-Spent-clause-found g c =
+pub returns-in-Undecided-clause-found : goal.returns-in-Undecided-clause-found
+returns-in-Undecided-clause-found g c =
     let p = c.args.problem.now in
     let limits = c.args.limits.now in
-    let found : IsSetDecided p limits.top limits.nodes c.in_ok-all.all.items (Spent c.in-Spent.set) =
-    subst (λ (d : Decided). IsSetDecided p limits.top limits.nodes c.in_ok-all.all.items d) c.in-Spent.is
+    let found : IsSetDecided p limits.top limits.nodes c.in_ok-all.all.items (Undecided c.in-Undecided.set) =
+    subst (λ (d : Decided). IsSetDecided p limits.top limits.nodes c.in_ok-all.all.items d) c.in-Undecided.is
     c.in_ok-costs.ensures.decided in
     c.unknown.ensures limits.top limits.nodes found.1

@@ -4,7 +4,7 @@ use Rattle.form_search.proofs.AdvisorLaws.{left_alike, left_then}
 use Rattle.conflict_core.specs.declared.shrinking.Shrunk.{Shrunk}
 use Rattle.conflict_core.specs.declared.shrinking.Tried.{Tried}
 use Rattle.conflict_core.specs.declared.shrinking.Tried.TheVariants.{On, Stuck}
-use Rattle.conflict_core.specs.Deciding.{IsTurned}
+use Rattle.conflict_core.specs.Deciding.{IsMemberTried}
 use Rattle.conflict_core.proofs.ShrinkingLaws.{not_tried}
 use Rattle.conflict_core.proofs.finding.shrink.Goals as goal
 
@@ -22,8 +22,8 @@ pub loop-shrunk-preserved : goal.loop-shrunk-preserved
 loop-shrunk-preserved g c =
     let p = c.args.problem.now in
     let limits = c.args.limits.now in
-    let turned : IsTurned p limits.top limits.nodes c.loop-shrunk.shrunk (On c.in-On.next) =
-    subst (λ (t : Tried). IsTurned p limits.top limits.nodes c.loop-shrunk.shrunk t) c.in-On.is
+    let turned : IsMemberTried p limits.top limits.nodes c.loop-shrunk.shrunk (On c.in-On.next) =
+    subst (λ (t : Tried). IsMemberTried p limits.top limits.nodes c.loop-shrunk.shrunk t) c.in-On.is
     c.in_ok-next.ensures.turned in
     record { shrunk = turned.0; advisors = left_then _ _ _ _ c.loop-shrunk.invariant.advisors c.leave_out.ensures.advisors }
 
@@ -31,8 +31,8 @@ pub returns-in-Stuck-clause-found : goal.returns-in-Stuck-clause-found
 returns-in-Stuck-clause-found g c =
     let p = c.args.problem.now in
     let limits = c.args.limits.now in
-    let turned : IsTurned p limits.top limits.nodes c.loop-shrunk.shrunk (Stuck c.in-Stuck.set) =
-    subst (λ (t : Tried). IsTurned p limits.top limits.nodes c.loop-shrunk.shrunk t) c.in-Stuck.is
+    let turned : IsMemberTried p limits.top limits.nodes c.loop-shrunk.shrunk (Stuck c.in-Stuck.set) =
+    subst (λ (t : Tried). IsMemberTried p limits.top limits.nodes c.loop-shrunk.shrunk t) c.in-Stuck.is
     c.in_ok-next.ensures.turned in
     c.unknown.ensures limits.top limits.nodes turned.0
 

@@ -1,10 +1,10 @@
 -- What comes of leaving out the next member.
 use Rattle.std.proofs.Common.{◌≡◌, ◌∙◌, refl, sym, subst, ap, ℕ, List, length}
-use Rattle.path_rows.specs.Problems.{restricted}
-use Rattle.path_rows.specs.Rows.{IsFit}
+use Rattle.design_problem.specs.Problems.{restricted}
+use Rattle.design_problem.specs.Rows.{IsFit}
 use Rattle.form_search.proofs.AdvisorLaws.{left_alike}
 use Rattle.conflict_core.specs.declared.deciding.Decided.{Decided}
-use Rattle.conflict_core.specs.declared.deciding.Decided.TheVariants.{Refuted, Spent}
+use Rattle.conflict_core.specs.declared.deciding.Decided.TheVariants.{Refuted, Undecided}
 use Rattle.conflict_core.specs.declared.deciding.SetTree.{SetTree}
 use Rattle.conflict_core.specs.declared.shrinking.Shrunk.{Shrunk}
 use Rattle.conflict_core.specs.Conflicts.{IsRequestSet}
@@ -51,16 +51,16 @@ returns-in-Refuted-clause-turned g c =
     (ap (λ (u : SetTree). u.members.items) conflict_is ∙ found.0 ∙ c.in_ok-others.ensures)
     (ap (λ (s : Shrunk). s.without.items) c.with_conflict.ensures)
 
-pub returns-in-Spent-clause-turned : goal.returns-in-Spent-clause-turned
-returns-in-Spent-clause-turned g c =
+pub returns-in-Undecided-clause-turned : goal.returns-in-Undecided-clause-turned
+returns-in-Undecided-clause-turned g c =
     let p = c.args.problem.now in
     let top = c.args.limits.now.top in
     let nodes = c.args.limits.now.nodes in
     let others = c.in_ok-others.others.items in
     let count = length c.args.shrunk.without.items in
-    let t = c.in-Spent.set in
-    let found : IsSetDecided p top nodes others (Spent t) =
-    subst (λ (d : Decided). IsSetDecided p top nodes others d) c.in-Spent.is c.in_ok-costs.ensures.decided in (
+    let t = c.in-Undecided.set in
+    let found : IsSetDecided p top nodes others (Undecided t) =
+    subst (λ (d : Decided). IsSetDecided p top nodes others d) c.in-Undecided.is c.in_ok-costs.ensures.decided in (
       found.1,
       less_one p top nodes c.args.shrunk t.members.items count c.keeps_conditions.ensures.problem
           c.requires.shrunk c.requires.left (found.0 ∙ c.in_ok-others.ensures),

@@ -1,7 +1,7 @@
 -- The rows of the pool get the whole problem's numbers, and those that the tree names are printed.
 use Rattle.std.proofs.Common.{List, subst, sym}
-use Rattle.path_rows.specs.declared.form.Row.{Row}
-use Rattle.printed_rows.specs.NewNumbers.{IsPrinted}
+use Rattle.design_problem.specs.declared.form.Row.{Row}
+use Rattle.printed_rows.specs.NewNumbers.{IsTreePrinted}
 use Rattle.conflict_core.specs.declared.telling.Told.{Told}
 use Rattle.conflict_core.proofs.Sets.{whole_are}
 use Rattle.conflict_core.proofs.TreesOfSets.{told_of_set, tree_names}
@@ -21,7 +21,7 @@ returns c = λ top nodes is.
     c.in_ok-rows.rows.items c.as_slice.ensures.value c.into_rows.ensures c.in_ok-rows.ensures in
     let sheet = c.in_ok-rows-2.field-0 in
     let told : Told = record { members = c.from_items.result; rows = c.from_items-2.result; tree = sheet.tree } in
-    let printed : IsPrinted c.in_ok-rows.rows.items t.tree told.rows told.tree =
-    subst (λ (rows : List Row). IsPrinted c.in_ok-rows.rows.items t.tree rows sheet.tree)
+    let printed : IsTreePrinted c.in_ok-rows.rows.items t.tree told.rows told.tree =
+    subst (λ (rows : List Row). IsTreePrinted c.in_ok-rows.rows.items t.tree rows sheet.tree)
     (sym c.from_items-2.ensures) c.in_ok-rows-2.ensures in
     told_of_set c.args.problem.now top nodes t c.in_ok-rows.rows.items told is rows_are printed c.from_items.ensures

@@ -1,7 +1,7 @@
 use Rattle.std.proofs.Common.{◌≡◌, refl, ◌∙◌, subst, ap, length}
-use Rattle.path_rows.specs.declared.form.CostBox.{CostBox}
-use Rattle.path_rows.specs.Rows.{LeadsEach}
-use Rattle.form_search.specs.Finds.{IsFound}
+use Rattle.design_problem.specs.declared.form.CostBox.{CostBox}
+use Rattle.design_problem.specs.Rows.{LeadsEach}
+use Rattle.form_search.specs.Finds.{IsSearchResult}
 use Rattle.form_search.proofs.AdvisorLaws.{left_alike}
 use Rattle.cost_branching.proofs.Caps.{decided, forms_back, no_more, rows_back, same_pool}
 use Rattle.cost_branching.proofs.one_cap.decide.Goals as goal
@@ -14,7 +14,7 @@ returns-in-Ok-clause-decided g c =
     let p = c.args.problem.now in
     let limits = c.args.limits.now in
     let pool = c.search_rivals.new.pool in
-    let IsFoundIn : CostBox → Type 0 = λ costs. IsFound (LeadsEach p) limits.top limits.nodes pool.forms costs c.in-Ok.found in
+    let IsFoundIn : CostBox → Type 0 = λ costs. IsSearchResult (LeadsEach p) limits.top limits.nodes pool.forms costs c.in-Ok.found in
     decided p limits.top limits.nodes c.args.cap pool c.in-Ok.found c.keeps_conditions.ensures.problem c.in-Ok.ensures.pool
     (subst IsFoundIn c.in_ok-costs.ensures.cut c.in-Ok.ensures.found)
 

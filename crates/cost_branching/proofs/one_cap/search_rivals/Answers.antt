@@ -2,8 +2,8 @@ use Rattle.std.proofs.Common.{refl, ◌∙◌, sym, subst}
 use Rattle.std.specs.Prelude.{All}
 use Rattle.std.proofs.lemmas.Result.{IfOk-weaker}
 use Rattle.form_search.proofs.AdvisorLaws.{left_alike}
-use Rattle.cost_branching.specs.Pools.{IsPool, Pooled}
-use Rattle.cost_branching.specs.Rivals.{IsTrueOf, KnownRows}
+use Rattle.cost_branching.specs.Pools.{IsRowPool, Pooled}
+use Rattle.cost_branching.specs.Rivals.{IsTrueRowForm, KnownRows}
 use Rattle.cost_branching.proofs.Caps.{pool_as, pool_true}
 use Rattle.cost_branching.proofs.one_cap.search_rivals.Goals as goal
 
@@ -13,16 +13,16 @@ returns-in_err-asker-clause-advisors g c = left_alike _ _ _ refl
 pub search-found-requires-clause-true_forms : goal.search-found-requires-clause-true_forms
 search-found-requires-clause-true_forms g c =
     let pool : Pooled = record { rows = c.pool.inside.rows.items; forms = c.pool.inside.forms } in
-    let is_pool = subst (IsPool c.args.problem.now) (sym c.pool.view_is) c.requires.pool in
-    subst (λ (s : KnownRows). All (IsTrueOf s.problem) pool.forms) (sym c.new-source.ensures)
+    let is_pool = subst (IsRowPool c.args.problem.now) (sym c.pool.view_is) c.requires.pool in
+    subst (λ (s : KnownRows). All (IsTrueRowForm s.problem) pool.forms) (sym c.new-source.ensures)
     (pool_true c.args.problem.now pool c.keeps_conditions.ensures is_pool)
 
 pub returns-clause-pool : goal.returns-clause-pool
 returns-clause-pool g c =
     let source = c.search-found.new.source in
     let forms = c.search-found.new.pool in
-    IfOk-weaker c.search-found.result (λ found. IsPool source.problem (record { rows = source.rows; forms = forms }))
-    (λ found. IsPool c.args.problem.now (record { rows = c.into_rows.result.items; forms = forms }))
+    IfOk-weaker c.search-found.result (λ found. IsRowPool source.problem (record { rows = source.rows; forms = forms }))
+    (λ found. IsRowPool c.args.problem.now (record { rows = c.into_rows.result.items; forms = forms }))
     (λ found in_step. pool_as c.args.problem.now source.problem source.rows c.into_rows.result.items forms
     (c.into_rows.ensures.problem ∙ sym c.requires.problem) c.into_rows.ensures.rows in_step)
     c.search-found.ensures.in_step

@@ -1,7 +1,7 @@
 use Rattle.std.proofs.Common.{◌+◌, ◌≤◌, Bool, List, [], length, sym, subst, append-nil, arith}
 use Rattle.form_search.specs.declared.source.Asked.{Asked}
-use Rattle.path_rows.specs.declared.form.Row.{Row}
-use Rattle.cost_branching.specs.Asking.{AreAskedAmong, IsAskedOf}
+use Rattle.design_problem.specs.declared.form.Row.{Row}
+use Rattle.cost_branching.specs.Asking.{AreAskedAmong, IsRequestAsked}
 use Rattle.cost_branching.specs.Rivals.{KnownRows}
 use Rattle.cost_branching.proofs.Asked.{all_asked_among, begun_more, more_lead_among, none_asked_among, one_added_among}
 use Rattle.cost_branching.proofs.rivals.ask_marked.Goals as goal
@@ -27,7 +27,7 @@ loop-request-preserved c =
     let now_forms = c.loop-request.pool in
     let new = known c.ask_one.new.rows.items in
     let new_forms = c.ask_one.new.pool in
-    let IsOne : Bool → Type 0 = λ b. IsAskedOf point request now now_forms new new_forms b in
+    let IsOne : Bool → Type 0 = λ b. IsRequestAsked point request now now_forms new new_forms b in
     let Then : Asked → Type 0 = λ a. AreAskedAmong point (request + 1) old forms new new_forms a in
     record {
       asker = c.ask_one.ensures.asker;

@@ -1,5 +1,5 @@
 use Rattle.std.proofs.Common.{◌∙◌, ap, List}
-use Rattle.path_rows.specs.declared.form.Row.{Row}
+use Rattle.design_problem.specs.declared.form.Row.{Row}
 use Rattle.cost_branching.specs.Rivals.{KnownRows}
 use Rattle.cost_branching.proofs.Asked.{too_cheap_as}
 use Rattle.cost_branching.proofs.rivals.ask_one.Goals as goal

@@ -1,5 +1,5 @@
 use Rattle.std.proofs.Common.{◌∙◌, ap}
-use Rattle.path_rows.specs.Problems.{DesignProblem}
+use Rattle.design_problem.specs.Problems.{DesignProblem}
 use Rattle.cost_branching.proofs.Asked.{too_cheap_or_leads}
 use Rattle.cost_branching.proofs.rivals.is_beaten.Goals as goal
 

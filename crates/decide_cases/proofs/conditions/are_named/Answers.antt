@@ -1,6 +1,6 @@
 use Rattle.std.proofs.Common.{◌≡◌, ℕ, Any, arith, rules, subst, inl, inr}
 use Rattle.std.proofs.lemmas.Bool.{cases_lt}
-use Rattle.path_rows.specs.declared.problem.VarName.{VarName}
+use Rattle.design_problem.specs.declared.problem.VarName.{VarName}
 use Rattle.decide_cases.proofs.conditions.are_named.Goals as goal
 
 pub loop-var-preserved : goal.loop-var-preserved

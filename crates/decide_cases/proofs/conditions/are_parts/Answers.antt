@@ -4,7 +4,7 @@ use Rattle.decide_cases.proofs.conditions.are_parts.Goals as goal
 pub returns : goal.returns
 returns c = λ yes. record {
   paths = λ k d k_in. (c.are_requests.ensures.each yes k d k_in).0;
-  gone = λ k d k_in. (c.are_requests.ensures.each yes k d k_in).1;
+  excluded = λ k d k_in. (c.are_requests.ensures.each yes k d k_in).1;
   low_count = search rules;
   var_count = search rules;
   ordered = search rules;

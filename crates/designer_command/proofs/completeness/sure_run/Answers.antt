@@ -1,5 +1,5 @@
 -- No count of theirs rises.
-use Rattle.command_words.specs.Words.{texts}
+use Rattle.text_lines.specs.Arguments.{texts}
 use Rattle.designer_command.proofs.CompletenessLaws.{sure_shelf, sure_sink}
 use Rattle.designer_command.proofs.completeness.sure_run.Goals as goal
 

@@ -6,21 +6,24 @@ use Rattle.cost_base.specs.declared.Status.TheVariants as status
 use Rattle.command_words.specs.declared.job.WordsStop.{WordsStop}
 use Rattle.command_words.specs.Jobs.{JobRead, seen}
 use Rattle.command_words.specs.Commands.{job_of}
-use Rattle.command_words.specs.Words.{texts}
+use Rattle.text_lines.specs.Arguments.{texts}
 use Rattle.report_writer.specs.Reports.{bytes_in}
 use Rattle.designer_command.specs.Usage.{usage}
 use Rattle.designer_command.specs.Runs.{MayWrite, Writes}
-use Rattle.designer_command.proofs.Runs.{made_meets, written_meets, writes_none}
+use Rattle.designer_command.proofs.Runs.{job_done, made_meets, written_meets, writes_none}
+use Rattle.report_writer.proofs.Cuts.{made_by_pieces, none_by_pieces, text_by_pieces}
 use Rattle.report_writer.proofs.ReportLaws.{may_report}
 use Rattle.designer_command.proofs.top_call.run.Goals as goal
 
 pub returns-in-Ok : goal.returns-in-Ok
 returns-in-Ok g c =
     let a = c.args.shelf.now in
-    let b = c.job_report.new.shelf in
+    let b = c.job_report-made.new.shelf in
     let o = c.args.out.now in
     let p = c.write_made.new.out in
-    let did = c.job_report.ensures.reported in
+    let did =
+    job_done (g.S.Shelf.gave a b) (seen c.in-Ok.job) c.job_report-made.result c.report_of.result c.job_report-made.ensures.made
+    c.report_of.ensures in
     record {
       meets = record {
         came = did.came;
@@ -32,17 +35,18 @@ returns-in-Ok g c =
             (g.K.Sink.got p) (g.K.Sink.faults o) (g.K.Sink.faults p) c.write_made.result)
             (sym c.in-Ok.ensures.job)
             (made_meets (p ≡ o) (MayWrite (Some (seen c.in-Ok.job)) did.came) (g.K.Sink.handed o p) (g.K.Sink.got o)
-            (g.K.Sink.got p) (g.K.Sink.faults o) (g.K.Sink.faults p) c.job_report.result c.write_made.result
+            (g.K.Sink.got p) (g.K.Sink.faults o) (g.K.Sink.faults p) c.report_of.result c.write_made.result
             (writes_none (Some (seen c.in-Ok.job)) did.came) (g.met.K.Sink.handed_got o p)
             (λ same. record {
               written = subst (λ sink. g.K.Sink.handed o sink []) (sym same)
                   (g.met.K.Sink.handed_none o);
               same = ap (λ sink. g.K.Sink.got sink) same;
             })
-            did.so c.write_made.ensures);
+            did.so c.write_made.ensures.written);
       };
+      pieces = made_by_pieces g.K.Sink.handed o p c.report_of.result c.write_made.result c.write_made.ensures.pieces;
       held = g.met.S.Shelf.gave_held a b did.came did.given;
-      advisors = c.job_report.ensures.advisors;
+      advisors = c.job_report-made.ensures.advisors;
     }
 
 pub returns-in-Err-Refused-clause-meets : goal.returns-in-Err-Refused-clause-meets
@@ -64,11 +68,19 @@ returns-in-Err-Refused-clause-meets g c =
           (may_report (MayWrite (job_of words) []) status.WordsRefused usage c.usage_report.result
           c.usage_report.ensures (subst (λ (job : Option JobRead). MayWrite job [] status.WordsRefused usage)
           (sym none) (refl, refl)))
-          c.write_report.ensures;
+          c.write_report.ensures.written;
     }
+
+pub returns-in-Err-Refused-clause-pieces : goal.returns-in-Err-Refused-clause-pieces
+returns-in-Err-Refused-clause-pieces g c =
+    text_by_pieces g.K.Sink.handed c.args.out.now c.write_report.new.out c.usage_report.result.text
+    c.write_report.result c.write_report.ensures.pieces
 
 pub returns-in-Err-Refused-clause-advisors : goal.returns-in-Err-Refused-clause-advisors
 returns-in-Err-Refused-clause-advisors g c = left_alike _ _ _ refl
+
+pub returns-in-Err-OutOfMemory-clause-pieces : goal.returns-in-Err-OutOfMemory-clause-pieces
+returns-in-Err-OutOfMemory-clause-pieces g c = none_by_pieces g.K.Sink.handed c.args.out.now c.args.out.now _ refl
 
 pub returns-in-Err-OutOfMemory-clause-advisors : goal.returns-in-Err-OutOfMemory-clause-advisors
 returns-in-Err-OutOfMemory-clause-advisors g c = left_alike _ _ _ refl

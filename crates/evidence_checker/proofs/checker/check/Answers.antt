@@ -1,12 +1,12 @@
 use Rattle.std.proofs.Common.{List, ◌∷◌, subst}
 use Rattle.std.specs.Prelude.{All, Option}
-use Rattle.path_rows.specs.declared.answer.Costs.{Costs}
-use Rattle.path_rows.specs.declared.answer.CapTree.{CapTree}
-use Rattle.path_rows.specs.declared.form.Row.{Row}
-use Rattle.path_rows.specs.Answers.{AnswerParts}
-use Rattle.path_rows.specs.Rows.{IsRow}
-use Rattle.path_rows.specs.contracts.answer.Answer.{the_view}
-use Rattle.path_rows.proofs.ProblemTrees.{valid_holds}
+use Rattle.design_problem.specs.declared.answer.Costs.{Costs}
+use Rattle.design_problem.specs.declared.answer.CapTree.{CapTree}
+use Rattle.design_problem.specs.declared.form.Row.{Row}
+use Rattle.design_problem.specs.Answers.{AnswerParts}
+use Rattle.design_problem.specs.Rows.{IsRow}
+use Rattle.design_problem.specs.contracts.answer.Answer.{the_view}
+use Rattle.design_problem.proofs.ProblemTrees.{valid_holds}
 use Rattle.evidence_checker.specs.Laws.{IsAcceptedAs, RefusesInvalid, CostsHold, ProofHolds}
 use Rattle.evidence_checker.specs.Refusals.{AtFirstItem, StopsBy}
 use Rattle.evidence_checker.specs.Tests.{cost_tests, row_tests, proof_tests, tests}

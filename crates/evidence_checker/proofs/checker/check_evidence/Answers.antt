@@ -1,7 +1,7 @@
 use Rattle.std.proofs.Common.{ap, [], ◌∷◌}
 use Rattle.std.specs.Option.{option_copied}
 use Rattle.std.proofs.lemmas.Result.{IfErr-weaker}
-use Rattle.path_rows.specs.Boxes.{capped}
+use Rattle.design_problem.specs.Boxes.{capped}
 use Rattle.evidence_checker.specs.Refusals.{AtFirstItem, StopsBy}
 use Rattle.evidence_checker.specs.Tests.{AtFirstLine, row_tests, proof_tests}
 use Rattle.evidence_checker.proofs.AnswerLaws.{stops_proof}

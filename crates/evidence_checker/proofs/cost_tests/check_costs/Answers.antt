@@ -1,8 +1,8 @@
 use Rattle.std.proofs.Common.{◌∙◌, length, [], ◌∷◌}
 use Rattle.std.proofs.lemmas.Result.{IfErr-weaker}
 use Rattle.std.specs.Prelude.{Some}
-use Rattle.path_rows.specs.declared.answer.Verdict.TheVariants.{Optimal}
-use Rattle.evidence_checker.specs.Refusals.{OnWhole, StopsBy}
+use Rattle.design_problem.specs.declared.answer.Verdict.TheVariants.{Optimal}
+use Rattle.evidence_checker.specs.Refusals.{AtNoPlace, StopsBy}
 use Rattle.evidence_checker.specs.Tests.{cost_tests, IsFalseFloor}
 use Rattle.evidence_checker.proofs.CostLaws.{given_count}
 use Rattle.evidence_checker.proofs.CostTests.{err_stops, stops_ends, stops_bounds, stops_greatest, stops_paths, stops_floor}
@@ -61,7 +61,7 @@ returns-in_err-check_paths-clause-first c =
 pub returns-clause-first : goal.returns-clause-first
 returns-clause-first c =
     IfErr-weaker c.check_floor.result
-    (StopsBy (OnWhole 52 (IsFalseFloor c.args.problem.now c.args.greatest c.args.floor) ∷ []))
+    (StopsBy (AtNoPlace 52 (IsFalseFloor c.args.problem.now c.args.greatest c.args.floor) ∷ []))
     (StopsBy (cost_tests c.args.problem.now (Optimal c.args.greatest) (Some c.args.costs.now) c.args.floor))
     (λ s stops. stops_floor c.args.problem.now c.args.greatest c.args.costs.now c.args.floor c.as_slice-lines.result.now
     c.as_slice-values.result.now s c.as_slice-lines.ensures (c.as_slice-values.ensures.value

@@ -1,8 +1,8 @@
 use Rattle.std.proofs.Common.{◌∙◌, sym, ap, length, subst, List}
 use Rattle.std.specs.Prelude.{Some}
 use Rattle.std.proofs.lemmas.Slice.Zip.{AllZip-long}
-use Rattle.path_rows.specs.declared.problem.VarName.{VarName}
-use Rattle.evidence_checker.specs.Refusals.{IsFirst}
+use Rattle.design_problem.specs.declared.problem.VarName.{VarName}
+use Rattle.evidence_checker.specs.Refusals.{IsFirstPlace}
 use Rattle.evidence_checker.specs.Tests.{HasUnequalEnds}
 use Rattle.evidence_checker.proofs.CostLaws.{given_count, known_names, given_moved, ends_equal}
 use Rattle.evidence_checker.proofs.StopLaws.{stop_at}
@@ -27,7 +27,7 @@ first_unequal-requires-clause-given c =
 pub returns-in-Some-clause-first : goal.returns-in-Some-clause-first
 returns-in-Some-clause-first c =
     stop_at (HasUnequalEnds c.args.problem.now.vars c.args.lines.now) 53 c.in-Some.var c.from.result c.from.ensures
-    (subst (λ (ns : List VarName). IsFirst (HasUnequalEnds ns c.args.lines.now) (Some c.in-Some.var)) c.names_of.ensures c.in-Some.ensures)
+    (subst (λ (ns : List VarName). IsFirstPlace (HasUnequalEnds ns c.args.lines.now) (Some c.in-Some.var)) c.names_of.ensures c.in-Some.ensures)
 
 pub returns-in-None-clause-names : goal.returns-in-None-clause-names
 returns-in-None-clause-names c =

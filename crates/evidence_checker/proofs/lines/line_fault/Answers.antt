@@ -1,5 +1,5 @@
 use Rattle.std.proofs.Common.{sym, ◌∙◌, ap}
-use Rattle.path_rows.specs.declared.tree.Entry.TheVariants.{Refute}
+use Rattle.design_problem.specs.declared.tree.Entry.TheVariants.{Refute}
 use Rattle.evidence_checker.proofs.LineLaws.{refute_line}
 use Rattle.evidence_checker.proofs.lines.line_fault.Goals as goal
 

@@ -1,5 +1,5 @@
 use Rattle.std.proofs.Common.{ℕ, ◌<◌, get_or}
-use Rattle.path_rows.specs.declared.problem.Request.{Request}
+use Rattle.design_problem.specs.declared.problem.Request.{Request}
 use Rattle.evidence_checker.specs.Costs.{IsOnlyAt}
 use Rattle.evidence_checker.proofs.paths.first_not_only.Given as goal
 

@@ -1,8 +1,8 @@
 use Rattle.std.proofs.Common.{length, inl, subst, sym}
 use Rattle.std.specs.Prelude.{All, List}
 use Rattle.std.proofs.lemmas.List.Elements.{All-push}
-use Rattle.path_rows.specs.Rows.{IsRow, form_of_row}
-use Rattle.path_rows.specs.Forms.{Form, IsSmallForm}
+use Rattle.design_problem.specs.Rows.{IsRow, form_of_row}
+use Rattle.design_problem.specs.Forms.{Form, IsSmallForm}
 use Rattle.evidence_checker.specs.Numbers.{number_of}
 use Rattle.evidence_checker.proofs.RowLaws.{first_goes_on, first_is_here, forms_more, rows_more, at_none, at_some}
 use Rattle.evidence_checker.proofs.rows.forms_of.Goals as goal

@@ -1,8 +1,8 @@
 use Rattle.std.proofs.Common.{◌≡◌, ℕ, ◌<◌, length, map, take, get_or}
 use Rattle.std.specs.Prelude.{All}
-use Rattle.path_rows.specs.declared.form.Row.{Row}
-use Rattle.path_rows.specs.Forms.{IsSmallForm}
-use Rattle.path_rows.specs.Rows.{IsRow, form_of_row}
+use Rattle.design_problem.specs.declared.form.Row.{Row}
+use Rattle.design_problem.specs.Forms.{IsSmallForm}
+use Rattle.design_problem.specs.Rows.{IsRow, form_of_row}
 use Rattle.evidence_checker.proofs.RowLaws.{FirstIsLeft}
 use Rattle.evidence_checker.proofs.rows.forms_of.Given as goal
 

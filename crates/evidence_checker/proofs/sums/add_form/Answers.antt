@@ -4,9 +4,9 @@ use Rattle.std.specs.Prelude.{ℤ, pos, nat_abs, sum_by, ◌+ℤ◌, ◌*ℤ◌}
 use Rattle.std.proofs.lemmas.Int.{ints, to_z-of_z}
 use Rattle.std.proofs.lemmas.List.{at_drop_all}
 use Rattle.std.proofs.Math.ListN.{length-set}
-use Rattle.path_rows.specs.declared.form.Term.{Term}
-use Rattle.path_rows.proofs.TermLaws.{sizes_from}
-use Rattle.path_rows.specs.Forms.{no_term}
+use Rattle.design_problem.specs.declared.form.Term.{Term}
+use Rattle.design_problem.proofs.TermLaws.{sizes_from}
+use Rattle.design_problem.specs.Forms.{no_term}
 use Rattle.evidence_checker.proofs.SumLaws.{each_more, size_more, sum_at, sum_is_coefficient}
 use Rattle.evidence_checker.proofs.sums.add_form.Goals as goal
 

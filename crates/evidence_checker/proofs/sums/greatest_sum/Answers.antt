@@ -3,8 +3,8 @@ use Rattle.std.specs.Int.{w128}
 use Rattle.std.specs.Prelude.{ℤ, pos, nat_abs}
 use Rattle.std.proofs.lemmas.Int.{ints, to_z-of_z}
 use Rattle.std.proofs.lemmas.List.Sums.{sum_by-drop_more}
-use Rattle.path_rows.specs.Boxes.{upper}
-use Rattle.path_rows.proofs.UpperSums.{upper_sum-more}
+use Rattle.design_problem.specs.Boxes.{upper_term}
+use Rattle.design_problem.proofs.UpperSums.{upper_sum-more}
 use Rattle.whole_numbers.proofs.Sizes.{sum_size}
 use Rattle.evidence_checker.proofs.sums.greatest_sum.Goals as goal
 
@@ -13,7 +13,7 @@ loop-i-preserved c =
     let i = c.loop-i.i in
     let coefficient = get_or c.args.coefficients.now i (pos 0) in
     let fits : SFits w128 coefficient = search rules in
-    let term = ap (λ (z : ℤ). upper z (get_or c.args.low.now i 0) (get_or c.args.high.now i 0)) (to_z-of_z w128 coefficient fits) in
+    let term = ap (λ (z : ℤ). upper_term z (get_or c.args.low.now i 0) (get_or c.args.high.now i 0)) (to_z-of_z w128 coefficient fits) in
     let more = upper_sum-more c.args.coefficients.now c.args.low.now c.args.high.now i c.loop-i-test.true c.requires.low c.requires.high in
     let split = sum_by-drop_more nat_abs c.args.coefficients.now i (pos 0) c.loop-i-test.true in
     let sized = sum_size c.loop-i.sum c.greatest_term-sum.result in

@@ -1,6 +1,6 @@
 use Rattle.std.proofs.Common.{◌≡◌, ◌+◌, ◌*◌, ◌^◌, ◌<◌, drop, take}
 use Rattle.std.specs.Prelude.{◌+ℤ◌, nat_abs, sum_by}
-use Rattle.path_rows.specs.Boxes.{upper_sum}
+use Rattle.design_problem.specs.Boxes.{upper_sum}
 use Rattle.evidence_checker.proofs.sums.greatest_sum.Given as goal
 
 abbrev pub invariant-loop-i : goal.invariant-loop-i

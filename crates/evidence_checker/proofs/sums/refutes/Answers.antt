@@ -2,8 +2,8 @@ use Rattle.std.proofs.Common.{ℕ, ◌+◌, ◌*◌, ◌^◌, ◌<◌, ◌∙◌
 use Rattle.std.specs.Int.{w128}
 use Rattle.std.specs.Prelude.{ℤ, ◌+ℤ◌, nat_abs, sum_by}
 use Rattle.std.proofs.lemmas.Int.{to_z-of_z}
-use Rattle.path_rows.specs.Boxes.{upper_sum}
-use Rattle.path_rows.specs.Forms.{weighted, IsSmallForm}
+use Rattle.design_problem.specs.Boxes.{upper_sum}
+use Rattle.design_problem.specs.Forms.{weighted, IsSmallForm}
 use Rattle.evidence_checker.proofs.Sizes.{negative_iff}
 use Rattle.evidence_checker.proofs.PartLaws.{made_fits, made_greatest}
 use Rattle.evidence_checker.proofs.sums.refutes.Goals as goal

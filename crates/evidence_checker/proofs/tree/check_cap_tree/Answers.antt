@@ -1,4 +1,4 @@
-use Rattle.path_rows.specs.Boxes.{capped}
+use Rattle.design_problem.specs.Boxes.{capped}
 use Rattle.evidence_checker.proofs.WalkLaws.{stop_moved}
 use Rattle.evidence_checker.proofs.tree.check_cap_tree.Goals as goal
 

@@ -2,11 +2,11 @@ use Rattle.std.proofs.Common.{◌≡◌, ℕ, ◌+◌, sym, ◌∙◌, ap, subst
 use Rattle.std.specs.Prelude.{false}
 use Rattle.std.proofs.lemmas.List.Elements.{All-cons, All-nil}
 use Rattle.cost_base.specs.Order.{FirstOf}
-use Rattle.path_rows.specs.Forms.{IsSmallForm}
-use Rattle.path_rows.specs.Stack.{OpenBoxes}
-use Rattle.path_rows.specs.declared.form.CostBox.{CostBox}
-use Rattle.path_rows.specs.declared.tree.Entry.{Entry}
-use Rattle.path_rows.specs.Trees.{SoundAt, is_undone}
+use Rattle.design_problem.specs.Forms.{IsSmallForm}
+use Rattle.design_problem.specs.Stack.{OpenBoxes}
+use Rattle.design_problem.specs.declared.form.CostBox.{CostBox}
+use Rattle.design_problem.specs.declared.tree.Entry.{Entry}
+use Rattle.design_problem.specs.Trees.{SoundAt, is_undone}
 use Rattle.evidence_checker.specs.Numbers.{number_of}
 use Rattle.evidence_checker.specs.Tests.{line_tests}
 use Rattle.evidence_checker.proofs.Choices.{when_true, when_false}

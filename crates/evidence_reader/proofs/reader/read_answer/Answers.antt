@@ -1,7 +1,7 @@
 use Rattle.std.proofs.Common.{◌≡◌, List, [], All, sym, subst}
 use Rattle.std.proofs.lemmas.Result.{err_from_is_err_and}
-use Rattle.path_rows.specs.declared.form.Row.{Row}
-use Rattle.path_rows.specs.Answers.{AnswerParts}
+use Rattle.design_problem.specs.declared.form.Row.{Row}
+use Rattle.design_problem.specs.Answers.{AnswerParts}
 use Rattle.answer_lines.specs.Grammar.{AtHead, AtRows, AtRow, AfterEnd}
 use Rattle.answer_lines.specs.Lawful.{IsRead}
 use Rattle.answer_lines.specs.Going.{Goes}

@@ -1,7 +1,7 @@
 use Rattle.std.proofs.Common.{◌++◌, ◌∷◌, [], Option, sym, subst}
 use Rattle.std.proofs.lemmas.Result.{err_from_is_err_and, MatchResult-weaker}
-use Rattle.path_rows.specs.declared.answer.Costs.{Costs}
-use Rattle.path_rows.specs.Text.{costs_lines, FitsCosts}
+use Rattle.design_problem.specs.declared.answer.Costs.{Costs}
+use Rattle.design_problem.specs.Text.{costs_lines, FitsCosts}
 use Rattle.answer_lines.specs.Grammar.{AtCosts, AtRows}
 use Rattle.answer_lines.specs.Going.{Goes}
 use Rattle.evidence_text.specs.Parts.{floor_line}

@@ -1,7 +1,7 @@
 use Rattle.std.proofs.Common.{◌++◌, ◌∷◌, [], List, All, None, refl, sym, subst}
 use Rattle.std.proofs.lemmas.Result.{err_from_is_err_and}
-use Rattle.path_rows.specs.declared.answer.CostLine.{CostLine}
-use Rattle.path_rows.specs.Text.{cost_lines, FitsCostLine}
+use Rattle.design_problem.specs.declared.answer.CostLine.{CostLine}
+use Rattle.design_problem.specs.Text.{cost_lines, FitsCostLine}
 use Rattle.answer_lines.specs.Grammar.{AtSections, AtRows}
 use Rattle.answer_lines.specs.Going.{Goes}
 use Rattle.evidence_text.specs.Parts.{floor_line}

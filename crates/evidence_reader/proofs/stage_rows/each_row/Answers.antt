@@ -1,6 +1,6 @@
 use Rattle.std.proofs.Common.{◌≡◌, ◌+◌, ◌-◌, List, [], All, ap, sym, subst, length, length-append, ◌∷◌, arith}
 use Rattle.std.proofs.lemmas.Result.{err_from_is_err_and}
-use Rattle.path_rows.specs.declared.form.Row.{Row}
+use Rattle.design_problem.specs.declared.form.Row.{Row}
 use Rattle.std.proofs.lemmas.List.Elements.{All-nil}
 use Rattle.answer_lines.proofs.NumberWords.{All-more}
 use Rattle.evidence_reader.proofs.CountedLines.{rows_begin, row_more, row_stop, rows_done}

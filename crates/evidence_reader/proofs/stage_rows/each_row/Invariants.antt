@@ -1,5 +1,5 @@
 use Rattle.std.proofs.Common.{◌≡◌, ◌-◌, All, length, map}
-use Rattle.path_rows.specs.Text.{row_line}
+use Rattle.design_problem.specs.Text.{row_line}
 use Rattle.answer_lines.specs.Grammar.{AtRow}
 use Rattle.answer_lines.specs.Going.{Goes}
 use Rattle.evidence_reader.proofs.stage_rows.each_row.Given as goal

@@ -2,8 +2,8 @@ use Rattle.std.proofs.Common.{◌++◌, ℕ, List, All, None, Some, ap, sym, sub
 use Rattle.std.specs.Option.{option_copied}
 use Rattle.std.proofs.lemmas.Result.{err_from_is_err_and}
 use Rattle.std.proofs.lemmas.List.Elements.{All-nil}
-use Rattle.path_rows.specs.declared.answer.CostLine.{CostLine}
-use Rattle.path_rows.specs.Text.{router_lines, cost_lines, FitsCostLine}
+use Rattle.design_problem.specs.declared.answer.CostLine.{CostLine}
+use Rattle.design_problem.specs.Text.{router_lines, cost_lines, FitsCostLine}
 use Rattle.evidence_reader.specs.Stages.{words_lines}
 use Rattle.answer_lines.specs.Grammar.{AtSections}
 use Rattle.answer_lines.specs.Going.{Goes}

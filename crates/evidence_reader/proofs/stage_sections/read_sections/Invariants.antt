@@ -2,7 +2,7 @@ use Rattle.std.proofs.Common.{◌≡◌, All, None, length}
 use Rattle.std.specs.Prelude.{IfSome}
 use Rattle.std.specs.Option.{option_copied}
 use Rattle.cost_base.specs.Words.{IsOneWord}
-use Rattle.path_rows.specs.Text.{cost_lines, FitsCostLine}
+use Rattle.design_problem.specs.Text.{cost_lines, FitsCostLine}
 use Rattle.answer_lines.specs.Grammar.{AtSections}
 use Rattle.answer_lines.specs.Going.{Goes}
 use Rattle.evidence_reader.proofs.SectionLines.{router_before}

@@ -1,9 +1,9 @@
 use Rattle.std.proofs.Common.{◌≡◌, suc, ◌+◌, ◌-◌, [], ◌∷◌, subst, arith}
 use Rattle.std.proofs.lemmas.Result.{MatchResult-weaker}
-use Rattle.path_rows.specs.Text.{entry_line}
-use Rattle.path_rows.specs.Trees.{subtree_count}
+use Rattle.design_problem.specs.Text.{entry_line}
+use Rattle.design_problem.specs.Trees.{subtree_count}
 use Rattle.answer_lines.specs.Grammar.{AtTree}
-use Rattle.evidence_reader.specs.Stops.{Stops}
+use Rattle.evidence_reader.specs.Stops.{StopsReader}
 use Rattle.answer_lines.specs.Going.{Goes}
 use Rattle.evidence_reader.proofs.TreeLines.{shut_full, one_place}
 use Rattle.evidence_reader.proofs.stage_trees.entry_at.Goals as goal
@@ -27,4 +27,4 @@ returns c =
       subst (λ n. Goes (AtTree part n (suc left)) text (entry_line r.0 ∷ [])
           (AtTree part (subtree_count r.0 + (places - 1)) left) r.1) same h.1,
     ))
-    (λ stop h. subst (λ n. Stops (AtTree part n (suc left)) text stop) same h)
+    (λ stop h. subst (λ n. StopsReader (AtTree part n (suc left)) text stop) same h)

@@ -1,9 +1,9 @@
 use Rattle.std.proofs.Common.{◌≡◌, ◌≢◌, ◌+◌, ◌-◌, List, [], ◌∷◌, All, ap, sym, subst, length, length-append, map, arith}
 use Rattle.std.proofs.lemmas.Result.{err_from_is_err_and}
 use Rattle.std.proofs.lemmas.List.Elements.{All-nil}
-use Rattle.path_rows.specs.declared.tree.Entry.{Entry}
-use Rattle.path_rows.specs.Text.{entry_line, FitsEntry}
-use Rattle.path_rows.specs.Trees.{subtree_count}
+use Rattle.design_problem.specs.declared.tree.Entry.{Entry}
+use Rattle.design_problem.specs.Text.{entry_line, FitsEntry}
+use Rattle.design_problem.specs.Trees.{subtree_count}
 use Rattle.answer_lines.specs.Grammar.{AtTree}
 use Rattle.answer_lines.specs.Going.{Goes}
 use Rattle.evidence_text.specs.declared.TreePart.TheVariants.{Proof}

@@ -1,5 +1,5 @@
 use Rattle.std.proofs.Common.{◌≡◌, ◌+◌, ◌-◌, ◌≤◌, All, length, map}
-use Rattle.path_rows.specs.Text.{entry_line, FitsEntry}
+use Rattle.design_problem.specs.Text.{entry_line, FitsEntry}
 use Rattle.answer_lines.specs.Grammar.{AtTree}
 use Rattle.answer_lines.specs.Going.{Goes}
 use Rattle.evidence_text.specs.declared.TreePart.{TreePart}

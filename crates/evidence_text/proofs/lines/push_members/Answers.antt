@@ -1,6 +1,6 @@
 use Rattle.std.proofs.Common.{◌+◌, ◌∙◌, drop, get_or, sym}
-use Rattle.path_rows.specs.declared.tree.Member.TheVariants.{Low}
-use Rattle.path_rows.specs.Text.{member_words, members_words}
+use Rattle.design_problem.specs.declared.tree.Member.TheVariants.{Low}
+use Rattle.design_problem.specs.Text.{member_words, members_words}
 use Rattle.evidence_text.specs.Lines.{with_words}
 use Rattle.evidence_text.proofs.WordLaws.{members_turn, room_left}
 use Rattle.evidence_text.proofs.lines.push_members.Goals as goal

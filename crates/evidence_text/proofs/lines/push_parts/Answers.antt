@@ -1,6 +1,6 @@
 use Rattle.std.proofs.Common.{◌≡◌, ◌+◌, ◌∙◌, ◌∷◌, ◌++◌, ◌≤◌, ℕ, List, length, drop, get_or, sym, subst, ap, arith, length-append}
 use Rattle.cost_base.specs.Decimal.{decimal}
-use Rattle.path_rows.specs.Text.{part_words}
+use Rattle.design_problem.specs.Text.{part_words}
 use Rattle.evidence_text.proofs.WordLaws.{parts_turn, room_left}
 use Rattle.evidence_text.proofs.lines.push_parts.Goals as goal
 

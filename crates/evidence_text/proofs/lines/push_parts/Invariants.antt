@@ -1,5 +1,5 @@
 use Rattle.std.proofs.Common.{◌≡◌, drop}
-use Rattle.path_rows.specs.Text.{part_words}
+use Rattle.design_problem.specs.Text.{part_words}
 use Rattle.evidence_text.specs.Lines.{with_words}
 use Rattle.evidence_text.proofs.lines.push_parts.Given as goal
 

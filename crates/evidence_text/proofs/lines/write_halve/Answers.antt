@@ -1,7 +1,7 @@
 use Rattle.std.proofs.Common.{◌≡◌, ◌≤◌, ◌∷◌, ◌++◌, ℕ, List, [], length, codes, sym, subst, ap, ◌∙◌}
 use Rattle.cost_base.specs.Decimal.{decimal}
-use Rattle.path_rows.specs.declared.tree.Member.{Member}
-use Rattle.path_rows.specs.Text.{step_word, ratio_word, members_words}
+use Rattle.design_problem.specs.declared.tree.Member.{Member}
+use Rattle.design_problem.specs.Text.{step_word, ratio_word, members_words}
 use Rattle.evidence_text.specs.Lines.{with_words}
 use Rattle.evidence_text.proofs.WordLaws.{spaced-with}
 use Rattle.evidence_text.proofs.lines.write_halve.Goals as goal

@@ -1,5 +1,5 @@
 use Rattle.std.proofs.Common.{◌≤◌, ℕ, List, length, codes, sym, subst, ap, ◌∙◌}
-use Rattle.path_rows.specs.Text.{part_words}
+use Rattle.design_problem.specs.Text.{part_words}
 use Rattle.evidence_text.specs.Lines.{with_words}
 use Rattle.evidence_text.proofs.WordLaws.{spaced-with}
 use Rattle.evidence_text.proofs.lines.write_refute.Goals as goal

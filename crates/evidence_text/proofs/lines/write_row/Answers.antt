@@ -1,6 +1,6 @@
 use Rattle.std.proofs.Common.{◌≡◌, ◌≤◌, ◌∷◌, ◌++◌, ℕ, List, length, map, codes, sym, subst, ap, ◌∙◌}
 use Rattle.cost_base.specs.Decimal.{decimal}
-use Rattle.path_rows.specs.Text.{row_line}
+use Rattle.design_problem.specs.Text.{row_line}
 use Rattle.evidence_text.specs.Lines.{with_words}
 use Rattle.evidence_text.proofs.WordLaws.{spaced-with}
 use Rattle.evidence_text.proofs.lines.write_row.Goals as goal

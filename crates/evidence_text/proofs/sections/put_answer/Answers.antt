@@ -1,9 +1,9 @@
 use Rattle.std.proofs.Common.{codes, refl, subst, sym, Option, List}
 use Rattle.std.specs.Option.{option_copied}
-use Rattle.path_rows.specs.declared.answer.CapTree.{CapTree}
-use Rattle.path_rows.specs.declared.answer.Costs.{Costs}
-use Rattle.path_rows.specs.declared.form.Row.{Row}
-use Rattle.path_rows.specs.Text.{costs_lines, tree_lines}
+use Rattle.design_problem.specs.declared.answer.CapTree.{CapTree}
+use Rattle.design_problem.specs.declared.answer.Costs.{Costs}
+use Rattle.design_problem.specs.declared.form.Row.{Row}
+use Rattle.design_problem.specs.Text.{costs_lines, tree_lines}
 use Rattle.evidence_text.specs.Lines.{AreShort}
 use Rattle.evidence_text.specs.Parts.{rows_lines}
 use Rattle.evidence_text.proofs.AnswerOrder.{parts_held, text-parts, short_parts}

@@ -1,5 +1,5 @@
 use Rattle.std.specs.Option.{option_copied}
-use Rattle.path_rows.specs.Text.{router_lines}
+use Rattle.design_problem.specs.Text.{router_lines}
 use Rattle.text_lines.specs.Lines.{with_ends}
 use Rattle.evidence_text.specs.Parts.{interface_lines}
 use Rattle.text_lines.proofs.LineLaws.{with_ends-append}

@@ -1,6 +1,6 @@
 use Rattle.std.proofs.Common.{drop, None}
 use Rattle.std.specs.Option.{option_copied}
-use Rattle.path_rows.specs.Text.{cost_lines}
+use Rattle.design_problem.specs.Text.{cost_lines}
 use Rattle.text_lines.specs.Lines.{with_ends}
 use Rattle.evidence_text.proofs.PutLines.{IsUnderway}
 use Rattle.evidence_text.proofs.sections.put_cost_lines.Given as goal

@@ -1,6 +1,6 @@
 use Rattle.std.proofs.Common.{◌∷◌, ◌≤◌, List, [], map, length, sym, subst, ap, arith}
-use Rattle.path_rows.specs.declared.tree.Entry.{Entry}
-use Rattle.path_rows.specs.Text.{entry_line}
+use Rattle.design_problem.specs.declared.tree.Entry.{Entry}
+use Rattle.design_problem.specs.Text.{entry_line}
 use Rattle.evidence_text.specs.Lines.{AreShort}
 use Rattle.evidence_text.specs.Parts.{tree_line}
 use Rattle.evidence_text.proofs.PutLines.{begin, turn, stop_at, last, tree_turn}

@@ -1,11 +1,11 @@
 use Rattle.std.proofs.Common.{ℕ, refl, ◌∙◌, subst, List}
 use Rattle.std.specs.Prelude.{IfOk}
 use Rattle.std.proofs.lemmas.Result.{IfOk-weaker, on_ok_weaker}
-use Rattle.path_rows.specs.declared.form.CostBox.{CostBox}
-use Rattle.path_rows.specs.declared.tree.Side.{Side}
-use Rattle.path_rows.specs.OpenPlaces.{first_place}
+use Rattle.design_problem.specs.declared.form.CostBox.{CostBox}
+use Rattle.design_problem.specs.declared.tree.Side.{Side}
+use Rattle.design_problem.specs.OpenPlaces.{first_place}
 use Rattle.form_search.specs.declared.turn.Next.{Next}
-use Rattle.form_search.specs.Turns.{IsNext, IsWatch}
+use Rattle.form_search.specs.Turns.{IsNextStep, IsWatch}
 use Rattle.form_search.proofs.AdvisorLaws.{left_alike}
 use Rattle.form_search.proofs.Relaxing.{kept_more}
 use Rattle.form_search.proofs.at_box.next_at.Goals as goal
@@ -19,7 +19,7 @@ returns-in-Some-clause-advisors g c = left_alike _ _ _ refl
 pub returns-then-is_one_point-clause-next : goal.returns-then-is_one_point-clause-next
 returns-then-is_one_point-clause-next g c =
     let place = first_place c.args.tree.now.places in
-    let IsHere = IsNext (g.S.RowSource.accepted c.args.source.now) c.args.top c.args.pool.now c.at_one_point.new.pool in
+    let IsHere = IsNextStep (g.S.RowSource.accepted c.args.source.now) c.args.top c.args.pool.now c.at_one_point.new.pool in
     subst (λ (box : CostBox). IfOk c.at_one_point.result (IsHere (record { box = box; since = place.since }))) (c.costs-costs.ensures c.requires.open)
     (c.at_one_point.ensures.next c.args.top place.since)
 
@@ -42,7 +42,7 @@ returns-then-is_one_point-clause-advisors g c = left_alike _ _ _ refl
 pub returns-else-is_one_point-clause-next : goal.returns-else-is_one_point-clause-next
 returns-else-is_one_point-clause-next g c =
     let place = first_place c.args.tree.now.places in
-    let IsHere = IsNext (g.S.RowSource.accepted c.args.source.now) c.args.top c.args.pool.now c.at_box.new.pool in
+    let IsHere = IsNextStep (g.S.RowSource.accepted c.args.source.now) c.args.top c.args.pool.now c.at_box.new.pool in
     let here : (next : Next) → ((since : List (ℕ × Side)) → IsHere (record { box = c.costs-costs.result.now; since = since }) next) → IsHere place next =
     λ next is. subst (λ (box : CostBox). IsHere (record { box = box; since = place.since }) next) (c.costs-costs.ensures c.requires.open) (is place.since) in
     IfOk-weaker _ _ _ here c.at_box.ensures.next

@@ -1,6 +1,6 @@
 use Rattle.std.proofs.Common.{refl, inl, sym, subst, List}
 use Rattle.std.specs.Prelude.{All}
-use Rattle.advisor_box.specs.declared.candidate.Candidate.{Candidate}
+use Rattle.cut_advisors.specs.declared.candidate.Candidate.{Candidate}
 use Rattle.form_search.specs.Points.{IsFractional}
 use Rattle.form_search.proofs.AdvisorLaws.{left_alike, left_chosen}
 use Rattle.form_search.proofs.at_box.split_there.Goals as goal

@@ -1,6 +1,6 @@
 use Rattle.std.proofs.Common.{sym, subst}
 use Rattle.area_graph.specs.declared.Point.{Point}
-use Rattle.path_rows.specs.Forms.{AreMet}
+use Rattle.design_problem.specs.Forms.{AreMet}
 use Rattle.form_search.proofs.CostPoints.{one_met}
 use Rattle.form_search.proofs.one_point.ask_there.Goals as goal
 

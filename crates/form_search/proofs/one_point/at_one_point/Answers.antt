@@ -1,8 +1,8 @@
 use Rattle.std.proofs.Common.{◌<◌, refl, subst, List, length}
 use Rattle.std.specs.Prelude.{pos, ◌<ℤ◌}
-use Rattle.path_rows.specs.Forms.{Form}
-use Rattle.path_rows.specs.Boxes.{greatest}
-use Rattle.path_rows.specs.Forms.{form_at}
+use Rattle.design_problem.specs.Forms.{Form}
+use Rattle.design_problem.specs.Boxes.{greatest}
+use Rattle.design_problem.specs.Forms.{form_at}
 use Rattle.form_search.proofs.NextEntries.{next_refute, row_next}
 use Rattle.form_search.proofs.one_point.at_one_point.Goals as goal
 

@@ -1,6 +1,6 @@
 use Rattle.std.proofs.Common.{arith}
 use Rattle.std.proofs.lemmas.Int.{ints}
-use Rattle.path_rows.specs.OpenPlaces.{first_place}
+use Rattle.design_problem.specs.OpenPlaces.{first_place}
 use Rattle.form_search.proofs.NextEntries.{next_refute}
 use Rattle.form_search.proofs.propagation.entry_of.Goals as goal
 

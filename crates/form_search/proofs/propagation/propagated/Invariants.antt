@@ -1,5 +1,5 @@
 use Rattle.std.proofs.Common.{length}
-use Rattle.path_rows.specs.OpenPlaces.{first_place}
+use Rattle.design_problem.specs.OpenPlaces.{first_place}
 use Rattle.form_search.specs.Turns.{IsWatch}
 use Rattle.form_search.proofs.propagation.propagated.Given as goal
 

@@ -1,5 +1,5 @@
 use Rattle.std.proofs.Common.{ℕ, subst}
-use Rattle.form_search.specs.Tables.{IsHeld, IsRelaxed}
+use Rattle.form_search.specs.Tables.{IsHeld, IsRelaxation}
 use Rattle.form_search.proofs.Relaxing.{fit_box, kept_there, stands_own}
 use Rattle.form_search.proofs.relaxation.relax.Goals as goal
 
@@ -32,7 +32,7 @@ returns-clause-relaxed g c =
     c.requires.ranges c.take.ensures.value c.requires.kept in
     let stands = c.in_ok-table.ensures pool kept in
     let new = c.relax_by.new in
-    subst (λ (top : ℕ). IsRelaxed (g.S.RowSource.accepted source) top costs new.pool new.point c.in_ok-relaxed.relaxed)
+    subst (λ (top : ℕ). IsRelaxation (g.S.RowSource.accepted source) top costs new.pool new.point c.in_ok-relaxed.relaxed)
     stands.is_held.same_top c.in_ok-relaxed.ensures.relaxed
 
 pub returns-clause-kept : goal.returns-clause-kept

@@ -1,5 +1,5 @@
 use Rattle.std.proofs.Common.{◌≡◌, ◌<◌, ℕ, sym, subst, List, None, Ok}
-use Rattle.path_rows.specs.Forms.{Form}
+use Rattle.design_problem.specs.Forms.{Form}
 use Rattle.form_search.specs.Tables.{StandsAt}
 use Rattle.form_search.proofs.MissingForms.{missing}
 use Rattle.form_search.proofs.Relaxing.{new_falls}

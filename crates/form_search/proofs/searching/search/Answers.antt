@@ -1,9 +1,9 @@
 use Rattle.std.proofs.Common.{ℕ, ◌∙◌, refl, sym, subst, List, Continue, Break}
 use Rattle.std.proofs.lemmas.Bool.{false≢true}
-use Rattle.path_rows.specs.declared.tree.Entry.{Entry}
-use Rattle.path_rows.specs.OpenPlaces.{Growing, first_place}
+use Rattle.design_problem.specs.declared.tree.Entry.{Entry}
+use Rattle.design_problem.specs.OpenPlaces.{Growing, first_place}
 use Rattle.form_search.specs.declared.found.Found.TheVariants.{Refuted}
-use Rattle.form_search.specs.Finds.{IsFound}
+use Rattle.form_search.specs.Finds.{IsSearchResult}
 use Rattle.form_search.specs.Points.{IsCostsBox}
 use Rattle.form_search.specs.Turns.{IsDesk}
 use Rattle.form_search.proofs.AdvisorLaws.{left_alike, left_then}
@@ -157,6 +157,6 @@ returns-clause-found g c =
     let Accepted = g.S.RowSource.accepted c.args.source.now in
     let limits = c.args.limits.now in
     let costs = c.args.costs.now in
-    subst (λ (tree : List Entry). IsFound Accepted limits.top limits.nodes c.boxes.pool costs (Refuted tree)) (sym c.into_tree.ensures)
+    subst (λ (tree : List Entry). IsSearchResult Accepted limits.top limits.nodes c.boxes.pool costs (Refuted tree)) (sym c.into_tree.ensures)
     (growing_ends Accepted limits.top limits.nodes c.boxes.pool costs c.boxes.tree c.boxes.invariant.growing
     (λ some. false≢true (sym c.boxes-test.false ∙ c.is_open.ensures.1 some)))

@@ -1,5 +1,5 @@
 use Rattle.std.proofs.Common.{refl, inr, length, ap, ◌∙◌, arith}
-use Rattle.path_rows.specs.OpenPlaces.{Growing}
+use Rattle.design_problem.specs.OpenPlaces.{Growing}
 use Rattle.form_search.proofs.AdvisorLaws.{left_alike, left_told}
 use Rattle.form_search.proofs.GrowingTrees.{turned_full}
 use Rattle.form_search.proofs.searching.turn.Goals as goal

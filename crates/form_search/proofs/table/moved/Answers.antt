@@ -1,9 +1,9 @@
 use Rattle.std.proofs.Common.{sym, subst, List, length}
 use Rattle.std.specs.Prelude.{All, Option}
-use Rattle.path_rows.specs.Forms.{Form}
+use Rattle.design_problem.specs.Forms.{Form}
 use Rattle.fraction_table.specs.Tableaus.{FitsBox}
 use Rattle.form_search.specs.declared.table.HeldTableau.{HeldTableau}
-use Rattle.form_search.specs.Tables.{IsHeld, IsKept}
+use Rattle.form_search.specs.Tables.{IsHeld, IsTableauKept}
 use Rattle.form_search.proofs.NextEntries.{all_take}
 use Rattle.form_search.proofs.table.moved.Goals as goal
 
@@ -12,6 +12,6 @@ rebase-requires-clause-fits c =
     let costs = c.args.costs.now in
     let forms = c.requires.fits.0 in
     let kept : IsHeld c.args.top (length costs.low) forms c.in-Some.table =
-    subst (λ (o : Option HeldTableau). IsKept c.args.top (length costs.low) forms o) c.in-Some.is
+    subst (λ (o : Option HeldTableau). IsTableauKept c.args.top (length costs.low) forms o) c.in-Some.is
     c.requires.fits.1 in
     subst (λ (rows : List Form). All (FitsBox costs) rows) (sym kept.rows) (all_take (FitsBox costs) kept.taken forms c.requires.fits.2)

@@ -3,7 +3,7 @@ use Rattle.std.proofs.Common.{◌≡◌, ℕ, ◌<◌, ◌∙◌, List, ap, sym,
 use Rattle.std.proofs.lemmas.Result.{err_from_is_err_and}
 use Rattle.whole_numbers.specs.Fractions.{Fraction, IsLowest, minus, times}
 use Rattle.wide_fraction.specs.declared.steps.Wide.{Wide}
-use Rattle.fraction_rows.specs.TableRows.{IsNumber, fraction_at, nothing}
+use Rattle.fraction_rows.specs.TableRows.{IsTableNumber, fraction_at, nothing}
 use Rattle.fraction_rows.specs.Entries.{IsTermStep, after_column, crossed_at, head_column, head_fraction}
 use Rattle.fraction_rows.proofs.ZeroFractions.{nothing_lowest, nothing_number, crossed_nothing}
 use Rattle.fraction_rows.proofs.Columns.{ahead_nothing, ahead_same, head_number, after_numbers, put_numbers}
@@ -26,13 +26,13 @@ returns-then-width-column-clause-rises c =
 
 pub crossed-requires-clause-old : goal.crossed-requires-clause-old
 crossed-requires-clause-old c =
-    subst (IsNumber c.args.top) (sym c.take_at-old.ensures.fraction)
+    subst (IsTableNumber c.args.top) (sym c.take_at-old.ensures.fraction)
     (head_number c.args.top c.columns.olds_left.now c.next_of-column.result
     (nothing_number c.args.top c.args.factor c.requires.factor) c.columns.invariant.olds)
 
 pub crossed-requires-clause-quotient : goal.crossed-requires-clause-quotient
 crossed-requires-clause-quotient c =
-    subst (IsNumber c.args.top) (sym c.take_at-quotient.ensures.fraction)
+    subst (IsTableNumber c.args.top) (sym c.take_at-quotient.ensures.fraction)
     (head_number c.args.top c.columns.quotients_left.now c.next_of-column.result
     (nothing_number c.args.top c.args.factor c.requires.factor) c.columns.invariant.quotients)
 
@@ -86,7 +86,7 @@ columns-preserved-then-column-next_column c =
     let quotients = c.columns.quotients_left.now in
     let ahead : column < head_column quotients c.args.width = subst (λ (n : ℕ). column < n) c.next_column.ensures c.if-column-next_column.true in
     let head_is = head_number c.args.top olds column (nothing_number c.args.top c.args.factor c.requires.factor) c.columns.invariant.olds in
-    let old_is : IsNumber c.args.top c.take_at-old.result.0 = subst (IsNumber c.args.top) (sym c.take_at-old.ensures.fraction) head_is in
+    let old_is : IsTableNumber c.args.top c.take_at-old.result.0 = subst (IsTableNumber c.args.top) (sym c.take_at-old.ensures.fraction) head_is in
     let value_is = c.take_at-old.ensures.fraction
     ∙ copied (head_fraction olds column) c.args.factor (head_fraction quotients column) head_is.lowest
     c.requires.factor.lowest.positive (ahead_nothing quotients column c.args.width ahead) in

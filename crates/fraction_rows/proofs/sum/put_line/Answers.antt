@@ -3,7 +3,7 @@ use Rattle.std.proofs.Common.{◌≡◌, ◌≤◌, ◌^◌, ◌∙◌, ap, w64,
 use Rattle.std.specs.Prelude.{ℤ, pos, negsuc, zero, suc, ◌-ℤ◌, neg_ℤ, nat_abs}
 use Rattle.std.proofs.lemmas.Int.{ints, to_z-of_z}
 use Rattle.whole_numbers.specs.Fractions.{whole}
-use Rattle.path_rows.proofs.TermLaws.{small_read}
+use Rattle.design_problem.proofs.TermLaws.{small_read}
 use Rattle.fraction_rows.proofs.RowLaws.{crossed_put, negated_number}
 use Rattle.fraction_rows.proofs.sum.put_line.Goals as goal
 

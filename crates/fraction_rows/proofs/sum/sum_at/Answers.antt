@@ -3,8 +3,8 @@ use Rattle.std.proofs.Common.{◌^◌, ◌≤◌, refl, sym, ap, subst, List, ar
 use Rattle.std.specs.Prelude.{ℤ, nat_abs}
 use Rattle.std.proofs.lemmas.Result.{err_from_is_err_and}
 use Rattle.whole_numbers.specs.Fractions.{Fraction}
-use Rattle.path_rows.specs.Basis.{entry}
-use Rattle.path_rows.proofs.TermLaws.{small_read}
+use Rattle.design_problem.specs.Basis.{entry}
+use Rattle.design_problem.proofs.TermLaws.{small_read}
 use Rattle.fraction_rows.proofs.TermSums.{IsLineOf, line_read, sum_next, sum_whole, sum_wide, term_in}
 use Rattle.fraction_rows.proofs.sum.sum_at.Goals.{After-index-lines-var}
 use Rattle.fraction_rows.proofs.sum.sum_at.Goals as goal

@@ -2,12 +2,12 @@
 use Rattle.std.proofs.Common.{◌≡◌}
 use Rattle.std.specs.Prelude.{fold, take}
 use Rattle.whole_numbers.specs.Fractions.{plus}
-use Rattle.path_rows.specs.Steps.{terms}
-use Rattle.fraction_rows.specs.TableRows.{IsNumber}
+use Rattle.design_problem.specs.Steps.{terms}
+use Rattle.fraction_rows.specs.TableRows.{IsTableNumber}
 use Rattle.fraction_rows.proofs.sum.sum_at.Given as goal
 
 abbrev pub invariant-loop-term : goal.invariant-loop-term
 invariant-loop-term l = record {
   so_far : l.sum ≡ fold plus l.fn.start (take l.term-index (terms l.form.coefficients l.lines l.place));
-  number : IsNumber l.top l.sum;
+  number : IsTableNumber l.top l.sum;
 }

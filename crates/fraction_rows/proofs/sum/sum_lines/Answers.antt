@@ -2,8 +2,8 @@
 use Rattle.std.proofs.Common.{◌^◌, ◌≤◌, sym, ◌∙◌, ap, subst, List, length, arith}
 use Rattle.std.specs.Prelude.{ℤ, nat_abs}
 use Rattle.whole_numbers.specs.Fractions.{Fraction}
-use Rattle.path_rows.specs.Basis.{entry}
-use Rattle.path_rows.proofs.TermLaws.{small_read}
+use Rattle.design_problem.specs.Basis.{entry}
+use Rattle.design_problem.proofs.TermLaws.{small_read}
 use Rattle.fraction_rows.proofs.TermSums.{IsLineOf, line_read, sum_next, sum_whole, term_in}
 use Rattle.fraction_rows.proofs.sum.sum_lines.Goals.{After-index-lines-var}
 use Rattle.fraction_rows.proofs.sum.sum_lines.Goals as goal

@@ -2,9 +2,9 @@
 use Rattle.std.proofs.Common.{◌≡◌, ℕ, ◌<◌, length}
 use Rattle.std.specs.Prelude.{fold, take}
 use Rattle.whole_numbers.specs.Fractions.{plus}
-use Rattle.path_rows.specs.Basis.{entry}
-use Rattle.path_rows.specs.Steps.{terms}
-use Rattle.fraction_rows.specs.TableRows.{AreNumbers}
+use Rattle.design_problem.specs.Basis.{entry}
+use Rattle.design_problem.specs.Steps.{terms}
+use Rattle.fraction_rows.specs.TableRows.{AreTableNumbers}
 use Rattle.fraction_rows.proofs.sum.sum_lines.Given as goal
 
 abbrev pub invariant-loop-term : goal.invariant-loop-term
@@ -12,7 +12,7 @@ invariant-loop-term l = record {
   sums : (place : ℕ) → place < length l.initial.row →
       entry l.row place ≡ fold plus (entry l.initial.row place)
       (take l.term-index (terms l.form.coefficients l.lines place));
-  numbers : AreNumbers l.top l.row;
+  numbers : AreTableNumbers l.top l.row;
   width : length l.row ≡ length l.initial.row;
   scratch : length l.scratch ≡ length l.initial.row;
 }

@@ -6,8 +6,8 @@ use Rattle.cost_base.specs.declared.StepName.TheVariants.{Div}
 use Rattle.whole_numbers.specs.Fractions.{Fraction, divided, whole}
 use Rattle.wide_fraction.specs.declared.steps.Wide.{Wide}
 use Rattle.wide_fraction.specs.Widths.{IsWithin, Passes}
-use Rattle.path_rows.specs.Basis.{entry}
-use Rattle.fraction_rows.specs.TableRows.{AreNumbers, IsDivideStep, IsNumber, IsWideStep, divided_without}
+use Rattle.design_problem.specs.Basis.{entry}
+use Rattle.fraction_rows.specs.TableRows.{AreTableNumbers, IsDivideStep, IsTableNumber, IsWideStep, divided_without}
 use Rattle.fraction_rows.specs.Turns.{IsQuotientStepOf}
 use Rattle.fraction_rows.specs.Turns.IsQuotientStepOf.{dividing, inverting}
 use Rattle.fraction_rows.proofs.FilledRows.{always_ok}
@@ -18,7 +18,7 @@ use Rattle.fraction_rows.proofs.turn.take_quotients.Goals as goal
 
 pub divide-requires-clause-divisor : goal.divide-requires-clause-divisor
 divide-requires-clause-divisor c =
-    subst (IsNumber c.args.top) (sym c.entry-divisor.ensures) (number_at c.args.top c.args.row.now (suc c.args.column) c.requires.numbers c.requires.column)
+    subst (IsTableNumber c.args.top) (sym c.entry-divisor.ensures) (number_at c.args.top c.args.row.now (suc c.args.column) c.requires.numbers c.requires.column)
 
 pub divide-requires-clause-not_zero : goal.divide-requires-clause-not_zero
 divide-requires-clause-not_zero c zero_is = c.requires.not_zero (ap (λ (q : Fraction). q.numerator) (sym c.entry-divisor.ensures) ∙ zero_is)
@@ -43,7 +43,7 @@ div-requires-clause-left_within c =
 
 pub div-requires-clause-right_within : goal.div-requires-clause-right_within
 div-requires-clause-right_within c =
-    let own_is = subst (IsNumber c.args.top) (sym c.entry-divisor.ensures)
+    let own_is = subst (IsTableNumber c.args.top) (sym c.entry-divisor.ensures)
     (number_at c.args.top c.args.row.now (suc c.args.column) c.requires.numbers c.requires.column) in
     own_is.within
 
@@ -57,7 +57,7 @@ returns-clause-quotients c =
 
 pub returns-clause-quotient_numbers : goal.returns-clause-quotient_numbers
 returns-clause-quotient_numbers c =
-    always_ok c.div.result (AreNumbers c.args.top c.divide.new.into) c.in_ok-divide.ensures.numbers
+    always_ok c.div.result (AreTableNumbers c.args.top c.divide.new.into) c.in_ok-divide.ensures.numbers
 
 seen_quotient : (r : Result Fraction Wide) (p q first second : Fraction) → p ≡ first → q ≡ second →
     IfOk r (λ x. x ≡ divided p q) → IfOk r (λ x. x ≡ divided first second)
@@ -70,7 +70,7 @@ returns-clause-inverse c =
     (entry c.args.row.now (suc c.args.column)) c.whole.ensures c.entry-divisor.ensures c.div.ensures.exact
 
 quotient_number : (r : Result Fraction Wide) (top : ℕ) (p q : Fraction) → 0 < p.denominator →
-    IfOk r (λ x. x ≡ divided p q) → IfOk r (λ x. IsWithin top x) → IfOk r (λ x. IsNumber top x)
+    IfOk r (λ x. x ≡ divided p q) → IfOk r (λ x. IsWithin top x) → IfOk r (λ x. IsTableNumber top x)
 quotient_number (Ok x) top p q positive exact within = divided_number top p q x positive exact within
 quotient_number (Err wide) top p q positive exact within = tt
 

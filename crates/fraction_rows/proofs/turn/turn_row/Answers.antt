@@ -6,8 +6,8 @@ use Rattle.std.proofs.lemmas.Result.{err_from_is_err_and}
 use Rattle.cost_base.specs.declared.StepName.TheVariants.{Mul}
 use Rattle.whole_numbers.specs.Fractions.{Fraction}
 use Rattle.wide_fraction.specs.declared.steps.Wide.{Wide}
-use Rattle.path_rows.specs.Basis.{entry}
-use Rattle.fraction_rows.specs.TableRows.{AreNumbers, IsCrossStep, IsNumber, nothing}
+use Rattle.design_problem.specs.Basis.{entry}
+use Rattle.fraction_rows.specs.TableRows.{AreTableNumbers, IsCrossStep, IsTableNumber, nothing}
 use Rattle.fraction_rows.specs.Turns.{IsTurnStep}
 use Rattle.fraction_rows.specs.Turns.IsTurnStep.{crossing, entering}
 use Rattle.fraction_rows.proofs.NamedSteps.{named_passes}
@@ -16,8 +16,8 @@ use Rattle.fraction_rows.proofs.turn.turn_row.Goals.{After-entry-own}
 use Rattle.fraction_rows.proofs.turn.turn_row.Goals as goal
 
 -- the row's own entry is a number of the table
-own_is : (c : After-entry-own) → IsNumber c.args.top c.entry-own.result
-own_is c = subst (IsNumber c.args.top) (sym c.entry-own.ensures) (number_at c.args.top c.args.row.now (suc c.args.column) c.requires.numbers c.requires.column)
+own_is : (c : After-entry-own) → IsTableNumber c.args.top c.entry-own.result
+own_is c = subst (IsTableNumber c.args.top) (sym c.entry-own.ensures) (number_at c.args.top c.args.row.now (suc c.args.column) c.requires.numbers c.requires.column)
 
 pub cross-requires-clause-factor : goal.cross-requires-clause-factor
 cross-requires-clause-factor c = own_is (goal.at.cross-requires-clause-factor c).After-entry-own
@@ -73,5 +73,5 @@ returns-clause-numbers c =
     let entered_is = times_number c.args.top c.entry-own.result c.args.inverse c.in_ok-entered.entered
     own.lowest.positive c.requires.inverse.lowest.positive c.in_ok-entered.ensures.exact
     c.in_ok-entered.ensures.within in
-    subst (AreNumbers c.args.top) (sym (c.swap.ensures.x_after ∙ c.replace.ensures))
+    subst (AreTableNumbers c.args.top) (sym (c.swap.ensures.x_after ∙ c.replace.ensures))
     (written_numbers c.args.top c.cross.new.into (suc c.args.column) c.in_ok-entered.entered c.in_ok-cross.ensures.numbers entered_is)

@@ -4,9 +4,9 @@ use Rattle.std.specs.Prelude.{ℤ, pos, nat_abs, ◌+ℤ◌, ◌*ℤ◌}
 use Rattle.std.proofs.lemmas.Int.{ints}
 use Rattle.std.proofs.lemmas.List.{at_drop_all}
 use Rattle.std.proofs.lemmas.List.Elements.{All-same}
-use Rattle.path_rows.specs.declared.form.Term.{Term}
-use Rattle.path_rows.specs.Forms.{dot, terms_of, no_term}
-use Rattle.path_rows.proofs.TermLaws.{dot_by_terms, each_term, product_in, small_read, total, total_more, whole_at_end}
+use Rattle.design_problem.specs.declared.form.Term.{Term}
+use Rattle.design_problem.specs.Forms.{dot, terms_of, no_term}
+use Rattle.design_problem.proofs.TermLaws.{dot_by_terms, each_term, product_in, small_read, total, total_more, whole_at_end}
 use Rattle.fraction_table.proofs.add_row.corner_sum.Goals as goal
 
 pub corner_term-sum-requires : goal.corner_term-sum-requires

@@ -1,6 +1,6 @@
 -- The sum with what is left of the terms is the whole value.
 use Rattle.std.proofs.Common.{◌≡◌, ◌^◌, ◌+◌, ◌*◌, pos, ◌+ℤ◌, ◌≤ℤ◌, drop}
-use Rattle.path_rows.proofs.TermLaws.{product_in, total}
+use Rattle.design_problem.proofs.TermLaws.{product_in, total}
 use Rattle.fraction_table.proofs.add_row.corner_sum.Given as goal
 
 abbrev pub invariant-loop-term : goal.invariant-loop-term

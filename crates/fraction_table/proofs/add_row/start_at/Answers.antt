@@ -3,7 +3,7 @@ use Rattle.std.proofs.Common.{◌<◌, ◌^◌, ◌∙◌, ap, sym, subst, nat_a
 use Rattle.std.specs.Prelude.{ℤ, pos}
 use Rattle.std.proofs.lemmas.Int.{fits_signed_from_abs, to_z-of_z}
 use Rattle.whole_numbers.specs.Fractions.{whole}
-use Rattle.fraction_rows.specs.TableRows.{IsNumber}
+use Rattle.fraction_rows.specs.TableRows.{IsTableNumber}
 use Rattle.fraction_rows.proofs.SmallNumbers.{whole_number}
 use Rattle.fraction_table.proofs.add_row.start_at.Goals as goal
 
@@ -12,9 +12,9 @@ returns-then-place-eq0-clause-number c =
     let z = c.corner_value.result in
     let small : nat_abs z < 2 ^ 27 = subst (λ (n : ℤ). nat_abs n < 2 ^ 27) (sym c.corner_value.ensures) c.requires.fits.corner in
     let fits : SFits w64 z = fits_signed_from_abs w64 z (omega (arith, small)) in
-    subst (IsNumber c.args.top) (sym (c.whole.ensures ∙ ap whole (to_z-of_z w64 z fits)))
+    subst (IsTableNumber c.args.top) (sym (c.whole.ensures ∙ ap whole (to_z-of_z w64 z fits)))
     (whole_number c.args.top z c.value.ensures.width small)
 
 pub returns-else-place-eq0-clause-number : goal.returns-else-place-eq0-clause-number
 returns-else-place-eq0-clause-number c =
-    subst (IsNumber c.args.top) (sym c.whole-else-place-eq0.ensures) (whole_number c.args.top (pos 0) c.value.ensures.width (omega arith))
+    subst (IsTableNumber c.args.top) (sym c.whole-else-place-eq0.ensures) (whole_number c.args.top (pos 0) c.value.ensures.width (omega arith))

@@ -3,7 +3,7 @@ use Rattle.std.proofs.Common.{◌≡◌, suc, sym, subst, ap, ◌∙◌}
 use Rattle.std.proofs.lemmas.Result.{err_from_is_err_and}
 use Rattle.whole_numbers.specs.Fractions.{Fraction, order, times}
 use Rattle.wide_fraction.specs.Widths.{IsWithin}
-use Rattle.path_rows.specs.Basis.{entry}
+use Rattle.design_problem.specs.Basis.{entry}
 use Rattle.fraction_rows.specs.Entries.{IsPassing}
 use Rattle.fraction_rows.specs.TableRows.{nothing}
 use Rattle.fraction_rows.proofs.ZeroFractions.{lowest_zero, nothing_times}

@@ -5,9 +5,9 @@ use Rattle.std.proofs.lemmas.Int.{to_z-of_z}
 use Rattle.std.proofs.lemmas.List.{get_or_default}
 use Rattle.std.proofs.lemmas.List.Elements.{All-nil, All-cons, All-same, All-tail}
 use borrow.Author.Count.{below_more}
-use Rattle.path_rows.specs.declared.form.Term.{Term}
-use Rattle.path_rows.specs.Forms.{terms_from, terms_of, no_term}
-use Rattle.path_rows.proofs.TermLaws.{each_term}
+use Rattle.design_problem.specs.declared.form.Term.{Term}
+use Rattle.design_problem.specs.Forms.{terms_from, terms_of, no_term}
+use Rattle.design_problem.proofs.TermLaws.{each_term}
 use Rattle.fraction_rows.proofs.TermSums.{term_in}
 use Rattle.fraction_table.proofs.fit.are_small.Goals as goal
 

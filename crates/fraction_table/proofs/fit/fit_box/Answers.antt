@@ -2,7 +2,7 @@
 use Rattle.std.proofs.Common.{ℕ, get_or, arith, refl, subst, ◌∙◌, rules}
 use Rattle.std.proofs.lemmas.List.{get_or_default}
 use borrow.Author.Count.{below_more}
-use Rattle.path_rows.specs.Forms.{no_form}
+use Rattle.design_problem.specs.Forms.{no_form}
 use Rattle.fraction_table.specs.Tableaus.{FitsBox}
 use Rattle.fraction_table.proofs.fit.fit_box.Goals as goal
 

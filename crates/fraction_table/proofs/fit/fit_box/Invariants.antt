@@ -1,6 +1,6 @@
 -- The rows before the counter fit.
 use Rattle.std.proofs.Common.{ℕ, ◌<◌, get_or}
-use Rattle.path_rows.specs.Forms.{no_form}
+use Rattle.design_problem.specs.Forms.{no_form}
 use Rattle.fraction_table.specs.Tableaus.{FitsBox}
 use Rattle.fraction_table.proofs.fit.fit_box.Given as goal
 

@@ -1,7 +1,7 @@
 -- No column before the index has the member.
 use Rattle.std.proofs.Common.{◌≢◌, ℕ, ◌<◌}
 use Rattle.std.specs.Prelude.{slice_index_or}
-use Rattle.path_rows.specs.declared.tree.Member.TheVariants.{Low}
+use Rattle.design_problem.specs.declared.tree.Member.TheVariants.{Low}
 use Rattle.fraction_table.proofs.moves.column_of.Given as goal
 
 abbrev pub invariant-loop-column : goal.invariant-loop-column

@@ -4,8 +4,8 @@ use Rattle.std.proofs.lemmas.Result.{err_from_is_err_and}
 use Rattle.cost_base.specs.declared.StepName.TheVariants.{Add, Mul}
 use Rattle.whole_numbers.specs.Fractions.{Fraction, times}
 use Rattle.wide_fraction.specs.declared.steps.Wide.{Wide}
-use Rattle.path_rows.specs.Basis.{entry}
-use Rattle.fraction_rows.specs.TableRows.{IsNumber}
+use Rattle.design_problem.specs.Basis.{entry}
+use Rattle.fraction_rows.specs.TableRows.{IsTableNumber}
 use Rattle.fraction_table.specs.Moves.{IsRaiseStep}
 use Rattle.fraction_table.specs.Moves.IsRaiseStep.{product, sum}
 use Rattle.fraction_rows.proofs.RowLaws.{number_at}
@@ -20,13 +20,13 @@ returns-then-is_zero-clause-raised c =
 
 pub mul-requires-clause-left_within : goal.mul-requires-clause-left_within
 mul-requires-clause-left_within c =
-    let here = subst (IsNumber c.args.top) (sym c.entry-entry.ensures)
+    let here = subst (IsTableNumber c.args.top) (sym c.entry-entry.ensures)
     (number_at c.args.top c.args.line.now (suc c.args.column) c.requires.numbers c.requires.column) in
     here.within
 
 pub add-requires-clause-left_within : goal.add-requires-clause-left_within
 add-requires-clause-left_within c =
-    let here = subst (IsNumber c.args.top) (sym c.constant.ensures)
+    let here = subst (IsTableNumber c.args.top) (sym c.constant.ensures)
     (number_at c.args.top c.args.line.now 0 c.requires.numbers (omega (arith, c.requires.column))) in
     here.within
 
@@ -63,9 +63,9 @@ returns-clause-raised c =
 
 pub returns-clause-numbers : goal.returns-clause-numbers
 returns-clause-numbers c =
-    let here = subst (IsNumber c.args.top) (sym c.entry-entry.ensures)
+    let here = subst (IsTableNumber c.args.top) (sym c.entry-entry.ensures)
     (number_at c.args.top c.args.line.now (suc c.args.column) c.requires.numbers c.requires.column) in
-    let first = subst (IsNumber c.args.top) (sym c.constant.ensures)
+    let first = subst (IsTableNumber c.args.top) (sym c.constant.ensures)
     (number_at c.args.top c.args.line.now 0 c.requires.numbers (omega (arith, c.requires.column))) in
     raised_numbers c.args.top c.args.line.now c.set_constant.new.self c.args.fall c.entry-entry.result c.constant.result
     c.in_ok-product.product c.in_ok-raised.raised

@@ -1,7 +1,7 @@
 -- The multiple is that of the denominators before the index.
 use Rattle.std.proofs.Common.{◌≡◌, ◌≤◌}
 use Rattle.std.specs.Prelude.{pos, ◌<ℤ◌, nat_abs, take}
-use Rattle.path_rows.specs.Steps.{denominators, lcm_of}
+use Rattle.design_problem.specs.Steps.{denominators, lcm_of}
 use Rattle.fraction_table.specs.Multipliers.{fractions}
 use Rattle.fraction_table.proofs.multipliers.common_multiple.Given as goal
 

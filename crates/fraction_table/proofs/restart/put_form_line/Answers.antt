@@ -3,9 +3,9 @@ use Rattle.std.proofs.Common.{◌<◌, ◌≤◌, ◌^◌, suc, sym, subst, ◌�
 use Rattle.std.specs.Prelude.{nat_abs}
 use Rattle.std.proofs.lemmas.List.Elements.{All-same}
 use Rattle.whole_numbers.specs.Fractions.{whole}
-use Rattle.path_rows.specs.declared.form.Term.{Term}
-use Rattle.path_rows.specs.Forms.{terms_of, value, no_term}
-use Rattle.path_rows.proofs.TermLaws.{each_term, small_read}
+use Rattle.design_problem.specs.declared.form.Term.{Term}
+use Rattle.design_problem.specs.Forms.{terms_of, value_for_costs, no_term}
+use Rattle.design_problem.proofs.TermLaws.{each_term, small_read}
 use Rattle.fraction_rows.proofs.TermSums.{term_in}
 use Rattle.fraction_table.proofs.Restarts.{form_numbers, put_all, put_first, put_next}
 use Rattle.fraction_table.proofs.Shifts.{kept_number}
@@ -23,7 +23,7 @@ push-requires-clause-last c later from later_in = c.loop-term.invariant.blank la
 pub loop-term-init : goal.loop-term-init
 loop-term-init c =
     let f = c.args.form.now in
-    put_first (value f c.args.costs.now.low) f.coefficients c.terms-terms.result.now c.args.line.now c.clear.new.self
+    put_first (value_for_costs f c.args.costs.now.low) f.coefficients c.terms-terms.result.now c.args.line.now c.clear.new.self
     c.set_constant.new.self c.whole.result c.terms-terms.ensures.terms (c.requires.width
     ∙ ap suc (sym c.requires.fits.count)) c.clear.ensures
     (c.whole.ensures ∙ ap whole (kept_number c.corner_value.result
@@ -39,19 +39,19 @@ loop-term-preserved c =
     All-same (λ (u : Term). nat_abs u.coefficient ≤ 2 ^ 26) ts (terms_of f) c.terms-terms.ensures.terms
     (each_term (λ z. nat_abs z ≤ 2 ^ 26) 0 f.coefficients c.requires.fits.sizes) c.loop-term.term-index no_term
     c.loop-term-test.true in
-    put_next (value f c.args.costs.now.low) f.coefficients ts c.loop-term.term-index c.loop-term.line c.push.new.self
+    put_next (value_for_costs f c.args.costs.now.low) f.coefficients ts c.loop-term.term-index c.loop-term.line c.push.new.self
     c.whole-in-loop-term.result c.terms-terms.ensures.terms c.loop-term-test.true
     (c.whole-in-loop-term.ensures ∙ ap whole (small_read t.coefficient small)) c.push.ensures c.loop-term.invariant
 
 pub returns-clause-line : goal.returns-clause-line
 returns-clause-line c =
     let f = c.args.form.now in
-    put_all (value f c.args.costs.now.low) f.coefficients c.terms-terms.result.now c.loop-term.term-index
+    put_all (value_for_costs f c.args.costs.now.low) f.coefficients c.terms-terms.result.now c.loop-term.term-index
     c.loop-term.line c.loop-term.invariant (omega (arith, c.loop-term-test.false))
 
 pub returns-clause-numbers : goal.returns-clause-numbers
 returns-clause-numbers c =
     let f = c.args.form.now in
     form_numbers c.args.top c.args.costs.now f c.loop-term.line c.value.ensures.width c.requires.fits
-    (put_all (value f c.args.costs.now.low) f.coefficients c.terms-terms.result.now c.loop-term.term-index
+    (put_all (value_for_costs f c.args.costs.now.low) f.coefficients c.terms-terms.result.now c.loop-term.term-index
     c.loop-term.line c.loop-term.invariant (omega (arith, c.loop-term-test.false)))

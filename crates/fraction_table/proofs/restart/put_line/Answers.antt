@@ -2,8 +2,8 @@
 use Rattle.std.proofs.Common.{ℕ, ◌∙◌, ap, sym, subst, List, ◌∷◌, length, map}
 use Rattle.std.specs.Prelude.{pos, negsuc, slice_index}
 use Rattle.whole_numbers.specs.Fractions.{whole}
-use Rattle.path_rows.specs.Basis.{IsFormOf, unit}
-use Rattle.fraction_table.specs.Wholes.{starting_line}
+use Rattle.design_problem.specs.Basis.{IsFormOf, unit}
+use Rattle.fraction_table.specs.ValidTables.{starting_line}
 use Rattle.fraction_table.proofs.Restarts.{high_starts, low_starts}
 use Rattle.fraction_table.proofs.Shifts.{kept_number}
 use Rattle.fraction_table.proofs.restart.put_line.Goals as goal

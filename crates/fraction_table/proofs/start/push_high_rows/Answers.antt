@@ -4,7 +4,7 @@ use Rattle.std.specs.Prelude.{pos, negsuc, ◌-ℤ◌, slice_index}
 use Rattle.std.proofs.lemmas.Int.{to_z-of_z}
 use Rattle.cost_base.proofs.ListLemmas.{put_more}
 use Rattle.whole_numbers.specs.Fractions.{whole}
-use Rattle.path_rows.specs.Basis.{unit}
+use Rattle.design_problem.specs.Basis.{unit}
 use Rattle.fraction_table.proofs.StartLines.{rows_more, unit_line_long}
 use Rattle.fraction_table.proofs.start.push_high_rows.Goals as goal
 

@@ -3,8 +3,8 @@ use Rattle.std.proofs.Common.{◌≡◌, suc, ◌∷◌, ◌++◌, map, length}
 use Rattle.std.specs.Prelude.{pos, negsuc, ◌-ℤ◌, slice_index}
 use Rattle.cost_base.specs.Lists.{numbers_from}
 use Rattle.whole_numbers.specs.Fractions.{whole}
-use Rattle.path_rows.specs.Basis.{unit}
-use Rattle.fraction_rows.specs.Turns.{AreRows}
+use Rattle.design_problem.specs.Basis.{unit}
+use Rattle.fraction_rows.specs.Turns.{AreTableRows}
 use Rattle.fraction_table.proofs.start.push_high_rows.Given as goal
 
 abbrev pub invariant-loop-var : goal.invariant-loop-var
@@ -12,5 +12,5 @@ invariant-loop-var l = record {
   rows : l.rows.items ≡ l.initial.rows.items
       ++ map (λ v. whole (pos (slice_index l.high v) -ℤ pos (slice_index l.low v))
       ∷ map whole (unit (length l.low) v (negsuc 0))) (numbers_from 0 l.var);
-  numbers : AreRows l.top (suc (length l.low)) l.rows.items;
+  numbers : AreTableRows l.top (suc (length l.low)) l.rows.items;
 }

@@ -3,7 +3,7 @@ use Rattle.std.proofs.Common.{◌∷◌, map, suc}
 use Rattle.std.specs.Prelude.{pos}
 use Rattle.cost_base.proofs.ListLemmas.{put_more}
 use Rattle.whole_numbers.specs.Fractions.{whole}
-use Rattle.path_rows.specs.Basis.{unit}
+use Rattle.design_problem.specs.Basis.{unit}
 use Rattle.fraction_table.proofs.StartLines.{rows_more, unit_line_long}
 use Rattle.fraction_table.proofs.start.push_low_rows.Goals as goal
 

@@ -3,7 +3,7 @@ use Rattle.std.proofs.Common.{◌≡◌, suc, ◌∙◌, ap, ◌∷◌, length, 
 use Rattle.std.proofs.lemmas.Int.{to_z-of_z}
 use Rattle.cost_base.specs.Lists.{numbers_from}
 use Rattle.whole_numbers.specs.Fractions.{whole}
-use Rattle.path_rows.specs.Basis.{entry}
+use Rattle.design_problem.specs.Basis.{entry}
 use Rattle.fraction_rows.specs.TableRows.{nothing}
 use Rattle.fraction_rows.proofs.BlankRows.{blank_entry, blank_size, cleared_set}
 use Rattle.fraction_table.proofs.StartLines.{entry_set, unit_line_numbers}

@@ -2,7 +2,7 @@
 use Rattle.std.proofs.Common.{refl, []}
 use Rattle.std.specs.Prelude.{slice_index}
 use Rattle.cost_base.proofs.ListLemmas.{put_more}
-use Rattle.path_rows.specs.declared.tree.Member.TheVariants.{Low}
+use Rattle.design_problem.specs.declared.tree.Member.TheVariants.{Low}
 use Rattle.fraction_table.proofs.start.starting_basis.Goals as goal
 
 pub loop-var-preserved : goal.loop-var-preserved

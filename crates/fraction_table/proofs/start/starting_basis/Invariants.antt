@@ -2,7 +2,7 @@
 use Rattle.std.proofs.Common.{◌≡◌, map}
 use Rattle.std.specs.Prelude.{slice_index}
 use Rattle.cost_base.specs.Lists.{numbers_from}
-use Rattle.path_rows.specs.declared.tree.Member.TheVariants.{Low}
+use Rattle.design_problem.specs.declared.tree.Member.TheVariants.{Low}
 use Rattle.fraction_table.proofs.start.starting_basis.Given as goal
 
 abbrev pub invariant-loop-var : goal.invariant-loop-var

@@ -1,10 +1,10 @@
 -- What was read, made and resolved so far says what the files say.
 use Rattle.std.proofs.Common.{◌≡◌, [], subst, refl, sym, Err}
 use Rattle.std.proofs.lemmas.Result.{err_from_is_err_and}
-use Rattle.lsdb_build.specs.Graphs.{Database, IsDatabase}
+use Rattle.lsdb_build.specs.Graphs.{Database, IsAreaDatabase}
 use Rattle.request_reader.specs.Asked.{Asked, IsAsked as IsLawful}
 use Rattle.input_files.specs.Outcomes.{topology_read}
-use Rattle.input_files.specs.Stops.{StopsAs, IsReady, files_named}
+use Rattle.input_files.specs.Stops.{StopsAs, IsReadAndMade, files_named}
 use Rattle.input_files.proofs.Networks.{network_is}
 use Rattle.input_files.proofs.Problems.{request_stops, configs_stop, topology_stops, problem_is, routers_of_vector}
 use Rattle.input_files.proofs.network.read_network.Goals as goal
@@ -48,10 +48,10 @@ returns-in_err-problem-clause-read g c =
     rw (p.1, p.2) (problem_is (g.S.Shelf.gave a b) (g.S.Shelf.gave b d) (g.S.Shelf.gave a d) c.args.view names
     c.in_ok-requests.requests routers c.in_ok-lsdb.lsdb (Err c.in_err-problem.field-0.0)
     (g.met.S.Shelf.gave_more a b d)
-    (subst (λ (e : Database). IsDatabase e) c.lsdb.view_is c.lsdb.invariant)
+    (subst (λ (e : Database). IsAreaDatabase e) c.lsdb.view_is c.lsdb.invariant)
     c.in_ok-requests.ensures
     (routers_of_vector (g.S.Shelf.gave b d) names c.in_ok-configs.configs routers c.deref.ensures.value c.in_ok-configs.ensures)
-    (subst (λ (x : Asked). IsReady (topology_read names x.area routers) [] (λ made read. made ≡ read) c.in_ok-lsdb.lsdb)
+    (subst (λ (x : Asked). IsReadAndMade (topology_read names x.area routers) [] (λ made read. made ≡ read) c.in_ok-lsdb.lsdb)
     c.requests.view_is c.in_ok-lsdb.ensures)
     c.in_err-problem.ensures.read)
 
@@ -64,11 +64,11 @@ returns-clause-read g c =
     let routers = c.deref.result.now in
     network_is (g.S.Shelf.gave a b) (g.S.Shelf.gave b d) (g.S.Shelf.gave a d) c.args.view names _
     c.in_ok-requests.requests routers c.in_ok-lsdb.lsdb c.in_ok-problem.problem (g.met.S.Shelf.gave_more a b d)
-    (subst (λ (e : Database). IsDatabase e) c.lsdb.view_is c.lsdb.invariant)
+    (subst (λ (e : Database). IsAreaDatabase e) c.lsdb.view_is c.lsdb.invariant)
     (subst (λ (x : Asked). IsLawful x) c.requests.view_is c.requests.invariant)
     (record { requests = refl; configs = sym c.deref.ensures.value; lsdb = refl; problem = refl })
     c.in_ok-requests.ensures
     (routers_of_vector (g.S.Shelf.gave b d) names c.in_ok-configs.configs routers c.deref.ensures.value c.in_ok-configs.ensures)
-    (subst (λ (x : Asked). IsReady (topology_read names x.area routers) [] (λ made read. made ≡ read) c.in_ok-lsdb.lsdb)
+    (subst (λ (x : Asked). IsReadAndMade (topology_read names x.area routers) [] (λ made read. made ≡ read) c.in_ok-lsdb.lsdb)
     c.requests.view_is c.in_ok-lsdb.ensures)
     c.in_ok-problem.ensures.read

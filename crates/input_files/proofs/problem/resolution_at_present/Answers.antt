@@ -1,6 +1,6 @@
 -- The present problem has no variable.
 use Rattle.std.proofs.Common.{◌∙◌, ap}
-use Rattle.path_rows.specs.Problems.{DesignProblem}
+use Rattle.design_problem.specs.Problems.{DesignProblem}
 use Rattle.input_files.proofs.Present.{present_low}
 use Rattle.input_files.proofs.problem.resolution_at_present.Goals as goal
 

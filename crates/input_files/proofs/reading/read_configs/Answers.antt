@@ -5,7 +5,7 @@ use Rattle.std.specs.declared.alloc.Global.{Global}
 use Rattle.std.proofs.lemmas.List.{drop_all}
 use Rattle.std.proofs.lemmas.Result.{err_from_is_err_and}
 use Rattle.interface_model.specs.Records.{Router}
-use Rattle.command_words.specs.Words.{texts}
+use Rattle.text_lines.specs.Arguments.{texts}
 use Rattle.input_files.proofs.Configs.{Progress, progress_begins, progress_stops, progress_goes, progress_ends, progress_next}
 use Rattle.input_files.proofs.reading.read_configs.Goals as goal
 

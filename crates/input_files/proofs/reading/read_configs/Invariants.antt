@@ -1,6 +1,6 @@
 -- This came of those that were read, and the others are left.
 use Rattle.std.proofs.Common.{drop}
-use Rattle.command_words.specs.Words.{texts}
+use Rattle.text_lines.specs.Arguments.{texts}
 use Rattle.input_files.specs.Readings.{Gave}
 use Rattle.input_files.proofs.Configs.{Progress}
 use Rattle.input_files.proofs.reading.read_configs.Given as goal

@@ -4,7 +4,7 @@ use Rattle.std.specs.Prelude.{ℤ, nat_abs, slice_index_or}
 use Rattle.whole_numbers.specs.Lists.{number_at}
 use Rattle.integer_pivots.specs.declared.turn.Turn.{Turn}
 use Rattle.integer_pivots.specs.Reciprocals.{IsDivisorOf}
-use Rattle.integer_pivots.specs.Turns.{AreTurnedWithin, IsTurned, IsWholeTurn, turn_of}
+use Rattle.integer_pivots.specs.Turns.{AreTurnedWithin, IsNumberTurned, IsIntegralTurn, turn_of}
 use Rattle.integer_pivots.proofs.Sizes.{read, read_number}
 use Rattle.integer_pivots.proofs.Crossings.{read_known, turned_small}
 use Rattle.integer_pivots.proofs.TouchedColumns.{done_within, from_read, next_number, row_done, to_read, turning_more}
@@ -26,7 +26,7 @@ turned-turned-requires c =
       divisor = subst (λ (t : Turn). IsDivisorOf t.common c.args.divisor) (sym c.over.ensures) c.requires.divisor;
       number = here.number_small;
       along = here.along_small;
-      whole = to_read IsWholeTurn t.pivot t.common y line olds column c.over.result _ _ here
+      whole = to_read IsIntegralTurn t.pivot t.common y line olds column c.over.result _ _ here
           (c.requires.whole column (c.requires.touched.before i c.loop-index-test.true));
     }
 
@@ -59,9 +59,9 @@ loop-index-preserved c =
     let before = c.loop-index.invariant in
     let here = next_number p d y line columns i olds c.loop-index.numbers c.as_slice.result.now _ c.over.result
     c.requires.small c.requires.touched c.loop-index-test.true before.turning c.as_slice.ensures c.over.ensures in
-    let turned : IsTurned (turn_of p d (number_at line column)) (number_at olds column) (read y) (read z) =
-    subst (λ (x : ℤ). IsTurned (turn_of p d (number_at line column)) (number_at olds column) (read y) x) (sym (read_known z c.turned-turned.type_inv))
-    (from_read (λ t n w. IsTurned t n w z) p d y line olds column c.over.result _ _ here c.turned-turned.ensures) in
+    let turned : IsNumberTurned (turn_of p d (number_at line column)) (number_at olds column) (read y) (read z) =
+    subst (λ (x : ℤ). IsNumberTurned (turn_of p d (number_at line column)) (number_at olds column) (read y) x) (sym (read_known z c.turned-turned.type_inv))
+    (from_read (λ t n w. IsNumberTurned t n w z) p d y line olds column c.over.result _ _ here c.turned-turned.ensures) in
     rw (read_known g c.greater_size-most.type_inv, c.set.ensures)
     (record {
       turning = turning_more p d (read y) line columns i olds c.loop-index.numbers _ (nat_abs g)

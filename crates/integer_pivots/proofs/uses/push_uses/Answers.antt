@@ -2,7 +2,7 @@
 use Rattle.std.specs.declared.alloc.Global.{Global}
 use Rattle.std.proofs.Common.{Vec, ◌^◌, ◌<◌, get_or, length, subst, sym, arith}
 use Rattle.std.specs.Prelude.{nat_abs, vec_capacity, vec_len}
-use Rattle.path_rows.specs.Forms.{no_term}
+use Rattle.design_problem.specs.Forms.{no_term}
 use Rattle.integer_pivots.specs.declared.uses.Use.{Use}
 use Rattle.integer_pivots.proofs.Terms.{term_light}
 use Rattle.integer_pivots.proofs.Sizes.{read_number}

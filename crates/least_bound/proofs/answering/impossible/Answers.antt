@@ -2,18 +2,18 @@
 use Rattle.std.proofs.Common.{◌≡◌, ℕ, List, arith}
 use Rattle.std.specs.Prelude.{Option, Some, None}
 use Rattle.area_graph.specs.Area.{FitsGraph}
-use Rattle.path_rows.specs.declared.answer.CapTree.{CapTree}
-use Rattle.path_rows.specs.declared.form.Row.{Row}
-use Rattle.path_rows.specs.Problems.{DesignProblem, IsProblem}
+use Rattle.design_problem.specs.declared.answer.CapTree.{CapTree}
+use Rattle.design_problem.specs.declared.form.Row.{Row}
+use Rattle.design_problem.specs.Problems.{DesignProblem, IsProblem}
 use Rattle.printed_rows.specs.NewNumbers.{ArePrinted}
-use Rattle.cost_branching.specs.Pools.{Pooled, IsPool}
+use Rattle.cost_branching.specs.Pools.{Pooled, IsRowPool}
 use Rattle.least_bound.specs.Caps.{IsRefuted}
 use Rattle.least_bound.proofs.ValidAnswers.{AreOnSheet, impossible_answered, impossible_kept, names_rows, on_sheet, sheet_of}
 use Rattle.least_bound.proofs.answering.impossible.Goals as goal
 
 -- the sheet of a closed tree
 refuted_sheet : (p : DesignProblem) (top nodes : ℕ) (pool : Pooled) (old : List Row) (t : CapTree) (rows : List Row)
-    (new_proof new_unfinished : Option CapTree) → IsProblem p → FitsGraph p.graph → IsPool p pool → old ≡ pool.rows →
+    (new_proof new_unfinished : Option CapTree) → IsProblem p → FitsGraph p.graph → IsRowPool p pool → old ≡ pool.rows →
     IsRefuted p top nodes pool t → ArePrinted old (Some t) None rows new_proof new_unfinished →
     AreOnSheet p pool (Some t) None rows new_proof new_unfinished
 refuted_sheet p top nodes pool old t rows new_proof new_unfinished problem graph is_pool same refuted =
@@ -46,4 +46,4 @@ returns c = λ top nodes refuted.
     printed.unfinished c.keeps_conditions.ensures.problem c.keeps_conditions.ensures.graph c.requires.pool
     c.into_rows.ensures refuted c.in_ok-printed.ensures in
     impossible_answered p top nodes c.args.pool (sheet_of (Some t) None printed.rows) t printed.proof printed.unfinished
-    are.sheet are.proof_is are.unfinished_is c.requires.ceiling refuted
+    are.sheet are.proof_is are.unfinished_is c.requires.ceiling refuted are.whole

@@ -3,13 +3,13 @@ use Rattle.std.proofs.Common.{rules, ◌≡◌, ◌≤◌, ℕ, List, length, su
 use Rattle.std.specs.Option.{option_copied}
 use Rattle.std.specs.Prelude.{Option, None}
 use Rattle.area_graph.specs.Area.{FitsGraph}
-use Rattle.path_rows.specs.declared.answer.CapTree.{CapTree}
-use Rattle.path_rows.specs.declared.form.Row.{Row}
-use Rattle.path_rows.specs.Problems.{DesignProblem, IsProblem}
-use Rattle.path_rows.specs.Rows.{greatest_cost}
+use Rattle.design_problem.specs.declared.answer.CapTree.{CapTree}
+use Rattle.design_problem.specs.declared.form.Row.{Row}
+use Rattle.design_problem.specs.Problems.{DesignProblem, IsProblem}
+use Rattle.design_problem.specs.Rows.{greatest_cost}
 use Rattle.printed_rows.specs.NamedRows.{TreeNamesBelow}
 use Rattle.printed_rows.specs.NewNumbers.{ArePrinted}
-use Rattle.cost_branching.specs.Pools.{Pooled, IsPool}
+use Rattle.cost_branching.specs.Pools.{Pooled, IsRowPool}
 use Rattle.least_bound.specs.Caps.{IsKeptAt}
 use Rattle.least_bound.proofs.ValidAnswers.{AreOnSheet, optimal_answered, optimal_kept, kept_below, kept_names, kept_on_sheet, sheet_of}
 use Rattle.least_bound.proofs.answering.optimal.Goals as goal
@@ -17,7 +17,7 @@ use Rattle.least_bound.proofs.answering.optimal.Goals as goal
 -- the sheet of the tree that is kept at the cap below the greatest of some costs
 at_least : (p : DesignProblem) (top nodes : ℕ) (pool : Pooled) (old : List Row) (w : List ℕ)
     (kept lent : Option CapTree) (rows : List Row) (new_proof new_unfinished : Option CapTree) → IsProblem p →
-    FitsGraph p.graph → IsPool p pool → old ≡ pool.rows → lent ≡ kept →
+    FitsGraph p.graph → IsRowPool p pool → old ≡ pool.rows → lent ≡ kept →
     IsKeptAt p top nodes pool (greatest_cost w) kept →
     ArePrinted old lent None rows new_proof new_unfinished → AreOnSheet p pool kept None rows new_proof new_unfinished
 at_least p top nodes pool old w kept lent rows new_proof new_unfinished problem graph is_pool same lent_is holds =
@@ -64,4 +64,4 @@ returns c = λ top nodes holds.
     c.requires.pool c.into_rows.ensures lent holds c.in_ok-printed.ensures in
     optimal_answered p top nodes pool (sheet_of kept None printed.rows) w c.in_ok-costs.costs
     c.floor_without-floor.result kept printed.proof printed.unfinished are.sheet are.proof_is are.unfinished_is
-    c.requires.fit c.in_ok-costs.ensures c.floor_without-floor.ensures holds
+    c.requires.fit c.in_ok-costs.ensures c.floor_without-floor.ensures holds are.whole

@@ -3,21 +3,21 @@ use Rattle.std.proofs.Common.{rules, ◌≡◌, ◌≤◌, ℕ, List, length, su
 use Rattle.std.specs.Option.{option_copied}
 use Rattle.std.specs.Prelude.{Option, Some}
 use Rattle.area_graph.specs.Area.{FitsGraph}
-use Rattle.path_rows.specs.declared.answer.CapTree.{CapTree}
-use Rattle.path_rows.specs.declared.form.Row.{Row}
-use Rattle.path_rows.specs.Problems.{DesignProblem, IsProblem}
+use Rattle.design_problem.specs.declared.answer.CapTree.{CapTree}
+use Rattle.design_problem.specs.declared.form.Row.{Row}
+use Rattle.design_problem.specs.Problems.{DesignProblem, IsProblem}
 use Rattle.printed_rows.specs.NamedRows.{TreeNamesBelow}
 use Rattle.printed_rows.specs.NewNumbers.{ArePrinted}
-use Rattle.cost_branching.specs.Pools.{Pooled, IsPool}
-use Rattle.least_bound.specs.Caps.{IsKeptBelow, IsSpent}
+use Rattle.cost_branching.specs.Pools.{Pooled, IsRowPool}
+use Rattle.least_bound.specs.Caps.{IsTreeKeptBelow, IsUndecidedAt}
 use Rattle.least_bound.proofs.ValidAnswers.{AreOnSheet, undecided_answered, undecided_kept, kept_names, kept_on_sheet, names_rows, sheet_of}
 use Rattle.least_bound.proofs.answering.undecided.Goals as goal
 
 -- the sheet of a kept tree and of an unfinished one
 spent_sheet : (p : DesignProblem) (top nodes : ℕ) (pool : Pooled) (old : List Row) (kept lent : Option CapTree)
     (t : CapTree) (rows : List Row) (new_proof new_unfinished : Option CapTree) → IsProblem p → FitsGraph p.graph →
-    IsPool p pool → old ≡ pool.rows → lent ≡ kept → IsKeptBelow p top nodes pool t.cap kept →
-    IsSpent p top nodes pool t →
+    IsRowPool p pool → old ≡ pool.rows → lent ≡ kept → IsTreeKeptBelow p top nodes pool t.cap kept →
+    IsUndecidedAt p top nodes pool t →
     ArePrinted old lent (Some t) rows new_proof new_unfinished → AreOnSheet p pool kept (Some t) rows new_proof new_unfinished
 spent_sheet p top nodes pool old kept lent t rows new_proof new_unfinished problem graph is_pool same lent_is below spent =
     kept_on_sheet p top nodes t.cap pool old kept lent (Some t) rows new_proof new_unfinished problem graph is_pool same
@@ -71,5 +71,5 @@ returns c = λ top nodes below spent.
     let holds =
     undecided_answered p top nodes pool (sheet_of kept (Some t) printed.rows) (option_copied c.args.costs)
     c.in_ok-printed_if_any.field-0 kept printed.proof t printed.unfinished are.sheet are.proof_is are.unfinished_is
-    c.requires.from_floor c.requires.costs c.in_ok-printed_if_any.ensures below spent in
+    c.requires.from_floor c.requires.costs c.in_ok-printed_if_any.ensures below spent are.whole in
     rw c.cap_of-cap.ensures holds

@@ -1,10 +1,10 @@
 -- At the greatest upper bound no costs are fit, costs are found, or the budget is used up.
 use Rattle.std.proofs.Common.{◌≡◌, ◌≤◌, ℕ, sym, ◌∙◌, ap, subst, arith}
-use Rattle.path_rows.specs.Problems.{DesignProblem}
-use Rattle.path_rows.specs.Rows.{greatest_cost}
-use Rattle.path_rows.specs.Answers.{greatest_bound}
+use Rattle.design_problem.specs.Problems.{DesignProblem}
+use Rattle.design_problem.specs.Rows.{greatest_cost}
+use Rattle.design_problem.specs.Answers.{greatest_bound}
 use Rattle.form_search.specs.declared.found.Found.{Found}
-use Rattle.form_search.specs.declared.found.Found.TheVariants.{Costs, Refuted, Spent}
+use Rattle.form_search.specs.declared.found.Found.TheVariants.{Costs, Refuted, Undecided}
 use Rattle.form_search.proofs.AdvisorLaws.{left_then}
 use Rattle.cost_branching.specs.Decisions.{IsDecided}
 use Rattle.printed_rows.proofs.CapBoxes.{floor_below_ceiling, no_low_above}
@@ -45,26 +45,26 @@ narrowed-requires-clause-progress g c =
     let most_is : c.greatest_of-most.result ≡ greatest_cost c.in-Costs.costs = c.greatest_of-most.ensures ∙ ap greatest_cost c.as_slice-in-Costs.ensures in
     c.start-progress.ensures limits.top limits.nodes c.decide.new.pool (found.0, sym most_is)
 
-pub start-progress-requires-in-Spent : goal.start-progress-requires-in-Spent
-start-progress-requires-in-Spent g c =
+pub start-progress-requires-in-Undecided : goal.start-progress-requires-in-Undecided
+start-progress-requires-in-Undecided g c =
     let p = c.args.problem.now in
     let ceiling_is : c.greatest_of-ceiling.result ≡ greatest_bound p = c.greatest_of-ceiling.ensures
     ∙ ap greatest_cost (c.as_slice.ensures ∙ ap (λ (q : DesignProblem). q.high) c.problem.view_is) in
     subst (λ (k : ℕ). greatest_cost p.low ≤ k) (sym ceiling_is) (floor_below_ceiling p c.keeps_conditions.ensures.problem)
 
-pub narrowed-requires-in-Spent-clause-progress : goal.narrowed-requires-in-Spent-clause-progress
-narrowed-requires-in-Spent-clause-progress g c =
+pub narrowed-requires-in-Undecided-clause-progress : goal.narrowed-requires-in-Undecided-clause-progress
+narrowed-requires-in-Undecided-clause-progress g c =
     let p = c.args.problem.now in
     let limits = c.args.limits.now in
     let ceiling_is : c.greatest_of-ceiling.result ≡ greatest_bound p = c.greatest_of-ceiling.ensures
     ∙ ap greatest_cost (c.as_slice.ensures ∙ ap (λ (q : DesignProblem). q.high) c.problem.view_is) in
-    let found : IsDecided p limits.top limits.nodes c.greatest_of-ceiling.result c.decide.new.pool (Spent c.in-Spent.tree) =
-    subst (λ (f : Found). IsDecided p limits.top limits.nodes c.greatest_of-ceiling.result c.decide.new.pool f) c.in-Spent.is c.in_ok-tree.ensures.decided in
+    let found : IsDecided p limits.top limits.nodes c.greatest_of-ceiling.result c.decide.new.pool (Undecided c.in-Undecided.tree) =
+    subst (λ (f : Found). IsDecided p limits.top limits.nodes c.greatest_of-ceiling.result c.decide.new.pool f) c.in-Undecided.is c.in_ok-tree.ensures.decided in
     let same : c.greatest_of-ceiling.result ≤ c.greatest_of-ceiling.result = omega arith in
-    c.start-progress-in-Spent.ensures limits.top limits.nodes c.decide.new.pool (ceiling_is, same, record { tree = found.0; undone = found.1; spent = found.2 })
+    c.start-progress-in-Undecided.ensures limits.top limits.nodes c.decide.new.pool (ceiling_is, same, record { tree = found.0; undone = found.1; spent = found.2 })
 
 pub returns-in-Costs-clause-advisors : goal.returns-in-Costs-clause-advisors
 returns-in-Costs-clause-advisors g c = left_then _ _ _ _ c.decide.ensures.advisors c.narrowed.ensures.advisors
 
-pub returns-in-Spent-clause-advisors : goal.returns-in-Spent-clause-advisors
-returns-in-Spent-clause-advisors g c = left_then _ _ _ _ c.decide.ensures.advisors c.narrowed-in-Spent.ensures.advisors
+pub returns-in-Undecided-clause-advisors : goal.returns-in-Undecided-clause-advisors
+returns-in-Undecided-clause-advisors g c = left_then _ _ _ _ c.decide.ensures.advisors c.narrowed-in-Undecided.ensures.advisors

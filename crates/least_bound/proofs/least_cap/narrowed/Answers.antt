@@ -1,6 +1,6 @@
 -- Each cap brings the ends nearer; what is known stays true, and the advisors stand as their calls left them.
 use Rattle.std.proofs.Common.{◌≤◌, refl, arith}
-use Rattle.path_rows.specs.Rows.{greatest_cost}
+use Rattle.design_problem.specs.Rows.{greatest_cost}
 use Rattle.form_search.proofs.AdvisorLaws.{left_alike, left_then}
 use Rattle.printed_rows.proofs.CapBoxes.{no_low_above}
 use Rattle.least_bound.proofs.least_cap.narrowed.Goals as goal

@@ -1,15 +1,15 @@
 use Rattle.std.proofs.Common.{◌≡◌, ◌-◌}
-use Rattle.form_search.specs.Advised.{AreLeft, IsCalled}
-use Rattle.cost_branching.specs.Pools.{IsPool}
+use Rattle.form_search.specs.Advised.{AreAdvisorsLeft, IsCalled}
+use Rattle.cost_branching.specs.Pools.{IsRowPool}
 use Rattle.least_bound.specs.Caps.{IsProgress}
 use Rattle.least_bound.proofs.least_cap.narrowed.Given as goal
 
 -- the pool's rows are true, and what is known is true
 abbrev pub invariant-loop-cap : goal.invariant-loop-cap
 invariant-loop-cap g l = record {
-  pool : IsPool l.problem l.pool;
+  pool : IsRowPool l.problem l.pool;
   progress : IsProgress l.problem l.limits.top l.limits.nodes l.pool l.progress;
-  advisors : AreLeft
+  advisors : AreAdvisorsLeft
       (IsCalled (λ b c. c.vtable ≡ b.vtable) (λ b. (goal.Advisor-dyn g (b.vtable, b.value)).state b.value)
       (λ b. (goal.Advisor-dyn g (b.vtable, b.value)).left) (λ b. (goal.Advisor-dyn g (b.vtable, b.value)).after))
       l.initial.advisors.items l.advisors.items;

@@ -1,12 +1,12 @@
 -- The rounds begin with the answer's costs, and end with costs of the least total, or with a tree that used the budget up.
 use Rattle.std.proofs.Common.{rules, ◌≤◌, ℕ, sym, ◌∙◌, ap, subst, arith}
 use Rattle.std.specs.Prelude.{All, Option}
-use Rattle.path_rows.specs.Rows.{greatest_cost}
-use Rattle.path_rows.specs.Answers.{AnswerParts}
-use Rattle.least_total.specs.declared.finding.Total.TheVariants.{Least, Unknown}
+use Rattle.design_problem.specs.Rows.{greatest_cost}
+use Rattle.design_problem.specs.Answers.{AnswerParts}
+use Rattle.least_total.specs.declared.finding.Total.TheVariants.{Least, Undecided}
 use Rattle.least_total.specs.declared.rounds.TotalTree.{TotalTree}
 use Rattle.least_total.specs.Rounds.{EndsAt}
-use Rattle.least_total.specs.Results.{IsAnswered}
+use Rattle.least_total.specs.Results.{IsTotalAnswer}
 use Rattle.least_total.proofs.RoundLaws.{lows_below}
 use Rattle.least_total.proofs.FindingLaws.{Begins, begins, least_answered, unknown_answered}
 use Rattle.least_total.proofs.finding.least_total.Goals as goal
@@ -41,7 +41,7 @@ returns-in_ok-proof_of-in-None c =
     let begun = begun_at (goal.at.returns-in_ok-proof_of-in-None c).In_ok-standing in
     let s = c.in_ok-standing.field-0.standing in
     let ended = subst (λ (o : Option (ℕ × TotalTree)). EndsAt p limits.top limits.nodes cap s o) c.in-None.is c.in_ok-standing.ensures.ends in
-    subst (λ (a : AnswerParts). IsAnswered p limits.top limits.nodes c.args.answer
+    subst (λ (a : AnswerParts). IsTotalAnswer p limits.top limits.nodes c.args.answer
     (Least a c.from-total.result c.in_ok-proof_of-in-None.field-0)) (sym c.answer-in-None.view_is)
     (least_answered p limits.top limits.nodes cap c.args.answer c.in_ok-answer.answer s c.from-total.result
     c.in_ok-proof_of-in-None.field-0 c.keeps_conditions.ensures.problem begun.tells
@@ -58,8 +58,8 @@ returns-in_ok-rows-in-Some c =
     let s = c.in_ok-standing.field-0.standing in
     let ended = subst (λ (o : Option (ℕ × TotalTree)). EndsAt p limits.top limits.nodes cap s o) c.in-Some.is c.in_ok-standing.ensures.ends in
     let printed = c.in_ok-rows-in-Some.field-0 in
-    subst (λ (n : ℕ). IsAnswered p limits.top limits.nodes c.args.answer
-    (Unknown c.in_ok-answer.answer c.from-total.result n printed.rows printed.tree)) (sym c.from.ensures)
+    subst (λ (n : ℕ). IsTotalAnswer p limits.top limits.nodes c.args.answer
+    (Undecided c.in_ok-answer.answer c.from-total.result n printed.rows printed.tree)) (sym c.from.ensures)
     (unknown_answered p limits.top limits.nodes cap c.args.answer c.in_ok-answer.answer s c.from-total.result
     c.in-Some.most c.in-Some.tree printed begun.can begun.tells c.in_ok-standing.ensures.standing ended.0
     ended.1 ended.2

@@ -1,9 +1,9 @@
 -- The tree names none but the forms of the rows and that of the total.
 use Rattle.std.proofs.Common.{rules, ◌≡◌, ℕ, ◌+◌, sym, ◌∙◌, ap, subst, List, length}
 use Rattle.std.specs.Prelude.{All}
-use Rattle.path_rows.specs.declared.tree.Entry.{Entry}
+use Rattle.design_problem.specs.declared.tree.Entry.{Entry}
 use Rattle.printed_rows.specs.NamedRows.{NamesBelow}
-use Rattle.printed_rows.specs.NewNumbers.{IsPrinted}
+use Rattle.printed_rows.specs.NewNumbers.{IsTreePrinted}
 use Rattle.least_total.specs.declared.printing.PoolForm.{PoolForm}
 use Rattle.least_total.specs.Printing.{moved_from, with_total_last}
 use Rattle.least_total.proofs.PrintedTotals.{names_last, names_placed}
@@ -34,11 +34,11 @@ returns c =
     ∙ ap (λ (n : ℕ). moved_from t.before n t.tree) count in
     let kept = c.in_ok-rows.field-0.rows.items in
     let tree = c.in_ok-rows.field-0.tree in
-    let by_forms : IsPrinted (with_total_last t.rows.items) c.in_ok-tree.tree kept tree =
-    subst (λ (fs : List PoolForm). IsPrinted fs c.in_ok-tree.tree kept tree) c.in_ok-forms.ensures
+    let by_forms : IsTreePrinted (with_total_last t.rows.items) c.in_ok-tree.tree kept tree =
+    subst (λ (fs : List PoolForm). IsTreePrinted fs c.in_ok-tree.tree kept tree) c.in_ok-forms.ensures
     c.in_ok-rows.ensures in
     record {
       kept = kept;
-      is_printed = subst (λ (es : List Entry). IsPrinted (with_total_last t.rows.items) es kept tree) moved by_forms;
+      is_printed = subst (λ (es : List Entry). IsTreePrinted (with_total_last t.rows.items) es kept tree) moved by_forms;
       rows = c.in_ok-rows_in.ensures;
     }

@@ -1,7 +1,7 @@
 -- The lines of a valid optimal answer give best costs.
 use Rattle.std.proofs.Common.{sym, ◌∙◌, ap, length}
-use Rattle.path_rows.specs.Problems.{DesignProblem}
-use Rattle.path_rows.specs.Answers.{AnswerParts, lines_in}
+use Rattle.design_problem.specs.Problems.{DesignProblem}
+use Rattle.design_problem.specs.Answers.{AnswerParts, lines_in}
 use Rattle.least_total.proofs.NewCosts.{given_are, given_by, lines_counted}
 use Rattle.least_total.proofs.recosting.costs_in.Goals as goal
 

@@ -1,7 +1,7 @@
 -- The answer with other costs is valid, and its text is in the grammar.
 use Rattle.std.proofs.Common.{◌≤◌, sym, ◌∙◌, ap, subst, List, ℕ, length}
 use Rattle.std.specs.Prelude.{All, Some}
-use Rattle.path_rows.specs.Answers.{AnswerParts, IsValid}
+use Rattle.design_problem.specs.Answers.{AnswerParts, IsValid}
 use Rattle.printed_rows.specs.PrintedCosts.{ArePrintedCosts}
 use Rattle.least_total.specs.Results.{IsRecosted}
 use Rattle.printed_rows.proofs.CostLaws.{fit_positive}

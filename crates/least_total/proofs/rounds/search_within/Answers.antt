@@ -1,6 +1,6 @@
 -- The source's rows are the problem's, and its forms are those of the tree.
 use Rattle.std.proofs.Common.{sym, ◌∙◌, ap, subst}
-use Rattle.form_search.specs.Finds.{IsFound}
+use Rattle.form_search.specs.Finds.{IsSearchResult}
 use Rattle.least_total.specs.Totals.{LeadsWithin}
 use Rattle.least_total.specs.Bounded.{BoundedRows, candidates_within}
 use Rattle.least_total.proofs.RoundLaws.{sought_is}
@@ -15,7 +15,7 @@ returns g c =
     let same_problem = c.into_parts-rows.ensures.problem ∙ sym c.requires.problem in
     let candidates = c.search.ensures.same.same_candidates ∙ ap (λ (s : BoundedRows). candidates_within s.known.problem s.most) c.new-source.ensures in
     let found = subst (λ (s : BoundedRows).
-    IsFound (LeadsWithin s.known.problem s.most) limits.top limits.nodes pool c.args.costs.now
+    IsSearchResult (LeadsWithin s.known.problem s.most) limits.top limits.nodes pool c.args.costs.now
     c.in_ok-found.found) c.new-source.ensures c.in_ok-found.ensures.found in
     sought_is p limits.top limits.nodes c.args.most c.args.costs.now source pool
     (record { rows = c.into_parts-rows.result.0; before = c.into_parts-rows.result.1; found = c.in_ok-found.found })

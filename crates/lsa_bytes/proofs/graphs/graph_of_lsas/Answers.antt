@@ -1,7 +1,7 @@
 use Rattle.std.proofs.Common.{◌≡◌, length, subst, sym, ap, ◌∙◌, List, arith}
 use Rattle.area_graph.specs.Area.{FitsGraph}
 use Rattle.lsa_bytes.specs.declared.Lsa.{Lsa}
-use Rattle.lsa_bytes.specs.AreaGraphs.{routers}
+use Rattle.lsa_bytes.specs.AreaGraphs.{routers_among}
 use Rattle.lsa_bytes.proofs.GraphFits.{database_few, routers_few, graph_fits, graph_made}
 use Rattle.lsa_bytes.proofs.graphs.graph_of_lsas.Goals as goal
 
@@ -14,7 +14,7 @@ push_edges-requires-2 c =
     omega (
       arith,
       c.router_count-routers.ensures,
-      ap (λ (lsas : List Lsa). length (routers lsas)) same,
+      ap (λ (lsas : List Lsa). length (routers_among lsas)) same,
       ap (λ (lsas : List Lsa). length lsas) same,
       database_few c.args.database.now c.as_slice.ensures.kept,
       routers_few c.args.database.now c.as_slice.ensures.kept,

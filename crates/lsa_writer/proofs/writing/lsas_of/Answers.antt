@@ -1,13 +1,13 @@
 use Rattle.std.proofs.Common.{◌≡◌, ◌∙◌, ◌≤◌, List, ℕ, sym, ap, subst, arith, length, All, map}
 use Rattle.std.proofs.lemmas.List.Elements.{All-weaker}
 use Rattle.area_graph.specs.declared.Price.TheVariants.{Fixed}
-use Rattle.lsdb_build.specs.Graphs.{Database, IsDatabase, graph_at}
+use Rattle.lsdb_build.specs.Graphs.{Database, IsAreaDatabase, graph_at}
 use Rattle.lsdb_build.proofs.GraphLaws.{AreMembers, members_fit}
 use Rattle.lsa_writer.specs.declared.ends.LinkEnd.{LinkEnd}
 use Rattle.lsa_writer.specs.declared.said.OwnedLink.{OwnedLink}
-use Rattle.lsa_writer.specs.Ends.{ends_of, designated_ends}
+use Rattle.lsa_writer.specs.Ends.{link_ends, designated_ends}
 use Rattle.lsa_writer.specs.OneGraph.{SayGraph, IsRangedEnd, IsRangedLink}
-use Rattle.lsa_writer.specs.WrittenLsas.{all_said}
+use Rattle.lsa_writer.specs.WrittenLsas.{all_links_said}
 use Rattle.lsa_writer.proofs.LinkGroups.{AreInOrder}
 use Rattle.lsa_writer.proofs.ToldLinks.{said_order, said_length}
 use Rattle.lsa_writer.proofs.Written.{said_is, written_is, written_graph}
@@ -22,11 +22,11 @@ subnets_are : (c : After-deref-6) → c.as_slice-subnets.result.now ≡ c.args.l
 subnets_are c = c.as_slice-subnets.ensures ∙ ap (λ (x : Database). x.subnets) c.lsdb.view_is
 
 -- and it keeps what each database keeps
-base : (c : After-deref-6) → IsDatabase c.args.lsdb.now
-base c = subst (λ (x : Database). IsDatabase x) c.lsdb.view_is c.lsdb.invariant
+base : (c : After-deref-6) → IsAreaDatabase c.args.lsdb.now
+base c = subst (λ (x : Database). IsAreaDatabase x) c.lsdb.view_is c.lsdb.invariant
 
 -- what the routers say of their links
-said : (c : After-deref-6) → c.deref-6.result.now ≡ all_said c.args.configs.now c.args.lsdb.now c.args.costs.now
+said : (c : After-deref-6) → c.deref-6.result.now ≡ all_links_said c.args.configs.now c.args.lsdb.now c.args.costs.now
 said c =
     let configs = c.args.configs.now in
     let d = c.args.lsdb.now in
@@ -42,7 +42,7 @@ push_router_lsas-requires-clause-in_order c =
     let d = c.args.lsdb.now in
     let configs = c.args.configs.now in
     let at = (goal.at.push_router_lsas-requires-clause-in_order c).After-deref-6 in
-    subst AreInOrder (sym (said at)) (said_order configs (designated_ends (ends_of configs d.links) d.subnets) d.links c.args.costs.now (base at).in_order)
+    subst AreInOrder (sym (said at)) (said_order configs (designated_ends (link_ends configs d.links) d.subnets) d.links c.args.costs.now (base at).in_order)
 
 pub push_router_lsas-requires-clause-few : goal.push_router_lsas-requires-clause-few
 push_router_lsas-requires-clause-few c =
@@ -50,7 +50,7 @@ push_router_lsas-requires-clause-few c =
     let configs = c.args.configs.now in
     let at = (goal.at.push_router_lsas-requires-clause-few c).After-deref-6 in
     let few = (base at).links in
-    omega (arith, ap length (said at), said_length configs (designated_ends (ends_of configs d.links) d.subnets) d.links c.args.costs.now, few)
+    omega (arith, ap length (said at), said_length configs (designated_ends (link_ends configs d.links) d.subnets) d.links c.args.costs.now, few)
 
 pub push_network_lsas-requires-clause-few_members : goal.push_network_lsas-requires-clause-few_members
 push_network_lsas-requires-clause-few_members c =
@@ -80,7 +80,7 @@ returns-clause-one_graph c =
     c.push_network_lsas.new.bytes.items
     (links_are at) (subnets_are at) (c.deref-7.ensures.value ∙ c.in_ok-ends.ensures) (said at) c.new-bytes.ensures.items
     c.in_ok-push_router_lsas.ensures c.in_ok-push_network_lsas.ensures in
-    let ends : c.deref-4.result.now ≡ ends_of configs d.links = c.deref-4.ensures.value ∙ c.in_ok-ends.ensures ∙ ap (ends_of configs) (links_are at) in
+    let ends : c.deref-4.result.now ≡ link_ends configs d.links = c.deref-4.ensures.value ∙ c.in_ok-ends.ensures ∙ ap (link_ends configs) (links_are at) in
     subst (λ (bs : List ℕ). SayGraph bs (graph_at d (map Fixed costs))) (sym bytes)
     (written_graph configs d costs c.requires.built c.keeps_configs.ensures.valid c.requires.ids c.requires.one_each
     c.requires.priced c.keeps_configs.ensures.ids

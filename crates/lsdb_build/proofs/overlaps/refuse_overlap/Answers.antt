@@ -3,7 +3,7 @@ use Rattle.std.proofs.lemmas.Bool.{false≢true, false_from_ne_true}
 use Rattle.std.proofs.lemmas.List.Elements.{All-cons, All-weaker}
 use Rattle.lsdb_build.specs.declared.port.Subnet.{Subnet}
 use Rattle.lsdb_build.specs.Neighbours.{Port}
-use Rattle.lsdb_build.specs.Tallies.{subnet_of, prefix_of}
+use Rattle.lsdb_build.specs.Tallies.{subnet_of, subnet_of_length}
 use Rattle.lsdb_build.specs.Owners.{IsNoted, HasSubnet, HasPrefixes}
 use Rattle.lsdb_build.specs.Topology.{is_overlap, at_port}
 use Rattle.lsdb_build.proofs.FirstPlaces.{left_on, first_met, none_met, list_any-reverse, reverse_more}
@@ -34,7 +34,7 @@ loop-i-preserved c =
           (All-cons more p before here (All-weaker seen more (λ q has. c.in_ok-note.ensures.kept q.router (subnet_of q) has) before c.loop-i.invariant.seen));
       noted = subst (All new) (reverse_more ports i p c.loop-i-test.true c.index-ports-i.is)
           (All-cons new p before c.in_ok-note_prefixes.ensures.noted
-          (All-weaker old new (λ q has l below. c.in_ok-note_prefixes.ensures.kept q.router (prefix_of q l)
+          (All-weaker old new (λ q has l below. c.in_ok-note_prefixes.ensures.kept q.router (subnet_of_length q l)
           (has l below)) before c.loop-i.invariant.noted));
       left = left_on is_overlap ports i c.loop-i.invariant.left p c.loop-i-test.true c.index-ports-i.is fails;
     }

@@ -3,7 +3,7 @@ use Rattle.std.specs.Prelude.{All, slice_get}
 use Rattle.std.specs.List.{filter_map}
 use Rattle.area_graph.specs.declared.Price.{Price}
 use Rattle.lsdb_build.specs.Graphs.{IsLinkPrice}
-use Rattle.path_rows.specs.Problems.{DesignProblem, IsProblem}
+use Rattle.design_problem.specs.Problems.{DesignProblem, IsProblem}
 use Rattle.path_requests.specs.Meaning.{low_of, high_of, range_at}
 use Rattle.wanted_paths.specs.Paths.{outline}
 use Rattle.path_requests.specs.Resolving.{present_asked, present_problem_of}

@@ -3,7 +3,7 @@ use Rattle.std.specs.Prelude.{All, slice_get}
 use Rattle.std.specs.List.{filter_map}
 use Rattle.area_graph.specs.declared.Price.{Price}
 use Rattle.lsdb_build.specs.Graphs.{Database, IsLinkPrice, graph_at}
-use Rattle.path_rows.specs.Problems.{DesignProblem, IsProblem}
+use Rattle.design_problem.specs.Problems.{DesignProblem, IsProblem}
 use Rattle.path_requests.specs.Meaning.{low_of, high_of, range_at, problem_of}
 use Rattle.path_requests.proofs.Assembled.{prices_link, assembled}
 use Rattle.path_requests.proofs.WholeProblems.{prices_count, whole_is_problem}

@@ -9,6 +9,6 @@ pub returns : goal.returns
 returns c =
     let d = c.args.names.now in
     let items = c.args.items.now in
-    c.mark_lines.ensures (λ link. c.any_ties_all.result && is_some link.mate) c.in_ok-marks.ensures
-    ∙ ap (λ b. map (λ link. (b && is_some link.mate) || list_any (λ item. ties_one d link item.what) items) d.links) c.any_ties_all.ensures
+    c.mark_lines.ensures (λ link. c.any_ties_all.result && is_some link.link_back) c.in_ok-marks.ensures
+    ∙ ap (λ b. map (λ link. (b && is_some link.link_back) || list_any (λ item. ties_one d link item.what) items) d.links) c.any_ties_all.ensures
     ∙ all_apart d items

@@ -1,6 +1,6 @@
 -- Costs of the variables can be printed.
 use Rattle.std.proofs.Common.{◌≡◌, ◌∙◌, ap, subst}
-use Rattle.path_rows.specs.Problems.{DesignProblem, IsProblem}
+use Rattle.design_problem.specs.Problems.{DesignProblem, IsProblem}
 use Rattle.printed_rows.proofs.CostLaws.{costs_printed, names_known}
 use Rattle.printed_rows.proofs.cost_lines.printed_costs.Goals as goal
 

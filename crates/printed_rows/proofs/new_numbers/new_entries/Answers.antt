@@ -1,6 +1,6 @@
 use Rattle.std.proofs.Common.{◌≡◌, ℕ, ◌<◌, Bool, List, length, subst, sym}
 use Rattle.std.specs.Prelude.{All, slice_index_or}
-use Rattle.path_rows.specs.declared.tree.Entry.{Entry}
+use Rattle.design_problem.specs.declared.tree.Entry.{Entry}
 use Rattle.printed_rows.specs.NamedRows.{IsKnown, NamesKnown}
 use Rattle.printed_rows.proofs.NamedLaws.{named_weaker}
 use Rattle.printed_rows.proofs.NumberLaws.{order_kept}

@@ -1,8 +1,8 @@
 use Rattle.std.proofs.Common.{◌≡◌, ◌<◌, ◌∙◌, ap, sym, subst, ℕ, List, All, length, get_or}
 use Rattle.area_graph.specs.declared.Edge.{Edge}
 use Rattle.area_graph.specs.Area.{Area, edge_at, edges_out}
-use Rattle.path_rows.specs.Problems.{ends_of}
-use Rattle.path_rows.proofs.PathBounds.{path-known}
+use Rattle.design_problem.specs.Problems.{request_ends}
+use Rattle.design_problem.proofs.PathBounds.{path-known}
 use Rattle.rival_separation.specs.Offers.{Offers}
 use Rattle.rival_separation.proofs.OfferLemmas.{best_begins, best_past, best_turn, offers_once, out_edge, out_listed}
 use Rattle.rival_separation.proofs.deviation.better_at.Goals as goal
@@ -10,7 +10,7 @@ use Rattle.rival_separation.proofs.deviation.better_at.Goals as goal
 pub edge_of-requires : goal.edge_of-requires
 edge_of-requires c =
     subst (λ (es : List ℕ). All (λ e. e < length c.args.graph.now.edges) es) (sym c.as_slice.ensures)
-    (path-known c.args.graph.now (ends_of c.args.request.now) c.args.request.now.path.edges c.requires.path)
+    (path-known c.args.graph.now (request_ends c.args.request.now) c.args.request.now.path.edges c.requires.path)
     c.args.place 0 (subst (λ (es : List ℕ). c.args.place < length es) (sym c.as_slice.ensures) c.requires.place)
 
 pub loop-number-init : goal.loop-number-init
@@ -18,7 +18,7 @@ loop-number-init c =
     let g = c.args.graph.now in
     let path = c.args.request.now.path.edges in
     let v = (edge_at g (get_or path c.args.place 0)).from in
-    best_begins (Offers g c.args.point.now c.args.request.now.gone c.args.room.now path) c.args.place
+    best_begins (Offers g c.args.point.now c.args.request.now.excluded c.args.room.now path) c.args.place
     (edges_out g v) c.args.best (λ e total lacks offer. out_listed g v e offer.known offer.from lacks)
     c.requires.best
 
@@ -43,10 +43,10 @@ pub loop-number-preserved : goal.loop-number-preserved
 loop-number-preserved c =
     let g = c.args.graph.now in
     let p = c.args.point.now in
-    let gone = c.args.request.now.gone in
+    let excluded = c.args.request.now.excluded in
     let room = c.args.room.now in
     let path = c.args.request.now.path.edges in
-    best_turn (Offers g p gone room path) (offers_once g p gone room path) c.args.place c.loop-number.number-index
+    best_turn (Offers g p excluded room path) (offers_once g p excluded room path) c.args.place c.loop-number.number-index
     (edges_out g (edge_at g (get_or path c.args.place 0)).from) c.edges_out-number-items.result.now
     c.loop-number.found c.offer-cost.result c.better_by-found.result
     (out_of g path c.as_slice.result.now c.edges_out-number-items.result.now c.args.place c.edge_of.result
@@ -57,7 +57,7 @@ pub returns : goal.returns
 returns c =
     let g = c.args.graph.now in
     let path = c.args.request.now.path.edges in
-    best_past (Offers g c.args.point.now c.args.request.now.gone c.args.room.now path) c.args.place
+    best_past (Offers g c.args.point.now c.args.request.now.excluded c.args.room.now path) c.args.place
     c.loop-number.number-index (edges_out g (edge_at g (get_or path c.args.place 0)).from)
     c.edges_out-number-items.result.now
     c.loop-number.found (out_of g path c.as_slice.result.now c.edges_out-number-items.result.now c.args.place

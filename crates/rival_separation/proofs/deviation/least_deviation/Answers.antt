@@ -4,8 +4,8 @@ use Rattle.area_graph.specs.declared.Edge.{Edge}
 use Rattle.area_graph.specs.Area.{edge_at}
 use Rattle.area_graph.specs.Costs.{cost, price_at}
 use Rattle.area_graph.proofs.Bounds.{cost_below}
-use Rattle.path_rows.specs.Problems.{ends_of}
-use Rattle.path_rows.proofs.PathBounds.{path-known}
+use Rattle.design_problem.specs.Problems.{request_ends}
+use Rattle.design_problem.proofs.PathBounds.{path-known}
 use Rattle.rival_separation.specs.Offers.{Offers}
 use Rattle.rival_separation.proofs.OfferLemmas.{best_of_fewer}
 use Rattle.rival_separation.proofs.deviation.least_deviation.Goals as goal
@@ -24,7 +24,7 @@ better_at-best-requires-clause-near c =
 pub edge_of-requires : goal.edge_of-requires
 edge_of-requires c =
     subst (λ (es : List ℕ). All (λ e. e < length c.args.graph.now.edges) es) (sym c.as_slice-number-items.ensures)
-    (path-known c.args.graph.now (ends_of c.args.request.now) c.args.request.now.path.edges c.requires.path)
+    (path-known c.args.graph.now (request_ends c.args.request.now) c.args.request.now.path.edges c.requires.path)
     c.loop-place.place 0 c.loop-place-test.true
 
 pub overflow_add-before : goal.overflow_add-before
@@ -50,6 +50,6 @@ returns c =
     let past : length es ≤ c.loop-place.place =
     subst (λ (xs : List ℕ). length xs ≤ c.loop-place.place) c.as_slice-number-items.ensures
     c.loop-place-test.false in
-    best_of_fewer (Offers c.args.graph.now c.args.point.now c.args.request.now.gone c.args.room.now es)
+    best_of_fewer (Offers c.args.graph.now c.args.point.now c.args.request.now.excluded c.args.room.now es)
     (λ k e. k < c.loop-place.place) (λ k e. k < length es) c.loop-place.best c.loop-place.invariant.best
     (λ k e total seen offer. omega arith)

@@ -1,5 +1,5 @@
 use Rattle.std.proofs.Common.{rules, ◌∷◌, [], ◌++◌, ◌<◌, ◌∙◌, ap, sym, subst, arith, ℕ, List, length, length-append}
-use Rattle.path_rows.specs.Problems.{ends_of}
+use Rattle.design_problem.specs.Problems.{request_ends}
 use Rattle.spf_ties.specs.Distances.{Findings}
 use Rattle.area_graph.specs.Area.{edge_at}
 use Rattle.area_graph.specs.declared.Edge.{Edge}
@@ -11,7 +11,7 @@ use Rattle.rival_separation.proofs.rival.follow.Goals as goal
 pub loop-at-init : goal.loop-at-init
 loop-at-init c = record {
   found = c.requires.found;
-  so_far = way_completes c.args.graph.now c.args.point.now (ends_of c.args.request.now) c.args.room.now c.args.start c.requires.way;
+  so_far = way_completes c.args.graph.now c.args.point.now (request_ends c.args.request.now) c.args.room.now c.args.start c.requires.way;
 }
 
 -- what was gone so far is shorter than the vertices are many
@@ -19,7 +19,7 @@ short : (c : After-next_edge) → length c.loop-at.room.path < length c.args.gra
 short c =
     let g = c.args.graph.now in
     let p = c.args.point.now in
-    let ends = ends_of c.args.request.now in
+    let ends = request_ends c.args.request.now in
     short_walk g p ends c.loop-at.invariant.found.0 c.loop-at.room (IsWay g p ends c.args.room.now c.args.start)
     c.loop-at.room.path c.loop-at.at c.loop-at.invariant.found.1 c.loop-at.invariant.so_far (λ es whole. whole.1)
 
@@ -39,12 +39,12 @@ pub loop-at-preserved : goal.loop-at-preserved
 loop-at-preserved c =
     let g = c.args.graph.now in
     let p = c.args.point.now in
-    let ends = ends_of c.args.request.now in
+    let ends = request_ends c.args.request.now in
     let room = c.loop-at.room in
     let edge = c.in-Some.edge in
     let next = c.in-Some.ensures in
     let longer = room.path ++ edge ∷ [] in
-    let Whole : List ℕ → Type 0 = IsWay g p ends c.args.room.now c.args.start in
+    let Holds : List ℕ → Type 0 = IsWay g p ends c.args.room.now c.args.start in
     let left = (c.loop-at.invariant.found.1.marks edge (let known = next.known in let count =
     c.loop-at.invariant.found.1.room_for.edges in omega arith)).0 next.left in
     let more = completes_more g p ends c.loop-at.invariant.found.0 room (IsWay g p ends c.args.room.now c.args.start)
@@ -55,20 +55,20 @@ loop-at-preserved c =
         c.loop-at.invariant.found.0,
         found_kept g p ends c.loop-at.invariant.found.0 room longer c.add_to_path.new.self c.add_to_path.ensures c.loop-at.invariant.found.1,
       );
-      so_far = subst (λ (e : Edge). Completes g p ends c.add_to_path.new.self Whole c.add_to_path.new.self.path e.to) (sym c.edge_of-at.ensures)
-          (subst (λ (r : Findings). Completes g p ends r Whole r.path (edge_at g edge).to) (sym c.add_to_path.ensures)
-          (completes_kept g p ends room Whole longer longer (edge_at g edge).to more));
+      so_far = subst (λ (e : Edge). Completes g p ends c.add_to_path.new.self Holds c.add_to_path.new.self.path e.to) (sym c.edge_of-at.ensures)
+          (subst (λ (r : Findings). Completes g p ends r Holds r.path (edge_at g edge).to) (sym c.add_to_path.ensures)
+          (completes_kept g p ends room Holds longer longer (edge_at g edge).to more));
     }
 
 pub returns-clause-followed : goal.returns-clause-followed
 returns-clause-followed c =
-    (completed c.args.graph.now c.args.point.now (ends_of c.args.request.now) c.loop-at.invariant.found.0 c.loop-at.room
-    (IsWay c.args.graph.now c.args.point.now (ends_of c.args.request.now) c.args.room.now c.args.start)
+    (completed c.args.graph.now c.args.point.now (request_ends c.args.request.now) c.loop-at.invariant.found.0 c.loop-at.room
+    (IsWay c.args.graph.now c.args.point.now (request_ends c.args.request.now) c.args.room.now c.args.start)
     c.loop-at.room.path c.loop-at.at c.loop-at.invariant.found.1 c.loop-at.invariant.so_far (search rules)).0
 
 pub returns-in-None-clause-followed : goal.returns-in-None-clause-followed
 returns-in-None-clause-followed c =
-    absurd (some_next c.args.graph.now c.args.point.now (ends_of c.args.request.now) c.loop-at.invariant.found.0
-    c.loop-at.room (IsWay c.args.graph.now c.args.point.now (ends_of c.args.request.now) c.args.room.now
+    absurd (some_next c.args.graph.now c.args.point.now (request_ends c.args.request.now) c.loop-at.invariant.found.0
+    c.loop-at.room (IsWay c.args.graph.now c.args.point.now (request_ends c.args.request.now) c.args.room.now
     c.args.start) c.loop-at.room.path c.loop-at.at c.loop-at.invariant.found.1 c.loop-at.invariant.so_far
     (search rules) c.in-None.ensures)

@@ -1,15 +1,15 @@
 use Rattle.std.proofs.Common.{◌∷◌, [], ◌++◌, ap, sym, subst, arith, ℕ, List, take}
 use Rattle.area_graph.specs.Area.{edge_at}
-use Rattle.path_rows.specs.Problems.{ends_of}
-use Rattle.path_rows.proofs.PathBounds.{simple-short}
+use Rattle.design_problem.specs.Problems.{request_ends}
+use Rattle.design_problem.proofs.PathBounds.{simple-short}
 use Rattle.spf_ties.specs.Distances.{Findings}
-use Rattle.rival_separation.specs.Rivals.{HasWay, IsFollowed, with_edge}
+use Rattle.rival_separation.specs.Rivals.{HasWay, IsFollowedByLeast, with_edge}
 use Rattle.rival_separation.proofs.RivalLemmas.{followed_cheapest, found_kept, take_short, way_from}
 use Rattle.rival_separation.proofs.rival.lay_out.Goals as goal
 
 pub put_front-requires : goal.put_front-requires
 put_front-requires c =
-    let ends = ends_of c.args.request.now in
+    let ends = request_ends c.args.request.now in
     let short = simple-short c.args.graph.now ends.start c.args.request.now.path.edges ends.end c.keeps_conditions.ensures.fits c.requires.path.simple in
     let within = c.requires.best.0.within in
     let front = take_short c.args.best.place c.as_slice.result.now in
@@ -23,7 +23,7 @@ pub leave_by-requires-clause-found : goal.leave_by-requires-clause-found
 leave_by-requires-clause-found c =
     let limit = c.requires.found.limit in (
       limit,
-      found_kept c.args.graph.now c.args.point.now (ends_of c.args.request.now) limit c.args.room.now
+      found_kept c.args.graph.now c.args.point.now (request_ends c.args.request.now) limit c.args.room.now
           (take c.args.best.place c.as_slice.result.now) c.put_front.new.room c.put_front.ensures c.requires.found.found,
     )
 
@@ -31,7 +31,7 @@ pub leave_by-requires-clause-way : goal.leave_by-requires-clause-way
 leave_by-requires-clause-way c =
     let g = c.args.graph.now in
     let p = c.args.point.now in
-    let ends = ends_of c.args.request.now in
+    let ends = request_ends c.args.request.now in
     let wanted = c.args.request.now.path.edges in
     let room : Findings = c.args.room.now in
     let e = c.args.best.edge in
@@ -47,14 +47,14 @@ pub returns-clause-cheapest : goal.returns-clause-cheapest
 returns-clause-cheapest c =
     let g = c.args.graph.now in
     let p = c.args.point.now in
-    let ends = ends_of c.args.request.now in
+    let ends = request_ends c.args.request.now in
     let wanted = c.args.request.now.path.edges in
     let room : Findings = c.args.room.now in
     let e = c.args.best.edge in
     let place = c.args.best.place in
     let walk = take place c.as_slice.result.now ++ e ∷ [] in
     let followed = subst (λ (r : Findings).
-    IsFollowed g p ends (with_edge r e) (edge_at g e).to c.leave_by.new.room.path) c.put_front.ensures
+    IsFollowedByLeast g p ends (with_edge r e) (edge_at g e).to c.leave_by.new.room.path) c.put_front.ensures
     c.leave_by.ensures.followed in
     followed_cheapest g p ends c.requires.found.limit room wanted walk c.leave_by.new.room.path place e c.args.best.cost
     c.keeps_conditions.ensures.fits c.requires.fits c.requires.found.found c.requires.path c.requires.best.0

@@ -1,16 +1,16 @@
 use Rattle.std.proofs.Common.{◌<◌, ◌∙◌, ap, sym, subst, ℕ, length}
 use Rattle.area_graph.specs.Area.{edges_out}
-use Rattle.path_rows.specs.Problems.{ends_of}
+use Rattle.design_problem.specs.Problems.{request_ends}
 use Rattle.rival_separation.proofs.OfferLemmas.{best_begins, best_past, best_turn, out_edge, out_listed}
-use Rattle.set_separation.specs.Departures.{Departs, vertex_of}
+use Rattle.set_separation.specs.Departures.{Departs, place_vertex}
 use Rattle.set_separation.proofs.DepartureLemmas.{departs_once, vertex_known}
 use Rattle.set_separation.proofs.departure.best_at.Goals as goal
 
 pub loop-number-init : goal.loop-number-init
 loop-number-init c =
     let g = c.args.graph.now in
-    let ends = ends_of c.args.request.now in
-    let v = vertex_of g ends c.args.tree.now c.args.place in
+    let ends = request_ends c.args.request.now in
+    let v = place_vertex g ends c.args.tree.now c.args.place in
     best_begins (Departs g c.args.point.now ends c.args.room.now c.args.tree.now c.args.costs.now) c.args.place
     (edges_out g v) c.args.best (λ e total lacks departs. out_listed g v e departs.known departs.from lacks)
     c.requires.best
@@ -19,7 +19,7 @@ pub edges_out-number-items-requires : goal.edges_out-number-items-requires
 edges_out-number-items-requires c =
     let g = c.args.graph.now in
     subst (λ (v : ℕ). v < length g.vertices) (sym c.vertex_of.ensures)
-    (vertex_known g (ends_of c.args.request.now) c.requires.tree.0 c.args.tree.now c.requires.tree.1
+    (vertex_known g (request_ends c.args.request.now) c.requires.tree.0 c.args.tree.now c.requires.tree.1
     c.keeps_conditions.ensures.fits c.args.place c.requires.place)
 
 pub departure-cost-requires-clause-known : goal.departure-cost-requires-clause-known
@@ -37,12 +37,12 @@ pub loop-number-preserved : goal.loop-number-preserved
 loop-number-preserved c =
     let g = c.args.graph.now in
     let p = c.args.point.now in
-    let ends = ends_of c.args.request.now in
+    let ends = request_ends c.args.request.now in
     let room = c.args.room.now in
     let steps = c.args.tree.now in
     let costs = c.args.costs.now in
     best_turn (Departs g p ends room steps costs) (departs_once g p ends room steps costs) c.args.place
-    c.loop-number.number-index (edges_out g (vertex_of g ends steps c.args.place))
+    c.loop-number.number-index (edges_out g (place_vertex g ends steps c.args.place))
     c.edges_out-number-items.result.now
     c.loop-number.found c.departure-cost.result c.better_by-found.result (c.edges_out-number-items.ensures
     ∙ ap (λ (v : ℕ). edges_out g v) c.vertex_of.ensures) c.loop-number-test.true c.loop-number.invariant
@@ -51,8 +51,8 @@ loop-number-preserved c =
 pub returns : goal.returns
 returns c =
     let g = c.args.graph.now in
-    let ends = ends_of c.args.request.now in
+    let ends = request_ends c.args.request.now in
     best_past (Departs g c.args.point.now ends c.args.room.now c.args.tree.now c.args.costs.now) c.args.place
-    c.loop-number.number-index (edges_out g (vertex_of g ends c.args.tree.now c.args.place))
+    c.loop-number.number-index (edges_out g (place_vertex g ends c.args.tree.now c.args.place))
     c.edges_out-number-items.result.now
     c.loop-number.found (c.edges_out-number-items.ensures ∙ ap (λ (v : ℕ). edges_out g v) c.vertex_of.ensures) c.loop-number-test.false c.loop-number.invariant

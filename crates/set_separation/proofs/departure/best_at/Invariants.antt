@@ -1,13 +1,13 @@
 use Rattle.std.proofs.Common.{drop}
 use Rattle.area_graph.specs.Area.{edges_out}
-use Rattle.path_rows.specs.Problems.{ends_of}
-use Rattle.rival_separation.specs.Offers.{IsBestOf}
+use Rattle.design_problem.specs.Problems.{request_ends}
+use Rattle.rival_separation.specs.Offers.{IsBestOffer}
 use Rattle.rival_separation.proofs.OfferLemmas.{SeenBut}
-use Rattle.set_separation.specs.Departures.{Departs, vertex_of}
+use Rattle.set_separation.specs.Departures.{Departs, place_vertex}
 use Rattle.set_separation.proofs.departure.best_at.Given as goal
 
 abbrev pub invariant-loop-number : goal.invariant-loop-number
 invariant-loop-number l =
-    IsBestOf (Departs l.graph l.point (ends_of l.request) l.room l.tree l.costs)
+    IsBestOffer (Departs l.graph l.point (request_ends l.request) l.room l.tree l.costs)
     (SeenBut l.place (drop l.number-index
-    (edges_out l.graph (vertex_of l.graph (ends_of l.request) l.tree l.place)))) l.found
+    (edges_out l.graph (place_vertex l.graph (request_ends l.request) l.tree l.place)))) l.found

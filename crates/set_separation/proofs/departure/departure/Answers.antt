@@ -1,11 +1,11 @@
 use Rattle.std.proofs.Common.{arith, length}
-use Rattle.path_rows.specs.Problems.{ends_of}
+use Rattle.design_problem.specs.Problems.{request_ends}
 use Rattle.set_separation.proofs.DepartureLemmas.{place_below}
 use Rattle.set_separation.proofs.departure.departure.Goals as goal
 
 pub overflow_add-result : goal.overflow_add-result
 overflow_add-result c =
-    let near = place_below c.args.graph.now (ends_of c.args.request.now) c.requires.tree.0 c.args.tree.now
+    let near = place_below c.args.graph.now (request_ends c.args.request.now) c.requires.tree.0 c.args.tree.now
     c.requires.tree.1 c.args.point.now c.args.costs.now (length c.args.tree.now) (omega arith) c.requires.costs
     c.keeps_conditions.ensures.fits c.keeps_conditions.ensures.metrics c.requires.fits c.args.place
     c.requires.place in

@@ -1,12 +1,12 @@
 use Rattle.std.proofs.Common.{◌≤◌, ◌<◌, ap, arith, length}
-use Rattle.path_rows.specs.Problems.{ends_of}
+use Rattle.design_problem.specs.Problems.{request_ends}
 use Rattle.rival_separation.proofs.OfferLemmas.{best_of_fewer}
 use Rattle.set_separation.specs.Departures.{Departs}
 use Rattle.set_separation.proofs.departure.least_departure.Goals as goal
 
 pub returns : goal.returns
 returns c =
-    best_of_fewer (Departs c.args.graph.now c.args.point.now (ends_of c.args.request.now) c.args.room.now
+    best_of_fewer (Departs c.args.graph.now c.args.point.now (request_ends c.args.request.now) c.args.room.now
     c.args.tree.now c.args.costs.now) (λ k e. k < c.loop-place.place) (λ k e. k ≤ length c.args.tree.now)
     c.loop-place.best c.loop-place.invariant
     (λ k e total seen departs. omega (arith, c.loop-place-test.false, ap length c.steps.ensures))

@@ -3,7 +3,7 @@ use Rattle.area_graph.specs.declared.Edge.{Edge}
 use Rattle.area_graph.specs.Area.{edge_at, no_edge}
 use Rattle.area_graph.specs.Costs.{price_at}
 use Rattle.area_graph.proofs.Bounds.{price-le}
-use Rattle.path_rows.specs.Problems.{ends_of}
+use Rattle.design_problem.specs.Problems.{request_ends}
 use Rattle.set_separation.specs.declared.prefix_tree.Step.{Step}
 use Rattle.set_separation.specs.PrefixTrees.{step_at}
 use Rattle.set_separation.proofs.DepartureLemmas.{place_below, step_known}
@@ -15,13 +15,13 @@ edge_of-requires c =
     let i = c.loop-i.i in
     let within : i < length c.args.tree.now = subst (λ (steps : List Step). i < length steps) c.steps-step-items.ensures c.loop-i-test.true in
     subst (λ (steps : List Step). (step_at steps i).edge < length g.edges) (sym c.steps-step-items.ensures)
-    (step_known g (ends_of c.args.request.now) c.requires.tree.0 c.args.tree.now c.requires.tree.1 i within)
+    (step_known g (request_ends c.args.request.now) c.requires.tree.0 c.args.tree.now c.requires.tree.1 i within)
 
 pub overflow_add-costs : goal.overflow_add-costs
 overflow_add-costs c =
     let g = c.args.graph.now in
     let p = c.args.point.now in
-    let ends = ends_of c.args.request.now in
+    let ends = request_ends c.args.request.now in
     let steps = c.args.tree.now in
     let i = c.loop-i.i in
     let s = step_at steps i in

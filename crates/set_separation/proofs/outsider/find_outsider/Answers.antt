@@ -1,7 +1,7 @@
 use Rattle.std.proofs.Common.{rules, ℕ, ◌+◌, ◌≤◌, List, arith}
 use Rattle.area_graph.specs.Costs.{cost}
-use Rattle.path_rows.specs.Problems.{ends_of}
-use Rattle.rival_separation.specs.Rivals.{IsFound}
+use Rattle.design_problem.specs.Problems.{request_ends}
+use Rattle.rival_separation.specs.Rivals.{HasDistancesBelow}
 use Rattle.set_separation.specs.Departures.{Departs, IsTiedTree}
 use Rattle.set_separation.specs.Outsiders.{CostAtLeast}
 use Rattle.set_separation.proofs.DepartureLemmas.{outsiders_above}
@@ -10,23 +10,23 @@ use Rattle.set_separation.proofs.outsider.find_outsider.Goals as goal
 
 -- the room has the distances below the limit
 found : (c : After-put_place_costs) →
-    IsFound c.args.graph.now c.args.point.now (ends_of c.args.request.now) (c.path_cost.result + c.args.point.now.scale) c.distances_within.new.self
+    HasDistancesBelow c.args.graph.now c.args.point.now (request_ends c.args.request.now) (c.path_cost.result + c.args.point.now.scale) c.distances_within.new.self
 found c = search rules
 
 -- where each departure costs at least so much as the members and the scale, each outsider does
 all_above : (c : After-put_place_costs) (wanted : List (List ℕ)) →
-    IsTiedTree c.args.graph.now c.args.point.now (ends_of c.args.request.now)
+    IsTiedTree c.args.graph.now c.args.point.now (request_ends c.args.request.now)
     (cost c.args.graph.now c.args.point.now c.args.request.now.path.edges) wanted c.args.tree.now →
     ((place e total : ℕ) →
-    Departs c.args.graph.now c.args.point.now (ends_of c.args.request.now) c.distances_within.new.self c.args.tree.now
+    Departs c.args.graph.now c.args.point.now (request_ends c.args.request.now) c.distances_within.new.self c.args.tree.now
     c.put_place_costs.new.costs place e total → c.path_cost.result + c.args.point.now.scale ≤ total) →
-    CostAtLeast c.args.graph.now c.args.point.now (ends_of c.args.request.now) wanted
+    CostAtLeast c.args.graph.now c.args.point.now (request_ends c.args.request.now) wanted
     (cost c.args.graph.now c.args.point.now c.args.request.now.path.edges + c.args.point.now.scale)
 all_above c wanted tied above =
     let g = c.args.graph.now in
     let p = c.args.point.now in
     let value = c.path_cost.ensures.value in
-    outsiders_above g p (ends_of c.args.request.now) (c.path_cost.result + p.scale) c.distances_within.new.self wanted
+    outsiders_above g p (request_ends c.args.request.now) (c.path_cost.result + p.scale) c.distances_within.new.self wanted
     c.args.tree.now c.put_place_costs.new.costs c.keeps_conditions.ensures.fits (found c) tied.tree c.put_place_costs.ensures.costs
     (cost g p c.args.request.now.path.edges + p.scale) (omega arith)
     (λ place e total departs. let most = above place e total departs in omega arith)

@@ -1,11 +1,11 @@
 use Rattle.std.proofs.Common.{sym, subst}
 use Rattle.area_graph.specs.Area.{edge_at}
 use Rattle.area_graph.specs.Costs.{cost}
-use Rattle.path_rows.specs.Problems.{ends_of}
+use Rattle.design_problem.specs.Problems.{request_ends}
 use Rattle.spf_ties.specs.Distances.{Findings}
-use Rattle.rival_separation.specs.Rivals.{HasWay, IsFollowed, with_edge}
+use Rattle.rival_separation.specs.Rivals.{HasWay, IsFollowedByLeast, with_edge}
 use Rattle.rival_separation.proofs.RivalLemmas.{found_kept}
-use Rattle.set_separation.specs.PrefixTrees.{prefix_at}
+use Rattle.set_separation.specs.PrefixTrees.{prefix_of_place}
 use Rattle.set_separation.proofs.DepartureLemmas.{followed_cheapest, way_on}
 use Rattle.set_separation.proofs.outsider.lay_out.Goals as goal
 
@@ -18,15 +18,15 @@ leave_by-requires-clause-found c =
     let grown = c.requires.tree.1.tree.grown in
     let limit = c.requires.found.limit in (
       limit,
-      found_kept c.args.graph.now c.args.point.now (ends_of c.args.request.now) limit c.args.room.now
-          (prefix_at grown.prefixes c.args.best.place) c.put_prefix.new.room (c.put_prefix.ensures wanted wanted grown) c.requires.found.found,
+      found_kept c.args.graph.now c.args.point.now (request_ends c.args.request.now) limit c.args.room.now
+          (prefix_of_place grown.prefixes c.args.best.place) c.put_prefix.new.room (c.put_prefix.ensures wanted wanted grown) c.requires.found.found,
     )
 
 pub leave_by-requires-clause-way : goal.leave_by-requires-clause-way
 leave_by-requires-clause-way c =
     let g = c.args.graph.now in
     let p = c.args.point.now in
-    let ends = ends_of c.args.request.now in
+    let ends = request_ends c.args.request.now in
     let room : Findings = c.args.room.now in
     let wanted = c.requires.tree.0 in
     let tied = c.requires.tree.1 in
@@ -42,11 +42,11 @@ pub returns-clause-cheapest : goal.returns-clause-cheapest
 returns-clause-cheapest c = λ wanted tied.
     let g = c.args.graph.now in
     let p = c.args.point.now in
-    let ends = ends_of c.args.request.now in
+    let ends = request_ends c.args.request.now in
     let room : Findings = c.args.room.now in
     let e = c.args.best.edge in
     let followed = subst (λ (r : Findings).
-    IsFollowed g p ends (with_edge r e) (edge_at g e).to c.leave_by.new.room.path)
+    IsFollowedByLeast g p ends (with_edge r e) (edge_at g e).to c.leave_by.new.room.path)
     (c.put_prefix.ensures wanted wanted tied.tree.grown) c.leave_by.ensures.followed in
     followed_cheapest g p ends c.requires.found.limit room wanted c.args.tree.now c.args.costs.now
     c.keeps_conditions.ensures.fits c.requires.found.found tied.tree c.requires.costs

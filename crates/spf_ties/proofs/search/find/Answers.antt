@@ -2,7 +2,7 @@ use Rattle.std.proofs.Common.{rules, ◌≡◌, ◌<◌, ◌∷◌, [], ℕ, ap,
 use Rattle.std.proofs.lemmas.List.Elements.{All-head}
 use Rattle.std.proofs.lemmas.List.Sorted.{All-permutation, length_permutation}
 use Rattle.spf_ties.specs.declared.heap.Entry.{Entry}
-use Rattle.spf_ties.specs.Searches.{IsFront, MayWait, Underway}
+use Rattle.spf_ties.specs.Searches.{AreSearchNumbers, MayWait, Underway}
 use Rattle.spf_ties.proofs.SearchLemmas.{begun, entry_of, front_begun, open-le}
 use Rattle.spf_ties.proofs.search.find.Goals as goal
 
@@ -20,8 +20,8 @@ loop-entry-init c =
     subst (λ (xs : List Entry). IsPermutation (entry_of 0 t ∷ xs) c.push.new.self.entries) (ap (λ w. w.entries) c.clear.ensures) c.push.ensures.entries in
     let within : t < n = let target = c.requires.target in let count = c.requires.count in omega arith in
     record {
-      front = subst (λ (d : List ℕ). IsFront g p (set d t 0) c.fill-2.new.self.items) (sym numbers)
-          (subst (λ (settled : List Bool). IsFront g p (set (replicate n limit) t 0) settled) (sym marks)
+      front = subst (λ (d : List ℕ). AreSearchNumbers g p (set d t 0) c.fill-2.new.self.items) (sym numbers)
+          (subst (λ (settled : List Bool). AreSearchNumbers g p (set (replicate n limit) t 0) settled) (sym marks)
           (front_begun g p t limit n m c.requires.limit c.requires.count c.requires.marks));
       places = let places = ap (λ w. w.places) c.clear.ensures in let before = c.requires.places in let more = c.push.ensures.places in omega arith;
       room = let count = length_permutation (entry_of 0 t ∷ []) c.push.new.self.entries alone in let most =

@@ -15,7 +15,7 @@ pub returns-then-not-leaves-clause-underway : goal.returns-then-not-leaves-claus
 returns-then-not-leaves-clause-underway c = λ t limit least todo under.
     kept c.args.graph.now c.args.point.now c.args.removal.now t limit least c.args.number todo
     c.args.front.now.numbers.items c.args.front.now.settled.items c.args.front.now.waiting.entries under
-    (λ left. let kept_edge : c.leaves.result ≡ true = c.leaves.ensures.1 left in let gone : c.leaves.result ≡ false = search rules in absurd (cc))
+    (λ left. let kept_edge : c.leaves.result ≡ true = c.leaves.ensures.1 left in let excluded : c.leaves.result ≡ false = search rules in absurd (cc))
 
 pub returns-then-distance-index-clause-one : goal.returns-then-distance-index-clause-one
 returns-then-distance-index-clause-one c = let count = length_permutation _ _ c.push.ensures.entries in omega arith

@@ -1,11 +1,11 @@
 use Rattle.std.proofs.Common.{◌≡◌, ◌≤◌, ◌+◌, ℕ, drop, length}
 use Rattle.area_graph.specs.Area.{edges_in}
-use Rattle.spf_ties.specs.Searches.{IsFront, Underway}
+use Rattle.spf_ties.specs.Searches.{AreSearchNumbers, Underway}
 use Rattle.spf_ties.proofs.search.settle.Given as goal
 
 abbrev pub invariant-loop-number : goal.invariant-loop-number
 invariant-loop-number l = record {
-  front : IsFront l.graph l.point l.front.numbers.items l.front.settled.items;
+  front : AreSearchNumbers l.graph l.point l.front.numbers.items l.front.settled.items;
   settled : l.front.settled.items ≡ l.initial.front.settled.items;
   places : l.initial.front.waiting.places ≤ l.front.waiting.places;
   count : length l.front.waiting.entries ≤ length l.initial.front.waiting.entries + l.number-index;

@@ -1,10 +1,11 @@
 -- The sets that are made are the problem's, and so what is found is found of them.
 use Rattle.std.proofs.Common.{◌≡◌, ◌∙◌, ap, List, ℕ}
-use Rattle.path_rows.specs.Answers.{greatest_bound}
-use Rattle.path_rows.specs.Problems.{DesignProblem}
-use Rattle.path_rows.specs.Rows.{greatest_cost}
+use Rattle.design_problem.specs.Answers.{greatest_bound}
+use Rattle.design_problem.specs.Problems.{DesignProblem}
+use Rattle.design_problem.specs.Rows.{greatest_cost}
 use Rattle.spread_sets.specs.Spreads.{all_sets}
 use Rattle.spread_sets.specs.MemberSets.{sets_in}
+use Rattle.spread_sets.proofs.DistinctRows.{all_sets_distinct}
 use Rattle.spread_sets.proofs.Findings.{lows_within, made_are, made_sets, sought_whole}
 use Rattle.spread_sets.proofs.MadeSets.{sets_below}
 use Rattle.spread_sets.proofs.SetLaws.{all_sets_are}
@@ -48,7 +49,7 @@ returns c =
     let same = made_sets p lines c.in_ok-all.all.items c.path_count.result c.path_count.ensures made in
     let cap : c.greatest_of-cap.result ≡ greatest_bound p = c.greatest_of-cap.ensures
     ∙ ap greatest_cost (c.as_slice-2.ensures ∙ ap (λ (q : DesignProblem). q.high) c.problem.view_is) in
-    c.answered.ensures (all_sets p lines) (all_sets_are p lines c.requires)
+    c.answered.ensures (all_sets p lines) (all_sets_are p lines c.requires) (all_sets_distinct p lines c.requires)
     (sought_whole p (all_sets p lines) (sets_in c.in_ok-grown.grown.items) limits.top limits.nodes
     c.greatest_of-cap.result c.in_ok-costs.costs c.in_ok-sought.sought (c.in_ok-grown.ensures.sets ∙ same) cap
     c.in_ok-costs.ensures.cut c.in_ok-sought.ensures)

@@ -1,5 +1,5 @@
 use Rattle.std.proofs.Common.{◌≡◌, ◌∙◌, sym, subst, ap, List, [], get_or}
-use Rattle.path_rows.specs.declared.problem.Request.{Request}
+use Rattle.design_problem.specs.declared.problem.Request.{Request}
 use Rattle.set_separation.specs.declared.prefix_tree.Step.{Step}
 use Rattle.set_separation.specs.PrefixTrees.{IsGrown}
 use Rattle.spread_sets.specs.Spreads.{edges_of, paths_of}

@@ -1,7 +1,7 @@
 use Rattle.std.proofs.Common.{rules, ◌≡◌, length}
 use Rattle.std.specs.Prelude.{pos, ◌+ℤ◌}
 use Rattle.std.proofs.lemmas.Result.{IfOk-weaker}
-use Rattle.path_rows.specs.Forms.{Form}
+use Rattle.design_problem.specs.Forms.{Form}
 use Rattle.spread_sets.specs.Spreads.{edges_of, form_of_tie}
 use Rattle.spread_sets.proofs.TieForms.{tie_is}
 use Rattle.spread_sets.proofs.row_forms.form_of_tie.Goals as goal

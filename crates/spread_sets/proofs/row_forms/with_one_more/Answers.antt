@@ -1,6 +1,6 @@
 use Rattle.std.proofs.Common.{◌∙◌, ap, w64, to_z, of_z}
 use Rattle.std.specs.Prelude.{ℤ, pos, ◌+ℤ◌}
-use Rattle.path_rows.specs.Forms.{Form}
+use Rattle.design_problem.specs.Forms.{Form}
 use Rattle.spread_sets.proofs.TieForms.{form_again, one_more, terms_again}
 use Rattle.spread_sets.proofs.row_forms.with_one_more.Goals as goal
 

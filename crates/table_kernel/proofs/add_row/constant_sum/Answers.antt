@@ -1,7 +1,7 @@
 -- The sum so far and what is left of it.
 use Rattle.std.proofs.Common.{◌^◌, get_or, w64, arith}
 use Rattle.std.proofs.lemmas.Int.{fits_signed_from_abs}
-use Rattle.path_rows.specs.Forms.{no_term}
+use Rattle.design_problem.specs.Forms.{no_term}
 use Rattle.integer_pivots.proofs.Sizes.{number_within}
 use Rattle.table_kernel.proofs.LineSums.{summed_all, summed_first}
 use Rattle.table_kernel.proofs.RowSums.{gathered_read}

@@ -1,7 +1,7 @@
 -- The rows leave what stands before them as it was.
 use Rattle.std.proofs.Common.{◌+◌, ◌≤◌, arith, ◌∙◌, ap, get_or, length, sym}
 use Rattle.std.specs.Prelude.{slice_index_or}
-use Rattle.path_rows.specs.Forms.{no_form}
+use Rattle.design_problem.specs.Forms.{no_form}
 use Rattle.integer_pivots.specs.Uses.{uses_by}
 use Rattle.integer_pivots.proofs.UseLaws.{lists_many}
 use Rattle.table_kernel.proofs.Lines.{bounds_small, by_column}

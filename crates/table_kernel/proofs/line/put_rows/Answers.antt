@@ -2,7 +2,7 @@
 use Rattle.std.proofs.Common.{◌^◌, ◌+◌, ◌<◌, ◌≤◌, ◌∙◌, arith, get_or, length, subst, sym}
 use Rattle.std.specs.Prelude.{ℤ, nat_abs}
 use Rattle.whole_numbers.specs.Lists.{number_at}
-use Rattle.path_rows.specs.Forms.{no_form}
+use Rattle.design_problem.specs.Forms.{no_form}
 use Rattle.integer_pivots.proofs.Sizes.{read, read_number}
 use Rattle.integer_pivots.proofs.UseLaws.{list_read}
 use Rattle.integer_pivots.proofs.UseSums.{IsPart, no_part, row_part, uses_known, uses_room, whole_part}

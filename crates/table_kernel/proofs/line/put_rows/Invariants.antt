@@ -1,7 +1,7 @@
 -- With the rest of the variables each row's sum is its number, and what stands first is as it was.
 use Rattle.std.proofs.Common.{◌≡◌, ℕ, ◌+◌, ◌<◌, length, get_or}
 use Rattle.whole_numbers.specs.Lists.{number_at}
-use Rattle.path_rows.specs.Forms.{no_form}
+use Rattle.design_problem.specs.Forms.{no_form}
 use Rattle.integer_pivots.proofs.UseSums.{IsPart}
 use Rattle.table_kernel.proofs.line.put_rows.Given as goal
 

@@ -2,7 +2,7 @@
 use Rattle.std.proofs.Common.{◌≡◌, ◌^◌, ◌<◌, ◌≤◌, List, arith, get_or, length, map, sym, subst, ◌∙◌}
 use Rattle.std.specs.Prelude.{ℤ, nat_abs, All}
 use Rattle.std.proofs.lemmas.List.{length-map}
-use Rattle.path_rows.specs.Forms.{no_term}
+use Rattle.design_problem.specs.Forms.{no_term}
 use Rattle.whole_numbers.specs.Lists.{number_at}
 use Rattle.integer_pivots.proofs.Terms.{term_light}
 use Rattle.integer_pivots.proofs.Sizes.{read_number}

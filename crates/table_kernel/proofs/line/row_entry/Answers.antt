@@ -2,7 +2,7 @@
 use Rattle.std.proofs.Common.{◌≡◌, ◌^◌, ◌<◌, ◌≤◌, List, arith, get_or, length, map, ◌∙◌}
 use Rattle.std.specs.Prelude.{ℤ, nat_abs}
 use Rattle.std.proofs.lemmas.List.{length-map}
-use Rattle.path_rows.specs.Forms.{no_term}
+use Rattle.design_problem.specs.Forms.{no_term}
 use Rattle.whole_numbers.specs.Lists.{number_at}
 use Rattle.table_kernel.proofs.LineSums.{number_read, summed_all, summed_first, term_step}
 use Rattle.table_kernel.proofs.line.row_entry.Goals.{After-as_slice}

@@ -4,7 +4,7 @@ use Rattle.std.specs.Prelude.{pos}
 use Rattle.std.proofs.lemmas.Int.{to_z-of_z}
 use Rattle.whole_numbers.specs.Lists.{number_at}
 use Rattle.integer_pivots.proofs.Sizes.{read_number}
-use Rattle.table_kernel.specs.Numbers.{over}
+use Rattle.table_kernel.specs.Numbers.{over_common}
 use Rattle.table_kernel.proofs.LineFills.{fill_behind, fill_done, fill_first, fill_long, fill_next, filled_as, filled_numbers}
 use Rattle.table_kernel.proofs.restate.fill.Goals as goal
 
@@ -33,7 +33,7 @@ loop-column-preserved c =
     let small : nat_abs z ≤ 2 ^ 22 = c.requires.numbers c.loop-column.column (pos 0) c.loop-column-test.true in
     fill_next D (to_z w64 (of_z w64 c.args.constant)) c.args.numbers.now c.loop-column.column c.loop-column.line
     c.push.new.self c.fraction_over-in-loop-column.result c.loop-column-test.true
-    (c.fraction_over-in-loop-column.ensures.value ∙ ap (over D) (read_number z (omega (arith, small))))
+    (c.fraction_over-in-loop-column.ensures.value ∙ ap (over_common D) (read_number z (omega (arith, small))))
     c.loop-column.invariant c.push.ensures
 
 pub returns-clause-line : goal.returns-clause-line

@@ -2,7 +2,7 @@
 use Rattle.std.proofs.Common.{ℕ, ◌+◌, ◌≤◌, ◌∙◌, refl, ap, subst, [], length, map}
 use Rattle.std.specs.Prelude.{pos, vec_capacity}
 use Rattle.cost_base.specs.Lists.{numbers_from}
-use Rattle.path_rows.specs.Basis.{unit}
+use Rattle.design_problem.specs.Basis.{unit}
 use Rattle.table_kernel.specs.declared.kernel.Kernel.{Kernel}
 use Rattle.table_kernel.proofs.StartNumbers.{zeros_long}
 use Rattle.table_kernel.proofs.StartKernels.{started}

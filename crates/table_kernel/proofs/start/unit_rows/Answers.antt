@@ -2,7 +2,7 @@
 use Rattle.std.proofs.Common.{[]}
 use Rattle.std.specs.Prelude.{pos}
 use Rattle.cost_base.proofs.ListLemmas.{put_more}
-use Rattle.path_rows.specs.Basis.{unit}
+use Rattle.design_problem.specs.Basis.{unit}
 use Rattle.table_kernel.proofs.start.unit_rows.Goals as goal
 
 pub loop-var-preserved : goal.loop-var-preserved

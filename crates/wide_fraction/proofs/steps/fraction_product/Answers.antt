@@ -3,8 +3,8 @@ use Rattle.std.specs.Prelude.{◌*ℤ◌, nat_abs, Any, Some}
 use Rattle.std.proofs.lemmas.Int.{to_z-of_z}
 use mir.Syntax.{w128}
 use mir.Val.{to_z, of_z}
-use Rattle.whole_numbers.specs.Fractions.{Fraction, gcd, times, listed_of_product}
-use Rattle.wide_fraction.specs.Widths.{IsAnswer}
+use Rattle.whole_numbers.specs.Fractions.{Fraction, gcd, times, numbers_of_product}
+use Rattle.wide_fraction.specs.Widths.{IsExactOrTooWide}
 use Rattle.wide_fraction.specs.contracts.fraction.Frac.{the_view}
 use Rattle.wide_fraction.proofs.StepLemmas.{Crosses, Multiplies, moved, product_numerator_passes, product_denominator_passes, product_answer, product_kept}
 use Rattle.wide_fraction.proofs.steps.fraction_product.Goals.{After-bounded_product, After-signed_quotient-right_part}
@@ -47,13 +47,13 @@ returns-in-None c =
     let left_part_fits : SFits w128 c.signed_quotient-left_part.result = search rules in
     let right_part_fits : SFits w128 c.signed_quotient-right_part.result = search rules in
     let wide = simp to_z-of_z at c.in-None.ensures in
-    moved (λ (t : ℕ) (p q : Fraction). Any (λ n. t < n) (listed_of_product p q)) c.size-most.result c.args.top _
+    moved (λ (t : ℕ) (p q : Fraction). Any (λ n. t < n) (numbers_of_product p q)) c.size-most.result c.args.top _
     c.args.left _ c.args.right c.size-most.ensures.value c.left.view_is c.right.view_is
     (product_numerator_passes c.size-most.result _ _ _ _ _ _ (crosses (goal.at.returns-in-None c).After-signed_quotient-right_part) wide)
 
 pub returns-in-None-bounded_product : goal.returns-in-None-bounded_product
 returns-in-None-bounded_product c =
-    moved (λ (t : ℕ) (p q : Fraction). Any (λ n. t < n) (listed_of_product p q)) c.size-most.result c.args.top _
+    moved (λ (t : ℕ) (p q : Fraction). Any (λ n. t < n) (numbers_of_product p q)) c.size-most.result c.args.top _
     c.args.left _ c.args.right c.size-most.ensures.value c.left.view_is c.right.view_is
     (product_denominator_passes c.size-most.result _ _ _ _ _ _ _ _
     (record {
@@ -86,7 +86,7 @@ returns-in-Some-bounded_product c =
       right = c.quotient-right_below.ensures;
     } in
     moved (λ (t : ℕ) (p q : Fraction).
-    IsAnswer t (listed_of_product p q) (times p q)
+    IsExactOrTooWide t (numbers_of_product p q) (times p q)
     (Some (record {
       numerator = to_z w128 (of_z w128 c.in-Some.numerator);
       denominator = c.in-Some-bounded_product.denominator;

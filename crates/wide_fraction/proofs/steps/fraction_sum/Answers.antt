@@ -3,8 +3,8 @@ use Rattle.std.specs.Prelude.{pos, ◌*ℤ◌, nat_abs, Any, Some}
 use Rattle.std.proofs.lemmas.Int.{to_z-of_z}
 use mir.Syntax.{w128}
 use mir.Val.{to_z, of_z}
-use Rattle.whole_numbers.specs.Fractions.{Fraction, gcd, over, plus, listed_of_sum}
-use Rattle.wide_fraction.specs.Widths.{IsAnswer, IsCrossWithin}
+use Rattle.whole_numbers.specs.Fractions.{Fraction, gcd, exact_quotient, plus, numbers_of_sum}
+use Rattle.wide_fraction.specs.Widths.{IsExactOrTooWide, IsCrossWithin}
 use Rattle.wide_fraction.specs.contracts.fraction.Frac.{the_view}
 use Rattle.wide_fraction.proofs.StepLemmas.{Adds, moved, sum_crossed, sum_denominator_passes, sum_answer, sum_kept}
 use Rattle.wide_fraction.proofs.steps.fraction_sum.Goals.{After-bounded_product}
@@ -45,7 +45,7 @@ returns-in-None c =
     let left_fits : SFits w128 c.left.inside.numerator = search rules in
     let right_fits : SFits w128 c.right.inside.numerator = search rules in
     let wide = simp to_z-of_z at c.in-None.ensures in
-    moved (λ (t : ℕ) (p q : Fraction). Any (λ n. t < n) (listed_of_sum p q)) c.size-most.result c.args.top _ c.args.left
+    moved (λ (t : ℕ) (p q : Fraction). Any (λ n. t < n) (numbers_of_sum p q)) c.size-most.result c.args.top _ c.args.left
     _ c.args.right c.size-most.ensures.value c.left.view_is c.right.view_is
     (sum_crossed c.size-most.result _ _ _ _ _
     (record {
@@ -56,7 +56,7 @@ returns-in-None c =
 
 pub returns-in-None-bounded_product : goal.returns-in-None-bounded_product
 returns-in-None-bounded_product c =
-    moved (λ (t : ℕ) (p q : Fraction). Any (λ n. t < n) (listed_of_sum p q)) c.size-most.result c.args.top _ c.args.left
+    moved (λ (t : ℕ) (p q : Fraction). Any (λ n. t < n) (numbers_of_sum p q)) c.size-most.result c.args.top _ c.args.left
     _ c.args.right c.size-most.ensures.value c.left.view_is c.right.view_is
     (sum_denominator_passes c.size-most.result _ _ _ _ _ _ _ _
     (adds (goal.at.returns-in-None-bounded_product c).After-bounded_product) c.in-None-bounded_product.ensures)
@@ -67,7 +67,7 @@ invariant_of-result c =
     let sum_fits : SFits w128 c.in-Some.sum = search rules in
     let quotient_fits : SFits w128 c.signed_quotient.result = search rules in
     let top_is : to_z w128 (of_z w128 c.signed_quotient.result)
-    ≡ over c.in-Some.sum c.greatest_common_divisor-common.result =
+    ≡ exact_quotient c.in-Some.sum c.greatest_common_divisor-common.result =
     to_z-of_z w128 c.signed_quotient.result quotient_fits ∙ simp to_z-of_z at c.signed_quotient.ensures in
     sum_kept c.size-most.result _ _ _ _ _ _ _ _ _ _ c.size-most.ensures.within c.left.invariant.lowest
     c.right.invariant.lowest (adds at) (sum_within at) top_is c.in-Some-bounded_product.ensures.0
@@ -79,10 +79,10 @@ returns-in-Some-bounded_product c =
     let sum_fits : SFits w128 c.in-Some.sum = search rules in
     let quotient_fits : SFits w128 c.signed_quotient.result = search rules in
     let top_is : to_z w128 (of_z w128 c.signed_quotient.result)
-    ≡ over c.in-Some.sum c.greatest_common_divisor-common.result =
+    ≡ exact_quotient c.in-Some.sum c.greatest_common_divisor-common.result =
     to_z-of_z w128 c.signed_quotient.result quotient_fits ∙ simp to_z-of_z at c.signed_quotient.ensures in
     moved (λ (t : ℕ) (p q : Fraction).
-    IsAnswer t (listed_of_sum p q) (plus p q)
+    IsExactOrTooWide t (numbers_of_sum p q) (plus p q)
     (Some (record {
       numerator = to_z w128 (of_z w128 c.signed_quotient.result);
       denominator = c.in-Some-bounded_product.denominator;

@@ -2,7 +2,7 @@ use Rattle.std.proofs.Common.{◌<◌, ℕ, sym, ◌∙◌, ap, subst, SFits, ru
 use Rattle.std.specs.Prelude.{ℤ, Any}
 use Rattle.std.proofs.lemmas.Int.{to_z-of_z}
 use mir.Syntax.{w128}
-use Rattle.whole_numbers.specs.Fractions.{whole, listed_of_product}
+use Rattle.whole_numbers.specs.Fractions.{whole, numbers_of_product}
 use Rattle.wide_fraction.specs.Widths.{IsWithin}
 use Rattle.wide_fraction.proofs.StepLemmas.{whole_answer, whole_product_passes, whole_product_answer}
 use Rattle.wide_fraction.proofs.steps.whole_product.Goals as goal
@@ -12,7 +12,7 @@ returns-in-None c =
     let left_fits : SFits w128 c.args.left = c.ranges.left in
     let right_fits : SFits w128 c.args.right = c.ranges.right in
     let wide = simp to_z-of_z at c.in-None.ensures in
-    subst (λ (t : ℕ). Any (λ n. t < n) (listed_of_product (whole c.args.left) (whole c.args.right))) c.size.ensures.value
+    subst (λ (t : ℕ). Any (λ n. t < n) (numbers_of_product (whole c.args.left) (whole c.args.right))) c.size.ensures.value
     (whole_product_passes c.size.result c.args.left c.args.right wide)
 
 pub returns-in-Some : goal.returns-in-Some
@@ -22,7 +22,7 @@ returns-in-Some c =
     let product_fits : SFits w128 c.in-Some.product = search rules in
     let answer = simp to_z-of_z at c.in-Some.ensures in
     let left_within : IsWithin c.size.result (whole c.args.left) = subst (λ (t : ℕ). IsWithin t (whole c.args.left)) (sym c.size.ensures.value) c.requires in
-    whole_answer c.size.result c.args.top (listed_of_product (whole c.args.left) (whole c.args.right)) _
+    whole_answer c.size.result c.args.top (numbers_of_product (whole c.args.left) (whole c.args.right)) _
     c.whole_wide.result c.in-Some.product c.size.ensures.value (c.whole_wide.ensures
     ∙ ap (λ (z : ℤ). whole z) (to_z-of_z w128 c.in-Some.product product_fits))
     (whole_product_answer c.size.result c.args.left c.args.right c.in-Some.product left_within answer.0 answer.1)

@@ -1,5 +1,5 @@
 use Rattle.std.proofs.Common.{◌≡◌, ◌+◌, ◌∙◌, ◌&&◌, sym, ap, arith}
-use Rattle.config_reader.specs.Spoken.{prefix_of}
+use Rattle.config_reader.specs.Spoken.{prefix_spoken}
 use Rattle.config_reader.specs.Drafting.{covers}
 use Rattle.config_reader.specs.Sightings.{first_at, names_prefix, is_elsewhere}
 use Rattle.config_reader.proofs.Sightings.{covers_below, covers_none, covers_all, first_same, never, next_elsewhere}
@@ -24,6 +24,6 @@ returns c =
     (c.loop-length.invariant ∙ ap (λ n. first_at 0 (λ w. covers_below n c.args.address.address w && is_elsewhere c.args.area w) c.args.self.now) at_end)
     (c.other_of-longest.ensures ∙ ap (λ k. first_at 0 (λ w. names_prefix k w && is_elsewhere c.args.area w) c.args.self.now) c.prefix_at.ensures)
     ∙ first_same 0 (λ w. covers_below (c.args.address.length + 1) c.args.address.address w
-    && is_elsewhere c.args.area w) (λ w. covers (prefix_of c.args.address) w && is_elsewhere c.args.area w)
+    && is_elsewhere c.args.area w) (λ w. covers (prefix_spoken c.args.address) w && is_elsewhere c.args.area w)
     c.args.self.now
-    (λ w. ap (λ b. b && is_elsewhere c.args.area w) (covers_all (prefix_of c.args.address) w))
+    (λ w. ap (λ b. b && is_elsewhere c.args.area w) (covers_all (prefix_spoken c.args.address) w))

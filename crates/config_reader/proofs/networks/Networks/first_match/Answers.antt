@@ -1,5 +1,5 @@
 use Rattle.std.proofs.Common.{◌≡◌, ◌+◌, ◌∙◌, sym, ap, arith}
-use Rattle.config_reader.specs.Spoken.{prefix_of}
+use Rattle.config_reader.specs.Spoken.{prefix_spoken}
 use Rattle.config_reader.specs.Drafting.{covers}
 use Rattle.config_reader.specs.Sightings.{first_at, names_prefix}
 use Rattle.config_reader.proofs.Sightings.{covers_below, covers_none, covers_all, first_same, never, next_length}
@@ -21,5 +21,5 @@ returns c =
     ∙ next_length c.args.address.length c.args.address.address c.args.self.now c.loop-length.shorter c.first_of-longest.result
     (c.loop-length.invariant ∙ ap (λ n. first_at 0 (covers_below n c.args.address.address) c.args.self.now) at_end)
     (c.first_of-longest.ensures ∙ ap (λ k. first_at 0 (names_prefix k) c.args.self.now) c.prefix_at-2.ensures)
-    ∙ first_same 0 (covers_below (c.args.address.length + 1) c.args.address.address) (covers (prefix_of c.args.address))
-    c.args.self.now (covers_all (prefix_of c.args.address))
+    ∙ first_same 0 (covers_below (c.args.address.length + 1) c.args.address.address) (covers (prefix_spoken c.args.address))
+    c.args.self.now (covers_all (prefix_spoken c.args.address))

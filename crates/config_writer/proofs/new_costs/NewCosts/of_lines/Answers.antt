@@ -2,7 +2,7 @@ use Rattle.std.proofs.Common.{◌∙◌, ◌+◌, ◌≤◌, sym, ap, subst, con
 use Rattle.std.proofs.lemmas.List.{drop_more, take_all}
 use Rattle.std.proofs.lemmas.List.Elements.{All-more, All-same}
 use Rattle.cost_base.specs.Lists.{same_bytes}
-use Rattle.path_rows.specs.declared.answer.CostLine.{CostLine}
+use Rattle.design_problem.specs.declared.answer.CostLine.{CostLine}
 use Rattle.config_reader.specs.Sections.{cost_after}
 use Rattle.config_writer.specs.Rewriting.{costs_of}
 use Rattle.config_writer.specs.Writing.{look_up}

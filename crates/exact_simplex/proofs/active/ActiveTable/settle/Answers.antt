@@ -3,9 +3,9 @@ use Rattle.std.proofs.Common.{ap, subst, sym, ◌∙◌}
 use Rattle.std.specs.Prelude.{Result, IfOk}
 use Rattle.fraction_table.specs.declared.stage.Solved.{Solved}
 use Rattle.fraction_table.specs.declared.stage.Stage.TheVariants.{Ended}
-use Rattle.fraction_table.specs.Wholes.{IsShown}
+use Rattle.fraction_table.specs.ValidTables.{IsShown}
 use Rattle.table_kernel.specs.declared.kernel.OutOfRange.{OutOfRange}
-use Rattle.table_kernel.specs.Kernels.{lines_of}
+use Rattle.table_kernel.specs.Kernels.{kernel_lines}
 use Rattle.exact_simplex.specs.declared.active.ActiveTable.{ActiveTable}
 use Rattle.exact_simplex.proofs.Actives.{clash, kernel_shown, shown_beside, was_held_up}
 use Rattle.exact_simplex.proofs.active.ActiveTable.settle.Goals.{then-self+in-Err, else-self}
@@ -18,7 +18,7 @@ pub returns-in-Ok-clause-shown : goal.returns-in-Ok-clause-shown
 returns-in-Ok-clause-shown c =
     kernel_shown c.args.self.now.in_kernel c.settle.new.self c.in-Ok.solved c.if-self.true c.settle.ensures.kernel
     (subst (λ (r : Result Solved OutOfRange).
-    IfOk r (λ solved. IsShown c.settle.new.self.table.basis.items (lines_of c.settle.new.self) (Ended solved)))
+    IfOk r (λ solved. IsShown c.settle.new.self.table.basis.items (kernel_lines c.settle.new.self) (Ended solved)))
     c.in-Ok.is c.settle.ensures.shown)
 
 pub returns-clause-shown : goal.returns-clause-shown

@@ -2,7 +2,7 @@
 use Rattle.std.proofs.Common.{subst, sym}
 use Rattle.std.specs.Prelude.{Result, IfErr, OnOk}
 use Rattle.wide_fraction.specs.declared.steps.Wide.{Wide}
-use Rattle.path_rows.specs.Steps.{IsTooWide}
+use Rattle.design_problem.specs.Steps.{IsStepTooWide}
 use Rattle.fraction_table.specs.Tableaus.{wide_at}
 use Rattle.exact_simplex.specs.Actives.{IsActive, IsSoundActive}
 use Rattle.exact_simplex.proofs.Actives.{opened, stopped}
@@ -22,6 +22,6 @@ invariant_of-self-2 c =
           subst (IsSoundActive a) (sym w.self-is)
           (stopped a w.in-Err.step (subst
           (λ (r : Result (Unit {0}) Wide).
-          IfErr r (λ wide. IsTooWide t.top t.costs t.rows.items (wide_at wide t.basis.items))) w.in-Err.is
+          IfErr r (λ wide. IsStepTooWide t.top t.costs t.rows.items (wide_at wide t.basis.items))) w.in-Err.is
           put.wide) put.room)
     ]

@@ -1,8 +1,8 @@
 -- The box is one of as many variables, and each row fits it.
 use Rattle.std.proofs.Common.{◌≡◌, ℕ, sym, ◌∙◌, ap, subst, List, length}
 use Rattle.std.specs.Prelude.{All}
-use Rattle.path_rows.specs.declared.form.Form.{Form}
-use Rattle.path_rows.specs.Boxes.{IsBox}
+use Rattle.design_problem.specs.declared.form.Form.{Form}
+use Rattle.design_problem.specs.Boxes.{IsBox}
 use Rattle.fraction_table.specs.Tableaus.{FitsBox, Held}
 use Rattle.exact_simplex.proofs.tableau.Tableau.fits.Goals as goal
 

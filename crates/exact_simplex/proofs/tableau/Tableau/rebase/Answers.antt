@@ -1,10 +1,10 @@
 -- The table moves, and is open again.
 use Rattle.std.proofs.Common.{subst, sym, length}
 use Rattle.std.specs.Prelude.{All}
-use Rattle.path_rows.specs.Boxes.{IsBox}
+use Rattle.design_problem.specs.Boxes.{IsBox}
 use Rattle.fraction_table.specs.declared.stage.Stage.TheVariants.{Open}
 use Rattle.fraction_table.specs.Tableaus.{FitsBox, Held, IsGoing, IsRebased}
-use Rattle.fraction_table.specs.Wholes.{held_of}
+use Rattle.fraction_table.specs.ValidTables.{held_of}
 use Rattle.fraction_table.proofs.Restarts.{any_stage}
 use Rattle.exact_simplex.proofs.Actives.{opened}
 use Rattle.exact_simplex.proofs.tableau.Tableau.rebase.Goals as goal

@@ -2,11 +2,11 @@
 use Rattle.std.proofs.Common.{subst, sym}
 use Rattle.std.specs.Prelude.{Result, IfErr, IfOk, OnOk}
 use Rattle.wide_fraction.specs.declared.steps.Wide.{Wide}
-use Rattle.path_rows.specs.Steps.{IsTooWide}
+use Rattle.design_problem.specs.Steps.{IsStepTooWide}
 use Rattle.fraction_table.specs.declared.stage.Solved.{Solved}
 use Rattle.fraction_table.specs.declared.stage.Stage.TheVariants.{Ended}
 use Rattle.fraction_table.specs.Tableaus.{Held, IsAmongForms, IsSolved, wide_at}
-use Rattle.fraction_table.specs.Wholes.{IsShown}
+use Rattle.fraction_table.specs.ValidTables.{IsShown}
 use Rattle.exact_simplex.specs.Actives.{IsActive, IsSoundActive, table_of}
 use Rattle.exact_simplex.proofs.Actives.{ended, settled_among_forms, settled_rightly, stopped}
 use Rattle.exact_simplex.proofs.tableau.Tableau.solve.Goals.{in-Ok, in-Err}
@@ -26,7 +26,7 @@ invariant_of-self c =
           subst (IsSoundActive a) (sym w.self-is)
           (stopped a w.in-Err.wide (subst
           (λ (r : Result Solved Wide).
-          IfErr r (λ wide. IsTooWide t.top t.costs t.rows.items (wide_at wide t.basis.items))) w.in-Err.is
+          IfErr r (λ wide. IsStepTooWide t.top t.costs t.rows.items (wide_at wide t.basis.items))) w.in-Err.is
           left.wide) left.room)
     ]
 

@@ -2,8 +2,8 @@
 use Rattle.std.proofs.Common.{◌≡◌, ◌<◌, ℕ, ap, sym, subst, List, ◌∷◌, length, arith}
 use Rattle.std.proofs.lemmas.Result.{err_from_is_err_and}
 use Rattle.whole_numbers.specs.Fractions.{Fraction}
-use Rattle.path_rows.specs.Basis.{entry}
-use Rattle.fraction_rows.specs.TableRows.{AreNumbers, Rises, crossed_by, filled}
+use Rattle.design_problem.specs.Basis.{entry}
+use Rattle.fraction_rows.specs.TableRows.{AreTableNumbers, Rises, crossed_by, filled}
 use Rattle.fraction_rows.specs.Marks.{AllMarked}
 use Rattle.fraction_rows.specs.Entries.{IsMade, crossed_at}
 use Rattle.fraction_rows.proofs.FilledRows.{row_crossed_as, row_numbers, entry_numbers, term_step, crossed_wide, width_is, same_width, on_ok, always_ok}
@@ -49,7 +49,7 @@ pub cross_entries-made-requires-clause-old_numbers : goal.cross_entries-made-req
 cross_entries-made-requires-clause-old_numbers c =
     let s = c.self.inside in
     rw c.as_slice.ensures.value (entry_numbers c.args.top s.constant s.width s.entries.items c.self.invariant.rises
-    (subst (AreNumbers c.args.top) (sym c.self.view_is) c.requires.numbers))
+    (subst (AreTableNumbers c.args.top) (sym c.self.view_is) c.requires.numbers))
 
 pub cross_entries-made-requires-clause-quotient_numbers :
     goal.cross_entries-made-requires-clause-quotient_numbers
@@ -57,7 +57,7 @@ cross_entries-made-requires-clause-quotient_numbers c =
     let q = c.quotients.inside in
     rw c.as_slice-2.ensures.value (entry_numbers c.args.top q.constant q.width q.entries.items
     c.quotients.invariant.rises
-    (subst (AreNumbers c.args.top) (sym c.quotients.view_is) c.requires.quotient_numbers))
+    (subst (AreTableNumbers c.args.top) (sym c.quotients.view_is) c.requires.quotient_numbers))
 
 pub cross_entries-made-requires-clause-room : goal.cross_entries-made-requires-clause-room
 cross_entries-made-requires-clause-room c =
@@ -92,7 +92,7 @@ returns-clause-crossed c =
 pub returns-clause-numbers : goal.returns-clause-numbers
 returns-clause-numbers c =
     let i = c.into.inside in
-    always_ok c.cross_entries-made.result (AreNumbers c.args.top (c.in_ok-into-inside.field-0 ∷ filled i.width c.cross_entries-made.new.made.items))
+    always_ok c.cross_entries-made.result (AreTableNumbers c.args.top (c.in_ok-into-inside.field-0 ∷ filled i.width c.cross_entries-made.new.made.items))
     (row_numbers c.args.top c.in_ok-into-inside.field-0 i.width c.cross_entries-made.new.made.items
     c.in_ok-into-inside.ensures.number c.cross_entries-made.ensures.numbers)
 

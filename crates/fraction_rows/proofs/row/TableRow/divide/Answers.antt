@@ -3,8 +3,8 @@ use Rattle.std.proofs.Common.{◌≡◌, ◌<◌, Err, ℕ, suc, [], ap, sym, su
 use Rattle.std.proofs.lemmas.Result.{err_from_is_err_and}
 use Rattle.cost_base.specs.declared.StepName.TheVariants.{Div}
 use Rattle.whole_numbers.specs.Fractions.{Fraction}
-use Rattle.path_rows.specs.Basis.{entry}
-use Rattle.fraction_rows.specs.TableRows.{AreNumbers, IsNumber, Rises, divided_without, filled}
+use Rattle.design_problem.specs.Basis.{entry}
+use Rattle.fraction_rows.specs.TableRows.{AreTableNumbers, IsTableNumber, Rises, divided_without, filled}
 use Rattle.fraction_rows.specs.Marks.{AllMarked}
 use Rattle.fraction_rows.specs.Entries.{IsMade, divided_at}
 use Rattle.fraction_rows.proofs.ZeroFractions.{divided_number}
@@ -37,7 +37,7 @@ pub divide_entries-made-requires-clause-old_numbers : goal.divide_entries-made-r
 divide_entries-made-requires-clause-old_numbers c =
     let s = c.self.inside in
     rw c.as_slice.ensures.value (entry_numbers c.args.top s.constant s.width s.entries.items c.self.invariant.rises
-    (subst (AreNumbers c.args.top) (sym c.self.view_is) c.requires.numbers))
+    (subst (AreTableNumbers c.args.top) (sym c.self.view_is) c.requires.numbers))
 
 pub divide_entries-made-requires-clause-room : goal.divide_entries-made-requires-clause-room
 divide_entries-made-requires-clause-room c =
@@ -70,11 +70,11 @@ pub returns-clause-numbers : goal.returns-clause-numbers
 returns-clause-numbers c =
     let s = c.self.inside in
     let i = c.into.inside in
-    let first = subst (AreNumbers c.args.top) (sym c.self.view_is) c.requires.numbers in
-    let value_is : IsNumber c.args.top c.in_ok-into-inside.field-0 =
+    let first = subst (AreTableNumbers c.args.top) (sym c.self.view_is) c.requires.numbers in
+    let value_is : IsTableNumber c.args.top c.in_ok-into-inside.field-0 =
     divided_number c.args.top s.constant c.args.divisor c.in_ok-into-inside.field-0 first.0.lowest.positive
     c.in_ok-into-inside.ensures.exact c.in_ok-into-inside.ensures.within in
-    always_ok c.divide_entries-made.result (AreNumbers c.args.top (c.in_ok-into-inside.field-0 ∷ filled i.width c.divide_entries-made.new.made.items))
+    always_ok c.divide_entries-made.result (AreTableNumbers c.args.top (c.in_ok-into-inside.field-0 ∷ filled i.width c.divide_entries-made.new.made.items))
     (row_numbers c.args.top c.in_ok-into-inside.field-0 i.width c.divide_entries-made.new.made.items value_is c.divide_entries-made.ensures.numbers)
 
 pub returns-clause-wide : goal.returns-clause-wide

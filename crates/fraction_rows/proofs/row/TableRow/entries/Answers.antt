@@ -1,7 +1,7 @@
 -- The list fills the row.
 use Rattle.std.proofs.Common.{◌≡◌, ℕ, suc, ◌-◌, ◌∙◌, ap, sym, subst, List, ◌∷◌, length, arith}
 use Rattle.whole_numbers.specs.Fractions.{Fraction}
-use Rattle.path_rows.specs.Basis.{entry}
+use Rattle.design_problem.specs.Basis.{entry}
 use Rattle.fraction_rows.specs.TableRows.{Rises, filled}
 use Rattle.fraction_rows.proofs.FilledRows.{width_is}
 use Rattle.fraction_rows.proofs.row.TableRow.entries.Goals as goal

@@ -1,7 +1,7 @@
 -- The list has the entry of each column, and 0 at one without a mark.
 use Rattle.std.proofs.Common.{◌<◌, ℕ, suc, ◌∙◌, ap, sym, List, arith}
 use Rattle.whole_numbers.specs.Fractions.{Fraction}
-use Rattle.path_rows.specs.Basis.{entry}
+use Rattle.design_problem.specs.Basis.{entry}
 use Rattle.fraction_rows.specs.TableRows.{fraction_at}
 use Rattle.fraction_rows.proofs.FilledRows.{row_entry, width_is}
 use Rattle.fraction_rows.proofs.MarkLaws.{unmarked_nothing}

@@ -1,7 +1,7 @@
 -- A column without a mark has 0.
 use Rattle.std.proofs.Common.{◌≡◌, ◌<◌, Bool, true, false, not, refl, suc, ◌∙◌, ap, sym, List, arith}
 use Rattle.whole_numbers.specs.Fractions.{Fraction}
-use Rattle.path_rows.specs.Basis.{entry}
+use Rattle.design_problem.specs.Basis.{entry}
 use Rattle.fraction_rows.proofs.FilledRows.{row_entry, width_is}
 use Rattle.fraction_rows.proofs.MarkLaws.{unmarked_nothing}
 use Rattle.fraction_rows.proofs.row.TableRow.lacks.Goals as goal

@@ -2,7 +2,7 @@
 use Rattle.std.proofs.Common.{◌≡◌, ◌<◌, ◌≤◌, ℕ, suc, ◌∙◌, ap, sym, List, ◌∷◌, length, arith}
 use Rattle.std.specs.Prelude.{slice_set}
 use Rattle.whole_numbers.specs.Fractions.{Fraction}
-use Rattle.path_rows.specs.Basis.{entry}
+use Rattle.design_problem.specs.Basis.{entry}
 use Rattle.fraction_rows.specs.TableRows.{Rises, filled, nothing}
 use Rattle.fraction_rows.proofs.Columns.{rises_until, rises_widen, rises_length, put_rises, put_here, put_other}
 use Rattle.fraction_rows.proofs.FilledRows.{row_entry, row_written, width_is}

@@ -6,7 +6,7 @@ use Rattle.std.proofs.lemmas.Int.{ints}
 use Rattle.std.proofs.lemmas.List.{take_all}
 use Rattle.std.proofs.lemmas.Result.{err_from_is_err_and}
 use Rattle.whole_numbers.specs.Fractions.{Fraction}
-use Rattle.path_rows.specs.Steps.{lcm_of}
+use Rattle.design_problem.specs.Steps.{lcm_of}
 use Rattle.fraction_table.specs.Corners.{denominators_of}
 use Rattle.fraction_rows.specs.Entries.{IsPassing}
 use Rattle.fraction_table.proofs.MultiplierSteps.{read_back}

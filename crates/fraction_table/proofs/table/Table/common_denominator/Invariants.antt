@@ -1,7 +1,7 @@
 -- The multiple is that of the denominators before the counter.
 use Rattle.std.proofs.Common.{◌≡◌, ◌≤◌}
 use Rattle.std.specs.Prelude.{pos, nat_abs, take}
-use Rattle.path_rows.specs.Steps.{lcm_of}
+use Rattle.design_problem.specs.Steps.{lcm_of}
 use Rattle.fraction_table.specs.Corners.{denominators_of}
 use Rattle.fraction_table.proofs.table.Table.common_denominator.Given as goal
 

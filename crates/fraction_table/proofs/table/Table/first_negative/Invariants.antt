@@ -1,7 +1,7 @@
 -- The lines before the counter have no negative constant.
 use Rattle.std.proofs.Common.{ℕ, ◌<◌}
 use Rattle.std.specs.Prelude.{pos, ◌≤ℤ◌}
-use Rattle.path_rows.specs.Basis.{entry}
+use Rattle.design_problem.specs.Basis.{entry}
 use Rattle.fraction_table.specs.Pivots.{line_at}
 use Rattle.fraction_table.proofs.table.Table.first_negative.Given as goal
 

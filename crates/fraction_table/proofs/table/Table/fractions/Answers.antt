@@ -1,7 +1,7 @@
 -- One more column gives its multiplier.
 use Rattle.std.proofs.Common.{◌∙◌, ap, length, suc, List, arith}
 use Rattle.whole_numbers.specs.Fractions.{Fraction}
-use Rattle.path_rows.specs.Basis.{entry}
+use Rattle.design_problem.specs.Basis.{entry}
 use Rattle.fraction_table.specs.Pivots.{line_at, member_at}
 use Rattle.fraction_table.proofs.MultiplierColumns.{fractions_next}
 use Rattle.fraction_table.proofs.Pivots.{line_long, line_read, member_in}

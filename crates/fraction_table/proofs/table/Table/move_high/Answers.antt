@@ -2,7 +2,7 @@
 use Rattle.std.proofs.Common.{◌+◌, ◌∙◌, ap, length, arith, w64, to_z, of_z}
 use Rattle.std.specs.Prelude.{slice_index}
 use Rattle.std.proofs.lemmas.Result.{err_from_is_err_and}
-use Rattle.path_rows.specs.Boxes.{with_high}
+use Rattle.design_problem.specs.Boxes.{with_high}
 use Rattle.fraction_table.proofs.Shifts.{IsMovedTo, high_after, high_stays, high_wide, kept_number, lines_many, rows_kept, unboxed_shape}
 use Rattle.fraction_table.proofs.table.Table.move_high.Goals.{After-set}
 use Rattle.fraction_table.proofs.table.Table.move_high.Goals as goal

@@ -3,7 +3,7 @@ use Rattle.std.proofs.Common.{◌≡◌, suc, ◌∙◌, ap, sym, length, arith,
 use Rattle.std.specs.Prelude.{slice_index}
 use Rattle.std.proofs.lemmas.List.{length-set}
 use Rattle.std.proofs.lemmas.Result.{err_from_is_err_and}
-use Rattle.path_rows.specs.Boxes.{with_low}
+use Rattle.design_problem.specs.Boxes.{with_low}
 use Rattle.fraction_table.proofs.Shifts.{IsMovedTo, kept_number, lines_many, low_after, low_stays, low_wide, rows_kept, unboxed_shape}
 use Rattle.fraction_table.proofs.table.Table.move_low.Goals.{After-set}
 use Rattle.fraction_table.proofs.table.Table.move_low.Goals as goal

@@ -5,15 +5,15 @@ use Rattle.std.specs.Vec.{with_items}
 use Rattle.std.proofs.lemmas.List.{with_items_is, length-map}
 use Rattle.std.proofs.lemmas.Result.{err_from_is_err_and}
 use Rattle.whole_numbers.specs.Fractions.{Fraction, divided, whole}
-use Rattle.path_rows.specs.declared.tree.Member.{Member}
-use Rattle.path_rows.specs.Basis.{entry}
-use Rattle.fraction_rows.specs.TableRows.{AreNumbers, IsWideStep, divided_without}
-use Rattle.fraction_rows.specs.Turns.{AreRows, IsQuotientStepOf, TurnsWide}
-use Rattle.fraction_table.specs.Wholes.{IsWhole}
+use Rattle.design_problem.specs.declared.tree.Member.{Member}
+use Rattle.design_problem.specs.Basis.{entry}
+use Rattle.fraction_rows.specs.TableRows.{AreTableNumbers, IsWideStep, divided_without}
+use Rattle.fraction_rows.specs.Turns.{AreTableRows, IsQuotientStepOf, TurnsWide}
+use Rattle.fraction_table.specs.ValidTables.{IsTableauOf}
 use Rattle.fraction_table.specs.Pivots.{line_at, member_at}
 use Rattle.fraction_table.specs.Ranks.{digits_number, heights, past_heights, rank}
 use Rattle.fraction_rows.proofs.RowLaws.{number_at as number_there}
-use Rattle.fraction_table.proofs.WholeTurns.{turned_line}
+use Rattle.fraction_table.proofs.IntegralTurns.{turned_line}
 use Rattle.fraction_rows.proofs.PivotSteps.{quotient_own}
 use Rattle.fraction_table.proofs.Pivots.{inverse_not_zero, line_long, line_read, member_in, news_turned, pivot_whole, quotients_wide, turning_wide, whole_line, whole_rows}
 use Rattle.fraction_table.proofs.Ranks.{rank_rises}
@@ -35,7 +35,7 @@ take_quotients-requires-clause-width c =
 pub take_quotients-requires-clause-numbers : goal.take_quotients-requires-clause-numbers
 take_quotients-requires-clause-numbers c =
     let t = c.args.self.now in
-    subst (AreNumbers t.top) (sym (line_read t c.args.line c.index.result.now c.index.ensures c.requires.line))
+    subst (AreTableNumbers t.top) (sym (line_read t c.args.line c.index.result.now c.index.ensures c.requires.line))
     (whole_line t c.requires.whole c.args.line c.requires.line).numbers
 
 pub returns-in_err-inverse-clause-wide : goal.returns-in_err-inverse-clause-wide
@@ -52,8 +52,8 @@ returns-in_err-inverse-clause-wide c =
 pub turn_rows-requires-clause-rows : goal.turn_rows-requires-clause-rows
 turn_rows-requires-clause-rows c =
     let t = c.args.self.now in
-    subst (λ (count : ℕ). AreRows t.top count c.as_mut_slice.result.now) (sym (c.take_quotients.ensures.width ∙ c.requires.room.quotients))
-    (subst (AreRows t.top (suc (length t.costs.low))) (sym c.as_mut_slice.ensures.value) (whole_rows t c.requires.whole))
+    subst (λ (count : ℕ). AreTableRows t.top count c.as_mut_slice.result.now) (sym (c.take_quotients.ensures.width ∙ c.requires.room.quotients))
+    (subst (AreTableRows t.top (suc (length t.costs.low))) (sym c.as_mut_slice.ensures.value) (whole_rows t c.requires.whole))
 
 pub turn_rows-requires-clause-none_there : goal.turn_rows-requires-clause-none_there
 turn_rows-requires-clause-none_there c =
@@ -117,9 +117,9 @@ news_kept c =
     let t = c.args.self.now in
     lines_kept t.lines c.turn_rows.new.rows (ap length (news_are c) ∙ length-map t.lines.items (turned_line (line_at t c.args.line) (suc c.args.column)))
 
-news_numbers : (c : In_ok-turn_rows) → AreRows c.args.self.now.top (suc (length c.args.self.now.costs.low)) c.turn_rows.new.rows
+news_numbers : (c : In_ok-turn_rows) → AreTableRows c.args.self.now.top (suc (length c.args.self.now.costs.low)) c.turn_rows.new.rows
 news_numbers c =
-    subst (λ (count : ℕ). AreRows c.args.self.now.top count c.turn_rows.new.rows) (c.take_quotients.ensures.width
+    subst (λ (count : ℕ). AreTableRows c.args.self.now.top count c.turn_rows.new.rows) (c.take_quotients.ensures.width
     ∙ c.requires.room.quotients) c.in_ok-turn_rows.ensures.numbers
 
 pub returns-clause-whole : goal.returns-clause-whole
@@ -127,10 +127,10 @@ returns-clause-whole c =
     let t = c.args.self.now in
     let news = c.turn_rows.new.rows in
     let turned = (goal.at.returns-clause-whole c).In_ok-turn_rows in
-    subst (λ (m : Member). IsWhole t.top t.costs t.rows.items (slice_set t.basis.items c.args.column m)
+    subst (λ (m : Member). IsTableauOf t.top t.costs t.rows.items (slice_set t.basis.items c.args.column m)
     (with_items t.lines news).items) (sym c.member_at-member.ensures)
     (subst (λ (lines : List (List Fraction)).
-    IsWhole t.top t.costs t.rows.items (slice_set t.basis.items c.args.column (member_at t c.args.line)) lines)
+    IsTableauOf t.top t.costs t.rows.items (slice_set t.basis.items c.args.column (member_at t c.args.line)) lines)
     (sym (news_kept turned))
     (pivot_whole t c.requires.whole c.args.line c.args.column news c.requires.line c.requires.pivot c.requires.least (news_are turned) (news_numbers turned)))
 

@@ -4,8 +4,8 @@ use Rattle.std.proofs.lemmas.Result.{err_from_is_err_and}
 use Rattle.cost_base.specs.declared.StepName.TheVariants.{Div, Mul}
 use Rattle.whole_numbers.specs.Fractions.{Fraction, divided}
 use Rattle.wide_fraction.specs.declared.steps.Wide.{Wide}
-use Rattle.path_rows.specs.Basis.{entry}
-use Rattle.fraction_rows.specs.TableRows.{AreNumbers}
+use Rattle.design_problem.specs.Basis.{entry}
+use Rattle.fraction_rows.specs.TableRows.{AreTableNumbers}
 use Rattle.fraction_table.specs.Pivots.{line_at}
 use Rattle.fraction_table.proofs.Pivots.{line_long, line_read, lines_long, whole_line}
 use Rattle.fraction_table.proofs.Choices.{found_order, greater_ordered, less_ordered, level_more, level_ordered, multiple_wide, ratio_wide}
@@ -30,7 +30,7 @@ entry_in c k k_in =
 pub entry_quotient-requires-clause-numbers : goal.entry_quotient-requires-clause-numbers
 entry_quotient-requires-clause-numbers c =
     let t = c.args.self.now in
-    subst (AreNumbers t.top) (sym (line_read t c.args.line c.index.result.now c.index.ensures c.requires.line))
+    subst (AreTableNumbers t.top) (sym (line_read t c.args.line c.index.result.now c.index.ensures c.requires.line))
     (whole_line t c.requires.whole c.args.line c.requires.line).numbers
 
 pub returns-in_err-quotient-clause-wide : goal.returns-in_err-quotient-clause-wide
@@ -62,7 +62,7 @@ pub entry_order-requires-clause-numbers : goal.entry_order-requires-clause-numbe
 entry_order-requires-clause-numbers c =
     let t = c.args.self.now in
     let at = (goal.at.entry_order-requires-clause-numbers c).After-index-in-loop-place in
-    subst (AreNumbers t.top) (sym (place_read at)) (whole_line t c.requires.whole c.loop-place.place (place_in at)).numbers
+    subst (AreTableNumbers t.top) (sym (place_read at)) (whole_line t c.requires.whole c.loop-place.place (place_in at)).numbers
 
 pub returns-in_err-order-clause-wide : goal.returns-in_err-order-clause-wide
 returns-in_err-order-clause-wide c =

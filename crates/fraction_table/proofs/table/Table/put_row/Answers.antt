@@ -1,6 +1,6 @@
 -- The table is whole with the row and its line; a step that stopped the line is too wide.
 use Rattle.std.proofs.Common.{suc, ap, sym, subst, length, arith}
-use Rattle.fraction_rows.specs.Turns.{AreRows}
+use Rattle.fraction_rows.specs.Turns.{AreTableRows}
 use Rattle.fraction_table.proofs.Bases.{table_long}
 use Rattle.fraction_table.proofs.Pivots.{whole_rows}
 use Rattle.fraction_table.proofs.RowLines.{put_whole, put_wide}
@@ -9,7 +9,7 @@ use Rattle.fraction_table.proofs.table.Table.put_row.Goals as goal
 pub fill_line-filled-requires-clause-lines : goal.fill_line-filled-requires-clause-lines
 fill_line-filled-requires-clause-lines c =
     let t = c.args.self.now in
-    subst (AreRows t.top (suc (length t.costs.low))) (sym c.as_slice-lines.ensures.value) (whole_rows t c.requires.whole)
+    subst (AreTableRows t.top (suc (length t.costs.low))) (sym c.as_slice-lines.ensures.value) (whole_rows t c.requires.whole)
 
 pub fill_line-filled-requires-clause-many : goal.fill_line-filled-requires-clause-many
 fill_line-filled-requires-clause-many c =

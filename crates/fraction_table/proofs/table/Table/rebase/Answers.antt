@@ -1,9 +1,9 @@
 -- The bounds move, or the table starts anew.
 use Rattle.std.proofs.Common.{ℕ, inl, inr, sym, subst, List, length}
 use Rattle.std.specs.Prelude.{All}
-use Rattle.path_rows.specs.declared.form.Form.{Form}
-use Rattle.path_rows.specs.declared.form.CostBox.{CostBox}
-use Rattle.path_rows.specs.Boxes.{IsBox}
+use Rattle.design_problem.specs.declared.form.Form.{Form}
+use Rattle.design_problem.specs.declared.form.CostBox.{CostBox}
+use Rattle.design_problem.specs.Boxes.{IsBox}
 use Rattle.fraction_table.specs.Tableaus.{FitsBox, starting}
 use Rattle.fraction_table.proofs.Restarts.{held_is, moved_rebased}
 use Rattle.fraction_table.proofs.BetweenBoxes.{keeps_both}

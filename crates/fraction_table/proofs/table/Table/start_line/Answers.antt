@@ -3,13 +3,13 @@ use Rattle.std.proofs.Common.{◌≡◌, ◌<◌, suc, ◌∙◌, ap, sym, subst
 use Rattle.std.specs.Prelude.{All, slice_set}
 use Rattle.std.proofs.lemmas.List.{length-set}
 use Rattle.whole_numbers.specs.Fractions.{Fraction}
-use Rattle.path_rows.specs.declared.form.Form.{Form}
-use Rattle.path_rows.specs.declared.form.CostBox.{CostBox}
-use Rattle.path_rows.specs.declared.tree.Member.{Member}
-use Rattle.path_rows.specs.declared.tree.Member.TheVariants.{Low}
-use Rattle.path_rows.specs.Basis.{IsFormOf}
-use Rattle.path_rows.specs.Boxes.{IsBox}
-use Rattle.fraction_table.specs.Wholes.{members_of, starting_line}
+use Rattle.design_problem.specs.declared.form.Form.{Form}
+use Rattle.design_problem.specs.declared.form.CostBox.{CostBox}
+use Rattle.design_problem.specs.declared.tree.Member.{Member}
+use Rattle.design_problem.specs.declared.tree.Member.TheVariants.{Low}
+use Rattle.design_problem.specs.Basis.{IsFormOf}
+use Rattle.design_problem.specs.Boxes.{IsBox}
+use Rattle.fraction_table.specs.ValidTables.{members_of_box, starting_line}
 use Rattle.fraction_table.specs.Tableaus.{FitsBox}
 use Rattle.fraction_table.specs.Pivots.{member_at}
 use Rattle.fraction_rows.proofs.RowLaws.{rows_at, rows_set}
@@ -29,7 +29,7 @@ pub put_line-requires : goal.put_line-requires
 put_line-requires c =
     let t = c.args.self.now in
     let costs = c.args.costs.now in
-    let line_in : c.args.line < length (members_of t.costs (length t.rows.items)) = omega (arith, c.requires.line, c.requires.shape.many) in
+    let line_in : c.args.line < length (members_of_box t.costs (length t.rows.items)) = omega (arith, c.requires.line, c.requires.shape.many) in
     let form : IsFormOf t.costs t.rows.items (member_at t c.args.line) = members_are t.costs t.rows.items c.args.line (Low 0 0) line_in in
     let here = rows_at t.top (suc (length t.costs.low)) t.lines.items c.args.line c.index_mut.result.now c.requires.shape.lines c.requires.line in
     record {
@@ -55,7 +55,7 @@ returns-clause-shape c =
     let t = c.args.self.now in
     let costs = c.args.costs.now in
     let s = c.requires.shape in
-    let line_in : c.args.line < length (members_of t.costs (length t.rows.items)) = omega (arith, c.requires.line, s.many) in
+    let line_in : c.args.line < length (members_of_box t.costs (length t.rows.items)) = omega (arith, c.requires.line, s.many) in
     let form : IsFormOf t.costs t.rows.items (member_at t c.args.line) = members_are t.costs t.rows.items c.args.line (Low 0 0) line_in in
     let line_is = c.put_line.ensures.line ∙ ap (λ (rows : List Form). starting_line costs rows c.member_at-member.result) c.as_slice-rows.ensures.value
     ∙ ap (starting_line costs t.rows.items) c.member_at-member.ensures in

@@ -1,10 +1,10 @@
 -- One more line is started.
 use Rattle.std.proofs.Common.{◌≡◌, ◌∙◌, ap, sym, subst, List, length, arith}
 use Rattle.std.specs.Prelude.{All}
-use Rattle.path_rows.specs.declared.form.Form.{Form}
-use Rattle.path_rows.specs.declared.form.CostBox.{CostBox}
+use Rattle.design_problem.specs.declared.form.Form.{Form}
+use Rattle.design_problem.specs.declared.form.CostBox.{CostBox}
 use Rattle.fraction_table.specs.Tableaus.{FitsBox}
-use Rattle.fraction_table.specs.Wholes.{members_of}
+use Rattle.fraction_table.specs.ValidTables.{members_of_box}
 use Rattle.fraction_table.proofs.Restarts.{keeps_lines, started_all, started_next}
 use Rattle.fraction_table.proofs.table.Table.start_lines.Goals as goal
 
@@ -13,10 +13,10 @@ start_line-requires c =
     let t = c.args.self.now in
     let keeps = c.loop-line.invariant.keeps in
     let counted : c.len-line-end.result ≡ length t.lines.items = omega (arith, c.len-line-end.ensures, t.lines.ok.0) in
-    let many : length c.loop-line.self.lines.items ≡ length (members_of t.costs (length t.rows.items)) =
+    let many : length c.loop-line.self.lines.items ≡ length (members_of_box t.costs (length t.rows.items)) =
     c.loop-line.invariant.shape.many
-    ∙ ap (λ (box : CostBox). length (members_of box (length c.loop-line.self.rows.items))) keeps.costs
-    ∙ ap (λ rows. length (members_of t.costs (length rows.items))) keeps.rows in
+    ∙ ap (λ (box : CostBox). length (members_of_box box (length c.loop-line.self.rows.items))) keeps.costs
+    ∙ ap (λ rows. length (members_of_box t.costs (length rows.items))) keeps.rows in
     record {
       costs = keeps.costs ∙ c.requires.costs;
       ranges = c.requires.ranges;
@@ -30,7 +30,7 @@ loop-line-preserved c =
     let t = c.args.self.now in
     let s = c.loop-line.self in
     let counted : c.len-line-end.result ≡ length t.lines.items = omega (arith, c.len-line-end.ensures, t.lines.ok.0) in
-    let many = c.requires.shape.many ∙ ap (λ (box : CostBox). length (members_of box (length t.rows.items))) c.requires.costs in
+    let many = c.requires.shape.many ∙ ap (λ (box : CostBox). length (members_of_box box (length t.rows.items))) c.requires.costs in
     record {
       lines = started_next t s c.args.costs.now c.loop-line.line c.start_line.new.self.lines.items
           c.loop-line.invariant.keeps c.requires.costs many (omega (arith, c.loop-line-test.true, counted))
@@ -43,6 +43,6 @@ pub returns-clause-lines : goal.returns-clause-lines
 returns-clause-lines c =
     let t = c.args.self.now in
     let counted : c.len-line-end.result ≡ length t.lines.items = omega (arith, c.len-line-end.ensures, t.lines.ok.0) in
-    let many = c.requires.shape.many ∙ ap (λ (box : CostBox). length (members_of box (length t.rows.items))) c.requires.costs in
+    let many = c.requires.shape.many ∙ ap (λ (box : CostBox). length (members_of_box box (length t.rows.items))) c.requires.costs in
     started_all t c.args.costs.now c.loop-line.line c.loop-line.self.lines.items many
     (omega (arith, c.loop-line-test.false, c.loop-line.auto.line-end, counted)) c.loop-line.invariant.lines

@@ -1,6 +1,6 @@
 -- A number that stays is whole; and where the divisor goes into what is crossed the number turns into a whole one.
 use Rattle.std.proofs.Common.{◌∙◌, refl, ℤ, subst, arith}
-use Rattle.integer_pivots.specs.Turns.{IsTurned}
+use Rattle.integer_pivots.specs.Turns.{IsNumberTurned}
 use Rattle.integer_pivots.proofs.Sizes.{read_number}
 use Rattle.integer_pivots.proofs.Crossings.{crossed_args}
 use Rattle.integer_pivots.proofs.CrossedOver.{goes_turned, read_crossed, read_small, turned_goes}
@@ -10,7 +10,7 @@ pub returns-then-leaves : goal.returns-then-leaves
 returns-then-leaves c = (
   λ true_. (
     c.args.number,
-    subst (λ (z : ℤ). IsTurned c.args.self c.args.number z c.args.number) (read_number c.args.along (omega (arith, c.requires.along)))
+    subst (λ (z : ℤ). IsNumberTurned c.args.self c.args.number z c.args.number) (read_number c.args.along (omega (arith, c.requires.along)))
         (c.leaves.ensures c.if-leaves.true c.args.number),
   ),
   λ whole. refl,

@@ -1,8 +1,8 @@
 -- What a further cap tells.
 use Rattle.std.proofs.Common.{◌∙◌, ap, subst}
-use Rattle.path_rows.specs.Rows.{greatest_cost}
+use Rattle.design_problem.specs.Rows.{greatest_cost}
 use Rattle.form_search.specs.declared.found.Found.{Found}
-use Rattle.form_search.specs.declared.found.Found.TheVariants.{Costs, Refuted, Spent}
+use Rattle.form_search.specs.declared.found.Found.TheVariants.{Costs, Refuted, Undecided}
 use Rattle.cost_branching.specs.Decisions.{IsDecided}
 use Rattle.least_bound.proofs.CapLaws.{after_costs, after_refuted, after_spent, costs_nearer}
 use Rattle.least_bound.proofs.progress.Progress.after.Goals as goal
@@ -27,10 +27,10 @@ returns-in-Refuted-clause-holds c = λ p top nodes old new problem pool grows ho
     subst (λ (f : Found). IsDecided p top nodes c.args.cap new f) c.in-Refuted.is decided in
     after_refuted p top nodes old new c.args.self c.args.cap c.in-Refuted.tree problem pool grows c.requires.from_least c.requires.below_most holds found
 
-pub returns-in-Spent-clause-holds : goal.returns-in-Spent-clause-holds
-returns-in-Spent-clause-holds c = λ p top nodes old new problem pool grows holds decided.
-    let found : IsDecided p top nodes c.args.cap new (Spent c.in-Spent.tree) =
-    subst (λ (f : Found). IsDecided p top nodes c.args.cap new f) c.in-Spent.is decided in
+pub returns-in-Undecided-clause-holds : goal.returns-in-Undecided-clause-holds
+returns-in-Undecided-clause-holds c = λ p top nodes old new problem pool grows holds decided.
+    let found : IsDecided p top nodes c.args.cap new (Undecided c.in-Undecided.tree) =
+    subst (λ (f : Found). IsDecided p top nodes c.args.cap new f) c.in-Undecided.is decided in
     after_spent p top nodes old new c.args.self c.args.cap c.stuck_at.result grows c.requires.from_least holds
     (c.stuck_at.ensures p top nodes old new c.args.self.most holds.best grows
     (record { tree = found.0; undone = found.1; spent = found.2 }) c.requires.below_most)

@@ -1,7 +1,7 @@
 -- At the greatest upper bound nothing is known but the lower bounds.
 use Rattle.std.proofs.Common.{◌≡◌, ◌∙◌, ap}
-use Rattle.path_rows.specs.Problems.{DesignProblem}
-use Rattle.path_rows.specs.Rows.{greatest_cost}
+use Rattle.design_problem.specs.Problems.{DesignProblem}
+use Rattle.design_problem.specs.Rows.{greatest_cost}
 use Rattle.least_bound.proofs.CapLaws.{progress_starts}
 use Rattle.least_bound.proofs.progress.Progress.start.Goals as goal
 

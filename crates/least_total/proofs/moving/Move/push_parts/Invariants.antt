@@ -1,6 +1,6 @@
 -- The parts so far are the picked ones of the first.
 use Rattle.std.proofs.Common.{◌≡◌, ◌++◌, map, take}
-use Rattle.path_rows.specs.Renumbering.{renumbered_part}
+use Rattle.design_problem.specs.Renumbering.{renumbered_part}
 use Rattle.least_total.specs.Moving.{moved_number, picked}
 use Rattle.least_total.proofs.moving.Move.push_parts.Given as goal
 

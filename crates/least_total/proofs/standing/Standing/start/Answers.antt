@@ -1,6 +1,6 @@
 -- Only the lower bounds are known.
 use Rattle.std.proofs.Common.{◌≡◌, ◌∙◌, ap}
-use Rattle.path_rows.specs.Problems.{DesignProblem}
+use Rattle.design_problem.specs.Problems.{DesignProblem}
 use Rattle.least_total.specs.Totals.{total}
 use Rattle.least_total.proofs.RoundLaws.{standing_starts}
 use Rattle.least_total.proofs.standing.Standing.start.Goals as goal

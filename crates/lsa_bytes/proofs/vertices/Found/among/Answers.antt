@@ -1,7 +1,7 @@
 use Rattle.std.proofs.Common.{ℕ, List, Option, subst, sym, ◌∙◌, ap, arith, take, ◌++◌, ◌∷◌, []}
 use Rattle.std.proofs.lemmas.List.{length-take-le, take_more}
 use Rattle.lsa_bytes.specs.declared.Lsa.{Lsa}
-use Rattle.lsa_bytes.specs.Vertices.{HasFound, Adds}
+use Rattle.lsa_bytes.specs.Vertices.{HasFound, AddsLsa}
 use Rattle.lsa_bytes.proofs.Spots.{found_push}
 use Rattle.lsa_bytes.proofs.vertices.Found.among.Goals as goal
 
@@ -10,8 +10,8 @@ loop-place-preserved c =
     let place = c.loop-place.place in
     let lsas = c.args.lsas.now in
     let lsa = c.index-lsas-place.result in
-    let adds : Adds c.loop-place.found c.add.new.self _ place =
-    subst (λ (name : Option ℕ). Adds c.loop-place.found c.add.new.self name place) c.name_as.ensures
+    let adds : AddsLsa c.loop-place.found c.add.new.self _ place =
+    subst (λ (name : Option ℕ). AddsLsa c.loop-place.found c.add.new.self name place) c.name_as.ensures
     c.in_ok-add.ensures in
     subst (λ (ls : List Lsa). HasFound c.args.kind ls c.add.new.self)
     (ap (λ (l : Lsa). take place lsas ++ l ∷ []) c.index-lsas-place.is ∙ sym (take_more lsas place lsa c.loop-place-test.true))

@@ -1,7 +1,7 @@
 use Rattle.std.proofs.Common.{sym, ◌∙◌, ap, refl, true, false, arith, ℕ, Some, ◌+◌}
 use Rattle.std.proofs.lemmas.List.Sums.{count_by-le-length}
 use Rattle.lsa_bytes.specs.AreaGraphs.{attaches}
-use Rattle.lsa_bytes.specs.Databases.{is_router}
+use Rattle.lsa_bytes.specs.Databases.{is_router_lsa}
 use Rattle.lsa_bytes.proofs.Spots.{network_found, network_unfound, router_count}
 use Rattle.lsa_bytes.proofs.vertices.Vertices.network_with_router.Goals as goal
 
@@ -14,7 +14,7 @@ pub overflow_add-result : goal.overflow_add-result
 overflow_add-result c =
     let at = network_found c.self.inside.lsas.now c.args.self.now c.self.inside.networks c.args.id
     (attaches c.args.router) c.in-Some.spot c.self.invariant.networks c.self.view_is c.in-Some.ensures in
-    omega (arith, at.within, at.near, c.self.invariant.routers.count, count_by-le-length is_router c.self.inside.lsas.now, c.self.invariant.few)
+    omega (arith, at.within, at.near, c.self.invariant.routers.count, count_by-le-length is_router_lsa c.self.inside.lsas.now, c.self.invariant.few)
 
 pub returns-in-Some : goal.returns-in-Some
 returns-in-Some c =

@@ -1,5 +1,5 @@
 use Rattle.std.proofs.Common.{◌≡◌, ◌<◌, ℕ, slice_index}
-use Rattle.path_rows.specs.Problems.{request_at}
+use Rattle.design_problem.specs.Problems.{request_at}
 use Rattle.rival_separation.specs.Askers.{IsAskerFor, MayShare, RequestLeads}
 use Rattle.rival_separation.proofs.asker.Asker.each_leads.Given as goal
 

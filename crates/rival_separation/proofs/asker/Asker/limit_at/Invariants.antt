@@ -1,5 +1,5 @@
 use Rattle.std.proofs.Common.{◌≤◌, slice_index}
-use Rattle.path_rows.specs.Problems.{request_at}
+use Rattle.design_problem.specs.Problems.{request_at}
 use Rattle.rival_separation.specs.Askers.{lead_at}
 use Rattle.rival_separation.proofs.asker.Asker.limit_at.Given as goal
 

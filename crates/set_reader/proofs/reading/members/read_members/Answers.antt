@@ -2,7 +2,7 @@ use Rattle.std.proofs.Common.{rules, ◌≡◌, ◌∙◌, ◌++◌, ◌∷◌, 
 use Rattle.std.specs.List.{list_any}
 use Rattle.std.proofs.lemmas.Bool.{not-true, not-false}
 use Rattle.cost_base.specs.Lists.{same_bytes}
-use Rattle.path_rows.specs.declared.problem.Request.{Request}
+use Rattle.design_problem.specs.declared.problem.Request.{Request}
 use Rattle.set_reader.specs.ReadingSteps.{is_out_of_place}
 use Rattle.set_reader.proofs.MemberLaws.{edges_at, members_begin, members_wrong, members_more, members_ordered, members_known, members_done, out_is_wrong, seen_is_wrong}
 use Rattle.set_reader.proofs.reading.members.read_members.Goals as goal

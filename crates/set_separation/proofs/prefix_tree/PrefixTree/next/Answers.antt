@@ -1,6 +1,6 @@
 use Rattle.std.proofs.Common.{refl, sym, subst, arith, List}
 use Rattle.set_separation.specs.declared.prefix_tree.Step.{Step}
-use Rattle.set_separation.specs.PrefixTrees.{IsStep}
+use Rattle.set_separation.specs.PrefixTrees.{IsPrefixStep}
 use Rattle.set_separation.proofs.PrefixLemmas.{step_found}
 use Rattle.set_separation.proofs.prefix_tree.PrefixTree.next.Goals as goal
 
@@ -10,7 +10,7 @@ overflow_add-result c = let within = c.in-Some.ensures.within in let few = c.len
 pub returns-in-Some : goal.returns-in-Some
 returns-in-Some c = (
   c.in-Some.index,
-  subst (λ (steps : List Step). IsStep steps c.args.place c.args.edge c.in-Some.index) c.self.view_is
+  subst (λ (steps : List Step). IsPrefixStep steps c.args.place c.args.edge c.in-Some.index) c.self.view_is
       (step_found c.self.inside.steps.keys c.args.place c.args.edge c.in-Some.index (sym c.in-Some.ensures.index)),
   refl,
 )

@@ -10,7 +10,7 @@ returns-clause-least c = λ v start.
     let count = length_either c.find_in_either-self-inside.result c.find_in_either-self-inside.new.wide.items
     c.find_in_either-self-inside.new.front.numbers.items (length c.args.graph.now.vertices)
     c.find_in_either-self-inside.ensures.wide c.find_in_either-self-inside.ensures.count in
-    least_at c.args.graph.now c.args.point.now c.args.gone.now c.args.target v c.args.limit near d
+    least_at c.args.graph.now c.args.point.now c.args.excluded.now c.args.target v c.args.limit near d
     c.keeps_conditions.ensures.fits c.keeps_conditions.ensures.metrics c.requires.fits
     (lesser_is_near c.args.point.now c.args.limit near c.min-self-inside.ensures) c.requires.target count start
     c.find_in_either-self-inside.ensures.reached c.find_in_either-self-inside.ensures.settled
@@ -22,8 +22,8 @@ returns-clause-tight c = λ v path is less.
     let count = length_either c.find_in_either-self-inside.result c.find_in_either-self-inside.new.wide.items
     c.find_in_either-self-inside.new.front.numbers.items (length c.args.graph.now.vertices)
     c.find_in_either-self-inside.ensures.wide c.find_in_either-self-inside.ensures.count in
-    tight_paths c.args.graph.now c.args.point.now c.args.gone.now c.args.target c.args.limit near
-    c.mark_gone.new.marks.items c.self.inside.path.items d c.keeps_conditions.ensures.fits
+    tight_paths c.args.graph.now c.args.point.now c.args.excluded.now c.args.target c.args.limit near
+    c.mark_excluded.new.marks.items c.self.inside.path.items d c.keeps_conditions.ensures.fits
     c.keeps_conditions.ensures.metrics c.requires.fits
     (lesser_is_near c.args.point.now c.args.limit near c.min-self-inside.ensures) count
     c.find_in_either-self-inside.ensures.reached c.find_in_either-self-inside.ensures.settled v path is less

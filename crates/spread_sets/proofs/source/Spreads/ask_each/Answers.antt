@@ -1,10 +1,10 @@
 use Rattle.std.proofs.Common.{◌+◌, ◌<◌, ◌≤◌, Bool, ℕ, List, length, sym, subst, arith}
-use Rattle.path_rows.specs.Problems.{DesignProblem}
+use Rattle.design_problem.specs.Problems.{DesignProblem}
 use Rattle.form_search.specs.declared.source.Asked.{Asked}
 use Rattle.spread_sets.specs.Spreads.{AreTied}
 use Rattle.spread_sets.specs.Sources.{set_at}
-use Rattle.spread_sets.specs.Asking.{AreAsked, IsAskedOf}
-use Rattle.spread_sets.proofs.AskedSets.{all_asked, more_share, one_added}
+use Rattle.spread_sets.specs.Asking.{AreSetsAsked, IsSetAsked}
+use Rattle.spread_sets.proofs.AskedSets.{all_asked, more_share, none_asked, one_added}
 use Rattle.spread_sets.proofs.Ties.{tied_there}
 use Rattle.spread_sets.proofs.source.Spreads.ask_each.Goals as goal
 use Rattle.spread_sets.proofs.source.Spreads.ask_each.Goals.{then-branch, else-branch}
@@ -21,6 +21,9 @@ ask_one-requires-clause-tied g c =
     subst (λ (p : DesignProblem). AreTied p point (set_at now.sets place)) (sym is.problem)
     (subst (λ (sets : List (List ℕ)). AreTied old.problem point (set_at sets place)) (sym is.sets) tied)
 
+pub loop-place-init : goal.loop-place-init
+loop-place-init g c = none_asked c.args.point.now c.args.self.now c.args.pool.now c.requires.in_step c.requires.met
+
 pub loop-place-preserved : goal.loop-place-preserved
 loop-place-preserved g c =
     let point = c.args.point.now in
@@ -32,8 +35,8 @@ loop-place-preserved g c =
     let new = c.ask_one.new.self in
     let new_forms = c.ask_one.new.pool in
     let inside : place < length old.sets = omega (arith, c.count-place-end.ensures, c.loop-place-test.true) in
-    let IsOne : Bool → Type 0 = λ b. IsAskedOf point place now now_forms new new_forms b in
-    let Then : Asked → Type 0 = λ a. AreAsked point (place + 1) old forms new new_forms a in
+    let IsOne : Bool → Type 0 = λ b. IsSetAsked point place now now_forms new new_forms b in
+    let Then : Asked → Type 0 = λ a. AreSetsAsked point (place + 1) old forms new new_forms a in
     elim c.if-branch.branch [
       | then-branch w ↦
           subst Then (sym w.asked-is)

@@ -1,5 +1,5 @@
-use Rattle.spread_sets.specs.Asking.{AreAsked}
+use Rattle.spread_sets.specs.Asking.{AreSetsAsked}
 use Rattle.spread_sets.proofs.source.Spreads.ask_each.Given as goal
 
 abbrev pub invariant-loop-place : goal.invariant-loop-place
-invariant-loop-place g l = AreAsked l.point l.place l.fn.self l.fn.pool l.self l.pool l.asked
+invariant-loop-place g l = AreSetsAsked l.point l.place l.fn.self l.fn.pool l.self l.pool l.asked

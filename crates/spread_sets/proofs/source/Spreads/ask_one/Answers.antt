@@ -1,11 +1,11 @@
 use Rattle.std.proofs.Common.{◌≡◌, ◌<◌, ◌∙◌, ℕ, [], ◌∷◌, ◌++◌, sym, subst, ap, length}
-use Rattle.path_rows.specs.Forms.{Form}
+use Rattle.design_problem.specs.Forms.{Form}
 use Rattle.spread_sets.specs.declared.spread.SetRow.TheVariants.{Rival}
-use Rattle.spread_sets.specs.Spreads.{AreTied, first_of, form_of_set_row}
+use Rattle.spread_sets.specs.Spreads.{AreTied, name_of_set, form_of_set_row}
 use Rattle.spread_sets.specs.MemberSets.{AreMemberSets, sets_in}
 use Rattle.spread_sets.specs.Sources.{KnownSets, set_at}
-use Rattle.spread_sets.specs.Asking.{OneRow}
-use Rattle.cost_branching.specs.Rivals.{IsKept}
+use Rattle.spread_sets.specs.Asking.{OneSetRow}
+use Rattle.cost_branching.specs.Rivals.{IsProblemOnGraph}
 use Rattle.spread_sets.proofs.Separations.{indexed, rival_row, row_form}
 use Rattle.spread_sets.proofs.source.Spreads.ask_one.Goals as goal
 
@@ -25,7 +25,7 @@ form_of-requires g c =
     c.args.point.now c.index-set.result.now c.is_beaten.new.room.path c.in_ok-row.row c.self.view_is
     c.requires.place c.keeps.ensures.sets
     c.index-set.ensures c.if-not-is_beaten.ensures.rival (c.in_ok-row.ensures.request ∙ c.first_of-name.ensures
-    ∙ ap first_of c.as_slice.ensures) (c.in_ok-row.ensures.edges ∙ c.path.ensures)).route
+    ∙ ap name_of_set c.as_slice.ensures) (c.in_ok-row.ensures.edges ∙ c.path.ensures)).route
 
 pub push_row-requires : goal.push_row-requires
 push_row-requires g c =
@@ -33,7 +33,7 @@ push_row-requires g c =
     c.args.point.now c.index-set.result.now c.is_beaten.new.room.path c.in_ok-row.row c.self.view_is
     c.requires.place c.keeps.ensures.sets
     c.index-set.ensures c.if-not-is_beaten.ensures.rival (c.in_ok-row.ensures.request ∙ c.first_of-name.ensures
-    ∙ ap first_of c.as_slice.ensures) (c.in_ok-row.ensures.edges ∙ c.path.ensures) in
+    ∙ ap name_of_set c.as_slice.ensures) (c.in_ok-row.ensures.edges ∙ c.path.ensures) in
     c.in_ok-form.ensures.form ∙ row_form c.self.inside.problem.now c.in_ok-row.row found.route
 
 pub returns-clause-one : goal.returns-clause-one
@@ -44,11 +44,11 @@ returns-clause-one g c =
     c.args.point.now c.index-set.result.now c.is_beaten.new.room.path c.in_ok-row.row c.self.view_is
     c.requires.place c.keeps.ensures.sets
     c.index-set.ensures c.if-not-is_beaten.ensures.rival (c.in_ok-row.ensures.request ∙ c.first_of-name.ensures
-    ∙ ap first_of c.as_slice.ensures) (c.in_ok-row.ensures.edges ∙ c.path.ensures) in
+    ∙ ap name_of_set c.as_slice.ensures) (c.in_ok-row.ensures.edges ∙ c.path.ensures) in
     let here : KnownSets = record { problem = q; sets = sets_in c.self.inside.sets.items; rows = c.self.inside.rows.items } in
-    subst (λ (s : KnownSets). OneRow c.args.point.now c.args.place s c.args.pool.now c.push_row.new.self c.push_row.new.pool) c.self.view_is
+    subst (λ (s : KnownSets). OneSetRow c.args.point.now c.args.place s c.args.pool.now c.push_row.new.self c.push_row.new.pool) c.self.view_is
     (record {
-      kept = subst (λ (s : KnownSets). IsKept s.problem) (sym c.self.view_is) c.keeps.ensures.kept;
+      kept = subst (λ (s : KnownSets). IsProblemOnGraph s.problem) (sym c.self.view_is) c.keeps.ensures.kept;
       are = subst (λ (s : KnownSets). AreMemberSets s.problem s.sets) (sym c.self.view_is) c.keeps.ensures.sets;
       rival = row.rival;
       cheap = found.cheap;

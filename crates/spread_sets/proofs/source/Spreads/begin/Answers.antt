@@ -1,5 +1,5 @@
 use Rattle.std.proofs.Common.{◌<◌, ◌≤◌, ℕ, refl, sym, ◌∙◌, ap, subst, List, length, take, arith}
-use Rattle.path_rows.specs.Problems.{DesignProblem}
+use Rattle.design_problem.specs.Problems.{DesignProblem}
 use Rattle.spread_sets.specs.Spreads.{forms_of_set_rows}
 use Rattle.spread_sets.specs.Sources.{KnownSets, set_at, tie_rows, ties_in}
 use Rattle.spread_sets.proofs.Ties.{begun_forms, begun_in_step, begun_rows}

@@ -1,5 +1,5 @@
 use Rattle.std.proofs.Common.{rules, ◌≡◌, ap, length}
-use Rattle.path_rows.specs.Problems.{DesignProblem}
+use Rattle.design_problem.specs.Problems.{DesignProblem}
 use Rattle.spread_sets.proofs.Separations.{ready_all, room_new}
 use Rattle.spread_sets.proofs.source.Spreads.new.Goals as goal
 

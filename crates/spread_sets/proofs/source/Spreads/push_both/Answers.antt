@@ -1,6 +1,6 @@
 use Rattle.std.proofs.Common.{◌∙◌, ap, append_assoc, List, [], ◌∷◌, ◌++◌, length}
-use Rattle.path_rows.specs.Forms.{Form}
-use Rattle.path_rows.specs.Problems.{DesignProblem}
+use Rattle.design_problem.specs.Forms.{Form}
+use Rattle.design_problem.specs.Problems.{DesignProblem}
 use Rattle.spread_sets.specs.Spreads.{edges_of, form_of_tie}
 use Rattle.spread_sets.specs.Sources.{KnownSets}
 use Rattle.spread_sets.proofs.source.Spreads.push_both.Goals as goal

@@ -1,6 +1,6 @@
 use Rattle.std.proofs.Common.{◌<◌, sym, subst, [], length}
 use Rattle.std.specs.Prelude.{slice_get}
-use Rattle.path_rows.specs.Rows.{IsRouteOf}
+use Rattle.design_problem.specs.Rows.{IsRouteOf}
 use Rattle.spread_sets.specs.Spreads.{edges_of}
 use Rattle.spread_sets.specs.Sources.{KnownSets, set_at}
 use Rattle.spread_sets.specs.SourceLaws.{member_known}

@@ -3,7 +3,7 @@ use Rattle.std.proofs.Common.{◌∙◌, ◌≡◌, sym, ap, subst, length, refl
 use Rattle.std.specs.Prelude.{vec_len, ◌==◌, true}
 use Rattle.std.proofs.lemmas.Bool.Decides.{nat_tests}
 use Rattle.table_kernel.specs.declared.kernel.Kernel.{Kernel}
-use Rattle.table_kernel.specs.Choices.{AreLeft}
+use Rattle.table_kernel.specs.Choices.{AreColumnsLeft}
 use Rattle.table_kernel.proofs.LeftColumns.{chosen_best, latest_read, left_of, none_best}
 use Rattle.table_kernel.proofs.SameButRoom.{keeps_kernel, keeps_twice, left_keeps}
 use Rattle.table_kernel.proofs.kernel.Kernel.choose.Goals as goal
@@ -40,7 +40,7 @@ returns-clause-best c =
     let k = c.args.self.now in
     let left = c.look_at_all.new.self.left in
     chosen_best k left.items c.index.result.now c.requires.kernel.shaped
-    (subst (λ (m : Kernel). AreLeft m.lows.items m.line.items (length m.lows.items) left.items) c.look_at_all.ensures.keeps c.look_at_all.ensures.left)
+    (subst (λ (m : Kernel). AreColumnsLeft m.lows.items m.line.items (length m.lows.items) left.items) c.look_at_all.ensures.keeps c.look_at_all.ensures.left)
     (omega (arith, c.look_at_all.ensures.some, left.ok.0))
     c.index.ensures
 

@@ -2,7 +2,7 @@
 use Rattle.std.proofs.Common.{◌<◌, ◌∙◌, sym, length, arith}
 use Rattle.std.specs.Prelude.{pos}
 use Rattle.whole_numbers.specs.Lists.{number_at}
-use Rattle.integer_pivots.specs.Turns.{IsWholeTurn}
+use Rattle.integer_pivots.specs.Turns.{IsIntegralTurn}
 use Rattle.integer_pivots.proofs.Crossings.{crossed_from, item_is}
 use Rattle.integer_pivots.proofs.FailedTests.{failed, never}
 use Rattle.integer_pivots.proofs.WrittenPlaces.{all_more}
@@ -15,7 +15,7 @@ loop-place-preserved c =
     let whole = c.is_whole.ensures.0 c.if-not-is_whole.false in
     let i_in : i < length k.constants.items = omega (arith, c.loop-place-test.true, c.len-place-end.ensures) in
     let along_in : i < length k.along.items = omega (arith, i_in, c.requires.ready.constants) in
-    all_more (λ p. IsWholeTurn c.args.turn (number_at k.constants.items p) (number_at k.along.items p)) i c.loop-place.invariant (
+    all_more (λ p. IsIntegralTurn c.args.turn (number_at k.constants.items p) (number_at k.along.items p)) i c.loop-place.invariant (
       whole.0,
       whole.1 ∙ crossed_from c.args.turn c.index.result.now c.index-in-loop-place.result.now (number_at k.constants.items i) (number_at k.along.items i)
           (item_is k.constants.items i c.index.result.now c.index.ensures i_in)

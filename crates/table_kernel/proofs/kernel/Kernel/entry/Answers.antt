@@ -2,13 +2,13 @@
 use Rattle.std.proofs.Common.{◌^◌, ◌<◌, ◌≤◌, length, ap, sym, subst, ◌∙◌, arith}
 use Rattle.std.specs.Prelude.{nat_abs, All, neg_ℤ}
 use Rattle.whole_numbers.specs.Lists.{number_at}
-use Rattle.path_rows.specs.declared.form.Form.{Form}
-use Rattle.path_rows.specs.declared.tree.Member.{Member}
-use Rattle.path_rows.specs.Basis.{IsFormOf, member_form}
+use Rattle.design_problem.specs.declared.form.Form.{Form}
+use Rattle.design_problem.specs.declared.tree.Member.{Member}
+use Rattle.design_problem.specs.Basis.{IsFormOf, member_form}
 use Rattle.integer_pivots.specs.Numbers.{AllWithin, weight_of}
 use Rattle.integer_pivots.proofs.Sizes.{read_number}
 use Rattle.table_kernel.specs.Kernels.{width_of}
-use Rattle.table_kernel.specs.Numbers.{number_in}
+use Rattle.table_kernel.specs.Numbers.{number_at_column}
 use Rattle.table_kernel.specs.Turns.{column_of}
 use Rattle.table_kernel.proofs.Columns.{column_long, high_number_in, low_number_in}
 use Rattle.table_kernel.proofs.Lines.{bound_entry, lows_small, negated, rows_light}
@@ -46,7 +46,7 @@ returns-in-Low c =
     read_number z (let e : nat_abs z < 2 ^ 63 = omega (arith, entry.1) in e)
     ∙ entry.0
     ∙ sym (low_number_in n rows c.in-Low.var c.in-Low.field-1 column known.0 (sym (column_long k c.requires.kernel.shaped c.args.column)))
-    ∙ ap (λ (m : Member). number_in (member_form n rows m) column) (sym c.in-Low.is)
+    ∙ ap (λ (m : Member). number_at_column (member_form n rows m) column) (sym c.in-Low.is)
 
 pub returns-in-High : goal.returns-in-High
 returns-in-High c =
@@ -60,4 +60,4 @@ returns-in-High c =
     (negated (number_at c.as_slice-in-High.result.now c.args.column) entry.1).1
     ∙ ap neg_ℤ entry.0
     ∙ sym (high_number_in n rows c.in-High.var c.in-High.field-1 column known.0 (sym (column_long k c.requires.kernel.shaped c.args.column)))
-    ∙ ap (λ (m : Member). number_in (member_form n rows m) column) (sym c.in-High.is)
+    ∙ ap (λ (m : Member). number_at_column (member_form n rows m) column) (sym c.in-High.is)

@@ -3,15 +3,15 @@ use Rattle.std.proofs.Common.{◌≡◌, ◌^◌, ◌≤◌, sym, ◌∙◌, ap,
 use Rattle.std.specs.Prelude.{pos}
 use Rattle.std.proofs.lemmas.List.{take_all}
 use Rattle.whole_numbers.specs.Fractions.{whole}
-use Rattle.path_rows.specs.declared.tree.Member.{Member}
-use Rattle.path_rows.specs.Basis.{IsFormOf, member_form}
+use Rattle.design_problem.specs.declared.tree.Member.{Member}
+use Rattle.design_problem.specs.Basis.{IsFormOf, member_form}
 use Rattle.fraction_table.specs.Multipliers.{columns_numbered, numbered}
 use Rattle.fraction_table.specs.Pivots.{line_at, member_at}
 use Rattle.fraction_table.proofs.MultiplierColumns.{fractions_next}
 use Rattle.integer_pivots.proofs.Sizes.{read_number, size_most}
 use Rattle.table_kernel.specs.Kernels.{stated, width_of}
-use Rattle.table_kernel.specs.Numbers.{number_in}
-use Rattle.table_kernel.specs.Turns.{column_of, form_in}
+use Rattle.table_kernel.specs.Numbers.{number_at_column}
+use Rattle.table_kernel.specs.Turns.{column_of, form_of_place}
 use Rattle.table_kernel.proofs.AtBasis.{kernel_moves}
 use Rattle.table_kernel.proofs.Columns.{place_is, place_number_within}
 use Rattle.table_kernel.proofs.OverCommon.{over_as}
@@ -32,8 +32,8 @@ pub fraction_over-entry-requires-clause-number : goal.fraction_over-entry-requir
 fraction_over-entry-requires-clause-number c =
     let t = c.args.self.now in
     let m = c.requires.kernel in
-    let number_is : c.entry.result ≡ number_in (form_in t c.args.place) (column_of t c.loop-column.column) =
-    c.entry.ensures ∙ ap (λ (member : Member). number_in (member_form (width_of t) t.table.rows.items member)
+    let number_is : c.entry.result ≡ number_at_column (form_of_place t c.args.place) (column_of t c.loop-column.column) =
+    c.entry.ensures ∙ ap (λ (member : Member). number_at_column (member_form (width_of t) t.table.rows.items member)
     (column_of t c.loop-column.column)) c.member_at-member.ensures in
     let small = place_number_within t m.shaped m.bounded c.args.place c.requires.place c.loop-column.column in
     let read = read_number c.entry.result (omega (arith, ap nat_abs number_is, small)) in
@@ -60,8 +60,8 @@ loop-column-preserved c =
     let column = c.loop-column.column in
     let moves = kernel_moves t m in
     let common : nat_abs t.common ≤ 2 ^ 22 = size_most t.common (2 ^ 22) m.bounded.positive m.bounded.common in
-    let number_is : c.entry.result ≡ number_in (form_in t place) (column_of t column) =
-    c.entry.ensures ∙ ap (λ (member : Member). number_in (member_form (width_of t) t.table.rows.items member)
+    let number_is : c.entry.result ≡ number_at_column (form_of_place t place) (column_of t column) =
+    c.entry.ensures ∙ ap (λ (member : Member). number_at_column (member_form (width_of t) t.table.rows.items member)
     (column_of t column)) c.member_at-member.ensures in
     let small = place_number_within t m.shaped m.bounded place c.requires.place column in
     fractions_next t.table.basis.items (member_at (stated t) place) (line_at (stated t) place) column

@@ -1,8 +1,8 @@
 -- An upper bound moves.
 use Rattle.std.proofs.Common.{rules, ◌∙◌, ◌+◌, ap, arith, w16, w64, to_z, of_z, Fits}
 use Rattle.std.specs.Prelude.{nat_abs, pos, ◌-ℤ◌, slice_index}
-use Rattle.path_rows.specs.declared.tree.Member.TheVariants.{High}
-use Rattle.path_rows.specs.Boxes.{with_high}
+use Rattle.design_problem.specs.declared.tree.Member.TheVariants.{High}
+use Rattle.design_problem.specs.Boxes.{with_high}
 use Rattle.fraction_table.specs.Moves.{IsMoved}
 use Rattle.fraction_table.proofs.Shifts.{high_stays}
 use Rattle.integer_pivots.proofs.Sizes.{read_number}

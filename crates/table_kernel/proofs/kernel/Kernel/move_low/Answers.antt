@@ -1,8 +1,8 @@
 -- A lower bound moves.
 use Rattle.std.proofs.Common.{rules, ◌∙◌, ap, arith, w16, w64, to_z, of_z, Fits}
 use Rattle.std.specs.Prelude.{nat_abs, pos, ◌-ℤ◌, slice_index}
-use Rattle.path_rows.specs.declared.tree.Member.TheVariants.{Low}
-use Rattle.path_rows.specs.Boxes.{with_low}
+use Rattle.design_problem.specs.declared.tree.Member.TheVariants.{Low}
+use Rattle.design_problem.specs.Boxes.{with_low}
 use Rattle.fraction_table.specs.Moves.{IsMoved}
 use Rattle.fraction_table.proofs.Shifts.{low_stays}
 use Rattle.integer_pivots.proofs.Sizes.{read_number}

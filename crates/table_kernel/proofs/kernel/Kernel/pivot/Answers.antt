@@ -2,7 +2,7 @@
 use Rattle.std.proofs.Common.{ap, subst, sym}
 use Rattle.std.specs.Prelude.{slice_set}
 use Rattle.std.specs.Vec.{with_item}
-use Rattle.path_rows.specs.declared.tree.Member.{Member}
+use Rattle.design_problem.specs.declared.tree.Member.{Member}
 use Rattle.table_kernel.specs.declared.kernel.Kernel.{Kernel}
 use Rattle.table_kernel.specs.Kernels.{IsKernel}
 use Rattle.table_kernel.specs.Turns.{KeepsNumbers}

@@ -1,7 +1,7 @@
 -- The numbers of the box and of the rows are those of all forms.
 use Rattle.std.proofs.Common.{◌≡◌, ◌^◌, ◌≤◌, length, ap, sym, subst, ◌∙◌, arith}
 use Rattle.std.specs.Prelude.{All}
-use Rattle.path_rows.specs.declared.form.Form.{Form}
+use Rattle.design_problem.specs.declared.form.Form.{Form}
 use Rattle.fraction_table.proofs.Pivots.{members_long}
 use Rattle.integer_pivots.specs.Uses.{held_in}
 use Rattle.integer_pivots.proofs.UseLaws.{uses_kept}

@@ -3,13 +3,13 @@ use Rattle.std.proofs.Common.{◌≡◌, ◌^◌, ◌<◌, ◌≤◌, List, map,
 use Rattle.std.specs.Prelude.{ℤ, All}
 use Rattle.std.proofs.lemmas.List.{get_or_default}
 use Rattle.whole_numbers.specs.Lists.{number_at}
-use Rattle.path_rows.specs.declared.form.Form.{Form}
-use Rattle.path_rows.specs.Basis.{IsFormOf}
-use Rattle.path_rows.specs.Forms.{no_form}
+use Rattle.design_problem.specs.declared.form.Form.{Form}
+use Rattle.design_problem.specs.Basis.{IsFormOf}
+use Rattle.design_problem.specs.Forms.{no_form}
 use Rattle.integer_pivots.specs.Numbers.{AllWithin, weight_of}
 use Rattle.integer_pivots.proofs.WrittenPlaces.{written}
 use Rattle.table_kernel.specs.Kernels.{width_of}
-use Rattle.table_kernel.specs.Numbers.{number_in}
+use Rattle.table_kernel.specs.Numbers.{number_at_column}
 use Rattle.table_kernel.proofs.Columns.{place_is}
 use Rattle.table_kernel.proofs.Lines.{high_line, line_small, low_line, lows_small, row_line, rows_light}
 use Rattle.table_kernel.proofs.kernel.Kernel.put_line.Goals as goal
@@ -140,7 +140,7 @@ returns-in-Row-clause-line c =
     (c.index-in-Row.ensures ∙ get_or_default k.table.rows.items c.in-Row.row c.index-in-Row.result.now no_form known) (long ∙ s.line)
     (λ column column_in.
     c.put_sums.ensures column (omega (arith, column_in, wide))
-    ∙ ap (λ (rows : List (List ℤ)). number_in c.index-in-Row.result.now (map (λ row. number_at row column) rows)) c.as_slice-in-Row.ensures.value) in
+    ∙ ap (λ (rows : List (List ℤ)). number_at_column c.index-in-Row.result.now (map (λ row. number_at row column) rows)) c.as_slice-in-Row.ensures.value) in
     let whole = written k.line.len c.put_sums.new.line k.line.items long k.line.ok.0 in
     whole ∙ is
 

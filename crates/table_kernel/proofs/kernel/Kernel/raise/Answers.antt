@@ -5,7 +5,7 @@ use Rattle.fraction_table.specs.declared.stage.Solved.TheVariants.{Refuted}
 use Rattle.fraction_table.specs.declared.table.Table.{Table}
 use Rattle.fraction_table.specs.Pivots.{IsAhead}
 use Rattle.table_kernel.specs.Kernels.{stated}
-use Rattle.table_kernel.specs.Turns.{IsBestOf}
+use Rattle.table_kernel.specs.Turns.{IsBestColumn}
 use Rattle.table_kernel.proofs.Refusals.{on_err}
 use Rattle.table_kernel.proofs.SameButRoom.{keeps_kernel, keeps_twice, same_stated}
 use Rattle.table_kernel.proofs.Settling.{line_in, line_stuck, none_positive}
@@ -30,7 +30,7 @@ pub returns-in-None-clause-ahead : goal.returns-in-None-clause-ahead
 returns-in-None-clause-ahead c =
     let old = c.args.self.now in
     let both = keeps_twice old c.put_line.new.self c.choose.new.self c.put_line.ensures.keeps c.choose.ensures.keeps in
-    let best = subst (IsBestOf c.put_line.new.self) c.in-None.is c.choose.ensures.best in
+    let best = subst (IsBestColumn c.put_line.new.self) c.in-None.is c.choose.ensures.best in
     subst (λ (t : Table). IsAhead (stated old) t (Some (Refuted c.args.place))) (sym (same_stated old c.choose.new.self both)) (
       line_in old c.requires.kernel c.args.place c.requires.place,
       line_stuck old c.requires.kernel c.args.place c.requires.place c.requires.below

@@ -1,8 +1,8 @@
 -- Bound by bound the kernel moves.
 use Rattle.std.proofs.Common.{◌≡◌, ◌<◌, ◌+◌, suc, refl, ap, sym, subst, length, arith}
 use Rattle.std.specs.Prelude.{slice_index}
-use Rattle.path_rows.specs.declared.form.CostBox.{CostBox}
-use Rattle.path_rows.specs.Boxes.{IsBox}
+use Rattle.design_problem.specs.declared.form.CostBox.{CostBox}
+use Rattle.design_problem.specs.Boxes.{IsBox}
 use Rattle.fraction_table.specs.Moves.{IsMoved}
 use Rattle.fraction_table.specs.Tableaus.{between}
 use Rattle.fraction_table.proofs.Shifts.{moved_same}

@@ -6,7 +6,7 @@ use Rattle.fraction_table.specs.declared.table.Table.{Table}
 use Rattle.integer_pivots.specs.Numbers.{AllWithin}
 use Rattle.integer_pivots.proofs.Sizes.{read_number, size_most}
 use Rattle.table_kernel.specs.Kernels.{width_of}
-use Rattle.table_kernel.specs.Numbers.{over}
+use Rattle.table_kernel.specs.Numbers.{over_common}
 use Rattle.table_kernel.proofs.LineFills.{filled_as}
 use Rattle.table_kernel.proofs.Restated.{keeps_room, line_of_place}
 use Rattle.table_kernel.proofs.kernel.Kernel.restate_line.Goals as goal
@@ -84,8 +84,8 @@ returns-clause-lines c =
     ∙ filled_as _ _ _ _ c.as_slice.result.now
     (ap nat_abs (read_number s.common (omega (arith, common, same)) ∙ k.common))
     (read_number z (omega (arith, small)) ∙ is ∙ get_or_default t.constants.items c.args.place z (pos 0) c.requires.place)
-    ∙ ap (λ zs. over (nat_abs t.common) (get_or t.constants.items c.args.place (pos 0))
-    ∷ map (over (nat_abs t.common)) zs) (c.as_slice.ensures.value ∙ c.put_line.ensures.line)))
+    ∙ ap (λ zs. over_common (nat_abs t.common) (get_or t.constants.items c.args.place (pos 0))
+    ∷ map (over_common (nat_abs t.common)) zs) (c.as_slice.ensures.value ∙ c.put_line.ensures.line)))
 
 pub returns-clause-keeps : goal.returns-clause-keeps
 returns-clause-keeps c = keeps_room c.args.self.now c.put_line.new.self c.args.place c.fill.new.line c.put_line.ensures.keeps

@@ -2,7 +2,7 @@
 use Rattle.std.proofs.Common.{◌≡◌, ◌^◌, ◌≤◌, ◌∙◌, ap, sym, subst, ℤ, ◌<ℤ◌, ◌≤ℤ◌, [], length, arith}
 use Rattle.std.specs.Prelude.{pos, nat_abs, slice_index_or}
 use Rattle.whole_numbers.specs.Lists.{number_at}
-use Rattle.integer_pivots.specs.Turns.{AreSmallTurns, AreTouched, AreWholeTurns}
+use Rattle.integer_pivots.specs.Turns.{AreSmallTurns, AreTouched, AreIntegralTurns}
 use Rattle.integer_pivots.proofs.Sizes.{read, read_number}
 use Rattle.integer_pivots.proofs.Crossings.{item_is}
 use Rattle.integer_pivots.proofs.SharedDivisors.{row_told, same_read}
@@ -62,8 +62,8 @@ returns c =
     let row = c.as_slice.result.now in
     let columns = c.as_slice-3.result.now in
     let given = row_given (goal.at.returns c).After-as_slice-3 in (
-      λ holds. row_from_read (λ e w line numbers _. AreWholeTurns c.args.turn.pivot e w line numbers) k v d _ across row columns given
+      λ holds. row_from_read (λ e w line numbers _. AreIntegralTurns c.args.turn.pivot e w line numbers) k v d _ across row columns given
           (c.turns_whole.ensures.0 holds),
       λ whole. c.turns_whole.ensures.1
-          (row_to_read (λ e w line numbers _. AreWholeTurns c.args.turn.pivot e w line numbers) k v d _ across row columns given whole),
+          (row_to_read (λ e w line numbers _. AreIntegralTurns c.args.turn.pivot e w line numbers) k v d _ across row columns given whole),
     )

@@ -3,7 +3,7 @@ use Rattle.std.proofs.Common.{subst, List}
 use Rattle.whole_numbers.specs.Fractions.{Fraction}
 use Rattle.fraction_table.specs.declared.stage.Stage.TheVariants.{Ended}
 use Rattle.fraction_table.specs.Pivots.{IsAhead}
-use Rattle.fraction_table.specs.Wholes.{IsShown}
+use Rattle.fraction_table.specs.ValidTables.{IsShown}
 use Rattle.fraction_table.proofs.Ranks.{nearer}
 use Rattle.table_kernel.specs.Kernels.{stated}
 use Rattle.table_kernel.proofs.AtBasis.{stated_lines}

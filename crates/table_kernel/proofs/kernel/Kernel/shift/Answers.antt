@@ -3,7 +3,7 @@ use Rattle.std.proofs.Common.{◌≡◌, ◌∙◌, ℕ, ◌^◌, ◌≤◌, ref
 use Rattle.std.specs.Prelude.{ℤ, pos, nat_abs, ◌-ℤ◌, ◌*ℤ◌, slice_index_or, slice_set, Option, Some, None}
 use Rattle.std.proofs.lemmas.Int.{ints}
 use Rattle.std.proofs.lemmas.List.{get_or_default, with_items_is}
-use Rattle.path_rows.specs.declared.tree.Member.{Member}
+use Rattle.design_problem.specs.declared.tree.Member.{Member}
 use Rattle.fraction_table.specs.Moves.{IsColumnOf}
 use Rattle.integer_pivots.specs.Numbers.{more_sums}
 use Rattle.integer_pivots.proofs.PartSums.{more_long}

@@ -4,7 +4,7 @@ use Rattle.std.proofs.Common.{Vec, ◌<◌, ◌∙◌, ap, subst, sym, arith, le
 use Rattle.std.specs.Prelude.{ℤ, pos, slice_index_or}
 use Rattle.std.proofs.lemmas.List.{length-set}
 use Rattle.whole_numbers.specs.Lists.{number_at}
-use Rattle.integer_pivots.specs.Turns.{IsTurned}
+use Rattle.integer_pivots.specs.Turns.{IsNumberTurned}
 use Rattle.integer_pivots.proofs.Crossings.{crossed_from, item_is, read_known}
 use Rattle.integer_pivots.proofs.Sizes.{read}
 use Rattle.integer_pivots.proofs.WrittenPlaces.{rest_more, written_more}
@@ -40,16 +40,16 @@ loop-place-preserved c =
     let along = item_is k.along.items i c.index-in-loop-place.result.now (c.index-in-loop-place.ensures
     ∙ ap (λ (ls : Vec ℤ Global). slice_index_or ls.items i c.index-in-loop-place.result.now)
     c.loop-place.invariant.others.along) along_in in
-    let turned : IsTurned c.args.turn (number_at k.constants.items i) (number_at k.along.items i) c.turned.result =
+    let turned : IsNumberTurned c.args.turn (number_at k.constants.items i) (number_at k.along.items i) c.turned.result =
     c.turned.ensures ∙ crossed_from c.args.turn c.index.result.now c.index-in-loop-place.result.now
     (number_at k.constants.items i) (number_at k.along.items i) number along
     (c.requires.ready.limit i (pos 0) i_in) (c.requires.ready.along i (pos 0) along_in) in
-    let here = subst (λ (z : ℤ). IsTurned c.args.turn (number_at k.constants.items i) (number_at k.along.items i) z)
+    let here = subst (λ (z : ℤ). IsNumberTurned c.args.turn (number_at k.constants.items i) (number_at k.along.items i) z)
     (sym (read_known c.turned.result c.turned.type_inv)) turned in
     let o = c.loop-place.invariant.others in
     record {
       count = length-set xs i x ∙ c.loop-place.invariant.count;
-      turned = written_more (λ p z. IsTurned c.args.turn (number_at k.constants.items p) (number_at k.along.items p) z)
+      turned = written_more (λ p z. IsNumberTurned c.args.turn (number_at k.constants.items p) (number_at k.along.items p) z)
           (pos 0) xs i x (omega (arith, i_in, c.loop-place.invariant.count)) c.loop-place.invariant.turned here;
       rest = rest_more (pos 0) k.constants.items xs i x c.loop-place.invariant.rest;
       others = record {

@@ -2,14 +2,14 @@
 use Rattle.std.proofs.Common.{◌≡◌, ℕ, ◌*◌, ◌^◌, ◌<◌, ◌≤◌, []}
 use Rattle.std.specs.Prelude.{nat_abs, pos, ◌≤ℤ◌, slice_index_or}
 use Rattle.integer_pivots.specs.Numbers.{AllWithin}
-use Rattle.table_kernel.specs.Turnings.{IsReady, IsTurnedAt, KeepsOthers, StaysWithin}
+use Rattle.table_kernel.specs.Turnings.{IsReadyToTurn, IsTurnedAt, KeepsAllButLows, StaysWithin}
 use Rattle.table_kernel.proofs.kernel.Kernel.turn_lows.Given as goal
 
 abbrev pub invariant-loop-var : goal.invariant-loop-var
 invariant-loop-var l = record {
-  ready : IsReady l.self;
+  ready : IsReadyToTurn l.self;
   within : StaysWithin l.self l.turn;
-  keeps : KeepsOthers l.initial.self l.self;
+  keeps : KeepsAllButLows l.initial.self l.self;
   same : l.self.reach ≡ l.initial.self.reach;
   turned : (v : ℕ) → v < l.var → IsTurnedAt l.initial.self l.self l.turn.pivot l.column v;
   rest : (v : ℕ) → l.var ≤ v → slice_index_or l.self.lows.items v [] ≡ slice_index_or l.initial.self.lows.items v [];

@@ -8,7 +8,7 @@ use Rattle.integer_pivots.specs.declared.turn.Turn.{Turn}
 use Rattle.integer_pivots.specs.Leads.{AreLeads}
 use Rattle.integer_pivots.proofs.Sizes.{read, read_number}
 use Rattle.integer_pivots.proofs.FailedTests.{failed}
-use Rattle.table_kernel.specs.Turnings.{AreWhole, StaysWithin}
+use Rattle.table_kernel.specs.Turnings.{StayIntegral, StaysWithin}
 use Rattle.table_kernel.proofs.Refusals.{turn_at_is}
 use Rattle.table_kernel.proofs.TurnedRows.{constants_moved, has_turned, leads_moved}
 use Rattle.table_kernel.proofs.kernel.Kernel.turn_numbers.Goals as goal
@@ -52,7 +52,7 @@ returns-then-not-all_whole-clause-refused c may =
     let k = c.args.self.now in
     let turn_is = turn_at_is k c.args.place c.args.column c.index.result.now c.index-2.result.now c.requires.ready
     c.requires.place c.requires.column c.index.ensures c.index-2.ensures in
-    failed c.all_whole.result c.if-not-all_whole.true c.all_whole.ensures (subst (AreWhole k) (sym turn_is) may.whole)
+    failed c.all_whole.result c.if-not-all_whole.true c.all_whole.ensures (subst (StayIntegral k) (sym turn_is) may.whole)
 
 pub returns-clause-turned : goal.returns-clause-turned
 returns-clause-turned c =

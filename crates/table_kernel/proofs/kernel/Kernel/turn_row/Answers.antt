@@ -5,7 +5,7 @@ use Rattle.std.proofs.lemmas.List.{get_or_default, length-set}
 use Rattle.std.proofs.lemmas.List.Elements.{All-set}
 use Rattle.whole_numbers.specs.Lists.{number_at}
 use Rattle.integer_pivots.specs.Numbers.{AllWithin}
-use Rattle.integer_pivots.specs.Turns.{AreSmallTurns, AreTouched, AreTurnedWithin, AreWholeTurns}
+use Rattle.integer_pivots.specs.Turns.{AreSmallTurns, AreTouched, AreTurnedWithin, AreIntegralTurns}
 use Rattle.integer_pivots.proofs.Sizes.{read, read_number, wider}
 use Rattle.integer_pivots.proofs.Crossings.{read_known}
 use Rattle.table_kernel.proofs.StayingWithin.{turned_within, within_limit}
@@ -27,7 +27,7 @@ turn_low-most-requires c =
       divisor = c.requires.divisor;
       small = row_to_read (λ d w line numbers _. AreSmallTurns t.pivot d w line numbers) k v t.common _ across row columns given
           (row_small k t.pivot v c.requires.ready (c.requires.turn.0, c.requires.within.pivot) c.requires.var c.requires.row);
-      whole = row_to_read (λ d w line numbers _. AreWholeTurns t.pivot d w line numbers) k v t.common _ across row columns given c.requires.whole;
+      whole = row_to_read (λ d w line numbers _. AreIntegralTurns t.pivot d w line numbers) k v t.common _ across row columns given c.requires.whole;
       touched = row_to_read (λ d _ line _ touched. AreTouched t.pivot d line (length line) touched) k v t.common _ across row columns given c.requires.touched;
       own = omega (arith, ap length given.across_is, c.requires.column);
       stands = row_to_read (λ _ w _ numbers _. number_at numbers c.args.column ≡ w) k v t.common _ across row columns given c.requires.along;

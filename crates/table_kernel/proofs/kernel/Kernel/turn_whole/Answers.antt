@@ -3,7 +3,7 @@ use Rattle.std.proofs.Common.{ℤ, List, [], ◌∙◌, length, nat_abs, subst}
 use Rattle.std.specs.Prelude.{slice_index_or}
 use Rattle.whole_numbers.specs.Lists.{number_at}
 use Rattle.integer_pivots.specs.Reciprocals.{IsShare}
-use Rattle.integer_pivots.specs.Turns.{AreWholeTurns}
+use Rattle.integer_pivots.specs.Turns.{AreIntegralTurns}
 use Rattle.integer_pivots.proofs.WrittenPlaces.{all_more}
 use Rattle.table_kernel.proofs.kernel.Kernel.turn_whole.Goals as goal
 
@@ -17,6 +17,6 @@ row_turns_whole-requires-clause-share c =
 pub loop-var-preserved : goal.loop-var-preserved
 loop-var-preserved c =
     let k = c.args.self.now in
-    all_more (λ v. AreWholeTurns c.args.turn.pivot k.common (number_at k.along.items v) k.line.items
+    all_more (λ v. AreIntegralTurns c.args.turn.pivot k.common (number_at k.along.items v) k.line.items
     (slice_index_or k.lows.items v [])) c.loop-var.var c.loop-var.invariant
     (c.row_turns_whole.ensures.0 c.if-not-row_turns_whole.false)

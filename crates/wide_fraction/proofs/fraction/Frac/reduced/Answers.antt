@@ -2,7 +2,7 @@ use Rattle.std.proofs.Common.{◌≡◌, ◌/◌, ℕ, ap, ◌∙◌, SFits, rul
 use Rattle.std.specs.Prelude.{ℤ, nat_abs}
 use Rattle.std.proofs.lemmas.Int.{to_z-of_z}
 use mir.Syntax.{w128}
-use Rattle.whole_numbers.specs.Fractions.{gcd, over}
+use Rattle.whole_numbers.specs.Fractions.{gcd, exact_quotient}
 use Rattle.wide_fraction.proofs.WidthLemmas.{reduced_seen}
 use Rattle.wide_fraction.proofs.fraction.Frac.reduced.Goals as goal
 
@@ -15,6 +15,6 @@ invariant_of-result c =
     let whole_fits : SFits w128 c.signed_quotient.result = search rules in
     reduced_seen c.args.numerator c.args.denominator _ _ c.requires.positive c.requires.not_least c.requires.fits
     (to_z-of_z w128 c.signed_quotient.result whole_fits ∙ c.signed_quotient.ensures
-    ∙ ap (λ (z : ℤ). over z c.greatest_common_divisor-common.result)
-    (to_z-of_z w128 c.args.numerator c.ranges.numerator) ∙ ap (λ (n : ℕ). over c.args.numerator n) common)
+    ∙ ap (λ (z : ℤ). exact_quotient z c.greatest_common_divisor-common.result)
+    (to_z-of_z w128 c.args.numerator c.ranges.numerator) ∙ ap (λ (n : ℕ). exact_quotient c.args.numerator n) common)
     (c.quotient.ensures ∙ ap (λ (n : ℕ). c.args.denominator / n) common)

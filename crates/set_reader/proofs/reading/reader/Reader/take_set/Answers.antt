@@ -1,9 +1,9 @@
 use Rattle.std.proofs.Common.{◌≡◌, ◌∙◌, ◌++◌, ◌∷◌, [], ◌<◌, ℕ, List, length, sym, ap, subst, All, false, arith}
 use Rattle.std.specs.List.{concat}
 use Rattle.std.proofs.lemmas.List.Elements.{All-weaker}
-use Rattle.area_graph.specs.Distances.{AreMarks}
-use Rattle.path_rows.specs.Problems.{DesignProblem}
-use Rattle.path_rows.specs.declared.problem.Request.{Request}
+use Rattle.area_graph.specs.Distances.{AreEdgeMarks}
+use Rattle.design_problem.specs.Problems.{DesignProblem}
+use Rattle.design_problem.specs.declared.problem.Request.{Request}
 use Rattle.set_reader.specs.Reading.{is_wrong_set}
 use Rattle.set_reader.specs.ReadingSteps.{KeepsSets}
 use Rattle.set_reader.proofs.SetLaws.{sets_more}
@@ -30,10 +30,10 @@ invariant_of-self-2 c =
     ∙ ap (λ (p : DesignProblem). p.paths) c.problem.view_is in
     let lawful : is_wrong_set c.self.inside.problem.now.paths (concat sets) numbers ≡ false =
     subst (λ (rs : List Request). is_wrong_set rs (concat sets) numbers ≡ false) requests
-    (c.in_ok-members.ensures.lawful (concat sets) (subst (AreMarks (concat sets)) (sym c.as_slice.ensures.value) c.self.invariant.marks)) in
+    (c.in_ok-members.ensures.lawful (concat sets) (subst (AreEdgeMarks (concat sets)) (sym c.as_slice.ensures.value) c.self.invariant.marks)) in
     let set : c.as_slice-2.result.now ≡ members = c.as_slice-2.ensures ∙ c.from_items-set.ensures in
     let marks = c.mark_members.ensures.marks (concat sets) c.self.invariant.marks in
-    let after = subst (λ (ms : List ℕ). AreMarks (concat sets ++ ms) c.mark_members.new.taken.items) set marks in
+    let after = subst (λ (ms : List ℕ). AreEdgeMarks (concat sets ++ ms) c.mark_members.new.taken.items) set marks in
     let kept = sets_more c.self.inside.problem.now sets numbers members taken c.mark_members.new.taken.items
     c.self.invariant c.requires.several lawful c.in_ok-members.ensures.made after c.mark_members.ensures.count in
     subst (λ (ss : List (List ℕ)). KeepsSets c.self.inside.problem.now ss c.mark_members.new.taken.items)

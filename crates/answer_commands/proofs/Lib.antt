@@ -1,5 +1,0 @@
-pub mod Judged
-pub mod Revisions
-pub mod OwnLines
-pub mod FewLines
-pub mod AnswerFiles

@@ -1,7 +1,0 @@
--- Those before are within their bounds.
-use Rattle.std.proofs.Common.{All, take}
-use Rattle.path_rows.specs.Bounds.{BoundsMember}
-use Rattle.answer_commands.proofs.bounds.keeps_members.Given as goal
-
-abbrev pub invariant-loop-member : goal.invariant-loop-member
-invariant-loop-member l = All BoundsMember (take l.member-index l.members)

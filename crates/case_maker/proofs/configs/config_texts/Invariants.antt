@@ -1,6 +1,0 @@
-use Rattle.case_maker.specs.Cases.{begins_block, block_configs, over_blocks}
-use Rattle.std.proofs.Common.{◌≡◌, ◌∷◌}
-use Rattle.case_maker.proofs.configs.config_texts.Given as goal
-
-abbrev pub invariant-loop-block : goal.invariant-loop-block
-invariant-loop-block l = l.texts.items ≡ begins_block 0 ∷ over_blocks (block_configs l.blocks) l.block

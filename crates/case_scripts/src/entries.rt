@@ -1,0 +1,133 @@
+//! Steps, members, multipliers and entries of trees, as the programs that run scripts write them.
+ghost use Rattle.std.specs.Prelude.{◌≡◌};
+ghost use Rattle.design_problem.specs.Text.{step_word};
+
+use cost_base::{Ratio, StepName};
+use design_problem::{Entry, Member, Parts, Side, WideAt};
+use std::fmt;
+use wide_fraction::Wide;
+
+/// The word of a step.
+fn step_word(step: StepName) -> &'static str
+    ensures { result.now ≡ step_word step }
+{
+    match step {
+        StepName::Add => "add",
+        StepName::Sub => "sub",
+        StepName::Mul => "mul",
+        StepName::Div => "div",
+        StepName::Lcm => "lcm",
+        StepName::Scale => "scale",
+    }
+}
+
+/// A step as it is written: its name and its two fractions.
+#[derive(Drop)]
+pub struct Step(pub Wide);
+
+impl fmt::Display for Step {
+    fn fmt<W: fmt::Write>(&self, f: &mut fmt::Formatter<W>) -> fmt::Result {
+        let name = step_word(self.0.step);
+        let left = self.0.left;
+        let right = self.0.right;
+        write!(
+            f,
+            "wide {name} {}/{} ",
+            left.numerator(),
+            left.denominator()
+        )?;
+        write!(f, "{}/{}", right.numerator(), right.denominator())
+    }
+}
+
+/// A member of a basis, as it is written: its kind and number, and the bound that it has.
+#[derive(Drop)]
+pub struct Named(pub Member);
+
+impl fmt::Display for Named {
+    ghost use Rattle.std.specs.Prelude.{Some};
+    ghost use Rattle.case_scripts.specs.WrittenWords.{member_text};
+
+    ghost output = { λ named. Some (member_text named.0) };
+
+    fn fmt<W: fmt::Write>(&self, f: &mut fmt::Formatter<W>) -> fmt::Result {
+        match self.0 {
+            Member::Low(var, bound) => write!(f, " low{var}={bound}"),
+            Member::High(var, bound) => write!(f, " high{var}={bound}"),
+            Member::Row(row) => write!(f, " row{row}"),
+        }
+    }
+}
+
+/// A row's multiplier, as it is written.
+#[derive(Drop)]
+pub struct Part(pub u64, pub u128);
+
+impl fmt::Display for Part {
+    ghost use Rattle.std.specs.Prelude.{Some};
+    ghost use Rattle.case_scripts.specs.WrittenWords.{part_text};
+
+    ghost output = { λ part. Some (part_text part.0 part.1) };
+
+    fn fmt<W: fmt::Write>(&self, f: &mut fmt::Formatter<W>) -> fmt::Result {
+        write!(f, " {}*row{}", self.1, self.0)
+    }
+}
+
+/// The multipliers of rows, as they are written in a tree.
+fn write_parts<W: fmt::Write>(parts: &Parts, f: &mut fmt::Formatter<W>) -> fmt::Result {
+    write!(f, "refute")?;
+    for (row, multiplier) in parts.as_slice() {
+        write!(f, " {row} {multiplier}")?;
+    }
+    Ok(())
+}
+
+/// A step that is too wide, as it is written in a tree.
+fn write_wide<W: fmt::Write>(wide: &WideAt, f: &mut fmt::Formatter<W>) -> fmt::Result {
+    let name = step_word(wide.step);
+    write!(
+        f,
+        "{name} {}/{} ",
+        wide.left.numerator, wide.left.denominator
+    )?;
+    write!(f, "{}/{}", wide.right.numerator, wide.right.denominator)?;
+    for member in wide.basis.as_slice() {
+        match member {
+            Member::Low(var, bound) => write!(f, " low {var} {bound}")?,
+            Member::High(var, bound) => write!(f, " high {var} {bound}")?,
+            Member::Row(row) => write!(f, " row {row}")?,
+        }
+    }
+    Ok(())
+}
+
+/// An entry of a tree, as it is written.
+#[derive(Drop)]
+pub struct Line<'a>(pub &'a Entry);
+
+impl<'a> fmt::Display for Line<'a> {
+    fn fmt<W: fmt::Write>(&self, f: &mut fmt::Formatter<W>) -> fmt::Result {
+        match self.0 {
+            Entry::Tighten {
+                var,
+                side,
+                value,
+                row,
+            } => {
+                let side = match side {
+                    Side::Low => "low",
+                    Side::High => "high",
+                };
+                write!(f, "tighten {var} {side} {value} {row}")
+            }
+            Entry::Split { var, value } => write!(f, "split {var} {value}"),
+            Entry::Halve { var, value, wide } => {
+                write!(f, "halve {var} {value} ")?;
+                write_wide(wide, f)
+            }
+            Entry::Refute { parts } => write_parts(parts, f),
+            Entry::Undone => write!(f, "open"),
+        }
+    }
+}

@@ -1,0 +1,17 @@
+//! Advisors, who pick the variable at which a box is shared out.
+//!
+//! An advisor is asked and told, and keeps a state. Whatever it answers, a search stays sound: an advisor that answers
+//! out of range is removed.
+#![tactic(auto)]
+
+mod advisor;
+mod candidate;
+mod choosing;
+mod progress;
+mod usual;
+
+pub use advisor::Advisor;
+pub use candidate::Candidate;
+pub use choosing::{choose, tell};
+pub use progress::Progress;
+pub use usual::{SmallestNumber, WidestFirst};

@@ -1,0 +1,155 @@
+-- What `lsas` made of the network that it read.
+use Rattle.std.proofs.Common.{◌≡◌, ℕ, ◌^◌, ◌<◌, refl, sym, ◌∙◌, ap, subst, List, [], ◌∷◌, length, map, arith, Option, None, Some}
+use Rattle.std.specs.Prelude.{All}
+use Rattle.std.proofs.lemmas.Option.{none-some, same_Some}
+use Rattle.std.proofs.lemmas.List.Elements.{All-nil, All-cons, All-head, All-tail}
+use Rattle.std.proofs.lemmas.List.{length-map}
+use Rattle.std.proofs.lemmas.Simd.{map-map}
+use Rattle.cost_base.specs.declared.Status.TheVariants.{Done}
+use Rattle.cost_base.specs.declared.Status.{Status}
+use Rattle.cost_base.specs.Lists.{first_of}
+use Rattle.area_graph.specs.declared.Price.{Price}
+use Rattle.area_graph.specs.declared.Price.TheVariants.{Fixed}
+use Rattle.interface_model.specs.Records.{Router}
+use Rattle.lsdb_build.specs.declared.Linked.{Linked}
+use Rattle.lsdb_build.specs.Graphs.{Database, IsLinkPrice, graph_at}
+use Rattle.lsdb_build.specs.Topology.{topology_fault, database_of}
+use Rattle.design_problem.specs.Problems.{DesignProblem}
+use Rattle.wanted_paths.specs.declared.stop.ResolutionFault.{ResolutionFault}
+use Rattle.wanted_paths.specs.LineFaults.{line_faults}
+use Rattle.cost_base.proofs.ListLemmas.{append-none}
+use Rattle.request_reader.specs.Asked.{Asked}
+use Rattle.path_requests.specs.Meaning.{present_cost}
+use Rattle.path_requests.specs.Resolving.{present_asked, present_fault, present_problem_of, cost_faults}
+use Rattle.path_requests.proofs.Assembled.{prices_link}
+use Rattle.path_requests.proofs.PresentLaws.{present_prices_are, present_is_asked}
+use Rattle.input_files.specs.declared.problem.View.TheVariants.{AtPresent}
+use Rattle.input_files.specs.declared.network.Network.{Network}
+use Rattle.input_files.specs.declared.stop.Stop.{Stop}
+use Rattle.input_files.specs.Inputs.{InputFiles}
+use Rattle.input_files.specs.Networks.{IsNetworkOf}
+use Rattle.input_files.specs.Readings.{Reading, Ready, Says, EndsAs}
+use Rattle.input_files.specs.Outcomes.{Input, file_of, routers_of, if_resolved}
+use Rattle.input_files.specs.Stops.{IsReadAndMade, StopsAs, IsRefusal}
+use Rattle.input_files.proofs.Readings.{said_faulty}
+use Rattle.report_writer.specs.declared.report.Report.{Report}
+use Rattle.report_writer.specs.Reports.{Reports, bytes_in}
+use Rattle.lsa_bytes.specs.declared.ids.IdFault.{IdFault}
+use Rattle.lsa_bytes.specs.Ids.{first_id_fault}
+use Rattle.lsa_bytes.specs.Numbers.{number_of}
+use Rattle.lsa_bytes.specs.Written.{bytes_of_all}
+use Rattle.lsa_writer.specs.WrittenLsas.{written_lsas}
+use Rattle.lsa_writer.specs.OneGraph.{IsDatabaseOf, SayGraph}
+use Rattle.database_commands.specs.Lsas.{present_costs, AreWritten, MayLsas, if_identified}
+use Rattle.database_commands.proofs.Routes.{refusal_stops}
+
+-- requests that are resolved have no fault
+
+abbrev is_ready : Reading DesignProblem → Option DesignProblem
+is_ready (Ready p) = Some p
+is_ready _ = None
+
+resolved : (names : InputFiles) (d : Database) (p q : DesignProblem) (fault : Option ResolutionFault) →
+    if_resolved names d p fault ≡ Ready q → (fault ≡ None) × (q ≡ p)
+resolved names d p q None h = (refl, sym (same_Some p q (ap is_ready h)))
+resolved names d p q (Some fault) h = absurd (none-some q (ap is_ready h))
+
+first_none : (faults : List ResolutionFault) → first_of faults ≡ None → faults ≡ []
+first_none [] h = refl
+first_none (fault ∷ faults) h = absurd (none-some fault (sym h))
+
+-- each present cost is above 0
+pub costs_above : (names : InputFiles) (network : Network) (d : Input) → IsNetworkOf AtPresent names network d → All (λ cost. 0 < cost) (present_costs d)
+costs_above names network d is =
+    let whole = resolved names d.database (present_problem_of d.asked d.database) d.problem (present_fault d.asked d.database) is.resolved in
+    let none = append-none (line_faults d.database d.asked.items) (cost_faults (present_asked d.asked) d.database 0 d.database.links) (first_none _ whole.0) in
+    let priced = prices_link (present_asked d.asked) d.database 0 d.database.links (present_is_asked d.asked is.asked) is.base.each_link none.1 in
+    each d.database.links (subst (λ (ps : List Price). All IsLinkPrice ps) (present_prices_are d.asked d.database 0 d.database.links) priced)
+  where
+    each : (links : List Linked) → All IsLinkPrice (map (λ link. Fixed (present_cost d.asked link)) links) →
+        All (λ cost. 0 < cost) (map (present_cost d.asked) links)
+    each [] all = All-nil (λ cost. 0 < cost)
+    each (link ∷ links) all =
+        All-cons (λ cost. 0 < cost) (present_cost d.asked link) (map (present_cost d.asked) links)
+        (All-head IsLinkPrice (Fixed (present_cost d.asked link))
+        (map (λ x. Fixed (present_cost d.asked x)) links) all)
+        (each links (All-tail IsLinkPrice (Fixed (present_cost d.asked link)) (map (λ x. Fixed (present_cost d.asked x)) links) all))
+
+-- the graph that an audit goes by
+graph_is : (names : InputFiles) (network : Network) (d : Input) → IsNetworkOf AtPresent names network d →
+    graph_at d.database (map Fixed (present_costs d)) ≡ d.problem.graph
+graph_is names network d is =
+    let whole = resolved names d.database (present_problem_of d.asked d.database) d.problem (present_fault d.asked d.database) is.resolved in
+    sym (ap (λ (p : DesignProblem). p.graph) whole.1
+    ∙ ap (graph_at d.database) (present_prices_are d.asked d.database 0 d.database.links
+    ∙ sym (map-map Fixed (present_cost d.asked) d.database.links)))
+
+pub is_built : (names : InputFiles) (network : Network) (d : Input) → IsNetworkOf AtPresent names network d → IsDatabaseOf network.configs.items network.lsdb
+is_built names network d is = record {
+  area = d.asked.area;
+  faultless = ap (topology_fault d.asked.area) is.configs ∙ is.faultless;
+  database = is.lsdb ∙ is.built ∙ sym (ap (database_of d.asked.area) is.configs);
+}
+
+pub few_configs : (names : InputFiles) (network : Network) (d : Input) → IsNetworkOf AtPresent names network d → length network.configs.items < 2 ^ 32
+few_configs names network d is =
+    omega (
+      arith,
+      ap length is.configs,
+      ap (λ (x : Database). length x.routers) is.built,
+      length-map (routers_of d.files) (λ (r : Router). r.name),
+      is.base.routers,
+    )
+
+-- what was written of a network
+pub are_written : (names : InputFiles) (network : Network) (d : Input) (costs bytes : List ℕ) →
+    IsNetworkOf AtPresent names network d → costs ≡ map (present_cost network.requests) network.lsdb.links →
+    bytes ≡ bytes_of_all (written_lsas network.configs.items network.lsdb costs) → SayGraph bytes (graph_at network.lsdb (map Fixed costs)) → AreWritten d bytes
+are_written names network d costs bytes is costs_are written graph =
+    let present : costs ≡ present_costs d = costs_are
+    ∙ ap (λ (a : Asked). map (present_cost a) network.lsdb.links) is.requests
+    ∙ ap (λ (x : Database). map (present_cost d.asked) x.links) is.lsdb in
+    record {
+      written = written ∙ ap (λ (rs : List Router). bytes_of_all (written_lsas rs network.lsdb costs)) is.configs
+          ∙ ap (λ (x : Database). bytes_of_all (written_lsas (routers_of d.files) x costs)) is.lsdb
+          ∙ ap (λ cs. bytes_of_all (written_lsas (routers_of d.files) d.database cs)) present;
+      one_graph = subst (SayGraph bytes) (ap (λ (x : Database). graph_at x (map Fixed costs)) is.lsdb
+          ∙ ap (λ cs. graph_at d.database (map Fixed cs)) present ∙ graph_is names network d is) graph;
+    }
+
+-- router IDs that were tested
+pub ids_stop : (names : InputFiles) (d : Input) (found : IdFault) (stop : Stop) →
+    IsRefusal (record { number = number_of found.fault; file = file_of names found.config; line = 0 }) stop →
+    StopsAs (if_identified names d (Some found)) [] stop
+ids_stop names d found stop is = refusal_stops Input (record { number = number_of found.fault; file = file_of names found.config; line = 0 }) stop is
+
+-- whose IDs were tested
+pub ids_refused : (names : InputFiles) (d : Input) (configs : List Router) (stop : Stop) →
+    routers_of d.files ≡ configs → StopsAs (if_identified names d (first_id_fault [] 0 configs)) [] stop →
+    StopsAs (if_identified names d (first_id_fault [] 0 (routers_of d.files))) [] stop
+ids_refused names d configs stop same is = subst (λ (rs : List Router). StopsAs (if_identified names d (first_id_fault [] 0 rs)) [] stop) (sym same) is
+
+pub ids_ready : (names : InputFiles) (d : Input) (fault : Option IdFault) → fault ≡ None →
+    IsReadAndMade (if_identified names d fault) [] (λ (u : Unit {0}) said. said ≡ d) tt
+ids_ready names d fault none = record { said = d; ends = subst (λ f. EndsAs (if_identified names d f) [] (Says d)) (sym none) refl; fits = refl }
+
+-- what a report says of the network that was read
+pub reported : (names : InputFiles) (d : Input) (configs : List Router) (bytes : List ℕ) (report : Report) →
+    routers_of d.files ≡ configs → first_id_fault [] 0 configs ≡ None → AreWritten d bytes → Reports Done bytes report →
+    IsReadAndMade (if_identified names d (first_id_fault [] 0 (routers_of d.files))) [] (λ (r : Report) x. MayLsas x r.status (bytes_in r.text)) report
+reported names d configs bytes report same none are is =
+    record {
+      said = d;
+      ends = subst (λ f. EndsAs (if_identified names d f) [] (Says d)) (sym (ap (first_id_fault [] 0) same ∙ none)) refl;
+      fits = subst (λ (s : Status). MayLsas d s (bytes_in report.text)) (sym is.status) (subst (AreWritten d) (sym is.text) are);
+    }
+
+-- the IDs were tested without a fault
+pub ids_fine : (names : InputFiles) (d : Input) (configs : List Router) (u : Unit {0}) →
+    IsReadAndMade (if_identified names d (first_id_fault [] 0 configs)) [] (λ (v : Unit {0}) said. said ≡ d) u →
+    first_id_fault [] 0 configs ≡ None
+ids_fine names d configs u ready = by_fault (first_id_fault [] 0 configs) ready.ends
+  where
+    by_fault : (f : Option IdFault) → EndsAs (if_identified names d f) [] (Says ready.said) → f ≡ None
+    by_fault None ends = refl
+    by_fault (Some found) ends = absurd (said_faulty ready.said _ ends)

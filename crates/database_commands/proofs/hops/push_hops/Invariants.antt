@@ -1,0 +1,11 @@
+-- with the edges that are left it is what all tight edges add
+use Rattle.std.proofs.Common.{◌≡◌, ◌++◌, map, slice_index_or}
+use Rattle.area_graph.specs.Area.{edge_at}
+use Rattle.spf_ties.specs.Distances.{tight_out}
+use Rattle.database_commands.specs.Routes.{spaced_quads}
+use Rattle.database_commands.proofs.hops.push_hops.Given as goal
+
+abbrev pub invariant-loop-edge : goal.invariant-loop-edge
+invariant-loop-edge l =
+    l.line.items ++ spaced_quads (map (λ e. slice_index_or l.ids (edge_at l.graph e).to 0) l.edge-iterator)
+    ≡ l.fn.line.items ++ spaced_quads (map (λ e. slice_index_or l.ids (edge_at l.graph e).to 0) (tight_out l.graph l.point l.room l.vertex))

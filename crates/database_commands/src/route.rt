@@ -1,0 +1,159 @@
+//! `route`: the least cost between two routers of a file of LSAs, and the first hops.
+ghost use Rattle.std.specs.Prelude.{◌≡◌, ◌==◌, ◌<◌, ◌++◌, [], true, IfOk, OnOk, codes, length};
+ghost use Rattle.std.specs.List.{list_any};
+ghost use Rattle.area_graph.specs.Costs.{FitsPoint, at_costs};
+ghost use Rattle.spf_ties.specs.Distances.{IsRoomFor};
+ghost use Rattle.input_files.specs.Readings.{Gave};
+ghost use Rattle.input_files.specs.Stops.{IsReadAs};
+ghost use Rattle.lsa_bytes.specs.Databases.{is_router_of};
+ghost use Rattle.database_commands.specs.Found.{EndsBy, IsFoundEnd, end_by};
+ghost use Rattle.database_commands.specs.Routes.{IsRoute, MayRoute, route_read};
+ghost use Rattle.report_writer.specs.Reports.{bytes_in};
+
+use crate::database::{check_router, read_database};
+use crate::hops::push_hops;
+use crate::quads::push_quad;
+use crate::vertices::{vertex_ids, vertex_of};
+use area_graph::{Graph, Point};
+use cost_base::{Listed, OutOfMemory, Shelf, Status};
+use input_files::Stop;
+use lsa_bytes::{Database, graph_of_lsas};
+use report_writer::Report;
+use spf_ties::Room;
+use std::alloc::Global;
+use text_lines::{push_bytes, push_number};
+
+/// Costs of a graph whose edges have fixed prices alone.
+fn fixed_costs(alloc: Global) -> Point
+    ensures { result ≡ at_costs [] }
+{
+    Point {
+        scale: 1,
+        values: Listed::from_items(Vec::new(alloc)),
+    }
+}
+
+/// Adds what is found of a route that doesn't end where it starts: ` cost C first X ..`, or ` unreachable`.
+fn push_end(
+    line: &mut Vec<u8>,
+    graph: &Graph,
+    point: &Point,
+    room: &Room,
+    ids: &[u32],
+    start: u32,
+) -> Result<(), OutOfMemory>
+    requires room { IsRoomFor graph.now room.now }
+    requires fits { FitsPoint graph.now point.now }
+    requires start { start < length graph.now.vertices }
+    ensures { OnOk result (line.new.items ≡ line.old.items ++ end_by graph.now point.now room.now ids.now start) }
+{
+    match room.distance(start) {
+        Some(cost) => {
+            push_bytes(line, b" cost ")?;
+            push_number(line, cost)?;
+            push_bytes(line, b" first")?;
+            push_hops(line, graph, point, room, ids, start)
+        }
+        None => push_bytes(line, b" unreachable"),
+    }
+}
+
+/// What is found of a route between two routers of a graph, of which the vertices are named so.
+fn route_end(
+    alloc: Global,
+    graph: &Graph,
+    ids: &[u32],
+    start: u32,
+    end: u32,
+) -> Result<Vec<u8>, OutOfMemory>
+    requires fits { FitsPoint graph.now (at_costs []) }
+    requires start { start < length graph.now.vertices }
+    requires end { end < length graph.now.vertices }
+    ensures { IfOk result (λ words. EndsBy graph.now ids.now start end words.items) }
+{
+    let point = fixed_costs(alloc);
+    let mut room = Room::new(alloc, graph)?;
+    room.distances_to(graph, &point, end);
+    let mut words = Vec::new(alloc);
+    push_end(&mut words, graph, &point, &room, ids, start)?;
+    Ok(words)
+}
+
+/// Whether a route ends where it starts.
+fn is_same(from: u32, to: u32) -> bool
+    ensures { result ≡ (from == to) }
+{
+    from == to
+}
+
+/// What is found of a route from a router to itself.
+fn own_end(alloc: Global) -> Result<Vec<u8>, OutOfMemory>
+    ensures { IfOk result (λ words. words.items ≡ codes " cost 0 first none") }
+{
+    let mut words = Vec::new(alloc);
+    push_bytes(&mut words, b" cost 0 first none")?;
+    Ok(words)
+}
+
+/// What is found of a route between two routers of a database.
+fn found_end(alloc: Global, database: &Database, from: u32, to: u32) -> Result<Vec<u8>, OutOfMemory>
+    requires from { list_any (is_router_of from) database.now ≡ true }
+    requires to { list_any (is_router_of to) database.now ≡ true }
+    ensures { IfOk result (λ words. IsFoundEnd database.now from to words.items) }
+{
+    let lsas = database.as_slice();
+    let graph = graph_of_lsas(alloc, database)?;
+    let ids = vertex_ids(alloc, lsas)?;
+    let (start, end) = (vertex_of(lsas, from), vertex_of(lsas, to));
+    let words = route_end(alloc, &graph, &ids, start, end)?;
+    if is_same(from, to) {
+        let own = own_end(alloc)?;
+        return Ok(own);
+    }
+    Ok(words)
+}
+
+/// The line of a route between two routers of a database.
+fn route_line(
+    alloc: Global,
+    database: &Database,
+    from: u32,
+    to: u32,
+) -> Result<Vec<u8>, OutOfMemory>
+    requires from { list_any (is_router_of from) database.now ≡ true }
+    requires to { list_any (is_router_of to) database.now ≡ true }
+    ensures { IfOk result (λ line. IsRoute from to database.now line.items) }
+{
+    let end = found_end(alloc, database, from, to)?;
+    let mut line = Vec::new(alloc);
+    push_bytes(&mut line, b"from ")?;
+    push_quad(&mut line, from)?;
+    push_bytes(&mut line, b" to ")?;
+    push_quad(&mut line, to)?;
+    push_bytes(&mut line, &end)?;
+    push_bytes(&mut line, b"\n")?;
+    Ok(line)
+}
+
+/// The report of the route from a router to another, named by their router IDs, in a file of LSAs.
+///
+/// # Errors
+///
+/// `Stop`: the file failed or is too long, or its LSAs have a fault, with its offset as the line; a router has no
+/// router-LSA, with the line 0 for the one to start from and 1 for the one to go to; want of memory.
+pub fn route_report<'a, S: Shelf>(
+    alloc: Global,
+    lsas: &'a str,
+    from: u32,
+    to: u32,
+    shelf: &mut S,
+) -> Result<Report, Stop<'a>>
+    ensures { Gave (S.gave shelf.old shelf.new) (λ came. IsReadAs (route_read lsas.now from to) came
+        (λ report said. MayRoute from to said report.status (bytes_in report.text)) result) }
+{
+    let database = read_database(alloc, shelf, lsas)?;
+    check_router(database.as_slice(), from, lsas, 0)?;
+    check_router(database.as_slice(), to, lsas, 1)?;
+    let line = route_line(alloc, &database, from, to)?;
+    Ok(Report::made(Status::Done, line))
+}

@@ -1,0 +1,22 @@
+-- The report of the answer to the problem that was read.
+use Rattle.std.proofs.lemmas.Result.{err_from_is_err_and}
+use Rattle.std.proofs.Common.{refl}
+use Rattle.form_search.proofs.AdvisorLaws.{left_alike}
+use Rattle.input_files.specs.Stops.{files_named}
+use Rattle.design_commands.proofs.Trials.{tried_found}
+use Rattle.design_commands.proofs.trial.report_on_texts.Goals as goal
+
+pub returns-clause-read : goal.returns-clause-read
+returns-clause-read g c =
+    tried_found (g.S.Shelf.gave c.args.shelf.now c.read_problem.new.shelf) c.args.trial.blocks c.args.trial.start
+    (files_named c.args.words) c.in_ok-problem.problem c.in_ok-report_of_trial.field-0 c.in_ok-problem.ensures.read
+    c.in_ok-report_of_trial.ensures
+
+pub returns-in_err-report_of_trial-clause-read : goal.returns-in_err-report_of_trial-clause-read
+returns-in_err-report_of_trial-clause-read g c =
+    let read = c.in_ok-problem.ensures.read in
+    let p = err_from_is_err_and c.from_residual-in_err-report_of_trial.result c.from_residual-in_err-report_of_trial.ensures.1 in
+    rw (p.1, p.2) (record { came = read.came; given = read.given; so = tt })
+
+pub returns-in_err-problem-clause-advisors : goal.returns-in_err-problem-clause-advisors
+returns-in_err-problem-clause-advisors g c = left_alike _ _ _ refl

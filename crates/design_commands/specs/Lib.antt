@@ -1,0 +1,4 @@
+pub mod ReadBack
+pub mod Designs
+pub mod Trials
+pub mod TotalRuns

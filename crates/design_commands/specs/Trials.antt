@@ -1,0 +1,81 @@
+-- What a trial prints of its made trial.
+use Rattle.std.specs.Prelude.{◌≡◌, ℕ, ◌+◌, ◌*◌, ◌-◌, ◌^◌, List, [], ◌∷◌, ◌++◌, codes}
+use Rattle.std.specs.List.{sum, zip}
+use Rattle.cost_base.specs.declared.Status.{Status}
+use Rattle.cost_base.specs.declared.Status.TheVariants.{Done, Impossible, Undecided, InputRefused}
+use Rattle.cost_base.specs.Decimal.{decimal}
+use Rattle.trial_maker.specs.declared.TrialTexts.{TrialTexts}
+use Rattle.trial_maker.specs.TrialTexts.{made_trial}
+use Rattle.design_problem.specs.Problems.{DesignProblem}
+use Rattle.design_problem.specs.Rows.{AreBestCosts, greatest_cost}
+use Rattle.command_words.specs.Jobs.{Bounds}
+use Rattle.input_files.specs.declared.problem.View.TheVariants.{AsRequested}
+use Rattle.input_files.specs.Inputs.{InputFiles}
+use Rattle.input_files.specs.Readings.{End, Says, Faulty, Failed}
+use Rattle.input_files.specs.Outcomes.{Input, outcome}
+use Rattle.input_files.specs.Ends.{end_of_reading}
+use Rattle.report_writer.specs.Texts.{refused_line}
+use Rattle.design_commands.specs.Designs.{IsShownImpossible, IsShownUndecided}
+
+-- a budget of 100,000 entries, and numbers of 127 bits
+abbrev pub trial_limits : Bounds
+trial_limits = record { nodes = 100000; top = 2 ^ 127 - 1 }
+
+-- `trial blocks T start S routers R interfaces I requests Q`
+abbrev pub trial_part : ℕ → ℕ → List ℕ
+trial_part blocks start =
+    codes "trial blocks " ++ decimal blocks ++ codes " start " ++ decimal start ++ codes " routers " ++ decimal (3 * blocks + 1)
+    ++ codes " interfaces " ++ decimal (8 * blocks) ++ codes " requests " ++ decimal (blocks + 1)
+
+-- the summary line of a trial: its case, ` verdict V greatest G total C`, and an LF
+abbrev pub summary_line : ℕ → ℕ → List ℕ → List ℕ → List ℕ → List ℕ
+summary_line blocks start verdict greatest total =
+    trial_part blocks start ++ codes " verdict " ++ verdict ++ codes " greatest " ++ greatest ++ codes " total " ++ total ++ 10 ∷ []
+
+-- the summary line of a trial without best costs
+abbrev pub costless_line : ℕ → ℕ → List ℕ → List ℕ
+costless_line blocks start verdict = summary_line blocks start verdict (codes "none") (codes "none")
+
+-- the summary line tells the greatest and the total of best costs
+pub record TellsBest (blocks start : ℕ) (p : DesignProblem) (bytes : List ℕ) : Type 0 where
+  pub costs : List ℕ
+  pub best : AreBestCosts p costs
+  pub spelled : bytes ≡ summary_line blocks start (codes "optimal") (decimal (greatest_cost costs)) (decimal (sum costs))
+
+-- a line, and a text of this kind behind it
+pub record IsLineFollowedBy (line : List ℕ) (IsText : List ℕ → Type 0) (bytes : List ℕ) : Type 0 where
+  pub behind : List ℕ
+  pub spelled : bytes ≡ line ++ behind
+  pub is_text : IsText behind
+
+-- what a trial may write of what its made texts say
+abbrev pub MayTry : ℕ → ℕ → Input → Status → List ℕ → Type 0
+MayTry blocks start d Done bytes = TellsBest blocks start d.problem bytes
+MayTry blocks start d Impossible bytes =
+    IsLineFollowedBy (costless_line blocks start (codes "impossible")) (IsShownImpossible trial_limits d.problem) bytes
+MayTry blocks start d Undecided bytes =
+    IsLineFollowedBy (costless_line blocks start (codes "undecided")) (IsShownUndecided trial_limits d.problem) bytes
+MayTry blocks start d status bytes = ⊥
+
+-- the names of a case's files
+abbrev pub trial_files : TrialTexts → InputFiles
+trial_files case = record { request = codes "request.txt"; configs = case.names }
+
+-- the texts of a trial, each with its name: the request file, then the configurations
+abbrev pub named_trial_texts : TrialTexts → List (List ℕ × List ℕ)
+named_trial_texts case = (codes "request.txt", case.request) ∷ zip case.names case.configs
+
+-- what the texts of a case say: they take the place of files, and none is read
+unfoldable pub trial_end : TrialTexts → End Input
+trial_end case = end_of_reading (named_trial_texts case) (outcome AsRequested (trial_files case))
+
+-- what a trial may write by the end of reading its texts: the first fault, or what comes of the problem
+abbrev pub MayTryEnd : ℕ → ℕ → End Input → Status → List ℕ → Type 0
+MayTryEnd blocks start (Says d) status bytes = MayTry blocks start d status bytes
+MayTryEnd blocks start (Faulty fault) InputRefused bytes = bytes ≡ refused_line fault
+MayTryEnd blocks start (Faulty fault) status bytes = ⊥
+MayTryEnd blocks start (Failed file) status bytes = ⊥
+
+-- what a trial of so many blocks and this start may write
+abbrev pub MayTrial : ℕ → ℕ → Status → List ℕ → Type 0
+MayTrial blocks start status bytes = MayTryEnd blocks start (trial_end (made_trial blocks start)) status bytes

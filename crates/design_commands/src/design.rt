@@ -1,0 +1,80 @@
+//! `design`: an answer to the files of words.
+ghost use Rattle.std.specs.Prelude.{◌≡◌, ℕ, List, IfOk};
+ghost use Rattle.command_words.specs.Jobs.{bounds};
+ghost use Rattle.design_problem.specs.Text.{text};
+ghost use Rattle.form_search.specs.Advised.{AreCalled};
+ghost use Rattle.input_files.specs.Readings.{Gave};
+ghost use Rattle.input_files.specs.Outcomes.{outcome};
+ghost use Rattle.input_files.specs.Stops.{IsReadAs, files_named};
+ghost use Rattle.report_writer.specs.Reports.{Reports, bytes_in};
+ghost use Rattle.design_commands.specs.Designs.{IsAnswerTo, verdict_status, MayDesign};
+
+use cost_base::{OutOfMemory, Shelf, Status};
+use cut_advisors::Advisor;
+use design_problem::{Answer, Problem, Verdict};
+use evidence_text::{keeps_answer, text_of_answer};
+use input_files::{FileWords, Stop, View, read_problem};
+use least_bound::least;
+use report_writer::Report;
+use std::alloc::Global;
+use wide_fraction::Limits;
+
+/// The status of a run that prints an answer with this verdict.
+pub(crate) fn status_of(verdict: Verdict) -> Status
+    ensures { result ≡ verdict_status verdict }
+{
+    match verdict {
+        Verdict::Optimal(_) => Status::Done,
+        Verdict::Impossible => Status::Impossible,
+        Verdict::Undecided(_) => Status::Undecided,
+    }
+}
+
+/// The report of an answer: its text.
+pub(crate) fn report_of_answer(alloc: Global, answer: &Answer) -> Result<Report, OutOfMemory>
+    ensures { IfOk result (Reports (verdict_status answer.now.verdict) (text answer.now)) }
+{
+    let text = text_of_answer(alloc, answer)?;
+    Ok(Report::made(status_of(answer.verdict), text))
+}
+
+/// An answer to a problem, of which it is kept for the prover that both are values of their types.
+pub(crate) fn answer_to(
+    alloc: Global,
+    problem: &Problem,
+    limits: &Limits,
+    advisors: &mut Vec<Box<dyn Advisor>>,
+) -> Result<Answer, OutOfMemory>
+    // Always true: a function that hands on boxed advisors has to require something.
+    requires itself { problem.now ≡ problem.now }
+    ensures answered { IfOk result (IsAnswerTo (bounds limits.now) problem.now) }
+    ensures advisors { AreCalled ⟦<dyn Advisor as Advisor>⟧ (λ b. b.vtable) (λ b. state b) advisors.old.items advisors.new.items }
+{
+    // For the prover: what a problem's type keeps is known once a field of it is read.
+    let _bounds = &problem.low;
+    let answer = least(alloc, problem, limits, advisors)?;
+    keeps_answer(&answer);
+    Ok(answer)
+}
+
+/// The report of a design from the files of words: the text of an answer.
+///
+/// # Errors
+///
+/// `Stop`: a file failed or is too long, or the input has a fault; want of memory.
+pub fn design_report<'a, S: Shelf>(
+    alloc: Global,
+    words: FileWords<'a>,
+    limits: &Limits,
+    shelf: &mut S,
+    advisors: &mut Vec<Box<dyn Advisor>>,
+) -> Result<Report, Stop<'a>>
+    ensures read { Gave (S.gave shelf.old shelf.new)
+        (λ came. IsReadAs (outcome View.AsRequested (files_named words.entry)) came
+        (λ report d. MayDesign (bounds limits.now) d report.status (bytes_in report.text)) result) }
+    ensures advisors { AreCalled ⟦<dyn Advisor as Advisor>⟧ (λ b. b.vtable) (λ b. state b) advisors.old.items advisors.new.items }
+{
+    let problem = read_problem(alloc, View::AsRequested, words, shelf)?;
+    let answer = answer_to(alloc, &problem, limits, advisors)?;
+    Ok(report_of_answer(alloc, &answer)?)
+}

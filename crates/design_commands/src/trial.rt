@@ -1,0 +1,150 @@
+//! `trial`: a made trial, designed.
+ghost use Rattle.std.specs.Prelude.{◌≡◌, ◌≤◌, ◌<◌, ◌^◌, ◌++◌, ℕ, List, IfOk, codes, length};
+ghost use Rattle.std.specs.List.{sum};
+ghost use Rattle.cost_base.specs.Decimal.{decimal};
+ghost use Rattle.command_words.specs.Jobs.{bounds};
+ghost use Rattle.design_problem.specs.Text.{text};
+ghost use Rattle.design_problem.specs.Answers.{lines_in};
+ghost use Rattle.design_problem.specs.GivenCosts.{costs_given};
+ghost use Rattle.form_search.specs.Advised.{AreCalled};
+ghost use Rattle.input_files.specs.Readings.{Gave};
+ghost use Rattle.input_files.specs.Outcomes.{Input, outcome};
+ghost use Rattle.input_files.specs.Stops.{IsReadAs, files_named};
+ghost use Rattle.report_writer.specs.Reports.{Reports, bytes_in};
+ghost use Rattle.design_commands.specs.Designs.{IsAnswerTo, verdict_status};
+ghost use Rattle.design_commands.specs.Trials.{MayTrial, MayTry, costless_line, summary_line, trial_limits};
+
+use crate::case_files::{REQUEST, shelf_of, words_of};
+use crate::cost_sum::total_of;
+use crate::design::{answer_to, status_of};
+use crate::trial_line::{TrialCase, best_line, costless_line};
+use cost_base::{OutOfMemory, Shelf, Status};
+use cut_advisors::Advisor;
+use design_problem::{Answer, CostLine, Costs, Problem, Verdict};
+use evidence_text::text_of_answer;
+use input_files::{FileWords, Stop, View, read_problem};
+use report_writer::{Report, report_of};
+use std::alloc::Global;
+use text_lines::push_bytes;
+use trial_maker::make_trial;
+use wide_fraction::{Limits, Top};
+
+/// The limits of a trial: a budget of 100,000 entries, and numbers of 127 bits.
+fn trial_limits() -> Limits
+    ensures { bounds result ≡ trial_limits }
+{
+    let top = Top::new(127).unwrap();
+    Limits::new(100_000, top).unwrap()
+}
+
+/// The report of a trial without best costs: the summary line, and the answer's text behind it.
+fn costless_report(
+    alloc: Global,
+    trial: TrialCase,
+    verdict: &[u8],
+    answer: &Answer,
+) -> Result<Report, OutOfMemory>
+    requires { trial.blocks ≤ 125 }
+    ensures { IfOk result (Reports (verdict_status answer.now.verdict) (costless_line trial.blocks trial.start verdict.now ++ text answer.now)) }
+{
+    let mut text = costless_line(alloc, trial, verdict)?;
+    let behind = text_of_answer(alloc, answer)?;
+    push_bytes(&mut text, &behind)?;
+    Ok(Report::made(status_of(answer.verdict), text))
+}
+
+/// The cost lines of an answer; none where it has no costs.
+fn lines_of(costs: &Option<Costs>) -> &[CostLine]
+    ensures { result.now ≡ lines_in costs.now }
+{
+    match costs {
+        Some(costs) => costs.lines.as_slice(),
+        None => &[],
+    }
+}
+
+/// The report of a trial with best costs of this greatest cost: the summary line.
+fn best_report(
+    alloc: Global,
+    trial: TrialCase,
+    problem: &Problem,
+    greatest: u16,
+    lines: &[CostLine],
+) -> Result<Report, OutOfMemory>
+    requires few { trial.blocks ≤ 125 }
+    requires lines { length problem.now.vars ≡ length lines.now }
+    ensures { IfOk result (Reports Status.Done (summary_line trial.blocks trial.start (codes "optimal") (decimal greatest)
+        (decimal (sum (costs_given problem.now lines.now))))) }
+{
+    let total = total_of(alloc, problem, lines)?;
+    let line = best_line(alloc, trial, greatest, total)?;
+    Ok(Report::made(Status::Done, line))
+}
+
+/// The report of a trial by the answer to its problem.
+fn report_of_trial(
+    alloc: Global,
+    trial: TrialCase,
+    problem: &Problem,
+    answer: &Answer,
+) -> Result<Report, OutOfMemory>
+    requires few { trial.blocks ≤ 125 }
+    requires answered { IsAnswerTo trial_limits problem.now answer.now }
+    ensures { IfOk result (λ report. (d : Input) → d.problem ≡ problem.now → MayTry trial.blocks trial.start d report.status (bytes_in report.text)) }
+{
+    match answer.verdict {
+        Verdict::Optimal(greatest) => {
+            best_report(alloc, trial, problem, greatest, lines_of(&answer.costs))
+        }
+        Verdict::Impossible => costless_report(alloc, trial, b"impossible", answer),
+        Verdict::Undecided(_) => costless_report(alloc, trial, b"undecided", answer),
+    }
+}
+
+/// The report of a trial whose case's texts stand on a shelf.
+fn report_on_texts<'a, S: Shelf>(
+    alloc: Global,
+    trial: TrialCase,
+    words: FileWords<'a>,
+    shelf: &mut S,
+    advisors: &mut Vec<Box<dyn Advisor>>,
+) -> Result<Report, Stop<'a>>
+    requires { trial.blocks ≤ 125 }
+    ensures read { Gave (S.gave shelf.old shelf.new)
+        (λ came. IsReadAs (outcome View.AsRequested (files_named words.entry)) came
+        (λ report d. MayTry trial.blocks trial.start d report.status (bytes_in report.text)) result) }
+    ensures advisors { AreCalled ⟦<dyn Advisor as Advisor>⟧ (λ b. b.vtable) (λ b. state b) advisors.old.items advisors.new.items }
+{
+    let problem = read_problem(alloc, View::AsRequested, words, shelf)?;
+    let answer = answer_to(alloc, &problem, &trial_limits(), advisors)?;
+    Ok(report_of_trial(alloc, trial, &problem, &answer)?)
+}
+
+/// The report of a trial. No file is read: the texts of its case stand on a shelf of their own.
+///
+/// # Errors
+///
+/// `OutOfMemory`.
+pub fn trial_report(
+    alloc: Global,
+    trial: TrialCase,
+    advisors: &mut Vec<Box<dyn Advisor>>,
+) -> Result<Report, OutOfMemory>
+    requires some { 1 ≤ trial.blocks }
+    requires most { trial.blocks ≤ 125 }
+    requires start { trial.start < 2 ^ 31 }
+    ensures tried { IfOk result (λ report. MayTrial trial.blocks trial.start report.status (bytes_in report.text)) }
+    ensures advisors { AreCalled ⟦<dyn Advisor as Advisor>⟧ (λ b. b.vtable) (λ b. state b) advisors.old.items advisors.new.items }
+{
+    let case = make_trial(alloc, trial.blocks, trial.start)?;
+    let mut shelf = shelf_of(alloc, &case)?;
+    let configs = words_of(alloc, case.names.as_slice())?;
+    let words = FileWords {
+        request: REQUEST,
+        configs: configs.as_slice(),
+    };
+    report_of(
+        alloc,
+        report_on_texts(alloc, trial, words, &mut shelf, advisors),
+    )
+}

@@ -1,0 +1,33 @@
+use Rattle.std.proofs.Common.{◌+◌, ◌<◌, ◌∷◌, refl, sym, ◌∙◌, ap, subst, get_or, length, length-set, reverse, ℕ}
+use Rattle.design_problem.specs.declared.form.CostBox.{CostBox}
+use Rattle.design_problem.specs.declared.open_boxes.Change.{Change}
+use Rattle.design_problem.specs.declared.open_boxes.Change.TheVariants.{Low, Second}
+use Rattle.design_problem.specs.Stack.{waiting}
+use Rattle.design_problem.proofs.StackLaws.{waiting_pushed, second_next, popped_change, stack_popped, stack_pushed}
+use Rattle.design_problem.proofs.open_boxes.put_back.Goals as goal
+
+pub returns-in-Second-clause-next : goal.returns-in-Second-clause-next
+returns-in-Second-clause-next c =
+    let box = c.loop-change.costs in
+    let popped = c.pop.new.self.items in
+    sym c.loop-change.invariant.same
+    ∙ waiting_pushed box popped c.loop-change.changes.items c.in-Some.change c.in-Some.ensures.items
+    ∙ ap (λ (change : Change). waiting box (change ∷ reverse popped)) c.in-Second.is
+    ∙ second_next box c.set-in-Second-2.new.self c.set-in-Second.new.self popped c.push_reserved.new.self.items
+    c.in-Second.var c.in-Second.value c.in-Second.was (get_or c.as_slice.result.now c.in-Second.var 0)
+    c.set-in-Second.ensures c.set-in-Second-2.ensures c.push_reserved.ensures.items (ap (λ xs. get_or xs c.in-Second.var 0) c.as_slice.ensures)
+
+pub returns-in-Second-clause-stack : goal.returns-in-Second-clause-stack
+returns-in-Second-clause-stack c =
+    let box = c.loop-change.costs in
+    let popped = c.pop.new.self.items in
+    let var = c.in-Second.var in
+    let next : CostBox = record { low = c.set-in-Second-2.new.self; high = c.set-in-Second.new.self } in
+    let lows = ap length c.set-in-Second-2.ensures ∙ length-set box.low var (c.in-Second.value + 1) in
+    let highs = ap length c.set-in-Second.ensures ∙ length-set box.high var c.in-Second.was in
+    let change = popped_change box c.loop-change.changes.items popped c.in-Some.change
+    (Second var c.in-Second.value c.in-Second.was) c.in-Some.ensures.items c.in-Second.is
+    c.loop-change.invariant.stack in
+    let here = subst (λ (n : ℕ). var < n) (sym lows) change.0 in
+    stack_pushed next next popped c.push_reserved.new.self.items (Low var (get_or c.as_slice.result.now var 0)) c.push_reserved.ensures.items refl refl here
+    (stack_popped box next c.loop-change.changes.items popped c.in-Some.change c.in-Some.ensures.items lows highs c.loop-change.invariant.stack)

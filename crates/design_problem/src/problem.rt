@@ -1,0 +1,48 @@
+//! Problems of design.
+use area_graph::{Graph, Path};
+use cost_base::{Listed, Name};
+use std::marker::Model;
+
+/// A free interface: its router, its name, and the number of the variable that is its cost. The two ends of a
+/// symmetric link that are both free have one variable together.
+#[derive(Drop)]
+pub struct VarName {
+    pub router: Name,
+    pub interface: Name,
+    pub var: u32,
+}
+
+/// A wanted path: its start and edges, the vertex at its end, and the edges that its request takes away, by their
+/// numbers in rising order.
+#[derive(Drop)]
+pub struct Request {
+    pub path: Path,
+    pub end: u32,
+    pub excluded: Listed<u32>,
+}
+
+/// What is to be designed: a graph, its free interfaces in the order of the linked interfaces, a lower and an upper
+/// bound for each variable, and the wanted paths.
+///
+/// The type keeps that each path is a simple path of its request, that the edges that a request takes away rise
+/// strictly and are edges of the graph, that there are at most 1,000 variables with 1 <= low <= high and at most
+/// 10,000 paths, that each variable of the graph and of `vars` has bounds, that each variable stands in `vars`, and
+/// that each name is one word of at most 4,096 bytes. The fields are public: whoever writes a `Problem` proves this.
+#[derive(Drop)]
+pub struct Problem {
+    pub graph: Graph,
+    pub vars: Listed<VarName>,
+    pub low: Listed<u16>,
+    pub high: Listed<u16>,
+    pub paths: Listed<Request>,
+}
+
+impl Model for Problem {
+    ghost use Rattle.design_problem.specs.Problems.{DesignProblem, IsProblem};
+
+    ghost Value = { DesignProblem };
+
+    ghost view = { λ p. record { graph = p.graph; vars = p.vars; low = p.low; high = p.high; paths = p.paths } };
+
+    ghost invariant = { λ p. IsProblem (record { graph = p.graph; vars = p.vars; low = p.low; high = p.high; paths = p.paths }) };
+}

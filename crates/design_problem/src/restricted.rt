@@ -1,0 +1,104 @@
+//! The restricted problem of some requests.
+ghost use Rattle.std.specs.Prelude.{◌≡◌, ℕ, ◌<◌, length, map, All, IfOk};
+ghost use Rattle.std.specs.List.Sorted.{IsStrictlyIncreasing};
+ghost use Rattle.design_problem.specs.Problems.{request_at, restricted};
+
+use crate::{Problem, Request, VarName};
+use area_graph::Path;
+use cost_base::{Listed, Name, OutOfMemory};
+use std::alloc::Global;
+
+/// The same numbers.
+fn copied_numbers(alloc: Global, numbers: &[u32]) -> Result<Listed<u32>, OutOfMemory>
+    ensures { IfOk result (λ copy. copy ≡ numbers.now) }
+{
+    Ok(Listed::from_items(numbers.to_vec(alloc)?))
+}
+
+/// The same bounds.
+fn copied_bounds(alloc: Global, bounds: &[u16]) -> Result<Listed<u16>, OutOfMemory>
+    ensures { IfOk result (λ copy. copy ≡ bounds.now) }
+{
+    Ok(Listed::from_items(bounds.to_vec(alloc)?))
+}
+
+/// An equal request.
+fn copied_request(alloc: Global, request: &Request) -> Result<Request, OutOfMemory>
+    ensures { IfOk result (λ copy. copy ≡ request.now) }
+{
+    let edges = copied_numbers(alloc, request.path.edges.as_slice())?;
+    let excluded = copied_numbers(alloc, request.excluded.as_slice())?;
+    let start = request.path.start;
+    Ok(Request {
+        path: Path { start, edges },
+        end: request.end,
+        excluded,
+    })
+}
+
+/// An equal free interface.
+fn copied_name(alloc: Global, name: &VarName) -> Result<VarName, OutOfMemory>
+    ensures { IfOk result (λ copy. copy ≡ name.now) }
+{
+    let router = Name::from_bytes(alloc, name.router.as_bytes())?;
+    let interface = Name::from_bytes(alloc, name.interface.as_bytes())?;
+    Ok(VarName {
+        router,
+        interface,
+        var: name.var,
+    })
+}
+
+/// Equal free interfaces, in the same order.
+fn copied_names(alloc: Global, names: &[VarName]) -> Result<Vec<VarName>, OutOfMemory>
+    ensures { IfOk result (λ copies. copies.items ≡ names.now) }
+{
+    let mut copies = Vec::new(alloc);
+    for name in names {
+        copies.push(copied_name(alloc, name)?)?;
+    }
+    Ok(copies)
+}
+
+/// The requests of the members, in their order.
+fn requests_of(
+    alloc: Global,
+    requests: &[Request],
+    members: &[u32],
+) -> Result<Vec<Request>, OutOfMemory>
+    requires { All (λ m. m < length requests.now) members.now }
+    ensures { IfOk result (λ kept. kept.items ≡ map (request_at requests.now) members.now) }
+{
+    let mut kept = Vec::new(alloc);
+    for member in members {
+        kept.push(copied_request(alloc, &requests[*member as usize])?)?;
+    }
+    Ok(kept)
+}
+
+impl Problem {
+    /// The restricted problem of the members, which are numbers of requests in rising order: the same graph, variables
+    /// and bounds, and only those requests.
+    ///
+    /// # Errors
+    ///
+    /// `OutOfMemory`.
+    pub fn only(&self, alloc: Global, members: &[u32]) -> Result<Problem, OutOfMemory>
+        requires rising { IsStrictlyIncreasing members.now }
+        requires known { All (λ m. m < length self.now.paths) members.now }
+        ensures { IfOk result (λ problem. problem ≡ restricted self.now members.now) }
+    {
+        let paths = requests_of(alloc, self.paths.as_slice(), members)?;
+        let vars = copied_names(alloc, self.vars.as_slice())?;
+        let low = copied_bounds(alloc, self.low.as_slice())?;
+        let high = copied_bounds(alloc, self.high.as_slice())?;
+        let graph = self.graph.copy(alloc)?;
+        Ok(Problem {
+            graph,
+            vars: Listed::from_items(vars),
+            low,
+            high,
+            paths: Listed::from_items(paths),
+        })
+    }
+}

@@ -1,0 +1,133 @@
+-- What each command makes is as what came of its files says.
+use Rattle.std.proofs.Common.{refl, ap, []}
+use Rattle.form_search.proofs.AdvisorLaws.{left_alike}
+use Rattle.text_lines.specs.Arguments.{texts}
+use Rattle.command_words.specs.Jobs.{bounds}
+use Rattle.command_words.specs.Jobs as read
+use Rattle.input_files.specs.declared.problem.View.TheVariants.{AsRequested, AtPresent}
+use Rattle.input_files.specs.Outcomes.{outcome}
+use Rattle.input_files.specs.Stops.{files_named}
+use Rattle.design_commands.specs.Designs.{MayDesign}
+use Rattle.design_commands.specs.TotalRuns.{MayTotal}
+use Rattle.path_commands.specs.Audits.{MayAudit}
+use Rattle.path_commands.specs.Conflicts.{MayConflict}
+use Rattle.path_commands.specs.SetFiles.{spread_read}
+use Rattle.path_commands.specs.Spreads.{MaySpread}
+use Rattle.evidence_commands.specs.Checks.{MayCheck, claim_read}
+use Rattle.database_commands.specs.Lsas.{MayLsas, identified_read}
+use Rattle.designer_command.specs.Runs.{input_files_of}
+use Rattle.designer_command.proofs.Runs.{files_made, job_made}
+use Rattle.designer_command.proofs.dispatch.job_report.Goals as goal
+
+pub returns-in-Design-clause-made : goal.returns-in-Design-clause-made
+returns-in-Design-clause-made g c =
+    let given = g.S.Shelf.gave c.args.shelf.now c.design_report.new.shelf in
+    let limits = bounds c.in-Design.search.limits in
+    job_made given c.args.job.now
+    (read.Design (record { request = c.deref.result.now; limits = limits; configs = texts c.deref-in-Design.result.now }))
+    c.design_report.result (rw (c.in-Design.is, c.deref.ensures, c.deref-in-Design.ensures.value) refl)
+    (files_made given (outcome AsRequested) (MayDesign limits) c.design_report.result (files_named c.files-words.result)
+    (input_files_of c.deref.result.now (texts c.deref-in-Design.result.now)) c.files-words.ensures c.design_report.ensures.read)
+
+pub returns-in-Check-clause-made : goal.returns-in-Check-clause-made
+returns-in-Check-clause-made g c =
+    let given = g.S.Shelf.gave c.args.shelf.now c.check_report.new.shelf in
+    job_made given c.args.job.now
+    (read.Check c.deref-in-Check.result.now c.deref-in-Check-3.result.now (texts c.deref-in-Check-2.result.now))
+    c.check_report.result
+    (rw (c.in-Check.is, c.deref-in-Check.ensures, c.deref-in-Check-3.ensures, c.deref-in-Check-2.ensures.value) refl)
+    (files_made given (λ names. claim_read names c.deref-in-Check-3.result.now) MayCheck c.check_report.result
+    (files_named c.files.result) (input_files_of c.deref-in-Check.result.now (texts c.deref-in-Check-2.result.now))
+    c.files.ensures c.check_report.ensures)
+
+pub returns-in-Check-clause-advisors : goal.returns-in-Check-clause-advisors
+returns-in-Check-clause-advisors g c = left_alike _ _ _ refl
+
+pub returns-in-Audit-clause-made : goal.returns-in-Audit-clause-made
+returns-in-Audit-clause-made g c =
+    let given = g.S.Shelf.gave c.args.shelf.now c.audit_report.new.shelf in
+    job_made given c.args.job.now (read.Audit c.deref-in-Audit.result.now (texts c.deref-in-Audit-2.result.now))
+    c.audit_report.result (rw (c.in-Audit.is, c.deref-in-Audit.ensures, c.deref-in-Audit-2.ensures.value) refl)
+    (files_made given (outcome AtPresent) MayAudit c.audit_report.result (files_named c.files-in-Audit.result)
+    (input_files_of c.deref-in-Audit.result.now (texts c.deref-in-Audit-2.result.now)) c.files-in-Audit.ensures
+    c.audit_report.ensures)
+
+pub returns-in-Audit-clause-advisors : goal.returns-in-Audit-clause-advisors
+returns-in-Audit-clause-advisors g c = left_alike _ _ _ refl
+
+pub returns-in-Rewrite-clause-made : goal.returns-in-Rewrite-clause-made
+returns-in-Rewrite-clause-made g c =
+    job_made (g.S.Shelf.gave c.args.shelf.now c.rewrite_report.new.shelf) c.args.job.now
+    (read.Rewrite c.deref-in-Rewrite.result.now c.deref-in-Rewrite-2.result.now) c.rewrite_report.result
+    (rw (c.in-Rewrite.is, c.deref-in-Rewrite.ensures, c.deref-in-Rewrite-2.ensures) refl) c.rewrite_report.ensures
+
+pub returns-in-Rewrite-clause-advisors : goal.returns-in-Rewrite-clause-advisors
+returns-in-Rewrite-clause-advisors g c = left_alike _ _ _ refl
+
+pub returns-in-Trial-clause-made : goal.returns-in-Trial-clause-made
+returns-in-Trial-clause-made g c =
+    let given = g.S.Shelf.gave c.args.shelf.now c.args.shelf.now in
+    job_made given c.args.job.now (read.Trial c.in-Trial.blocks c.in-Trial.start) c.made_trial.result
+    (ap read.seen c.in-Trial.is)
+    (record { came = []; given = g.met.S.Shelf.gave_none c.args.shelf.now; so = (refl, c.made_trial.ensures.made) })
+
+pub returns-in-Conflict-clause-made : goal.returns-in-Conflict-clause-made
+returns-in-Conflict-clause-made g c =
+    let given = g.S.Shelf.gave c.args.shelf.now c.conflict_report.new.shelf in
+    let limits = bounds c.in-Conflict.search.limits in
+    job_made given c.args.job.now
+    (read.Conflict (record { request = c.deref-in-Conflict.result.now; limits = limits; configs = texts c.deref-in-Conflict-2.result.now }))
+    c.conflict_report.result (rw (c.in-Conflict.is, c.deref-in-Conflict.ensures, c.deref-in-Conflict-2.ensures.value) refl)
+    (files_made given (outcome AsRequested) (MayConflict limits) c.conflict_report.result
+    (files_named c.files-words-in-Conflict.result)
+    (input_files_of c.deref-in-Conflict.result.now (texts c.deref-in-Conflict-2.result.now)) c.files-words-in-Conflict.ensures
+    c.conflict_report.ensures.read)
+
+pub returns-in-Spread-clause-made : goal.returns-in-Spread-clause-made
+returns-in-Spread-clause-made g c =
+    let given = g.S.Shelf.gave c.args.shelf.now c.spread_report.new.shelf in
+    let limits = bounds c.in-Spread.search.limits in
+    job_made given c.args.job.now
+    (read.Spread (record { request = c.deref-in-Spread.result.now; limits = limits; configs = texts c.deref-in-Spread-2.result.now })
+    c.deref-in-Spread-3.result.now)
+    c.spread_report.result
+    (rw (c.in-Spread.is, c.deref-in-Spread.ensures, c.deref-in-Spread-2.ensures.value, c.deref-in-Spread-3.ensures) refl)
+    (files_made given (λ names. spread_read names c.deref-in-Spread-3.result.now) (MaySpread limits)
+    c.spread_report.result (files_named c.files-words-in-Spread.result)
+    (input_files_of c.deref-in-Spread.result.now (texts c.deref-in-Spread-2.result.now)) c.files-words-in-Spread.ensures
+    c.spread_report.ensures)
+
+pub returns-in-Spread-clause-advisors : goal.returns-in-Spread-clause-advisors
+returns-in-Spread-clause-advisors g c = left_alike _ _ _ refl
+
+pub returns-in-Total-clause-made : goal.returns-in-Total-clause-made
+returns-in-Total-clause-made g c =
+    let given = g.S.Shelf.gave c.args.shelf.now c.total_report.new.shelf in
+    let limits = bounds c.in-Total.search.limits in
+    job_made given c.args.job.now
+    (read.Total (record { request = c.deref-in-Total.result.now; limits = limits; configs = texts c.deref-in-Total-2.result.now }))
+    c.total_report.result (rw (c.in-Total.is, c.deref-in-Total.ensures, c.deref-in-Total-2.ensures.value) refl)
+    (files_made given (outcome AsRequested) (MayTotal limits) c.total_report.result (files_named c.files-words-in-Total.result)
+    (input_files_of c.deref-in-Total.result.now (texts c.deref-in-Total-2.result.now)) c.files-words-in-Total.ensures
+    c.total_report.ensures.read)
+
+pub returns-in-Lsas-clause-made : goal.returns-in-Lsas-clause-made
+returns-in-Lsas-clause-made g c =
+    let given = g.S.Shelf.gave c.args.shelf.now c.lsas_report.new.shelf in
+    job_made given c.args.job.now (read.Lsas c.deref-in-Lsas.result.now (texts c.deref-in-Lsas-2.result.now))
+    c.lsas_report.result (rw (c.in-Lsas.is, c.deref-in-Lsas.ensures, c.deref-in-Lsas-2.ensures.value) refl)
+    (files_made given identified_read MayLsas c.lsas_report.result (files_named c.files-in-Lsas.result)
+    (input_files_of c.deref-in-Lsas.result.now (texts c.deref-in-Lsas-2.result.now)) c.files-in-Lsas.ensures
+    c.lsas_report.ensures)
+
+pub returns-in-Lsas-clause-advisors : goal.returns-in-Lsas-clause-advisors
+returns-in-Lsas-clause-advisors g c = left_alike _ _ _ refl
+
+pub returns-in-Route-clause-made : goal.returns-in-Route-clause-made
+returns-in-Route-clause-made g c =
+    job_made (g.S.Shelf.gave c.args.shelf.now c.route_report.new.shelf) c.args.job.now
+    (read.Route c.deref-in-Route.result.now c.in-Route.from c.in-Route.to) c.route_report.result
+    (rw (c.in-Route.is, c.deref-in-Route.ensures) refl) c.route_report.ensures
+
+pub returns-in-Route-clause-advisors : goal.returns-in-Route-clause-advisors
+returns-in-Route-clause-advisors g c = left_alike _ _ _ refl

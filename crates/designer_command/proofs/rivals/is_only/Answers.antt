@@ -1,9 +1,0 @@
--- Without a cheaper rival, and only then, the path is only cheapest.
-use Rattle.path_rows.specs.Problems.{ends_of}
-use Rattle.designer_command.proofs.OnlyCheapest.{only_by_rival}
-use Rattle.designer_command.proofs.rivals.is_only.Goals as goal
-
-pub returns-clause-only : goal.returns-clause-only
-returns-clause-only c =
-    only_by_rival c.args.graph.now c.args.point.now (ends_of c.args.request.now) c.args.request.now.path.edges
-    c.find_rival.new.room.path c.find_rival.result c.requires.whole c.requires.path c.find_rival.ensures.rival

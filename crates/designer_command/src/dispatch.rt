@@ -1,0 +1,83 @@
+//! From a job to its report: each command's function stands in the crate of its kind.
+ghost use Rattle.std.specs.Prelude.{◌≡◌, ◌≤◌, ◌<◌, ◌^◌};
+ghost use Rattle.form_search.specs.Advised.{AreCalled};
+ghost use Rattle.text_lines.specs.Arguments.{texts};
+ghost use Rattle.command_words.specs.Jobs.{IsInRange, seen};
+ghost use Rattle.input_files.specs.Readings.{Gave};
+ghost use Rattle.input_files.specs.Stops.{files_named};
+ghost use Rattle.designer_command.specs.Runs.{IsMadeAs, IsTried, input_files_of};
+
+use command_words::Job;
+use cost_base::Shelf;
+use cut_advisors::Advisor;
+use database_commands::{lsas_report, route_report};
+use design_commands::{TrialCase, design_report, total_report, trial_report};
+use evidence_commands::{check_report, rewrite_report};
+use input_files::{FileWords, Stop};
+use path_commands::{audit_report, conflict_report, spread_report};
+use report_writer::Report;
+use std::alloc::Global;
+
+/// The files of a request and of configurations.
+fn files<'a>(request: &'a str, configs: &'a [String]) -> FileWords<'a>
+    ensures { files_named result ≡ input_files_of request.now (texts configs.now) }
+{
+    FileWords { request, configs }
+}
+
+/// What `trial` makes: no file is read, and only want of memory stops it.
+fn made_trial<'a>(
+    alloc: Global,
+    blocks: u32,
+    start: u32,
+    advisors: &mut Vec<Box<dyn Advisor>>,
+) -> Result<Report, Stop<'a>>
+    requires some { 1 ≤ blocks }
+    requires most { blocks ≤ 125 }
+    requires start { start < 2 ^ 31 }
+    ensures made { IsTried blocks start result }
+    ensures advisors { AreCalled ⟦<dyn Advisor as Advisor>⟧ (λ b. b.vtable) (λ b. state b) advisors.old.items advisors.new.items }
+{
+    Ok(trial_report(alloc, TrialCase { blocks, start }, advisors)?)
+}
+
+/// What a job's command makes: its report, or what stopped it.
+pub(crate) fn job_report<'a, S: Shelf>(
+    alloc: Global,
+    job: &'a Job,
+    shelf: &mut S,
+    advisors: &mut Vec<Box<dyn Advisor>>,
+) -> Result<Report, Stop<'a>>
+    requires { IsInRange (seen job.now) }
+    ensures made { Gave (S.gave shelf.old shelf.new) (λ came. IsMadeAs (seen job.now) came result) }
+    ensures advisors { AreCalled ⟦<dyn Advisor as Advisor>⟧ (λ b. b.vtable) (λ b. state b) advisors.old.items advisors.new.items }
+{
+    match job {
+        Job::Design(search) => {
+            let words = files(&search.request, &search.configs);
+            design_report(alloc, words, &search.limits, shelf, advisors)
+        }
+        Job::Check {
+            request,
+            answer,
+            configs,
+        } => check_report(alloc, files(request, configs), answer, shelf),
+        Job::Audit { request, configs } => audit_report(alloc, files(request, configs), shelf),
+        Job::Rewrite { answer, config } => rewrite_report(alloc, answer, config, shelf),
+        Job::Trial { blocks, start } => made_trial(alloc, *blocks, *start, advisors),
+        Job::Conflict(search) => {
+            let words = files(&search.request, &search.configs);
+            conflict_report(alloc, words, &search.limits, shelf, advisors)
+        }
+        Job::Spread { search, sets } => {
+            let words = files(&search.request, &search.configs);
+            spread_report(alloc, words, sets, &search.limits, shelf)
+        }
+        Job::Total(search) => {
+            let words = files(&search.request, &search.configs);
+            total_report(alloc, words, &search.limits, shelf, advisors)
+        }
+        Job::Lsas { request, configs } => lsas_report(alloc, files(request, configs), shelf),
+        Job::Route { lsas, from, to } => route_report(alloc, lsas, *from, *to, shelf),
+    }
+}

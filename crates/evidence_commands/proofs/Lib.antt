@@ -1,0 +1,4 @@
+pub mod Judged
+pub mod Revisions
+pub mod OwnLines
+pub mod FewLines

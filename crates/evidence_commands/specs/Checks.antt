@@ -1,0 +1,98 @@
+-- What a check says of an answer's file.
+use Rattle.std.specs.Prelude.{◌≡◌, ℕ, ◌⊎◌, List, [], ◌∷◌, All, codes}
+use Rattle.cost_base.specs.Decimal.{decimal}
+use Rattle.cost_base.specs.declared.Status.{Status}
+use Rattle.cost_base.specs.declared.Status.TheVariants as status
+use Rattle.cost_base.specs.Order.{FirstOf}
+use Rattle.design_problem.specs.Problems.{DesignProblem}
+use Rattle.design_problem.specs.Answers.{AnswerParts, IsValid}
+use Rattle.design_problem.specs.ProblemLaws.{IsTrueVerdict}
+use Rattle.design_problem.specs.Text.{text}
+use Rattle.answer_lines.specs.Grammar.{AtHead}
+use Rattle.evidence_reader.specs.declared.stop.AnswerFault.{AnswerFault}
+use Rattle.evidence_reader.specs.Refusals.{IsTextRefused, number_of}
+use Rattle.evidence_text.specs.AnswerValues.{IsAnswerValue}
+use Rattle.evidence_reader.specs.Laws.{IsNoValidText}
+use Rattle.evidence_checker.specs.declared.stop.Accepted.{Accepted as Acceptance}
+use Rattle.evidence_checker.specs.declared.stop.Accepted.TheVariants.{Optimal, Impossible}
+use Rattle.evidence_checker.specs.Laws.{IsAcceptedAs}
+use Rattle.evidence_checker.specs.Tests.{tests}
+use Rattle.evidence_commands.specs.declared.check.Judgement.{Judgement}
+use Rattle.evidence_commands.specs.declared.check.Judgement.TheVariants.{Accepted, Rejected}
+use Rattle.evidence_commands.specs.declared.rejection.Rejection.{Rejection}
+use Rattle.input_files.specs.declared.problem.View.TheVariants.{AsRequested}
+use Rattle.input_files.specs.Inputs.{InputFiles}
+use Rattle.input_files.specs.Readings.{Reading, Ready, ◌>>=◌}
+use Rattle.input_files.specs.Outcomes.{outcome, file_read, longest_answer}
+use Rattle.report_writer.specs.declared.report.Report.{Report}
+use Rattle.report_writer.specs.Reports.{Reports}
+use Rattle.report_writer.specs.Texts.{line_of_words}
+
+-- what is checked: the bytes of an answer's file, as the text of an answer to a problem
+pub record Claim : Type 0 where
+  pub problem : DesignProblem
+  pub bytes : List ℕ
+
+-- what the files of a check say, read in their order: those of the problem, and then the answer's
+abbrev pub claim_read : InputFiles → List ℕ → Reading Claim
+claim_read names answer =
+    outcome AsRequested names >>= λ d.
+    file_read longest_answer answer >>= λ bytes.
+    Ready (record { problem = d.problem; bytes = bytes })
+
+-- the bytes are the text of an answer; a text says no start of its rows' rivals, which stand at 0
+pub record IsTextOf (bytes : List ℕ) (answer : AnswerParts) : Type 0 where
+  pub spelled : bytes ≡ text answer
+  pub value : IsAnswerValue answer
+  pub starts : All (λ row. row.rival.start ≡ 0) answer.rows
+
+-- the bytes are the text of a valid answer, and what its verdict claims is true
+pub record IsAccepted (claim : Claim) (acceptance : Acceptance) : Type 0 where
+  pub answer : AnswerParts
+  pub said : IsTextOf claim.bytes answer
+  pub valid : IsValid claim.problem answer
+  pub holds : IsTrueVerdict claim.problem answer.verdict answer.costs
+  pub claimed : IsAcceptedAs answer.verdict acceptance
+
+-- the bytes are the text of an answer that isn't valid: the first of the checker's tests that is met, with its place
+pub record IsInvalid (claim : Claim) (rejection : Rejection) : Type 0 where
+  pub answer : AnswerParts
+  pub said : IsTextOf claim.bytes answer
+  pub first : FirstOf (tests claim.problem answer) (record { number = rejection.number; place = rejection.place })
+  pub invalid : IsValid claim.problem answer → ⊥
+
+-- the bytes are off the grammar of answers, by the first line that is at fault
+pub record IsOffGrammar (bytes : List ℕ) (rejection : Rejection) : Type 0 where
+  pub fault : AnswerFault
+  pub refused : IsTextRefused AtHead 0 bytes fault rejection.place
+  pub number : rejection.number ≡ number_of fault
+
+-- the bytes are no valid answer's text: they are off the grammar of answers, or their answer isn't valid
+pub record IsRejected (claim : Claim) (rejection : Rejection) : Type 0 where
+  pub cause : IsOffGrammar claim.bytes rejection ⊎ IsInvalid claim rejection
+  pub never : IsNoValidText claim.problem claim.bytes
+
+-- what a check of these comes to
+abbrev pub IsJudged : Claim → Judgement → Type 0
+IsJudged claim (Accepted acceptance) = IsAccepted claim acceptance
+IsJudged claim (Rejected rejection) = IsRejected claim rejection
+
+-- `accepted optimal K` or `accepted impossible`
+abbrev pub accepted_line : Acceptance → List ℕ
+accepted_line (Optimal k) = line_of_words (codes "accepted" ∷ codes "optimal" ∷ decimal k ∷ [])
+accepted_line Impossible = line_of_words (codes "accepted" ∷ codes "impossible" ∷ [])
+
+-- `rejected NUMBER PLACE`
+abbrev pub rejected_line : Rejection → List ℕ
+rejected_line r = line_of_words (codes "rejected" ∷ decimal r.number ∷ decimal r.place ∷ [])
+
+-- `check`: a valid answer is accepted, and exactly that; else its text or its evidence is refused, by the first fault
+abbrev pub MayCheck : Claim → Status → List ℕ → Type 0
+MayCheck claim status.Done bytes = (acceptance : Acceptance) × IsAccepted claim acceptance × (bytes ≡ accepted_line acceptance)
+MayCheck claim status.EvidenceRefused bytes = (rejection : Rejection) × IsRejected claim rejection × (bytes ≡ rejected_line rejection)
+MayCheck claim end bytes = ⊥
+
+-- the report of what a check came to
+abbrev pub ReportsJudgement : Judgement → Report → Type 0
+ReportsJudgement (Accepted accepted) report = Reports status.Done (accepted_line accepted) report
+ReportsJudgement (Rejected rejection) report = Reports status.EvidenceRefused (rejected_line rejection) report

@@ -1,0 +1,12 @@
+//! The commands on answers' files: a check against a problem, and a rewrite of a configuration.
+#![tactic(auto)]
+
+mod check;
+mod own_lines;
+mod rejection;
+mod rewrite;
+mod verdict_lines;
+
+pub use check::check_report;
+pub use rejection::Rejection;
+pub use rewrite::rewrite_report;

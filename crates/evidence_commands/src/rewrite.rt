@@ -1,0 +1,154 @@
+//! `rewrite`: a configuration with the costs of an answer's file.
+ghost use Rattle.std.specs.Prelude.{◌≡◌, ◌-◌, ◌^◌, ◌<◌, ◌≤◌, ℕ, List, All, Some, IfOk, length};
+ghost use Rattle.design_problem.specs.Answers.{AnswerParts};
+ghost use Rattle.design_problem.specs.declared.answer.Costs.{Costs};
+ghost use Rattle.design_problem.specs.Text.{FitsCostLine};
+ghost use Rattle.config_writer.specs.Rewriting.{TellsMissing, first_missing};
+ghost use Rattle.input_files.specs.Readings.{Gave};
+ghost use Rattle.input_files.specs.Outcomes.{longest_answer};
+ghost use Rattle.input_files.specs.Stops.{IsReadAs};
+ghost use Rattle.evidence_commands.specs.Checks.{IsTextOf};
+ghost use Rattle.report_writer.specs.Reports.{bytes_in};
+ghost use Rattle.evidence_commands.specs.Rewrites.{HasFewLines, IsRevised, MayRewrite, ReportsRevised, Revision, new_costs, revision_read};
+
+use crate::own_lines::last_lines;
+use crate::rejection::{Rejection, rejection_of_text};
+use crate::verdict_lines::rejected_line_of;
+use config_writer::{RewriteStop, rewrite};
+use cost_base::{OutOfMemory, Shelf, Status};
+use design_problem::{Answer, CostLine};
+use evidence_checker::CheckFault;
+use evidence_reader::read_answer;
+use evidence_text::keeps_answer;
+use input_files::{ConfigText, Stop, read_answer_file, read_config_text};
+use report_writer::Report;
+use std::alloc::Global;
+
+/// What a rewrite of a configuration comes to.
+#[derive(Drop)]
+pub(crate) enum Revised {
+    /// The configuration with the new costs.
+    Written(Vec<u8>),
+    /// The answer's text is off the grammar, or it gives the configuration no costs.
+    Rejected(Rejection),
+}
+
+/// Why an answer without costs is rejected: it claims nothing that a configuration could take.
+const NO_COSTS: CheckFault = CheckFault::NothingClaimed;
+
+/// Why an answer is rejected of which an interface has no head in the configuration.
+const NO_HEAD: CheckFault = CheckFault::WrongPlaces;
+
+/// What a configuration that wasn't rewritten comes to.
+fn unwritten(stop: RewriteStop) -> Result<Revised, OutOfMemory>
+    ensures { (r : Revision) (answer : AnswerParts) (costs : Costs) → IsTextOf r.bytes answer → answer.costs ≡ Some costs →
+        TellsMissing (first_missing (new_costs r.config costs.lines) r.config.bytes) stop → IfOk result (IsRevised r) }
+{
+    match stop {
+        RewriteStop::NoInterface(_) => Ok(Revised::Rejected(Rejection {
+            number: NO_HEAD.number(),
+            place: 0,
+        })),
+        RewriteStop::OutOfMemory => Err(OutOfMemory),
+    }
+}
+
+/// What a rewrite with the lines of an answer comes to.
+fn revised_by_lines(
+    alloc: Global,
+    config: &ConfigText<'_>,
+    lines: &[CostLine],
+) -> Result<Revised, OutOfMemory>
+    requires few { length lines.now < 2 ^ 32 - 1 }
+    requires fit { All FitsCostLine lines.now }
+    ensures { (bytes : List ℕ) (answer : AnswerParts) (costs : Costs) → IsTextOf bytes answer → answer.costs ≡ Some costs →
+        costs.lines ≡ lines.now → IfOk result (IsRevised (record { config = config.now; bytes = bytes })) }
+{
+    let own = last_lines(alloc, &config.said().name, lines)?;
+    match rewrite(alloc, config.name, &config.bytes, &own) {
+        Ok(text) => Ok(Revised::Written(text)),
+        Err(stop) => unwritten(stop),
+    }
+}
+
+/// What a rewrite with an answer comes to.
+fn revised_by_answer(
+    alloc: Global,
+    config: &ConfigText<'_>,
+    answer: &Answer,
+) -> Result<Revised, OutOfMemory>
+    requires { HasFewLines answer.now.costs }
+    ensures { (bytes : List ℕ) → IsTextOf bytes answer.now → IfOk result (IsRevised (record { config = config.now; bytes = bytes })) }
+{
+    match &answer.costs {
+        Some(costs) => revised_by_lines(alloc, config, costs.lines.as_slice()),
+        None => Ok(Revised::Rejected(Rejection {
+            number: NO_COSTS.number(),
+            place: 0,
+        })),
+    }
+}
+
+/// What a rewrite with the text of an answer comes to.
+fn revised_by_text(
+    alloc: Global,
+    config: &ConfigText<'_>,
+    bytes: &[u8],
+) -> Result<Revised, OutOfMemory>
+    requires { length bytes.now ≤ longest_answer }
+    ensures { IfOk result (IsRevised (record { config = config.now; bytes = bytes.now })) }
+{
+    match read_answer(alloc, bytes) {
+        Ok(answer) => {
+            keeps_answer(&answer);
+            revised_by_answer(alloc, config, &answer)
+        }
+        Err(stop) => Ok(Revised::Rejected(rejection_of_text(stop)?)),
+    }
+}
+
+/// What a rewrite of a configuration with an answer's file comes to.
+fn rewrite_files<'a, S: Shelf>(
+    alloc: Global,
+    answer: &'a str,
+    config: &'a str,
+    shelf: &mut S,
+) -> Result<Revised, Stop<'a>>
+    ensures { Gave (S.gave shelf.old shelf.new) (λ came. IsReadAs (revision_read config.now answer.now) came
+        (λ revised revision. IsRevised revision revised) result) }
+{
+    let text = read_config_text(alloc, shelf, config)?;
+    let bytes = read_answer_file(alloc, shelf, answer)?;
+    Ok(revised_by_text(alloc, &text, &bytes)?)
+}
+
+/// The report of what a rewrite came to.
+fn report_of_revised(alloc: Global, revised: Revised) -> Result<Report, OutOfMemory>
+    ensures { IfOk result (ReportsRevised revised) }
+{
+    match revised {
+        Revised::Written(text) => Ok(Report::made(Status::Done, text)),
+        Revised::Rejected(rejection) => {
+            let text = rejected_line_of(alloc, rejection)?;
+            Ok(Report::made(Status::EvidenceRefused, text))
+        }
+    }
+}
+
+/// The report of a rewrite of a configuration with an answer's file: its new text, or why it has none.
+///
+/// # Errors
+///
+/// `Stop`: a file failed or is too long, or the configuration has a fault; want of memory.
+pub fn rewrite_report<'a, S: Shelf>(
+    alloc: Global,
+    answer: &'a str,
+    config: &'a str,
+    shelf: &mut S,
+) -> Result<Report, Stop<'a>>
+    ensures { Gave (S.gave shelf.old shelf.new) (λ came. IsReadAs (revision_read config.now answer.now) came
+        (λ report revision. MayRewrite revision report.status (bytes_in report.text)) result) }
+{
+    let revised = rewrite_files(alloc, answer, config, shelf)?;
+    Ok(report_of_revised(alloc, revised)?)
+}

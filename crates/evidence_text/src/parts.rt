@@ -1,0 +1,115 @@
+//! The parts of an answer's text behind a text.
+ghost use Rattle.std.specs.Prelude.{◌≡◌, ◌++◌, Some, IfOk, OnOk};
+ghost use Rattle.std.specs.Option.{option_copied};
+ghost use Rattle.design_problem.specs.Text.{text, costs_lines, tree_lines};
+ghost use Rattle.text_lines.specs.Lines.{with_ends};
+ghost use Rattle.evidence_text.specs.Lines.{AreShort};
+ghost use Rattle.evidence_text.specs.Parts.{rows_lines, part_word};
+
+use crate::text_buffer::TextBuffer;
+use crate::{TreePart, put_answer, put_costs, put_rows, put_tree};
+use cost_base::{OutOfMemory, PutFailed};
+use design_problem::{Answer, CapTree, Costs, Row};
+use std::alloc::Global;
+use std::mem::replace;
+
+/// The text of an answer.
+///
+/// # Errors
+///
+/// `OutOfMemory`.
+pub fn text_of_answer(alloc: Global, answer: &Answer) -> Result<Vec<u8>, OutOfMemory>
+    ensures { IfOk result (λ bytes. bytes.items ≡ text answer.now) }
+{
+    let mut buffer = TextBuffer::from_bytes(Vec::new(alloc));
+    match put_answer(answer, &mut buffer) {
+        Ok(()) => Ok(buffer.bytes),
+        Err(PutFailed) => Err(OutOfMemory),
+    }
+}
+
+/// Adds the lines of costs at the end, as the text of an answer has them.
+///
+/// # Errors
+///
+/// `OutOfMemory`.
+pub fn push_costs(
+    alloc: Global,
+    text: &mut Vec<u8>,
+    costs: Option<&Costs>,
+) -> Result<(), OutOfMemory>
+    requires { AreShort (costs_lines (option_copied costs)) }
+    ensures { OnOk result (text.new.items ≡ text.old.items ++ with_ends (costs_lines (option_copied costs.entry))) }
+{
+    let mut buffer = TextBuffer::from_bytes(replace(text, Vec::new(alloc)));
+    match put_costs(costs, &mut buffer) {
+        Ok(()) => {
+            *text = buffer.bytes;
+            Ok(())
+        }
+        Err(PutFailed) => Err(OutOfMemory),
+    }
+}
+
+/// Adds the lines of rows at the end, as the text of an answer has them.
+///
+/// # Errors
+///
+/// `OutOfMemory`.
+pub fn push_rows(alloc: Global, text: &mut Vec<u8>, rows: &[Row]) -> Result<(), OutOfMemory>
+    requires { AreShort (rows_lines rows.now) }
+    ensures { OnOk result (text.new.items ≡ text.old.items ++ with_ends (rows_lines rows.now)) }
+{
+    let mut buffer = TextBuffer::from_bytes(replace(text, Vec::new(alloc)));
+    match put_rows(rows, &mut buffer) {
+        Ok(()) => {
+            *text = buffer.bytes;
+            Ok(())
+        }
+        Err(PutFailed) => Err(OutOfMemory),
+    }
+}
+
+/// Adds the lines of a tree at the end, as the text of an answer has them in this part.
+///
+/// # Errors
+///
+/// `OutOfMemory`.
+pub fn push_tree(
+    alloc: Global,
+    text: &mut Vec<u8>,
+    part: TreePart,
+    tree: Option<&CapTree>,
+) -> Result<(), OutOfMemory>
+    requires { AreShort (tree_lines (part_word part) (option_copied tree)) }
+    ensures { OnOk result (text.new.items ≡ text.old.items ++ with_ends (tree_lines (part_word part) (option_copied tree.entry))) }
+{
+    let mut buffer = TextBuffer::from_bytes(replace(text, Vec::new(alloc)));
+    match put_tree(part, tree, &mut buffer) {
+        Ok(()) => {
+            *text = buffer.bytes;
+            Ok(())
+        }
+        Err(PutFailed) => Err(OutOfMemory),
+    }
+}
+
+/// Adds the lines of rows at the end, and behind them those of a tree, as the text of an answer has them in this part.
+///
+/// # Errors
+///
+/// `OutOfMemory`.
+pub fn push_evidence(
+    alloc: Global,
+    text: &mut Vec<u8>,
+    rows: &[Row],
+    part: TreePart,
+    tree: &CapTree,
+) -> Result<(), OutOfMemory>
+    requires rows { AreShort (rows_lines rows.now) }
+    requires tree { AreShort (tree_lines (part_word part) (Some tree.now)) }
+    ensures { OnOk result (text.new.items ≡ text.old.items ++ with_ends (rows_lines rows.now ++ tree_lines (part_word part) (Some tree.now))) }
+{
+    push_rows(alloc, text, rows)?;
+    push_tree(alloc, text, part, Some(tree))
+}

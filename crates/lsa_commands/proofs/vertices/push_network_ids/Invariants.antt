@@ -1,7 +1,0 @@
--- with the LSAs that are left it is what all of them add
-use Rattle.std.proofs.Common.{◌≡◌, ◌++◌, drop}
-use Rattle.lsa_commands.specs.Routes.{network_ids}
-use Rattle.lsa_commands.proofs.vertices.push_network_ids.Given as goal
-
-abbrev pub invariant-loop-lsa : goal.invariant-loop-lsa
-invariant-loop-lsa l = l.ids.items ++ network_ids (drop l.lsa-index l.lsas) ≡ l.fn.ids.items ++ network_ids l.lsas

@@ -1,0 +1,9 @@
+pub mod Audits
+pub mod AuditRuns
+pub mod OnlyCheapest
+pub mod TextParts
+pub mod ConflictTexts
+pub mod ConflictRuns
+pub mod ConflictLines
+pub mod SpreadTexts
+pub mod SpreadRuns

@@ -1,0 +1,89 @@
+-- The text of `spread`, part by part.
+use Rattle.std.proofs.Common.{◌≡◌, ℕ, ◌+◌, ◌<◌, sym, ◌∙◌, ap, List, [], ◌∷◌, ◌++◌, map, length, drop, get_or, append_assoc}
+use Rattle.std.specs.Prelude.{codes, Option}
+use Rattle.std.proofs.lemmas.List.{at_drop_more}
+use Rattle.cost_base.specs.Decimal.{decimal}
+use Rattle.design_problem.specs.declared.answer.CapTree.{CapTree}
+use Rattle.design_problem.specs.declared.answer.Costs.{Costs}
+use Rattle.design_problem.specs.Text.{costs_lines, spaced, tree_lines}
+use Rattle.text_lines.specs.Lines.{with_ends}
+use Rattle.evidence_text.specs.Lines.{with_words}
+use Rattle.text_lines.proofs.LineLaws.{with_ends-append}
+use Rattle.evidence_text.proofs.WordLaws.{spaced-with}
+use Rattle.spread_sets.specs.declared.spread.SetRow.{SetRow}
+use Rattle.spread_sets.specs.Answers.{set_row_line}
+use Rattle.path_commands.specs.Spreads.{set_rows_lines, spread_lines}
+use Rattle.path_commands.proofs.TextParts.{joined}
+
+-- The line of a row.
+
+pub rival_spelled : (first second third edges : List ℕ) (set : ℕ) → first ≡ codes "row" →
+    second ≡ first ++ 32 ∷ decimal set → third ≡ with_words second (map decimal edges) →
+    third ≡ spaced (codes "row" ∷ decimal set ∷ map decimal edges)
+rival_spelled first second third edges set one two three =
+    three
+    ∙ ap (λ (line : List ℕ). with_words line (map decimal edges)) (two ∙ ap (λ (line : List ℕ). line ++ 32 ∷ decimal set) one)
+    ∙ sym (spaced-with (codes "row") (decimal set ∷ map decimal edges))
+
+pub same_spelled : (first second third fourth : List ℕ) (set i j : ℕ) → first ≡ codes "same" →
+    second ≡ first ++ 32 ∷ decimal set → third ≡ second ++ 32 ∷ decimal i → fourth ≡ third ++ 32 ∷ decimal j →
+    fourth ≡ spaced (codes "same" ∷ decimal set ∷ decimal i ∷ decimal j ∷ [])
+same_spelled first second third fourth set i j one two three four =
+    four
+    ∙ ap (λ (line : List ℕ). line ++ 32 ∷ decimal j)
+    (three ∙ ap (λ (line : List ℕ). line ++ 32 ∷ decimal i)
+    (two ∙ ap (λ (line : List ℕ). line ++ 32 ∷ decimal set) one))
+    ∙ sym (spaced-with (codes "same") (decimal set ∷ decimal i ∷ decimal j ∷ []))
+
+-- The lines of the rows.
+
+-- with one more
+pub rows_more : (rows : List SetRow) (i : ℕ) (d row : SetRow) (old new whole : List ℕ) → i < length rows →
+    row ≡ get_or rows i d → new ≡ old ++ with_ends (set_row_line row ∷ []) →
+    old ++ with_ends (map set_row_line (drop i rows)) ≡ whole →
+    new ++ with_ends (map set_row_line (drop (i + 1) rows)) ≡ whole
+rows_more rows i d row old new whole within is pushed so_far =
+    let rest = map set_row_line (drop (i + 1) rows) in
+    let first = set_row_line (get_or rows i d) ∷ [] in
+    ap (λ (bytes : List ℕ). bytes ++ with_ends rest) (pushed ∙ ap (λ (r : SetRow). old ++ with_ends (set_row_line r ∷ [])) is)
+    ∙ append_assoc old (with_ends first) (with_ends rest)
+    ∙ ap (λ (bytes : List ℕ). old ++ bytes) (sym (with_ends-append first rest)
+    ∙ sym (at_drop_more (λ (rs : List SetRow). with_ends (map set_row_line rs)) rows i d within))
+    ∙ so_far
+
+-- The whole text.
+
+pub head_spelled : (verdict none first second : List ℕ) → none ≡ [] →
+    first ≡ none ++ with_ends (codes "ospfcost spread answer 1" ∷ []) → second ≡ first ++ with_ends (verdict ∷ []) →
+    second ≡ with_ends (codes "ospfcost spread answer 1" ∷ verdict ∷ [])
+head_spelled verdict none first second empty one two =
+    let a = codes "ospfcost spread answer 1" in
+    joined (a ∷ []) (verdict ∷ []) first second (joined [] (a ∷ []) none first empty one) two
+
+-- lines behind a text, part by part
+pub trees_pushed : (old first second third : List ℕ) (proof open_lines end : List (List ℕ)) →
+    first ≡ old ++ with_ends proof → second ≡ first ++ with_ends open_lines → third ≡ second ++ with_ends end →
+    third ≡ ((old ++ with_ends proof) ++ with_ends open_lines) ++ with_ends end
+trees_pushed old first second third proof open_lines end one two three =
+    three ∙ ap (λ (bytes : List ℕ). bytes ++ with_ends end) (two ∙ ap (λ (bytes : List ℕ). bytes ++ with_ends open_lines) one)
+
+pub parts_spelled : (verdict : List ℕ) (costs : Option Costs) (rows : List SetRow) (proof unfinished : Option CapTree)
+    (head second third whole : List ℕ) → head ≡ with_ends (codes "ospfcost spread answer 1" ∷ verdict ∷ []) →
+    second ≡ head ++ with_ends (costs_lines costs) → third ≡ second ++ with_ends (set_rows_lines rows) →
+    whole ≡ ((third ++ with_ends (tree_lines (codes "proof") proof))
+    ++ with_ends (tree_lines (codes "open") unfinished)) ++ with_ends (codes "end" ∷ []) →
+    whole ≡ with_ends (spread_lines verdict costs rows proof unfinished)
+parts_spelled verdict costs rows proof unfinished head second third whole one two three last =
+    let a = codes "ospfcost spread answer 1" ∷ verdict ∷ [] in
+    let b = a ++ costs_lines costs in
+    let d = b ++ set_rows_lines rows in
+    let e = d ++ tree_lines (codes "proof") proof in
+    let f = e ++ tree_lines (codes "open") unfinished in
+    let to_costs = joined a (costs_lines costs) head second one two in
+    let to_rows = joined b (set_rows_lines rows) second third to_costs three in
+    last
+    ∙ ap (λ (bytes : List ℕ). ((bytes ++ with_ends (tree_lines (codes "proof") proof))
+    ++ with_ends (tree_lines (codes "open") unfinished)) ++ with_ends (codes "end" ∷ [])) to_rows
+    ∙ sym (with_ends-append f (codes "end" ∷ [])
+    ∙ ap (λ (bytes : List ℕ). bytes ++ with_ends (codes "end" ∷ [])) (with_ends-append e (tree_lines (codes "open") unfinished)
+    ∙ ap (λ (bytes : List ℕ). bytes ++ with_ends (tree_lines (codes "open") unfinished)) (with_ends-append d (tree_lines (codes "proof") proof))))

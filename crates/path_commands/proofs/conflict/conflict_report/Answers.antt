@@ -1,0 +1,22 @@
+-- What is found of the problem that was read is told.
+use Rattle.std.proofs.Common.{refl}
+use Rattle.command_words.specs.Jobs.{bounds}
+use Rattle.input_files.specs.Stops.{files_named}
+use Rattle.form_search.proofs.AdvisorLaws.{left_alike}
+use Rattle.path_commands.proofs.ConflictRuns.{conflict_found}
+use Rattle.path_commands.proofs.conflict.conflict_report.Goals as goal
+
+pub returns-in_err-problem-clause-advisors : goal.returns-in_err-problem-clause-advisors
+returns-in_err-problem-clause-advisors g c = left_alike _ _ _ refl
+
+pub report_of_conflict-requires : goal.report_of_conflict-requires
+report_of_conflict-requires g c =
+    let limits = c.args.limits.now in
+    (limits.top, limits.nodes, limits.budget_end, c.in_ok-conflict.ensures.found)
+
+pub returns-clause-read : goal.returns-clause-read
+returns-clause-read g c =
+    conflict_found (g.S.Shelf.gave c.args.shelf.now c.read_problem.new.shelf) (bounds c.args.limits.now)
+    (files_named c.args.words) c.in_ok-problem.problem c.in_ok-conflict.conflict c.in_ok-report_of_conflict.field-0
+    c.in_ok-problem.ensures.read
+    c.in_ok-conflict.ensures.found c.in_ok-report_of_conflict.ensures

@@ -1,0 +1,81 @@
+-- The problem was read, then the sets, and what was found of them is told.
+use Rattle.std.proofs.Common.{sym, subst, Ok, Err}
+use Rattle.std.proofs.lemmas.Result.{err_from_is_err_and}
+use Rattle.design_problem.specs.Problems.{DesignProblem}
+use Rattle.command_words.specs.Jobs.{bounds}
+use Rattle.input_files.specs.declared.problem.View.TheVariants.{AsRequested}
+use Rattle.input_files.specs.Readings.{Gave}
+use Rattle.input_files.specs.Outcomes.{outcome}
+use Rattle.input_files.specs.Stops.{StopsAs, files_named}
+use Rattle.input_files.proofs.Problems.{IsProblemOf}
+use Rattle.input_files.proofs.Stops.{gave_stop, gave_then}
+use Rattle.report_writer.specs.declared.report.Report.{Report}
+use Rattle.report_writer.specs.Reports.{bytes_in}
+use Rattle.input_files.proofs.LaterFiles.{both_came}
+use Rattle.path_commands.specs.SetFiles.{Sharing, sets_read}
+use Rattle.path_commands.specs.Spreads.{MaySpread}
+use Rattle.path_commands.proofs.SpreadRuns.{spread_found}
+use Rattle.path_commands.proofs.spread.spread_report.Goals as goal
+
+pub returns-in_err-problem : goal.returns-in_err-problem
+returns-in_err-problem g c =
+    let file = c.args.sets.now in
+    let e = err_from_is_err_and c.from_residual.result c.from_residual.ensures.1 in
+    rw (e.1, e.2) (gave_stop (g.S.Shelf.gave c.args.shelf.now c.read_problem.new.shelf)
+    (outcome AsRequested (files_named c.args.words)) (λ d. sets_read file d.problem) _
+    c.in_err-problem.ensures.read)
+
+pub returns-in_err-sets : goal.returns-in_err-sets
+returns-in_err-sets g c =
+    let file = c.args.sets.now in
+    let a = c.args.shelf.now in
+    let b = c.read_problem.new.shelf in
+    let d = c.read_sets_file.new.shelf in
+    let limits = bounds c.args.limits.now in
+    let e = err_from_is_err_and c.from_residual-in_err-sets.result c.from_residual-in_err-sets.ensures.1 in
+    rw (e.1, e.2) (gave_then (g.S.Shelf.gave a b) (g.S.Shelf.gave b d) (g.S.Shelf.gave a d)
+    (outcome AsRequested (files_named c.args.words)) (λ x. sets_read file x.problem)
+    IsProblemOf (λ (made : Report) (sharing : Sharing). MaySpread limits sharing made.status (bytes_in made.text))
+    c.in_ok-problem.problem (Err c.in_err-sets.field-0.0) (g.met.S.Shelf.gave_more a b d)
+    c.in_ok-problem.ensures.read
+    (λ x is. subst (λ (p : DesignProblem).
+    Gave (g.S.Shelf.gave b d) (λ came. StopsAs (sets_read file p) came c.in_err-sets.field-0.0))
+    (sym is.0) c.in_err-sets.ensures.read))
+
+pub returns-in_err-spread : goal.returns-in_err-spread
+returns-in_err-spread g c =
+    let a = c.args.shelf.now in
+    let b = c.read_problem.new.shelf in
+    let d = c.read_sets_file.new.shelf in
+    let e = err_from_is_err_and c.from_residual-in_err-spread.result c.from_residual-in_err-spread.ensures.1 in
+    rw (e.1, e.2) (both_came (g.S.Shelf.gave a b) (g.S.Shelf.gave b d) (g.S.Shelf.gave a d)
+    (g.met.S.Shelf.gave_more a b d) c.in_ok-problem.ensures.read c.in_ok-sets.ensures.read)
+
+pub report_of_spread-requires : goal.report_of_spread-requires
+report_of_spread-requires g c =
+    let limits = c.args.limits.now in
+    (c.in_ok-sets.sets, limits.top, limits.nodes, c.in_ok-spread.ensures)
+
+pub returns-in_err-report_of_spread : goal.returns-in_err-report_of_spread
+returns-in_err-report_of_spread g c =
+    let a = c.args.shelf.now in
+    let b = c.read_problem.new.shelf in
+    let d = c.read_sets_file.new.shelf in
+    let e = err_from_is_err_and c.from_residual-in_err-report_of_spread.result c.from_residual-in_err-report_of_spread.ensures.1 in
+    rw (e.1, e.2) (both_came (g.S.Shelf.gave a b) (g.S.Shelf.gave b d) (g.S.Shelf.gave a d)
+    (g.met.S.Shelf.gave_more a b d) c.in_ok-problem.ensures.read c.in_ok-sets.ensures.read)
+
+pub returns : goal.returns
+returns g c =
+    let file = c.args.sets.now in
+    let a = c.args.shelf.now in
+    let b = c.read_problem.new.shelf in
+    let d = c.read_sets_file.new.shelf in
+    let limits = bounds c.args.limits.now in
+    let report = c.in_ok-report_of_spread.field-0 in
+    gave_then (g.S.Shelf.gave a b) (g.S.Shelf.gave b d) (g.S.Shelf.gave a d) (outcome AsRequested (files_named c.args.words)) (λ x. sets_read file x.problem)
+    IsProblemOf (λ (made : Report) (sharing : Sharing). MaySpread limits sharing made.status (bytes_in made.text))
+    c.in_ok-problem.problem (Ok report) (g.met.S.Shelf.gave_more a b d) c.in_ok-problem.ensures.read
+    (λ x is. spread_found (g.S.Shelf.gave b d) limits file c.in_ok-problem.problem x.problem c.in_ok-sets.sets
+    c.in_ok-spread.spread report is.0 c.in_ok-sets.ensures.read c.in_ok-spread.ensures
+    c.in_ok-report_of_spread.ensures)

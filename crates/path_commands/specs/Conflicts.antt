@@ -1,0 +1,60 @@
+-- The text of `conflict`, and what the command may write.
+use Rattle.std.specs.Prelude.{◌≡◌, ℕ, List, [], ◌∷◌, ◌++◌, map, length, codes, Some}
+use Rattle.cost_base.specs.Decimal.{decimal}
+use Rattle.cost_base.specs.declared.Status.{Status}
+use Rattle.cost_base.specs.declared.Status.TheVariants.{Done, Undecided}
+use Rattle.design_problem.specs.Problems.{DesignProblem}
+use Rattle.design_problem.specs.Text.{spaced, tree_lines}
+use Rattle.text_lines.specs.Lines.{with_ends}
+use Rattle.evidence_text.specs.Parts.{rows_lines}
+use Rattle.conflict_core.specs.declared.conflict.Conflict.{Conflict}
+use Rattle.conflict_core.specs.declared.conflict.Conflict.TheVariants.{Fits, Core, Undecided as ConflictUndecided}
+use Rattle.conflict_core.specs.Conflicts.{IsConflictFound, all_requests}
+use Rattle.command_words.specs.Jobs.{Bounds}
+use Rattle.input_files.specs.Outcomes.{Input}
+use Rattle.path_commands.specs.SharedParts.{at_ceiling, costs_part}
+
+-- `members COUNT I ..`
+abbrev pub members_line : List ℕ → List ℕ
+members_line members = spaced (codes "members" ∷ decimal (length members) ∷ map decimal members)
+
+-- `without I`
+abbrev pub without_line : ℕ → List ℕ
+without_line member = spaced (codes "without" ∷ decimal member ∷ [])
+
+-- for each member its line and the costs without it
+abbrev pub without_parts : DesignProblem → List ℕ → List (List ℕ) → List (List ℕ)
+without_parts p [] lists = []
+without_parts p (member ∷ members) [] = []
+without_parts p (member ∷ members) (w ∷ lists) = without_line member ∷ costs_part p w ++ without_parts p members lists
+
+-- the lines between the first and the last one
+abbrev pub conflict_lines : DesignProblem → Conflict → List (List ℕ)
+conflict_lines p (Fits w) = codes "verdict none" ∷ members_line (all_requests p) ∷ costs_part p w
+conflict_lines p (Core members rows tree without) =
+    codes "verdict core" ∷ members_line members ∷ rows_lines rows ++ tree_lines (codes "proof") (Some (at_ceiling p tree)) ++ without_parts p members without
+conflict_lines p (ConflictUndecided members rows tree) =
+    codes "verdict undecided" ∷ members_line members ∷ rows_lines rows ++ tree_lines (codes "open") (Some (at_ceiling p tree))
+
+-- the text of `conflict`
+abbrev pub conflict_text : DesignProblem → Conflict → List ℕ
+conflict_text p conflict = with_ends (codes "ospfcost conflict 1" ∷ conflict_lines p conflict ++ codes "end" ∷ [])
+
+-- the status of a run that prints what was found
+abbrev pub conflict_status : Conflict → Status
+conflict_status (Fits w) = Done
+conflict_status (Core members rows tree without) = Done
+conflict_status (ConflictUndecided members rows tree) = Undecided
+
+-- the bytes are the text of what was found of the problem, which has this status
+pub record ShowsConflict (limits : Bounds) (p : DesignProblem) (aim : Status) (bytes : List ℕ) : Type 0 where
+  pub conflict : Conflict
+  pub found : IsConflictFound p limits.top limits.nodes conflict
+  pub status : conflict_status conflict ≡ aim
+  pub spelled : bytes ≡ conflict_text p conflict
+
+-- `conflict`: fit costs of the whole problem, or a least conflict; or that the budget was used up
+abbrev pub MayConflict : Bounds → Input → Status → List ℕ → Type 0
+MayConflict limits d Done bytes = ShowsConflict limits d.problem Done bytes
+MayConflict limits d Undecided bytes = ShowsConflict limits d.problem Undecided bytes
+MayConflict limits d status bytes = ⊥

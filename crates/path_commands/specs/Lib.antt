@@ -1,0 +1,5 @@
+pub mod Audits
+pub mod SharedParts
+pub mod Conflicts
+pub mod SetFiles
+pub mod Spreads

@@ -1,0 +1,16 @@
+-- Parts that the texts of requests and sets share.
+use Rattle.std.specs.Prelude.{ℕ, List, Some}
+use Rattle.design_problem.specs.declared.answer.CapTree.{CapTree}
+use Rattle.design_problem.specs.declared.tree.Entry.{Entry}
+use Rattle.design_problem.specs.Problems.{DesignProblem}
+use Rattle.design_problem.specs.Answers.{greatest_bound}
+use Rattle.design_problem.specs.Text.{costs_lines}
+use Rattle.printed_rows.specs.PrintedCosts.{named_costs}
+
+-- the part `costs`
+abbrev pub costs_part : DesignProblem → List ℕ → List (List ℕ)
+costs_part p w = costs_lines (Some (named_costs p w))
+
+-- the tree at the greatest upper bound
+abbrev pub at_ceiling : DesignProblem → List Entry → CapTree
+at_ceiling p tree = record { cap = greatest_bound p; tree = tree }

@@ -1,0 +1,64 @@
+-- The text of `spread`, and what the command may write.
+use Rattle.std.specs.Prelude.{◌≡◌, ℕ, List, [], ◌∷◌, ◌++◌, map, length, codes, Option, None, Some}
+use Rattle.cost_base.specs.declared.Status.{Status}
+use Rattle.cost_base.specs.declared.Status.TheVariants as status
+use Rattle.design_problem.specs.declared.answer.CapTree.{CapTree}
+use Rattle.design_problem.specs.declared.answer.Costs.{Costs}
+use Rattle.design_problem.specs.Problems.{DesignProblem}
+use Rattle.design_problem.specs.Text.{costs_lines, tree_lines}
+use Rattle.text_lines.specs.Lines.{with_ends}
+use Rattle.evidence_text.specs.Parts.{rows_line}
+use Rattle.spread_sets.specs.declared.spread.SetRow.{SetRow}
+use Rattle.spread_sets.specs.declared.spread.Spread.{Spread}
+use Rattle.spread_sets.specs.declared.spread.Spread.TheVariants.{Fit, Impossible, Undecided}
+use Rattle.spread_sets.specs.Answers.{IsSpreadFound, set_row_line}
+use Rattle.command_words.specs.Jobs.{Bounds}
+use Rattle.path_commands.specs.SharedParts.{at_ceiling}
+use Rattle.printed_rows.specs.PrintedCosts.{named_costs}
+use Rattle.path_commands.specs.SetFiles.{AreSetsIn, Sharing}
+
+-- `rows N`, and for each row `row SET EDGE ..` or `same SET I J`
+abbrev pub set_rows_lines : List SetRow → List (List ℕ)
+set_rows_lines rows = rows_line (length rows) ∷ map set_row_line rows
+
+-- a text of all its parts, of which those that aren't there say so, as in an answer
+abbrev pub spread_lines : List ℕ → Option Costs → List SetRow → Option CapTree → Option CapTree → List (List ℕ)
+spread_lines verdict costs rows proof unfinished =
+    (codes "ospfcost spread answer 1" ∷ verdict ∷ [])
+    ++ costs_lines costs
+    ++ set_rows_lines rows
+    ++ tree_lines (codes "proof") proof
+    ++ tree_lines (codes "open") unfinished
+    ++ (codes "end" ∷ [])
+
+-- the lines of what was found; trees stand at the greatest upper bound
+abbrev pub spread_found_lines : DesignProblem → Spread → List (List ℕ)
+spread_found_lines p (Fit w) = spread_lines (codes "verdict fit") (Some (named_costs p w)) [] None None
+spread_found_lines p (Impossible rows tree) = spread_lines (codes "verdict impossible") None rows.items (Some (at_ceiling p tree)) None
+spread_found_lines p (Undecided rows tree) = spread_lines (codes "verdict undecided") None rows.items None (Some (at_ceiling p tree))
+
+-- the text of `spread`
+abbrev pub spread_text : DesignProblem → Spread → List ℕ
+spread_text p spread = with_ends (spread_found_lines p spread)
+
+-- the status of a run that prints what was found
+abbrev pub spread_status : Spread → Status
+spread_status (Fit w) = status.Done
+spread_status (Impossible rows tree) = status.Impossible
+spread_status (Undecided rows tree) = status.Undecided
+
+-- the bytes are the text of what was found for the sets that the file says, which has this status
+pub record ShowsSpread (limits : Bounds) (sharing : Sharing) (aim : Status) (bytes : List ℕ) : Type 0 where
+  pub sets : List (List ℕ)
+  pub said : AreSetsIn sets sharing
+  pub spread : Spread
+  pub found : IsSpreadFound sharing.problem sets limits.top limits.nodes spread
+  pub status : spread_status spread ≡ aim
+  pub spelled : bytes ≡ spread_text sharing.problem spread
+
+-- `spread`: spread-fit costs; or that there are none; or that the budget was used up
+abbrev pub MaySpread : Bounds → Sharing → Status → List ℕ → Type 0
+MaySpread limits sharing status.Done bytes = ShowsSpread limits sharing status.Done bytes
+MaySpread limits sharing status.Impossible bytes = ShowsSpread limits sharing status.Impossible bytes
+MaySpread limits sharing status.Undecided bytes = ShowsSpread limits sharing status.Undecided bytes
+MaySpread limits sharing other bytes = ⊥

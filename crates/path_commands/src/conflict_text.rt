@@ -1,0 +1,185 @@
+//! The text of `conflict`.
+ghost use Rattle.std.specs.Prelude.{◌≡◌, ℕ, ◌≤◌, [], ◌∷◌, ◌++◌, length, codes, All, IfOk, OnOk};
+ghost use Rattle.design_problem.specs.Boxes.{IsInBox};
+ghost use Rattle.design_problem.specs.Rows.{box_of};
+ghost use Rattle.text_lines.specs.Lines.{with_ends};
+ghost use Rattle.conflict_core.specs.declared.conflict.Conflict.TheVariants.{Core, Fits, Undecided as ConflictUndecided};
+ghost use Rattle.conflict_core.specs.Conflicts.{IsConflictFound, IsCore, IsUndecidedConflict};
+ghost use Rattle.path_commands.specs.Conflicts.{conflict_text, members_line, without_line, without_parts};
+ghost use Rattle.path_commands.specs.SharedParts.{costs_part};
+
+use crate::parts::{at_ceiling, costs_by_name, push_line, push_words};
+use conflict_core::{Conflict, all_requests};
+use cost_base::OutOfMemory;
+use cost_branching::keeps_conditions;
+use design_problem::{CostList, Problem, Row, Tree};
+use evidence_text::{TreePart, push_costs, push_evidence};
+use std::alloc::Global;
+use text_lines::push_number;
+
+/// The line of a set of requests.
+fn members_line(alloc: Global, members: &[u32]) -> Result<Vec<u8>, OutOfMemory>
+    ensures { IfOk result (λ line. line.items ≡ members_line members.now) }
+{
+    let mut line = Vec::from_slice(alloc, b"members ")?;
+    push_number(&mut line, members.len() as u128)?;
+    push_words(&mut line, members)?;
+    Ok(line)
+}
+
+/// The first lines, up to that of the requests.
+fn head_of(alloc: Global, verdict: &[u8], members: &[u32]) -> Result<Vec<u8>, OutOfMemory>
+    ensures { IfOk result (λ text. text.items ≡ with_ends (codes "ospfcost conflict 1" ∷ verdict.now ∷ members_line members.now ∷ [])) }
+{
+    let members = members_line(alloc, members)?;
+    let mut text = Vec::new(alloc);
+    push_line(&mut text, b"ospfcost conflict 1")?;
+    push_line(&mut text, verdict)?;
+    push_line(&mut text, members.as_slice())?;
+    Ok(text)
+}
+
+/// Adds the lines of costs of the problem's variables.
+fn push_costs_part(
+    alloc: Global,
+    text: &mut Vec<u8>,
+    problem: &Problem,
+    costs: &CostList,
+) -> Result<(), OutOfMemory>
+    requires { IsInBox (box_of problem.now) costs.now }
+    ensures { OnOk result (text.new.items ≡ text.old.items ++ with_ends (costs_part problem.now costs.now)) }
+{
+    let costs = costs_by_name(alloc, problem, costs)?;
+    push_costs(alloc, text, Some(&costs))
+}
+
+/// The line of a member that is left out.
+fn without_line(alloc: Global, member: u32) -> Result<Vec<u8>, OutOfMemory>
+    ensures { IfOk result (λ line. line.items ≡ without_line member) }
+{
+    let mut line = Vec::from_slice(alloc, b"without ")?;
+    push_number(&mut line, u128::from(member))?;
+    Ok(line)
+}
+
+/// Adds the lines of a member and of the costs without it.
+fn push_without_one(
+    alloc: Global,
+    text: &mut Vec<u8>,
+    problem: &Problem,
+    member: u32,
+    costs: &CostList,
+) -> Result<(), OutOfMemory>
+    requires { IsInBox (box_of problem.now) costs.now }
+    ensures { OnOk result (text.new.items ≡ text.old.items ++ with_ends (without_line member ∷ costs_part problem.now costs.now)) }
+{
+    let line = without_line(alloc, member)?;
+    push_line(text, line.as_slice())?;
+    push_costs_part(alloc, text, problem, costs)
+}
+
+/// Adds the lines of each member and of the costs without it.
+fn push_without(
+    alloc: Global,
+    text: &mut Vec<u8>,
+    problem: &Problem,
+    members: &[u32],
+    without: &[CostList],
+) -> Result<(), OutOfMemory>
+    requires counted { length without.now ≡ length members.now }
+    requires within { All (IsInBox (box_of problem.now)) without.now }
+    ensures { OnOk result (text.new.items ≡ text.old.items ++ with_ends (without_parts problem.now members.now without.now)) }
+{
+    for (place, costs) in without.iter().enumerate() {
+        push_without_one(alloc, text, problem, members[place], costs)?;
+    }
+    Ok(())
+}
+
+/// The text where all requests fit.
+fn fits_text(alloc: Global, problem: &Problem, costs: &CostList) -> Result<Vec<u8>, OutOfMemory>
+    requires { IsInBox (box_of problem.now) costs.now }
+    ensures { IfOk result (λ text. text.items ≡ conflict_text problem.now (Fits costs.now)) }
+{
+    let members = all_requests(alloc, problem)?;
+    let mut text = head_of(alloc, b"verdict none", members.as_slice())?;
+    push_costs_part(alloc, &mut text, problem, costs)?;
+    push_line(&mut text, b"end")?;
+    Ok(text)
+}
+
+/// The text of a least conflict.
+fn core_text(
+    alloc: Global,
+    problem: &Problem,
+    members: &[u32],
+    rows: &[Row],
+    tree: Tree,
+    without: &[CostList],
+) -> Result<Vec<u8>, OutOfMemory>
+    requires { (top : ℕ) × (nodes : ℕ) × (nodes ≤ 10000000) × IsCore problem.now top nodes members.now rows.now tree without.now }
+    ensures { IfOk result (λ text. text.items ≡ conflict_text problem.now (Core members.now rows.now tree without.now)) }
+{
+    keeps_conditions(problem);
+    let mut text = head_of(alloc, b"verdict core", members)?;
+    let tree = at_ceiling(problem, tree);
+    push_evidence(alloc, &mut text, rows, TreePart::Proof, &tree)?;
+    push_without(alloc, &mut text, problem, members, without)?;
+    push_line(&mut text, b"end")?;
+    Ok(text)
+}
+
+/// The text where the node budget was used up.
+fn unknown_text(
+    alloc: Global,
+    problem: &Problem,
+    members: &[u32],
+    rows: &[Row],
+    tree: Tree,
+) -> Result<Vec<u8>, OutOfMemory>
+    requires { (top : ℕ) × (nodes : ℕ) × (nodes ≤ 10000000) × IsUndecidedConflict problem.now top nodes members.now rows.now tree }
+    ensures { IfOk result (λ text. text.items ≡ conflict_text problem.now (ConflictUndecided members.now rows.now tree)) }
+{
+    keeps_conditions(problem);
+    let mut text = head_of(alloc, b"verdict undecided", members)?;
+    let tree = at_ceiling(problem, tree);
+    push_evidence(alloc, &mut text, rows, TreePart::Unfinished, &tree)?;
+    push_line(&mut text, b"end")?;
+    Ok(text)
+}
+
+/// The text of what was found of a problem's requests.
+///
+/// # Errors
+///
+/// `OutOfMemory`.
+pub(crate) fn text_of_conflict(
+    alloc: Global,
+    problem: &Problem,
+    conflict: Conflict,
+) -> Result<Vec<u8>, OutOfMemory>
+    requires { (top : ℕ) × (nodes : ℕ) × (nodes ≤ 10000000) × IsConflictFound problem.now top nodes conflict }
+    ensures { IfOk result (λ text. text.items ≡ conflict_text problem.now conflict) }
+{
+    match conflict {
+        Conflict::Fits { costs } => fits_text(alloc, problem, &costs),
+        Conflict::Core {
+            members,
+            rows,
+            tree,
+            without,
+        } => core_text(
+            alloc,
+            problem,
+            members.as_slice(),
+            rows.as_slice(),
+            tree,
+            without.as_slice(),
+        ),
+        Conflict::Undecided {
+            members,
+            rows,
+            tree,
+        } => unknown_text(alloc, problem, members.as_slice(), rows.as_slice(), tree),
+    }
+}

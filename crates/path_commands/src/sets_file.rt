@@ -1,0 +1,51 @@
+//! The file of sets, read after the problem.
+ghost use Rattle.std.specs.Prelude.{◌≡◌, IfOk};
+ghost use Rattle.set_reader.specs.SpreadSets.{AreSetsOf};
+ghost use Rattle.input_files.specs.Readings.{Gave};
+ghost use Rattle.input_files.specs.Stops.{IsReadAs};
+ghost use Rattle.path_commands.specs.SetFiles.{AreSetsIn, set_stop, sets_read};
+
+use cost_base::Shelf;
+use design_problem::Problem;
+use input_files::{Stop, read_file};
+use set_reader::{SetStop, Sets, read_sets};
+use std::alloc::Global;
+
+/// The greatest length of a file of sets: 4 MiB.
+const LONGEST_SETS: usize = 4_194_304;
+
+/// The stop of a file of sets that is refused.
+fn stop_of_sets(stop: SetStop, file: &str) -> Stop<'_>
+    ensures { result ≡ set_stop stop file.entry }
+{
+    match stop {
+        SetStop::Refused { fault, line } => Stop::Refused {
+            number: fault.number(),
+            file,
+            line,
+        },
+        SetStop::OutOfMemory => Stop::OutOfMemory,
+    }
+}
+
+/// The sets of a problem's wanted paths that a file says.
+///
+/// # Errors
+///
+/// `Stop`: the file failed or is too long, or a line of it has a fault; want of memory.
+pub(crate) fn read_sets_file<'a, S: Shelf>(
+    alloc: Global,
+    shelf: &mut S,
+    name: &'a str,
+    problem: &Problem,
+) -> Result<Sets, Stop<'a>>
+    ensures read { Gave (S.gave shelf.old shelf.new)
+        (λ came. IsReadAs (sets_read name.now problem.now) came (λ sets sharing. (sharing.problem ≡ problem.now) × AreSetsIn sets sharing) result) }
+    ensures lawful { IfOk result (AreSetsOf problem.now) }
+{
+    let bytes = read_file(alloc, shelf, name, LONGEST_SETS)?;
+    match read_sets(alloc, &bytes, problem) {
+        Ok(sets) => Ok(sets),
+        Err(stop) => Err(stop_of_sets(stop, name)),
+    }
+}

@@ -1,0 +1,192 @@
+//! The text of `spread`.
+ghost use Rattle.std.specs.Prelude.{◌≡◌, ℕ, [], ◌∷◌, ◌++◌, map, codes, List, None, Some, IfOk, OnOk};
+ghost use Rattle.std.specs.Option.{option_copied};
+ghost use Rattle.cost_base.specs.Decimal.{decimal};
+ghost use Rattle.design_problem.specs.Boxes.{IsInBox};
+ghost use Rattle.design_problem.specs.Rows.{box_of};
+ghost use Rattle.design_problem.specs.Answers.{greatest_bound};
+ghost use Rattle.design_problem.specs.Text.{costs_lines, spaced, tree_lines};
+ghost use Rattle.text_lines.specs.Lines.{with_ends};
+ghost use Rattle.evidence_text.specs.Lines.{AreShort};
+ghost use Rattle.evidence_text.specs.Parts.{rows_line};
+ghost use Rattle.spread_sets.specs.declared.spread.SetRow.TheVariants.{Same};
+ghost use Rattle.printed_rows.specs.FittingTexts.{FitText};
+ghost use Rattle.spread_sets.specs.Answers.{IsSpreadFound, set_row_line};
+ghost use Rattle.path_commands.specs.SharedParts.{at_ceiling};
+ghost use Rattle.printed_rows.specs.PrintedCosts.{named_costs};
+ghost use Rattle.path_commands.specs.Spreads.{set_rows_lines, spread_lines, spread_text};
+
+use crate::parts::{at_ceiling, costs_by_name, push_line, push_word, push_words};
+use cost_base::OutOfMemory;
+use design_problem::{CapTree, CostList, Costs, Problem, Tree};
+use evidence_text::{TreePart, push_costs, push_tree};
+use spread_sets::{SetRow, Spread};
+use std::alloc::Global;
+use text_lines::push_number;
+
+/// The line of a rival: its set, and its edges.
+fn rival_line(alloc: Global, set: u32, edges: &[u32]) -> Result<Vec<u8>, OutOfMemory>
+    ensures { IfOk result (λ line. line.items ≡ spaced (codes "row" ∷ decimal set ∷ map decimal edges.now)) }
+{
+    let mut line = Vec::from_slice(alloc, b"row")?;
+    push_word(&mut line, set)?;
+    push_words(&mut line, edges)?;
+    Ok(line)
+}
+
+/// The line of two members that cost the same: their set, and their numbers.
+fn same_line(alloc: Global, set: u32, first: u32, other: u32) -> Result<Vec<u8>, OutOfMemory>
+    ensures { IfOk result (λ line. line.items ≡ set_row_line (Same set first other)) }
+{
+    let mut line = Vec::from_slice(alloc, b"same")?;
+    push_word(&mut line, set)?;
+    push_word(&mut line, first)?;
+    push_word(&mut line, other)?;
+    Ok(line)
+}
+
+/// The line of a row.
+fn set_row_line(alloc: Global, row: &SetRow) -> Result<Vec<u8>, OutOfMemory>
+    ensures { IfOk result (λ line. line.items ≡ set_row_line row.now) }
+{
+    match row {
+        SetRow::Rival(set, rival) => rival_line(alloc, *set, rival.edges.as_slice()),
+        SetRow::Same(set, first, other) => same_line(alloc, *set, *first, *other),
+    }
+}
+
+/// The line that rows begin with.
+fn rows_line(alloc: Global, count: usize) -> Result<Vec<u8>, OutOfMemory>
+    ensures { IfOk result (λ line. line.items ≡ rows_line count) }
+{
+    let mut line = Vec::from_slice(alloc, b"rows ")?;
+    push_number(&mut line, count as u128)?;
+    Ok(line)
+}
+
+/// Adds the line of a row.
+fn push_set_row(alloc: Global, text: &mut Vec<u8>, row: &SetRow) -> Result<(), OutOfMemory>
+    ensures { OnOk result (text.new.items ≡ text.old.items ++ with_ends (set_row_line row.now ∷ [])) }
+{
+    let line = set_row_line(alloc, row)?;
+    push_line(text, line.as_slice())
+}
+
+/// Adds the lines of rows.
+fn push_set_rows(alloc: Global, text: &mut Vec<u8>, rows: &[SetRow]) -> Result<(), OutOfMemory>
+    ensures { OnOk result (text.new.items ≡ text.old.items ++ with_ends (set_rows_lines rows.now)) }
+{
+    let line = rows_line(alloc, rows.len())?;
+    push_line(text, line.as_slice())?;
+    for row in rows {
+        push_set_row(alloc, text, row)?;
+    }
+    Ok(())
+}
+
+/// The first lines, up to that of the verdict.
+fn head_of(alloc: Global, verdict: &[u8]) -> Result<Vec<u8>, OutOfMemory>
+    ensures { IfOk result (λ text. text.items ≡ with_ends (codes "ospfcost spread answer 1" ∷ verdict.now ∷ [])) }
+{
+    let mut text = Vec::new(alloc);
+    push_line(&mut text, b"ospfcost spread answer 1")?;
+    push_line(&mut text, verdict)?;
+    Ok(text)
+}
+
+/// Adds the lines of both trees, and the last one.
+fn push_trees(
+    alloc: Global,
+    text: &mut Vec<u8>,
+    proof: Option<&CapTree>,
+    unfinished: Option<&CapTree>,
+) -> Result<(), OutOfMemory>
+    requires proof { AreShort (tree_lines (codes "proof") (option_copied proof)) }
+    requires unfinished { AreShort (tree_lines (codes "open") (option_copied unfinished)) }
+    ensures { OnOk result (text.new.items ≡ ((text.old.items ++ with_ends (tree_lines (codes "proof") (option_copied proof.entry))) ++
+        with_ends (tree_lines (codes "open") (option_copied unfinished.entry))) ++ with_ends (codes "end" ∷ [])) }
+{
+    push_tree(alloc, text, TreePart::Proof, proof)?;
+    push_tree(alloc, text, TreePart::Unfinished, unfinished)?;
+    push_line(text, b"end")
+}
+
+/// The text of all its parts.
+fn text_of_parts(
+    alloc: Global,
+    verdict: &[u8],
+    costs: Option<&Costs>,
+    rows: &[SetRow],
+    proof: Option<&CapTree>,
+    unfinished: Option<&CapTree>,
+) -> Result<Vec<u8>, OutOfMemory>
+    requires costs { AreShort (costs_lines (option_copied costs)) }
+    requires proof { AreShort (tree_lines (codes "proof") (option_copied proof)) }
+    requires unfinished { AreShort (tree_lines (codes "open") (option_copied unfinished)) }
+    ensures { IfOk result (λ text. text.items ≡
+        with_ends (spread_lines verdict.now (option_copied costs.entry) rows.now (option_copied proof.entry) (option_copied unfinished.entry))) }
+{
+    let mut text = head_of(alloc, verdict)?;
+    push_costs(alloc, &mut text, costs)?;
+    push_set_rows(alloc, &mut text, rows)?;
+    push_trees(alloc, &mut text, proof, unfinished)?;
+    Ok(text)
+}
+
+/// The text of spread-fit costs.
+fn fit_text(alloc: Global, problem: &Problem, costs: &CostList) -> Result<Vec<u8>, OutOfMemory>
+    requires { IsInBox (box_of problem.now) costs.now }
+    ensures { IfOk result (λ text. text.items ≡ with_ends (spread_lines (codes "verdict fit") (Some (named_costs problem.now costs.now)) [] None None)) }
+{
+    let costs = costs_by_name(alloc, problem, costs)?;
+    text_of_parts(alloc, b"verdict fit", Some(&costs), &[], None, None)
+}
+
+/// The text where there are no spread-fit costs.
+fn impossible_text(
+    alloc: Global,
+    problem: &Problem,
+    rows: &[SetRow],
+    tree: Tree,
+) -> Result<Vec<u8>, OutOfMemory>
+    requires { FitText set_row_line (greatest_bound problem.now) rows.now tree }
+    ensures { IfOk result (λ text.
+        text.items ≡ with_ends (spread_lines (codes "verdict impossible") None rows.now (Some (at_ceiling problem.now tree)) None)) }
+{
+    let tree = at_ceiling(problem, tree);
+    text_of_parts(alloc, b"verdict impossible", None, rows, Some(&tree), None)
+}
+
+/// The text where the node budget was used up.
+fn unknown_text(
+    alloc: Global,
+    problem: &Problem,
+    rows: &[SetRow],
+    tree: Tree,
+) -> Result<Vec<u8>, OutOfMemory>
+    requires { FitText set_row_line (greatest_bound problem.now) rows.now tree }
+    ensures { IfOk result (λ text. text.items ≡ with_ends (spread_lines (codes "verdict undecided") None rows.now None (Some (at_ceiling problem.now tree)))) }
+{
+    let tree = at_ceiling(problem, tree);
+    text_of_parts(alloc, b"verdict undecided", None, rows, None, Some(&tree))
+}
+
+/// The text of what was found for sets of a problem's wanted paths.
+///
+/// # Errors
+///
+/// `OutOfMemory`.
+pub(crate) fn text_of_spread(
+    alloc: Global,
+    problem: &Problem,
+    spread: Spread,
+) -> Result<Vec<u8>, OutOfMemory>
+    requires { (lines : List (List ℕ)) × (top : ℕ) × (nodes : ℕ) × IsSpreadFound problem.now lines top nodes spread }
+    ensures { IfOk result (λ text. text.items ≡ spread_text problem.now spread) }
+{
+    match spread {
+        Spread::Fit(costs) => fit_text(alloc, problem, &costs),
+        Spread::Impossible { rows, tree } => impossible_text(alloc, problem, rows.as_slice(), tree),
+        Spread::Undecided { rows, tree } => unknown_text(alloc, problem, rows.as_slice(), tree),
+    }
+}

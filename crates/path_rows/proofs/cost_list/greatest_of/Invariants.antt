@@ -1,6 +1,0 @@
-use Rattle.std.proofs.Common.{◌≡◌, take}
-use Rattle.path_rows.specs.Rows.{greatest_cost}
-use Rattle.path_rows.proofs.cost_list.greatest_of.Given as goal
-
-abbrev pub invariant-loop-cost : goal.invariant-loop-cost
-invariant-loop-cost l = l.greatest ≡ greatest_cost (take l.cost-index l.costs)

@@ -1,5 +1,0 @@
-use Rattle.path_rows.proofs.ProblemTrees.{tree_leaves_none}
-use Rattle.path_rows.proofs.laws.trees_leave_no_fit.Goals as goal
-
-pub returns : goal.returns
-returns c = tree_leaves_none

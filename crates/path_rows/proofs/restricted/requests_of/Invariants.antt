@@ -1,6 +1,0 @@
-use Rattle.std.proofs.Common.{◌≡◌, map, take}
-use Rattle.path_rows.specs.Problems.{request_at}
-use Rattle.path_rows.proofs.restricted.requests_of.Given as goal
-
-abbrev pub invariant-loop-member : goal.invariant-loop-member
-invariant-loop-member l = l.kept.items ≡ map (request_at l.requests) (take l.member-index l.members)

@@ -1,4 +1,0 @@
-pub mod SharedParts
-pub mod Conflicts
-pub mod SetFiles
-pub mod Spreads
