@@ -1,0 +1,343 @@
+"""Checks what the documents claim and a machine can tell. It is run by hand, from any folder:
+
+    python3 bench/documents.py          counts, edges of the map, names, refusal numbers, links
+    python3 bench/documents.py --run    besides, each command of the documents, with the built program
+
+A document says in comments that no reader sees what its commands print:
+
+    <!-- prints FILE -->                the command above prints what FILE has
+    <!-- prints below -->               it prints the next indented block
+    <!-- begins below -->               it prints that block, and more behind it
+    <!-- makes MADE as FILE -->         it makes the file MADE, which is what FILE has; it lies there for later commands
+    <!-- status N -->                   it ends with this status (0 unless said)
+
+A line that begins with `NAME=` in a block, or in backquotes as `NAME=VALUE`, sets a name for the commands behind it.
+It prints a line for each claim that fails, counts, and ends with status 1 where one did.
+"""
+import os
+import re
+import subprocess
+import sys
+import tempfile
+
+TOP = os.path.dirname(os.path.dirname(os.path.abspath(__file__)))
+COMMENT = re.compile(r"<!-- (prints|begins|makes|status) (.*?) -->")
+# Words in backquotes that look like names of the code and are of other things: of files, lines, commands, Rust, the toolchain.
+FOREIGN = set(
+    """anyhow clap clippy indexmap memchr gnuplot graphviz neato cbc glpsol vtysh ospfd zebra malloc cargo rustc rt rattle antt
+    std core alloc u8 u16 u32 u64 u128 i64 i128 usize bool char str
+    ap cc conv omega grind search simp rw refl sym subst hlevel ring ring_by arith common_steps
+    hostname shutdown exit router interface network broadcast redistribute Full
+    shr_and_one _x broadcast_address SubnetEnds
+    """.split()
+)
+
+
+def text_of(path):
+    with open(os.path.join(TOP, path), encoding="utf-8") as file:
+        return file.read()
+
+
+def files_below(folder, ending):
+    for path, folders, names in os.walk(os.path.join(TOP, folder)):
+        folders[:] = sorted(name for name in folders if name not in ("out", ".git"))
+        for name in sorted(names):
+            if name.endswith(ending):
+                yield os.path.relpath(os.path.join(path, name), TOP)
+
+
+def documents():
+    yield "README.md"
+    yield from files_below("docs", ".md")
+    yield from files_below("bench", ".md")
+    yield from files_below("crates/run_cases/data/examples", ".md")
+
+
+def crates():
+    """Gives the libraries that each crate's line names."""
+    found = {}
+    for line in text_of("crates.txt").splitlines():
+        line = line.split("#")[0].strip()
+        if line:
+            name, _, names = line.partition(":")
+            found[name.split()[0]] = names.split()
+    return found
+
+
+def reached(of, name):
+    seen, left = set(), list(of.get(name, []))
+    while left:
+        one = left.pop()
+        if one not in seen:
+            seen.add(one)
+            left += of.get(one, [])
+    return seen
+
+
+class Claims:
+    def __init__(self):
+        self.made = 0
+        self.false = []
+
+    def claim(self, holds, place, text):
+        self.made += 1
+        if not holds:
+            self.false.append(f"{place}: {text}")
+
+
+def without_blocks(text):
+    """The lines of a document with their numbers, without its indented blocks and comments."""
+    for number, line in enumerate(text.splitlines(), 1):
+        if not line.startswith("    ") or line.lstrip().startswith(("-", "*", "`")):
+            yield number, COMMENT.sub("", line)
+
+
+# Counts, and the edges of the map.
+
+NUMBERS = "no one two three four five six seven eight nine ten eleven twelve thirteen fourteen fifteen sixteen seventeen eighteen nineteen twenty".split()
+COUNTED = re.compile(r"\b(\d[\d,]*|[a-z]+) crates\b")
+
+
+def check_counts(claims):
+    """Where a document says how many crates there are in all: 'N crates' behind 'all', 'of', 'the' or 'stack of'."""
+    count = len(crates())
+    for path in documents():
+        for number, line in without_blocks(text_of(path)):
+            for found in re.finditer(r"\b(?:all|of the|stack of) (\d+) crates\b", line):
+                claims.claim(int(found.group(1)) == count, f"{path}:{number}", f"`{found.group(0)}`, and crates.txt has {count}")
+
+
+ENTRY = re.compile(r"^- ((?:\*\*)?`[a-z_0-9]+`(?:\*\*)?(?:, (?:\*\*)?`[a-z_0-9]+`(?:\*\*)?)*)(?: \(on nothing\))?(?: < ([^:]*))?:")
+
+
+def entries_of_crates(path):
+    """The entries of a list of crates: `name` < `a`, `b`: what it promises."""
+    lines = text_of(path).splitlines()
+    for number, line in enumerate(lines, 1):
+        whole = line
+        if line.startswith("- ") and "`" in line[:8] and ":" not in line and number < len(lines):
+            whole += " " + lines[number].strip()
+        found = ENTRY.match(whole)
+        if found:
+            names = re.findall(r"`([a-z_0-9]+)`", found.group(1))
+            below = None if found.group(2) is None else re.findall(r"`([a-z_0-9]+)`", found.group(2))
+            yield number, names, below
+
+
+def check_map(claims, path="docs/proved.md"):
+    """Each crate has one entry, and `<` names those that it stands on, but for those on which these stand in turn."""
+    of = crates()
+    listed = {}
+    for number, names, below in entries_of_crates(path):
+        for name in names:
+            if name in of:
+                claims.claim(name not in listed, f"{path}:{number}", f"`{name}` has two entries")
+                listed[name] = (number, below)
+    for name in of:
+        claims.claim(name in listed, path, f"`{name}` has no entry")
+    base = "cost_base"
+    for name, (number, below) in listed.items():
+        if below is None:
+            continue
+        own = {it for it in reached(of, name) if it in of}
+        told = set(below) | {base}
+        for one in below:
+            told |= reached(of, one)
+        told = {it for it in told if it in of}
+        claims.claim(own <= told, f"{path}:{number}", f"`{name}` stands on {sorted(own - told)} too")
+        claims.claim(told - {base} <= own, f"{path}:{number}", f"`{name}` doesn't stand on {sorted(told - own)}")
+        for one in below:
+            others = set()
+            for other in below:
+                if other != one:
+                    others |= reached(of, other)
+            claims.claim(one not in others, f"{path}:{number}", f"`{name}`: another one stands on `{one}` already")
+
+
+# Names in backquotes.
+
+WORD = re.compile(r"[A-Za-z_][A-Za-z_0-9']*")
+
+
+def known_words():
+    """Every word of the sources, with the names of their files, folders, crates and cases."""
+    words = set()
+    for folder, ending in (("crates", ".rt"), ("crates", ".antt"), ("crates", ".edit"), ("bench", ".py"), ("crates", "case.txt")):
+        for path in files_below(folder, ending):
+            words.update(WORD.findall(text_of(path)))
+            words.update(WORD.findall(path))
+    for path, _, names in os.walk(os.path.join(TOP, "crates")):
+        words.update(WORD.findall(os.path.basename(path)))
+        words.update(it for name in names for it in WORD.findall(name))
+    return words | FOREIGN
+
+
+def check_names(claims):
+    """A name in backquotes that looks like one of the code (with `_`, `::`, or capitals inside) stands in the sources."""
+    words = known_words()
+    for path in documents():
+        for number, line in without_blocks(text_of(path)):
+            for quoted in re.findall(r"`([^`]+)`", line):
+                quoted = quoted.strip()
+                if not re.fullmatch(r"[A-Za-z_][A-Za-z_0-9:'/.{},-]*", quoted) or quoted.endswith((".txt", ".conf", ".md", ".sh", ".svg", ".py", ".lsa", ".log")):
+                    continue
+                if not re.search(r"_|::|[a-z][A-Z]|^[A-Z][a-z]+$", quoted):
+                    continue
+                for word in WORD.findall(quoted):
+                    if len(word) > 1:
+                        claims.claim(word in words, f"{path}:{number}", f"`{quoted}`: nothing in the sources is called `{word}`")
+
+
+# Refusal numbers.
+
+def numbers_of_code():
+    """The numbers by which faults are written: those of the specs' tables."""
+    found = set()
+    for path in files_below("crates", ".antt"):
+        if re.search(r"/specs/(.*Numbers|Numbers)\.antt$", path) and "CapNumbers" not in path and "NewNumbers" not in path:
+            for line in text_of(path).splitlines():
+                number = re.match(r"^[a-z_]+ .*= (\d+)$", line)
+                if number:
+                    found.add(int(number.group(1)))
+    for path in files_below("crates/evidence_reader/specs", ".antt"):
+        for line in text_of(path).splitlines():
+            number = re.match(r"^[a-z_]*number_of[a-z_]* .*= (\d+)$", line)
+            if number:
+                found.add(int(number.group(1)))
+    return found - {0}
+
+
+def check_numbers(claims, path="docs/operators.md"):
+    """Each number of the code has a line of the operators' page, and each such line a number of the code."""
+    told = {}
+    for number, line in enumerate(text_of(path).splitlines(), 1):
+        found = re.match(r"^- (\d+): ", line)
+        if found:
+            told[int(found.group(1))] = number
+    code = numbers_of_code()
+    for number in sorted(code):
+        claims.claim(number in told, path, f"refusal {number} of the code isn't told")
+    for number, line in told.items():
+        claims.claim(number in code, f"{path}:{line}", f"no refusal of the code has the number {number}")
+
+
+# Links.
+
+def check_links(claims):
+    for path in documents():
+        for number, line in without_blocks(text_of(path)):
+            for target in re.findall(r"\]\(([^)#]+)", line):
+                if "://" not in target:
+                    there = os.path.exists(os.path.join(TOP, os.path.dirname(path), target))
+                    claims.claim(there, f"{path}:{number}", f"the link to {target} leads nowhere")
+            for target in re.findall(r"\b((?:docs|bench|examples|crates)/(?!NAME)[A-Za-z_0-9/.-]+\.(?:md|py|sh|txt|svg|rt|antt))\b", line):
+                claims.claim(os.path.exists(os.path.join(TOP, target)), f"{path}:{number}", f"there is no {target}")
+
+
+# Commands.
+
+class Command:
+    def __init__(self, number, text, names):
+        self.number = number
+        self.text = text
+        self.names = dict(names)
+        self.wants = []
+        self.block = None
+        self.status = None
+
+
+def commands_in(path):
+    """The commands of a document that start the program, with what is said of what they print."""
+    lines = text_of(path).splitlines()
+    found, names, place = [], {}, 0
+    while place < len(lines):
+        line = lines[place]
+        for name, value in re.findall(r"`([a-z]+)=([^`]+)`", line):
+            names[name] = value
+        if re.match(r" {4,}(\./ospfcost|examples/[a-z-]+\.sh|python3 bench/) ?", line):
+            text, first = line.strip(), place + 1
+            while text.endswith("\\"):
+                place += 1
+                text = text[:-1] + lines[place].strip()
+            found.append(Command(first, text, names))
+        elif found:
+            for kind, rest in COMMENT.findall(line):
+                if kind == "status":
+                    found[-1].status = int(rest)
+                else:
+                    found[-1].wants.append((kind, rest))
+                    if rest == "below":
+                        found[-1].block = block_behind(lines, place)
+        place += 1
+    return found
+
+
+def block_behind(lines, place):
+    """The next indented block behind a line, without its indentation."""
+    while place < len(lines) and (not lines[place].strip() or not lines[place].startswith("    ")):
+        place += 1
+    block = []
+    while place < len(lines) and (lines[place].startswith("    ") or not lines[place].strip()):
+        block.append(lines[place][4:])
+        place += 1
+    while block and not block[-1].strip():
+        block.pop()
+    return "".join(f"{line}\n" for line in block)
+
+
+def run_commands(claims):
+    with tempfile.TemporaryDirectory() as folder:
+        for name in ("examples", "ospfcost", "bench"):
+            os.symlink(os.path.join(TOP, name), os.path.join(folder, name))
+        for path in documents():
+            for command in commands_in(path):
+                run_one(claims, path, command, folder)
+
+
+def run_one(claims, path, command, folder):
+    place = f"{path}:{command.number}"
+    if not command.wants and command.status is None:
+        return
+    environment = {**os.environ, **command.names}
+    ran = subprocess.run(["sh", "-c", command.text], cwd=folder, env=environment, stdin=subprocess.DEVNULL, capture_output=True)
+    status = command.status or 0
+    claims.claim(ran.returncode == status, place, f"{command.text} ends with status {ran.returncode}, {status} was said")
+    for kind, rest in command.wants:
+        if rest == "below":
+            wanted = command.block.encode()
+            same = ran.stdout.startswith(wanted) if kind == "begins" else ran.stdout == wanted
+            claims.claim(same, place, f"{command.text} prints something else than the block behind it")
+        elif kind == "prints":
+            claims.claim(ran.stdout == bytes_of(os.path.join(folder, rest)), place, f"{command.text} doesn't print {rest}")
+        else:
+            made, _, kept = rest.partition(" as ")
+            claims.claim(bytes_of(os.path.join(folder, made)) == bytes_of(os.path.join(folder, kept)), place, f"{made} isn't {kept}")
+
+
+def bytes_of(path):
+    try:
+        with open(path, "rb") as file:
+            return file.read()
+    except OSError:
+        return None
+
+
+def main(words):
+    if words not in ([], ["--run"]):
+        sys.exit(__doc__)
+    claims = Claims()
+    check_counts(claims)
+    check_map(claims)
+    check_names(claims)
+    check_numbers(claims)
+    check_links(claims)
+    if words:
+        run_commands(claims)
+    for text in claims.false:
+        print(text)
+    print(f"{claims.made} claims, {len(claims.false)} false")
+    sys.exit(1 if claims.false else 0)
+
+
+if __name__ == "__main__":
+    main(sys.argv[1:])
