@@ -1,37 +1,25 @@
 -- What `lsas` made of the network that it read.
-use Rattle.std.proofs.Common.{◌≡◌, ℕ, ◌^◌, ◌<◌, refl, sym, ◌∙◌, ap, subst, List, [], ◌∷◌, length, map, arith, Option, None, Some}
+use Rattle.std.proofs.Common.{◌≡◌, ℕ, ◌^◌, ◌<◌, refl, sym, ◌∙◌, ap, subst, List, [], length, map, arith, Option, None, Some}
 use Rattle.std.specs.Prelude.{All}
-use Rattle.std.proofs.lemmas.Option.{none-some, same_Some}
-use Rattle.std.proofs.lemmas.List.Elements.{All-nil, All-cons, All-head, All-tail}
 use Rattle.std.proofs.lemmas.List.{length-map}
-use Rattle.std.proofs.lemmas.Simd.{map-map}
 use Rattle.cost_base.specs.declared.Status.TheVariants.{Done}
 use Rattle.cost_base.specs.declared.Status.{Status}
-use Rattle.cost_base.specs.Lists.{first_of}
-use Rattle.area_graph.specs.declared.Price.{Price}
 use Rattle.area_graph.specs.declared.Price.TheVariants.{Fixed}
 use Rattle.interface_model.specs.Records.{Router}
-use Rattle.lsdb_build.specs.declared.Linked.{Linked}
-use Rattle.lsdb_build.specs.Graphs.{Database, IsLinkPrice, graph_at}
+use Rattle.lsdb_build.specs.Graphs.{Database, graph_at}
 use Rattle.lsdb_build.specs.Topology.{topology_fault, database_of}
-use Rattle.design_problem.specs.Problems.{DesignProblem}
-use Rattle.wanted_paths.specs.declared.stop.ResolutionFault.{ResolutionFault}
-use Rattle.wanted_paths.specs.LineFaults.{line_faults}
-use Rattle.cost_base.proofs.ListLemmas.{append-none}
 use Rattle.request_reader.specs.Asked.{Asked}
 use Rattle.path_requests.specs.Meaning.{present_cost}
-use Rattle.path_requests.specs.Resolving.{present_asked, present_fault, present_problem_of, cost_faults}
-use Rattle.path_requests.proofs.Assembled.{prices_link}
-use Rattle.path_requests.proofs.PresentLaws.{present_prices_are, present_is_asked}
 use Rattle.input_files.specs.declared.problem.View.TheVariants.{AtPresent}
 use Rattle.input_files.specs.declared.network.Network.{Network}
 use Rattle.input_files.specs.declared.stop.Stop.{Stop}
 use Rattle.input_files.specs.Inputs.{InputFiles}
 use Rattle.input_files.specs.Networks.{IsNetworkOf}
-use Rattle.input_files.specs.Readings.{Reading, Ready, Says, EndsAs}
-use Rattle.input_files.specs.Outcomes.{Input, file_of, routers_of, if_resolved}
+use Rattle.input_files.specs.Readings.{Says, EndsAs}
+use Rattle.input_files.specs.Outcomes.{Input, file_of, routers_of}
 use Rattle.input_files.specs.Stops.{IsReadAndMade, StopsAs, IsRefusal}
 use Rattle.input_files.proofs.Readings.{said_faulty}
+use Rattle.input_files.proofs.PresentNetworks.{above_at_present, graph_at_present}
 use Rattle.report_writer.specs.declared.report.Report.{Report}
 use Rattle.report_writer.specs.Reports.{Reports, bytes_in}
 use Rattle.lsa_bytes.specs.declared.ids.IdFault.{IdFault}
@@ -43,46 +31,14 @@ use Rattle.lsa_writer.specs.OneGraph.{IsDatabaseOf, SayGraph}
 use Rattle.database_commands.specs.Lsas.{present_costs, AreWritten, MayLsas, if_identified}
 use Rattle.database_commands.proofs.Routes.{refusal_stops}
 
--- requests that are resolved have no fault
-
-abbrev is_ready : Reading DesignProblem → Option DesignProblem
-is_ready (Ready p) = Some p
-is_ready _ = None
-
-resolved : (names : InputFiles) (d : Database) (p q : DesignProblem) (fault : Option ResolutionFault) →
-    if_resolved names d p fault ≡ Ready q → (fault ≡ None) × (q ≡ p)
-resolved names d p q None h = (refl, sym (same_Some p q (ap is_ready h)))
-resolved names d p q (Some fault) h = absurd (none-some q (ap is_ready h))
-
-first_none : (faults : List ResolutionFault) → first_of faults ≡ None → faults ≡ []
-first_none [] h = refl
-first_none (fault ∷ faults) h = absurd (none-some fault (sym h))
-
 -- each present cost is above 0
 pub costs_above : (names : InputFiles) (network : Network) (d : Input) → IsNetworkOf AtPresent names network d → All (λ cost. 0 < cost) (present_costs d)
-costs_above names network d is =
-    let whole = resolved names d.database (present_problem_of d.asked d.database) d.problem (present_fault d.asked d.database) is.resolved in
-    let none = append-none (line_faults d.database d.asked.items) (cost_faults (present_asked d.asked) d.database 0 d.database.links) (first_none _ whole.0) in
-    let priced = prices_link (present_asked d.asked) d.database 0 d.database.links (present_is_asked d.asked is.asked) is.base.each_link none.1 in
-    each d.database.links (subst (λ (ps : List Price). All IsLinkPrice ps) (present_prices_are d.asked d.database 0 d.database.links) priced)
-  where
-    each : (links : List Linked) → All IsLinkPrice (map (λ link. Fixed (present_cost d.asked link)) links) →
-        All (λ cost. 0 < cost) (map (present_cost d.asked) links)
-    each [] all = All-nil (λ cost. 0 < cost)
-    each (link ∷ links) all =
-        All-cons (λ cost. 0 < cost) (present_cost d.asked link) (map (present_cost d.asked) links)
-        (All-head IsLinkPrice (Fixed (present_cost d.asked link))
-        (map (λ x. Fixed (present_cost d.asked x)) links) all)
-        (each links (All-tail IsLinkPrice (Fixed (present_cost d.asked link)) (map (λ x. Fixed (present_cost d.asked x)) links) all))
+costs_above names network d is = above_at_present names d is.asked is.base is.resolved
 
 -- the graph that an audit goes by
 graph_is : (names : InputFiles) (network : Network) (d : Input) → IsNetworkOf AtPresent names network d →
     graph_at d.database (map Fixed (present_costs d)) ≡ d.problem.graph
-graph_is names network d is =
-    let whole = resolved names d.database (present_problem_of d.asked d.database) d.problem (present_fault d.asked d.database) is.resolved in
-    sym (ap (λ (p : DesignProblem). p.graph) whole.1
-    ∙ ap (graph_at d.database) (present_prices_are d.asked d.database 0 d.database.links
-    ∙ sym (map-map Fixed (present_cost d.asked) d.database.links)))
+graph_is names network d is = sym (graph_at_present names d is.resolved)
 
 pub is_built : (names : InputFiles) (network : Network) (d : Input) → IsNetworkOf AtPresent names network d → IsDatabaseOf network.configs.items network.lsdb
 is_built names network d is = record {

@@ -1,4 +1,4 @@
--- What a file of LSAs says, read LSA by LSA up to the first fault.
+-- What a file of LSAs says, read LSA by LSA.
 use Rattle.std.specs.Prelude.{ℕ, zero, suc, ◌+◌, List, [], ◌∷◌, ◌++◌, length, take, drop, Option, Some, None, Result, Ok, Err}
 use Rattle.std.specs.Borrow.{Bor}
 use Rattle.input_files.specs.declared.stop.Stop.{Stop}
@@ -9,29 +9,31 @@ use Rattle.lsa_bytes.specs.declared.stop.LsaFault.{LsaFault}
 use Rattle.lsa_bytes.specs.declared.stop.LsaStop.{LsaStop}
 use Rattle.lsa_bytes.specs.declared.stop.LsaStop.TheVariants.{Refused as LsaRefused, OutOfMemory as NoMemoryForLsas}
 use Rattle.lsa_bytes.specs.declared.Lsa.{Lsa}
-use Rattle.lsa_bytes.specs.Faults.{fault_at}
-use Rattle.lsa_bytes.specs.Grammar.{length_of, said_by}
+use Rattle.lsa_bytes.specs.declared.instances.Instance.{Instance}
+use Rattle.lsa_bytes.specs.Faults.{form_fault}
+use Rattle.lsa_bytes.specs.Files.{decided}
+use Rattle.lsa_bytes.specs.Grammar.{length_of, said_at}
 use Rattle.lsa_bytes.specs.Numbers.{number_of}
 
 -- 64 MiB
 abbrev pub longest_lsas : ℕ
 longest_lsas = 67108864
 
--- the first fault ends the reading
-abbrev pub by_fault : ℕ → Option LsaFault → Result (List Lsa) (LsaFault × ℕ) → Result (List Lsa) (LsaFault × ℕ)
-by_fault offset (Some fault) later = Err (fault, offset)
-by_fault offset None later = later
+-- an LSA that is off the grammar ends the reading
+abbrev pub by_fault : List Instance → ℕ → Option LsaFault → Result (List Lsa) (LsaFault × ℕ) → Result (List Lsa) (LsaFault × ℕ)
+by_fault before offset (Some fault) later = decided before (Some (fault, offset))
+by_fault before offset None later = later
 
--- the LSAs behind those before an offset, at most so many, or the first fault and its offset
-abbrev pub lsas_behind : ℕ → List Lsa → ℕ → List ℕ → Result (List Lsa) (LsaFault × ℕ)
-lsas_behind zero before offset rest = Ok before
-lsas_behind (suc most) before offset [] = Ok before
+-- what at most so many LSAs from an offset on come to, behind the instances before it
+abbrev pub lsas_behind : ℕ → List Instance → ℕ → List ℕ → Result (List Lsa) (LsaFault × ℕ)
+lsas_behind zero before offset rest = decided before None
+lsas_behind (suc most) before offset [] = decided before None
 lsas_behind (suc most) before offset (byte ∷ bytes) =
     let rest = byte ∷ bytes in
-    by_fault offset (fault_at before rest)
-    (lsas_behind most (before ++ said_by (take (length_of rest) rest)) (offset + length_of rest) (drop (length_of rest) rest))
+    by_fault before offset (form_fault rest)
+    (lsas_behind most (before ++ said_at offset (take (length_of rest) rest)) (offset + length_of rest) (drop (length_of rest) rest))
 
--- the LSAs that the bytes are, or the first fault and its offset
+-- the LSAs of the bytes that count, or the first fault and its offset
 abbrev pub lsas_in : List ℕ → Result (List Lsa) (LsaFault × ℕ)
 lsas_in bytes = lsas_behind (length bytes) [] 0 bytes
 

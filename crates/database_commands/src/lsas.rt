@@ -1,6 +1,5 @@
 //! `lsas`: the LSAs of configurations at present costs.
-ghost use Rattle.std.specs.Prelude.{◌≡◌, ◌<◌, ◌^◌, [], IfOk, length, map};
-ghost use Rattle.path_requests.specs.Meaning.{present_cost};
+ghost use Rattle.std.specs.Prelude.{◌≡◌, ◌<◌, ◌^◌, [], length};
 ghost use Rattle.lsa_bytes.specs.Ids.{first_id_fault};
 ghost use Rattle.lsa_bytes.specs.Numbers.{number_of};
 ghost use Rattle.input_files.specs.Outcomes.{Input, file_of, routers_of};
@@ -9,15 +8,13 @@ ghost use Rattle.input_files.specs.Stops.{IsReadAs, IsRefusal, files_named};
 ghost use Rattle.database_commands.specs.Lsas.{MayLsas, identified_read, if_identified};
 ghost use Rattle.report_writer.specs.Reports.{bytes_in};
 
-use cost_base::{OutOfMemory, Shelf, Status};
+use cost_base::{Shelf, Status};
 use input_files::{FileWords, Stop, View, file_of, read_network};
 use interface_model::RouterConfig;
 use lsa_bytes::{IdFault, check_ids};
 use lsa_writer::lsas_of;
-use lsdb_build::{Linked, Lsdb};
-use path_requests::present_cost;
+use present_costs::costs_of_links;
 use report_writer::Report;
-use request_reader::RequestFile;
 use std::alloc::Global;
 
 /// The stop of a configuration that has no router ID, or that of an earlier one.
@@ -43,28 +40,6 @@ fn check_router_ids<'a>(configs: &[RouterConfig], words: FileWords<'a>) -> Resul
     }
 }
 
-/// The present costs of links.
-fn present_costs(
-    alloc: Global,
-    requests: &RequestFile,
-    links: &[Linked],
-) -> Result<Vec<u16>, OutOfMemory>
-    ensures { IfOk result (λ costs. costs.items ≡ map (present_cost requests.now) links.now) }
-{
-    let mut costs = Vec::new(alloc);
-    for link in links {
-        costs.push(present_cost(requests, link))?;
-    }
-    Ok(costs)
-}
-
-/// The links of a database, in order.
-fn links_of(lsdb: &Lsdb) -> &[Linked]
-    ensures { result.now ≡ lsdb.now.links }
-{
-    lsdb.links.as_slice()
-}
-
 /// The report of the LSAs of the files of words.
 ///
 /// # Errors
@@ -81,7 +56,7 @@ pub fn lsas_report<'a, S: Shelf>(
 {
     let network = read_network(alloc, View::AtPresent, words, shelf)?;
     check_router_ids(&network.configs, words)?;
-    let costs = present_costs(alloc, &network.requests, links_of(&network.lsdb))?;
+    let costs = costs_of_links(alloc, &network.requests, &network.lsdb)?;
     let bytes = lsas_of(alloc, &network.configs, &network.lsdb, &costs)?;
     Ok(Report::lsas(Status::Done, bytes))
 }

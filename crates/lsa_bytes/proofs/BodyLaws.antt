@@ -1,11 +1,12 @@
 -- Bodies of LSAs: links read one after the other, and what each body keeps.
-use Rattle.std.proofs.Common.{◌≡◌, ℕ, zero, suc, ◌+◌, ◌-◌, ◌*◌, ◌/◌, ◌%◌, ◌<◌, ◌≤◌, ◌||◌, not, Bool, true, false, cond, nat_lt, nat_eq, List, [], ◌∷◌, ◌++◌, length, drop, map, get_or, Option, None, Some, refl, sym, ap, subst, ◌∙◌, append_assoc, arith}
-use Rattle.std.specs.Prelude.{MatchOption, nat_le, sum_by}
+use Rattle.std.proofs.Common.{◌≡◌, ℕ, zero, suc, ◌+◌, ◌-◌, ◌*◌, ◌/◌, ◌%◌, ◌<◌, ◌≤◌, ◌||◌, not, Bool, true, false, cond, nat_lt, nat_eq, List, [], ◌∷◌, ◌++◌, length, drop, map, get_or, Option, None, Some, refl, sym, ap, ◌∙◌, append_assoc, arith}
+use Rattle.std.specs.Prelude.{MatchOption, nat_le}
 use Rattle.std.specs.Option.{option_map}
 use Rattle.std.specs.List.{list_all}
 use Rattle.std.specs.Cmp.Derive.{both_true}
 use Rattle.std.proofs.lemmas.Bool.{and_parts, or_parts, leb-true, ltb-false, eqb-true, false≢true}
 use Rattle.std.proofs.lemmas.List.{append-nil, length-drop}
+use Rattle.std.proofs.lemmas.List.Elements.{All-nil, All-cons}
 use Rattle.cost_base.specs.Lists.{numbers_from}
 use Rattle.cost_base.proofs.ListLemmas.{length-map-numbers_from}
 use Rattle.lsa_bytes.specs.declared.LsaLink.{LsaLink}
@@ -13,8 +14,9 @@ use Rattle.lsa_bytes.specs.declared.Body.{Body}
 use Rattle.lsa_bytes.specs.declared.Body.TheVariants.{Links, Attached}
 use Rattle.lsa_bytes.specs.declared.Lsa.{Lsa}
 use Rattle.lsa_bytes.specs.Fields.{number_16, number_32}
-use Rattle.lsa_bytes.specs.Grammar.{age_of, type_of, link_at, link_length, is_link_type, starts_link, links_of, links_of_router_lsa, attached_in, body_of, with_body, said_by}
-use Rattle.lsa_bytes.specs.Databases.{has_link_types, size_of_body, size_of_lsa}
+use Rattle.lsa_bytes.specs.Grammar.{type_of, link_at, link_length, is_link_type, starts_link, links_of, links_of_router_lsa, attached_in, body_of, with_body, said_at}
+use Rattle.lsa_bytes.specs.Databases.{has_link_types, size_of_body}
+use Rattle.lsa_bytes.specs.Reading.{AreSmall}
 
 -- Links: some that were read, and those that are still to be read.
 
@@ -89,9 +91,9 @@ links_from (suc n) bytes = by_test (starts_link bytes) refl (links_of n (drop (l
         }
 
 -- a body that was found in the bytes of an LSA
-pub record FitsIn (lsa : List ℕ) (body : Body) : Type 0 where
-  pub types : has_link_types body ≡ true
-  pub size : 4 * (1 + size_of_body body) ≤ length lsa
+record FitsIn (lsa : List ℕ) (body : Body) : Type 0 where
+  types : has_link_types body ≡ true
+  size : 4 * (1 + size_of_body body) ≤ length lsa
 
 router_fits : (lsa : List ℕ) → MatchOption (option_map Links (links_of_router_lsa lsa)) (Unit {0}) (FitsIn lsa)
 router_fits lsa = by_test (nat_lt (length lsa) 24) refl (links_of (number_16 lsa 22) (drop 24 lsa)) (links_from (number_16 lsa 22) (drop 24 lsa))
@@ -132,32 +134,15 @@ body_fits lsa = by_tests (nat_eq (type_of lsa) 1) (nat_eq (type_of lsa) 2)
     by_tests false true = network_fits lsa
     by_tests false false = tt
 
--- an LSA that bytes say
-pub said_fits : (bytes : List ℕ) (lsa : Lsa) → lsa ∷ [] ≡ said_by bytes → FitsIn bytes lsa.body
-said_fits bytes lsa said = by_body (body_of bytes) (body_fits bytes) said
+-- the instances that the bytes of an LSA say fit in them
+pub said_fits : (place : ℕ) (bytes : List ℕ) → AreSmall (said_at place bytes) (length bytes)
+said_fits place bytes = by_body (body_of bytes) (body_fits bytes)
   where
-    by_age : (b : Bool) (body : Body) → FitsIn bytes body →
-        lsa ∷ [] ≡ cond b [] (record { id = number_32 bytes 4; router = number_32 bytes 8; body = body } ∷ []) →
-        FitsIn bytes lsa.body
-    by_age true body fits none = absurd (cc)
-    by_age false body fits is =
-        let same : lsa ≡ record { id = number_32 bytes 4; router = number_32 bytes 8; body = body } = cc in
-        subst (λ (l : Lsa). FitsIn bytes l.body) (sym same) fits
-
-    by_body : (found : Option Body) → MatchOption found (Unit {0}) (FitsIn bytes) → lsa ∷ [] ≡ with_body bytes found → FitsIn bytes lsa.body
-    by_body None fits none = absurd (cc)
-    by_body (Some body) fits is = by_age (nat_eq (age_of bytes) 3600) body fits is
-
--- what bytes say takes at most a fourth of their room
-pub said_small : (bytes : List ℕ) → 4 * sum_by size_of_lsa (said_by bytes) ≤ length bytes
-said_small bytes = by_body (body_of bytes) (body_fits bytes)
-  where
-    by_age : (b : Bool) (body : Body) → FitsIn bytes body →
-        4 * sum_by size_of_lsa (cond b [] (record { id = number_32 bytes 4; router = number_32 bytes 8; body = body } ∷ []))
-        ≤ length bytes
-    by_age true body fits = omega arith
-    by_age false body fits = omega (arith, fits.size)
-
-    by_body : (found : Option Body) → MatchOption found (Unit {0}) (FitsIn bytes) → 4 * sum_by size_of_lsa (with_body bytes found) ≤ length bytes
-    by_body None fits = omega arith
-    by_body (Some body) fits = by_age (nat_eq (age_of bytes) 3600) body fits
+    by_body : (found : Option Body) → MatchOption found (Unit {0}) (FitsIn bytes) → AreSmall (with_body place bytes found) (length bytes)
+    by_body None fits = record { types = All-nil (λ lsa. has_link_types lsa.body ≡ true); sizes = omega arith }
+    by_body (Some body) fits =
+        let lsa : Lsa = record { id = number_32 bytes 4; router = number_32 bytes 8; body = body } in
+        record {
+          types = All-cons (λ l. has_link_types l.body ≡ true) lsa [] fits.types (All-nil (λ l. has_link_types l.body ≡ true));
+          sizes = omega (arith, fits.size);
+        }

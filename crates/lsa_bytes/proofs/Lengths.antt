@@ -1,15 +1,15 @@
 -- Whole LSAs at the front of bytes.
-use Rattle.std.proofs.Common.{◌≡◌, ℕ, ◌+◌, ◌*◌, ◌≤◌, ◌||◌, Bool, true, false, cond, nat_lt, List, ◌++◌, length, take, get_or, Option, None, Some, refl, sym, ap, ◌∙◌, arith}
+use Rattle.std.proofs.Common.{◌≡◌, ℕ, ◌+◌, ◌*◌, ◌≤◌, ◌||◌, Bool, true, false, cond, nat_lt, List, [], ◌++◌, length, take, get_or, Option, None, Some, refl, sym, ap, ◌∙◌, arith}
 use Rattle.std.specs.Option.{option_or}
 use Rattle.std.proofs.lemmas.Bool.{or_parts, or_from, ltb-false, le-ltb}
-use Rattle.std.proofs.lemmas.List.{get_or_append_left, append_cancel_left, length-append}
+use Rattle.std.proofs.lemmas.List.{append-nil, get_or_append_left, append_cancel_left, length-append}
 use Rattle.std.proofs.Math.Seq.{take-append_seam}
 use Rattle.lsa_bytes.specs.declared.stop.LsaFault.{LsaFault}
 use Rattle.lsa_bytes.specs.declared.stop.LsaFault.TheVariants.{ShortLsa, BadLength}
-use Rattle.lsa_bytes.specs.declared.Lsa.{Lsa}
 use Rattle.lsa_bytes.specs.Fields.{number_16}
 use Rattle.lsa_bytes.specs.Grammar.{length_of}
-use Rattle.lsa_bytes.specs.Faults.{length_fault, fault_of, fault_at}
+use Rattle.lsa_bytes.specs.Faults.{length_fault, body_fault, form_fault}
+use Rattle.lsa_bytes.specs.Files.{IsLsa}
 
 -- neither of two faults
 pub option_or-none : {X : Type 0} (a b : Option X) → option_or a b ≡ None → (a ≡ None) × (b ≡ None)
@@ -56,10 +56,10 @@ pub record IsWhole (lsa : List ℕ) : Type 0 where
   pub header : 20 ≤ length lsa
   pub long : length_of lsa ≡ length lsa
 
-pub is_whole : (before : List Lsa) (lsa : List ℕ) → length_of lsa ≡ length lsa → fault_at before lsa ≡ None → IsWhole lsa
-is_whole before lsa long none =
-    let begins = begins_whole lsa (option_or-none (length_fault lsa) (fault_of before (take (length_of lsa) lsa)) none).0 in
-    record { header = omega (arith, begins.header, begins.whole); long = long }
+pub is_whole : (lsa : List ℕ) → IsLsa lsa → IsWhole lsa
+is_whole lsa is =
+    let begins = begins_whole lsa (option_or-none (length_fault lsa) (body_fault (take (length_of lsa) lsa)) is.1).0 in
+    record { header = omega (arith, begins.header, begins.whole, is.0); long = is.0 }
 
 pub length_in_front : (lsa more : List ℕ) → IsWhole lsa → length_of (lsa ++ more) ≡ length lsa
 length_in_front lsa more is = length_of-append lsa more is.header ∙ is.long
@@ -80,8 +80,11 @@ same_front x y xs ys first second same =
     (one, append_cancel_left y xs ys (ap (λ (z : List ℕ). z ++ xs) (sym one) ∙ same))
 
 -- what stands behind a whole LSA adds no fault to it
-pub fault_in_front : (before : List Lsa) (lsa more : List ℕ) → IsWhole lsa → fault_at before (lsa ++ more) ≡ fault_of before lsa
-fault_in_front before lsa more is =
-    ap (λ (fault : Option LsaFault). option_or fault (fault_of before (take (length_of (lsa ++ more)) (lsa ++ more))))
+pub fault_in_front : (lsa more : List ℕ) → IsWhole lsa → form_fault (lsa ++ more) ≡ body_fault lsa
+fault_in_front lsa more is =
+    ap (λ (fault : Option LsaFault). option_or fault (body_fault (take (length_of (lsa ++ more)) (lsa ++ more))))
     (no_length_fault (lsa ++ more) (front_whole lsa more is))
-    ∙ ap (fault_of before) (front_taken lsa more is)
+    ∙ ap body_fault (front_taken lsa more is)
+
+pub own_fault : (lsa : List ℕ) → IsWhole lsa → form_fault lsa ≡ body_fault lsa
+own_fault lsa is = ap form_fault (sym (append-nil lsa)) ∙ fault_in_front lsa [] is

@@ -1,9 +1,14 @@
+pub mod NewestLaws
+pub mod Counting
+pub mod Outcomes
+pub mod Apart
+pub mod MemberLaws
+pub mod Lengths
 pub mod BodyLaws
 pub mod Entries
-pub mod Lengths
-pub mod Pieces
 pub mod ReadSoFar
+pub mod Pieces
 pub mod Spots
-pub mod EdgeSteps
 pub mod GraphFits
 pub mod RoundTrip
+pub mod EdgeSteps

@@ -1,33 +1,37 @@
 -- A file of LSAs that is read as far as some bytes that are left.
-use Rattle.std.proofs.Common.{◌≡◌, ℕ, ◌+◌, ◌-◌, ◌*◌, ◌^◌, ◌<◌, ◌≤◌, List, [], ◌∷◌, ◌++◌, length, take, drop, Option, None, refl, sym, ap, subst, ◌∙◌, append_assoc, arith}
+use Rattle.std.proofs.Common.{◌≡◌, ℕ, ◌+◌, ◌-◌, ◌*◌, ◌<◌, ◌≤◌, List, [], ◌∷◌, ◌++◌, All, length, take, drop, Option, None, Some, is_some, true, refl, sym, ap, subst, ◌∙◌, append_assoc, zero-add, arith}
 use Rattle.std.specs.Prelude.{sum_by}
-use Rattle.std.specs.List.{concat}
+use Rattle.std.specs.List.{concat, AllByRecursion}
 use Rattle.std.specs.Option.{option_or}
-use Rattle.std.proofs.lemmas.List.{append-nil, length-append, take-append-drop, length-take}
+use Rattle.std.proofs.lemmas.List.{append-nil, length-append, take-append-drop, length-take, map-append}
+use Rattle.std.proofs.lemmas.List.Elements.{All-append}
 use Rattle.std.proofs.lemmas.List.Folds.{concat-append}
 use Rattle.std.proofs.lemmas.List.Sums.{sum_by-append}
-use Rattle.std.proofs.lemmas.Grind.{flat_map-append}
 use Rattle.lsa_bytes.specs.declared.stop.LsaFault.{LsaFault}
 use Rattle.lsa_bytes.specs.declared.stop.LsaStop.{LsaStop}
 use Rattle.lsa_bytes.specs.declared.stop.LsaStop.TheVariants.{Refused, OutOfMemory}
-use Rattle.lsa_bytes.specs.declared.Lsa.{Lsa}
-use Rattle.lsa_bytes.specs.Grammar.{length_of, said_by}
-use Rattle.lsa_bytes.specs.Databases.{HaveNoFault, IsLsaDatabase, size_of_lsa}
-use Rattle.lsa_bytes.specs.Faults.{Tells, length_fault, fault_of, fault_at}
-use Rattle.lsa_bytes.specs.Files.{AreFaultless, Say, Refuses, said_by_all}
-use Rattle.lsa_bytes.proofs.BodyLaws.{said_small}
-use Rattle.lsa_bytes.proofs.Lengths.{BeginsWhole, length_of-append, IsWhole, fault_in_front}
+use Rattle.lsa_bytes.specs.declared.instances.Instance.{Instance}
+use Rattle.lsa_bytes.specs.Grammar.{length_of, said_at}
+use Rattle.lsa_bytes.specs.Databases.{has_link_types, size_of_lsa}
+use Rattle.lsa_bytes.specs.Instances.{lsas_of}
+use Rattle.lsa_bytes.specs.Faults.{Tells, length_fault, body_fault, form_fault, placed}
+use Rattle.lsa_bytes.specs.Files.{IsLsa, instances_in}
+use Rattle.lsa_bytes.specs.Reading.{AreReadFrom, AreSmall, EndAt}
+use Rattle.lsa_bytes.proofs.BodyLaws.{said_fits}
+use Rattle.lsa_bytes.proofs.Lengths.{BeginsWhole, length_of-append, IsWhole, fault_in_front, own_fault}
 
--- LSAs without a fault stand before the bytes that are left, and these are those that aren't passed over
-pub record IsUnderway (bytes rest : List ℕ) (lsas : List Lsa) : Type 0 where
+-- LSAs as the grammar says stand before the bytes that are left, and say these instances
+pub record IsUnderway (bytes rest : List ℕ) (instances : List Instance) : Type 0 where
   pub pieces : List (List ℕ)
   pub whole : bytes ≡ concat pieces ++ rest
-  pub faultless : AreFaultless [] pieces
-  pub said : lsas ≡ said_by_all pieces
-  pub small : 4 * sum_by size_of_lsa lsas + length rest ≤ length bytes
+  pub lsas : AllByRecursion IsLsa pieces
+  pub said : instances ≡ instances_in 0 pieces
+  pub types : All (λ lsa. has_link_types lsa.body ≡ true) (lsas_of instances)
+  pub sizes : 4 * sum_by size_of_lsa (lsas_of instances) + length rest ≤ length bytes
 
-pub begin : (bytes : List ℕ) → IsUnderway bytes bytes []
-begin bytes = record { pieces = []; whole = refl; faultless = tt; said = refl; small = omega arith }
+pub begin : (bytes : List ℕ) (instances : List Instance) → instances ≡ [] → IsUnderway bytes bytes instances
+begin bytes [] none = record { pieces = []; whole = refl; lsas = tt; said = refl; types = λ i d within. absurd (omega (arith, within)); sizes = omega arith }
+begin bytes (instance ∷ more) none = absurd (cc)
 
 -- the first LSA of the bytes that are left, and the bytes behind it
 pub record IsFirst (rest lsa behind : List ℕ) : Type 0 where
@@ -41,7 +45,7 @@ first_parts rest lsa behind is =
     ∙ ap (λ (back : List ℕ). take (length_of rest) rest ++ back) is.behind_is
     ∙ take-append-drop (length_of rest) rest)
 
-first_length : (rest lsa behind : List ℕ) → IsFirst rest lsa behind → length lsa ≡ length_of rest
+pub first_length : (rest lsa behind : List ℕ) → IsFirst rest lsa behind → length lsa ≡ length_of rest
 first_length rest lsa behind is = ap length is.lsa_is ∙ omega (arith, length-take (length_of rest) rest, is.begins.whole)
 
 pub first_whole : (rest lsa behind : List ℕ) → IsFirst rest lsa behind → IsWhole lsa
@@ -54,90 +58,118 @@ first_whole rest lsa behind is =
     }
 
 -- the fault of that LSA is the fault of the bytes that are left
-pub first_fault : (before : List Lsa) (rest lsa behind : List ℕ) → IsFirst rest lsa behind → fault_at before rest ≡ fault_of before lsa
-first_fault before rest lsa behind is = ap (fault_at before) (first_parts rest lsa behind is)
-    ∙ fault_in_front before lsa behind (first_whole rest lsa behind is)
+pub first_fault_is : (rest lsa behind : List ℕ) → IsFirst rest lsa behind → form_fault rest ≡ body_fault lsa
+first_fault_is rest lsa behind is = ap form_fault (first_parts rest lsa behind is) ∙ fault_in_front lsa behind (first_whole rest lsa behind is)
 
-faultless_push : (before : List Lsa) (pieces : List (List ℕ)) (lsa : List ℕ) → AreFaultless before pieces →
-    length_of lsa ≡ length lsa → fault_at (before ++ said_by_all pieces) lsa ≡ None →
-    AreFaultless before (pieces ++ lsa ∷ [])
-faultless_push before [] lsa are long none = (long, ap (λ (lsas : List Lsa). fault_at lsas lsa) (sym (append-nil before)) ∙ none, tt)
-faultless_push before (piece ∷ pieces) lsa are long none = (
-  are.0,
-  are.1,
-  faultless_push (before ++ said_by piece) pieces lsa are.2 long
-      (ap (λ (lsas : List Lsa). fault_at lsas lsa)
-      (append_assoc before (said_by piece) (said_by_all pieces)) ∙ none),
-)
+pieces_push : (pieces : List (List ℕ)) (lsa : List ℕ) → AllByRecursion IsLsa pieces → IsLsa lsa → AllByRecursion IsLsa (pieces ++ lsa ∷ [])
+pieces_push [] lsa are is = (is, tt)
+pieces_push (piece ∷ pieces) lsa are is = (are.0, pieces_push pieces lsa are.1 is)
 
--- one LSA without a fault more
-pub next : (bytes rest lsa behind : List ℕ) (lsas : List Lsa) → IsUnderway bytes rest lsas → IsFirst rest lsa behind →
-    fault_of lsas lsa ≡ None → IsUnderway bytes behind (lsas ++ said_by lsa)
-next bytes rest lsa behind lsas so_far is none =
+instances_push : (place : ℕ) (pieces : List (List ℕ)) (lsa : List ℕ) →
+    instances_in place (pieces ++ lsa ∷ []) ≡ instances_in place pieces ++ said_at (place + length (concat pieces)) lsa
+instances_push place [] lsa = append-nil (said_at place lsa) ∙ ap (λ (n : ℕ). said_at n lsa) (omega arith)
+instances_push place (piece ∷ pieces) lsa =
+    ap (λ (more : List Instance). said_at place piece ++ more) (instances_push (place + length piece) pieces lsa)
+    ∙ sym (append_assoc (said_at place piece) (instances_in (place + length piece) pieces) (said_at (place + length piece + length (concat pieces)) lsa))
+    ∙ ap (λ (n : ℕ). (said_at place piece ++ instances_in (place + length piece) pieces) ++ said_at n lsa)
+    (omega (arith, length-append piece (concat pieces)))
+
+-- where the bytes that are left begin
+pub place_of : (bytes rest : List ℕ) (instances : List Instance) (is : IsUnderway bytes rest instances) →
+    length bytes - length rest ≡ length (concat is.pieces)
+place_of bytes rest instances is = omega (arith, ap length is.whole, length-append (concat is.pieces) rest)
+
+-- one LSA more
+pub next : (bytes rest lsa behind : List ℕ) (instances more : List Instance) (place : ℕ) → IsUnderway bytes rest instances → IsFirst rest lsa behind →
+    place ≡ length bytes - length rest → body_fault lsa ≡ None → more ≡ instances ++ said_at place lsa → IsUnderway bytes behind more
+next bytes rest lsa behind instances more place so_far is place_is none more_is =
     let whole = first_whole rest lsa behind is in
-    let no_fault : fault_at (said_by_all so_far.pieces) lsa ≡ None =
-    ap (fault_at (said_by_all so_far.pieces)) (sym (append-nil lsa))
-    ∙ fault_in_front (said_by_all so_far.pieces) lsa [] whole
-    ∙ ap (λ (ls : List Lsa). fault_of ls lsa) (sym so_far.said) ∙ none in
+    let fits = said_fits place lsa in
+    let lsas : lsas_of more ≡ lsas_of instances ++ lsas_of (said_at place lsa) =
+    ap lsas_of more_is ∙ map-append (λ (i : Instance). i.lsa) instances (said_at place lsa) in
     record {
       pieces = so_far.pieces ++ lsa ∷ [];
       whole = so_far.whole ∙ ap (λ (back : List ℕ). concat so_far.pieces ++ back) (first_parts rest lsa behind is)
           ∙ sym (ap (λ (front : List ℕ). front ++ behind) (concat-append so_far.pieces (lsa ∷ [])
           ∙ ap (λ (back : List ℕ). concat so_far.pieces ++ back) (append-nil lsa))
           ∙ append_assoc (concat so_far.pieces) lsa behind);
-      faultless = faultless_push [] so_far.pieces lsa so_far.faultless whole.long no_fault;
-      said = ap (λ (ls : List Lsa). ls ++ said_by lsa) so_far.said
-          ∙ sym (flat_map-append said_by so_far.pieces (lsa ∷ [])
-          ∙ ap (λ (ls : List Lsa). said_by_all so_far.pieces ++ ls) (append-nil (said_by lsa)));
-      small = omega (
+      lsas = pieces_push so_far.pieces lsa so_far.lsas (whole.long, own_fault lsa whole ∙ none);
+      said = more_is
+          ∙ ap (λ (n : ℕ). instances ++ said_at n lsa) (place_is ∙ place_of bytes rest instances so_far)
+          ∙ ap (λ (before : List Instance). before ++ said_at (length (concat so_far.pieces)) lsa) so_far.said
+          ∙ ap (λ (n : ℕ). instances_in 0 so_far.pieces ++ said_at n lsa) (sym (zero-add (length (concat so_far.pieces))))
+          ∙ sym (instances_push 0 so_far.pieces lsa);
+      types = subst (All (λ l. has_link_types l.body ≡ true)) (sym lsas)
+          (All-append (λ l. has_link_types l.body ≡ true) (lsas_of instances) (lsas_of (said_at place lsa)) so_far.types fits.types);
+      sizes = omega (
         arith,
-        so_far.small,
-        sum_by-append size_of_lsa lsas (said_by lsa),
-        said_small lsa,
+        so_far.sizes,
+        ap (sum_by size_of_lsa) lsas,
+        sum_by-append size_of_lsa (lsas_of instances) (lsas_of (said_at place lsa)),
+        fits.sizes,
         ap length (first_parts rest lsa behind is),
         length-append lsa behind,
       );
     }
 
+small : (bytes rest : List ℕ) (instances : List Instance) → IsUnderway bytes rest instances → AreSmall instances (length bytes)
+small bytes rest instances so_far = record { types = so_far.types; sizes = omega (arith, so_far.sizes) }
+
 -- no bytes are left
-pub all_said : (bytes rest : List ℕ) (lsas : List Lsa) → IsUnderway bytes rest lsas → length rest ≡ 0 → Say bytes lsas
-all_said bytes [] lsas so_far none = record {
+pub all_read : (bytes rest : List ℕ) (instances : List Instance) → IsUnderway bytes rest instances → length rest ≡ 0 → AreReadFrom bytes instances None
+all_read bytes [] instances so_far none = record {
   pieces = so_far.pieces;
-  whole = so_far.whole ∙ append-nil (concat so_far.pieces);
-  faultless = so_far.faultless;
+  rest = [];
+  cut = record { whole = so_far.whole; lsas = so_far.lsas; over = tt };
   said = so_far.said;
+  behind_is = refl;
+  small = small bytes [] instances so_far;
 }
-all_said bytes (byte ∷ rest) lsas so_far none = absurd (omega arith)
+all_read bytes (byte ∷ rest) instances so_far none = absurd (omega (arith, none))
 
-pub is_database : (bytes rest : List ℕ) (lsas : List Lsa) → IsUnderway bytes rest lsas → length bytes < 2 ^ 32 - 1 → HaveNoFault lsas → IsLsaDatabase lsas
-is_database bytes rest lsas so_far few none = record { faultless = none; small = omega (arith, so_far.small) }
-
--- the next LSA has a fault
-refused : (bytes rest : List ℕ) (lsas : List Lsa) (at : ℕ) (stop : LsaStop) → IsUnderway bytes rest lsas →
-    0 < length rest → at ≡ length bytes - length rest → Tells (fault_at lsas rest) at stop → Refuses bytes stop
-refused bytes rest lsas at (Refused fault offset) so_far some at_is told = record {
+-- the next LSA is off the grammar
+pub broken_off : (bytes rest : List ℕ) (instances : List Instance) (place : ℕ) (fault : LsaFault) → IsUnderway bytes rest instances →
+    0 < length rest → place ≡ length bytes - length rest → form_fault rest ≡ Some fault → AreReadFrom bytes instances (Some (fault, place))
+broken_off bytes [] instances place fault so_far some place_is found = absurd (omega (arith, some))
+broken_off bytes (byte ∷ more) instances place fault so_far some place_is found = record {
   pieces = so_far.pieces;
-  rest = rest;
-  whole = so_far.whole;
-  offset_is = told.1 ∙ at_is ∙ omega (arith, ap length so_far.whole, length-append (concat so_far.pieces) rest);
-  faultless = so_far.faultless;
-  some = some;
-  fault_is = ap (λ (ls : List Lsa). fault_at ls rest) (sym so_far.said) ∙ told.0;
+  rest = byte ∷ more;
+  cut = record { whole = so_far.whole; lsas = so_far.lsas; over = ap is_some found };
+  said = so_far.said;
+  behind_is = ap (λ (n : ℕ). Some (fault, n)) (place_is ∙ place_of bytes (byte ∷ more) instances so_far)
+      ∙ sym (ap (placed (length (concat so_far.pieces))) found);
+  small = small bytes (byte ∷ more) instances so_far;
 }
-refused bytes rest lsas at OutOfMemory so_far some at_is told = tt
 
-length_told : (before : List Lsa) (rest : List ℕ) (at : ℕ) (stop : LsaStop) → Tells (length_fault rest) at stop → Tells (fault_at before rest) at stop
-length_told before rest at (Refused fault offset) told =
-    (ap (λ (found : Option LsaFault). option_or found (fault_of before (take (length_of rest) rest))) told.0, told.1)
-length_told before rest at OutOfMemory told = tt
+refused : (bytes rest : List ℕ) (instances : List Instance) (place : ℕ) (stop : LsaStop) → IsUnderway bytes rest instances →
+    0 < length rest → place ≡ length bytes - length rest → Tells (placed place (form_fault rest)) stop → EndAt bytes instances stop
+refused bytes rest instances place (Refused fault offset) so_far some place_is told =
+    by_found (form_fault rest) refl told
+  where
+    by_found : (found : Option LsaFault) → form_fault rest ≡ found → placed place found ≡ Some (fault, offset) → AreReadFrom bytes instances (Some (fault, offset))
+    by_found None is none = absurd (cc)
+    by_found (Some other) is same =
+        subst (λ (pair : Option (LsaFault × ℕ)). AreReadFrom bytes instances pair) same
+        (broken_off bytes rest instances place other so_far some place_is is)
+refused bytes rest instances place OutOfMemory so_far some place_is told = tt
 
-pub length_refused : (bytes rest : List ℕ) (lsas : List Lsa) (at : ℕ) (stop : LsaStop) → IsUnderway bytes rest lsas →
-    0 < length rest → at ≡ length bytes - length rest → Tells (length_fault rest) at stop → Refuses bytes stop
-length_refused bytes rest lsas at stop so_far some at_is told = refused bytes rest lsas at stop so_far some at_is (length_told lsas rest at stop told)
+length_told : (rest : List ℕ) (place : ℕ) (stop : LsaStop) → Tells (placed place (length_fault rest)) stop → Tells (placed place (form_fault rest)) stop
+length_told rest place (Refused fault offset) told = by_found (length_fault rest) told
+  where
+    by_found : (found : Option LsaFault) → placed place found ≡ Some (fault, offset) →
+        placed place (option_or found (body_fault (take (length_of rest) rest))) ≡ Some (fault, offset)
+    by_found None none = absurd (cc)
+    by_found (Some other) same = same
+length_told rest place OutOfMemory told = tt
 
-pub lsa_refused : (bytes rest lsa behind : List ℕ) (lsas : List Lsa) (at : ℕ) (stop : LsaStop) →
-    IsUnderway bytes rest lsas → 0 < length rest → at ≡ length bytes - length rest → IsFirst rest lsa behind →
-    Tells (fault_of lsas lsa) at stop → Refuses bytes stop
-lsa_refused bytes rest lsa behind lsas at stop so_far some at_is is told =
-    refused bytes rest lsas at stop so_far some at_is
-    (subst (λ (found : Option LsaFault). Tells found at stop) (sym (first_fault lsas rest lsa behind is)) told)
+pub length_refused : (bytes rest : List ℕ) (instances : List Instance) (place : ℕ) (stop : LsaStop) → IsUnderway bytes rest instances →
+    0 < length rest → place ≡ length bytes - length rest → Tells (placed place (length_fault rest)) stop → EndAt bytes instances stop
+length_refused bytes rest instances place stop so_far some place_is told =
+    refused bytes rest instances place stop so_far some place_is (length_told rest place stop told)
+
+pub body_refused : (bytes rest lsa behind : List ℕ) (instances : List Instance) (place : ℕ) (stop : LsaStop) →
+    IsUnderway bytes rest instances → place ≡ length bytes - length rest → IsFirst rest lsa behind →
+    Tells (placed place (body_fault lsa)) stop → EndAt bytes instances stop
+body_refused bytes rest lsa behind instances place stop so_far place_is is told =
+    refused bytes rest instances place stop so_far (omega (arith, is.begins.header, is.begins.whole)) place_is
+    (subst (λ (found : Option LsaFault). Tells (placed place found) stop) (sym (first_fault_is rest lsa behind is)) told)

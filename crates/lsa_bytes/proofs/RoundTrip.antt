@@ -1,30 +1,30 @@
 -- LSAs that were written are read again.
-use Rattle.std.proofs.Common.{◌≡◌, ℕ, ◌+◌, ◌-◌, ◌*◌, ◌/◌, ◌%◌, ◌^◌, ◌<◌, ◌&&◌, ◌||◌, not, Bool, true, false, cond, nat_eq, nat_lt, List, [], ◌∷◌, ◌++◌, length, drop, map, get_or, Option, None, Some, All, refl, sym, ap, subst, ◌∙◌, append_assoc, arith}
-use Rattle.std.specs.Prelude.{flat_map, nat_le, is_some, count_by}
-use Rattle.std.specs.List.{list_any, concat}
-use Rattle.std.specs.Option.{option_map}
+use Rattle.std.proofs.Common.{◌≡◌, ℕ, ◌+◌, ◌-◌, ◌*◌, ◌/◌, ◌%◌, ◌^◌, ◌<◌, ◌&&◌, ◌||◌, not, Bool, true, false, cond, nat_eq, nat_lt, List, [], ◌∷◌, ◌++◌, length, drop, map, get_or, Option, None, Some, Ok, All, refl, sym, ap, subst, ◌∙◌, arith}
+use Rattle.std.specs.Prelude.{flat_map, nat_le, is_some}
+use Rattle.std.specs.List.{concat, AllByRecursion}
+use Rattle.std.specs.Option.{option_map, option_or}
 use Rattle.std.specs.Int.{w16, w32, to_be_bytes}
 use Rattle.std.specs.Cmp.Derive.{both_true}
-use Rattle.std.proofs.lemmas.Bool.{false_from_ne_true, leb-true, le-leb, le-ltb, or_from, eq-eqb}
+use Rattle.std.proofs.lemmas.Bool.{le-leb, le-ltb, or_from, eq-eqb}
 use Rattle.std.proofs.lemmas.Nat.{from_be_bytes-to_be_bytes_2, from_be_bytes-to_be_bytes_4}
-use Rattle.std.proofs.lemmas.List.{append-nil, length-append, get_or-drop, drop-drop, get_or_append_left}
-use Rattle.std.proofs.lemmas.List.Folds.{list_any_none}
-use Rattle.std.proofs.lemmas.List.Sums.{sum_by-append, sum_by-cons}
-use Rattle.std.proofs.Math.Seq.{get_or-append_seam}
+use Rattle.std.proofs.lemmas.List.{append-nil, get_or-drop, drop-drop}
 use Rattle.std.proofs.lemmas.List.Elements.{All-head, All-tail}
 use Rattle.cost_base.specs.Lists.{numbers_from}
-use Rattle.lsa_bytes.specs.declared.stop.LsaFault.TheVariants.{BadBody, LsaTwice, ZeroMetric, TooManyRouters}
+use Rattle.lsa_bytes.specs.declared.stop.LsaFault.{LsaFault}
+use Rattle.lsa_bytes.specs.declared.stop.LsaFault.TheVariants.{BadBody}
 use Rattle.lsa_bytes.specs.declared.LsaLink.{LsaLink}
 use Rattle.lsa_bytes.specs.declared.Body.{Body}
 use Rattle.lsa_bytes.specs.declared.Body.TheVariants.{Links, Attached}
 use Rattle.lsa_bytes.specs.declared.Lsa.{Lsa}
+use Rattle.lsa_bytes.specs.declared.instances.Instance.{Instance}
 use Rattle.lsa_bytes.specs.Fields.{number_16, number_32}
-use Rattle.lsa_bytes.specs.Grammar.{age_of, type_of, length_of, link_at, starts_link, links_of, body_of, with_body, is_read, said_by}
-use Rattle.lsa_bytes.specs.Databases.{HaveNoFault, is_router_lsa, is_same, has_zero_metric}
-use Rattle.lsa_bytes.specs.Faults.{body_fault, fault_behind, fault_at}
-use Rattle.lsa_bytes.specs.Files.{AreFaultless, Say, said_by_all}
-use Rattle.lsa_bytes.proofs.Entries.{said_fault}
-use Rattle.lsa_bytes.proofs.Lengths.{IsWhole, fault_in_front}
+use Rattle.lsa_bytes.specs.Grammar.{age_of, type_of, length_of, link_at, starts_link, links_of, body_of, with_body, is_read, said_at, stamp_of}
+use Rattle.lsa_bytes.specs.Databases.{HaveNoFault}
+use Rattle.lsa_bytes.specs.Instances.{is_gone, lsas_of, those_that_count}
+use Rattle.lsa_bytes.specs.Faults.{body_fault}
+use Rattle.lsa_bytes.specs.Files.{IsLsa, Say, decided, fault_or, instances_in}
+use Rattle.lsa_bytes.proofs.Apart.{all_count}
+use Rattle.lsa_bytes.proofs.Lengths.{IsWhole, own_fault}
 use Rattle.lsa_bytes.specs.Written.{Masked, IsWritableLink, CanBeWritten, IsWritable, bytes_of_all, header, link_bytes, body_bytes, type_of_body, lsa_bytes}
 
 -- a link that was written begins what follows it, and says what it said
@@ -144,19 +144,25 @@ body_again mask id router size (Attached routers) can =
     ∙ ap (λ (n : ℕ). Some (Attached (map at (numbers_from 0 n)))) count
     ∙ ap (λ (rs : List ℕ). Some (Attached rs)) (routers_again bytes 0 routers can.0 refl)
 
-said_again : (m : Masked) → IsWritable m → said_by (lsa_bytes m) ≡ m.lsa ∷ []
-said_again m is =
+-- the instance that stands where an LSA was written
+abbrev written_at : ℕ → Masked → Instance
+written_at place m = record { stamp = stamp_of place (lsa_bytes m); lsa = m.lsa }
+
+said_again : (place : ℕ) (m : Masked) → IsWritable m → said_at place (lsa_bytes m) ≡ written_at place m ∷ []
+said_again place m is =
     let bytes = lsa_bytes m in
     let body = body_bytes m.mask m.lsa.body in
     let type = type_of_body m.lsa.body in
     let size = 20 + length body in
     let id : number_32 bytes 4 ≡ m.lsa.id = header_id type m.lsa.id m.lsa.router size body is.id in
     let router : number_32 bytes 8 ≡ m.lsa.router = header_router type m.lsa.id m.lsa.router size body is.router in
-    ap (λ (found : Option Body). with_body bytes found) (body_again m.mask m.lsa.id m.lsa.router size m.lsa.body is.body)
-    ∙ ap (λ (age : ℕ). cond (nat_eq age 3600) []
-    (record { id = number_32 bytes 4; router = number_32 bytes 8; body = m.lsa.body } ∷ []))
-    (header_age type m.lsa.id m.lsa.router size body)
-    ∙ (λ i. record { id = id i; router = router i; body = m.lsa.body } ∷ [])
+    ap (λ (found : Option Body). with_body place bytes found) (body_again m.mask m.lsa.id m.lsa.router size m.lsa.body is.body)
+    ∙ (λ i. record { stamp = stamp_of place bytes; lsa = record { id = id i; router = router i; body = m.lsa.body } } ∷ [])
+
+young_again : (place : ℕ) (m : Masked) → is_gone (written_at place m).stamp ≡ false
+young_again place m =
+    let body = body_bytes m.mask m.lsa.body in
+    ap (λ (age : ℕ). nat_le 3600 age) (header_age (type_of_body m.lsa.body) m.lsa.id m.lsa.router (20 + length body) body)
 
 no_body_fault : (m : Masked) → IsWritable m → body_fault (lsa_bytes m) ≡ None
 no_body_fault m is =
@@ -171,56 +177,30 @@ no_body_fault m is =
 
 -- Files of LSAs that were written.
 
--- an LSA among others without a fault has none behind those before it
-no_fault_behind : (before : List Lsa) (lsa : Lsa) (more : List Lsa) → HaveNoFault (before ++ lsa ∷ more) → fault_behind before lsa ≡ None
-no_fault_behind before lsa more none =
-    let whole = before ++ lsa ∷ more in
-    let within : length before < length whole = omega (arith, length-append before (lsa ∷ more)) in
-    let room : (is_router_lsa lsa && nat_le 1000 (count_by is_router_lsa before)) ≡ false =
-    by_kind (is_router_lsa lsa) (sum_by-append (λ l. cond (is_router_lsa l) 1 0) before (lsa ∷ more)) (sum_by-cons (λ l. cond (is_router_lsa l) 1 0) lsa more) in
-    let new : list_any (is_same lsa) before ≡ false = list_any_none (is_same lsa) before (λ k d below.
-    sym (ap (is_same lsa) (get_or_append_left before (lsa ∷ more) d k below))
-    ∙ ap (λ (l : Lsa). is_same l (get_or whole k d)) (sym (get_or-append_seam before lsa more d))
-    ∙ none.different k (length before) d below within) in
-    let metric : has_zero_metric lsa.body ≡ false =
-    ap (λ (l : Lsa). has_zero_metric l.body) (sym (get_or-append_seam before lsa more lsa))
-    ∙ none.metrics (length before) lsa within in
-    ap (λ (b : Bool). cond b (Some TooManyRouters)
-    (cond (list_any (is_same lsa) before) (Some LsaTwice)
-    (cond (has_zero_metric lsa.body) (Some ZeroMetric) None))) room
-    ∙ ap (λ (b : Bool). cond b (Some LsaTwice) (cond (has_zero_metric lsa.body) (Some ZeroMetric) None)) new
-    ∙ ap (λ (b : Bool). cond b (Some ZeroMetric) None) metric
-  where
-    by_kind : (b : Bool) → count_by is_router_lsa (before ++ lsa ∷ more) ≡ count_by is_router_lsa before + count_by is_router_lsa (lsa ∷ more)
-        → count_by is_router_lsa (lsa ∷ more) ≡ cond b 1 0 + count_by is_router_lsa more → (b && nat_le 1000 (count_by is_router_lsa before)) ≡ false
-    by_kind true all one = false_from_ne_true (nat_le 1000 (count_by is_router_lsa before))
-        (λ full. omega (arith, all, one, none.routers, leb-true 1000 (count_by is_router_lsa before) full))
-    by_kind false all one = refl
+abbrev all_written : ℕ → List Masked → List Instance
+all_written place [] = []
+all_written place (m ∷ ms) = written_at place m ∷ all_written (place + length (lsa_bytes m)) ms
 
-fault_again : (before : List Lsa) (m : Masked) (more : List Lsa) → IsWritable m → HaveNoFault (before ++ m.lsa ∷ more) → fault_at before (lsa_bytes m) ≡ None
-fault_again before m more is none =
-    let bytes = lsa_bytes m in
-    let whole : IsWhole bytes = record { header = omega arith; long = whole_again m is } in
-    ap (fault_at before) (sym (append-nil bytes)) ∙ fault_in_front before bytes [] whole
-    ∙ said_fault before bytes (m.lsa ∷ []) (no_body_fault m is) (sym (said_again m is)) ∙ no_fault_behind before m.lsa more none
+all_said_again : (place : ℕ) (ms : List Masked) → All IsWritable ms → instances_in place (map lsa_bytes ms) ≡ all_written place ms
+all_said_again place [] all = refl
+all_said_again place (m ∷ ms) all =
+    ap (λ (said : List Instance). said ++ instances_in (place + length (lsa_bytes m)) (map lsa_bytes ms)) (said_again place m (All-head IsWritable m ms all))
+    ∙ ap (λ (said : List Instance). written_at place m ∷ said) (all_said_again (place + length (lsa_bytes m)) ms (All-tail IsWritable m ms all))
 
-faultless_again : (before : List Lsa) (ms : List Masked) → All IsWritable ms →
-    HaveNoFault (before ++ map (λ m. m.lsa) ms) → AreFaultless before (map lsa_bytes ms)
-faultless_again before [] all none = tt
-faultless_again before (m ∷ ms) all none =
+written_lsas : (place : ℕ) (ms : List Masked) → lsas_of (all_written place ms) ≡ map (λ m. m.lsa) ms
+written_lsas place [] = refl
+written_lsas place (m ∷ ms) = ap (λ (lsas : List Lsa). m.lsa ∷ lsas) (written_lsas (place + length (lsa_bytes m)) ms)
+
+all_young : (place : ℕ) (ms : List Masked) → AllByRecursion (λ i. is_gone i.stamp ≡ false) (all_written place ms)
+all_young place [] = tt
+all_young place (m ∷ ms) = (young_again place m, all_young (place + length (lsa_bytes m)) ms)
+
+lsas_again : (ms : List Masked) → All IsWritable ms → AllByRecursion IsLsa (map lsa_bytes ms)
+lsas_again [] all = tt
+lsas_again (m ∷ ms) all =
     let is = All-head IsWritable m ms all in
-    let rest = faultless_again (before ++ m.lsa ∷ []) ms (All-tail IsWritable m ms all)
-    (subst HaveNoFault (sym (append_assoc before (m.lsa ∷ []) (map (λ (x : Masked). x.lsa) ms))) none) in (
-      whole_again m is,
-      fault_again before m (map (λ x. x.lsa) ms) is none,
-      subst (λ (said : List Lsa). AreFaultless (before ++ said) (map lsa_bytes ms)) (sym (said_again m is)) rest,
-    )
-
-all_said_again : (ms : List Masked) → All IsWritable ms → said_by_all (map lsa_bytes ms) ≡ map (λ m. m.lsa) ms
-all_said_again [] all = refl
-all_said_again (m ∷ ms) all =
-    ap (λ (said : List Lsa). said ++ said_by_all (map lsa_bytes ms)) (said_again m (All-head IsWritable m ms all))
-    ∙ ap (λ (said : List Lsa). m.lsa ∷ said) (all_said_again ms (All-tail IsWritable m ms all))
+    let whole : IsWhole (lsa_bytes m) = record { header = omega arith; long = whole_again m is } in
+    ((whole.long, own_fault (lsa_bytes m) whole ∙ no_body_fault m is), lsas_again ms (All-tail IsWritable m ms all))
 
 in_pieces : (ms : List Masked) → bytes_of_all ms ≡ concat (map lsa_bytes ms)
 in_pieces [] = refl
@@ -228,9 +208,15 @@ in_pieces (m ∷ ms) = ap (λ (rest : List ℕ). lsa_bytes m ++ rest) (in_pieces
 
 -- the bytes of LSAs without a fault say these LSAs
 pub written_says : (ms : List Masked) → All IsWritable ms → HaveNoFault (map (λ m. m.lsa) ms) → Say (bytes_of_all ms) (map (λ m. m.lsa) ms)
-written_says ms all none = record {
-  pieces = map lsa_bytes ms;
-  whole = in_pieces ms;
-  faultless = faultless_again [] ms all none;
-  said = sym (all_said_again ms all);
-}
+written_says ms all none =
+    let written = all_written 0 ms in
+    let count = all_count written (all_young 0 ms) (subst HaveNoFault (sym (written_lsas 0 ms)) none) in
+    record {
+      pieces = map lsa_bytes ms;
+      rest = [];
+      cut = record { whole = in_pieces ms ∙ sym (append-nil (concat (map lsa_bytes ms))); lsas = lsas_again ms all; over = tt };
+      is = sym (ap (λ (instances : List Instance). decided instances None) (all_said_again 0 ms all)
+          ∙ ap (λ (found : Option (LsaFault × ℕ)). fault_or (option_or found None) (lsas_of (those_that_count written))) count.0
+          ∙ ap (λ (instances : List Instance). Ok (lsas_of instances)) count.1
+          ∙ ap Ok (written_lsas 0 ms));
+    }

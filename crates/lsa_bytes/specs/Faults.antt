@@ -1,14 +1,16 @@
 -- The faults of LSA bytes, in their order.
-use Rattle.std.specs.Prelude.{◌≡◌, ℕ, ◌&&◌, ◌||◌, not, nat_le, nat_lt, List, [], ◌∷◌, length, take, count_by, is_some, Option, Some, None, if◌then◌else◌}
+use Rattle.std.specs.Prelude.{◌≡◌, ℕ, ◌&&◌, ◌||◌, not, nat_le, nat_lt, List, [], ◌∷◌, ◌++◌, length, take, count_by, is_some, Option, Some, None, if◌then◌else◌}
 use Rattle.std.specs.List.{list_any}
-use Rattle.std.specs.Option.{option_or}
+use Rattle.std.specs.Option.{option_map, option_or}
 use Rattle.lsa_bytes.specs.declared.stop.LsaFault.{LsaFault}
 use Rattle.lsa_bytes.specs.declared.stop.LsaFault.TheVariants.{ShortLsa, BadLength, BadBody, LsaTwice, ZeroMetric, TooManyRouters}
 use Rattle.lsa_bytes.specs.declared.stop.LsaStop.{LsaStop}
 use Rattle.lsa_bytes.specs.declared.stop.LsaStop.TheVariants.{Refused, OutOfMemory}
 use Rattle.lsa_bytes.specs.declared.Lsa.{Lsa}
-use Rattle.lsa_bytes.specs.Grammar.{type_of, length_of, is_read, body_of, said_by}
+use Rattle.lsa_bytes.specs.declared.instances.Instance.{Instance}
+use Rattle.lsa_bytes.specs.Grammar.{type_of, length_of, is_read, body_of}
 use Rattle.lsa_bytes.specs.Databases.{is_router_lsa, is_same, has_zero_metric}
+use Rattle.lsa_bytes.specs.Instances.{those_that_count}
 
 -- fewer bytes are left than a header or than the length says, or the length is below a header's
 abbrev pub length_fault : List ℕ → Option LsaFault
@@ -21,7 +23,20 @@ length_fault rest =
 abbrev pub body_fault : List ℕ → Option LsaFault
 body_fault lsa = if is_read (type_of lsa) && not (is_some (body_of lsa)) then Some BadBody else None
 
--- the fault of an LSA that isn't passed over, behind those before it
+-- the bytes that are left don't begin with an LSA as the grammar says
+abbrev pub form_fault : List ℕ → Option LsaFault
+form_fault rest = option_or (length_fault rest) (body_fault (take (length_of rest) rest))
+
+-- a fault, with the place where it is
+abbrev pub placed : ℕ → Option LsaFault → Option (LsaFault × ℕ)
+placed place found = option_map (λ fault. (fault, place)) found
+
+-- the fault where bytes that are left begin, and there are some
+abbrev pub rest_fault : ℕ → List ℕ → Option (LsaFault × ℕ)
+rest_fault place [] = None
+rest_fault place (byte ∷ bytes) = placed place (form_fault (byte ∷ bytes))
+
+-- the fault of an LSA that counts, behind those before it that count
 abbrev pub fault_behind : List Lsa → Lsa → Option LsaFault
 fault_behind before lsa =
     if is_router_lsa lsa && nat_le 1000 (count_by is_router_lsa before) then Some TooManyRouters
@@ -29,20 +44,17 @@ fault_behind before lsa =
     else if has_zero_metric lsa.body then Some ZeroMetric
     else None
 
--- the fault of an LSA behind those before it; none of one that is passed over
-abbrev pub faults_behind : List Lsa → List Lsa → Option LsaFault
-faults_behind before [] = None
-faults_behind before (lsa ∷ lsas) = fault_behind before lsa
+-- the first fault of instances that count, behind the LSAs before them
+abbrev pub first_fault : List Lsa → List Instance → Option (LsaFault × ℕ)
+first_fault before [] = None
+first_fault before (instance ∷ more) =
+    option_or (placed instance.stamp.place (fault_behind before instance.lsa)) (first_fault (before ++ instance.lsa ∷ []) more)
 
--- the fault of the bytes of one LSA, behind the LSAs before it
-abbrev pub fault_of : List Lsa → List ℕ → Option LsaFault
-fault_of before lsa = option_or (body_fault lsa) (faults_behind before (said_by lsa))
+-- the first fault among instances, of which those that count may have one
+abbrev pub fault_among : List Instance → Option (LsaFault × ℕ)
+fault_among all = first_fault [] (those_that_count all)
 
--- the fault of the first LSA of the bytes that are left, behind the LSAs before it
-abbrev pub fault_at : List Lsa → List ℕ → Option LsaFault
-fault_at before rest = option_or (length_fault rest) (fault_of before (take (length_of rest) rest))
-
--- the refusal tells a fault and its offset; want of memory says nothing
-abbrev pub Tells : Option LsaFault → ℕ → LsaStop → Type 0
-Tells found at (Refused fault offset) = (found ≡ Some fault) × (offset ≡ at)
-Tells found at OutOfMemory = Unit {0}
+-- the refusal tells a fault and its place; want of memory says nothing
+abbrev pub Tells : Option (LsaFault × ℕ) → LsaStop → Type 0
+Tells found (Refused fault offset) = found ≡ Some (fault, offset)
+Tells found OutOfMemory = Unit {0}

@@ -5,7 +5,8 @@ use Rattle.cost_base.specs.Lists.{numbers_from}
 use Rattle.lsa_bytes.specs.declared.LsaLink.{LsaLink}
 use Rattle.lsa_bytes.specs.declared.Body.{Body}
 use Rattle.lsa_bytes.specs.declared.Body.TheVariants.{Links, Attached}
-use Rattle.lsa_bytes.specs.declared.Lsa.{Lsa}
+use Rattle.lsa_bytes.specs.declared.instances.Stamp.{Stamp}
+use Rattle.lsa_bytes.specs.declared.instances.Instance.{Instance}
 use Rattle.lsa_bytes.specs.Fields.{number_16, number_32}
 
 -- Of the header: the age, the type, and the length of the whole LSA.
@@ -74,12 +75,18 @@ body_at type lsa =
 abbrev pub body_of : List ℕ → Option Body
 body_of lsa = body_at (type_of lsa) lsa
 
--- an LSA with its link state ID and its advertising router; one of the greatest age, 3600 seconds, is passed over
-abbrev pub with_body : List ℕ → Option Body → List Lsa
-with_body lsa None = []
-with_body lsa (Some body) =
-    if age_of lsa == 3600 then [] else record { id = number_32 lsa 4; router = number_32 lsa 8; body = body } ∷ []
+-- what the header says of an LSA at a place: age, sequence number and checksum
+abbrev pub stamp_of : ℕ → List ℕ → Stamp
+stamp_of place lsa = record { place = place; age = age_of lsa; sequence = number_32 lsa 12; checksum = number_16 lsa 16 }
 
--- what an LSA says: one, or nothing where it is passed over
-abbrev pub said_by : List ℕ → List Lsa
-said_by lsa = with_body lsa (body_of lsa)
+-- an LSA with its link state ID and its advertising router
+abbrev pub with_body : ℕ → List ℕ → Option Body → List Instance
+with_body place lsa None = []
+with_body place lsa (Some body) = record {
+  stamp = stamp_of place lsa;
+  lsa = record { id = number_32 lsa 4; router = number_32 lsa 8; body = body };
+} ∷ []
+
+-- what the bytes of an LSA at a place say: one instance, or nothing where its type isn't read
+abbrev pub said_at : ℕ → List ℕ → List Instance
+said_at place lsa = with_body place lsa (body_of lsa)

@@ -2,10 +2,13 @@ pub mod Fields
 pub mod Grammar
 pub mod Numbers
 pub mod Databases
+pub mod Written
+pub mod Instances
+pub mod Newest
 pub mod Faults
 pub mod Files
+pub mod Reading
 pub mod Seen
 pub mod AreaGraphs
 pub mod Vertices
 pub mod Ids
-pub mod Written

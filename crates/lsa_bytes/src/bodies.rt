@@ -1,9 +1,10 @@
 //! What the bytes of one LSA say.
 ghost use Rattle.std.specs.Prelude.{◌≡◌, ◌≤◌, ◌+◌, None, IfOk, MatchResult, MatchOption, length, option_to_list};
-ghost use Rattle.lsa_bytes.specs.Grammar.{starts_link, link_length, link_at, links_of, links_of_router_lsa, attached_in, body_of, is_read, said_by};
-ghost use Rattle.lsa_bytes.specs.Faults.{Tells, body_fault};
+ghost use Rattle.lsa_bytes.specs.Grammar.{starts_link, link_length, link_at, links_of, links_of_router_lsa, attached_in, body_of, is_read, said_at, stamp_of};
+ghost use Rattle.lsa_bytes.specs.Faults.{Tells, body_fault, placed};
 
 use crate::fields::{number_16, number_32};
+use crate::instances::{Instance, Stamp};
 use crate::stop::refusal;
 use crate::{Body, Lsa, LsaFault, LsaLink, LsaStop, NETWORK_LSA, ROUTER_LSA};
 use cost_base::{Listed, OutOfMemory};
@@ -11,9 +12,6 @@ use std::alloc::Global;
 
 /// The length of an LSA's header.
 pub const HEADER_LENGTH: usize = 20;
-
-/// The age at which an LSA is to be flushed: MaxAge, in seconds (RFC 2328, appendix B).
-const GREATEST_AGE: u16 = 3600;
 
 /// Whether a link begins the bytes: one of type 1 to 4, whole with what stands for its types of service.
 fn starts_link(bytes: &[u8]) -> bool
@@ -109,19 +107,34 @@ fn is_read(kind: u8) -> bool
     kind == ROUTER_LSA || kind == NETWORK_LSA
 }
 
-/// What one LSA says, or None where it is passed over: one of another type, or of the greatest age.
-pub fn said_by(alloc: Global, lsa: &[u8], offset: u32) -> Result<Option<Lsa>, LsaStop>
+/// What the header says of an LSA at a place: its age, its sequence number and its checksum.
+fn stamp_of(lsa: &[u8], place: u32) -> Stamp
     requires { 20 ≤ length lsa.now }
-    ensures { MatchResult result (λ said. (body_fault lsa.now ≡ None) × (option_to_list said ≡ said_by lsa.now)) (Tells (body_fault lsa.now) offset) }
+    ensures { result ≡ stamp_of place lsa.now }
+{
+    Stamp {
+        place,
+        age: number_16(lsa, 0),
+        sequence: number_32(lsa, 12),
+        checksum: number_16(lsa, 16),
+    }
+}
+
+/// What one LSA at a place says, or None where its type isn't read.
+pub fn said_at(alloc: Global, lsa: &[u8], place: u32) -> Result<Option<Instance>, LsaStop>
+    requires { 20 ≤ length lsa.now }
+    ensures { MatchResult result (λ said. (body_fault lsa.now ≡ None) × (option_to_list said ≡ said_at place lsa.now)) (Tells (placed place (body_fault lsa.now))) }
 {
     match body_of(alloc, lsa)? {
-        None if is_read(lsa[3]) => Err(refusal(LsaFault::BadBody, offset)),
+        None if is_read(lsa[3]) => Err(refusal(LsaFault::BadBody, place)),
         None => Ok(None),
-        Some(_) if number_16(lsa, 0) == GREATEST_AGE => Ok(None),
-        Some(body) => Ok(Some(Lsa {
-            id: number_32(lsa, 4),
-            router: number_32(lsa, 8),
-            body,
+        Some(body) => Ok(Some(Instance {
+            stamp: stamp_of(lsa, place),
+            lsa: Lsa {
+                id: number_32(lsa, 4),
+                router: number_32(lsa, 8),
+                body,
+            },
         })),
     }
 }

@@ -52,7 +52,7 @@ pub struct Lsa {
     pub body: Body,
 }
 
-/// The LSAs of an area, in their order in a file, without those that are passed over.
+/// The LSAs of an area that count, of each the newest instance, in the order of these instances in a file.
 ///
 /// Kept: each link is of type 1 to 4, and has a metric above 0 where it is of type 1 or 2; no two router-LSAs are of one
 /// advertising router, and no two network-LSAs of one link state ID; there are at most 1,000 router-LSAs; LSAs, links and
@@ -96,9 +96,13 @@ impl Database {
 
 mod bodies;
 mod edges;
+mod ends;
 mod fields;
 mod graphs;
 mod ids;
+mod instances;
+mod members;
+mod newest;
 mod reader;
 mod reading;
 mod seen;
@@ -107,6 +111,7 @@ mod vertices;
 
 pub use graphs::graph_of_lsas;
 pub use ids::{IdFault, check_ids};
+pub use instances::{Instance, Stamp};
 pub use reader::is_router;
-pub use reading::{comes_to_one, read_lsas, written_is_read};
+pub use reading::{comes_to_one, database_of, read_lsas, written_is_read};
 pub use stop::{LsaFault, LsaStop};

@@ -1,11 +1,9 @@
-//! The LSAs that were read so far.
-ghost use Rattle.std.specs.Prelude.{◌≡◌, ◌≤◌, ◌&&◌, [], ◌∷◌, ◌++◌, None, MatchResult, count_by, length, nat_le, true};
+//! The LSAs of a database that is made LSA by LSA.
+ghost use Rattle.std.specs.Prelude.{◌≡◌, ◌&&◌, [], ◌∷◌, ◌++◌, None, MatchResult, count_by, nat_le, true};
 ghost use Rattle.std.specs.List.{list_any};
-ghost use Rattle.lsa_bytes.specs.Grammar.{said_by};
 ghost use Rattle.lsa_bytes.specs.Databases.{HaveNoFault, has_link_types, has_zero_metric, is_router_lsa, is_zero_link};
-ghost use Rattle.lsa_bytes.specs.Faults.{Tells, fault_behind, fault_of};
+ghost use Rattle.lsa_bytes.specs.Faults.{Tells, fault_behind, placed};
 
-use crate::bodies::said_by;
 use crate::seen::Seen;
 use crate::stop::refusal;
 use crate::{Body, Lsa, LsaFault, LsaLink, LsaStop, POINT_TO_POINT_LINK, TRANSIT_LINK};
@@ -13,7 +11,7 @@ use area_graph::MOST_ROUTERS;
 use std::alloc::Global;
 use std::marker::Model;
 
-/// The LSAs that were read and aren't passed over, with a look-up by what names them.
+/// LSAs without a fault, with a look-up by what names them.
 #[derive(Drop)]
 pub struct Reader {
     lsas: Vec<Lsa>,
@@ -37,7 +35,7 @@ impl Model for Reader {
 }
 
 impl Reader {
-    /// Nothing was read.
+    /// No LSA.
     pub fn new(alloc: Global) -> Reader
         ensures { result ≡ [] }
     {
@@ -47,31 +45,20 @@ impl Reader {
         }
     }
 
-    /// With what the bytes of one more LSA say.
-    pub fn with_bytes(self, alloc: Global, lsa: &[u8], offset: u32) -> Result<Reader, LsaStop>
-        requires { 20 ≤ length lsa.now }
-        ensures { MatchResult result (λ reader. (fault_of self lsa.now ≡ None) × (reader ≡ self ++ said_by lsa.now)) (Tells (fault_of self lsa.now) offset) }
-    {
-        match said_by(alloc, lsa, offset)? {
-            Some(said) => self.with(said, offset),
-            None => Ok(self),
-        }
-    }
-
     /// With one more LSA.
-    fn with(self, lsa: Lsa, offset: u32) -> Result<Reader, LsaStop>
+    pub fn with(self, lsa: Lsa, place: u32) -> Result<Reader, LsaStop>
         requires { has_link_types lsa.body ≡ true }
-        ensures { MatchResult result (λ reader. (fault_behind self lsa ≡ None) × (reader ≡ self ++ lsa ∷ [])) (Tells (fault_behind self lsa) offset) }
+        ensures { MatchResult result (λ reader. (fault_behind self lsa ≡ None) × (reader ≡ self ++ lsa ∷ [])) (Tells (placed place (fault_behind self lsa))) }
     {
         if self.has_no_room(&lsa) {
-            return Err(refusal(LsaFault::TooManyRouters, offset));
+            return Err(refusal(LsaFault::TooManyRouters, place));
         }
         let Reader { mut lsas, mut seen } = self;
         if !seen.add(&lsa)? {
-            return Err(refusal(LsaFault::LsaTwice, offset));
+            return Err(refusal(LsaFault::LsaTwice, place));
         }
         if has_zero_metric(&lsa.body) {
-            return Err(refusal(LsaFault::ZeroMetric, offset));
+            return Err(refusal(LsaFault::ZeroMetric, place));
         }
         lsas.push(lsa)?;
         Ok(Reader { lsas, seen })
@@ -84,7 +71,7 @@ impl Reader {
         is_router(lsa) && self.seen.router_count() >= MOST_ROUTERS
     }
 
-    /// The LSAs that were read, in order.
+    /// The LSAs, in order.
     pub fn into_lsas(self) -> Vec<Lsa>
         ensures lsas { result.items ≡ self }
         ensures faultless { HaveNoFault self }

@@ -1,23 +1,28 @@
 //! Reading files of LSAs.
-ghost use Rattle.std.specs.Prelude.{◌≡◌, ◌<◌, ◌≤◌, ◌^◌, ◌-◌, None, Ok, Err, length, List, ℕ, All, map, MatchResult, Result};
+ghost use Rattle.std.specs.Prelude.{◌≡◌, ◌<◌, ◌^◌, [], None, Ok, length, List, ℕ, All, map, MatchResult, OnOk, ◌++◌, ◌-◌, option_to_list, Result};
 ghost use Rattle.lsa_bytes.specs.declared.Lsa.{Lsa as OneLsa};
 ghost use Rattle.lsa_bytes.specs.declared.stop.LsaFault.{LsaFault as OneFault};
 ghost use Rattle.lsa_bytes.specs.Grammar.{length_of};
-ghost use Rattle.lsa_bytes.specs.Faults.{Tells, length_fault};
+ghost use Rattle.lsa_bytes.specs.Faults.{Tells, fault_among, length_fault, placed};
 ghost use Rattle.lsa_bytes.specs.Databases.{HaveNoFault};
+ghost use Rattle.lsa_bytes.specs.Instances.{lsas_of, those_that_count};
 ghost use Rattle.lsa_bytes.specs.Files.{ComesTo, Refuses, Say};
+ghost use Rattle.lsa_bytes.specs.Reading.{AreReadFrom, AreSmall, AreSmallAt, EndAt, TellsFirst};
 ghost use Rattle.lsa_bytes.specs.Written.{IsWritable, Masked, bytes_of_all};
 
-use crate::bodies::HEADER_LENGTH;
+use crate::bodies::{HEADER_LENGTH, said_at};
 use crate::fields::number_16;
+use crate::instances::Instance;
+use crate::newest::Newest;
 use crate::reader::Reader;
 use crate::stop::refusal;
 use crate::{Database, LsaFault, LsaStop};
+use cost_base::OutOfMemory;
 use std::alloc::Global;
 
 /// The length of the LSA that begins the bytes, all of which they have.
 fn whole_length(rest: &[u8], offset: u32) -> Result<usize, LsaStop>
-    ensures { MatchResult result (λ length. (length_fault rest.now ≡ None) × (length ≡ length_of rest.now)) (Tells (length_fault rest.now) offset) }
+    ensures { MatchResult result (λ length. (length_fault rest.now ≡ None) × (length ≡ length_of rest.now)) (Tells (placed offset (length_fault rest.now))) }
 {
     if rest.len() < HEADER_LENGTH {
         return Err(refusal(LsaFault::ShortLsa, offset));
@@ -32,27 +37,87 @@ fn whole_length(rest: &[u8], offset: u32) -> Result<usize, LsaStop>
     Ok(length)
 }
 
-/// The LSAs that the bytes are, one after the other (RFC 2328, A.4.1 to A.4.3), in one pass. LSAs of other types than 1 and
-/// 2 are passed over, and so are those of the greatest age.
-///
-/// # Errors
-///
-/// `Refused` with the offset of the first faulty LSA, and of its faults the first in the order `ShortLsa`, `BadLength`,
-/// `BadBody`, `TooManyRouters`, `LsaTwice`, `ZeroMetric`. `OutOfMemory` where memory runs out.
-pub fn read_lsas(alloc: Global, bytes: &[u8]) -> Result<Database, LsaStop>
-    requires { length bytes.now < 2 ^ 32 - 1 }
-    ensures { MatchResult result (λ database. ComesTo bytes.now (Ok database)) (Refuses bytes.now) }
+/// Appends an instance, if there is one.
+fn push_said(instances: &mut Vec<Instance>, said: Option<Instance>) -> Result<(), OutOfMemory>
+    ensures { OnOk result (instances.new.items ≡ instances.old.items ++ option_to_list said) }
 {
-    let mut reader = Reader::new(alloc);
+    if let Some(instance) = said {
+        instances.push(instance)?;
+    }
+    Ok(())
+}
+
+/// Appends what the LSAs of the bytes say, one after the other, up to the first that is off the grammar.
+fn push_instances(alloc: Global, instances: &mut Vec<Instance>, bytes: &[u8]) -> Result<(), LsaStop>
+    requires empty { instances.old.items ≡ [] }
+    requires few { length bytes.now < 2 ^ 32 - 1 }
+    ensures { MatchResult result (λ _. AreReadFrom bytes.now instances.new.items None) (EndAt bytes.now instances.new.items) }
+{
     let mut rest = bytes;
     while !rest.is_empty() {
         let offset = (bytes.len() - rest.len()) as u32;
         let length = whole_length(rest, offset)?;
         let (lsa, behind) = rest.split_at(length);
-        reader = reader.with_bytes(alloc, lsa, offset)?;
+        push_said(instances, said_at(alloc, lsa, offset)?)?;
         rest = behind;
     }
+    Ok(())
+}
+
+/// The database of the instances that count, in their order. Of the instances of one LSA the newest counts (RFC 2328,
+/// 13.1), unless it is of age 3600 or more: then the LSA is gone.
+///
+/// # Errors
+///
+/// `Refused` with the place of the first instance that counts and has a fault, and of its faults the first in the order
+/// `TooManyRouters`, `LsaTwice`, `ZeroMetric`. `OutOfMemory` where memory runs out.
+pub fn database_of(alloc: Global, instances: Vec<Instance>) -> Result<Database, LsaStop>
+    requires { AreSmall instances.items (2 ^ 32 - 2) }
+    ensures { MatchResult result (λ database. (fault_among instances.items ≡ None) × (database ≡ lsas_of (those_that_count instances.items)))
+        (Tells (fault_among instances.items)) }
+{
+    let newest = Newest::among(alloc, instances.as_slice())?;
+    let mut reader = Reader::new(alloc);
+    for instance in instances {
+        if newest.counts(&instance) {
+            reader = reader.with(instance.lsa, instance.stamp.place)?;
+        }
+    }
     Ok(Database::from_items(reader.into_lsas()))
+}
+
+/// The first refusal, where one comes behind instances: that of the first fault among them, or else that one.
+fn first_stop(alloc: Global, instances: Vec<Instance>, stop: LsaStop) -> LsaStop
+    requires { AreSmallAt instances.items stop }
+    ensures { TellsFirst instances.items stop result }
+{
+    match stop {
+        LsaStop::OutOfMemory => stop,
+        LsaStop::Refused { .. } => match database_of(alloc, instances) {
+            Ok(_) => stop,
+            Err(earlier) => earlier,
+        },
+    }
+}
+
+/// The LSAs that the bytes are, one after the other (RFC 2328, A.4.1 to A.4.3). LSAs of other types than 1 and 2 are
+/// passed over. Of the instances of one LSA the newest counts (RFC 2328, 13.1), and where its age is 3600 or more the LSA
+/// is gone. The LSAs stand in the order of the instances that count.
+///
+/// # Errors
+///
+/// `Refused` with the offset of the first faulty LSA, and of its faults the first in the order `ShortLsa`, `BadLength`,
+/// `BadBody`, `TooManyRouters`, `LsaTwice`, `ZeroMetric`, of which the last three are faults of what counts among the LSAs
+/// before the first that has one of the others. `OutOfMemory` where memory runs out.
+pub fn read_lsas(alloc: Global, bytes: &[u8]) -> Result<Database, LsaStop>
+    requires { length bytes.now < 2 ^ 32 - 1 }
+    ensures { MatchResult result (λ database. ComesTo bytes.now (Ok database)) (Refuses bytes.now) }
+{
+    let mut instances = Vec::new(alloc);
+    match push_instances(alloc, &mut instances, bytes) {
+        Ok(()) => database_of(alloc, instances),
+        Err(stop) => Err(first_stop(alloc, instances, stop)),
+    }
 }
 
 /// Bytes come to one thing: to one list of LSAs, or to one fault at one offset. A law, which takes no time.

@@ -14,8 +14,8 @@ pub enum LsaFault {
     BadLength,
     /// A router-LSA's or network-LSA's body isn't as RFC 2328, A.4.2 and A.4.3, say, or a link's type isn't 1 to 4.
     BadBody,
-    /// An earlier LSA that isn't passed over is a router-LSA of the same advertising router, or a network-LSA of the same
-    /// link state ID.
+    /// An earlier LSA that counts is another router-LSA of the same advertising router, or another network-LSA of the same
+    /// link state ID, and no instance of this one.
     LsaTwice,
     /// A link of type 1 or 2 has metric 0.
     ZeroMetric,
@@ -23,7 +23,7 @@ pub enum LsaFault {
     NoRouterId,
     /// An earlier configuration has the same router ID.
     RouterIdTwice,
-    /// There are more than 1,000 router-LSAs that aren't passed over.
+    /// There are more than 1,000 router-LSAs that count.
     TooManyRouters,
 }
 

@@ -1,14 +1,16 @@
 //! The LSAs of a database, found by what names them.
-ghost use Rattle.std.specs.Prelude.{◌≡◌, ◌==◌, ◌&&◌, ◌-◌, ◌<◌, ◌^◌, ℕ, IfOk, OnOk, length, if◌then◌else◌, Some, None};
-ghost use Rattle.std.specs.List.{list_any};
+ghost use Rattle.std.specs.Prelude.{◌≡◌, ◌==◌, ◌-◌, ◌<◌, ◌^◌, ℕ, IfOk, OnOk, length, if◌then◌else◌, Some, true};
+ghost use Rattle.std.specs.List.{AllZip};
 ghost use Rattle.std.specs.Option.{option_or};
 ghost use Rattle.std.specs.Ordering.{nat_cmp};
 ghost use Rattle.std.specs.BTreeMap.{get};
+ghost use Rattle.lsa_bytes.specs.Grammar.{is_read};
 ghost use Rattle.lsa_bytes.specs.AreaGraphs.{attaches, has_link, network_vertex_back, networks_among, router_vertex_back, routers_among};
-ghost use Rattle.lsa_bytes.specs.Vertices.{AddsLsa, HasFound, is_kind, name_as, spot_if};
+ghost use Rattle.lsa_bytes.specs.Vertices.{AddsLsa, AreEnds, HasFound, is_kind, name_as, spot_if};
 
+use crate::Lsa;
+use crate::ends::{Ends, attaches, ends_of, has_link};
 use crate::reader::is_router;
-use crate::{Body, Lsa, LsaLink};
 use cost_base::OutOfMemory;
 use std::alloc::Global;
 use std::collections::BTreeMap;
@@ -104,10 +106,23 @@ impl Found {
     }
 }
 
+/// Where each of the LSAs leads.
+#[tactic(auto, using(crate::proofs::MemberLaws::lead_more))]
+fn ends_of_all(alloc: Global, lsas: &[Lsa]) -> Result<Vec<Ends>, OutOfMemory>
+    ensures { IfOk result (λ ends. AllZip (λ lsa ends. AreEnds lsa.body ends) lsas.now ends.items) }
+{
+    let mut ends = Vec::new(alloc);
+    for lsa in lsas {
+        ends.push(ends_of(alloc, &lsa.body)?)?;
+    }
+    Ok(ends)
+}
+
 /// The LSAs of a database, found by what names them. Contracts see the LSAs.
 #[derive(Drop)]
 pub struct Vertices<'a> {
     lsas: &'a [Lsa],
+    ends: Vec<Ends>,
     routers: Found,
     networks: Found,
 }
@@ -116,7 +131,8 @@ impl<'a> Model for Vertices<'a> {
     ghost use Rattle.std.specs.Prelude.{◌<◌, ◌^◌, List, length};
     ghost use Rattle.lsa_bytes.specs.declared.Lsa.{Lsa as OneLsa};
     ghost use Rattle.lsa_bytes.specs.declared.vertices.Kind.TheVariants.{Router, Network};
-    ghost use Rattle.lsa_bytes.specs.Vertices.{HasFound};
+    ghost use Rattle.std.specs.List.{AllZip};
+    ghost use Rattle.lsa_bytes.specs.Vertices.{AreEnds, HasFound};
 
     ghost Value = { List OneLsa };
 
@@ -125,6 +141,7 @@ impl<'a> Model for Vertices<'a> {
     ghost invariant = { λ v. record {
       routers : HasFound Router v.lsas.now v.routers;
       networks : HasFound Network v.lsas.now v.networks;
+      ends : AllZip (λ lsa ends. AreEnds lsa.body ends) v.lsas.now v.ends.items;
       few : length v.lsas.now < 2 ^ 30;
     } };
 }
@@ -137,8 +154,10 @@ impl<'a> Vertices<'a> {
     {
         let routers = Found::among(alloc, lsas, Kind::Router)?;
         let networks = Found::among(alloc, lsas, Kind::Network)?;
+        let ends = ends_of_all(alloc, lsas)?;
         Ok(Vertices {
             lsas,
+            ends,
             routers,
             networks,
         })
@@ -165,14 +184,13 @@ impl<'a> Vertices<'a> {
         self.networks.count
     }
 
-    /// The vertex of a router, if its LSA has a link of this type with this ID.
+    /// The vertex of a router, if its LSA has a link of this type, which is 1 or 2, with this ID.
     pub fn router_with_link(&self, router: u32, kind: u8, id: u32) -> Option<u32>
+        requires { is_read kind ≡ true }
         ensures { result ≡ router_vertex_back self.now router (has_link kind id) }
     {
         match self.routers.spot(router) {
-            Some(spot) if has_link(&self.lsas[spot.place as usize].body, kind, id) => Some(
-                spot.number,
-            ),
+            Some(spot) if has_link(&self.ends[spot.place as usize], kind, id) => Some(spot.number),
             _ => None,
         }
     }
@@ -182,44 +200,10 @@ impl<'a> Vertices<'a> {
         ensures { result ≡ network_vertex_back self.now id (attaches router) }
     {
         match self.networks.spot(id) {
-            Some(spot) if attaches(&self.lsas[spot.place as usize].body, router) => {
+            Some(spot) if attaches(&self.ends[spot.place as usize], router) => {
                 Some(self.routers.count + spot.number)
             }
             _ => None,
         }
     }
-}
-
-/// Whether a body has a link of a type with an ID.
-fn has_link(body: &Body, kind: u8, id: u32) -> bool
-    ensures { result ≡ has_link kind id body.now }
-{
-    match body {
-        Body::Links(links) => links_have(links.as_slice(), kind, id),
-        Body::Attached(_) => false,
-    }
-}
-
-/// Whether one of the links is of a type and has an ID.
-fn links_have(links: &[LsaLink], kind: u8, id: u32) -> bool
-    ensures { result ≡ list_any (λ link. link.kind == kind && link.id == id) links.now }
-{
-    links.iter().any(|link| link.kind == kind && link.id == id)
-}
-
-/// Whether a body lists a router as attached.
-fn attaches(body: &Body, router: u32) -> bool
-    ensures { result ≡ attaches router body.now }
-{
-    match body {
-        Body::Links(_) => false,
-        Body::Attached(attached) => has_router(attached.as_slice(), router),
-    }
-}
-
-/// Whether a router is among the attached ones.
-fn has_router(attached: &[u32], router: u32) -> bool
-    ensures { result ≡ list_any (λ other. other == router) attached.now }
-{
-    attached.iter().any(|other| *other == router)
 }

@@ -8,4 +8,5 @@ mod ranges;
 mod said;
 mod writing;
 
+pub use ends::{LinkEnd, ends_of};
 pub use writing::lsas_of;

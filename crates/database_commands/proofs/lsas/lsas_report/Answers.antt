@@ -59,14 +59,14 @@ lsas_of-requires-clause-ids g c =
 
 pub lsas_of-requires-clause-one_each : goal.lsas_of-requires-clause-one_each
 lsas_of-requires-clause-one_each g c =
-    ap length (c.deref-3.ensures.value ∙ c.in_ok-costs.ensures ∙ ap (map (present_cost c.in_ok-network.network.requests)) c.links_of.ensures)
+    ap length (c.deref-3.ensures.value ∙ c.in_ok-costs.ensures)
     ∙ length-map c.in_ok-network.network.lsdb.links (present_cost c.in_ok-network.network.requests)
 
 pub lsas_of-requires-clause-priced : goal.lsas_of-requires-clause-priced
 lsas_of-requires-clause-priced g c =
     let read = c.in_ok-network.ensures.read.so in
     subst (λ (cs : List ℕ). All (λ cost. 0 < cost) cs)
-    (sym (c.deref-3.ensures.value ∙ c.in_ok-costs.ensures ∙ ap (map (present_cost c.in_ok-network.network.requests)) c.links_of.ensures
+    (sym (c.deref-3.ensures.value ∙ c.in_ok-costs.ensures
     ∙ ap (λ (a : Asked). map (present_cost a) c.in_ok-network.network.lsdb.links) read.fits.requests
     ∙ ap (λ (d : Database). map (present_cost read.said.asked) d.links) read.fits.lsdb))
     (costs_above (files_named c.args.words) c.in_ok-network.network read.said read.fits)
@@ -93,7 +93,7 @@ returns g c =
     (λ d is.
     (let same : routers_of d.files ≡ c.deref.result.now = sym is.configs ∙ sym c.deref.ensures.value in
     let costs : c.deref-3.result.now ≡ map (present_cost network.requests) network.lsdb.links = c.deref-3.ensures.value
-    ∙ c.in_ok-costs.ensures ∙ ap (map (present_cost network.requests)) c.links_of.ensures in
+    ∙ c.in_ok-costs.ensures in
     reported names d c.deref.result.now c.in_ok-bytes.bytes.items c.lsas.result same
     (ids_fine names d c.deref.result.now c.in_ok-check_router_ids.field-0 (c.in_ok-check_router_ids.ensures d same))
     (are_written names network d c.deref-3.result.now c.in_ok-bytes.bytes.items is costs

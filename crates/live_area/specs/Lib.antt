@@ -1,0 +1,2 @@
+pub mod LiveLinks
+pub mod Differences

@@ -1,0 +1,164 @@
+//! Linked interfaces beside their links.
+ghost use Rattle.std.specs.Prelude.{◌≡◌, ◌≤◌, ◌++◌, None, IfOk, OnOk, count_by, length, option_to_list, slice_index};
+ghost use Rattle.std.specs.List.{list_any};
+ghost use Rattle.lsa_bytes.specs.Databases.{is_router_of};
+ghost use Rattle.live_area.specs.Differences as definition;
+
+use crate::Difference;
+use crate::links::{LiveLink, metric_at};
+use cost_base::OutOfMemory;
+use lsa_bytes::{Lsa, is_router};
+use lsa_writer::LinkEnd;
+use lsdb_build::Linked;
+use std::alloc::Global;
+
+/// A linked interface: the number of its configuration, its own, its present cost, whether a router-LSA of its router
+/// counts, and the metric of its link.
+#[derive(Clone, Copy)]
+pub struct Compared {
+    pub router: u32,
+    pub link: u32,
+    pub cost: u16,
+    pub counts: bool,
+    pub metric: Option<u16>,
+}
+
+/// Whether an LSA is a router-LSA of a router.
+fn is_router_of(lsa: &Lsa, router: u32) -> bool
+    ensures { result ≡ is_router_of router lsa.now }
+{
+    is_router(lsa) && lsa.router == router
+}
+
+/// Whether a router-LSA of a router counts.
+fn counts(lsas: &[Lsa], router: u32) -> bool
+    ensures { result ≡ list_any (is_router_of router) lsas.now }
+{
+    lsas.iter().any(|lsa| is_router_of(lsa, router))
+}
+
+/// The number of the router of a link by its number, 0 where there is none.
+fn router_of(links: &[Linked], link: usize) -> u32
+    ensures { result ≡ definition.router_of_link links.now link }
+{
+    match links.get(link) {
+        Some(link) => link.router,
+        None => 0,
+    }
+}
+
+/// The present cost of a link by its number, 0 where there is none.
+fn cost_at(costs: &[u16], link: usize) -> u16
+    ensures { result ≡ slice_index costs.now link }
+{
+    costs.get(link).copied().unwrap_or(0)
+}
+
+/// The linked interfaces with what the router-LSAs say of them, in order.
+pub fn compare_interfaces(
+    alloc: Global,
+    lsas: &[Lsa],
+    live: &[LiveLink],
+    links: &[Linked],
+    ends: &[LinkEnd],
+    costs: &[u16],
+) -> Result<Vec<Compared>, OutOfMemory>
+    requires { length ends.now ≤ 4000 }
+    ensures { IfOk result (λ interfaces. interfaces.items ≡ definition.compared_from lsas.now live.now links.now costs.now 0 ends.now) }
+{
+    let mut interfaces = Vec::new(alloc);
+    for (link, end) in ends.iter().enumerate() {
+        interfaces.push(Compared {
+            router: router_of(links, link),
+            link: link as u32,
+            cost: cost_at(costs, link),
+            counts: counts(lsas, end.router),
+            metric: metric_at(live, *end),
+        })?;
+    }
+    Ok(interfaces)
+}
+
+/// The line of a linked interface with a link, or without one, in a router-LSA.
+fn compared_line(interface: Compared) -> Option<Difference>
+    ensures { result ≡ definition.compared_line interface interface.metric }
+{
+    match interface.metric {
+        None => Some(Difference::Missing {
+            link: interface.link,
+        }),
+        Some(live) => {
+            if live == interface.cost {
+                None
+            } else {
+                Some(Difference::Cost {
+                    link: interface.link,
+                    file: interface.cost,
+                    live,
+                })
+            }
+        }
+    }
+}
+
+/// The line of a linked interface behind one of the router `before`.
+fn link_line(before: Option<u32>, interface: Compared) -> Option<Difference>
+    ensures { result ≡ definition.link_line before interface }
+{
+    if interface.counts {
+        return compared_line(interface);
+    }
+    if before == Some(interface.router) {
+        None
+    } else {
+        Some(Difference::Absent {
+            router: interface.router,
+        })
+    }
+}
+
+/// Adds a line, if there is one.
+pub fn push_line(lines: &mut Vec<Difference>, line: Option<Difference>) -> Result<(), OutOfMemory>
+    ensures { OnOk result (lines.new.items ≡ lines.old.items ++ option_to_list line) }
+{
+    if let Some(line) = line {
+        lines.push(line)?;
+    }
+    Ok(())
+}
+
+/// Adds the lines of linked interfaces, in order.
+pub fn push_interface_lines(
+    lines: &mut Vec<Difference>,
+    interfaces: &[Compared],
+) -> Result<(), OutOfMemory>
+    ensures { OnOk result (lines.new.items ≡ lines.old.items ++ definition.compared_lines None interfaces.now) }
+{
+    let mut before = None;
+    for interface in interfaces {
+        push_line(lines, link_line(before, *interface))?;
+        before = Some(interface.router);
+    }
+    Ok(())
+}
+
+/// Whether an interface has a link with its present cost.
+fn is_same(interface: &Compared) -> bool
+    ensures { result ≡ definition.is_as_said interface.now }
+{
+    interface.metric == Some(interface.cost)
+}
+
+/// How many interfaces have a link with their present cost.
+pub fn same_count(interfaces: &[Compared]) -> u32
+    requires { length interfaces.now ≤ 4000 }
+    ensures { result ≡ count_by definition.is_as_said interfaces.now }
+{
+    let mut same = 0;
+    for interface in interfaces {
+        if is_same(interface) {
+            same += 1;
+        }
+    }
+    same
+}

@@ -1,0 +1,9 @@
+pub mod TapeLaws
+pub mod WalkLaws
+pub mod MemberLaws
+pub mod FieldLaws
+pub mod PlaceLaws
+pub mod LsaLaws
+pub mod TextLaws
+pub mod SizeLaws
+pub mod ReaderLaws

@@ -1,0 +1,10 @@
+pub mod Places
+pub mod Walks
+pub mod Fields
+pub mod JsonLinks
+pub mod JsonLsas
+pub mod FaultNumbers
+pub mod Stops
+pub mod Texts
+pub mod JsonTexts
+pub mod LiveFiles

@@ -1,0 +1,193 @@
+//! Reading a live file.
+ghost use Rattle.std.specs.Prelude.{◌≡◌, ◌-◌, None, ◌^◌, ◌<◌, ◌≤◌, Ok, IfOk, MatchResult, is_some, length};
+ghost use Rattle.json.specs.Lex.{tokens};
+ghost use Rattle.json.specs.Reads.{token_of};
+ghost use Rattle.json.specs.Json.{Json};
+ghost use Rattle.lsa_bytes.specs.Files as files;
+ghost use Rattle.lsa_bytes.specs.Reading.{AreSmall};
+ghost use Rattle.live_reader.specs.JsonTexts as texts;
+ghost use Rattle.live_reader.specs.JsonTexts.{stop_line, value_of_text};
+ghost use Rattle.live_reader.specs.JsonLsas as json_lsas;
+ghost use Rattle.live_reader.specs.Places.{Stands};
+ghost use Rattle.live_reader.specs.LiveFiles as definition;
+ghost use Rattle.live_reader.specs.LiveFiles.{BytesComeTo, JsonComesTo, LiveComesTo, RefusesLive, TellsSaid, decided_in, read_in, said_by_json};
+
+use crate::lsas::live_lsas;
+use crate::stop::{LiveFault, LiveStop, ReadStop, refusal};
+use crate::text::{line_of_offset, token_line};
+use cost_base::OutOfMemory;
+use json::{Reader, Scratch, Tape, Token};
+use lsa_bytes::{Database, Instance, LsaStop, database_of, read_lsas};
+use std::alloc::Global;
+
+/// How deep arrays and objects may nest.
+const GREATEST_DEPTH: usize = 64;
+
+/// Whether a byte is a blank or ends a line.
+fn is_blank_or_end(byte: u8) -> bool
+    ensures { result ≡ definition.is_blank_or_end byte }
+{
+    byte == b' ' || byte == b'\t' || byte == b'\n' || byte == b'\r'
+}
+
+/// Whether the first byte other than blanks and line ends is a brace.
+fn begins_object(bytes: &[u8]) -> bool
+    ensures { result ≡ definition.begins_object bytes.now }
+{
+    for byte in bytes {
+        if !is_blank_or_end(*byte) {
+            return *byte == b'{';
+        }
+    }
+    false
+}
+
+/// Whether a text is JSON, with arrays and objects nested no deeper than 64.
+fn is_json(alloc: Global, text: &str) -> Result<bool, OutOfMemory>
+    ensures { IfOk result (λ json. json ≡ is_some (value_of_text text.now)) }
+{
+    let mut scratch = Scratch::new(alloc);
+    let mut reader = Reader::new(text, &mut scratch)?;
+    if reader.skip_value(GREATEST_DEPTH).is_err() {
+        return Ok(false);
+    }
+    Ok(reader.next().is_none())
+}
+
+/// Whether a token is none, or stands where none of its kind may.
+fn is_bad(token: &Token<'_>) -> bool
+    ensures { result ≡ texts.is_bad (token_of token.now) }
+{
+    matches!(token, Token::Bad)
+}
+
+/// How many tokens stand before the first that is none, or that stands where none of its kind may.
+fn good_tokens(alloc: Global, text: &str) -> Result<usize, OutOfMemory>
+    requires { length text.now < 2 ^ 32 - 1 }
+    ensures { IfOk result (λ good. good ≡ texts.good_tokens (tokens text.now)) }
+{
+    let mut scratch = Scratch::new(alloc);
+    let mut reader = Reader::new(text, &mut scratch)?;
+    let mut good = 0;
+    while let Some(token) = reader.next() {
+        if is_bad(&token) {
+            return Ok(good);
+        }
+        good += 1;
+    }
+    Ok(good)
+}
+
+/// The refusal of a text that isn't JSON.
+fn not_json(alloc: Global, text: &str) -> Result<LiveStop, OutOfMemory>
+    requires { length text.now < 2 ^ 32 - 1 }
+    ensures { IfOk result (λ stop. stop ≡ LiveStop.Refused LiveFault.BadJson (stop_line text.now)) }
+{
+    let good = good_tokens(alloc, text)?;
+    Ok(refusal(LiveFault::BadJson, token_line(text.as_bytes(), good)))
+}
+
+/// The database of instances that were read of a text.
+fn decide(alloc: Global, text: &[u8], instances: Vec<Instance>) -> Result<Database, LiveStop>
+    requires few { length text.now < 2 ^ 32 - 1 }
+    requires small { AreSmall instances.items (2 ^ 32 - 2) }
+    ensures { MatchResult result (λ database. decided_in text.now (files.decided instances.items None) ≡ Ok database) (TellsSaid (decided_in text.now (files.decided instances.items None))) }
+{
+    match database_of(alloc, instances) {
+        Ok(database) => Ok(database),
+        Err(LsaStop::Refused { fault, offset }) => Err(refusal(
+            LiveFault::Lsas(fault),
+            token_line(text, offset as usize),
+        )),
+        Err(LsaStop::OutOfMemory) => Err(LiveStop::OutOfMemory),
+    }
+}
+
+/// What stops where an object lacks something.
+fn lacking(text: &[u8], stop: ReadStop) -> LiveStop
+    requires { length text.now < 2 ^ 32 - 1 }
+    ensures { result ≡ definition.lacking_in text.now stop }
+{
+    match stop {
+        ReadStop::Lacks(place) => refusal(LiveFault::BadLive, token_line(text, place)),
+        ReadStop::OutOfMemory => LiveStop::OutOfMemory,
+    }
+}
+
+/// The LSAs of an area that a JSON text says.
+fn read_value(alloc: Global, text: &str, area: u32) -> Result<Database, LiveStop>
+    requires { length text.now ≤ 2 ^ 26 }
+    ensures { MatchResult result (λ database. (j : Json) → value_of_text text.now ≡ Some j → read_in text.now (json_lsas.live_lsas area j) ≡ Ok database)
+        (λ stop. (j : Json) → value_of_text text.now ≡ Some j → TellsSaid (read_in text.now (json_lsas.live_lsas area j)) stop) }
+{
+    let mut scratch = Scratch::new(alloc);
+    let Ok(tape) = Tape::parse(text, &mut scratch, Vec::new(alloc)) else {
+        return Err(LiveStop::OutOfMemory);
+    };
+    match live_lsas(alloc, &tape, area) {
+        Ok(instances) => {
+            let database = decide(alloc, text.as_bytes(), instances)?;
+            Ok(database)
+        }
+        Err(stop) => Err(lacking(text.as_bytes(), stop)),
+    }
+}
+
+/// The LSAs of an area that a text says.
+fn read_text(alloc: Global, text: &str, area: u32) -> Result<Database, LiveStop>
+    requires { length text.now ≤ 2 ^ 26 }
+    ensures { MatchResult result (λ database. said_by_json area text.now ≡ Ok database) (TellsSaid (said_by_json area text.now)) }
+{
+    if is_json(alloc, text)? {
+        read_value(alloc, text, area)
+    } else {
+        Err(not_json(alloc, text)?)
+    }
+}
+
+/// The LSAs of an area that bytes say as JSON.
+fn read_json(alloc: Global, bytes: &[u8], area: u32) -> Result<Database, LiveStop>
+    requires { length bytes.now ≤ 2 ^ 26 }
+    ensures { MatchResult result (λ database. JsonComesTo area bytes.now (Ok database)) (definition.RefusesJson area bytes.now) }
+{
+    match std::str::from_utf8(bytes) {
+        Ok(text) => read_text(alloc, text, area),
+        Err(fault) => Err(refusal(
+            LiveFault::BadJson,
+            line_of_offset(bytes, fault.valid_up_to()),
+        )),
+    }
+}
+
+/// The LSAs that bytes say.
+fn read_bytes(alloc: Global, bytes: &[u8]) -> Result<Database, LiveStop>
+    requires { length bytes.now < 2 ^ 32 - 1 }
+    ensures { MatchResult result (λ database. BytesComeTo bytes.now (Ok database)) (definition.RefusesBytes bytes.now) }
+{
+    match read_lsas(alloc, bytes) {
+        Ok(database) => Ok(database),
+        Err(LsaStop::Refused { fault, offset }) => Err(refusal(LiveFault::Lsas(fault), offset)),
+        Err(LsaStop::OutOfMemory) => Err(LiveStop::OutOfMemory),
+    }
+}
+
+/// The LSAs of an area in a router's own database, of each the newest instance (RFC 2328, 13.1); one of age 3600 or more is
+/// gone. Where the first byte other than blanks and line ends is a brace, the file is JSON as FRRouting prints it to `show
+/// ip ospf database router json`, of which the router-LSAs of the area are read; else it is LSAs as bytes.
+///
+/// # Errors
+///
+/// - In JSON `BadJson` where the text isn't JSON or nests deeper than 64, then `BadLive` for the first object that lacks a
+///   member or has it off its form, then `TooManyRouters`, `LsaTwice` and `ZeroMetric`, each with its line.
+/// - In bytes the faults of `lsa_bytes::read_lsas`, each with the offset at which its LSA begins.
+/// - `OutOfMemory` where memory runs out.
+pub fn read_live(alloc: Global, bytes: &[u8], area: u32) -> Result<Database, LiveStop>
+    requires { length bytes.now ≤ 2 ^ 26 }
+    ensures { MatchResult result (λ live. LiveComesTo area bytes.now (Ok live)) (RefusesLive area bytes.now) }
+{
+    if begins_object(bytes) {
+        read_json(alloc, bytes, area)
+    } else {
+        read_bytes(alloc, bytes)
+    }
+}
