@@ -1,9 +1,10 @@
 -- Lines by their fronts, and the first line of a text.
-use Rattle.std.proofs.Common.{◌≡◌, ◌≢◌, ℕ, ◌≤◌, List, [], ◌∷◌, ◌++◌, All, eqb, Bool, cond, true, false, MatchOption, Option, Some, None, refl, sym, ap, ◌∙◌}
-use Rattle.std.proofs.lemmas.Bool.{eq-eqb}
+use Rattle.std.proofs.Common.{◌≡◌, ◌≢◌, ℕ, ◌≤◌, List, [], ◌∷◌, ◌++◌, All, eqb, Bool, cond, true, false, MatchOption, Option, Some, None, refl, sym, ap, subst, ◌∙◌}
+use Rattle.std.proofs.lemmas.Bool.{eq-eqb, true≢false}
 use Rattle.std.proofs.lemmas.List.{append_cancel_left}
 use Rattle.std.proofs.lemmas.List.Elements.{All-nil, All-cons, All-head, All-tail}
 use Rattle.cost_base.specs.Decimal.{decimal}
+use Rattle.cost_base.proofs.ListLemmas.{All-right}
 use Rattle.text_lines.specs.Lines.{lines, grow, IsOneLine}
 use Rattle.text_lines.specs.Numbers.{split}
 use Rattle.text_lines.proofs.LineLaws.{lines-cons}
@@ -45,12 +46,13 @@ first_line-one a b x y one other e =
     let tails : 10 ∷ x ≡ 10 ∷ y = append_cancel_left a (10 ∷ x) (10 ∷ y) (e ∙ ap (λ front. front ++ 10 ∷ y) (sym same)) in
     (same, cc)
 
--- one piece has no first line
-pub no_first : (s : List ℕ) → split 10 s ≡ s ∷ [] → LacksFirst s
-no_first s one line left first =
-    let cut : split 10 s ≡ line ∷ split 10 left = ap (split 10) first.parts ∙ split-front 10 line left first.one in
-    let none : split 10 left ≡ [] = cc in
-    split-some 10 left none
+-- a text with an LF is no line
+pub not-one : (a b : List ℕ) → IsOneLine (a ++ 10 ∷ b) → ⊥
+not-one a b one = true≢false (All-head (λ c. eqb c 10 ≡ false) 10 b (All-right (λ c. eqb c 10 ≡ false) a (10 ∷ b) one))
+
+-- one line has no first line that ends with an LF
+pub no_first : (s : List ℕ) → IsOneLine s → LacksFirst s
+no_first s one line left first = not-one line left (subst IsOneLine first.parts one)
 
 -- the first line of a text is one
 pub first-one : (bytes a b x y : List ℕ) → IsFirstInText bytes a x → bytes ≡ b ++ 10 ∷ y → IsOneLine b → (a ≡ b) × (x ≡ y)

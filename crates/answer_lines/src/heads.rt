@@ -12,7 +12,7 @@ use design_problem::{Floor, Verdict};
 use evidence_text::{TreePart, part_word};
 
 /// The verdict that a line says.
-fn verdict_of(line: &[u8]) -> Option<Verdict>
+pub(crate) fn verdict_of(line: &[u8]) -> Option<Verdict>
     ensures { MatchOption result ((verdict : Verdict) → BoundsVerdict verdict → line.now ≢ verdict_line verdict)
         (λ verdict. BoundsVerdict verdict × (line.now ≡ verdict_line verdict)) }
 {

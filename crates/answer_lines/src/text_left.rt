@@ -1,5 +1,6 @@
 //! What is left of an answer's text while it is read.
-ghost use Rattle.std.specs.Prelude.{◌≡◌, ◌≢◌, ℕ, ◌+◌, ◌-◌, ◌^◌, ◌<◌, ◌≤◌, List, [], MatchOption, IsTrue, true, false, length};
+ghost use Rattle.std.specs.Prelude.{◌≡◌, ◌≢◌, ℕ, ◌+◌, ◌-◌, ◌^◌, ◌<◌, ◌≤◌, List, [], ◌∷◌, ◌++◌, MatchOption, IsTrue, true, false, length};
+ghost use Rattle.text_lines.specs.Lines.{IsOneLine};
 ghost use Rattle.answer_lines.specs.Places.{IsFirstInText, LacksFirst};
 
 use text_lines::cut;
@@ -35,10 +36,19 @@ impl<'a> TextLeft<'a> {
         ensures { MatchOption result (LacksFirst self.entry.left.now)
             (λ r. IsFirstInText self.entry.left.now r.0.now r.1.left.now × (r.1.read ≡ self.entry.read + 1)) }
     {
-        let (line, left) = cut(self.left, b'\n')?;
+        let (line, rest) = self.any_line()?;
         if line.len() > LONGEST {
             return None;
         }
+        Some((line, rest))
+    }
+
+    /// The next line, which ends with an LF and has any number of bytes, and the text behind it.
+    pub fn any_line(self) -> Option<(&'a [u8], TextLeft<'a>)>
+        ensures { MatchOption result (IsOneLine self.entry.left.now)
+            (λ r. (self.entry.left.now ≡ r.0.now ++ 10 ∷ r.1.left.now) × IsOneLine r.0.now × (r.1.read ≡ self.entry.read + 1)) }
+    {
+        let (line, left) = cut(self.left, b'\n')?;
         Some((
             line,
             TextLeft {

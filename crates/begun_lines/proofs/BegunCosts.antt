@@ -1,9 +1,10 @@
 -- What the line of a cost begins with: the cost is printed, and from 1.
-use Rattle.std.proofs.Common.{◌≡◌, ◌≢◌, ℕ, zero, suc, ◌<◌, ◌≤◌, ◌↔◌, List, [], ◌∷◌, ◌++◌, codes, refl, sym, ap, ◌∙◌, arith, inl, inr}
+use Rattle.std.proofs.Common.{◌≡◌, ◌≢◌, ℕ, zero, suc, Option, ◌<◌, ◌≤◌, ◌↔◌, List, [], ◌∷◌, ◌++◌, codes, refl, sym, ap, ◌∙◌, arith, inl, inr}
 use Rattle.std.proofs.lemmas.List.{append_cancel_left}
 use Rattle.cost_base.specs.Decimal.{decimal}
 use Rattle.text_lines.specs.Reads.{begins_as_printed}
 use Rattle.text_lines.proofs.Printed.{decimal-same, decimal-begins}
+use Rattle.answer_lines.specs.declared.other_text.OtherText.{OtherText}
 use Rattle.answer_lines.specs.Grammar.{AtCost, AtExit}
 use Rattle.answer_lines.specs.Places.{BeginsLawful}
 use Rattle.begun_lines.specs.Begun.{IsLineFront, BeginsNumber}
@@ -35,11 +36,12 @@ from_one rest zero small begun other =
       | inr into ↦ absurd (other (into.is ∙ ap (λ bytes. cost_front ++ bytes) (alone into.cut begun.0 48 into.some into.left)))
     ]
 
-pub cost-begun : (rest router : List ℕ) → (BeginsNumber rest (codes " ip ospf cost ") 65535 × (rest ≢ codes " ip ospf cost 0")) ↔ BeginsLawful (AtCost router) rest
-cost-begun rest router = (
+pub cost-begun : (text : Option OtherText) (rest router : List ℕ) →
+    (BeginsNumber rest (codes " ip ospf cost ") 65535 × (rest ≢ codes " ip ospf cost 0")) ↔ BeginsLawful (AtCost text router) rest
+cost-begun text rest router = (
   λ begun.
       let found : (m : ℕ) × (0 < m) × (m ≤ 65535) × IsLineFront rest (cost_front ++ decimal m) = from_one rest begun.0.0 begun.0.1 begun.0.2 begun.1 in
-      begins-from (AtCost router) (AtExit router) rest (cost_front ++ decimal found.0)
+      begins-from (AtCost text router) (AtExit text router) rest (cost_front ++ decimal found.0)
       (record { cost = found.0; some = found.1; bounds = omega (arith, found.2); is = refl; leads = refl })
       (omega (arith, short_number cost_front found.0 (omega arith) (omega (arith, found.2)))) found.3,
   λ begins. (

@@ -8,14 +8,16 @@ use Rattle.design_problem.specs.declared.answer.Floor.TheVariants.{Absent, Empty
 use Rattle.design_problem.specs.Bounds.{BoundsVerdict, BoundsFloor}
 use Rattle.text_lines.proofs.Digits.{length-decimal-le}
 use Rattle.evidence_text.specs.Parts.{verdict_line, floor_line}
-use Rattle.answer_lines.specs.Grammar.{TextPlace, AtVerdict, AtCosts, AtSections, AtInterface, AtCost, AtFloor, AtRows, AtRow, Next, IsInterfaceAgain}
+use Rattle.answer_lines.specs.declared.other_text.OtherText.{OtherText}
+use Rattle.answer_lines.specs.Grammar.{TextPlace, AtVerdict, AtCosts, AtSections, AtInterface, AtCost, AtFloor, AtRows, AtRow, AtSectionsEnd, Next, IsInterfaceAgain}
+use Rattle.answer_lines.proofs.FirstLines.{has-room}
 use Rattle.answer_lines.specs.Places.{BeginsLawful}
-use Rattle.begun_lines.specs.Begun.{IsLineFront, BeginsNumber, BeginsName, BeginsRouter, BeginsAgain}
+use Rattle.begun_lines.specs.Begun.{IsLineFront, BeginsNumber, BeginsName, BeginsAgain, BeginsNextCost, BeginsEnd}
 
 -- what begins a lawful line
 pub begins-from : (place next : TextPlace) (rest line : List ℕ) → Next place line next → length line ≤ 65536 → IsLineFront rest line → BeginsLawful place rest
 begins-from place next rest line is short front =
-    (front.0, (next, record { is = subst (λ l. Next place l next) (sym front.1) is; short = subst (λ l. length l ≤ 65536) (sym front.1) short }))
+    (front.0, (next, record { is = subst (λ l. Next place l next) (sym front.1) is; short = has-room place (rest ++ front.0) (subst (λ l. length l ≤ 65536) (sym front.1) short) }))
 
 -- where one line alone is in the grammar
 pub wanted-begun : (place next : TextPlace) (rest line : List ℕ) → length line ≤ 65536 → Next place line next →
@@ -65,7 +67,7 @@ costs-begun rest = (
   λ begun. elim begun [
     | inl line ↦ begins-from AtCosts AtFloor rest (codes "costs none") (inl (refl, refl)) (omega arith) line
     | inr number ↦
-        numbered AtCosts (λ _. AtSections None) rest (codes "costs ") 65535 (omega arith) (omega arith)
+        numbered AtCosts (λ _. AtSections None None) rest (codes "costs ") 65535 (omega arith) (omega arith)
         (λ n small. inr (record { greatest = n; bounds = omega (arith, small); is = refl; leads = refl })) number
   ],
   λ begins. elim begins.1.1.is [ inl none ↦ inl (begins.0, none.0) | inr some ↦ inr (some.greatest, omega (arith, some.bounds), (begins.0, some.is)) ],
@@ -98,36 +100,50 @@ rows-begun rest = (
   λ begins. (begins.1.1.is.count, omega (arith, begins.1.1.is.bounds), (begins.0, begins.1.1.is.is)),
 )
 
-pub interface-begun : (rest router : List ℕ) → BeginsName rest (codes "interface ") ↔ BeginsLawful (AtInterface router) rest
-interface-begun rest router = (
-  λ begun. begins-from (AtInterface router) (AtCost router) rest (codes "interface " ++ begun.0)
+pub interface-begun : (text : Option OtherText) (rest router : List ℕ) → BeginsName rest (codes "interface ") ↔ BeginsLawful (AtInterface text router) rest
+interface-begun text rest router = (
+  λ begun. begins-from (AtInterface text router) (AtCost text router) rest (codes "interface " ++ begun.0)
       (record { name = begun.0; word = begun.1; is = refl; leads = refl }) begun.3 begun.2,
   λ begins. (begins.1.1.is.name, begins.1.1.is.word, (begins.0, begins.1.1.is.is), omega (arith, ap length begins.1.1.is.is, begins.1.1.short)),
 )
 
-pub section-begun : (rest : List ℕ) (before : Option (List ℕ)) →
-    ((BeginsRouter before rest ⊎ BeginsAgain before rest) ⊎ BeginsLawful AtFloor rest) ↔ BeginsLawful (AtSections before) rest
-section-begun rest before = (
+pub section-begun : (text : Option OtherText) (rest : List ℕ) (before : Option (List ℕ)) →
+    (BeginsNextCost text before rest ⊎ BeginsEnd text rest) ↔ BeginsLawful (AtSections text before) rest
+section-begun text rest before = (
   λ begun. elim begun [
     | inl (inl router) ↦
-        begins-from (AtSections before) (AtInterface router.0) rest (codes "router " ++ router.0)
+        begins-from (AtSections text before) (AtInterface text router.0) rest (codes "router " ++ router.0)
         (inl (record { name = router.0; word = router.1; other = router.2; is = refl; leads = refl }))
         router.4 router.3
     | inl (inr again) ↦ further before again
-    | inr floor ↦ (floor.0, (floor.1.0, record { is = inr (inr floor.1.1.is); short = floor.1.1.short }))
+    | inr end ↦ (end.0, (end.1, record { is = inr (inr end.2); short = end.3 }))
   ],
   λ begins. elim begins.1.1.is [
     | inl router ↦ inl (inl (router.name, router.word, router.other, (begins.0, router.is), omega (arith, ap length router.is, begins.1.1.short)))
     | inr (inl again) ↦ inl (inr (back before begins.0 begins.1.0 again begins.1.1.short))
-    | inr (inr floor) ↦ inr (begins.0, (begins.1.0, record { is = floor; short = begins.1.1.short }))
+    | inr (inr end) ↦ inr (begins.0, begins.1.0, end, begins.1.1.short)
   ],
 )
   where
-    further : (before : Option (List ℕ)) → BeginsAgain before rest → BeginsLawful (AtSections before) rest
+    further : (before : Option (List ℕ)) → BeginsAgain text before rest → BeginsLawful (AtSections text before) rest
     further None again = absurd again
     further (Some router) again = (again.0, (again.1.0, record { is = inr (inl again.1.1.is); short = again.1.1.short }))
 
-    back : (before : Option (List ℕ)) (more : List ℕ) (next : TextPlace) → IsInterfaceAgain before (rest ++ more) next →
-        length (rest ++ more) ≤ 65536 → BeginsAgain before rest
+    back : (before : Option (List ℕ)) (more : List ℕ) (next : TextPlace) → IsInterfaceAgain text before (rest ++ more) next →
+        length (rest ++ more) ≤ 65536 → BeginsAgain text before rest
     back None more next again short = absurd again
     back (Some router) more next again short = (more, (next, record { is = again; short = short }))
+
+-- the floor is what ends the sections of an answer
+pub floor-ends : (rest : List ℕ) → BeginsLawful AtFloor rest ↔ BeginsEnd None rest
+floor-ends rest = (
+  λ begins. (begins.0, begins.1.0, begins.1.1.is, begins.1.1.short),
+  λ end. (end.0, (end.1, record { is = end.2; short = end.3 })),
+)
+
+-- and so is the line behind the costs of another text
+pub other-ends : (text : OtherText) (rest : List ℕ) → BeginsLawful (AtSectionsEnd text) rest ↔ BeginsEnd (Some text) rest
+other-ends text rest = (
+  λ begins. (begins.0, begins.1.0, begins.1.1.is, begins.1.1.short),
+  λ end. (end.0, (end.1, record { is = end.2; short = end.3 })),
+)

@@ -4,6 +4,7 @@ pub mod BegunEntries
 pub mod BegunKinds
 pub mod BegunNames
 pub mod BegunNumbers
+pub mod BegunOthers
 pub mod BegunPlaces
 pub mod BegunRatios
 pub mod BegunRows

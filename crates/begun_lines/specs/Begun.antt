@@ -1,11 +1,12 @@
 -- Bytes that lines of one form begin with. No public clause cites it.
-use Rattle.std.specs.Prelude.{◌≡◌, ◌≢◌, ℕ, ◌<◌, ◌≤◌, List, [], ◌∷◌, ◌++◌, All, length, map, Option, Some, None}
+use Rattle.std.specs.Prelude.{◌≡◌, ◌≢◌, ℕ, ◌<◌, ◌≤◌, List, [], ◌∷◌, ◌++◌, All, length, map, ◌⊎◌, Option, Some, None}
 use Rattle.cost_base.specs.Decimal.{decimal}
 use Rattle.cost_base.specs.Words.{IsOneWord}
 use Rattle.design_problem.specs.declared.form.Row.{Row}
 use Rattle.design_problem.specs.Bounds.{IsThing, BoundsRow}
 use Rattle.design_problem.specs.Text.{row_line}
-use Rattle.answer_lines.specs.Grammar.{AtInterface, router_line}
+use Rattle.answer_lines.specs.declared.other_text.OtherText.{OtherText}
+use Rattle.answer_lines.specs.Grammar.{TextPlace, AtInterface, IsEndNext, router_line}
 use Rattle.answer_lines.specs.Places.{BeginsLawful}
 
 -- a line begins with these bytes
@@ -41,9 +42,21 @@ abbrev pub BeginsRouter : Option (List ℕ) → List ℕ → Type 0
 BeginsRouter before rest = (name : List ℕ) × IsOneWord name × (before ≢ Some name) × IsLineFront rest (router_line name) × (length (router_line name) ≤ 65536)
 
 -- the line of a further interface, which stands only behind a cost line, begins with these bytes
-abbrev pub BeginsAgain : Option (List ℕ) → List ℕ → Type 0
-BeginsAgain None rest = ⊥
-BeginsAgain (Some router) rest = BeginsLawful (AtInterface router) rest
+abbrev pub BeginsAgain : Option OtherText → Option (List ℕ) → List ℕ → Type 0
+BeginsAgain text None rest = ⊥
+BeginsAgain text (Some router) rest = BeginsLawful (AtInterface text router) rest
+
+-- the line of one more cost begins with these bytes: that of another router, or of a further interface
+abbrev pub BeginsNextCost : Option OtherText → Option (List ℕ) → List ℕ → Type 0
+BeginsNextCost text before rest = BeginsRouter before rest ⊎ BeginsAgain text before rest
+
+-- some line of a kind begins with these bytes
+abbrev pub BeginsOne : (List ℕ → Type 0) → List ℕ → Type 0
+BeginsOne kind rest = (more : List ℕ) × kind (rest ++ more)
+
+-- the line that ends the sections begins with these bytes
+abbrev pub BeginsEnd : Option OtherText → List ℕ → Type 0
+BeginsEnd text rest = (more : List ℕ) × (next : TextPlace) × IsEndNext text (rest ++ more) next × (length (rest ++ more) ≤ 65536)
 
 -- the line of a row
 abbrev pub IsLineOfRow : List ℕ → Type 0

@@ -1,18 +1,20 @@
 //! Whether bytes begin a lawful line at a place.
-ghost use Rattle.std.specs.Prelude.{◌≡◌, ◌⊎◌, ℕ, zero, suc, List, IsTrue, ◌↔◌, Option, codes};
+ghost use Rattle.std.specs.Prelude.{◌≡◌, ◌⊎◌, ℕ, zero, suc, List, IsTrue, ◌↔◌, Option, None, codes};
 ghost use Rattle.std.specs.Option.{option_copied};
-ghost use Rattle.answer_lines.specs.Grammar.{AtHead, AtVerdict, AtCosts, AtSections, AtInterface, AtCost, AtExit, AtFloor, AtRows, AtRow, AtTree, AtEnd};
+ghost use Rattle.answer_lines.specs.Grammar.{AtHead, AtVerdict, AtCosts, AtSections, AtInterface, AtCost, AtExit, AtFloor, AtRows, AtRow, AtTree, AtEnd, AtInnerHead};
 ghost use Rattle.answer_lines.specs.Places.{BeginsLawful};
-ghost use Rattle.begun_lines.specs.Begun.{IsLineFront, BeginsNumber, BeginsTree, BeginsCount, BeginsRouter, BeginsAgain, IsRouterOf};
+ghost use Rattle.answer_lines.specs.declared.other_text.OtherText.{OtherText};
+ghost use Rattle.begun_lines.specs.Begun.{IsLineFront, BeginsNumber, BeginsTree, BeginsCount, BeginsRouter, BeginsAgain, BeginsNextCost, IsRouterOf};
 
 use crate::fronts::{begins_line, begins_name, begins_number};
 use answer_lines::{LONGEST, after};
 use evidence_text::TreePart;
 use text_lines::{cut, printed_number};
 
-/// Whether these bytes begin the first line.
+/// Whether these bytes begin the first line of an answer, also of one inside another text.
 pub fn begins_head(rest: &[u8]) -> bool
-    ensures { IsTrue result ↔ BeginsLawful AtHead rest.now }
+    ensures own { IsTrue result ↔ BeginsLawful AtHead rest.now }
+    ensures inner { IsTrue result ↔ BeginsLawful AtInnerHead rest.now }
 {
     begins_line(rest, b"ospfcost answer 1")
 }
@@ -40,14 +42,14 @@ pub fn begins_costs(rest: &[u8]) -> bool
 
 /// Whether these bytes begin a line among the sections, `before` being the router of the cost line before.
 pub fn begins_section(rest: &[u8], before: Option<&[u8]>) -> bool
-    ensures { IsTrue result ↔ BeginsLawful (AtSections (option_copied before.entry)) rest.now }
+    ensures { IsTrue result ↔ BeginsLawful (AtSections None (option_copied before.entry)) rest.now }
 {
     begins_next_cost(rest, before) || begins_floor(rest)
 }
 
 /// Whether these bytes begin a line of one more cost: that of another router, or of one more interface of the same.
-fn begins_next_cost(rest: &[u8], before: Option<&[u8]>) -> bool
-    ensures { IsTrue result ↔ (BeginsRouter (option_copied before.entry) rest.now ⊎ BeginsAgain (option_copied before.entry) rest.now) }
+pub(crate) fn begins_next_cost(rest: &[u8], before: Option<&[u8]>) -> bool
+    ensures { (text : Option OtherText) → (IsTrue result ↔ BeginsNextCost text (option_copied before.entry) rest.now) }
 {
     begins_router(rest, before) || begins_interface_again(rest, before)
 }
@@ -74,7 +76,7 @@ fn is_router_line(line: &[u8], router: Option<&[u8]>) -> bool
 
 /// Whether these bytes begin the line of a further interface, which stands only behind a cost line.
 fn begins_interface_again(rest: &[u8], before: Option<&[u8]>) -> bool
-    ensures { IsTrue result ↔ BeginsAgain (option_copied before.entry) rest.now }
+    ensures { (text : Option OtherText) → (IsTrue result ↔ BeginsAgain text (option_copied before.entry) rest.now) }
 {
     match before {
         Some(_) => begins_interface(rest),
@@ -84,21 +86,21 @@ fn begins_interface_again(rest: &[u8], before: Option<&[u8]>) -> bool
 
 /// Whether these bytes begin the line of an interface.
 pub fn begins_interface(rest: &[u8]) -> bool
-    ensures { (router : List ℕ) → (IsTrue result ↔ BeginsLawful (AtInterface router) rest.now) }
+    ensures { (text : Option OtherText) (router : List ℕ) → (IsTrue result ↔ BeginsLawful (AtInterface text router) rest.now) }
 {
     begins_name(rest, b"interface ")
 }
 
 /// Whether these bytes begin the line of an interface's cost.
 pub fn begins_cost(rest: &[u8]) -> bool
-    ensures { (router : List ℕ) → (IsTrue result ↔ BeginsLawful (AtCost router) rest.now) }
+    ensures { (text : Option OtherText) (router : List ℕ) → (IsTrue result ↔ BeginsLawful (AtCost text router) rest.now) }
 {
     begins_number(rest, b" ip ospf cost ", 65_535) && rest != b" ip ospf cost 0".as_slice()
 }
 
 /// Whether these bytes begin the line that ends an interface.
 pub fn begins_exit(rest: &[u8]) -> bool
-    ensures { (router : List ℕ) → (IsTrue result ↔ BeginsLawful (AtExit router) rest.now) }
+    ensures { (text : Option OtherText) (router : List ℕ) → (IsTrue result ↔ BeginsLawful (AtExit text router) rest.now) }
 {
     begins_line(rest, b"exit")
 }

@@ -18,3 +18,4 @@ mod tree;
 pub use checker::check;
 pub use fault::CheckFault;
 pub use stop::{Accepted, CheckStop};
+pub use sums::add_parts;

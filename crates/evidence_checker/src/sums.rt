@@ -68,7 +68,7 @@ fn greatest_sum(constant: i128, coefficients: &[i128], low: &[u16], high: &[u16]
 
 /// Adds up the forms of some rows, each times its multiplier: their coefficients into `sums`, which are 0 before, and
 /// the constant as the answer.
-fn add_parts(forms: &[Form], parts: &[(u64, u128)], sums: &mut [i128]) -> i128
+pub fn add_parts(forms: &[Form], parts: &[(u64, u128)], sums: &mut [i128]) -> i128
     requires forms { All (IsSmallForm (length sums.old)) forms.now }
     requires rows { All (λ part. part.0 < length forms.now) parts.now }
     requires sum { sum_by (λ part. part.1) parts.now < 2 ^ 100 }

@@ -1,13 +1,14 @@
 -- What is rejected is no valid answer's text.
 use Rattle.std.proofs.Common.{sym, subst, List, ℕ, inl, inr}
 use Rattle.design_problem.specs.Problems.{DesignProblem}
+use Rattle.answer_lines.specs.Grammar.{AtHead}
 use Rattle.evidence_reader.specs.Laws.{IsNoValidText}
 use Rattle.evidence_reader.proofs.ValidAnswers.{invalid_stays, refused_invalid}
-use Rattle.evidence_commands.specs.declared.rejection.Rejection.{Rejection}
+use Rattle.report_writer.specs.declared.rejection.Rejection.{Rejection}
 use Rattle.evidence_commands.specs.Checks.{Claim, IsInvalid, IsOffGrammar, IsRejected}
 
 -- a text that is off the grammar
-pub off_grammar_rejected : (p : DesignProblem) (bytes : List ℕ) (rejection : Rejection) → IsOffGrammar bytes rejection →
+pub off_grammar_rejected : (p : DesignProblem) (bytes : List ℕ) (rejection : Rejection) → IsOffGrammar AtHead bytes rejection →
     IsRejected (record { problem = p; bytes = bytes }) rejection
 off_grammar_rejected p bytes rejection off = record { cause = inl off; never = refused_invalid p bytes off.fault rejection.place off.refused }
 

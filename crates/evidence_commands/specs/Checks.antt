@@ -8,7 +8,7 @@ use Rattle.design_problem.specs.Problems.{DesignProblem}
 use Rattle.design_problem.specs.Answers.{AnswerParts, IsValid}
 use Rattle.design_problem.specs.ProblemLaws.{IsTrueVerdict}
 use Rattle.design_problem.specs.Text.{text}
-use Rattle.answer_lines.specs.Grammar.{AtHead}
+use Rattle.answer_lines.specs.Grammar.{TextPlace, AtHead}
 use Rattle.evidence_reader.specs.declared.stop.AnswerFault.{AnswerFault}
 use Rattle.evidence_reader.specs.Refusals.{IsTextRefused, number_of}
 use Rattle.evidence_text.specs.AnswerValues.{IsAnswerValue}
@@ -19,14 +19,14 @@ use Rattle.evidence_checker.specs.Laws.{IsAcceptedAs}
 use Rattle.evidence_checker.specs.Tests.{tests}
 use Rattle.evidence_commands.specs.declared.check.Judgement.{Judgement}
 use Rattle.evidence_commands.specs.declared.check.Judgement.TheVariants.{Accepted, Rejected}
-use Rattle.evidence_commands.specs.declared.rejection.Rejection.{Rejection}
 use Rattle.input_files.specs.declared.problem.View.TheVariants.{AsRequested}
 use Rattle.input_files.specs.Inputs.{InputFiles}
 use Rattle.input_files.specs.Readings.{Reading, Ready, ◌>>=◌}
 use Rattle.input_files.specs.Outcomes.{outcome, file_read, longest_answer}
 use Rattle.report_writer.specs.declared.report.Report.{Report}
 use Rattle.report_writer.specs.Reports.{Reports}
-use Rattle.report_writer.specs.Texts.{line_of_words}
+use Rattle.report_writer.specs.declared.rejection.Rejection.{Rejection}
+use Rattle.report_writer.specs.Texts.{line_of_words, rejected_line}
 
 -- what is checked: the bytes of an answer's file, as the text of an answer to a problem
 pub record Claim : Type 0 where
@@ -61,15 +61,15 @@ pub record IsInvalid (claim : Claim) (rejection : Rejection) : Type 0 where
   pub first : FirstOf (tests claim.problem answer) (record { number = rejection.number; place = rejection.place })
   pub invalid : IsValid claim.problem answer → ⊥
 
--- the bytes are off the grammar of answers, by the first line that is at fault
-pub record IsOffGrammar (bytes : List ℕ) (rejection : Rejection) : Type 0 where
+-- read from a place on, the bytes are off the grammar, by the first line that is at fault
+pub record IsOffGrammar (from : TextPlace) (bytes : List ℕ) (rejection : Rejection) : Type 0 where
   pub fault : AnswerFault
-  pub refused : IsTextRefused AtHead 0 bytes fault rejection.place
+  pub refused : IsTextRefused from 0 bytes fault rejection.place
   pub number : rejection.number ≡ number_of fault
 
 -- the bytes are no valid answer's text: they are off the grammar of answers, or their answer isn't valid
 pub record IsRejected (claim : Claim) (rejection : Rejection) : Type 0 where
-  pub cause : IsOffGrammar claim.bytes rejection ⊎ IsInvalid claim rejection
+  pub cause : IsOffGrammar AtHead claim.bytes rejection ⊎ IsInvalid claim rejection
   pub never : IsNoValidText claim.problem claim.bytes
 
 -- what a check of these comes to
@@ -81,10 +81,6 @@ IsJudged claim (Rejected rejection) = IsRejected claim rejection
 abbrev pub accepted_line : Acceptance → List ℕ
 accepted_line (Optimal k) = line_of_words (codes "accepted" ∷ codes "optimal" ∷ decimal k ∷ [])
 accepted_line Impossible = line_of_words (codes "accepted" ∷ codes "impossible" ∷ [])
-
--- `rejected NUMBER PLACE`
-abbrev pub rejected_line : Rejection → List ℕ
-rejected_line r = line_of_words (codes "rejected" ∷ decimal r.number ∷ decimal r.place ∷ [])
 
 -- `check`: a valid answer is accepted, and exactly that; else its text or its evidence is refused, by the first fault
 abbrev pub MayCheck : Claim → Status → List ℕ → Type 0

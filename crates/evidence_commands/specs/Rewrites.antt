@@ -1,4 +1,4 @@
--- What a rewrite makes of a configuration and an answer's file.
+-- What a rewrite makes of a configuration and a file with costs: an answer's, or what `total`, `spread` or `change` writes.
 use Rattle.std.specs.Prelude.{◌≡◌, ℕ, ◌-◌, ◌^◌, ◌<◌, ◌⊎◌, List, [], ◌∷◌, ◌++◌, length, Bool, if◌then◌else◌, Option, None, Some}
 use Rattle.std.specs.List.{filter, list_any}
 use Rattle.cost_base.specs.declared.Status.{Status}
@@ -6,26 +6,26 @@ use Rattle.cost_base.specs.declared.Status.TheVariants as status
 use Rattle.cost_base.specs.Lists.{same_bytes}
 use Rattle.config_reader.specs.Configs.{config_of}
 use Rattle.design_problem.specs.declared.answer.CostLine.{CostLine}
-use Rattle.design_problem.specs.declared.answer.Costs.{Costs}
-use Rattle.design_problem.specs.Answers.{AnswerParts}
 use Rattle.evidence_checker.specs.declared.fault.CheckFault.TheVariants.{NothingClaimed, WrongPlaces}
 use Rattle.evidence_checker.specs.Numbers.{number_of}
 use Rattle.config_writer.specs.Rewriting.{costs_of, rewritten, first_missing, ReadsBack}
-use Rattle.evidence_commands.specs.declared.rejection.Rejection.{Rejection}
 use Rattle.evidence_commands.specs.declared.rewrite.Revised.{Revised}
 use Rattle.evidence_commands.specs.declared.rewrite.Revised.TheVariants.{Written, Rejected}
 use Rattle.input_files.specs.Readings.{Reading, Ready, ◌>>=◌}
 use Rattle.input_files.specs.Outcomes.{ConfigFile, config_read, file_read, longest_answer}
+use Rattle.report_writer.specs.declared.rejection.Rejection.{Rejection}
 use Rattle.report_writer.specs.declared.report.Report.{Report}
+use Rattle.report_writer.specs.Texts.{rejected_line}
 use Rattle.report_writer.specs.Reports.{Reports}
-use Rattle.evidence_commands.specs.Checks.{IsTextOf, IsOffGrammar, rejected_line}
+use Rattle.sections_reader.specs.Texts.{SaysCosts, start_of_bytes}
+use Rattle.evidence_commands.specs.Checks.{IsOffGrammar}
 
--- what a rewrite is made of: a configuration, and the bytes of an answer's file
+-- what a rewrite is made of: a configuration, and the bytes of a file with costs
 pub record Revision : Type 0 where
   pub config : ConfigFile
   pub bytes : List ℕ
 
--- what the files of a rewrite say, read in their order: the configuration, and then the answer's
+-- what the files of a rewrite say, read in their order: the configuration, and then that with costs
 abbrev pub revision_read : List ℕ → List ℕ → Reading Revision
 revision_read config answer =
     config_read config >>= λ file.
@@ -49,37 +49,31 @@ last_lines (line ∷ lines) = if has_line_of line.interface lines then last_line
 abbrev pub new_costs : ConfigFile → List CostLine → List (List ℕ × ℕ)
 new_costs config lines = costs_of (last_lines (own_lines (config_of config.name config.bytes).name lines))
 
--- the bytes are the text of an answer with costs: the configuration with the new costs, which reads back as they say
+-- the bytes say costs: the configuration with the new costs, which reads back as they say
 pub record IsRewritten (r : Revision) (text : List ℕ) : Type 0 where
-  pub answer : AnswerParts
-  pub said : IsTextOf r.bytes answer
-  pub costs : Costs
-  pub printed : answer.costs ≡ Some costs
-  pub headed : first_missing (new_costs r.config costs.lines) r.config.bytes ≡ None
-  pub written : text ≡ rewritten (new_costs r.config costs.lines) r.config.bytes
-  pub read_back : ReadsBack r.config.name (new_costs r.config costs.lines) r.config.bytes text
+  pub costs : List CostLine
+  pub said : SaysCosts r.bytes (Some costs)
+  pub headed : first_missing (new_costs r.config costs) r.config.bytes ≡ None
+  pub written : text ≡ rewritten (new_costs r.config costs) r.config.bytes
+  pub read_back : ReadsBack r.config.name (new_costs r.config costs) r.config.bytes text
 
--- the answer has no costs: it claims nothing that a configuration could take
+-- the bytes say that there are no costs: they claim nothing that a configuration could take
 pub record HasNoCosts (r : Revision) (rejection : Rejection) : Type 0 where
-  pub answer : AnswerParts
-  pub said : IsTextOf r.bytes answer
-  pub none : answer.costs ≡ None
+  pub none : SaysCosts r.bytes None
   pub number : rejection.number ≡ number_of NothingClaimed
   pub place : rejection.place ≡ 0
 
 -- a cost line of the configuration's router names an interface that has no head in the configuration
 pub record NamesNoHead (r : Revision) (rejection : Rejection) : Type 0 where
-  pub answer : AnswerParts
-  pub said : IsTextOf r.bytes answer
-  pub costs : Costs
-  pub printed : answer.costs ≡ Some costs
-  pub missing : first_missing (new_costs r.config costs.lines) r.config.bytes ≡ None → ⊥
+  pub costs : List CostLine
+  pub said : SaysCosts r.bytes (Some costs)
+  pub missing : first_missing (new_costs r.config costs) r.config.bytes ≡ None → ⊥
   pub number : rejection.number ≡ number_of WrongPlaces
   pub place : rejection.place ≡ 0
 
--- the bytes are off the grammar of answers, or their answer gives the configuration no costs
+-- the bytes are off the grammar of texts with costs, or they give the configuration no costs
 abbrev pub IsUnfit : Revision → Rejection → Type 0
-IsUnfit r rejection = IsOffGrammar r.bytes rejection ⊎ HasNoCosts r rejection ⊎ NamesNoHead r rejection
+IsUnfit r rejection = IsOffGrammar (start_of_bytes r.bytes) r.bytes rejection ⊎ HasNoCosts r rejection ⊎ NamesNoHead r rejection
 
 -- what a rewrite of these comes to
 abbrev pub IsRevised : Revision → Revised → Type 0
@@ -87,16 +81,16 @@ IsRevised r (Written text) = IsRewritten r text.items
 IsRevised r (Rejected rejection) = IsUnfit r rejection
 
 -- the lines can be numbered
-abbrev pub HasFewLines : Option Costs → Type 0
+abbrev pub HasFewLines : Option (List CostLine) → Type 0
 HasFewLines None = Unit {0}
-HasFewLines (Some costs) = length costs.lines < 2 ^ 32 - 1
+HasFewLines (Some costs) = length costs < 2 ^ 32 - 1
 
 -- a line was added, unless its interface was seen
 pub record AddsLine (old new : List CostLine) (seen_old seen_new : List (List ℕ)) (line : CostLine) : Type 0 where
   pub lines : new ≡ (if list_any (same_bytes line.interface) seen_old then old else old ++ line ∷ [])
   pub seen : seen_new ≡ (if list_any (same_bytes line.interface) seen_old then seen_old else seen_old ++ line.interface ∷ [])
 
--- `rewrite`: the configuration with the answer's costs; else the answer's text is refused, or it gives the configuration none
+-- `rewrite`: the configuration with the text's costs; else the text is refused, or it gives the configuration none
 abbrev pub MayRewrite : Revision → Status → List ℕ → Type 0
 MayRewrite revision status.Done bytes = IsRewritten revision bytes
 MayRewrite revision status.EvidenceRefused bytes = (rejection : Rejection) × IsUnfit revision rejection × (bytes ≡ rejected_line rejection)

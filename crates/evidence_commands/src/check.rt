@@ -10,15 +10,15 @@ ghost use Rattle.input_files.specs.Stops.{IsReadAs, files_named};
 ghost use Rattle.report_writer.specs.Reports.{bytes_in};
 ghost use Rattle.evidence_commands.specs.Checks.{Claim, IsInvalid, IsJudged, IsTextOf, MayCheck, ReportsJudgement, claim_read};
 
-use crate::rejection::{Rejection, rejection_of_text};
-use crate::verdict_lines::{accepted_line_of, rejected_line_of};
+use crate::rejection::rejection_of_text;
+use crate::verdict_lines::accepted_line_of;
 use cost_base::{OutOfMemory, Shelf, Status};
 use design_problem::{Answer, Problem};
 use evidence_checker::{Accepted, CheckStop, check};
 use evidence_reader::read_answer;
 use evidence_text::keeps_answer;
 use input_files::{FileWords, Stop, View, read_answer_file, read_problem};
-use report_writer::Report;
+use report_writer::{Rejection, Report, rejected_line_of};
 use std::alloc::Global;
 
 /// What a check of an answer's file comes to.

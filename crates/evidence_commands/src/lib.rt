@@ -8,5 +8,4 @@ mod rewrite;
 mod verdict_lines;
 
 pub use check::check_report;
-pub use rejection::Rejection;
 pub use rewrite::rewrite_report;

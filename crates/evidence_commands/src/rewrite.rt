@@ -1,27 +1,24 @@
-//! `rewrite`: a configuration with the costs of an answer's file.
+//! `rewrite`: a configuration with the costs of a text: an answer's, or what `total`, `spread` or `change` writes.
 ghost use Rattle.std.specs.Prelude.{◌≡◌, ◌-◌, ◌^◌, ◌<◌, ◌≤◌, ℕ, List, All, Some, IfOk, length};
-ghost use Rattle.design_problem.specs.Answers.{AnswerParts};
-ghost use Rattle.design_problem.specs.declared.answer.Costs.{Costs};
+ghost use Rattle.design_problem.specs.declared.answer.CostLine.{CostLine};
 ghost use Rattle.design_problem.specs.Text.{FitsCostLine};
 ghost use Rattle.config_writer.specs.Rewriting.{TellsMissing, first_missing};
 ghost use Rattle.input_files.specs.Readings.{Gave};
 ghost use Rattle.input_files.specs.Outcomes.{longest_answer};
 ghost use Rattle.input_files.specs.Stops.{IsReadAs};
-ghost use Rattle.evidence_commands.specs.Checks.{IsTextOf};
+ghost use Rattle.sections_reader.specs.Texts.{FitLines, SaysCosts};
 ghost use Rattle.report_writer.specs.Reports.{bytes_in};
 ghost use Rattle.evidence_commands.specs.Rewrites.{HasFewLines, IsRevised, MayRewrite, ReportsRevised, Revision, new_costs, revision_read};
 
 use crate::own_lines::last_lines;
-use crate::rejection::{Rejection, rejection_of_text};
-use crate::verdict_lines::rejected_line_of;
+use crate::rejection::rejection_of_text;
 use config_writer::{RewriteStop, rewrite};
-use cost_base::{OutOfMemory, Shelf, Status};
-use design_problem::{Answer, CostLine};
+use cost_base::{Listed, OutOfMemory, Shelf, Status};
+use design_problem::CostLine;
 use evidence_checker::CheckFault;
-use evidence_reader::read_answer;
-use evidence_text::keeps_answer;
 use input_files::{ConfigText, Stop, read_answer_file, read_config_text};
-use report_writer::Report;
+use report_writer::{Rejection, Report, rejected_line_of};
+use sections_reader::read_costs;
 use std::alloc::Global;
 
 /// What a rewrite of a configuration comes to.
@@ -29,20 +26,20 @@ use std::alloc::Global;
 pub(crate) enum Revised {
     /// The configuration with the new costs.
     Written(Vec<u8>),
-    /// The answer's text is off the grammar, or it gives the configuration no costs.
+    /// The text is off the grammar, or it gives the configuration no costs.
     Rejected(Rejection),
 }
 
-/// Why an answer without costs is rejected: it claims nothing that a configuration could take.
+/// Why a text without costs is rejected: it claims nothing that a configuration could take.
 const NO_COSTS: CheckFault = CheckFault::NothingClaimed;
 
-/// Why an answer is rejected of which an interface has no head in the configuration.
+/// Why a text is rejected of which an interface has no head in the configuration.
 const NO_HEAD: CheckFault = CheckFault::WrongPlaces;
 
 /// What a configuration that wasn't rewritten comes to.
 fn unwritten(stop: RewriteStop) -> Result<Revised, OutOfMemory>
-    ensures { (r : Revision) (answer : AnswerParts) (costs : Costs) → IsTextOf r.bytes answer → answer.costs ≡ Some costs →
-        TellsMissing (first_missing (new_costs r.config costs.lines) r.config.bytes) stop → IfOk result (IsRevised r) }
+    ensures { (r : Revision) (costs : List CostLine) → SaysCosts r.bytes (Some costs) →
+        TellsMissing (first_missing (new_costs r.config costs) r.config.bytes) stop → IfOk result (IsRevised r) }
 {
     match stop {
         RewriteStop::NoInterface(_) => Ok(Revised::Rejected(Rejection {
@@ -53,7 +50,7 @@ fn unwritten(stop: RewriteStop) -> Result<Revised, OutOfMemory>
     }
 }
 
-/// What a rewrite with the lines of an answer comes to.
+/// What a rewrite with the cost lines of a text comes to.
 fn revised_by_lines(
     alloc: Global,
     config: &ConfigText<'_>,
@@ -61,8 +58,7 @@ fn revised_by_lines(
 ) -> Result<Revised, OutOfMemory>
     requires few { length lines.now < 2 ^ 32 - 1 }
     requires fit { All FitsCostLine lines.now }
-    ensures { (bytes : List ℕ) (answer : AnswerParts) (costs : Costs) → IsTextOf bytes answer → answer.costs ≡ Some costs →
-        costs.lines ≡ lines.now → IfOk result (IsRevised (record { config = config.now; bytes = bytes })) }
+    ensures { (bytes : List ℕ) → SaysCosts bytes (Some lines.now) → IfOk result (IsRevised (record { config = config.now; bytes = bytes })) }
 {
     let own = last_lines(alloc, &config.said().name, lines)?;
     match rewrite(alloc, config.name, &config.bytes, &own) {
@@ -71,17 +67,18 @@ fn revised_by_lines(
     }
 }
 
-/// What a rewrite with an answer comes to.
-fn revised_by_answer(
+/// What a rewrite with what a text says of costs comes to.
+fn revised_by_costs(
     alloc: Global,
     config: &ConfigText<'_>,
-    answer: &Answer,
+    costs: Option<Listed<CostLine>>,
 ) -> Result<Revised, OutOfMemory>
-    requires { HasFewLines answer.now.costs }
-    ensures { (bytes : List ℕ) → IsTextOf bytes answer.now → IfOk result (IsRevised (record { config = config.now; bytes = bytes })) }
+    requires few { HasFewLines costs }
+    requires fit { FitLines costs }
+    ensures { (bytes : List ℕ) → SaysCosts bytes costs → IfOk result (IsRevised (record { config = config.now; bytes = bytes })) }
 {
-    match &answer.costs {
-        Some(costs) => revised_by_lines(alloc, config, costs.lines.as_slice()),
+    match costs {
+        Some(lines) => revised_by_lines(alloc, config, lines.as_slice()),
         None => Ok(Revised::Rejected(Rejection {
             number: NO_COSTS.number(),
             place: 0,
@@ -89,7 +86,7 @@ fn revised_by_answer(
     }
 }
 
-/// What a rewrite with the text of an answer comes to.
+/// What a rewrite with a text comes to.
 fn revised_by_text(
     alloc: Global,
     config: &ConfigText<'_>,
@@ -98,16 +95,13 @@ fn revised_by_text(
     requires { length bytes.now ≤ longest_answer }
     ensures { IfOk result (IsRevised (record { config = config.now; bytes = bytes.now })) }
 {
-    match read_answer(alloc, bytes) {
-        Ok(answer) => {
-            keeps_answer(&answer);
-            revised_by_answer(alloc, config, &answer)
-        }
+    match read_costs(alloc, bytes) {
+        Ok(costs) => revised_by_costs(alloc, config, costs),
         Err(stop) => Ok(Revised::Rejected(rejection_of_text(stop)?)),
     }
 }
 
-/// What a rewrite of a configuration with an answer's file comes to.
+/// What a rewrite of a configuration with a file of costs comes to.
 fn rewrite_files<'a, S: Shelf>(
     alloc: Global,
     answer: &'a str,
@@ -135,7 +129,8 @@ fn report_of_revised(alloc: Global, revised: Revised) -> Result<Report, OutOfMem
     }
 }
 
-/// The report of a rewrite of a configuration with an answer's file: its new text, or why it has none.
+/// The report of a rewrite of a configuration with the costs of a file, which is an answer's, or holds what `total`,
+/// `spread` or `change` wrote: the configuration's new text, or why it has none.
 ///
 /// # Errors
 ///

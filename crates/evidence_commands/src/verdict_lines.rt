@@ -1,8 +1,7 @@
-//! The lines that tell what became of an answer's file.
+//! The lines that tell that an answer was accepted.
 ghost use Rattle.std.specs.Prelude.{◌≡◌, IfOk};
-ghost use Rattle.evidence_commands.specs.Checks.{accepted_line, rejected_line};
+ghost use Rattle.evidence_commands.specs.Checks.{accepted_line};
 
-use crate::rejection::Rejection;
 use cost_base::OutOfMemory;
 use evidence_checker::Accepted;
 use std::alloc::Global;
@@ -36,17 +35,4 @@ pub(crate) fn accepted_line_of(alloc: Global, accepted: Accepted) -> Result<Vec<
         Accepted::Optimal(greatest) => optimal_line_of(alloc, greatest),
         Accepted::Impossible => impossible_line_of(alloc),
     }
-}
-
-/// The line `rejected NUMBER PLACE`.
-pub(crate) fn rejected_line_of(alloc: Global, rejection: Rejection) -> Result<Vec<u8>, OutOfMemory>
-    ensures { IfOk result (λ text. text.items ≡ rejected_line rejection) }
-{
-    let mut text = Vec::new(alloc);
-    push_bytes(&mut text, b"rejected ")?;
-    push_number(&mut text, u128::from(rejection.number))?;
-    push_bytes(&mut text, b" ")?;
-    push_number(&mut text, u128::from(rejection.place))?;
-    push_bytes(&mut text, b"\n")?;
-    Ok(text)
 }

@@ -16,6 +16,8 @@ use Rattle.design_problem.specs.Answers.{AnswerParts}
 use Rattle.design_problem.specs.Bounds.{IsCost, IsRowNumber, BoundsVerdict, BoundsFloor, BoundsRow, BoundsEntry, BoundsCosts, BoundsTree, HasBounds}
 use Rattle.design_problem.specs.Text.{row_line, entry_line, cost_lines, costs_lines, tree_lines, answer_lines, FitsEntry, FitsCostLine, FitsCosts, FitsTree, FitsAnswer}
 use Rattle.design_problem.specs.Trees.{subtree_count, AreSeveralTrees}
+use Rattle.answer_lines.specs.declared.other_text.OtherText.{OtherText}
+use Rattle.answer_lines.proofs.FirstLines.{has-room}
 use Rattle.answer_lines.specs.Grammar.{TextPlace, Next, IsInterfaceNext, AtHead, AtVerdict, AtCosts, AtSections, AtInterface, AtCost, AtExit, AtFloor, AtRows, AtRow, AtTree, AtEnd, AfterEnd, router_line}
 use Rattle.evidence_text.specs.Parts.{head_lines, interface_line, answer_cost_line, floor_line, rows_lines, part_word, end_lines}
 use Rattle.answer_lines.specs.Lawful.{LeadOn}
@@ -27,86 +29,90 @@ use Rattle.evidence_reader.proofs.SectionLines.{router_before}
 use Rattle.evidence_reader.proofs.TreeLines.{part_says}
 
 -- lines in the grammar, one after another, however long they are
-abbrev GoOn : TextPlace → List (List ℕ) → TextPlace → Type 0
+abbrev pub GoOn : TextPlace → List (List ℕ) → TextPlace → Type 0
 GoOn place [] last = place ≡ last
 GoOn place (line ∷ lines) last = (next : TextPlace) × Next place line next × GoOn next lines last
 
-go-then : (from mid to : TextPlace) (xs ys : List (List ℕ)) → GoOn from xs mid → GoOn mid ys to → GoOn from (xs ++ ys) to
+pub go-then : (from mid to : TextPlace) (xs ys : List (List ℕ)) → GoOn from xs mid → GoOn mid ys to → GoOn from (xs ++ ys) to
 go-then from mid to [] ys first second = subst (λ p. GoOn p ys to) (sym first) second
 go-then from mid to (x ∷ xs) ys first second = (first.0, first.1, go-then first.0 mid to xs ys first.2 second)
 
 -- short lines of the grammar are lawful
-lawful : (from to : TextPlace) (xs : List (List ℕ)) → All (λ line. length line ≤ 65536) xs → GoOn from xs to → LeadOn from xs to
+pub lawful : (from to : TextPlace) (xs : List (List ℕ)) → All (λ line. length line ≤ 65536) xs → GoOn from xs to → LeadOn from xs to
 lawful from to [] short on = on
 lawful from to (x ∷ xs) short on =
     let P : List ℕ → Type 0 = λ line. length line ≤ 65536 in
-    (on.0, record { is = on.1; short = All-head P x xs short }, lawful on.0 to xs (All-tail P x xs short) on.2)
+    (on.0, record { is = on.1; short = has-room from x (All-head P x xs short) }, lawful on.0 to xs (All-tail P x xs short) on.2)
 
 head-on : (verdict : Verdict) → BoundsVerdict verdict → GoOn AtHead (head_lines verdict) AtCosts
 head-on verdict bounds = (AtVerdict, (refl, refl), (AtCosts, record { verdict = verdict; bounds = bounds; is = refl; leads = refl }, refl))
 
 -- a cost behind its interface
-cost-on : (router : List ℕ) (line : CostLine) (rest : List (List ℕ)) (to : TextPlace) → FitsCostLine line → IsCost line.cost →
-    GoOn (AtSections (Some router)) rest to → GoOn (AtCost router) (answer_cost_line line.cost ∷ codes "exit" ∷ rest) to
-cost-on router line rest to fits bounds behind =
-    (AtExit router, record { cost = line.cost; some = fits.cost; bounds = bounds; is = refl; leads = refl }, (AtSections (Some router), (refl, refl), behind))
+cost-on : (of : Option OtherText) (router : List ℕ) (line : CostLine) (rest : List (List ℕ)) (to : TextPlace) → FitsCostLine line → IsCost line.cost →
+    GoOn (AtSections of (Some router)) rest to → GoOn (AtCost of router) (answer_cost_line line.cost ∷ codes "exit" ∷ rest) to
+cost-on of router line rest to fits bounds behind = (
+  AtExit of router,
+  record { cost = line.cost; some = fits.cost; bounds = bounds; is = refl; leads = refl },
+  (AtSections of (Some router), (refl, refl), behind),
+)
 
-interface-is : (router : List ℕ) (line : CostLine) → FitsCostLine line → IsInterfaceNext router (interface_line line.interface) (AtCost router)
-interface-is router line fits = record { name = line.interface; word = fits.interface; is = refl; leads = refl }
+interface-is : (of : Option OtherText) (router : List ℕ) (line : CostLine) → FitsCostLine line →
+    IsInterfaceNext of router (interface_line line.interface) (AtCost of router)
+interface-is of router line fits = record { name = line.interface; word = fits.interface; is = refl; leads = refl }
 
 -- a cost behind the line of its router
-section-on : (before : Option (List ℕ)) (line : CostLine) (rest : List (List ℕ)) (to : TextPlace) → before ≢ Some line.router → FitsCostLine line →
-    GoOn (AtCost line.router) rest to → GoOn (AtSections before) (router_line line.router ∷ interface_line line.interface ∷ rest) to
-section-on before line rest to other fits behind = (
-  AtInterface line.router,
+section-on : (of : Option OtherText) (before : Option (List ℕ)) (line : CostLine) (rest : List (List ℕ)) (to : TextPlace) → before ≢ Some line.router → FitsCostLine line →
+    GoOn (AtCost of line.router) rest to → GoOn (AtSections of before) (router_line line.router ∷ interface_line line.interface ∷ rest) to
+section-on of before line rest to other fits behind = (
+  AtInterface of line.router,
   inl (record { name = line.router; word = fits.router; other = other; is = refl; leads = refl }),
-  (AtCost line.router, interface-is line.router line fits, behind),
+  (AtCost of line.router, interface-is of line.router line fits, behind),
 )
 
 -- a cost without or with the line of its router, as its router is that of the cost before or another one
-again-on : (before : List ℕ) (line : CostLine) (rest : List (List ℕ)) (to : TextPlace) (same : Bool) → same_bytes before line.router ≡ same → FitsCostLine line →
-    GoOn (AtCost line.router) rest to →
-    GoOn (AtSections (Some before))
+again-on : (of : Option OtherText) (before : List ℕ) (line : CostLine) (rest : List (List ℕ)) (to : TextPlace) (same : Bool) → same_bytes before line.router ≡ same → FitsCostLine line →
+    GoOn (AtCost of line.router) rest to →
+    GoOn (AtSections of (Some before))
     (cond same [] (router_line line.router ∷ []) ++ (interface_line line.interface ∷ rest)) to
-again-on before line rest to true is fits behind =
+again-on of before line rest to true is fits behind =
     let same : before ≡ line.router = (pointwise_decides Decides-eqb before line.router).0 is in
-    (AtCost before, inr (inl (interface-is before line fits)), subst (λ r. GoOn (AtCost r) rest to) (sym same) behind)
-again-on before line rest to false is fits behind = section-on (Some before) line rest to (other is) fits behind
+    (AtCost of before, inr (inl (interface-is of before line fits)), subst (λ r. GoOn (AtCost of r) rest to) (sym same) behind)
+again-on of before line rest to false is fits behind = section-on of (Some before) line rest to (other is) fits behind
   where
     other : same_bytes before line.router ≡ false → Some before ≢ Some line.router
     other isnt e = true≢false (sym ((pointwise_decides Decides-eqb before line.router).1 (cc)) ∙ isnt)
 
-costs-on : (before : Option (List ℕ)) (lines : List CostLine) → All FitsCostLine lines →
+pub costs-on : (of : Option OtherText) (before : Option (List ℕ)) (lines : List CostLine) → All FitsCostLine lines →
     All (λ line. IsCost line.cost) lines →
-    GoOn (AtSections before) (cost_lines before lines) (AtSections (router_before before lines))
-costs-on before [] fits bounds = refl
-costs-on before (line ∷ lines) fits bounds =
+    GoOn (AtSections of before) (cost_lines before lines) (AtSections of (router_before before lines))
+costs-on of before [] fits bounds = refl
+costs-on of before (line ∷ lines) fits bounds =
     let P : CostLine → Type 0 = λ line. IsCost line.cost in
     let first : FitsCostLine line = All-head FitsCostLine line lines fits in
-    let to : TextPlace = AtSections (router_before (Some line.router) lines) in
-    let behind = costs-on (Some line.router) lines (All-tail FitsCostLine line lines fits) (All-tail P line lines bounds) in
-    cases before first (cost-on line.router line (cost_lines (Some line.router) lines) to first (All-head P line lines bounds) behind)
+    let to : TextPlace = AtSections of (router_before (Some line.router) lines) in
+    let behind = costs-on of (Some line.router) lines (All-tail FitsCostLine line lines fits) (All-tail P line lines bounds) in
+    cases before first (cost-on of line.router line (cost_lines (Some line.router) lines) to first (All-head P line lines bounds) behind)
   where
     cases : (before : Option (List ℕ)) → FitsCostLine line →
-        GoOn (AtCost line.router) (answer_cost_line line.cost ∷ codes "exit" ∷ cost_lines (Some line.router) lines)
-        (AtSections (router_before (Some line.router) lines)) →
-        GoOn (AtSections before) (cost_lines before (line ∷ lines)) (AtSections (router_before (Some line.router) lines))
-    cases None first behind = section-on None line
+        GoOn (AtCost of line.router) (answer_cost_line line.cost ∷ codes "exit" ∷ cost_lines (Some line.router) lines)
+        (AtSections of (router_before (Some line.router) lines)) →
+        GoOn (AtSections of before) (cost_lines before (line ∷ lines)) (AtSections of (router_before (Some line.router) lines))
+    cases None first behind = section-on of None line
         (answer_cost_line line.cost ∷ codes "exit" ∷ cost_lines (Some line.router) lines)
-        (AtSections (router_before (Some line.router) lines)) (λ e. cc) first behind
-    cases (Some b) first behind = again-on b line
+        (AtSections of (router_before (Some line.router) lines)) (λ e. cc) first behind
+    cases (Some b) first behind = again-on of b line
         (answer_cost_line line.cost ∷ codes "exit" ∷ cost_lines (Some line.router) lines)
-        (AtSections (router_before (Some line.router) lines)) (same_bytes b line.router) refl first behind
+        (AtSections of (router_before (Some line.router) lines)) (same_bytes b line.router) refl first behind
 
 -- the place behind costs
 abbrev behind_costs : Option Costs → TextPlace
 behind_costs None = AtFloor
-behind_costs (Some costs) = AtSections (router_before None costs.lines)
+behind_costs (Some costs) = AtSections None (router_before None costs.lines)
 
 some-costs-on : (costs : Option Costs) → FitsCosts costs → BoundsCosts costs → GoOn AtCosts (costs_lines costs) (behind_costs costs)
 some-costs-on None fits bounds = (AtFloor, inl (refl, refl), refl)
 some-costs-on (Some costs) fits bounds =
-    (AtSections None, inr (record { greatest = costs.greatest; bounds = bounds.0; is = refl; leads = refl }), costs-on None costs.lines fits bounds.1)
+    (AtSections None None, inr (record { greatest = costs.greatest; bounds = bounds.0; is = refl; leads = refl }), costs-on None None costs.lines fits bounds.1)
 
 floor-on : (costs : Option Costs) (floor : Floor) → BoundsFloor floor → Next (behind_costs costs) (floor_line floor) AtRows
 floor-on None floor bounds = record { floor = floor; bounds = bounds; is = refl; leads = refl }

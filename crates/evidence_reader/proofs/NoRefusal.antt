@@ -1,15 +1,12 @@
 -- No fault is found in an answer's text.
-use Rattle.std.proofs.Common.{◌≡◌, ℕ, List, [], ◌∷◌, ◌++◌, length, eqb, false, sym, ap, subst, ◌∙◌, arith, append_assoc, length-append, inl, inr}
-use Rattle.std.proofs.lemmas.Bool.{true≢false}
-use Rattle.std.proofs.lemmas.List.Elements.{All-head, All-tail}
-use Rattle.design_problem.specs.Answers.{AnswerParts}
+use Rattle.std.proofs.Common.{◌≡◌, ℕ, List, [], ◌∷◌, ◌++◌, length, refl, sym, ap, subst, ◌∙◌, arith, append_assoc, length-append, inl, inr}
 use Rattle.design_problem.specs.Text.{answer_lines, text}
 use Rattle.text_lines.specs.Lines.{IsOneLine, with_ends}
 use Rattle.answer_lines.specs.Grammar.{TextPlace, AtHead, AfterEnd, Next}
 use Rattle.answer_lines.specs.Lawful.{LineLeads, LeadOn}
 use Rattle.evidence_reader.specs.declared.stop.AnswerFault.{AnswerFault}
 use Rattle.evidence_reader.specs.Refusals.{IsBadLine, IsEarlyEnd, IsFault, IsTextRefused, bad_line, early_end, after_end}
-use Rattle.answer_lines.proofs.LineFronts.{first_line-one}
+use Rattle.answer_lines.proofs.LineFronts.{first_line-one, not-one}
 use Rattle.evidence_reader.specs.Laws.{AnswersAreRead}
 use Rattle.evidence_reader.proofs.GrammarLines.{next_is_one_line}
 use Rattle.evidence_reader.proofs.Lawful.{answer-leads}
@@ -25,11 +22,6 @@ text-first line lines = append_assoc line (10 ∷ []) (with_ends lines)
 -- a text with an LF isn't empty
 some-line : (a b : List ℕ) → [] ≡ a ++ 10 ∷ b → ⊥
 some-line a b e = omega (arith, ap length e, length-append a (10 ∷ b))
-
--- a text with an LF is no line
-not-one : (a b : List ℕ) → IsOneLine (a ++ 10 ∷ b) → ⊥
-not-one [] b one = true≢false (All-head (λ c. eqb c 10 ≡ false) 10 b one)
-not-one (c ∷ cs) b one = not-one cs b (All-tail (λ x. eqb x 10 ≡ false) c (cs ++ 10 ∷ b) one)
 
 -- what is left of a lawful text, as lawful lines that lead to its end
 abbrev IsLeft : TextPlace → TextPlace → List ℕ → Type 0
@@ -74,13 +66,15 @@ no_fault place rest kind (line ∷ lines) lead is (bad_line inside bad) = no_bad
 no_fault place rest kind (line ∷ lines) lead is (early_end inside early) = no_early place line (with_ends lines) rest (is ∙ text-first line lines) early
 no_fault place rest kind (line ∷ lines) lead is (after_end at some) = subst (λ p. Next p line lead.0) at lead.1.is
 
--- where its lines are lawful, an answer's text is not refused
-not_refused : (a : AnswerParts) (kind : AnswerFault) (line : ℕ) → LeadOn AtHead (answer_lines a) AfterEnd → IsTextRefused AtHead 0 (text a) kind line → ⊥
-not_refused a kind line lead refused =
+-- lawful lines that lead behind the end are not refused
+pub not_refused : (from : TextPlace) (lines : List (List ℕ)) (bytes : List ℕ) (kind : AnswerFault) (line : ℕ) → LeadOn from lines AfterEnd →
+    bytes ≡ with_ends lines → IsTextRefused from 0 bytes kind line → ⊥
+not_refused from lines bytes kind line lead is refused =
     let left : IsLeft refused.place AfterEnd refused.rest =
-    left-lawful AtHead refused.place AfterEnd refused.lines (answer_lines a) refused.rest refused.lead lead (sym refused.parts) in
+    left-lawful from refused.place AfterEnd refused.lines lines refused.rest refused.lead lead (sym refused.parts ∙ is) in
     no_fault refused.place refused.rest kind left.0 left.1 left.2 refused.fault
 
 -- no answer's text is refused
 pub texts_read : AnswersAreRead
-texts_read a kind line value refused = not_refused a kind line (answer-leads a value.fits value.bounds value.count) refused
+texts_read a kind line value refused =
+    not_refused AtHead (answer_lines a) (text a) kind line (answer-leads a value.fits value.bounds value.count) refl refused

@@ -10,7 +10,9 @@ use Rattle.design_problem.specs.Text.{spaced, part_words, entry_line}
 use Rattle.design_problem.specs.Trees.{subtree_count}
 use Rattle.text_lines.specs.Numbers.{split}
 use Rattle.text_lines.proofs.Printed.{decimal-same, decimal-digits}
-use Rattle.answer_lines.specs.Grammar.{TextPlace, AtHead, AtVerdict, AtCosts, AtSections, AtInterface, AtCost, AtExit, AtFloor, AtRows, AtRow, AtTree, AtEnd, AfterEnd, Next, IsRouterNext, IsInterfaceAgain, IsFloorNext, IsPartNext}
+use Rattle.answer_lines.specs.declared.other_text.OtherText.{OtherText}
+use Rattle.answer_lines.specs.declared.other_text.OtherText.TheVariants.{Total, Spread, Change}
+use Rattle.answer_lines.specs.Grammar.{TextPlace, AtHead, AtVerdict, AtCosts, AtSections, AtInterface, AtCost, AtExit, AtFloor, AtRows, AtRow, AtTree, AtEnd, AfterEnd, AtOtherHead, AtInnerHead, AtOtherVerdict, AtOtherCosts, AtSectionsEnd, AtUnread, Next, IsRouterNext, IsInterfaceAgain, IsEndNext, IsPartNext, costs_front}
 use Rattle.evidence_text.specs.Parts.{part_word, no_tree_line, tree_line, interface_line}
 use Rattle.evidence_text.specs.declared.TreePart.{TreePart}
 use Rattle.evidence_text.specs.declared.TreePart.TheVariants.{Proof, Unfinished}
@@ -20,6 +22,12 @@ use Rattle.answer_lines.proofs.LineWords.{tree-words}
 -- one line doesn't begin with two bytes
 first-apart : (line : List ℕ) (a b : ℕ) (xs ys : List ℕ) → (a ≡ b → ⊥) → line ≡ a ∷ xs → line ≡ b ∷ ys → ⊥
 first-apart line a b xs ys differ first second = differ (head-is a b xs ys (sym first ∙ second))
+
+-- a line of a router doesn't begin as that of the rows
+router-rows : (line xs ys : List ℕ) → line ≡ 114 ∷ 111 ∷ 117 ∷ xs → line ≡ 114 ∷ 111 ∷ 119 ∷ ys → ⊥
+router-rows line xs ys first second =
+    let third : 117 ≡ 119 = head-is _ _ _ _ (tail-is _ _ _ _ (tail-is _ _ _ _ (sym first ∙ second))) in
+    omega (arith, third)
 
 -- what stands behind a front of one line
 behind-front : (line front a b : List ℕ) → line ≡ front ++ a → line ≡ front ++ b → a ≡ b
@@ -55,35 +63,59 @@ costs-once line next other (inr a) (inl b) = absurd (none-number a.greatest (beh
 costs-once line next other (inr a) (inr b) = a.leads ∙ sym b.leads
 
 -- a further interface
-again-line : (before : Option (List ℕ)) (line : List ℕ) (next : TextPlace) → IsInterfaceAgain before line next → (name : List ℕ) × (line ≡ interface_line name)
-again-line None line next again = absurd again
-again-line (Some router) line next again = (again.name, again.is)
+again-line : (of : Option OtherText) (before : Option (List ℕ)) (line : List ℕ) (next : TextPlace) → IsInterfaceAgain of before line next →
+    (name : List ℕ) × (line ≡ interface_line name)
+again-line of None line next again = absurd again
+again-line of (Some router) line next again = (again.name, again.is)
 
-again-once : (before : Option (List ℕ)) (line : List ℕ) (next other : TextPlace) → IsInterfaceAgain before line next →
-    IsInterfaceAgain before line other → next ≡ other
-again-once None line next other a b = absurd a
-again-once (Some router) line next other a b = a.leads ∙ sym b.leads
+again-once : (of : Option OtherText) (before : Option (List ℕ)) (line : List ℕ) (next other : TextPlace) → IsInterfaceAgain of before line next →
+    IsInterfaceAgain of before line other → next ≡ other
+again-once of None line next other a b = absurd a
+again-once of (Some router) line next other a b = a.leads ∙ sym b.leads
 
-router-again : (before : Option (List ℕ)) (line : List ℕ) (next other : TextPlace) → IsRouterNext before line next → IsInterfaceAgain before line other → ⊥
-router-again before line next other a b = first-apart line 114 105 _ _ (λ e. omega arith) a.is (again-line before line other b).1
+router-again : (of : Option OtherText) (before : Option (List ℕ)) (line : List ℕ) (next other : TextPlace) → IsRouterNext of before line next →
+    IsInterfaceAgain of before line other → ⊥
+router-again of before line next other a b = first-apart line 114 105 _ _ (λ e. omega arith) a.is (again-line of before line other b).1
 
-router-floor : (before : Option (List ℕ)) (line : List ℕ) (next other : TextPlace) → IsRouterNext before line next → IsFloorNext line other → ⊥
-router-floor before line next other a b = first-apart line 114 102 _ _ (λ e. omega arith) a.is b.is
+-- the line of a router isn't one that ends the sections: `floor` begins otherwise, and `rows` goes on otherwise
+router-end : (of : Option OtherText) (before : Option (List ℕ)) (line : List ℕ) (next other : TextPlace) → IsRouterNext of before line next →
+    IsEndNext of line other → ⊥
+router-end None before line next other a b = first-apart line 114 102 _ _ (λ e. omega arith) a.is b.is
+router-end (Some Total) before line next other a b = first-apart line 114 102 _ _ (λ e. omega arith) a.is b.0.2
+router-end (Some Spread) before line next other a b = router-rows line _ _ a.is b.0.2
+router-end (Some Change) before line next other a b = router-rows line _ _ a.is b.0.2
 
-again-floor : (before : Option (List ℕ)) (line : List ℕ) (next other : TextPlace) → IsInterfaceAgain before line next → IsFloorNext line other → ⊥
-again-floor before line next other a b = first-apart line 105 102 _ _ (λ e. omega arith) (again-line before line next a).1 b.is
+again-end : (of : Option OtherText) (before : Option (List ℕ)) (line : List ℕ) (next other : TextPlace) → IsInterfaceAgain of before line next →
+    IsEndNext of line other → ⊥
+again-end None before line next other a b = first-apart line 105 102 _ _ (λ e. omega arith) (again-line None before line next a).1 b.is
+again-end (Some Total) before line next other a b = first-apart line 105 102 _ _ (λ e. omega arith) (again-line (Some Total) before line next a).1 b.0.2
+again-end (Some Spread) before line next other a b = first-apart line 105 114 _ _ (λ e. omega arith) (again-line (Some Spread) before line next a).1 b.0.2
+again-end (Some Change) before line next other a b = first-apart line 105 114 _ _ (λ e. omega arith) (again-line (Some Change) before line next a).1 b.0.2
 
-sections-once : (before : Option (List ℕ)) (line : List ℕ) (next other : TextPlace) → Next (AtSections before) line next →
-    Next (AtSections before) line other → next ≡ other
-sections-once before line next other (inl a) (inl b) = a.leads ∙ ap AtInterface (behind-front line (codes "router ") a.name b.name a.is b.is) ∙ sym b.leads
-sections-once before line next other (inl a) (inr (inl b)) = absurd (router-again before line next other a b)
-sections-once before line next other (inl a) (inr (inr b)) = absurd (router-floor before line next other a b)
-sections-once before line next other (inr (inl a)) (inl b) = absurd (router-again before line other next b a)
-sections-once before line next other (inr (inl a)) (inr (inl b)) = again-once before line next other a b
-sections-once before line next other (inr (inl a)) (inr (inr b)) = absurd (again-floor before line next other a b)
-sections-once before line next other (inr (inr a)) (inl b) = absurd (router-floor before line other next b a)
-sections-once before line next other (inr (inr a)) (inr (inl b)) = absurd (again-floor before line other next b a)
-sections-once before line next other (inr (inr a)) (inr (inr b)) = a.leads ∙ sym b.leads
+end-once : (of : Option OtherText) (line : List ℕ) (next other : TextPlace) → IsEndNext of line next → IsEndNext of line other → next ≡ other
+end-once None line next other a b = a.leads ∙ sym b.leads
+end-once (Some text) line next other a b = a.1 ∙ sym b.1
+
+sections-once : (of : Option OtherText) (before : Option (List ℕ)) (line : List ℕ) (next other : TextPlace) → Next (AtSections of before) line next →
+    Next (AtSections of before) line other → next ≡ other
+sections-once of before line next other (inl a) (inl b) =
+    a.leads ∙ ap (AtInterface of) (behind-front line (codes "router ") a.name b.name a.is b.is) ∙ sym b.leads
+sections-once of before line next other (inl a) (inr (inl b)) = absurd (router-again of before line next other a b)
+sections-once of before line next other (inl a) (inr (inr b)) = absurd (router-end of before line next other a b)
+sections-once of before line next other (inr (inl a)) (inl b) = absurd (router-again of before line other next b a)
+sections-once of before line next other (inr (inl a)) (inr (inl b)) = again-once of before line next other a b
+sections-once of before line next other (inr (inl a)) (inr (inr b)) = absurd (again-end of before line next other a b)
+sections-once of before line next other (inr (inr a)) (inl b) = absurd (router-end of before line other next b a)
+sections-once of before line next other (inr (inr a)) (inr (inl b)) = absurd (again-end of before line other next b a)
+sections-once of before line next other (inr (inr a)) (inr (inr b)) = end-once of line next other a b
+
+-- `none` isn't a number of costs
+other-costs-once : (text : OtherText) (line : List ℕ) (next other : TextPlace) → Next (AtOtherCosts text) line next →
+    Next (AtOtherCosts text) line other → next ≡ other
+other-costs-once text line next other (inl a) (inl b) = a.1 ∙ sym b.1
+other-costs-once text line next other (inl a) (inr b) = absurd (none-number b.0.0 (behind-front line (costs_front text) (codes "none") (decimal b.0.0) a.0 b.0.2))
+other-costs-once text line next other (inr a) (inl b) = absurd (none-number a.0.0 (behind-front line (costs_front text) (codes "none") (decimal a.0.0) b.0 a.0.2))
+other-costs-once text line next other (inr a) (inr b) = a.1 ∙ sym b.1
 
 -- a part without a tree has the words of no tree's head
 none-words : (part : TreePart) → split 32 (no_tree_line part) ≡ part_word part ∷ codes "none" ∷ []
@@ -115,10 +147,10 @@ one_place AtHead line next other a b = a.1 ∙ sym b.1
 one_place AtVerdict line next other a b = a.leads ∙ sym b.leads
 one_place AtCosts line next other a b = costs-once line next other a b
 one_place AtFloor line next other a b = a.leads ∙ sym b.leads
-one_place (AtSections before) line next other a b = sections-once before line next other a b
-one_place (AtInterface router) line next other a b = a.leads ∙ sym b.leads
-one_place (AtCost router) line next other a b = a.leads ∙ sym b.leads
-one_place (AtExit router) line next other a b = a.1 ∙ sym b.1
+one_place (AtSections of before) line next other a b = sections-once of before line next other a b
+one_place (AtInterface of router) line next other a b = a.leads ∙ sym b.leads
+one_place (AtCost of router) line next other a b = a.leads ∙ sym b.leads
+one_place (AtExit of router) line next other a b = a.1 ∙ sym b.1
 one_place AtRows line next other a b =
     a.leads ∙ ap AtRow (decimal-same a.count b.count (behind-front line (codes "rows ") (decimal a.count) (decimal b.count) a.is b.is)) ∙ sym b.leads
 one_place (AtRow zero) line next other a b = part-once Proof line next other a b
@@ -131,3 +163,9 @@ one_place (AtTree Proof zero zero) line next other a b = part-once Unfinished li
 one_place (AtTree Unfinished zero zero) line next other a b = a.1 ∙ sym b.1
 one_place AtEnd line next other a b = a.1 ∙ sym b.1
 one_place AfterEnd line next other a b = absurd a
+one_place (AtOtherHead text) line next other a b = a.1 ∙ sym b.1
+one_place AtInnerHead line next other a b = a.1 ∙ sym b.1
+one_place (AtOtherVerdict text) line next other a b = a.1 ∙ sym b.1
+one_place (AtOtherCosts text) line next other a b = other-costs-once text line next other a b
+one_place (AtSectionsEnd text) line next other a b = a.1 ∙ sym b.1
+one_place (AtUnread more) line next other a b = a.1 ∙ sym b.1

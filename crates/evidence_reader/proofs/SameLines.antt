@@ -50,11 +50,23 @@ split-off before line lines rest = cases before
     cases None = refl
     cases (Some b) = either (same_bytes b line.router)
 
--- no section begins as a floor does
-no_floor : (same : Bool) (line : CostLine) (rest : List (List ℕ)) (floor : Floor) (others : List (List ℕ)) →
-    section same line rest ≡ floor_line floor ∷ others → ⊥
-no_floor true line rest floor others e = omega (arith, ap first_byte e)
-no_floor false line rest floor others e = omega (arith, ap first_byte e)
+-- a line that is neither that of a router nor that of an interface
+pub record IsNoSection (line : List ℕ) : Type 0 where
+  pub router : (name : List ℕ) → router_line name ≡ line → ⊥
+  pub interface : (name : List ℕ) → interface_line name ≡ line → ⊥
+
+-- no section begins with such a line
+no_section : (same : Bool) (line : CostLine) (rest : List (List ℕ)) (end : List ℕ) (others : List (List ℕ)) → IsNoSection end →
+    section same line rest ≡ end ∷ others → ⊥
+no_section true line rest end others other e = other.interface line.interface (head-is _ _ _ _ e)
+no_section false line rest end others other e = other.router line.router (head-is _ _ _ _ e)
+
+-- that of a floor is one
+pub floor_ends : (floor : Floor) → IsNoSection (floor_line floor)
+floor_ends floor = record {
+  router = λ name e. omega (arith, ap (λ (line : List ℕ). get_or line 0 0) e);
+  interface = λ name e. omega (arith, ap (λ (line : List ℕ). get_or line 0 0) e);
+}
 
 -- two routers that are that of the cost before
 one-router : (before : Option (List ℕ)) (r s : List ℕ) → is_same before r ≡ true → is_same before s ≡ true → r ≡ s
@@ -86,19 +98,21 @@ section-same before l m r s false false first second e =
 section-same before l m r s true false first second e = absurd (omega (arith, ap first_byte e))
 section-same before l m r s false true first second e = absurd (omega (arith, ap first_byte e))
 
--- sections up to the floor
-sections-same : (before : Option (List ℕ)) (ls ms : List CostLine) (f g : Floor) (r s : List (List ℕ)) →
-    cost_lines before ls ++ (floor_line f ∷ r) ≡ cost_lines before ms ++ (floor_line g ∷ s) → (ls ≡ ms) × (floor_line f ∷ r ≡ floor_line g ∷ s)
-sections-same before [] [] f g r s e = (refl, e)
-sections-same before [] (m ∷ ms) f g r s e = absurd (no_floor (is_same before m.router) m _ f r (sym (split-off before m ms (floor_line g ∷ s)) ∙ sym e))
-sections-same before (l ∷ ls) [] f g r s e = absurd (no_floor (is_same before l.router) l _ g s (sym (split-off before l ls (floor_line f ∷ r)) ∙ e))
-sections-same before (l ∷ ls) (m ∷ ms) f g r s e =
-    let cut = section-same before l m (cost_lines (Some l.router) ls ++ (floor_line f ∷ r))
-    (cost_lines (Some m.router) ms ++ (floor_line g ∷ s)) (is_same before l.router)
+-- sections up to the lines that end them
+pub sections-same : (before : Option (List ℕ)) (ls ms : List CostLine) (f g : List ℕ) (r s : List (List ℕ)) → IsNoSection f → IsNoSection g →
+    cost_lines before ls ++ (f ∷ r) ≡ cost_lines before ms ++ (g ∷ s) → (ls ≡ ms) × (f ∷ r ≡ g ∷ s)
+sections-same before [] [] f g r s first second e = (refl, e)
+sections-same before [] (m ∷ ms) f g r s first second e =
+    absurd (no_section (is_same before m.router) m _ f r first (sym (split-off before m ms (g ∷ s)) ∙ sym e))
+sections-same before (l ∷ ls) [] f g r s first second e =
+    absurd (no_section (is_same before l.router) l _ g s second (sym (split-off before l ls (f ∷ r)) ∙ e))
+sections-same before (l ∷ ls) (m ∷ ms) f g r s first second e =
+    let cut = section-same before l m (cost_lines (Some l.router) ls ++ (f ∷ r))
+    (cost_lines (Some m.router) ms ++ (g ∷ s)) (is_same before l.router)
     (is_same before m.router) refl refl
-    (sym (split-off before l ls (floor_line f ∷ r)) ∙ e ∙ split-off before m ms (floor_line g ∷ s)) in
-    let rest = sections-same (Some l.router) ls ms f g r s
-    (cut.1 ∙ ap (λ (line : CostLine). cost_lines (Some line.router) ms ++ (floor_line g ∷ s)) (sym cut.0)) in
+    (sym (split-off before l ls (f ∷ r)) ∙ e ∙ split-off before m ms (g ∷ s)) in
+    let rest = sections-same (Some l.router) ls ms f g r s first second
+    (cut.1 ∙ ap (λ (line : CostLine). cost_lines (Some line.router) ms ++ (g ∷ s)) (sym cut.0)) in
     (ap (λ line. line ∷ ls) cut.0 ∙ ap (λ l. m ∷ l) rest.0, rest.1)
 
 abbrev costs : ℕ → List CostLine → Option Costs
@@ -119,7 +133,7 @@ costs-same (Some c) (Some d) f g r s e =
     let greatest : c.greatest ≡ d.greatest =
     decimal-same c.greatest d.greatest
     (second-same (codes "costs") (decimal c.greatest) (decimal d.greatest) (head-is _ _ _ _ e)) in
-    let rest = sections-same None c.lines d.lines f g r s (tail-is _ _ _ _ e) in
+    let rest = sections-same None c.lines d.lines (floor_line f) (floor_line g) r s (floor_ends f) (floor_ends g) (tail-is _ _ _ _ e) in
     (ap (λ n. costs n c.lines) greatest ∙ ap (costs d.greatest) rest.0, rest.1)
 
 pub floor_line-same : (f g : Floor) → floor_line f ≡ floor_line g → f ≡ g

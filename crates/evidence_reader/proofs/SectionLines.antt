@@ -1,19 +1,21 @@
 -- Cost lines in their sections.
-use Rattle.std.proofs.Common.{◌≡◌, ◌≢◌, ℕ, ◌<◌, List, [], ◌∷◌, ◌++◌, length, codes, Option, Some, None, Bool, true, false, cond, refl, sym, ap, subst, ◌∙◌, arith, append_assoc, length-append, inl, inr}
+use Rattle.std.proofs.Common.{◌≡◌, ◌≢◌, ℕ, ◌<◌, ◌≤◌, List, [], ◌∷◌, ◌++◌, length, codes, Option, Some, None, Bool, true, false, cond, refl, sym, ap, subst, ◌∙◌, arith, append_assoc, length-append, inl, inr}
 use Rattle.std.specs.Cmp.Lexicographic.{pointwise_decides}
 use Rattle.std.proofs.lemmas.Bool.Decides.{Decides-eqb}
 use Rattle.cost_base.specs.Lists.{same_bytes}
 use Rattle.design_problem.specs.declared.answer.CostLine.{CostLine}
-use Rattle.design_problem.specs.declared.answer.Floor.{Floor}
-use Rattle.design_problem.specs.Bounds.{BoundsFloor}
 use Rattle.design_problem.specs.Text.{router_lines, cost_lines}
-use Rattle.answer_lines.specs.Grammar.{TextPlace, Next, IsRouterNext, IsInterfaceNext, IsInterfaceAgain, AtSections, AtInterface, AtCost, router_line}
+use Rattle.answer_lines.specs.declared.other_text.OtherText.{OtherText}
+use Rattle.answer_lines.specs.Grammar.{TextPlace, Next, IsRouterNext, IsInterfaceNext, IsInterfaceAgain, IsEndNext, AtSections, AtInterface, AtCost, router_line}
+use Rattle.answer_lines.specs.Places.{IsFirstInText, LacksLawful}
+use Rattle.evidence_reader.specs.Sections.{IsCostBegun, LacksCost}
 use Rattle.text_lines.specs.Lines.{with_ends}
-use Rattle.evidence_text.specs.Parts.{interface_line, answer_cost_line, interface_lines, floor_line}
-use Rattle.answer_lines.specs.Lawful.{IsRead}
+use Rattle.evidence_text.specs.Parts.{interface_line, answer_cost_line, interface_lines}
+use Rattle.answer_lines.specs.Lawful.{LineLeads, IsRead}
+use Rattle.answer_lines.proofs.LineFronts.{first-one}
 use Rattle.evidence_reader.specs.Stages.{IsSectionLine, behind_section_line, words_lines}
 use Rattle.evidence_reader.specs.declared.stage_sections.SectionLine.{SectionLine}
-use Rattle.evidence_reader.specs.declared.stage_sections.SectionLine.TheVariants.{Router, Interface, Floor as FloorLine}
+use Rattle.evidence_reader.specs.declared.stage_sections.SectionLine.TheVariants.{Router, Interface}
 use Rattle.evidence_reader.specs.declared.stage_sections.CostWords.{CostWords}
 use Rattle.evidence_reader.proofs.NextPlaces.{go-then}
 
@@ -63,63 +65,88 @@ same_router before name is =
     ∙ ap (λ (b : Bool). cond b [] (router_line name ∷ [])) ((pointwise_decides Decides-eqb name name).1 refl)
 
 -- a cost behind the line of another router
-pub router_section : (before : Option (List ℕ)) (name line : List ℕ) (words : CostWords) {b0 b1 b2 : ℕ}
+pub router_section : (of : Option OtherText) (before : Option (List ℕ)) (name line : List ℕ) (words : CostWords) {b0 b1 b2 : ℕ}
     {bytes middle left : List ℕ} → before ≢ Some name → line ≡ router_line name → words.router.now ≡ name →
-    IsRead (AtSections before) b0 bytes (line ∷ []) (AtInterface name) b1 middle →
-    IsRead (AtInterface name) b1 middle (words_lines words) (AtSections (Some name)) b2 left →
-    IsRead (AtSections before) b0 bytes (router_lines before words.router.now ++ words_lines words) (AtSections (Some words.router.now)) b2 left
-router_section before name line words {b0} {b1} {b2} {bytes} {middle} {left} other is same first second =
+    IsRead (AtSections of before) b0 bytes (line ∷ []) (AtInterface of name) b1 middle →
+    IsRead (AtInterface of name) b1 middle (words_lines words) (AtSections of (Some name)) b2 left →
+    IsRead (AtSections of before) b0 bytes (router_lines before words.router.now ++ words_lines words) (AtSections of (Some words.router.now)) b2 left
+router_section of before name line words {b0} {b1} {b2} {bytes} {middle} {left} other is same first second =
     let lines : line ∷ [] ≡ router_lines before name = ap (λ l. l ∷ []) is ∙ sym (other_router before name other) in
-    subst (λ r. IsRead (AtSections before) b0 bytes (router_lines before r ++ words_lines words) (AtSections (Some r)) b2 left) (sym same)
-    (subst (λ front. IsRead (AtSections before) b0 bytes (front ++ words_lines words) (AtSections (Some name)) b2 left) lines (go-then first second))
+    subst (λ r. IsRead (AtSections of before) b0 bytes (router_lines before r ++ words_lines words) (AtSections of (Some r)) b2 left) (sym same)
+    (subst (λ front. IsRead (AtSections of before) b0 bytes (front ++ words_lines words) (AtSections of (Some name)) b2 left) lines (go-then first second))
 
 -- a cost behind the line of its interface
-pub words_read : {from : TextPlace} (name interface line : List ℕ) (words : CostWords) {b0 b1 b2 : ℕ}
+pub words_read : (of : Option OtherText) {from : TextPlace} (name interface line : List ℕ) (words : CostWords) {b0 b1 b2 : ℕ}
     {bytes middle left : List ℕ} → line ≡ interface_line interface → words.interface.now ≡ interface →
-    IsRead from b0 bytes (line ∷ []) (AtCost name) b1 middle →
-    IsRead (AtCost name) b1 middle (answer_cost_line words.cost ∷ codes "exit" ∷ []) (AtSections (Some name)) b2 left →
-    IsRead from b0 bytes (words_lines words) (AtSections (Some name)) b2 left
-words_read {from} name interface line words {b0} {b1} {b2} {bytes} {middle} {left} is named first second =
+    IsRead from b0 bytes (line ∷ []) (AtCost of name) b1 middle →
+    IsRead (AtCost of name) b1 middle (answer_cost_line words.cost ∷ codes "exit" ∷ []) (AtSections of (Some name)) b2 left →
+    IsRead from b0 bytes (words_lines words) (AtSections of (Some name)) b2 left
+words_read of {from} name interface line words {b0} {b1} {b2} {bytes} {middle} {left} is named first second =
     let lines : line ∷ answer_cost_line words.cost ∷ codes "exit" ∷ [] ≡ words_lines words =
     ap (λ l. l ∷ answer_cost_line words.cost ∷ codes "exit" ∷ []) (is ∙ ap interface_line (sym named)) in
-    subst (λ l. IsRead from b0 bytes l (AtSections (Some name)) b2 left) lines (go-then first second)
+    subst (λ l. IsRead from b0 bytes l (AtSections of (Some name)) b2 left) lines (go-then first second)
 
 -- a cost of the router before
-pub interface_section : (before : Option (List ℕ)) (name interface line : List ℕ) (words : CostWords) {b0 b1 b2 : ℕ}
+pub interface_section : (of : Option OtherText) (before : Option (List ℕ)) (name interface line : List ℕ) (words : CostWords) {b0 b1 b2 : ℕ}
     {bytes middle left : List ℕ} → before ≡ Some name → line ≡ interface_line interface →
     words.router.now ≡ name → words.interface.now ≡ interface →
-    IsRead (AtSections before) b0 bytes (line ∷ []) (AtCost name) b1 middle →
-    IsRead (AtCost name) b1 middle (answer_cost_line words.cost ∷ codes "exit" ∷ []) (AtSections (Some name)) b2 left →
-    IsRead (AtSections before) b0 bytes (router_lines before words.router.now ++ words_lines words) (AtSections (Some words.router.now)) b2 left
-interface_section before name interface line words {b0} {b1} {b2} {bytes} {middle} {left} again is same named first second =
-    subst (λ r. IsRead (AtSections before) b0 bytes (router_lines before r ++ words_lines words) (AtSections (Some r)) b2 left) (sym same)
-    (subst (λ front. IsRead (AtSections before) b0 bytes (front ++ words_lines words) (AtSections (Some name)) b2 left) (sym (same_router before name again))
-    (words_read name interface line words is named first second))
+    IsRead (AtSections of before) b0 bytes (line ∷ []) (AtCost of name) b1 middle →
+    IsRead (AtCost of name) b1 middle (answer_cost_line words.cost ∷ codes "exit" ∷ []) (AtSections of (Some name)) b2 left →
+    IsRead (AtSections of before) b0 bytes (router_lines before words.router.now ++ words_lines words) (AtSections of (Some words.router.now)) b2 left
+interface_section of before name interface line words {b0} {b1} {b2} {bytes} {middle} {left} again is same named first second =
+    subst (λ r. IsRead (AtSections of before) b0 bytes (router_lines before r ++ words_lines words) (AtSections of (Some r)) b2 left) (sym same)
+    (subst (λ front. IsRead (AtSections of before) b0 bytes (front ++ words_lines words) (AtSections of (Some name)) b2 left) (sym (same_router before name again))
+    (words_read of name interface line words is named first second))
 
--- a line among the sections is in the grammar there
-pub section_says : (before : Option (List ℕ)) (line : List ℕ) (said : SectionLine) → IsSectionLine before line said →
-    Next (AtSections before) line (behind_section_line said)
-section_says before line (Router name) h = inl (record { name = name.now; word = h.0; other = h.1; is = h.2; leads = refl })
-section_says before line (Interface router name) h =
-    inr (inl (subst (λ b. IsInterfaceAgain b line (AtCost router.now)) (sym h.0) (record { name = name.now; word = h.1; is = h.2; leads = refl })))
-section_says before line (FloorLine floor) h = inr (inr (record { floor = floor; bounds = h.0; is = h.1; leads = refl }))
+-- a line of one more cost is in the grammar among the sections
+pub section_says : (of : Option OtherText) (before : Option (List ℕ)) (line : List ℕ) (said : SectionLine) → IsSectionLine before line said →
+    Next (AtSections of before) line (behind_section_line of said)
+section_says of before line (Router name) h = inl (record { name = name.now; word = h.0; other = h.1; is = h.2; leads = refl })
+section_says of before line (Interface router name) h =
+    inr (inl (subst (λ b. IsInterfaceAgain of b line (AtCost of router.now)) (sym h.0) (record { name = name.now; word = h.1; is = h.2; leads = refl })))
 
--- what isn't one of the three lines isn't in the grammar
+-- what is neither of the two lines is no line of one more cost
 pub no_section : (before : Option (List ℕ)) (line : List ℕ) →
-    ((floor : Floor) → BoundsFloor floor → line ≢ floor_line floor) →
-    ((next : TextPlace) → IsRouterNext before line next → ⊥) →
-    ((next : TextPlace) → IsInterfaceAgain before line next → ⊥) → (next : TextPlace) → Next (AtSections before) line next → ⊥
-no_section before line no_floor no_router no_interface next (inl is) = no_router next is
-no_section before line no_floor no_router no_interface next (inr (inl is)) = no_interface next is
-no_section before line no_floor no_router no_interface next (inr (inr is)) = no_floor is.floor is.bounds is.is
+    ((of : Option OtherText) (next : TextPlace) → IsRouterNext of before line next → ⊥) →
+    ((of : Option OtherText) (next : TextPlace) → IsInterfaceAgain of before line next → ⊥) →
+    (of : Option OtherText) (next : TextPlace) → IsCostBegun of before line next → ⊥
+no_section before line no_router no_interface of next (inl is) = no_router of next is
+no_section before line no_router no_interface of next (inr is) = no_interface of next is
+
+-- where the first line is none of one more cost, none stands first
+pub lacks-cost : (of : Option OtherText) (before : Option (List ℕ)) (bytes line left : List ℕ) → IsFirstInText bytes line left →
+    ((next : TextPlace) → IsCostBegun of before line next → ⊥) → LacksCost of before bytes
+lacks-cost of before bytes line left first off other more next there is =
+    let same : line ≡ other = (first-one bytes line other left more first there.parts there.one).0 in
+    off next (subst (λ l. IsCostBegun of before l next) (sym same) is)
+
+-- where no line of one more cost stands first, and none that ends the sections, no lawful one does
+pub lacks-both : (of : Option OtherText) (before : Option (List ℕ)) (bytes : List ℕ) → LacksCost of before bytes →
+    ((line left : List ℕ) (next : TextPlace) → IsFirstInText bytes line left → IsEndNext of line next → ⊥) → LacksLawful (AtSections of before) bytes
+lacks-both of before bytes no_cost no_end line left parts one lawful =
+    let first : IsFirstInText bytes line left = record { parts = parts; one = one; short = lawful.1.short } in
+    elim lawful.1.is [
+      | inl router ↦ no_cost line left lawful.0 first (inl router)
+      | inr (inl again) ↦ no_cost line left lawful.0 first (inr again)
+      | inr (inr end) ↦ no_end line left lawful.0 first end
+    ]
+
+-- a line that is read behind the last cost line, as it is read where there are no costs
+pub ends-behind : (of : Option OtherText) (before : Option (List ℕ)) (line : List ℕ) {to : TextPlace} {b0 b1 : ℕ} {bytes left : List ℕ} (from : TextPlace) →
+    ((next : TextPlace) → LineLeads from line next → IsEndNext of line next × (length line ≤ 65536)) →
+    IsRead from b0 bytes (line ∷ []) to b1 left → IsRead (AtSections of before) b0 bytes (line ∷ []) to b1 left
+ends-behind of before line from ends read =
+    let end = ends read.lead.0 read.lead.1 in
+    record { lead = (read.lead.0, record { is = inr (inr end.0); short = end.1 }, read.lead.2); parts = read.parts; count = read.count }
 
 -- without a router before no further interface stands
-pub none_again : (before : Option (List ℕ)) (line : List ℕ) (next : TextPlace) → before ≡ None → IsInterfaceAgain before line next → ⊥
-none_again before line next none is = subst (λ (b : Option (List ℕ)). IsInterfaceAgain b line next) none is
+pub none_again : (of : Option OtherText) (before : Option (List ℕ)) (line : List ℕ) (next : TextPlace) → before ≡ None →
+    IsInterfaceAgain of before line next → ⊥
+none_again of before line next none is = subst (λ (b : Option (List ℕ)). IsInterfaceAgain of b line next) none is
 
-pub again_said : (before : Option (List ℕ)) (router line : List ℕ) (next : TextPlace) → before ≡ Some router →
-    IsInterfaceAgain before line next → IsInterfaceNext router line next
-again_said before router line next some is = subst (λ (b : Option (List ℕ)). IsInterfaceAgain b line next) some is
+pub again_said : (of : Option OtherText) (before : Option (List ℕ)) (router line : List ℕ) (next : TextPlace) → before ≡ Some router →
+    IsInterfaceAgain of before line next → IsInterfaceNext of router line next
+again_said of before router line next some is = subst (λ (b : Option (List ℕ)). IsInterfaceAgain of b line next) some is
 
 -- a cost has lines
 pub some_lines : (before : Option (List ℕ)) (words : CostWords) → 0 < length (router_lines before words.router.now ++ words_lines words)

@@ -15,9 +15,14 @@ use Rattle.evidence_reader.specs.Stages.{before_part}
 use Rattle.evidence_text.specs.declared.TreePart.{TreePart}
 use Rattle.evidence_text.specs.declared.TreePart.TheVariants.{Proof, Unfinished}
 use Rattle.evidence_reader.specs.declared.stop.AnswerStop.{AnswerStop}
-use Rattle.answer_lines.proofs.FirstLines.{read-none}
+use Rattle.answer_lines.proofs.FirstLines.{AreReadAt, read-none}
 use Rattle.evidence_reader.proofs.NextPlaces.{go-then, stop-then}
 use Rattle.evidence_reader.proofs.CountedLines.{one_left}
+
+-- the line that a part begins with is read
+pub part-read : (part : TreePart) → AreReadAt (before_part part)
+part-read Proof line short = short
+part-read Unfinished line short = short
 
 -- the lines before a part are those that it begins with
 pub part_said : (part : TreePart) (line : List ℕ) (next : TextPlace) → Next (before_part part) line next → IsPartNext part line next

@@ -1,13 +1,13 @@
 -- The parts of an answer that were read, as its whole text.
-use Rattle.std.proofs.Common.{◌≡◌, ℕ, ◌≤◌, List, [], ◌∷◌, ◌++◌, length, codes, sym, ap, subst, ◌∙◌, append_assoc, append-nil}
+use Rattle.std.proofs.Common.{◌≡◌, ℕ, zero, suc, ◌≤◌, Some, None, inl, inr, List, [], ◌∷◌, ◌++◌, length, codes, sym, ap, subst, ◌∙◌, append_assoc, append-nil}
 use Rattle.std.proofs.lemmas.List.Elements.{All-nil, All-cons}
 use Rattle.design_problem.specs.Answers.{AnswerParts}
 use Rattle.design_problem.specs.Text.{costs_lines, tree_lines, text, FitsCosts, FitsTree, FitsAnswer}
-use Rattle.answer_lines.specs.Grammar.{TextPlace, AtHead, AtCosts, AtRows, AtRow, AtTree, AfterEnd}
+use Rattle.answer_lines.specs.Grammar.{TextPlace, Next, AtHead, AtVerdict, AtCosts, AtSections, AtInterface, AtCost, AtExit, AtFloor, AtRows, AtRow, AtTree, AtEnd, AfterEnd, AtOtherHead, AtInnerHead, AtOtherVerdict, AtOtherCosts, AtSectionsEnd, AtUnread}
 use Rattle.text_lines.specs.Lines.{with_ends}
 use Rattle.evidence_text.specs.Lines.{AreShort}
 use Rattle.evidence_text.specs.Parts.{head_lines, floor_line, rows_lines, end_lines}
-use Rattle.answer_lines.specs.Lawful.{LeadOn, IsRead}
+use Rattle.answer_lines.specs.Lawful.{HasRoom, LeadOn, IsRead}
 use Rattle.evidence_reader.specs.Refusals.{IsReaderStop}
 use Rattle.evidence_text.specs.declared.TreePart.TheVariants.{Proof, Unfinished}
 use Rattle.evidence_reader.specs.declared.stop.AnswerStop.{AnswerStop}
@@ -34,10 +34,63 @@ parts_read a {b0} {b1} {b2} {b3} {b4} {b5} {b6} {bytes} {behind_head} head costs
     (subst (λ lines. IsRead AtCosts b1 behind_head lines AfterEnd b6 [])
     (append_assoc (costs_lines a.costs) (floor_line a.floor ∷ []) (after_floor a)) (go-then costs others))
 
--- lawful lines are short
-lead-short : (from to : TextPlace) (lines : List (List ℕ)) → LeadOn from lines to → AreShort lines
-lead-short from to [] lead = All-nil (λ (line : List ℕ). length line ≤ 65536)
-lead-short from to (line ∷ lines) lead = All-cons (λ (l : List ℕ). length l ≤ 65536) line lines lead.1.short (lead-short lead.0 to lines lead.2)
+-- a place of an answer's own text
+abbrev IsOwn : TextPlace → Type 0
+IsOwn (AtSections (Some text) before) = ⊥
+IsOwn (AtInterface (Some text) router) = ⊥
+IsOwn (AtCost (Some text) router) = ⊥
+IsOwn (AtExit (Some text) router) = ⊥
+IsOwn (AtOtherHead text) = ⊥
+IsOwn AtInnerHead = ⊥
+IsOwn (AtOtherVerdict text) = ⊥
+IsOwn (AtOtherCosts text) = ⊥
+IsOwn (AtSectionsEnd text) = ⊥
+IsOwn (AtUnread more) = ⊥
+IsOwn place = Unit {0}
+
+-- lines lead from such a place to another, and are read
+own-next : (place : TextPlace) (line : List ℕ) (next : TextPlace) → IsOwn place → Next place line next → HasRoom place line → IsOwn next × (length line ≤ 65536)
+own-next AtHead line next own is short = rw is.1 (tt, short)
+own-next AtVerdict line next own is short = rw is.leads (tt, short)
+own-next AtCosts line next own (inl none) short = rw none.1 (tt, short)
+own-next AtCosts line next own (inr some) short = rw some.leads (tt, short)
+own-next (AtSections None before) line next own (inl is) short = rw is.leads (tt, short)
+own-next (AtSections None None) line next own (inr (inl is)) short = absurd is
+own-next (AtSections None (Some router)) line next own (inr (inl is)) short = rw is.leads (tt, short)
+own-next (AtSections None before) line next own (inr (inr is)) short = rw is.leads (tt, short)
+own-next (AtInterface None router) line next own is short = rw is.leads (tt, short)
+own-next (AtCost None router) line next own is short = rw is.leads (tt, short)
+own-next (AtExit None router) line next own is short = rw is.1 (tt, short)
+own-next AtFloor line next own is short = rw is.leads (tt, short)
+own-next AtRows line next own is short = rw is.leads (tt, short)
+own-next (AtRow zero) line next own (inl none) short = rw none.1 (tt, short)
+own-next (AtRow zero) line next own (inr some) short = rw some.leads (tt, short)
+own-next (AtRow (suc left)) line next own is short = rw is.leads (tt, short)
+own-next (AtTree part (suc places) (suc left)) line next own is short = rw is.leads (tt, short)
+own-next (AtTree part zero (suc left)) line next own is short = absurd is
+own-next (AtTree part (suc places) zero) line next own is short = absurd is
+own-next (AtTree Proof zero zero) line next own (inl none) short = rw none.1 (tt, short)
+own-next (AtTree Proof zero zero) line next own (inr some) short = rw some.leads (tt, short)
+own-next (AtTree Unfinished zero zero) line next own is short = rw is.1 (tt, short)
+own-next AtEnd line next own is short = rw is.1 (tt, short)
+own-next AfterEnd line next own is short = absurd is
+own-next (AtSections (Some text) before) line next own is short = absurd own
+own-next (AtInterface (Some text) router) line next own is short = absurd own
+own-next (AtCost (Some text) router) line next own is short = absurd own
+own-next (AtExit (Some text) router) line next own is short = absurd own
+own-next (AtOtherHead text) line next own is short = absurd own
+own-next AtInnerHead line next own is short = absurd own
+own-next (AtOtherVerdict text) line next own is short = absurd own
+own-next (AtOtherCosts text) line next own is short = absurd own
+own-next (AtSectionsEnd text) line next own is short = absurd own
+own-next (AtUnread more) line next own is short = absurd own
+
+-- lawful lines of an answer's own text are short
+lead-short : (from to : TextPlace) (lines : List (List ℕ)) → IsOwn from → LeadOn from lines to → AreShort lines
+lead-short from to [] own lead = All-nil (λ (line : List ℕ). length line ≤ 65536)
+lead-short from to (line ∷ lines) own lead =
+    let next = own-next from line lead.0 own lead.1.is lead.1.short in
+    All-cons (λ (l : List ℕ). length l ≤ 65536) line lines next.1 (lead-short lead.0 to lines next.0 lead.2)
 
 -- what was read to the end is the answer's text
 pub text_read : (a : AnswerParts) (before : ℕ) (bytes whole : List ℕ) {b : ℕ} → bytes ≡ whole →
@@ -52,5 +105,5 @@ answer_kept a costs proof unfinished read =
       costs = costs;
       proof = proof;
       unfinished = unfinished;
-      lines = subst AreShort (sym (answer_lines-ordered a)) (lead-short AtHead AfterEnd (ordered a) read.lead);
+      lines = subst AreShort (sym (answer_lines-ordered a)) (lead-short AtHead AfterEnd (ordered a) tt read.lead);
     }

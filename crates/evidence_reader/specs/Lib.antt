@@ -1,4 +1,5 @@
 pub mod Refusals
 pub mod Stops
+pub mod Sections
 pub mod Stages
 pub mod Laws

@@ -1,19 +1,17 @@
 -- What the stages of a reader find, and where each leads. No public clause cites it.
 use Rattle.std.specs.Prelude.{◌≡◌, ◌≢◌, ℕ, zero, ◌<◌, List, [], ◌∷◌, ◌++◌, codes, Option, Some, None}
 use Rattle.cost_base.specs.Words.{IsOneWord}
-use Rattle.design_problem.specs.Bounds.{BoundsFloor}
 use Rattle.design_problem.specs.Text.{router_lines}
-use Rattle.evidence_text.specs.Parts.{costs_line, interface_line, answer_cost_line, floor_line, no_tree_line, tree_line}
-use Rattle.answer_lines.specs.Grammar.{TextPlace, AtSections, AtInterface, AtCost, AtFloor, AtRows, AtRow, AtTree, router_line}
+use Rattle.evidence_text.specs.Parts.{costs_line, interface_line, answer_cost_line, no_tree_line, tree_line}
+use Rattle.answer_lines.specs.declared.other_text.OtherText.{OtherText}
+use Rattle.answer_lines.specs.Grammar.{TextPlace, AtSections, AtInterface, AtCost, AtFloor, AtRow, AtTree, router_line}
 use Rattle.evidence_text.specs.declared.TreePart.{TreePart}
 use Rattle.evidence_text.specs.declared.TreePart.TheVariants.{Proof, Unfinished}
 use Rattle.evidence_reader.specs.declared.stage_costs.CostsHead.{CostsHead}
 use Rattle.evidence_reader.specs.declared.stage_costs.CostsHead.TheVariants.{NoCosts, Greatest}
 use Rattle.evidence_reader.specs.declared.stage_sections.SectionLine.{SectionLine}
-use Rattle.evidence_reader.specs.declared.stage_sections.SectionLine.TheVariants.{Router, Interface, Floor as FloorLine}
+use Rattle.evidence_reader.specs.declared.stage_sections.SectionLine.TheVariants.{Router, Interface}
 use Rattle.evidence_reader.specs.declared.stage_sections.CostWords.{CostWords}
-use Rattle.evidence_reader.specs.declared.stage_sections.Section.{Section}
-use Rattle.evidence_reader.specs.declared.stage_sections.Section.TheVariants.{Cost, Floor as FloorSection}
 use Rattle.evidence_reader.specs.declared.stage_trees.PartHead.{PartHead}
 use Rattle.evidence_reader.specs.declared.stage_trees.PartHead.TheVariants.{NoTree, TreeHead}
 
@@ -25,19 +23,17 @@ costs_head_line (Greatest greatest) = costs_line greatest
 -- the place behind the line that costs begin with
 abbrev pub behind_costs_head : CostsHead → TextPlace
 behind_costs_head NoCosts = AtFloor
-behind_costs_head (Greatest greatest) = AtSections None
+behind_costs_head (Greatest greatest) = AtSections None None
 
--- a line among the sections behind the cost line of a router, and the place behind it
+-- a line of one more cost behind the cost line of a router
 abbrev pub IsSectionLine : Option (List ℕ) → List ℕ → SectionLine → Type 0
 IsSectionLine before line (Router name) = IsOneWord name.now × (before ≢ Some name.now) × (line ≡ router_line name.now)
 IsSectionLine before line (Interface router name) = (before ≡ Some router.now) × IsOneWord name.now × (line ≡ interface_line name.now)
-IsSectionLine before line (FloorLine floor) = BoundsFloor floor × (line ≡ floor_line floor)
 
 -- the place behind such a line
-abbrev pub behind_section_line : SectionLine → TextPlace
-behind_section_line (Router name) = AtInterface name.now
-behind_section_line (Interface router name) = AtCost router.now
-behind_section_line (FloorLine floor) = AtRows
+abbrev pub behind_section_line : Option OtherText → SectionLine → TextPlace
+behind_section_line of (Router name) = AtInterface of name.now
+behind_section_line of (Interface router name) = AtCost of router.now
 
 -- the lines of a cost behind its router
 abbrev pub words_lines : CostWords → List (List ℕ)
@@ -49,20 +45,9 @@ pub record FitsWords (words : CostWords) : Type 0 where
   pub interface : IsOneWord words.interface.now
   pub cost : 0 < words.cost
 
--- what stands next among the sections, and the place behind it
-abbrev pub lines_of_section : Option (List ℕ) → Section → List (List ℕ)
-lines_of_section before (Cost words) = router_lines before words.router.now ++ words_lines words
-lines_of_section before (FloorSection floor) = floor_line floor ∷ []
-
--- the place behind what stands among the sections
-abbrev pub behind_section : Section → TextPlace
-behind_section (Cost words) = AtSections (Some words.router.now)
-behind_section (FloorSection floor) = AtRows
-
--- the names and the cost of a section can be printed
-abbrev pub FitsSection : Section → Type 0
-FitsSection (Cost words) = FitsWords words
-FitsSection (FloorSection floor) = Unit {0}
+-- the lines of one more cost, with its router's where that is another one
+abbrev pub lines_of_words : Option (List ℕ) → CostWords → List (List ℕ)
+lines_of_words before words = router_lines before words.router.now ++ words_lines words
 
 -- the place before a part with a tree, its first line, and the place behind that
 abbrev pub before_part : TreePart → TextPlace

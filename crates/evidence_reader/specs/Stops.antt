@@ -1,4 +1,4 @@
--- Where the stages of a reader stop. No public clause cites it.
+-- Where the stages of a reader stop.
 use Rattle.answer_lines.specs.Grammar.{TextPlace}
 use Rattle.answer_lines.specs.declared.text_left.TextLeft.{TextLeft}
 use Rattle.evidence_reader.specs.Refusals.{IsReaderStop}

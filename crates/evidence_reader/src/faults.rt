@@ -10,7 +10,7 @@ use answer_lines::TextLeft;
 use text_lines::cut;
 
 /// The refusal of a text where no lawful line stands first, of which it is known whether a lawful line begins with it.
-pub(crate) fn fault_at(text: TextLeft<'_>, begins: bool) -> AnswerStop
+pub fn fault_at(text: TextLeft<'_>, begins: bool) -> AnswerStop
     ensures { (place : TextPlace) → place ≢ AfterEnd → LacksLawful place text.entry.left.now → (IsTrue begins ↔ BeginsLawful place text.entry.left.now) →
         StopsReader place text.entry result }
 {
@@ -41,7 +41,7 @@ fn fault_kind(rest: &[u8], begins: bool) -> AnswerFault
 /// # Errors
 ///
 /// `Refused` where something does.
-pub(crate) fn nothing_left(text: TextLeft<'_>) -> Result<(), AnswerStop>
+pub fn nothing_left(text: TextLeft<'_>) -> Result<(), AnswerStop>
     ensures { MatchResult result (λ _. text.entry.left.now ≡ []) (StopsReader AfterEnd text.entry) }
 {
     if text.left.is_empty() {

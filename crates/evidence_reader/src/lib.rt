@@ -15,5 +15,7 @@ mod stage_trees;
 mod stop;
 pub mod validity;
 
+pub use faults::{fault_at, nothing_left};
 pub use reader::read_answer;
+pub use stage_sections::{Sections, read_sections};
 pub use stop::{AnswerFault, AnswerStop};

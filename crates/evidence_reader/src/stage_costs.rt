@@ -1,10 +1,12 @@
 //! The stage of the costs, with the floor behind them.
 ghost use Rattle.std.specs.Prelude.{◌≡◌, [], ◌∷◌, ◌++◌, List, None, Some, All, MatchOption, MatchResult};
+ghost use Rattle.std.specs.Option.{option_copied};
 ghost use Rattle.design_problem.specs.Text.{cost_lines, costs_lines, FitsCostLine, FitsCosts};
 ghost use Rattle.design_problem.specs.declared.answer.CostLine.{CostLine};
 ghost use Rattle.answer_lines.specs.Grammar.{TextPlace, Next, AtCosts, AtSections, AtFloor, AtRows};
 ghost use Rattle.evidence_text.specs.Parts.{floor_line};
 ghost use Rattle.answer_lines.specs.Places.{LacksLawful};
+ghost use Rattle.evidence_reader.specs.Sections.{LacksCost};
 ghost use Rattle.evidence_reader.specs.Stops.{StopsReader};
 ghost use Rattle.answer_lines.specs.Going.{Goes};
 ghost use Rattle.evidence_reader.specs.Stages.{costs_head_line, behind_costs_head};
@@ -13,7 +15,7 @@ use crate::faults::fault_at;
 use crate::stage_sections::read_sections;
 use crate::stop::AnswerStop;
 use answer_lines::{TextLeft, floor_next, number_after};
-use begun_lines::{begins_costs, begins_floor};
+use begun_lines::{begins_costs, begins_floor, begins_section};
 use cost_base::Listed;
 use design_problem::{Costs, Floor};
 use std::alloc::Global;
@@ -103,10 +105,11 @@ fn some_costs(
     text: TextLeft<'_>,
 ) -> Result<(CostsPart, TextLeft<'_>), AnswerStop>
     ensures { MatchResult result (λ r. (lines : List CostLine) × (r.0.costs ≡ Some (record { greatest = greatest; lines = lines })) ×
-        All FitsCostLine lines × Goes (AtSections None) text.entry (cost_lines None lines ++ floor_line r.0.floor ∷ []) AtRows r.1)
-        (StopsReader (AtSections None) text.entry) }
+        All FitsCostLine lines × Goes (AtSections None None) text.entry (cost_lines None lines ++ floor_line r.0.floor ∷ []) AtRows r.1)
+        (StopsReader (AtSections None None) text.entry) }
 {
     let (sections, rest) = read_sections(alloc, text)?;
+    let (floor, rest) = floor_behind(rest, sections.router)?;
     let costs = Costs {
         greatest,
         lines: Listed::from_items(sections.lines),
@@ -114,8 +117,23 @@ fn some_costs(
     Ok((
         CostsPart {
             costs: Some(costs),
-            floor: sections.floor,
+            floor,
         },
         rest,
     ))
+}
+
+/// The floor behind the last cost line, whose router this is, where no further cost line stands.
+fn floor_behind<'a>(
+    text: TextLeft<'a>,
+    before: Option<&'a [u8]>,
+) -> Result<(Floor, TextLeft<'a>), AnswerStop>
+    requires { LacksCost None (option_copied before) text.left.now }
+    ensures { MatchResult result (λ r. Goes (AtSections None (option_copied before.entry)) text.entry (floor_line r.0 ∷ []) AtRows r.1)
+        (StopsReader (AtSections None (option_copied before.entry)) text.entry) }
+{
+    match floor_next(text) {
+        Some(found) => Ok(found),
+        None => Err(fault_at(text, begins_section(text.left, before))),
+    }
 }

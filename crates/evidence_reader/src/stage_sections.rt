@@ -1,38 +1,33 @@
-//! The stage of the sections of costs, with the floor behind them.
-ghost use Rattle.std.specs.Prelude.{◌≡◌, ◌≢◌, ℕ, ◌<◌, List, [], ◌∷◌, ◌++◌, None, Some, All, MatchOption, MatchResult, IfOk, IfSome, IsTrue, ◌↔◌, codes};
+//! The stage of the sections of costs, in an answer's text or another one.
+ghost use Rattle.std.specs.Prelude.{◌≡◌, ◌≢◌, ℕ, ◌<◌, List, [], ◌∷◌, ◌++◌, Option, None, Some, All, MatchOption, MatchResult, IfOk, IfSome, IsTrue, ◌↔◌, codes};
 ghost use Rattle.std.specs.Option.{option_copied};
 ghost use Rattle.cost_base.specs.Words.{IsOneWord};
 ghost use Rattle.design_problem.specs.Text.{cost_lines, FitsCostLine};
-ghost use Rattle.answer_lines.specs.Grammar.{TextPlace, Next, IsRouterNext, router_line, AtSections, AtInterface, AtCost, AtExit, AtRows};
+ghost use Rattle.answer_lines.specs.declared.other_text.OtherText.{OtherText};
+ghost use Rattle.answer_lines.specs.Grammar.{TextPlace, IsRouterNext, router_line, AtSections, AtInterface, AtCost, AtExit};
 ghost use Rattle.design_problem.specs.Bounds.{IsCost};
-ghost use Rattle.evidence_text.specs.Parts.{interface_line, answer_cost_line, floor_line};
+ghost use Rattle.evidence_text.specs.Parts.{interface_line, answer_cost_line};
 ghost use Rattle.answer_lines.specs.Places.{LacksLawful};
+ghost use Rattle.evidence_reader.specs.Sections.{IsCostBegun, LacksCost};
 ghost use Rattle.evidence_reader.specs.Stops.{StopsReader};
 ghost use Rattle.answer_lines.specs.Going.{Goes};
-ghost use Rattle.evidence_reader.specs.Stages.{IsSectionLine, behind_section_line, words_lines, FitsWords, lines_of_section, behind_section, FitsSection};
+ghost use Rattle.evidence_reader.specs.Stages.{IsSectionLine, behind_section_line, words_lines, FitsWords, lines_of_words};
 
 use crate::faults::fault_at;
 use crate::stop::AnswerStop;
-use answer_lines::{TextLeft, floor_of, name_after, number_after};
-use begun_lines::{begins_cost, begins_exit, begins_interface, begins_section};
+use answer_lines::{TextLeft, name_after, number_after};
+use begun_lines::{begins_cost, begins_exit, begins_interface};
 use cost_base::{Name, OutOfMemory};
-use design_problem::{CostLine, Floor};
+use design_problem::CostLine;
 use std::alloc::Global;
 
-/// The cost lines of an answer, and the floor behind them.
+/// The cost lines of a text.
 #[derive(Drop)]
-pub(crate) struct Sections {
-    pub(crate) lines: Vec<CostLine>,
-    pub(crate) floor: Floor,
-}
-
-/// What stands next among the sections.
-#[derive(Clone, Copy)]
-enum Section<'a> {
-    /// A cost line.
-    Cost(CostWords<'a>),
-    /// The floor behind the last cost line.
-    Floor(Floor),
+pub struct Sections<'a> {
+    /// The cost lines, in their order.
+    pub lines: Vec<CostLine>,
+    /// The router of the last one.
+    pub router: Option<&'a [u8]>,
 }
 
 /// What a cost line says, as it stands in the text.
@@ -43,43 +38,43 @@ struct CostWords<'a> {
     cost: u16,
 }
 
-/// What a line behind a cost line says.
+/// What a line of one more cost says.
 #[derive(Clone, Copy)]
 enum SectionLine<'a> {
     /// A router that isn't the one before.
     Router(&'a [u8]),
     /// The router before, and a further interface of it.
     Interface(&'a [u8], &'a [u8]),
-    /// The floor.
-    Floor(Floor),
 }
 
-/// The cost lines and the floor, and the text behind them.
+/// The cost lines of a text, and what is left behind them: no line of one more cost stands first there.
 ///
 /// # Errors
 ///
 /// - `Refused` where one of their lines is at fault.
 /// - `OutOfMemory` where a growth was refused.
-pub(crate) fn read_sections(
+pub fn read_sections<'a>(
     alloc: Global,
-    text: TextLeft<'_>,
-) -> Result<(Sections, TextLeft<'_>), AnswerStop>
-    ensures { MatchResult result (λ r. All FitsCostLine r.0.lines.items ×
-        Goes (AtSections None) text.entry (cost_lines None r.0.lines.items ++ floor_line r.0.floor ∷ []) AtRows r.1) (StopsReader (AtSections None) text.entry) }
+    text: TextLeft<'a>,
+) -> Result<(Sections<'a>, TextLeft<'a>), AnswerStop>
+    ensures { (of : Option OtherText) → MatchResult result (λ r. All FitsCostLine r.0.lines.items ×
+        Goes (AtSections of None) text.entry (cost_lines None r.0.lines.items) (AtSections of (option_copied r.0.router)) r.1 ×
+        LacksCost of (option_copied r.0.router) r.1.left.now) (StopsReader (AtSections of None) text.entry) }
 {
     let mut lines = Vec::new(alloc);
     let mut before = None;
     let mut left = text;
     loop {
-        let (section, rest) = next_section(left, before)?;
-        match section {
-            Section::Floor(floor) => return Ok((Sections { lines, floor }, rest)),
-            Section::Cost(words) => {
-                lines.push(cost_line_of(alloc, words)?)?;
-                before = Some(words.router);
-                left = rest;
-            }
-        }
+        let Some((words, rest)) = next_cost(left, before)? else {
+            let sections = Sections {
+                lines,
+                router: before,
+            };
+            return Ok((sections, left));
+        };
+        lines.push(cost_line_of(alloc, words)?)?;
+        before = Some(words.router);
+        left = rest;
     }
 }
 
@@ -96,67 +91,53 @@ fn cost_line_of(alloc: Global, words: CostWords<'_>) -> Result<CostLine, OutOfMe
     })
 }
 
-/// The next cost line, or the floor behind the last one, and the text behind it.
-fn next_section<'a>(
+/// The next cost line, where one begins here, and the text behind it.
+fn next_cost<'a>(
     text: TextLeft<'a>,
     before: Option<&'a [u8]>,
-) -> Result<(Section<'a>, TextLeft<'a>), AnswerStop>
+) -> Result<Option<(CostWords<'a>, TextLeft<'a>)>, AnswerStop>
     requires { IfSome (option_copied before) IsOneWord }
-    ensures { MatchResult result (λ r. FitsSection r.0 ×
-        Goes (AtSections (option_copied before.entry)) text.entry (lines_of_section (option_copied before.entry) r.0) (behind_section r.0) r.1)
-        (StopsReader (AtSections (option_copied before.entry)) text.entry) }
+    ensures { (of : Option OtherText) → MatchResult result
+        (λ found. MatchOption found (LacksCost of (option_copied before.entry) text.entry.left.now)
+        (λ r. FitsWords r.0 × Goes (AtSections of (option_copied before.entry)) text.entry
+        (lines_of_words (option_copied before.entry) r.0) (AtSections of (Some r.0.router.now)) r.1))
+        (StopsReader (AtSections of (option_copied before.entry)) text.entry) }
 {
-    let (line, rest) = section_line_at(text, before)?;
+    let Some((line, rest)) = section_line_next(text, before) else {
+        return Ok(None);
+    };
     match line {
         SectionLine::Router(router) => {
-            let (words, rest) = cost_of_router(router, rest)?;
-            Ok((Section::Cost(words), rest))
+            let found = cost_of_router(router, rest)?;
+            Ok(Some(found))
         }
         SectionLine::Interface(router, interface) => {
-            let (words, rest) = cost_of_interface(router, interface, rest)?;
-            Ok((Section::Cost(words), rest))
+            let found = cost_of_interface(router, interface, rest)?;
+            Ok(Some(found))
         }
-        SectionLine::Floor(floor) => Ok((Section::Floor(floor), rest)),
     }
 }
 
-/// What a line among the sections says, where one has to be the next.
-fn section_line_at<'a>(
-    text: TextLeft<'a>,
-    before: Option<&'a [u8]>,
-) -> Result<(SectionLine<'a>, TextLeft<'a>), AnswerStop>
-    ensures { MatchResult result (λ r. (line : List ℕ) × IsSectionLine (option_copied before.entry) line r.0 ×
-        Goes (AtSections (option_copied before.entry)) text.entry (line ∷ []) (behind_section_line r.0) r.1)
-        (StopsReader (AtSections (option_copied before.entry)) text.entry) }
-{
-    match section_line_next(text, before) {
-        Some(found) => Ok(found),
-        None => Err(fault_at(text, begins_section(text.left, before))),
-    }
-}
-
-/// What a line among the sections says, where one is the next.
+/// What a line of one more cost says, where one is the next.
 fn section_line_next<'a>(
     text: TextLeft<'a>,
     before: Option<&'a [u8]>,
 ) -> Option<(SectionLine<'a>, TextLeft<'a>)>
-    ensures { MatchOption result (LacksLawful (AtSections (option_copied before.entry)) text.entry.left.now)
+    ensures { (of : Option OtherText) → MatchOption result (LacksCost of (option_copied before.entry) text.entry.left.now)
         (λ r. (line : List ℕ) × IsSectionLine (option_copied before.entry) line r.0 ×
-        Goes (AtSections (option_copied before.entry)) text.entry (line ∷ []) (behind_section_line r.0) r.1) }
+        Goes (AtSections of (option_copied before.entry)) text.entry (line ∷ []) (behind_section_line of r.0) r.1) }
 {
     let (line, rest) = text.line()?;
     let said = section_line_of(line, before)?;
     Some((said, rest))
 }
 
-/// What a line among the sections says behind the cost line of this router.
+/// What a line of one more cost says behind the cost line of this router.
 fn section_line_of<'a>(line: &'a [u8], before: Option<&'a [u8]>) -> Option<SectionLine<'a>>
-    ensures { MatchOption result ((next : TextPlace) → Next (AtSections (option_copied before.entry)) line.now next → ⊥)
+    ensures { MatchOption result ((of : Option OtherText) (next : TextPlace) →
+        IsCostBegun of (option_copied before.entry) line.now next → ⊥)
         (IsSectionLine (option_copied before.entry) line.now) }
 {
-    if let Some(floor) = floor_of(line) {
-        return Some(SectionLine::Floor(floor));
-    }
     if let Some(router) = router_of(line, before) {
         return Some(SectionLine::Router(router));
     }
@@ -167,7 +148,7 @@ fn section_line_of<'a>(line: &'a [u8], before: Option<&'a [u8]>) -> Option<Secti
 
 /// The router of a line, where it isn't the one before.
 fn router_of<'a>(line: &'a [u8], before: Option<&'a [u8]>) -> Option<&'a [u8]>
-    ensures { MatchOption result ((next : TextPlace) → IsRouterNext (option_copied before.entry) line.now next → ⊥)
+    ensures { MatchOption result ((of : Option OtherText) (next : TextPlace) → IsRouterNext of (option_copied before.entry) line.now next → ⊥)
         (λ name. IsOneWord name.now × (option_copied before.entry ≢ Some name.now) × (line.now ≡ router_line name.now)) }
 {
     let router = name_after(line, b"router ")?;
@@ -194,8 +175,9 @@ fn cost_of_router<'a>(
     text: TextLeft<'a>,
 ) -> Result<(CostWords<'a>, TextLeft<'a>), AnswerStop>
     requires { IsOneWord router.now }
-    ensures { MatchResult result (λ r. (r.0.router.now ≡ router.now) × FitsWords r.0 ×
-        Goes (AtInterface router.now) text.entry (words_lines r.0) (AtSections (Some router.now)) r.1) (StopsReader (AtInterface router.now) text.entry) }
+    ensures { (of : Option OtherText) → MatchResult result (λ r. (r.0.router.now ≡ router.now) × FitsWords r.0 ×
+        Goes (AtInterface of router.now) text.entry (words_lines r.0) (AtSections of (Some router.now)) r.1)
+        (StopsReader (AtInterface of router.now) text.entry) }
 {
     let (interface, rest) = interface_at(text)?;
     cost_of_interface(router, interface, rest)
@@ -209,9 +191,9 @@ fn cost_of_interface<'a>(
 ) -> Result<(CostWords<'a>, TextLeft<'a>), AnswerStop>
     requires router { IsOneWord router.now }
     requires interface { IsOneWord interface.now }
-    ensures { MatchResult result (λ r. (r.0.router.now ≡ router.now) × (r.0.interface.now ≡ interface.now) × FitsWords r.0 ×
-        Goes (AtCost router.now) text.entry (answer_cost_line r.0.cost ∷ codes "exit" ∷ []) (AtSections (Some router.now)) r.1)
-        (StopsReader (AtCost router.now) text.entry) }
+    ensures { (of : Option OtherText) → MatchResult result (λ r. (r.0.router.now ≡ router.now) × (r.0.interface.now ≡ interface.now) × FitsWords r.0 ×
+        Goes (AtCost of router.now) text.entry (answer_cost_line r.0.cost ∷ codes "exit" ∷ []) (AtSections of (Some router.now)) r.1)
+        (StopsReader (AtCost of router.now) text.entry) }
 {
     let (cost, rest) = cost_at(text)?;
     let rest = exit_at(rest)?;
@@ -225,9 +207,9 @@ fn cost_of_interface<'a>(
 
 /// The interface whose line has to be the next, and the text behind it.
 fn interface_at(text: TextLeft<'_>) -> Result<(&[u8], TextLeft<'_>), AnswerStop>
-    ensures { (router : List ℕ) → MatchResult result
-        (λ r. IsOneWord r.0.now × Goes (AtInterface router) text.entry (interface_line r.0.now ∷ []) (AtCost router) r.1)
-        (StopsReader (AtInterface router) text.entry) }
+    ensures { (of : Option OtherText) (router : List ℕ) → MatchResult result
+        (λ r. IsOneWord r.0.now × Goes (AtInterface of router) text.entry (interface_line r.0.now ∷ []) (AtCost of router) r.1)
+        (StopsReader (AtInterface of router) text.entry) }
 {
     match interface_next(text) {
         Some(found) => Ok(found),
@@ -237,8 +219,8 @@ fn interface_at(text: TextLeft<'_>) -> Result<(&[u8], TextLeft<'_>), AnswerStop>
 
 /// The interface whose line is the next, and the text behind it.
 fn interface_next(text: TextLeft<'_>) -> Option<(&[u8], TextLeft<'_>)>
-    ensures { (router : List ℕ) → MatchOption result (LacksLawful (AtInterface router) text.entry.left.now)
-        (λ r. IsOneWord r.0.now × Goes (AtInterface router) text.entry (interface_line r.0.now ∷ []) (AtCost router) r.1) }
+    ensures { (of : Option OtherText) (router : List ℕ) → MatchOption result (LacksLawful (AtInterface of router) text.entry.left.now)
+        (λ r. IsOneWord r.0.now × Goes (AtInterface of router) text.entry (interface_line r.0.now ∷ []) (AtCost of router) r.1) }
 {
     let (line, rest) = text.line()?;
     let interface = name_after(line, b"interface ")?;
@@ -247,8 +229,8 @@ fn interface_next(text: TextLeft<'_>) -> Option<(&[u8], TextLeft<'_>)>
 
 /// The cost whose line has to be the next, and the text behind it.
 fn cost_at(text: TextLeft<'_>) -> Result<(u16, TextLeft<'_>), AnswerStop>
-    ensures { (router : List ℕ) → MatchResult result (λ r. (0 < r.0) × Goes (AtCost router) text.entry (answer_cost_line r.0 ∷ []) (AtExit router) r.1)
-        (StopsReader (AtCost router) text.entry) }
+    ensures { (of : Option OtherText) (router : List ℕ) → MatchResult result (λ r. (0 < r.0) × Goes (AtCost of router) text.entry (answer_cost_line r.0 ∷ []) (AtExit of router) r.1)
+        (StopsReader (AtCost of router) text.entry) }
 {
     match cost_next(text) {
         Some(found) => Ok(found),
@@ -258,8 +240,8 @@ fn cost_at(text: TextLeft<'_>) -> Result<(u16, TextLeft<'_>), AnswerStop>
 
 /// The cost whose line is the next, and the text behind it.
 fn cost_next(text: TextLeft<'_>) -> Option<(u16, TextLeft<'_>)>
-    ensures { (router : List ℕ) → MatchOption result (LacksLawful (AtCost router) text.entry.left.now)
-        (λ r. (0 < r.0) × Goes (AtCost router) text.entry (answer_cost_line r.0 ∷ []) (AtExit router) r.1) }
+    ensures { (of : Option OtherText) (router : List ℕ) → MatchOption result (LacksLawful (AtCost of router) text.entry.left.now)
+        (λ r. (0 < r.0) × Goes (AtCost of router) text.entry (answer_cost_line r.0 ∷ []) (AtExit of router) r.1) }
 {
     let (line, rest) = text.line()?;
     let cost = cost_of(line)?;
@@ -276,8 +258,8 @@ fn cost_of(line: &[u8]) -> Option<u16>
 
 /// The text behind the line that closes an interface.
 fn exit_at(text: TextLeft<'_>) -> Result<TextLeft<'_>, AnswerStop>
-    ensures { (router : List ℕ) → MatchResult result (λ rest. Goes (AtExit router) text.entry (codes "exit" ∷ []) (AtSections (Some router)) rest)
-        (StopsReader (AtExit router) text.entry) }
+    ensures { (of : Option OtherText) (router : List ℕ) → MatchResult result (λ rest. Goes (AtExit of router) text.entry (codes "exit" ∷ []) (AtSections of (Some router)) rest)
+        (StopsReader (AtExit of router) text.entry) }
 {
     match text.behind(b"exit") {
         Some(rest) => Ok(rest),

@@ -14,7 +14,7 @@ use crate::lines::{
     write_tree, write_verdict,
 };
 use cost_base::{Name, PutFailed, Sink};
-use design_problem::{Answer, CapTree, CostLine, Costs, Entry, Floor, Row, Verdict};
+use design_problem::{Answer, CapTree, CostLine, Costs, Entry, Floor, Row, Tree, Verdict};
 
 /// Puts the text of an answer, each line with its LF by one `put`. It takes no memory.
 ///
@@ -54,6 +54,21 @@ pub fn put_costs<K: Sink>(costs: Option<&Costs>, out: &mut K) -> Result<(), PutF
 {
     let mut line = LineBuffer::new();
     put_costs_part(costs, &mut line, out)
+}
+
+/// Puts cost lines, each by one `put`, as the text of an answer has them behind their count. It takes no memory.
+///
+/// # Errors
+///
+/// `PutFailed` where the sink refused a line: a prefix of these lines was put.
+pub(crate) fn put_cost_lines<K: Sink>(costs: &[CostLine], out: &mut K) -> Result<(), PutFailed>
+    requires { AreShort (cost_lines None costs.now) }
+    ensures whole { OnOk result (GotAll (K.got out.old) (K.got out.new) (with_ends (cost_lines None costs.now))) }
+    ensures part { OnErr result (GotPart (K.got out.old) (K.got out.new) (with_ends (cost_lines None costs.now))) }
+    ensures cause { HasCause (K.faults out.old) (K.faults out.new) result }
+{
+    let mut line = LineBuffer::new();
+    put_lines_of_costs(costs, &mut line, out)
 }
 
 /// Puts the lines of rows, each by one `put`, as the text of an answer has them. It takes no memory.
@@ -127,10 +142,10 @@ fn put_some_costs<K: Sink>(
 {
     write_costs(costs.greatest, line);
     line.put(out)?;
-    put_cost_lines(costs.lines.as_slice(), line, out)
+    put_lines_of_costs(costs.lines.as_slice(), line, out)
 }
 
-fn put_cost_lines<K: Sink>(
+fn put_lines_of_costs<K: Sink>(
     costs: &[CostLine],
     line: &mut LineBuffer,
     out: &mut K,
@@ -243,8 +258,23 @@ fn put_some_tree<K: Sink>(
     requires { AreShort (tree_lines (part_word part) (Some tree.now)) }
     ensures { IsPieceHanded (K.got out.old) (K.got out.new) (K.faults out.old) (K.faults out.new) (with_ends (tree_lines (part_word part) (Some tree.now))) result }
 {
-    let entries = tree.tree.as_slice();
-    write_tree(part, tree.cap, entries.len(), line);
+    put_capped_tree(part, tree.cap, &tree.tree, line, out)
+}
+
+/// Puts the lines of a tree over the box at a cap.
+pub(crate) fn put_capped_tree<K: Sink>(
+    part: TreePart,
+    cap: u16,
+    tree: &Tree,
+    line: &mut LineBuffer,
+    out: &mut K,
+) -> Result<(), PutFailed>
+    requires { AreShort (tree_lines (part_word part) (Some (record { cap = cap; tree = tree.now }))) }
+    ensures { IsPieceHanded (K.got out.old) (K.got out.new) (K.faults out.old) (K.faults out.new)
+        (with_ends (tree_lines (part_word part) (Some (record { cap = cap; tree = tree.now })))) result }
+{
+    let entries = tree.as_slice();
+    write_tree(part, cap, entries.len(), line);
     line.put(out)?;
     put_each(entries, line, out)
 }

@@ -9,7 +9,7 @@ use Rattle.report_writer.specs.declared.report.Report.{Report}
 use Rattle.report_writer.specs.declared.report.Text.{Text}
 use Rattle.report_writer.specs.declared.report.Text.TheVariants.{Made, Fixed, Lsas}
 use Rattle.report_writer.specs.Reports.{bytes_in}
-use Rattle.report_writer.specs.Cutting.{AreCutOff, AreHanded, ArePutOf, IsCutShort, IsPutInPieces, PutsPieces, PutsByPieces, size_in}
+use Rattle.report_writer.specs.Cutting.{AreCutOff, AreHanded, ArePutOf, IsPutInPieces, PutsPieces, PutsByPieces, size_in}
 
 cut_more : (size : List ℕ → ℕ) (pieces : List (List ℕ)) (text left : List ℕ) → AreCutOff size pieces text left →
     AreCutOff size (pieces ++ take (size left) left ∷ []) text (drop (size left) left)

@@ -3,6 +3,7 @@ use Rattle.std.specs.Prelude.{ℕ, List, [], ◌∷◌, ◌++◌, codes}
 use Rattle.std.specs.List.{join_with_byte}
 use Rattle.cost_base.specs.Decimal.{decimal}
 use Rattle.input_files.specs.Readings.{Refusal}
+use Rattle.report_writer.specs.declared.rejection.Rejection.{Rejection}
 
 -- words with one space between each two, and an LF
 abbrev pub line_of_words : List (List ℕ) → List ℕ
@@ -15,3 +16,7 @@ refused_line r = line_of_words (codes "refused" ∷ decimal r.number ∷ r.file 
 -- `read fault FILE`
 abbrev pub read_fault_line : List ℕ → List ℕ
 read_fault_line file = line_of_words (codes "read" ∷ codes "fault" ∷ file ∷ [])
+
+-- `rejected NUMBER PLACE`
+abbrev pub rejected_line : Rejection → List ℕ
+rejected_line r = line_of_words (codes "rejected" ∷ decimal r.number ∷ decimal r.place ∷ [])

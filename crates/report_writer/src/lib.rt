@@ -2,8 +2,10 @@
 #![tactic(auto)]
 
 mod lines;
+mod rejection;
 mod report;
 mod writer;
 
+pub use rejection::{Rejection, rejected_line_of};
 pub use report::{Report, Text, report_of};
 pub use writer::write_report;

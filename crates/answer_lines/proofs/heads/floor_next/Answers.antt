@@ -4,7 +4,7 @@ use Rattle.answer_lines.proofs.FirstLines.{lacks-short, lacks-first, read-one}
 use Rattle.answer_lines.proofs.heads.floor_next.Goals as goal
 
 pub returns-in_err-line : goal.returns-in_err-line
-returns-in_err-line c = rw c.from_residual.ensures (lacks-short AtFloor c.args.text.left.now c.in_err-line.ensures)
+returns-in_err-line c = rw c.from_residual.ensures (lacks-short AtFloor c.args.text.left.now (λ line short. short) c.in_err-line.ensures)
 
 pub returns-in_err-floor : goal.returns-in_err-floor
 returns-in_err-floor c =

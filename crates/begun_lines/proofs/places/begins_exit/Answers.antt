@@ -5,6 +5,6 @@ use Rattle.begun_lines.proofs.BegunPlaces.{wanted-begun}
 use Rattle.begun_lines.proofs.places.begins_exit.Goals as goal
 
 pub returns : goal.returns
-returns c = λ router. through c.begins_line.ensures
-    (wanted-begun (AtExit router) (AtSections (Some router)) c.args.rest.now (codes "exit") (omega arith) (refl, refl)
+returns c = λ text router. through c.begins_line.ensures
+    (wanted-begun (AtExit text router) (AtSections text (Some router)) c.args.rest.now (codes "exit") (omega arith) (refl, refl)
     (λ l n is. is.0))

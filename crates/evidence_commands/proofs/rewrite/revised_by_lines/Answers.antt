@@ -30,16 +30,16 @@ pub rewrite-requires-clause-apart : goal.rewrite-requires-clause-apart
 rewrite-requires-clause-apart c = interfaces_own _ c.args.lines.now _ (c.deref-2.ensures.value ∙ c.in_ok-own.ensures)
 
 pub returns-in-Ok : goal.returns-in-Ok
-returns-in-Ok c bytes answer costs said printed lines =
+returns-in-Ok c bytes said =
     let named = ap (λ (file : ConfigFile). file.name) c.config.view_is in
     let text = c.deref.ensures.value ∙ ap (λ (file : ConfigFile). file.bytes) c.config.view_is in
-    rewritten_by c.args.config.now _ bytes answer costs c.args.lines.now _ _ _ c.in-Ok.text.items
-    (c.behind-config.view_is ∙ c.said.ensures) lines (c.deref-2.ensures.value ∙ c.in_ok-own.ensures)
-    named text said printed c.in-Ok.ensures.headed c.in-Ok.ensures.written c.in-Ok.ensures.read_back
+    rewritten_by c.args.config.now _ bytes c.args.lines.now _ _ _ c.in-Ok.text.items
+    (c.behind-config.view_is ∙ c.said.ensures) (c.deref-2.ensures.value ∙ c.in_ok-own.ensures)
+    named text said c.in-Ok.ensures.headed c.in-Ok.ensures.written c.in-Ok.ensures.read_back
 
 pub returns : goal.returns
-returns c bytes answer costs said printed lines =
+returns c bytes said =
     let text = c.deref.ensures.value ∙ ap (λ (file : ConfigFile). file.bytes) c.config.view_is in
-    c.unwritten.ensures (record { config = c.args.config.now; bytes = bytes }) answer costs said printed
-    (missing_by c.args.config.now _ costs c.args.lines.now _ _ c.in-Err.stop (c.behind-config.view_is ∙ c.said.ensures)
-    lines (c.deref-2.ensures.value ∙ c.in_ok-own.ensures) text c.in-Err.ensures.missing)
+    c.unwritten.ensures (record { config = c.args.config.now; bytes = bytes }) c.args.lines.now said
+    (missing_by c.args.config.now _ c.args.lines.now _ _ c.in-Err.stop (c.behind-config.view_is ∙ c.said.ensures)
+    (c.deref-2.ensures.value ∙ c.in_ok-own.ensures) text c.in-Err.ensures.missing)

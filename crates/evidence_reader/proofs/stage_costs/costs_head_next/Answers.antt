@@ -4,7 +4,7 @@ use Rattle.answer_lines.proofs.FirstLines.{lacks-short, lacks-first, read-one}
 use Rattle.evidence_reader.proofs.stage_costs.costs_head_next.Goals as goal
 
 pub returns-in_err-line : goal.returns-in_err-line
-returns-in_err-line c = rw c.from_residual.ensures (lacks-short AtCosts c.args.text.left.now c.in_err-line.ensures)
+returns-in_err-line c = rw c.from_residual.ensures (lacks-short AtCosts c.args.text.left.now (λ line short. short) c.in_err-line.ensures)
 
 pub returns-in_err-head : goal.returns-in_err-head
 returns-in_err-head c =

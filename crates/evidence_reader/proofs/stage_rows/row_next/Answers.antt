@@ -4,7 +4,7 @@ use Rattle.answer_lines.proofs.FirstLines.{lacks-short, lacks-first, read-one}
 use Rattle.evidence_reader.proofs.stage_rows.row_next.Goals as goal
 
 pub returns-in_default : goal.returns-in_default
-returns-in_default c = λ left. lacks-short (AtRow (suc left)) c.args.text.left.now c.in_default.ensures
+returns-in_default c = λ left. lacks-short (AtRow (suc left)) c.args.text.left.now (λ line short. short) c.in_default.ensures
 
 pub returns-in_default-2 : goal.returns-in_default-2
 returns-in_default-2 c =

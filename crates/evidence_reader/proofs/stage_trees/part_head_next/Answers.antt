@@ -1,10 +1,10 @@
 use Rattle.evidence_reader.specs.Stages.{before_part, behind_part_head}
 use Rattle.answer_lines.proofs.FirstLines.{lacks-short, lacks-first, read-one}
-use Rattle.evidence_reader.proofs.TreeLines.{part_said, part_says}
+use Rattle.evidence_reader.proofs.TreeLines.{part-read, part_said, part_says}
 use Rattle.evidence_reader.proofs.stage_trees.part_head_next.Goals as goal
 
 pub returns-in_err-line : goal.returns-in_err-line
-returns-in_err-line c = rw c.from_residual.ensures (lacks-short (before_part c.args.part) c.args.text.left.now c.in_err-line.ensures)
+returns-in_err-line c = rw c.from_residual.ensures (lacks-short (before_part c.args.part) c.args.text.left.now (part-read c.args.part) c.in_err-line.ensures)
 
 pub returns-in_err-head : goal.returns-in_err-head
 returns-in_err-head c =

@@ -17,8 +17,8 @@ returns-in_err-put g c =
     (begin (g.K.Sink.got c.args.out.now) (g.K.Sink.faults c.args.out.now)
     (costs_line costs.greatest ∷ cost_lines None costs.lines) c.requires) c.in_err-put.ensures
 
-pub put_cost_lines-requires : goal.put_cost_lines-requires
-put_cost_lines-requires g c =
+pub put_lines_of_costs-requires : goal.put_lines_of_costs-requires
+put_lines_of_costs-requires g c =
     let costs = c.args.costs.now in
     let first = turn (c.write_costs.new.line ∷ []) (cost_lines None costs.lines)
     (ap (λ (l : List ℕ). l ∷ cost_lines None costs.lines) (sym c.write_costs.ensures))
@@ -33,5 +33,5 @@ returns g c =
     (ap (λ (l : List ℕ). l ∷ cost_lines None costs.lines) (sym c.write_costs.ensures))
     (begin (g.K.Sink.got c.args.out.now) (g.K.Sink.faults c.args.out.now)
     (costs_line costs.greatest ∷ cost_lines None costs.lines) c.requires) c.in_ok-put.ensures in
-    last c.put_cost_lines.result (cost_lines None c.as_slice.result.now)
-    (ap (λ (lines : List CostLine). cost_lines None lines) (sym c.as_slice.ensures)) first c.put_cost_lines.ensures
+    last c.put_lines_of_costs.result (cost_lines None c.as_slice.result.now)
+    (ap (λ (lines : List CostLine). cost_lines None lines) (sym c.as_slice.ensures)) first c.put_lines_of_costs.ensures

@@ -1,5 +1,5 @@
 -- Each piece is put after the others.
-use Rattle.std.proofs.Common.{◌≡◌, ◌++◌, sym, ◌∙◌, length, take, drop}
+use Rattle.std.proofs.Common.{◌≡◌, ◌++◌, sym}
 use Rattle.std.proofs.lemmas.List.{take-append-drop}
 use Rattle.report_writer.specs.Cutting.{piece_size}
 use Rattle.report_writer.proofs.Writing.{begin, turn, stop_at}

@@ -1,0 +1,12 @@
+//! Reading the costs of a text: an answer's, or what `total`, `spread` or `change` writes. Laws of these texts, each the
+//! contract of a function that does nothing, stand in `laws`.
+#![tactic(auto)]
+
+mod costs;
+mod heads;
+mod kinds;
+pub mod laws;
+mod reader;
+mod unread;
+
+pub use reader::read_costs;
