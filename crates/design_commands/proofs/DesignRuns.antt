@@ -1,6 +1,5 @@
 -- What a design reports.
 use Rattle.std.proofs.Common.{sym, subst, List}
-use Rattle.cost_base.specs.declared.Status.TheVariants as status
 use Rattle.cost_base.specs.Histories.{Taken}
 use Rattle.design_problem.specs.Problems.{DesignProblem}
 use Rattle.design_problem.specs.Answers.{AnswerParts}

@@ -26,11 +26,11 @@ use Rattle.command_words.specs.Jobs.{Bounds}
 use Rattle.input_files.specs.Outcomes.{Input}
 use Rattle.input_files.proofs.ReadyInputs.{IsReadyInput}
 use Rattle.design_commands.specs.Designs.{IsAnswerTo, IsDesigned, IsShownImpossible, IsShownUndecided, verdict_status, MayDesign, AreCheapestBack}
-use Rattle.design_commands.proofs.CheapestWith.{only_cheapest_with}
-use Rattle.design_commands.proofs.ReadBackLaws.{read_back}
-use Rattle.design_commands.specs.ReadBack.{IsReadBack}
-use Rattle.design_commands.proofs.PrintedText.{NamesWords}
-use Rattle.design_commands.proofs.PrintedSections.{PrintsSections, all_other, sections_printed}
+use Rattle.present_costs.proofs.CheapestWith.{only_cheapest_with}
+use Rattle.read_back.proofs.ReadBackLaws.{read_back}
+use Rattle.read_back.specs.ReadBack.{IsReadBack}
+use Rattle.read_back.proofs.PrintedText.{NamesWords}
+use Rattle.read_back.proofs.PrintedSections.{PrintsSections, all_other, sections_printed}
 
 -- each named variable has a cost that a line can give
 abbrev ArePrintable : List VarName → List ℕ → Type 0

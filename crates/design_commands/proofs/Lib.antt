@@ -1,9 +1,3 @@
-pub mod PresentCosts
-pub mod CheapestWith
-pub mod PrintedText
-pub mod PrintedSections
-pub mod LineRuns
-pub mod ReadBackLaws
 pub mod DesignedLaws
 pub mod DesignRuns
 mod Examples

@@ -1,5 +1,5 @@
 -- What `total` reports.
-use Rattle.std.proofs.Common.{◌≡◌, ℕ, ◌<◌, refl, sym, ◌∙◌, ap, subst, List, [], ◌∷◌, ◌++◌, append_assoc, length, map, true, Some, inl, inr}
+use Rattle.std.proofs.Common.{◌≡◌, ℕ, ◌<◌, refl, sym, ◌∙◌, ap, subst, List, [], ◌∷◌, ◌++◌, append_assoc, true, Some, inl, inr}
 use Rattle.std.specs.Prelude.{◌⊎◌, Option, codes}
 use Rattle.cost_base.specs.Decimal.{decimal}
 use Rattle.cost_base.specs.declared.Status.TheVariants as status
@@ -7,7 +7,7 @@ use Rattle.cost_base.specs.Histories.{Taken}
 use Rattle.text_lines.specs.Lines.{with_ends}
 use Rattle.text_lines.proofs.LineLaws.{with_ends-append}
 use Rattle.config_reader.proofs.PrintedLines.{all_lack_end}
-use Rattle.evidence_text.specs.Parts.{rows_line, rows_lines}
+use Rattle.evidence_text.specs.Parts.{rows_lines}
 use Rattle.design_problem.specs.declared.answer.CapTree.{CapTree}
 use Rattle.design_problem.specs.declared.answer.Verdict.{Verdict}
 use Rattle.design_problem.specs.declared.answer.Verdict.TheVariants.{Optimal, Impossible, Undecided}
@@ -17,7 +17,7 @@ use Rattle.design_problem.specs.Problems.{DesignProblem}
 use Rattle.design_problem.specs.Rows.{greatest_cost}
 use Rattle.design_problem.specs.Answers.{AnswerParts, IsValid}
 use Rattle.design_problem.specs.ProblemLaws.{GivesBest}
-use Rattle.design_problem.specs.Text.{text, row_line, spaced, tree_lines}
+use Rattle.design_problem.specs.Text.{text, spaced, tree_lines}
 use Rattle.evidence_text.specs.AnswerValues.{IsAnswerValue}
 use Rattle.least_bound.specs.Answered.{ProofIsPrinted, VerdictHolds, IsAnswerSheet}
 use Rattle.least_total.specs.declared.finding.Total.{Total}
@@ -39,9 +39,10 @@ use Rattle.report_writer.specs.Reports.{bytes_in}
 use Rattle.design_commands.specs.Designs.{IsAnswerTo, IsDesigned, AreCheapestBack}
 use Rattle.design_commands.specs.TotalRuns.{IsFloorTotal, IsProvedTotal, IsShownUndecidedTotal, IsTotalled, MayTotal, ReportsFoundAs, ReportsTotal, at_cap, bound_lines, found_text, proof_lines, shown_lines, total_text}
 use Rattle.design_commands.proofs.DesignedLaws.{designed_costs, designed_is, impossible_is, undecided_is, answer_prints, cheapest_back, costs_back}
-use Rattle.design_commands.specs.ReadBack.{IsReadBack}
-use Rattle.design_commands.proofs.PrintedText.{all_append, all_cons, decimals_lack, rows_lack, spaced_lacks, tree_lacks}
-use Rattle.design_commands.proofs.PrintedSections.{all_other, other_open, other_proof, other_rows, others_append}
+use Rattle.read_back.specs.ReadBack.{IsReadBack}
+use Rattle.read_back.proofs.QuietLines.{AreQuiet, open_quiet, proof_quiet, quiet_append, quiet_cons, rows_quiet}
+use Rattle.read_back.proofs.PrintedText.{all_append, all_cons, decimals_lack, spaced_lacks}
+use Rattle.read_back.proofs.PrintedSections.{all_other, others_append}
 use Rattle.report_writer.proofs.ReportLaws.{may_report}
 
 abbrev cap_in : Verdict → ℕ
@@ -81,34 +82,16 @@ behind_lacks sum shown lack =
 behind_other : (sum : ℕ) (shown : List (List ℕ)) → all_other shown ≡ true → all_other (behind_it sum shown) ≡ true
 behind_other sum shown other = others_append (spaced (codes "total" ∷ decimal sum ∷ []) ∷ shown) (codes "end" ∷ []) other refl
 
-rows_lines_lack : (rows : List Row) → all_lack_end (rows_lines rows) ≡ true
-rows_lines_lack rows =
-    all_cons (rows_line (length rows)) (map row_line rows)
-    (spaced_lacks (codes "rows" ∷ decimal (length rows) ∷ []) (decimals_lack (length rows ∷ []))) (rows_lack rows)
-
--- the lines of what shows a total hold no LF and open no section
-record AreQuiet (shown : List (List ℕ)) : Type 0 where
-  lack : all_lack_end shown ≡ true
-  other : all_other shown ≡ true
-
 shown_quiet : (k : ℕ) (proof : TotalProof) → AreQuiet (shown_lines k proof)
 shown_quiet k Floor = record { lack = refl; other = refl }
-shown_quiet k (Tree rows tree) = record {
-  lack = all_append (rows_lines rows.items) (tree_lines (codes "proof") (Some (at_cap k tree)))
-      (rows_lines_lack rows.items) (tree_lacks (codes "proof") (Some (at_cap k tree)) refl);
-  other = others_append (rows_lines rows.items) (tree_lines (codes "proof") (Some (at_cap k tree)))
-      (other_rows rows.items) (other_proof (Some (at_cap k tree)));
-}
+shown_quiet k (Tree rows tree) =
+    quiet_append (rows_lines rows.items) (tree_lines (codes "proof") (Some (at_cap k tree))) (rows_quiet rows.items) (proof_quiet (Some (at_cap k tree)))
 
 bound_quiet : (bound k : ℕ) (rows : List Row) (tree : List Entry) → AreQuiet (bound_lines bound rows (at_cap k tree))
-bound_quiet bound k rows tree = record {
-  lack =
-      all_cons (spaced (codes "bound" ∷ decimal bound ∷ [])) (rows_lines rows ++ tree_lines (codes "open") (Some (at_cap k tree)))
-      (spaced_lacks (codes "bound" ∷ decimal bound ∷ []) (decimals_lack (bound ∷ [])))
-      (all_append (rows_lines rows) (tree_lines (codes "open") (Some (at_cap k tree)))
-      (rows_lines_lack rows) (tree_lacks (codes "open") (Some (at_cap k tree)) refl));
-  other = others_append (rows_lines rows) (tree_lines (codes "open") (Some (at_cap k tree))) (other_rows rows) (other_open (Some (at_cap k tree)));
-}
+bound_quiet bound k rows tree =
+    quiet_cons (spaced (codes "bound" ∷ decimal bound ∷ [])) (rows_lines rows ++ tree_lines (codes "open") (Some (at_cap k tree)))
+    (spaced_lacks (codes "bound" ∷ decimal bound ∷ []) (decimals_lack (bound ∷ []))) refl
+    (quiet_append (rows_lines rows) (tree_lines (codes "open") (Some (at_cap k tree))) (rows_quiet rows) (open_quiet (Some (at_cap k tree))))
 
 -- an answer with the same rows and trees has the same sheet
 same_sheet : (p : DesignProblem) (a b : AnswerParts) → b.rows ≡ a.rows → b.proof ≡ a.proof → b.unfinished ≡ a.unfinished →

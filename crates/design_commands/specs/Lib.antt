@@ -1,4 +1,3 @@
-pub mod ReadBack
 pub mod Designs
 pub mod Trials
 pub mod TotalRuns

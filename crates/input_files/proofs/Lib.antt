@@ -7,3 +7,4 @@ pub mod Present
 pub mod Ends
 pub mod Networks
 pub mod LaterFiles
+pub mod PresentNetworks

@@ -1,4 +1,4 @@
--- What is known of well-formed input whose interfaces are free as requested.
+-- What is known of well-formed input whose interfaces are free as requested, also beside the present costs.
 use Rattle.std.proofs.Common.{◌≡◌, refl, sym, subst, get_or, List, ℕ, [], ◌∷◌, Option, Some, None, All}
 use Rattle.std.specs.Prelude.{Result, Ok, Err}
 use Rattle.std.proofs.lemmas.List.Elements.{All-nil, All-cons, All-map}
@@ -6,7 +6,7 @@ use Rattle.cost_base.specs.declared.ShelfStop.{ShelfStop}
 use Rattle.cost_base.specs.declared.ShelfStop.TheVariants as stop
 use Rattle.cost_base.specs.Histories.{Taken}
 use Rattle.text_lines.specs.LineFaults.{FaultyLine}
-use Rattle.interface_model.specs.Records.{Router, IsRouter}
+use Rattle.interface_model.specs.Records.{IsRouter}
 use Rattle.config_reader.specs.FaultList.{Fault, config_fault}
 use Rattle.config_reader.specs.Configs.{config_of}
 use Rattle.config_reader.proofs.AcceptedRecords.{accepted_keeps}
@@ -22,9 +22,12 @@ use Rattle.path_requests.specs.Meaning.{problem_of}
 use Rattle.path_requests.proofs.ResolvedProblems.{resolved_is_problem}
 use Rattle.wanted_paths.specs.declared.stop.ResolutionFault.{ResolutionFault}
 use Rattle.path_requests.specs.Resolving.{resolution_fault}
-use Rattle.input_files.specs.declared.problem.View.TheVariants.{AsRequested}
+use Rattle.present_costs.specs.PresentCosts.{fault_beside_present}
+use Rattle.present_costs.proofs.FaultsBeside.{beside_then_resolved}
+use Rattle.input_files.specs.declared.problem.View.{View}
+use Rattle.input_files.specs.declared.problem.View.TheVariants.{AsRequested, BesidePresent}
 use Rattle.input_files.specs.Inputs.{InputFiles}
-use Rattle.input_files.specs.Readings.{Reading, Ready, ◌>>=◌, Says, End, Faulty, Failed, EndsAs, OnCame, too_long}
+use Rattle.input_files.specs.Readings.{Reading, Ready, ◌>>=◌, Says, Faulty, Failed, EndsAs, OnCame, too_long}
 use Rattle.input_files.proofs.Readings.{one_said, said_faulty, said_failed, was_read}
 use Rattle.input_files.specs.Outcomes.{ConfigFile, Input, request_read, if_asked, config_read, if_config, configs_read, routers_of, if_faultless, topology_read, if_resolved, problem_read, outcome}
 
@@ -115,35 +118,49 @@ input_ready : (made d : Input) (came : List Taken) → EndsAs (Ready made) came 
 input_ready made d [] is ready = subst (λ (e : Input). IsReadyInput e) (sym (one_said d made is)) ready
 input_ready made d (taken ∷ more) is ready = absurd is
 
+-- a view whose problem is that of the requests
+abbrev IsOfRequests : View → Type 0
+IsOfRequests view = (names : InputFiles) (asked : Asked) (d : Database) (p : DesignProblem) (came : List Taken) →
+    EndsAs (problem_read view names asked d) came (Says p) → (resolution_fault asked d ≡ None) × (p ≡ problem_of asked d)
+
+as_requested : IsOfRequests AsRequested
+as_requested = λ names asked d p came said. problem_ready names d (problem_of asked d) p (resolution_fault asked d) came said
+
+beside_present : IsOfRequests BesidePresent
+beside_present = λ names asked d p came said.
+    let made = problem_ready names d (problem_of asked d) p (fault_beside_present asked d) came said in
+    (beside_then_resolved asked d made.0, made.1)
+
 -- The rest of a reading behind each step.
 
 abbrev after_problem : Asked → List ConfigFile → Database → DesignProblem → Reading Input
 after_problem asked files d p = Ready (record { asked = asked; files = files; database = d; problem = p })
 
-abbrev after_topology : InputFiles → Asked → List ConfigFile → Database → Reading Input
-after_topology names asked files d = problem_read AsRequested names asked d >>= after_problem asked files d
+abbrev after_topology : View → InputFiles → Asked → List ConfigFile → Database → Reading Input
+after_topology view names asked files d = problem_read view names asked d >>= after_problem asked files d
 
-abbrev after_configs : InputFiles → Asked → List ConfigFile → Reading Input
-after_configs names asked files = topology_read names asked.area (routers_of files) >>= after_topology names asked files
+abbrev after_configs : View → InputFiles → Asked → List ConfigFile → Reading Input
+after_configs view names asked files = topology_read names asked.area (routers_of files) >>= after_topology view names asked files
 
-abbrev after_request : InputFiles → Asked → Reading Input
-after_request names asked = configs_read names.configs >>= after_configs names asked
+abbrev after_request : View → InputFiles → Asked → Reading Input
+after_request view names asked = configs_read names.configs >>= after_configs view names asked
 
-pub ready_is : (names : InputFiles) (d : Input) (came : List Taken) → EndsAs (outcome AsRequested names) came (Says d) → IsReadyInput d
-ready_is names d came is =
-    let asked = was_read (request_read names.request) (after_request names) came d is in
-    let files = was_read (configs_read names.configs) (after_configs names asked.value) asked.later d asked.then_said in
+ready_in : (view : View) (names : InputFiles) (d : Input) (came : List Taken) → IsOfRequests view →
+    EndsAs (outcome view names) came (Says d) → IsReadyInput d
+ready_in view names d came of_requests is =
+    let asked = was_read (request_read names.request) (after_request view names) came d is in
+    let files = was_read (configs_read names.configs) (after_configs view names asked.value) asked.later d asked.then_said in
     let base = was_read (topology_read names asked.value.area (routers_of files.value))
-    (after_topology names asked.value files.value) files.later d files.then_said in
-    let problem = was_read (problem_read AsRequested names asked.value base.value)
+    (after_topology view names asked.value files.value) files.later d files.then_said in
+    let problem = was_read (problem_read view names asked.value base.value)
     (after_problem asked.value files.value base.value) base.later d base.then_said in
     let accepted = files_ready names.configs files.first files.value files.said in
     let built = topology_ready names (database_of asked.value.area (routers_of files.value)) base.value
     (topology_fault asked.value.area (routers_of files.value)) base.first base.said in
     let database : IsAreaDatabase base.value = subst IsAreaDatabase (sym built.1)
     (database_is asked.value.area (routers_of files.value) built.0 (routers_kept files.value accepted)) in
-    let made = problem_ready names base.value (problem_of asked.value base.value) problem.value
-    (resolution_fault asked.value base.value) problem.first problem.said in
+    let made : (resolution_fault asked.value base.value ≡ None) × (problem.value ≡ problem_of asked.value base.value)
+    = of_requests names asked.value base.value problem.value problem.first problem.said in
     input_ready (record { asked = asked.value; files = files.value; database = base.value; problem = problem.value }) d problem.later problem.then_said
     (record {
       accepted = accepted;
@@ -154,3 +171,11 @@ ready_is names d came is =
       kept = subst IsProblem (sym made.1)
           (resolved_is_problem asked.value base.value (request_ready names.request asked.first asked.value asked.said) database made.0);
     })
+
+-- as requested
+pub ready_is : (names : InputFiles) (d : Input) (came : List Taken) → EndsAs (outcome AsRequested names) came (Says d) → IsReadyInput d
+ready_is names d came is = ready_in AsRequested names d came as_requested is
+
+-- and beside the present costs
+pub ready_beside_present : (names : InputFiles) (d : Input) (came : List Taken) → EndsAs (outcome BesidePresent names) came (Says d) → IsReadyInput d
+ready_beside_present names d came is = ready_in BesidePresent names d came beside_present is

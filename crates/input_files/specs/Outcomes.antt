@@ -19,8 +19,9 @@ use Rattle.wanted_paths.specs.declared.stop.ResolutionFault.{ResolutionFault}
 use Rattle.wanted_paths.specs.declared.stop.ResolutionFault.TheVariants.{UnknownRouter, UnknownInterface, NotALink, BrokenPath, LoopPath, PathExcluded, EndsDiffer, TooManyVariables, NoCost}
 use Rattle.wanted_paths.specs.FaultNumbers.{number_of}
 use Rattle.path_requests.specs.Resolving.{resolution_fault, present_fault, present_problem_of}
+use Rattle.present_costs.specs.PresentCosts.{fault_beside_present}
 use Rattle.input_files.specs.declared.problem.View.{View}
-use Rattle.input_files.specs.declared.problem.View.TheVariants.{AsRequested, AtPresent}
+use Rattle.input_files.specs.declared.problem.View.TheVariants.{AsRequested, BesidePresent, AtPresent}
 use Rattle.input_files.specs.Inputs.{InputFiles}
 use Rattle.input_files.specs.Readings.{Refusal, Reading, Take, Refused, Ready, ◌>>=◌}
 
@@ -121,9 +122,11 @@ abbrev pub if_resolved : InputFiles → Database → DesignProblem → Option Re
 if_resolved names d p None = Ready p
 if_resolved names d p (Some fault) = Refused (resolution_refusal names d fault)
 
--- the problem that the requests make of the database: with the interfaces that they free, or with every interface as it is
+-- The problem that the requests make of the database: with the interfaces that they free, and so beside the present costs,
+-- which then every interface needs; or with every interface as it is.
 abbrev pub problem_read : View → InputFiles → Asked → Database → Reading DesignProblem
 problem_read AsRequested names asked d = if_resolved names d (problem_of asked d) (resolution_fault asked d)
+problem_read BesidePresent names asked d = if_resolved names d (problem_of asked d) (fault_beside_present asked d)
 problem_read AtPresent names asked d = if_resolved names d (present_problem_of asked d) (present_fault asked d)
 
 -- what the files of a network say

@@ -13,16 +13,20 @@ use design_problem::Problem;
 use interface_model::RouterConfig;
 use lsdb_build::{Lsdb, TopologyStop, build};
 use path_requests::{resolve, resolve_present};
+use present_costs::resolve_beside_present;
 use request_reader::RequestFile;
 use std::alloc::Global;
 use wanted_paths::{ResolutionFault, ResolutionStop};
 
 /// Which interfaces of a problem are free: those that the request frees, or none, as every interface stands at present.
+/// With it goes which interfaces need a cost line where there is no default.
 #[derive(Clone, Copy)]
 pub enum View {
-    /// Those that the request frees.
+    /// Those that the request frees. The others need a cost.
     AsRequested,
-    /// None: every interface stands at its present cost or the default.
+    /// Those that the request frees, beside what they cost at present: every linked interface needs a cost, free or not.
+    BesidePresent,
+    /// None: every interface stands at its present cost or the default, so each needs one.
     AtPresent,
 }
 
@@ -115,6 +119,21 @@ fn resolution_as_requested<'a>(
     }
 }
 
+/// The problem that requests make of a topology with the interfaces that they free, where each has a present cost.
+fn resolution_beside_present<'a>(
+    alloc: Global,
+    requests: &RequestFile,
+    lsdb: &Lsdb,
+    words: FileWords<'a>,
+) -> Result<Problem, Stop<'a>>
+    ensures { IsReadAs (problem_read View.BesidePresent (files_named words.entry) requests.now lsdb.now) [] (λ p read. p ≡ read) result }
+{
+    match resolve_beside_present(alloc, requests, lsdb) {
+        Ok(problem) => Ok(problem),
+        Err(stop) => Err(stop_of_resolution(stop, lsdb, words)),
+    }
+}
+
 /// The problem that requests make of a topology at present costs.
 fn resolution_at_present<'a>(
     alloc: Global,
@@ -144,6 +163,7 @@ pub(crate) fn resolution<'a>(
 {
     match view {
         View::AsRequested => resolution_as_requested(alloc, requests, lsdb, words),
+        View::BesidePresent => resolution_beside_present(alloc, requests, lsdb, words),
         View::AtPresent => resolution_at_present(alloc, requests, lsdb, words),
     }
 }

@@ -20,7 +20,7 @@ use Rattle.printed_rows.proofs.TreeCopies.{whole_length}
 use Rattle.cost_branching.specs.Pools.{Differ}
 use Rattle.printed_rows.proofs.TreeLines.{IsPrintable, tree_short}
 use Rattle.conflict_core.specs.Conflicts.{IsTreeOfSet}
-use Rattle.path_commands.specs.SharedParts.{at_ceiling}
+use Rattle.printed_parts.specs.SharedParts.{at_ceiling}
 
 pub rows_part_short : (p : DesignProblem) (top nodes : ℕ) (members : List ℕ) (rows : List Row) (tree : List Entry) →
     IsProblem p → FitsGraph p.graph → IsTreeOfSet p top nodes members rows tree → AreShort (rows_lines rows)

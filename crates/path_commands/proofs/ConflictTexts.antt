@@ -17,9 +17,9 @@ use Rattle.text_lines.proofs.LineLaws.{with_ends-append}
 use Rattle.evidence_text.proofs.WordLaws.{spaced-with}
 use Rattle.conflict_core.specs.declared.conflict.Conflict.TheVariants.{Fits, Core, Undecided}
 use Rattle.conflict_core.specs.Conflicts.{IsCore, all_requests}
-use Rattle.path_commands.specs.SharedParts.{at_ceiling, costs_part}
+use Rattle.printed_parts.specs.SharedParts.{at_ceiling, costs_part}
 use Rattle.path_commands.specs.Conflicts.{conflict_text, members_line, without_line, without_parts}
-use Rattle.path_commands.proofs.TextParts.{joined}
+use Rattle.printed_parts.proofs.TextParts.{joined}
 
 -- The line of the requests.
 

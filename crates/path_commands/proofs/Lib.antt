@@ -1,7 +1,6 @@
 pub mod Audits
 pub mod AuditRuns
 pub mod OnlyCheapest
-pub mod TextParts
 pub mod ConflictTexts
 pub mod ConflictRuns
 pub mod ConflictLines

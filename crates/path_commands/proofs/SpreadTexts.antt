@@ -13,7 +13,7 @@ use Rattle.evidence_text.proofs.WordLaws.{spaced-with}
 use Rattle.spread_sets.specs.declared.spread.SetRow.{SetRow}
 use Rattle.spread_sets.specs.Answers.{set_row_line}
 use Rattle.path_commands.specs.Spreads.{set_rows_lines, spread_lines}
-use Rattle.path_commands.proofs.TextParts.{joined}
+use Rattle.printed_parts.proofs.TextParts.{joined}
 
 -- The line of a row.
 

@@ -12,7 +12,7 @@ use Rattle.conflict_core.specs.declared.conflict.Conflict.TheVariants.{Fits, Cor
 use Rattle.conflict_core.specs.Conflicts.{IsConflictFound, all_requests}
 use Rattle.command_words.specs.Jobs.{Bounds}
 use Rattle.input_files.specs.Outcomes.{Input}
-use Rattle.path_commands.specs.SharedParts.{at_ceiling, costs_part}
+use Rattle.printed_parts.specs.SharedParts.{at_ceiling, costs_part}
 
 -- `members COUNT I ..`
 abbrev pub members_line : List ℕ → List ℕ

@@ -13,7 +13,7 @@ use Rattle.spread_sets.specs.declared.spread.Spread.{Spread}
 use Rattle.spread_sets.specs.declared.spread.Spread.TheVariants.{Fit, Impossible, Undecided}
 use Rattle.spread_sets.specs.Answers.{IsSpreadFound, set_row_line}
 use Rattle.command_words.specs.Jobs.{Bounds}
-use Rattle.path_commands.specs.SharedParts.{at_ceiling}
+use Rattle.printed_parts.specs.SharedParts.{at_ceiling}
 use Rattle.printed_rows.specs.PrintedCosts.{named_costs}
 use Rattle.path_commands.specs.SetFiles.{AreSetsIn, Sharing}
 

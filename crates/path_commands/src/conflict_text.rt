@@ -6,14 +6,14 @@ ghost use Rattle.text_lines.specs.Lines.{with_ends};
 ghost use Rattle.conflict_core.specs.declared.conflict.Conflict.TheVariants.{Core, Fits, Undecided as ConflictUndecided};
 ghost use Rattle.conflict_core.specs.Conflicts.{IsConflictFound, IsCore, IsUndecidedConflict};
 ghost use Rattle.path_commands.specs.Conflicts.{conflict_text, members_line, without_line, without_parts};
-ghost use Rattle.path_commands.specs.SharedParts.{costs_part};
+ghost use Rattle.printed_parts.specs.SharedParts.{costs_part};
 
-use crate::parts::{at_ceiling, costs_by_name, push_line, push_words};
 use conflict_core::{Conflict, all_requests};
 use cost_base::OutOfMemory;
 use cost_branching::keeps_conditions;
 use design_problem::{CostList, Problem, Row, Tree};
 use evidence_text::{TreePart, push_costs, push_evidence};
+use printed_parts::{at_ceiling, costs_by_name, push_line, push_words};
 use std::alloc::Global;
 use text_lines::push_number;
 

@@ -4,7 +4,6 @@
 mod audit;
 mod conflict;
 mod conflict_text;
-mod parts;
 mod sets_file;
 mod spread;
 mod spread_text;

@@ -12,14 +12,14 @@ ghost use Rattle.evidence_text.specs.Parts.{rows_line};
 ghost use Rattle.spread_sets.specs.declared.spread.SetRow.TheVariants.{Same};
 ghost use Rattle.printed_rows.specs.FittingTexts.{FitText};
 ghost use Rattle.spread_sets.specs.Answers.{IsSpreadFound, set_row_line};
-ghost use Rattle.path_commands.specs.SharedParts.{at_ceiling};
+ghost use Rattle.printed_parts.specs.SharedParts.{at_ceiling};
 ghost use Rattle.printed_rows.specs.PrintedCosts.{named_costs};
 ghost use Rattle.path_commands.specs.Spreads.{set_rows_lines, spread_lines, spread_text};
 
-use crate::parts::{at_ceiling, costs_by_name, push_line, push_word, push_words};
 use cost_base::OutOfMemory;
 use design_problem::{CapTree, CostList, Costs, Problem, Tree};
 use evidence_text::{TreePart, push_costs, push_tree};
+use printed_parts::{at_ceiling, costs_by_name, push_line, push_word, push_words};
 use spread_sets::{SetRow, Spread};
 use std::alloc::Global;
 use text_lines::push_number;

@@ -1,5 +1,6 @@
 //! What is answered to a line of a script.
 
+use crate::beside::beside_text;
 use crate::configs::config_text;
 use crate::networks::{links_text, network_text};
 use crate::problems::{present_text, problem_text};
@@ -33,6 +34,7 @@ fn asked(alloc: Global, desk: &Desk, first: &str, more: &str) -> Result<String, 
         ("request", _) => request_text(alloc, bytes.as_slice()),
         ("problem", Some(network)) => problem_text(alloc, bytes.as_slice(), network),
         ("present", Some(network)) => present_text(alloc, bytes.as_slice(), network),
+        ("beside", Some(network)) => beside_text(alloc, bytes.as_slice(), network),
         _ => String::from_str(alloc, ""),
     }
 }

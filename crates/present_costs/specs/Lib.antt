@@ -1,0 +1,3 @@
+pub mod PresentCosts
+pub mod Noted
+pub mod AtCosts

@@ -1,0 +1,92 @@
+//! The problem of requests in an area where each link has a present cost, or their first fault.
+ghost use Rattle.std.specs.Prelude.{◌≡◌, ◌&&◌, not, is_some, Some, None, IfOk, IfErr};
+ghost use Rattle.cost_base.specs.Lists.{first_of};
+ghost use Rattle.wanted_paths.specs.LineFaults.{TellsResolution};
+ghost use Rattle.path_requests.specs.Meaning.{problem_of};
+ghost use Rattle.path_requests.specs.Resolving.{cost_faults, present_asked, resolution_fault};
+ghost use Rattle.present_costs.specs.PresentCosts.{fault_beside_present};
+
+use crate::links::links_of;
+use design_problem::Problem;
+use lsdb_build::{Linked, Lsdb};
+use path_requests::resolve;
+use request_reader::RequestFile;
+use std::alloc::Global;
+use wanted_paths::{ResolutionFault, ResolutionStop};
+
+/// Whether a link has no present cost: neither a cost line nor a default.
+fn lacks_present(requests: &RequestFile, link: &Linked) -> bool
+    ensures { result ≡ (not (is_some link.now.cost) && not (is_some requests.now.default_cost)) }
+{
+    link.cost.is_none() && requests.default_cost.is_none()
+}
+
+/// The fault of the first link without a present cost.
+fn first_without_cost(requests: &RequestFile, lsdb: &Lsdb) -> Option<ResolutionFault>
+    ensures { result ≡ first_of (cost_faults (present_asked requests.now) lsdb.now 0 lsdb.now.links) }
+{
+    for (i, link) in links_of(lsdb).iter().enumerate() {
+        if lacks_present(requests, link) {
+            return Some(ResolutionFault::NoCost { link: i as u32 });
+        }
+    }
+    None
+}
+
+/// The first fault beside present costs, where this is the first one of `resolve`: a fixed link without a cost gives way to
+/// the first link without one.
+fn fault_beside_present(
+    requests: &RequestFile,
+    lsdb: &Lsdb,
+    fault: ResolutionFault,
+) -> ResolutionFault
+    requires { resolution_fault requests.now lsdb.now ≡ Some fault }
+    ensures { fault_beside_present requests.now lsdb.now ≡ Some result }
+{
+    match fault {
+        ResolutionFault::NoCost { .. } => match first_without_cost(requests, lsdb) {
+            Some(first) => first,
+            None => fault,
+        },
+        _ => fault,
+    }
+}
+
+/// What stops the resolution beside present costs, where this stops `resolve`.
+fn stop_beside_present(requests: &RequestFile, lsdb: &Lsdb, stop: ResolutionStop) -> ResolutionStop
+    requires { TellsResolution (resolution_fault requests.now lsdb.now) stop }
+    ensures { TellsResolution (fault_beside_present requests.now lsdb.now) result }
+{
+    match stop {
+        ResolutionStop::Refused(fault) => {
+            ResolutionStop::Refused(fault_beside_present(requests, lsdb, fault))
+        }
+        ResolutionStop::OutOfMemory => ResolutionStop::OutOfMemory,
+    }
+}
+
+/// The problem that requests make of an area's routers and links, as `resolve` makes it, where each link has a present
+/// cost, free or not: a cost line, or the default of the requests.
+///
+/// # Errors
+///
+/// `Refused` with the first fault. The faults of the lines come first, then `EndsDiffer` and `TooManyVariables`, as in
+/// `resolve`; `NoCost` comes at the first link without a present cost, where there is no default. `OutOfMemory` where
+/// memory runs out.
+#[tactic(auto, using(crate::proofs::FaultsBeside::beside_resolved))]
+pub fn resolve_beside_present(
+    alloc: Global,
+    requests: &RequestFile,
+    lsdb: &Lsdb,
+) -> Result<Problem, ResolutionStop>
+    ensures made { IfOk result (λ p. (fault_beside_present requests.now lsdb.now ≡ None) × (p ≡ problem_of requests.now lsdb.now)) }
+    ensures refused { IfErr result (TellsResolution (fault_beside_present requests.now lsdb.now)) }
+{
+    match resolve(alloc, requests, lsdb) {
+        Ok(problem) => match first_without_cost(requests, lsdb) {
+            None => Ok(problem),
+            Some(fault) => Err(ResolutionStop::Refused(fault)),
+        },
+        Err(stop) => Err(stop_beside_present(requests, lsdb, stop)),
+    }
+}

@@ -1,0 +1,113 @@
+//! The lines and the parts.
+ghost use Rattle.std.specs.Prelude.{◌≡◌, ◌≤◌, ◌∷◌, ◌++◌, [], map, Some, IfOk, OnOk};
+ghost use Rattle.cost_base.specs.Decimal.{decimal};
+ghost use Rattle.design_problem.specs.Boxes.{IsInBox};
+ghost use Rattle.design_problem.specs.Rows.{box_of};
+ghost use Rattle.design_problem.specs.Answers.{greatest_bound};
+ghost use Rattle.design_problem.specs.Text.{costs_lines, tree_lines};
+ghost use Rattle.text_lines.specs.Lines.{with_ends};
+ghost use Rattle.evidence_text.specs.Lines.{with_words, AreShort};
+ghost use Rattle.evidence_text.specs.Parts.{part_word};
+ghost use Rattle.printed_parts.specs.SharedParts.{at_ceiling};
+ghost use Rattle.printed_rows.specs.PrintedCosts.{named_costs};
+
+use cost_base::OutOfMemory;
+use cost_branching::keeps_conditions;
+use design_problem::{CapTree, CostList, Costs, Problem, Tree, greatest_of};
+use evidence_text::{TreePart, push_capped_tree};
+use printed_rows::printed_costs;
+use std::alloc::Global;
+use text_lines::{push_bytes, push_number};
+
+/// Adds a line at the end.
+///
+/// # Errors
+///
+/// `OutOfMemory`.
+pub fn push_line(text: &mut Vec<u8>, line: &[u8]) -> Result<(), OutOfMemory>
+    ensures { OnOk result (text.new.items ≡ text.old.items ++ with_ends (line.now ∷ [])) }
+{
+    push_bytes(text, line)?;
+    push_bytes(text, b"\n")
+}
+
+/// Adds a number behind a space.
+///
+/// # Errors
+///
+/// `OutOfMemory`.
+pub fn push_word(line: &mut Vec<u8>, number: u32) -> Result<(), OutOfMemory>
+    ensures { OnOk result (line.new.items ≡ line.old.items ++ 32 ∷ decimal number) }
+{
+    push_bytes(line, b" ")?;
+    push_number(line, u128::from(number))
+}
+
+/// Adds numbers, each behind a space.
+///
+/// # Errors
+///
+/// `OutOfMemory`.
+pub fn push_words(line: &mut Vec<u8>, numbers: &[u32]) -> Result<(), OutOfMemory>
+    ensures { OnOk result (line.new.items ≡ with_words line.old.items (map decimal numbers.now)) }
+{
+    for number in numbers {
+        push_word(line, *number)?;
+    }
+    Ok(())
+}
+
+/// Costs of a problem's variables as they are printed, with the names of the free interfaces.
+///
+/// # Errors
+///
+/// `OutOfMemory`.
+pub fn costs_by_name(
+    alloc: Global,
+    problem: &Problem,
+    costs: &CostList,
+) -> Result<Costs, OutOfMemory>
+    requires { IsInBox (box_of problem.now) costs.now }
+    ensures named { IfOk result (λ printed. printed ≡ named_costs problem.now costs.now) }
+    ensures short { IfOk result (λ printed. AreShort (costs_lines (Some printed))) }
+{
+    keeps_conditions(problem);
+    printed_costs(alloc, problem, costs.as_slice())
+}
+
+/// The tree over the box at the greatest upper bound.
+pub fn at_ceiling(problem: &Problem, tree: Tree) -> CapTree
+    ensures same { result ≡ at_ceiling problem.now tree }
+    ensures small { result.cap ≤ 65535 }
+{
+    CapTree {
+        cap: ceiling(problem),
+        tree,
+    }
+}
+
+/// The greatest upper bound of a problem's variables.
+fn ceiling(problem: &Problem) -> u16
+    ensures { result ≡ greatest_bound problem.now }
+{
+    greatest_of(problem.high.as_slice())
+}
+
+/// Adds the lines of a tree over the box at the greatest upper bound at the end, as the text of an answer has them in this
+/// part.
+///
+/// # Errors
+///
+/// `OutOfMemory`.
+pub fn push_tree_at_ceiling(
+    alloc: Global,
+    text: &mut Vec<u8>,
+    part: TreePart,
+    problem: &Problem,
+    tree: &Tree,
+) -> Result<(), OutOfMemory>
+    requires { AreShort (tree_lines (part_word part) (Some (at_ceiling problem.now tree.now))) }
+    ensures { OnOk result (text.new.items ≡ text.old.items ++ with_ends (tree_lines (part_word part) (Some (at_ceiling problem.now tree.now)))) }
+{
+    push_capped_tree(alloc, text, part, ceiling(problem), tree)
+}

@@ -1,0 +1,53 @@
+//! The present costs of the variables that requests make of a network, as they are written.
+
+use crate::requests::requests_of;
+use lsdb_build::Lsdb;
+use present_costs::{present_of_variables, resolve_beside_present};
+use request_reader::RequestFile;
+use std::alloc::{AllocError, Global};
+use std::fmt;
+use wanted_paths::ResolutionStop;
+
+/// The present costs of variables as they are written, `-` where there is none.
+#[derive(Drop)]
+struct Costs<'a>(&'a [Option<u16>]);
+
+impl<'a> fmt::Display for Costs<'a> {
+    fn fmt<W: fmt::Write>(&self, f: &mut fmt::Formatter<W>) -> fmt::Result {
+        for cost in self.0 {
+            match cost {
+                Some(cost) => write!(f, " {cost}")?,
+                None => write!(f, " -")?,
+            }
+        }
+        Ok(())
+    }
+}
+
+/// What is told of the present costs, or of the first fault of requests.
+fn told(alloc: Global, requests: &RequestFile, network: &Lsdb) -> Result<String, AllocError> {
+    match resolve_beside_present(alloc, requests, network) {
+        Ok(problem) => match present_of_variables(alloc, requests, network, &problem) {
+            Ok(costs) => format!(in alloc; ": present{}", Costs(costs.as_slice())),
+            Err(_) => Err(AllocError),
+        },
+        Err(stop) => stopped(alloc, stop),
+    }
+}
+
+/// What is told of the first fault.
+fn stopped(alloc: Global, stop: ResolutionStop) -> Result<String, AllocError> {
+    format!(in alloc; ": {stop:?}")
+}
+
+/// `beside MORE`: the present cost of each variable that the last text makes of the network at hand.
+pub(crate) fn beside_text(
+    alloc: Global,
+    bytes: &[u8],
+    network: &Lsdb,
+) -> Result<String, AllocError> {
+    match requests_of(alloc, bytes) {
+        Ok(requests) => told(alloc, &requests, network),
+        Err(stop) => format!(in alloc; ": {stop:?}"),
+    }
+}
