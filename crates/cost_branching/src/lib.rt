@@ -9,6 +9,6 @@ mod pool;
 mod rivals;
 
 pub use form_search::Found;
-pub use one_cap::decide;
+pub use one_cap::{decide, decide_within};
 pub use pool::Pool;
 pub use rivals::{Begun, Rivals, keeps_conditions, path_count, row_of, variable_count};

@@ -50,6 +50,42 @@ fn search_rivals<B: Begun>(
     found
 }
 
+/// Searches a box for costs at which each wanted path leads.
+///
+/// Costs lie in the box and are fit as far as its ranges lie within the problem's bounds. Refuted comes with a closed
+/// earnest tree over the box, Undecided with one that has an Undone and exactly `limits.nodes` entries; the rows of the
+/// trees are numbered as in the pool. The pool keeps its rows, and new ones come at its end.
+///
+/// # Errors
+///
+/// `OutOfMemory`. Then the pool is as before.
+pub fn decide_within(
+    alloc: Global,
+    problem: &Problem,
+    costs: &CostBox,
+    limits: &Limits,
+    pool: &mut Pool,
+    advisors: &mut Vec<Box<dyn Advisor>>,
+) -> Result<Found, OutOfMemory>
+    requires ranges { IsBox (length problem.now.low) costs.now }
+    requires lows { All (λ low. 1 ≤ low) costs.now.low }
+    requires pool { IsRowPool problem.now pool.old }
+    ensures found { IfOk result (IsSearchResult (LeadsEach problem.now) limits.now.top limits.now.nodes pool.new.forms costs.now) }
+    ensures pool { IsRowPool problem.now pool.new }
+    ensures more { MoreRows pool.old pool.new }
+    ensures advisors { AreCalled ⟦<dyn Advisor as Advisor>⟧ (λ b. b.vtable) (λ b. state b) advisors.old.items advisors.new.items }
+{
+    keeps_conditions(problem);
+    let begun = pool.rows().len();
+    match search_rivals::<Brand>(alloc, problem, costs, limits, pool, advisors) {
+        Ok(found) => Ok(found),
+        Err(OutOfMemory) => {
+            pool.truncate(begun);
+            Err(OutOfMemory)
+        }
+    }
+}
+
 /// Decides whether a problem has fit costs of at most `cap`.
 ///
 /// Costs are fit and lie in the box at the cap. Refuted comes with a closed earnest tree over that box, Spent with one that
@@ -76,12 +112,5 @@ pub fn decide(
 {
     keeps_conditions(problem);
     let costs = box_at(alloc, problem, cap)?;
-    let begun = pool.rows().len();
-    match search_rivals::<Brand>(alloc, problem, &costs, limits, pool, advisors) {
-        Ok(found) => Ok(found),
-        Err(OutOfMemory) => {
-            pool.truncate(begun);
-            Err(OutOfMemory)
-        }
-    }
+    decide_within(alloc, problem, &costs, limits, pool, advisors)
 }

@@ -1,7 +1,7 @@
 //! The pool of rows.
 ghost use Rattle.std.specs.Prelude.{◌≡◌, [], take};
 
-use design_problem::Row;
+use design_problem::{Form, Row};
 use form_search::FormPool;
 use std::alloc::Global;
 use std::marker::Model;
@@ -47,6 +47,13 @@ impl Pool {
         ensures { result.now ≡ self.now.rows }
     {
         self.rows.as_slice()
+    }
+
+    /// The forms of the rows, in order.
+    pub fn forms(&self) -> &[Form]
+        ensures { result.now ≡ self.now.forms }
+    {
+        self.forms.as_slice()
     }
 
     /// The rows, in order, taken out. It takes no memory.

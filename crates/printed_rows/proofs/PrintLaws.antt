@@ -1,11 +1,13 @@
 -- The rows and trees that are printed.
-use Rattle.std.proofs.Common.{◌≡◌, ℕ, refl, sym, ◌∙◌, ap, subst, List, map, length, Bool, true, false, ◌||◌}
-use Rattle.std.specs.Prelude.{All, Option, None, Some}
+use Rattle.std.proofs.Common.{◌≡◌, ℕ, refl, sym, ◌∙◌, ap, subst, List, [], ◌∷◌, map, length, Bool, true, false, ◌||◌}
+use Rattle.std.specs.Prelude.{◌<◌, All, Option, None, Some, slice_index_or}
+use Rattle.std.proofs.lemmas.List.Elements.{All-head, All-tail}
+use Rattle.std.proofs.lemmas.List.Folds.{list_any_at}
 use Rattle.cost_base.specs.Lists.{numbers_from}
 use Rattle.design_problem.specs.declared.answer.CapTree.{CapTree}
 use Rattle.design_problem.specs.declared.tree.Entry.{Entry}
 use Rattle.design_problem.specs.Renumbering.{renumbered}
-use Rattle.printed_rows.specs.NamedRows.{IsKnown, NamesBelow, NamesKnown, TreeNamesBelow, TreeNamesKnown, entries_in, is_row_named}
+use Rattle.printed_rows.specs.NamedRows.{IsKnown, NamesBelow, NamesKnown, TreeNamesBelow, TreeNamesKnown, entries_in, is_row_named, is_row_named_in}
 use Rattle.printed_rows.specs.NewNumbers.{AreMarked, AreNewNumbers, HasNumbers, is_marked, named_in, new_number, number_given, with_new_numbers}
 use Rattle.printed_rows.proofs.NamedLaws.{entries_agree, names_known}
 use Rattle.printed_rows.proofs.NumberLaws.{number_at, numbers_counted}
@@ -96,3 +98,31 @@ second_named proof unfinished row is = ap (λ (x : Bool). is_row_named (entries_
     or_true : (b : Bool) → (b || true) ≡ true
     or_true true = refl
     or_true false = refl
+
+-- what one of several trees names is named
+pub one_named : (trees : List (List Entry)) (k row : ℕ) (d : List Entry) → k < length trees →
+    is_row_named (slice_index_or trees k d) row ≡ true → is_row_named_in trees row ≡ true
+one_named trees k row d k_in is = list_any_at (λ (tree : List Entry). is_row_named tree row) trees k d k_in is
+
+-- where the rows of several trees were marked
+pub trees_numbered : (trees : List (List Entry)) (n : ℕ) (none made marks : List Bool) (all numbers : List ℕ) →
+    ((row : ℕ) → is_marked none row ≡ false) → AreMarked (is_row_named_in trees) none made → length made ≡ n → marks ≡ made →
+    AreNewNumbers (is_marked marks) (length marks) all → numbers ≡ all →
+    AreNumbered (is_row_named_in trees) n marks numbers
+trees_numbered trees n none made marks all numbers empty marked =
+    are_numbered (is_row_named_in trees) n made marks all numbers (marks_are (is_row_named_in trees) none made empty marked)
+
+pub trees_known : (n : ℕ) (marks : List Bool) (numbers : List ℕ) (trees : List (List Entry)) →
+    AreNumbered (is_row_named_in trees) n marks numbers → All (All (NamesBelow n)) trees →
+    All (All (NamesKnown (is_marked marks) (length numbers))) trees
+trees_known n marks numbers trees are below k d k_in =
+    tree_known (is_row_named_in trees) n marks numbers (slice_index_or trees k d) are (λ row is. one_named trees k row d k_in is) (below k d k_in)
+
+pub trees_agree : (test named : ℕ → Bool) (n : ℕ) (numbers : List ℕ) (trees : List (List Entry)) → test ≡ named →
+    AreNewNumbers test n numbers → All (All (NamesKnown test n)) trees →
+    map (map (renumbered (number_given numbers))) trees ≡ map (with_new_numbers named) trees
+trees_agree test named n numbers [] same are known = refl
+trees_agree test named n numbers (tree ∷ trees) same are known =
+    let here = numbers_agree test named n numbers tree same are (All-head (All (NamesKnown test n)) tree trees known) in
+    let rest = trees_agree test named n numbers trees same are (All-tail (All (NamesKnown test n)) tree trees known) in
+    cc (here, rest)

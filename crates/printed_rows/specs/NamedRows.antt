@@ -29,6 +29,10 @@ names row Undone = false
 abbrev pub is_row_named : List Entry → ℕ → Bool
 is_row_named entries row = list_any (names row) entries
 
+-- whether one of the trees names the row
+abbrev pub is_row_named_in : List (List Entry) → ℕ → Bool
+is_row_named_in trees row = list_any (λ tree. is_row_named tree row) trees
+
 -- the property holds of each row that is named
 abbrev pub EachMember : (ℕ → Type 0) → Member → Type 0
 EachMember P (ByLow var value) = Unit {0}

@@ -5,7 +5,7 @@ use Rattle.design_problem.specs.declared.answer.CapTree.{CapTree}
 use Rattle.design_problem.specs.declared.tree.Entry.{Entry}
 use Rattle.design_problem.specs.declared.tree.Entry.TheVariants.{Tighten, Split, Halve, Refute, Undone}
 use Rattle.design_problem.specs.Renumbering.{renumbered, renumbered_part}
-use Rattle.printed_rows.specs.NamedRows.{entries_in, is_row_named}
+use Rattle.printed_rows.specs.NamedRows.{entries_in, is_row_named, is_row_named_in}
 
 -- whether the row has a mark
 abbrev pub is_marked : List Bool → ℕ → Bool
@@ -70,6 +70,11 @@ pub record AreKept {R : Type 0} (named : ℕ → Bool) (old rows : List R) : Typ
 pub record IsTreePrinted {R : Type 0} (old : List R) (tree : List Entry) (rows : List R) (new_tree : List Entry) : Type 0 where
   pub kept : AreKept (is_row_named tree) old rows
   pub tree_is : new_tree ≡ with_new_numbers (is_row_named tree) tree
+
+-- the rows that one of the trees names, in their order, and all the trees with their new numbers
+pub record AreAllPrinted {R : Type 0} (old : List R) (trees : List (List Entry)) (rows : List R) (new_trees : List (List Entry)) : Type 0 where
+  pub kept : AreKept (is_row_named_in trees) old rows
+  pub trees_are : new_trees ≡ map (with_new_numbers (is_row_named_in trees)) trees
 
 -- whether one of the two trees names the row
 abbrev pub named_in : Option CapTree → Option CapTree → ℕ → Bool

@@ -14,7 +14,7 @@ use std::alloc::Global;
 /// # Errors
 ///
 /// `OutOfMemory`.
-pub(crate) fn new_numbers(alloc: Global, marks: &[bool]) -> Result<Vec<u64>, OutOfMemory>
+pub fn new_numbers(alloc: Global, marks: &[bool]) -> Result<Vec<u64>, OutOfMemory>
     ensures { IfOk result (λ numbers. AreNewNumbers (is_marked marks.now) (length marks.now) numbers.items) }
 {
     let mut numbers = Vec::new(alloc);
@@ -43,7 +43,7 @@ fn push_if_kept<R: Drop>(kept: &mut Vec<R>, row: R, is_kept: bool) -> Result<(),
 /// # Errors
 ///
 /// `OutOfMemory`.
-pub(crate) fn marked_rows<R: Drop>(
+pub fn marked_rows<R: Drop>(
     alloc: Global,
     rows: Vec<R>,
     marks: &[bool],
@@ -184,6 +184,26 @@ pub(crate) fn new_tree(alloc: Global, tree: &Tree, numbers: &[u64]) -> Result<Tr
 {
     let entries = new_entries(alloc, tree.as_slice(), numbers)?;
     Ok(Tree::from_items(entries))
+}
+
+/// The trees with the new numbers of their rows.
+///
+/// # Errors
+///
+/// `OutOfMemory`.
+pub(crate) fn new_trees(
+    alloc: Global,
+    trees: &[Tree],
+    numbers: &[u64],
+) -> Result<Vec<Tree>, OutOfMemory>
+    requires { (named : ℕ → Bool) × AreNewNumbers named (length numbers.now) numbers.now × All (All (NamesKnown named (length numbers.now))) trees.now }
+    ensures { IfOk result (λ new. new.items ≡ map (map (renumbered (number_given numbers.now))) trees.now) }
+{
+    let mut new = Vec::new(alloc);
+    for tree in trees {
+        new.push(new_tree(alloc, tree, numbers)?)?;
+    }
+    Ok(new)
 }
 
 /// The tree at the same cap with the new numbers of its rows, if there is one.

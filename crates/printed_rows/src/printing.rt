@@ -2,10 +2,10 @@
 ghost use Rattle.std.specs.Prelude.{◌≡◌, ℕ, length, All, IfOk};
 ghost use Rattle.std.specs.Option.{option_copied};
 ghost use Rattle.printed_rows.specs.NamedRows.{NamesBelow, TreeNamesBelow};
-ghost use Rattle.printed_rows.specs.NewNumbers.{IsTreePrinted, ArePrinted};
+ghost use Rattle.printed_rows.specs.NewNumbers.{IsTreePrinted, ArePrinted, AreAllPrinted};
 
-use crate::new_numbers::{marked_rows, new_if_any, new_numbers, new_tree};
-use crate::row_marks::{mark_if_any, mark_tree, no_marks};
+use crate::new_numbers::{marked_rows, new_if_any, new_numbers, new_tree, new_trees};
+use crate::row_marks::{mark_if_any, mark_tree, mark_trees, no_marks};
 use cost_base::{Listed, OutOfMemory};
 use design_problem::{CapTree, Tree};
 use std::alloc::Global;
@@ -28,6 +28,15 @@ pub struct PrintedTrees<R> {
     pub proof: Option<CapTree>,
     /// The unfinished tree, where there is one.
     pub unfinished: Option<CapTree>,
+}
+
+/// Rows, and any number of trees over them.
+#[derive(Drop)]
+pub struct PrintedForest<R> {
+    /// The rows that one of the trees names, in the order of their pool.
+    pub rows: Vec<R>,
+    /// The trees, which name them by their places in `rows`.
+    pub trees: Vec<Tree>,
 }
 
 /// The rows that the tree names, in their order, and the tree with the new numbers of these rows. An entry names the row
@@ -80,4 +89,25 @@ pub fn printed_both<R: Drop>(
         proof,
         unfinished,
     })
+}
+
+/// The rows that one of the trees names, in their order, and all the trees with the new numbers of these rows.
+///
+/// # Errors
+///
+/// `OutOfMemory`.
+pub fn printed_all<R: Drop>(
+    alloc: Global,
+    rows: Vec<R>,
+    trees: &[Tree],
+) -> Result<PrintedForest<R>, OutOfMemory>
+    requires { All (All (NamesBelow (length rows.items))) trees.now }
+    ensures { IfOk result (λ sheet. AreAllPrinted rows.items trees.now sheet.rows.items sheet.trees.items) }
+{
+    let mut marks = no_marks(alloc, rows.len())?;
+    mark_trees(&mut marks, trees);
+    let numbers = new_numbers(alloc, marks.as_slice())?;
+    let trees = new_trees(alloc, trees, numbers.as_slice())?;
+    let rows = marked_rows(alloc, rows, marks.as_slice())?;
+    Ok(PrintedForest { rows, trees })
 }

@@ -2,7 +2,7 @@
 ghost use Rattle.std.specs.Prelude.{◌≡◌, ℕ, ◌<◌, ◌==◌, false, length, slice_index_or, All, IfOk};
 ghost use Rattle.std.specs.List.{list_any};
 ghost use Rattle.std.specs.Option.{option_copied};
-ghost use Rattle.printed_rows.specs.NamedRows.{MemberBelow, NamesBelow, TreeNamesBelow, entries_in, is_row_named, member_names, names, part_names};
+ghost use Rattle.printed_rows.specs.NamedRows.{MemberBelow, NamesBelow, TreeNamesBelow, entries_in, is_row_named, is_row_named_in, member_names, names, part_names};
 ghost use Rattle.printed_rows.specs.NewNumbers.{AreMarked};
 
 use cost_base::OutOfMemory;
@@ -14,7 +14,7 @@ use std::alloc::Global;
 /// # Errors
 ///
 /// `OutOfMemory`.
-pub(crate) fn no_marks(alloc: Global, count: usize) -> Result<Vec<bool>, OutOfMemory>
+pub fn no_marks(alloc: Global, count: usize) -> Result<Vec<bool>, OutOfMemory>
     ensures counted { IfOk result (λ marks. length marks.items ≡ count) }
     ensures none { IfOk result (λ marks. (row : ℕ) → slice_index_or marks.items row false ≡ false) }
 {
@@ -89,6 +89,16 @@ pub(crate) fn mark_tree(marks: &mut Vec<bool>, tree: &Tree)
     ensures { AreMarked (is_row_named tree.now) marks.old.items marks.new.items }
 {
     mark_entries(marks, tree.as_slice());
+}
+
+/// Marks the rows that trees name.
+pub(crate) fn mark_trees(marks: &mut Vec<bool>, trees: &[Tree])
+    requires { All (All (NamesBelow (length marks.old.items))) trees.now }
+    ensures { AreMarked (is_row_named_in trees.now) marks.old.items marks.new.items }
+{
+    for tree in trees {
+        mark_tree(marks, tree);
+    }
 }
 
 /// Marks the rows that a tree names, if there is one.

@@ -1,0 +1,74 @@
+-- The held paths of the first requests.
+use Rattle.std.proofs.Common.{◌≡◌, ℕ, ◌+◌, ◌<◌, sym, ◌∙◌, List, [], ◌∷◌, ◌++◌, All, Bool, ap, length, inl, inr, arith, subst}
+use Rattle.std.specs.Prelude.{Contains}
+use Rattle.std.specs.List.Sorted.{IsStrictlyIncreasing}
+use Rattle.std.proofs.lemmas.Bool.{cases_lt}
+use Rattle.std.proofs.lemmas.List.{get_or_append_left, get_or_at, length_push}
+use Rattle.std.proofs.lemmas.List.Elements.{All-push, All-weaker, Contains-append_left, Contains-push}
+use Rattle.change_steps.specs.Rollouts.{Rollout}
+use Rattle.change_steps.specs.States.{is_done_in, marks_of}
+use Rattle.change_steps.proofs.StateCosts.{only_agree}
+use Rattle.change_steps.proofs.MarkLaws.{marks_at}
+use Rattle.change_steps.specs.Orders.{IsOnlyIn, all_done, none_done}
+
+-- held, of the first n requests
+pub record AreHeldBelow (r : Rollout) (n : ℕ) (held : List ℕ) : Type 0 where
+  pub rising : IsStrictlyIncreasing held
+  pub known : All (λ k. k < n) held
+  pub present : All (IsOnlyIn r none_done) held
+  pub wanted : All (IsOnlyIn r all_done) held
+  pub each : (k : ℕ) → k < n → IsOnlyIn r none_done k → IsOnlyIn r all_done k → Contains held k
+
+rising_push : (xs : List ℕ) (n : ℕ) → IsStrictlyIncreasing xs → All (λ k. k < n) xs → IsStrictlyIncreasing (xs ++ n ∷ [])
+rising_push xs n rising below = λ k within. elim (cases_lt (k + 1) (length xs)) [
+  | inl before ↦
+      let first = get_or_append_left xs (n ∷ []) 0 k (omega (arith, before)) in
+      let second = get_or_append_left xs (n ∷ []) 0 (k + 1) before in
+      let less = rising k before in
+      omega (arith, first, second, less)
+  | inr last ↦
+      let at : length xs ≡ k + 1 = let count = length_push xs n in omega (arith, within, last, count) in
+      let first = get_or_append_left xs (n ∷ []) 0 k (omega (arith, at)) in
+      let second = get_or_at xs n [] 0 (k + 1) at in
+      let less = below k 0 (omega (arith, at)) in
+      omega (arith, first, second, less)
+]
+
+-- one more that is held
+pub held_more : (r : Rollout) (n : ℕ) (held : List ℕ) → AreHeldBelow r n held → IsOnlyIn r none_done n → IsOnlyIn r all_done n →
+    AreHeldBelow r (n + 1) (held ++ n ∷ [])
+held_more r n held are present wanted = record {
+  rising = rising_push held n are.rising are.known;
+  known = All-push (λ k. k < n + 1) held n (All-weaker (λ k. k < n) (λ k. k < n + 1) (λ k below. omega (arith, below)) held are.known) (omega arith);
+  present = All-push (IsOnlyIn r none_done) held n are.present present;
+  wanted = All-push (IsOnlyIn r all_done) held n are.wanted wanted;
+  each = λ k within first second. elim (cases_lt k n) [
+    | inl before ↦ Contains-append_left held (n ∷ []) k (are.each k before first second)
+    | inr last ↦ subst (λ (i : ℕ). Contains (held ++ n ∷ []) i) (let same : n ≡ k = omega (arith, within, last) in same) (Contains-push held n)
+  ];
+}
+
+-- one more that isn't
+pub held_less : (r : Rollout) (n : ℕ) (held : List ℕ) → AreHeldBelow r n held → (IsOnlyIn r none_done n → IsOnlyIn r all_done n → ⊥) →
+    AreHeldBelow r (n + 1) held
+held_less r n held are lost = record {
+  rising = are.rising;
+  known = All-weaker (λ k. k < n) (λ k. k < n + 1) (λ k below. omega (arith, below)) held are.known;
+  present = are.present;
+  wanted = are.wanted;
+  each = λ k within first second. elim (cases_lt k n) [
+    | inl before ↦ are.each k before first second
+    | inr last ↦
+        let same : k ≡ n = omega (arith, within, last) in
+        absurd (lost (subst (IsOnlyIn r none_done) same first) (subst (IsOnlyIn r all_done) same second))
+  ];
+}
+
+-- a path in a state and by its marks
+pub only_from_marks : (r : Rollout) (f : ℕ → Bool) (marks : List Bool) (k : ℕ) → marks ≡ marks_of r f → IsOnlyIn r (is_done_in marks) k → IsOnlyIn r f k
+only_from_marks r f marks k same only =
+    only_agree r (is_done_in marks) f k (λ i within. ap (λ (ms : List Bool). is_done_in ms i) same ∙ marks_at r f i within) only
+
+pub only_to_marks : (r : Rollout) (f : ℕ → Bool) (marks : List Bool) (k : ℕ) → marks ≡ marks_of r f → IsOnlyIn r f k → IsOnlyIn r (is_done_in marks) k
+only_to_marks r f marks k same only =
+    only_agree r f (is_done_in marks) k (λ i within. sym (ap (λ (ms : List Bool). is_done_in ms i) same ∙ marks_at r f i within)) only

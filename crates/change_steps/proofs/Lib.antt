@@ -1,0 +1,15 @@
+pub mod Keeping
+pub mod StateCosts
+pub mod KindLaws
+pub mod MarkLaws
+pub mod OrderLaws
+pub mod NoOrder
+pub mod Counting
+pub mod SearchLaws
+pub mod HeldLaws
+pub mod StateLaws
+pub mod MarkedLaws
+pub mod PlanLaws
+pub mod TestedLaws
+pub mod WalkLaws
+pub mod EndLaws

@@ -1,0 +1,156 @@
+-- Variables on paths, item by item, and edges that have variables of their own.
+use Rattle.std.proofs.Common.{◌≡◌, ℕ, ◌+◌, ◌<◌, ◌≤◌, refl, sym, ◌∙◌, ap, subst, List, [], ◌++◌, All, length, get_or, take, drop, inl, inr, arith, Bool, true, false, ◌||◌, ◌&&◌, take_all}
+use Rattle.std.specs.Prelude.{not}
+use Rattle.std.proofs.Math.Bool.{or_assoc}
+use Rattle.std.proofs.lemmas.Bool.{and_from, and_parts, both_ways, cases_lt, not_from_false, not-true, false≢true}
+use Rattle.std.proofs.lemmas.List.{drop_more, take-append-drop}
+use Rattle.std.proofs.lemmas.List.Folds.{list_any_at, list_any_more}
+use Rattle.area_graph.specs.declared.Price.TheVariants.{Var}
+use Rattle.area_graph.specs.Area.{Area, edge_at}
+use Rattle.area_graph.specs.Paths.{IsPathOf}
+use Rattle.area_graph.proofs.Visits.{joined_known}
+use Rattle.design_problem.specs.Problems.{no_request, request_at, request_ends}
+use Rattle.design_problem.specs.Rows.{is_var}
+use Rattle.change_steps.specs.declared.kinds.Kind.{Kind}
+use Rattle.change_steps.specs.declared.kinds.Kind.TheVariants.{First, Between, Last}
+use Rattle.change_steps.specs.Rollouts.{IsRollout, Rollout, step_count}
+use Rattle.change_steps.specs.Orders.{IsOnlyIn}
+use Rattle.change_steps.specs.Kinds.{comes_between, goes_over, kind_of_step, lies_on_held}
+use Rattle.change_steps.specs.States.{MayFollow, is_done_in}
+use Rattle.change_steps.specs.Outcomes.{IsFirstLost}
+use Rattle.change_steps.specs.Search.{AreHeldMarks, ArePricesApart}
+
+-- Paths.
+
+pub goes_none : (g : Area) (v : ℕ) → goes_over g [] v ≡ false
+unfolding goes_over
+goes_none g v = refl
+
+pub goes_more : (g : Area) (es : List ℕ) (i v : ℕ) → i < length es →
+    goes_over g (take (i + 1) es) v ≡ (goes_over g (take i es) v || is_var v (edge_at g (get_or es i 0)).price)
+unfolding goes_over
+goes_more g es i v within = list_any_more (λ e. is_var v (edge_at g e).price) es i 0 within
+
+pub goes_at : (g : Area) (es : List ℕ) (i v : ℕ) → i < length es → is_var v (edge_at g (get_or es i 0)).price ≡ true → true ≡ goes_over g es v
+unfolding goes_over
+goes_at g es i v within is = sym (list_any_at (λ e. is_var v (edge_at g e).price) es i 0 within is)
+
+pub goes_all : (g : Area) (es : List ℕ) (i v : ℕ) → length es ≤ i → goes_over g (take i es) v ≡ goes_over g es v
+goes_all g es i v past = ap (λ (xs : List ℕ). goes_over g xs v) (take_all i es past)
+
+-- marks of a path with one edge more
+pub path_more : (g : Area) (es : List ℕ) (i v : ℕ) (was here now : Bool) → i < length es → here ≡ (was || goes_over g (take i es) v) →
+    now ≡ (here || is_var v (edge_at g (get_or es i 0)).price) → now ≡ (was || goes_over g (take (i + 1) es) v)
+path_more g es i v was here now within so_far more =
+    more ∙ ap (λ (b : Bool). b || is_var v (edge_at g (get_or es i 0)).price) so_far
+    ∙ or_assoc was (goes_over g (take i es) v) (is_var v (edge_at g (get_or es i 0)).price)
+    ∙ ap (λ (b : Bool). was || b) (sym (goes_more g es i v within))
+
+-- the edges of a path of a request are edges of the graph
+pub path_known : (r : Rollout) (k : ℕ) → IsRollout r → k < length r.paths → All (λ e. e < length r.graph.edges) (request_at r.paths k).path.edges
+path_known r k is within =
+    let path : IsPathOf r.graph (request_ends (request_at r.paths k)) (request_at r.paths k).path.edges = is.paths k no_request within in
+    joined_known r.graph (request_at r.paths k).path.start (request_at r.paths k).path.edges (request_at r.paths k).end path.simple.joins
+
+-- Held paths.
+
+pub held_none_marked : (r : Rollout) (marks : List Bool) → length marks ≡ length r.moves.present → ((v : ℕ) → get_or marks v false ≡ false) → AreHeldMarks r [] marks
+unfolding lies_on_held
+held_none_marked r marks count none = record { count = count; told = λ v within. none v ∙ nothing v }
+  where
+    nothing : (v : ℕ) → false ≡ lies_on_held r [] v
+    nothing v = refl
+
+lies_more : (r : Rollout) (held : List ℕ) (i v : ℕ) → i < length held →
+    lies_on_held r (take (i + 1) held) v ≡ (lies_on_held r (take i held) v || goes_over r.graph (request_at r.paths (get_or held i 0)).path.edges v)
+unfolding lies_on_held
+lies_more r held i v within = list_any_more (λ k. goes_over r.graph (request_at r.paths k).path.edges v) held i 0 within
+
+pub held_more_marked : (r : Rollout) (held edges : List ℕ) (i : ℕ) (marks new : List Bool) (g : Area) → i < length held →
+    AreHeldMarks r (take i held) marks → g ≡ r.graph → edges ≡ (request_at r.paths (get_or held i 0)).path.edges → length new ≡ length marks →
+    ((v : ℕ) → v < length marks → get_or new v false ≡ (get_or marks v false || goes_over g edges v)) → AreHeldMarks r (take (i + 1) held) new
+held_more_marked r held edges i marks new g within are graph edges_are count told = record {
+  count = count ∙ are.count;
+  told = λ v known.
+      let near : v < length marks = let as_many = are.count in omega (arith, as_many, known) in
+      told v near ∙ ap (λ (b : Bool). b || goes_over g edges v) (are.told v known)
+      ∙ ap (λ (h : Area). lies_on_held r (take i held) v || goes_over h edges v) graph
+      ∙ ap (λ (es : List ℕ). lies_on_held r (take i held) v || goes_over r.graph es v) edges_are
+      ∙ sym (lies_more r held i v within);
+}
+
+-- Prices.
+
+-- the first n edges have variables of their own, which are marked
+pub record AreApartBelow (g : Area) (n : ℕ) (seen : List Bool) : Type 0 where
+  pub marked : (e v : ℕ) → e < n → (edge_at g e).price ≡ Var v → get_or seen v false ≡ true
+  pub apart : (e f v : ℕ) → e < n → f < n → (edge_at g e).price ≡ Var v → (edge_at g f).price ≡ Var v → e ≡ f
+
+pub none_apart : (g : Area) (seen : List Bool) → AreApartBelow g 0 seen
+none_apart g seen = record { marked = λ e v within. absurd (omega arith); apart = λ e f v within. absurd (omega arith) }
+
+pub apart_more : (g : Area) (n : ℕ) (seen new : List Bool) → AreApartBelow g n seen →
+    ((v : ℕ) → get_or seen v false ≡ true → get_or new v false ≡ true) →
+    ((v : ℕ) → (edge_at g n).price ≡ Var v → (get_or seen v false ≡ false) × (get_or new v false ≡ true)) → AreApartBelow g (n + 1) new
+apart_more g n seen new are kept fresh = record {
+  marked = λ e v within price. elim (cases_lt e n) [
+    | inl before ↦ kept v (are.marked e v before price)
+    | inr last ↦ (fresh v (ap (λ (i : ℕ). (edge_at g i).price) (let same : n ≡ e = omega (arith, within, last) in same) ∙ price)).1
+  ];
+  apart = λ e f v first second mine theirs. elim (cases_lt e n) [
+    | inl e_before ↦ elim (cases_lt f n) [
+      | inl f_before ↦ are.apart e f v e_before f_before mine theirs
+      | inr f_last ↦ absurd (both_ways (get_or seen v false)
+          (fresh v (ap (λ (i : ℕ). (edge_at g i).price) (let same : n ≡ f = omega (arith, second, f_last) in same) ∙ theirs)).0 (are.marked e v e_before mine))
+    ]
+    | inr e_last ↦ elim (cases_lt f n) [
+      | inl f_before ↦ absurd (both_ways (get_or seen v false)
+          (fresh v (ap (λ (i : ℕ). (edge_at g i).price) (let same : n ≡ e = omega (arith, first, e_last) in same) ∙ mine)).0 (are.marked f v f_before theirs))
+      | inr f_last ↦ omega (arith, first, second, e_last, f_last)
+    ]
+  ];
+}
+
+pub apart_all : (g : Area) (n : ℕ) (seen : List Bool) → AreApartBelow g n seen → length g.edges ≤ n → ArePricesApart g
+apart_all g n seen are past = λ e f v first second. are.apart e f v (omega (arith, past, first)) (omega (arith, past, second))
+
+-- Steps that may follow.
+
+between_is : (kind : Kind) → comes_between kind ≡ true → kind ≡ Between
+between_is First is = absurd (false≢true is)
+between_is Between is = refl
+between_is Last is = absurd (false≢true is)
+
+pub follows_by : (r : Rollout) (held : List ℕ) (marks : List Bool) (k : ℕ) → k < step_count r →
+    (comes_between (kind_of_step r held k) && not (is_done_in marks k)) ≡ true → MayFollow r held marks k
+follows_by r held marks k known test =
+    let parts = and_parts (comes_between (kind_of_step r held k)) (not (is_done_in marks k)) test in
+    record { known = known; between = between_is (kind_of_step r held k) parts.0; left = not-true (is_done_in marks k) parts.1 }
+
+pub follows_test : (r : Rollout) (held : List ℕ) (marks : List Bool) (k : ℕ) → MayFollow r held marks k →
+    (comes_between (kind_of_step r held k) && not (is_done_in marks k)) ≡ true
+follows_test r held marks k follows =
+    and_from (comes_between (kind_of_step r held k)) (not (is_done_in marks k)) (ap comes_between follows.between) (not_from_false (is_done_in marks k) follows.left)
+
+-- none of the first n, and one more
+pub none_follow_more : (r : Rollout) (held : List ℕ) (marks : List Bool) (n : ℕ) → ((k : ℕ) → k < n → MayFollow r held marks k → ⊥) →
+    (comes_between (kind_of_step r held n) && not (is_done_in marks n)) ≡ false → (k : ℕ) → k < n + 1 → MayFollow r held marks k → ⊥
+none_follow_more r held marks n none test k below follows = elim (cases_lt k n) [
+  | inl before ↦ none k before follows
+  | inr last ↦
+      let same : k ≡ n = omega (arith, below, last) in
+      both_ways (comes_between (kind_of_step r held n) && not (is_done_in marks n)) test
+      (follows_test r held marks n (subst (MayFollow r held marks) same follows))
+]
+
+-- Held paths one after another.
+
+pub lost_at : (r : Rollout) (held : List ℕ) (done : ℕ → Bool) (i : ℕ) → i < length held → All (IsOnlyIn r done) (take i held) →
+    (IsOnlyIn r done (get_or held i 0) → ⊥) → IsFirstLost r held done (get_or held i 0)
+lost_at r held done i within hold lost = record {
+  before = take i held;
+  after = drop (i + 1) held;
+  same = sym (take-append-drop i held) ∙ ap (λ (xs : List ℕ). take i held ++ xs) (drop_more held i 0 within);
+  hold = hold;
+  lost = lost;
+}

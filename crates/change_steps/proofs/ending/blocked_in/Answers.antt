@@ -1,0 +1,49 @@
+use Rattle.std.proofs.Common.{◌≡◌, ◌∙◌, ◌&&◌, ℕ, All, List, Bool, Vec, Global, ap, map, set, subst, sym, true}
+use Rattle.std.specs.Prelude.{not}
+use Rattle.std.proofs.lemmas.List.Elements.{All-push}
+use Rattle.spf_ties.specs.Distances.{Findings, IsRoomFor}
+use Rattle.change_steps.specs.declared.found.Blocked.{Blocked}
+use Rattle.change_steps.specs.declared.state.State.{State}
+use Rattle.change_steps.specs.Kinds.{comes_between, kind_of_step}
+use Rattle.change_steps.specs.States.{is_done_in}
+use Rattle.change_steps.specs.Outcomes.{IsBarrier}
+use Rattle.change_steps.specs.Search.{IsStateOf}
+use Rattle.change_steps.proofs.EndLaws.{blocked_step, unblocked_step}
+use Rattle.change_steps.proofs.ending.blocked_in.Goals as goal
+use Rattle.change_steps.proofs.ending.blocked_in.Goals.{then-may_follow+in_ok-push, else-may_follow}
+
+pub loop-step-preserved : goal.loop-step-preserved
+loop-step-preserved c =
+    let p = c.args.plan.now in
+    let marks = c.args.state.now.done.items in
+    let step = c.loop-step.step in
+    let tested : c.may_follow.result ≡ (comes_between (kind_of_step p.rollout p.held step) && not (is_done_in marks step)) =
+    c.may_follow.ensures ∙ ap (λ (m : List Bool). comes_between (kind_of_step p.rollout p.held step) && not (is_done_in m step)) (c.deref.ensures.value ∙ c.loop-step.invariant.done) in
+    elim c.if-may_follow.branch [
+      | then-may_follow+in_ok-push w ↦
+          let pushed = ap (λ (v : Vec Blocked Global). v.items) w.blocked-is ∙ w.in_ok-push.ensures.items in
+          record {
+            room = subst (λ (f : Findings). IsRoomFor p.rollout.graph f) (sym w.room-is) w.blocked_by.ensures.room;
+            state = subst (λ (s : State). IsStateOf p.rollout s) (sym w.state-is) w.blocked_by.ensures.state;
+            done = ap (λ (s : State). s.done.items) w.state-is ∙ w.blocked_by.ensures.done ∙ c.loop-step.invariant.done;
+            steps = blocked_step marks p c.loop-step.blocked.items c.if-may_follow.blocked.items w.blocked_by.result step (sym tested ∙ w.if-may_follow.true)
+                w.blocked_by.ensures.step pushed c.loop-step.invariant.steps;
+            each = subst (λ (xs : List Blocked). All (λ b. IsBarrier p.rollout p.held c.args.tested.now (set marks b.step true) b.by) xs) (sym pushed)
+                (All-push (λ b. IsBarrier p.rollout p.held c.args.tested.now (set marks b.step true) b.by) c.loop-step.blocked.items w.blocked_by.result
+                c.loop-step.invariant.each
+                (subst (λ (k : ℕ). IsBarrier p.rollout p.held c.args.tested.now (set marks k true) w.blocked_by.result.by) (sym w.blocked_by.ensures.step)
+                (subst (λ (m : List Bool). IsBarrier p.rollout p.held c.args.tested.now (set m step true) w.blocked_by.result.by) c.loop-step.invariant.done
+                w.blocked_by.ensures.barrier)));
+          }
+      | else-may_follow w ↦
+          let same = ap (λ (v : Vec Blocked Global). v.items) w.blocked-is in
+          record {
+            room = subst (λ (f : Findings). IsRoomFor p.rollout.graph f) (sym w.room-is) c.loop-step.invariant.room;
+            state = subst (λ (s : State). IsStateOf p.rollout s) (sym w.state-is) c.loop-step.invariant.state;
+            done = ap (λ (s : State). s.done.items) w.state-is ∙ c.loop-step.invariant.done;
+            steps = unblocked_step marks p c.if-may_follow.blocked.items step (sym tested ∙ w.if-may_follow.false)
+                (ap (map (λ (x : Blocked). x.step)) same ∙ c.loop-step.invariant.steps);
+            each = subst (λ (xs : List Blocked). All (λ b. IsBarrier p.rollout p.held c.args.tested.now (set marks b.step true) b.by) xs) (sym same)
+                c.loop-step.invariant.each;
+          }
+    ]

@@ -1,0 +1,9 @@
+use Rattle.spf_ties.specs.Distances.{IsRoomFor}
+use Rattle.change_steps.proofs.HeldLaws.{AreHeldBelow}
+use Rattle.change_steps.proofs.held.find_held.Given as goal
+
+abbrev pub invariant-loop-number : goal.invariant-loop-number
+invariant-loop-number l = record {
+  room : IsRoomFor l.scene.graph l.room;
+  held : AreHeldBelow l.scene l.number l.held.items;
+}

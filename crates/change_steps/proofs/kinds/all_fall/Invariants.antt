@@ -1,0 +1,8 @@
+use Rattle.std.proofs.Common.{◌≡◌, ℕ, List, take, true}
+use Rattle.std.specs.List.{list_all}
+use Rattle.change_steps.specs.Kinds.{falls_off_held}
+use Rattle.change_steps.specs.Search.{AreHeldMarks}
+use Rattle.change_steps.proofs.kinds.all_fall.Given as goal
+
+abbrev pub invariant-loop-line : goal.invariant-loop-line
+invariant-loop-line l = (held : List ℕ) → AreHeldMarks l.scene held l.marks → list_all (falls_off_held l.scene held) (take l.line-index l.lines) ≡ true

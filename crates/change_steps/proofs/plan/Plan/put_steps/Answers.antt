@@ -1,0 +1,17 @@
+use Rattle.std.proofs.Common.{◌∙◌, ℕ, Vec, Global, ap, sym}
+use Rattle.change_steps.specs.Kinds.{has_kind, kind_of_step}
+use Rattle.change_steps.proofs.PlanLaws.{kept_push, kept_same}
+use Rattle.change_steps.proofs.plan.Plan.put_steps.Goals as goal
+use Rattle.change_steps.proofs.plan.Plan.put_steps.Goals.{then-is_kind+in_ok-push, else-is_kind}
+
+pub loop-step-preserved : goal.loop-step-preserved
+loop-step-preserved c = elim c.if-is_kind.branch [
+  | then-is_kind+in_ok-push w ↦
+      kept_push c.args.steps.now.items c.loop-step.steps.items c.if-is_kind.steps.items (λ k. has_kind c.args.kind (kind_of_step c.args.self.now.rollout c.args.self.now.held k))
+      c.loop-step.step (ap (has_kind c.args.kind) (sym c.kind.ensures) ∙ sym c.is_kind.ensures ∙ w.if-is_kind.true) c.loop-step.invariant
+      (ap (λ (v : Vec ℕ Global). v.items) w.steps-is ∙ w.in_ok-push.ensures.items)
+  | else-is_kind w ↦
+      kept_same c.args.steps.now.items c.loop-step.steps.items c.if-is_kind.steps.items (λ k. has_kind c.args.kind (kind_of_step c.args.self.now.rollout c.args.self.now.held k))
+      c.loop-step.step (ap (has_kind c.args.kind) (sym c.kind.ensures) ∙ sym c.is_kind.ensures ∙ w.if-is_kind.false) c.loop-step.invariant
+      (ap (λ (v : Vec ℕ Global). v.items) w.steps-is)
+]

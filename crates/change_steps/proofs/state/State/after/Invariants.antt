@@ -1,0 +1,11 @@
+use Rattle.std.proofs.Common.{◌≡◌, take}
+use Rattle.change_steps.specs.Orders.{is_one_of}
+use Rattle.change_steps.specs.States.{marks_of}
+use Rattle.change_steps.specs.Search.{IsStateOf}
+use Rattle.change_steps.proofs.state.State.after.Given as goal
+
+abbrev pub invariant-loop-step : goal.invariant-loop-step
+invariant-loop-step l = record {
+  state : IsStateOf l.scene l.state;
+  done : l.state.done.items ≡ marks_of l.scene (is_one_of (take l.step-index l.steps));
+}

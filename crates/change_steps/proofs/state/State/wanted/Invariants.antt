@@ -1,0 +1,10 @@
+use Rattle.std.proofs.Common.{◌≡◌, ltb}
+use Rattle.change_steps.specs.States.{marks_of}
+use Rattle.change_steps.specs.Search.{IsStateOf}
+use Rattle.change_steps.proofs.state.State.wanted.Given as goal
+
+abbrev pub invariant-loop-step : goal.invariant-loop-step
+invariant-loop-step l = record {
+  state : IsStateOf l.scene l.state;
+  done : l.state.done.items ≡ marks_of l.scene (λ k. ltb k l.step);
+}

@@ -1,0 +1,7 @@
+pub mod Rollouts
+pub mod Orders
+pub mod Kinds
+pub mod States
+pub mod Outcomes
+pub mod Search
+pub mod Walks

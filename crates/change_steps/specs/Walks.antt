@@ -1,0 +1,51 @@
+-- How a walk through the states stands, and how it ends. No public clause cites it.
+use Rattle.std.specs.Prelude.{◌≡◌, ℕ, ◌+◌, ◌-◌, ◌*◌, ◌<◌, ◌≤◌, ◌∷◌, max, [], length, Option, None, Some}
+use Rattle.spf_ties.specs.Distances.{IsRoomFor}
+use Rattle.change_steps.specs.declared.walk.Walk.{Walk}
+use Rattle.change_steps.specs.declared.walk.End.{End}
+use Rattle.change_steps.specs.declared.walk.End.TheVariants.{Complete, Exhausted, Spent}
+use Rattle.change_steps.specs.States.{AreAllReached, IsAnotherReached, MayFollow}
+use Rattle.change_steps.specs.Search.{AllLack, HeldRollout, IsSearch, IsStateOf, Position, way_state}
+
+-- where a walk stands
+abbrev pub position_of : Walk → Position
+position_of w = record { order = w.order.items; next = w.next; tested = w.tested; greatest = w.greatest.items }
+
+-- what a walk keeps: its state is that of its way
+pub record IsWalk (p : HeldRollout) (w : Walk) : Type 0 where
+  pub room : IsRoomFor p.rollout.graph w.room
+  pub state : IsStateOf p.rollout w.state
+  pub here : w.state.done.items ≡ way_state p w.order.items
+  pub search : IsSearch p (position_of w)
+
+-- a walk that stands at the state of the first steps, the one that was tested
+pub record IsBegun (p : HeldRollout) (w : Walk) : Type 0 where
+  pub walk : IsWalk p w
+  pub order : w.order.items ≡ []
+  pub tested : w.tested ≡ way_state p [] ∷ []
+
+-- a walk of which no tested safe state has all steps between, and whose tested states are within the budget
+pub record IsUnderWay (p : HeldRollout) (nodes : ℕ) (w : Walk) : Type 0 where
+  pub walk : IsWalk p w
+  pub lack : AllLack p w.tested
+  pub few : length w.tested ≤ max 1 nodes
+
+-- a walk whose state has all steps between
+pub record IsComplete (p : HeldRollout) (w : Walk) : Type 0 where
+  pub walk : IsWalk p w
+  pub whole : (k : ℕ) → MayFollow p.rollout p.held w.state.done.items k → ⊥
+
+-- how a walk ended
+abbrev pub IsEnded : HeldRollout → ℕ → Walk → End → Type 0
+IsEnded p nodes w Complete = IsComplete p w
+IsEnded p nodes w Exhausted = IsUnderWay p nodes w × AreAllReached p.rollout p.held w.tested
+IsEnded p nodes w Spent = IsUnderWay p nodes w × ((length w.tested ≡ max 1 nodes) × IsAnotherReached p.rollout p.held w.tested)
+
+-- how much a walk has left: each state that may still be tested counts for two, one for going there and one for going back
+abbrev pub left_of : ℕ → Walk → ℕ
+left_of nodes w = 2 * (max 1 nodes - length w.tested) + length w.order.items
+
+-- after a turn a walk is under way with less left, or it ended
+abbrev pub IsTurned : HeldRollout → ℕ → Walk → Walk → Option End → Type 0
+IsTurned p nodes old new None = IsUnderWay p nodes new × (left_of nodes new < left_of nodes old)
+IsTurned p nodes old new (Some end) = IsEnded p nodes new end

@@ -1,0 +1,134 @@
+//! What a search that ended found.
+ghost use Rattle.std.specs.Prelude.{◌≡◌, ◌++◌, ◌<◌, ℕ, Contains, IfOk, false, slice_set, true};
+ghost use Rattle.spf_ties.specs.Distances.{IsRoomFor};
+ghost use Rattle.change_steps.specs.Rollouts.{step_count};
+ghost use Rattle.change_steps.specs.Orders.{IsSafe};
+ghost use Rattle.change_steps.specs.States.{MayFollow, is_done_in};
+ghost use Rattle.change_steps.specs.Outcomes.{IsBarrier, IsOutcome, IsSearchEnd};
+ghost use Rattle.change_steps.specs.Search.{AreBlockedIn, IsStateOf, last_steps, line_of as way_of};
+ghost use Rattle.change_steps.specs.Walks.{IsEnded, IsWalk};
+
+use crate::found::{Barrier, Blocked, Outcome, Stuck};
+use crate::kinds::Kind;
+use crate::plan::Plan;
+use crate::state::State;
+use crate::tested::Tested;
+use crate::walk::{End, Walk};
+use cost_base::OutOfMemory;
+use spf_ties::Room;
+use std::alloc::Global;
+
+/// The first steps, and some steps behind them.
+fn line_of(alloc: Global, plan: &Plan, between: &[usize]) -> Result<Vec<usize>, OutOfMemory>
+    ensures { IfOk result (λ line. line.items ≡ way_of plan.now between.now) }
+{
+    let mut line = Vec::new(alloc);
+    plan.put_steps(&mut line, Kind::First)?;
+    line.extend_from_slice(between)?;
+    Ok(line)
+}
+
+/// The first steps, some steps behind them, and the last steps.
+fn order_of(alloc: Global, plan: &Plan, between: &[usize]) -> Result<Vec<usize>, OutOfMemory>
+    ensures { IfOk result (λ order. order.items ≡ way_of plan.now between.now ++ last_steps plan.now) }
+{
+    let mut order = line_of(alloc, plan, between)?;
+    plan.put_steps(&mut order, Kind::Last)?;
+    Ok(order)
+}
+
+/// What is in the way of a state that isn't both tested and safe.
+fn barrier_of(plan: &Plan, tested: &Tested, room: &mut Room, state: &State) -> Barrier
+    requires room { IsRoomFor plan.now.rollout.graph room.old }
+    requires state { IsStateOf plan.now.rollout state.now }
+    requires unsafe_then { Contains tested.now state.now.done.items → IsSafe plan.now.rollout plan.now.held (is_done_in state.now.done.items) → ⊥ }
+    ensures room { IsRoomFor plan.now.rollout.graph room.new }
+    ensures barrier { IsBarrier plan.now.rollout plan.now.held tested.now state.now.done.items result }
+{
+    if !tested.has(&state.done) {
+        return Barrier::Untested;
+    }
+    match plan.first_lost(state, room) {
+        Some(path) => Barrier::Path(path),
+        None => Barrier::Untested,
+    }
+}
+
+/// What is in the way of a step that isn't done.
+fn blocked_by(
+    plan: &Plan,
+    tested: &Tested,
+    room: &mut Room,
+    state: &mut State,
+    step: usize,
+) -> Blocked
+    requires room { IsRoomFor plan.now.rollout.graph room.old }
+    requires state { IsStateOf plan.now.rollout state.old }
+    requires follows { MayFollow plan.now.rollout plan.now.held state.old.done.items step }
+    requires greatest { Contains tested.now (slice_set state.old.done.items step true) →
+        IsSafe plan.now.rollout plan.now.held (is_done_in (slice_set state.old.done.items step true)) → ⊥ }
+    ensures room { IsRoomFor plan.now.rollout.graph room.new }
+    ensures state { IsStateOf plan.now.rollout state.new }
+    ensures done { state.new.done.items ≡ state.old.done.items }
+    ensures step { result.step ≡ step }
+    ensures barrier { IsBarrier plan.now.rollout plan.now.held tested.now (slice_set state.old.done.items step true) result.by }
+{
+    state.do_step(plan.scene(), step);
+    let by = barrier_of(plan, tested, room, state);
+    state.undo_step(plan.scene(), step);
+    Blocked { step, by }
+}
+
+/// What is in the way of each step between that isn't done in a state.
+fn blocked_in(
+    alloc: Global,
+    plan: &Plan,
+    tested: &Tested,
+    room: &mut Room,
+    state: &mut State,
+) -> Result<Vec<Blocked>, OutOfMemory>
+    requires room { IsRoomFor plan.now.rollout.graph room.old }
+    requires state { IsStateOf plan.now.rollout state.old }
+    requires greatest { (step : ℕ) → MayFollow plan.now.rollout plan.now.held state.old.done.items step →
+        Contains tested.now (slice_set state.old.done.items step true) →
+        IsSafe plan.now.rollout plan.now.held (is_done_in (slice_set state.old.done.items step true)) → ⊥ }
+    ensures room { IsRoomFor plan.now.rollout.graph room.new }
+    ensures blocked { IfOk result (λ blocked. AreBlockedIn plan.now tested.now state.old.done.items blocked.items) }
+{
+    let mut blocked = Vec::new(alloc);
+    for step in 0..plan.step_count() {
+        if plan.may_follow(&state.done, step) {
+            blocked.push(blocked_by(plan, tested, room, state, step))?;
+        }
+    }
+    Ok(blocked)
+}
+
+/// How far a search came.
+fn stuck_of(alloc: Global, plan: &Plan, walk: &mut Walk) -> Result<Stuck, OutOfMemory>
+    requires { IsWalk plan.now walk.old }
+    ensures { IfOk result (IsSearchEnd plan.now.rollout plan.now.held walk.old.tested) }
+{
+    let done = line_of(alloc, plan, &walk.greatest)?;
+    let mut state = State::after(alloc, plan.scene(), &done)?;
+    let blocked = blocked_in(alloc, plan, &walk.tested, &mut walk.room, &mut state)?;
+    Ok(Stuck { done, blocked })
+}
+
+/// What a search found that ended so.
+pub(crate) fn outcome_of(
+    alloc: Global,
+    plan: &Plan,
+    walk: &mut Walk,
+    end: End,
+) -> Result<Outcome, OutOfMemory>
+    requires { (nodes : ℕ) × IsEnded plan.now nodes walk.old end }
+    ensures { (nodes : ℕ) → IsEnded plan.now nodes walk.old end → IfOk result (IsOutcome plan.now.rollout plan.now.held nodes) }
+{
+    plan.keeps_conditions();
+    match end {
+        End::Complete => Ok(Outcome::Order(order_of(alloc, plan, &walk.order)?)),
+        End::Exhausted => Ok(Outcome::NoOrder(stuck_of(alloc, plan, walk)?)),
+        End::Spent => Ok(Outcome::Undecided(stuck_of(alloc, plan, walk)?)),
+    }
+}

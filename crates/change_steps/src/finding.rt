@@ -1,0 +1,51 @@
+//! The order of a rollout's steps.
+ghost use Rattle.std.specs.Prelude.{◌≤◌, All, IfOk, length};
+ghost use Rattle.area_graph.specs.Costs.{IsPriced};
+ghost use Rattle.rival_separation.specs.Askers.{ArePathsOf};
+ghost use Rattle.change_steps.specs.Outcomes.{AreStepsFound};
+
+use crate::ending::outcome_of;
+use crate::found::Steps;
+use crate::moves::Moves;
+use crate::plan::Plan;
+use crate::scene::Scene;
+use crate::walk::Walk;
+use area_graph::Graph;
+use cost_base::OutOfMemory;
+use design_problem::Request;
+use spf_ties::Room;
+use std::alloc::Global;
+
+/// An order of all steps in which each held path stays the only cheapest of its request: one that is so both at present
+/// and after all steps, and is so after each step of the order. A state is a set of steps that are done. States are
+/// tested depth first from that of the steps that come first, which take nothing from the held paths; the steps between
+/// are tried in order, and the search goes on from the first whose state is safe and wasn't tested before; those that
+/// come last follow. Where `nodes` states were tested and another would be, the outcome is `Undecided`; that of the
+/// first steps counts as tested.
+///
+/// # Errors
+///
+/// `OutOfMemory`.
+pub fn find_steps(
+    alloc: Global,
+    graph: &Graph,
+    paths: &[Request],
+    moves: &Moves,
+    nodes: u32,
+) -> Result<Steps, OutOfMemory>
+    requires priced { All (λ edge. IsPriced (length moves.now.present) edge.price) graph.now.edges }
+    requires paths { ArePathsOf graph.now paths.now }
+    requires few { length paths.now ≤ 10000 }
+    ensures { IfOk result (AreStepsFound (record { graph = graph.now; paths = paths.now; moves = moves.now }) nodes) }
+{
+    let scene = Scene::new(graph, paths, moves);
+    let mut room = Room::new(alloc, graph)?;
+    let plan = Plan::new(alloc, scene, &mut room)?;
+    let mut walk = Walk::begin(alloc, &plan, room)?;
+    let end = walk.search(alloc, &plan, nodes)?;
+    let outcome = outcome_of(alloc, &plan, &mut walk, end)?;
+    Ok(Steps {
+        held: plan.into_held(),
+        outcome,
+    })
+}

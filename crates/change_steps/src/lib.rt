@@ -1,0 +1,19 @@
+//! An order of the steps of a rollout in which wanted paths stay the only cheapest ones.
+#![tactic(auto)]
+
+mod ending;
+mod finding;
+mod found;
+mod held;
+mod kinds;
+mod marks;
+mod moves;
+mod plan;
+mod scene;
+mod state;
+mod tested;
+mod walk;
+
+pub use finding::find_steps;
+pub use found::{Barrier, Blocked, Outcome, Steps, Stuck};
+pub use moves::Moves;

@@ -1,0 +1,285 @@
+//! A rollout with the paths that it has to hold, and the kinds of its steps.
+ghost use Rattle.std.specs.Prelude.{◌≡◌, ◌++◌, ◌↔◌, ◌<◌, ◌&&◌, ℕ, All, Bool, IfOk, IsTrue, List, MatchOption, OnOk, false, filter, length, not, slice_index_or, true};
+ghost use Rattle.std.specs.List.{list_all};
+ghost use Rattle.cost_base.specs.Lists.{numbers_from};
+ghost use Rattle.spf_ties.specs.Distances.{IsRoomFor};
+ghost use Rattle.design_problem.specs.Problems.{request_at};
+ghost use Rattle.change_steps.specs.Rollouts.{IsRollout, lines_of_step, step_count};
+ghost use Rattle.change_steps.specs.Orders.{AreHeld, IsSafe, IsOnlyIn};
+ghost use Rattle.change_steps.specs.Kinds.{comes_between, goes_over, has_kind, kind_of_step};
+ghost use Rattle.change_steps.specs.States.{MayFollow, is_done_in};
+ghost use Rattle.change_steps.specs.Outcomes.{IsFirstLost};
+ghost use Rattle.change_steps.specs.Search.{ArePricesApart, HasMore, HeldRollout, IsStateOf, spares};
+
+use crate::held::find_held;
+use crate::kinds::{Kind, is_kind, is_variable, kinds_of, line_rises};
+use crate::marks::no_marks;
+use crate::scene::Scene;
+use crate::state::State;
+use area_graph::{Graph, Price, edge_of};
+use cost_base::OutOfMemory;
+use spf_ties::Room;
+use std::alloc::Global;
+use std::marker::Model;
+
+/// A rollout with the paths that it has to hold. Contracts see both.
+#[derive(Drop)]
+pub(crate) struct Plan<'a> {
+    scene: Scene<'a>,
+    held: Vec<u32>,
+    kinds: Vec<Kind>,
+    /// Whether no two edges have one variable.
+    apart: bool,
+}
+
+impl<'a> Model for Plan<'a> {
+    ghost use Rattle.change_steps.specs.Search.{HeldRollout, IsPlan};
+
+    ghost Value = { HeldRollout };
+
+    ghost view = { λ p. record { rollout = p.scene; held = p.held.items } };
+
+    ghost invariant = { λ p. IsPlan (record { rollout = p.scene; held = p.held.items }) p.kinds.items p.apart };
+}
+
+/// Sets the mark of a price's variable. Tells whether it wasn't set; a price of no variable is new too.
+fn is_new(seen: &mut Vec<bool>, price: Price) -> bool
+    ensures count { length seen.new.items ≡ length seen.old.items }
+    ensures kept { (v : ℕ) → slice_index_or seen.old.items v false ≡ true → slice_index_or seen.new.items v false ≡ true }
+    ensures new { IsTrue result → (v : ℕ) → price ≡ Price.Var v →
+        (slice_index_or seen.old.items v false ≡ false) × (slice_index_or seen.new.items v false ≡ true) }
+{
+    match price {
+        Price::Var(number) => {
+            let place = number as usize;
+            if place < seen.len() && !seen[place] {
+                seen[place] = true;
+                true
+            } else {
+                false
+            }
+        }
+        Price::Fixed(_) | Price::Zero => true,
+    }
+}
+
+/// Whether no two edges have one variable.
+fn are_apart(alloc: Global, scene: &Scene) -> Result<bool, OutOfMemory>
+    ensures { IfOk result (λ apart. apart ≡ true → ArePricesApart scene.now.graph) }
+{
+    let mut seen = no_marks(alloc, scene.present().len())?;
+    for number in 0..scene.edge_count() {
+        if !is_new(&mut seen, edge_of(scene.graph(), number).price) {
+            return Ok(false);
+        }
+    }
+    Ok(true)
+}
+
+/// Whether a path goes over an interface with that variable's cost.
+fn has_line(graph: &Graph, edges: &[u32], line: u32) -> bool
+    requires { All (λ e. e < length graph.now.edges) edges.now }
+    ensures { result ≡ goes_over graph.now edges.now line }
+{
+    for edge in edges {
+        if is_variable(edge_of(graph, *edge).price, line) {
+            return true;
+        }
+    }
+    false
+}
+
+/// The kind at a place.
+fn kind_at(kinds: &[Kind], step: usize) -> Kind
+    requires { step < length kinds.now }
+    ensures { result ≡ slice_index_or kinds.now step Kind.Between }
+{
+    kinds[step]
+}
+
+/// Whether a line takes nothing from a path.
+fn spares_line(scene: &Scene, apart: bool, edges: &[u32], line: u32) -> bool
+    requires edges { All (λ e. e < length scene.now.graph.edges) edges.now }
+    requires line { line < length scene.now.moves.present }
+    ensures { result ≡ spares scene.now apart edges.now line }
+{
+    if line_rises(scene, line) {
+        !has_line(scene.graph(), edges, line)
+    } else {
+        apart && has_line(scene.graph(), edges, line)
+    }
+}
+
+/// Whether each line of some takes nothing from a path.
+fn spares_all(scene: &Scene, apart: bool, edges: &[u32], lines: &[u32]) -> bool
+    requires edges { All (λ e. e < length scene.now.graph.edges) edges.now }
+    requires lines { All (λ v. v < length scene.now.moves.present) lines.now }
+    ensures { result ≡ list_all (spares scene.now apart edges.now) lines.now }
+{
+    for line in lines {
+        if !spares_line(scene, apart, edges, *line) {
+            return false;
+        }
+    }
+    true
+}
+
+impl<'a> Plan<'a> {
+    /// The plan of a rollout.
+    pub fn new(alloc: Global, scene: Scene<'a>, room: &mut Room) -> Result<Plan<'a>, OutOfMemory>
+        requires { IsRoomFor scene.graph room.old }
+        ensures room { IsRoomFor scene.entry.graph room.new }
+        ensures plan { IfOk result (λ plan. plan.rollout ≡ scene.entry) }
+        ensures held { IfOk result (λ plan. AreHeld scene.entry plan.held) }
+    {
+        scene.keeps_conditions();
+        let held = find_held(alloc, &scene, room)?;
+        let kinds = kinds_of(alloc, &scene, &held)?;
+        let apart = are_apart(alloc, &scene)?;
+        Ok(Plan {
+            scene,
+            held,
+            kinds,
+            apart,
+        })
+    }
+
+    /// A plan keeps the conditions of its rollout, and its held paths are those of the rollout.
+    pub fn keeps_conditions(&self)
+        ensures rollout { IsRollout self.now.rollout }
+        ensures held { AreHeld self.now.rollout self.now.held }
+    {
+        let _ = &self.held;
+    }
+
+    /// The rollout.
+    pub fn scene(&self) -> &Scene<'a>
+        ensures { result.now ≡ self.now.rollout }
+    {
+        &self.scene
+    }
+
+    /// The held paths.
+    pub fn held(&self) -> &[u32]
+        ensures { result.now ≡ self.now.held }
+    {
+        self.held.as_slice()
+    }
+
+    /// The held paths alone.
+    pub fn into_held(self) -> Vec<u32>
+        ensures { result.items ≡ self.entry.held }
+    {
+        let Plan {
+            scene: _,
+            held,
+            kinds: _,
+            apart: _,
+        } = self;
+        held
+    }
+
+    /// How many steps there are.
+    pub fn step_count(&self) -> usize
+        ensures { result ≡ step_count self.now.rollout }
+    {
+        self.scene.step_count()
+    }
+
+    /// When a step is done.
+    pub fn kind(&self, step: usize) -> Kind
+        requires { step < step_count self.now.rollout }
+        ensures { result ≡ kind_of_step self.now.rollout self.now.held step }
+    {
+        kind_at(self.kinds.as_slice(), step)
+    }
+
+    /// Whether a step is one between that isn't done.
+    pub fn may_follow(&self, done: &[bool], step: usize) -> bool
+        requires count { length done.now ≡ step_count self.now.rollout }
+        requires step { step < step_count self.now.rollout }
+        ensures { result ≡ (comes_between (kind_of_step self.now.rollout self.now.held step) && not (is_done_in done.now step)) }
+    {
+        if is_kind(Kind::Between, self.kind(step)) {
+            !done[step]
+        } else {
+            false
+        }
+    }
+
+    /// Puts the steps of a kind behind others, in order.
+    pub fn put_steps(&self, steps: &mut Vec<usize>, kind: Kind) -> Result<(), OutOfMemory>
+        ensures { OnOk result (steps.new.items ≡ steps.old.items ++
+            filter (λ k. has_kind kind (kind_of_step self.now.rollout self.now.held k)) (numbers_from 0 (step_count self.now.rollout))) }
+    {
+        for step in 0..self.step_count() {
+            if is_kind(kind, self.kind(step)) {
+                steps.push(step)?;
+            }
+        }
+        Ok(())
+    }
+
+    /// The first step between that isn't done.
+    pub fn first_left(&self, done: &[bool]) -> Option<usize>
+        requires { length done.now ≡ step_count self.now.rollout }
+        ensures { MatchOption result ((k : ℕ) → MayFollow self.now.rollout self.now.held done.now k → ⊥)
+            (λ step. MayFollow self.now.rollout self.now.held done.now step) }
+    {
+        for step in 0..self.step_count() {
+            if self.may_follow(done, step) {
+                return Some(step);
+            }
+        }
+        None
+    }
+
+    /// Whether a step takes nothing from the path of a request, which then stays the only cheapest: its lines rise off
+    /// the path, or fall on it.
+    fn spares(&self, step: usize, number: u32) -> bool
+        requires step { step < step_count self.now.rollout }
+        requires known { number < length self.now.rollout.paths }
+        ensures { IsTrue result → (f g : ℕ → Bool) → HasMore self.now.rollout f g step → IsOnlyIn self.now.rollout f number →
+            IsOnlyIn self.now.rollout g number }
+    {
+        let scene = &self.scene;
+        scene.keeps_conditions();
+        let edges = scene.request(number).path.edges.as_slice();
+        spares_all(scene, self.apart, edges, scene.lines(step))
+    }
+
+    /// Whether a state is safe, one step of which was done last, after a state that was safe. Held paths that the step
+    /// spares aren't asked for.
+    pub fn is_safe_after(&self, state: &State, step: usize, room: &mut Room) -> bool
+        requires state { IsStateOf self.now.rollout state.now }
+        requires room { IsRoomFor self.now.rollout.graph room.old }
+        requires before { (f : ℕ → Bool) × HasMore self.now.rollout f (is_done_in state.now.done.items) step × IsSafe self.now.rollout self.now.held f }
+        ensures room { IsRoomFor self.now.rollout.graph room.new }
+        ensures safe { IsTrue result ↔ IsSafe self.now.rollout self.now.held (is_done_in state.now.done.items) }
+    {
+        self.keeps_conditions();
+        for number in self.held() {
+            if !self.spares(step, *number) && !state.is_only(self.scene(), *number, room) {
+                return false;
+            }
+        }
+        true
+    }
+
+    /// The first held path that isn't the only cheapest in a state.
+    pub fn first_lost(&self, state: &State, room: &mut Room) -> Option<u32>
+        requires state { IsStateOf self.now.rollout state.now }
+        requires room { IsRoomFor self.now.rollout.graph room.old }
+        ensures room { IsRoomFor self.now.rollout.graph room.new }
+        ensures lost { MatchOption result (IsSafe self.now.rollout self.now.held (is_done_in state.now.done.items))
+            (λ path. IsFirstLost self.now.rollout self.now.held (is_done_in state.now.done.items) path) }
+    {
+        self.keeps_conditions();
+        for number in self.held() {
+            if !state.is_only(self.scene(), *number, room) {
+                return Some(*number);
+            }
+        }
+        None
+    }
+}

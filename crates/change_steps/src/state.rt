@@ -1,0 +1,125 @@
+//! A state of a rollout, with its costs.
+ghost use Rattle.std.specs.Prelude.{◌≡◌, ◌↔◌, ◌<◌, ℕ, All, IfOk, IsTrue, cond, false, length, slice_index, slice_set, true};
+ghost use Rattle.spf_ties.specs.Distances.{IsRoomFor};
+ghost use Rattle.change_steps.specs.Rollouts.{lines_of_step, step_count};
+ghost use Rattle.change_steps.specs.Orders.{IsOnlyIn, all_done, is_one_of, none_done};
+ghost use Rattle.change_steps.specs.States.{is_done_in, marks_of};
+ghost use Rattle.change_steps.specs.Search.{IsStateOf};
+
+use crate::marks::no_marks;
+use crate::scene::Scene;
+use area_graph::Point;
+use cost_base::{Listed, OutOfMemory};
+use rival_separation::find_rival;
+use spf_ties::Room;
+use std::alloc::Global;
+
+/// Which steps are done, as a mark for each, and the costs that the variables then have.
+#[derive(Drop)]
+pub(crate) struct State {
+    pub(crate) done: Vec<bool>,
+    point: Point,
+}
+
+/// These costs, as the values of a point.
+fn widened(alloc: Global, costs: &[u16]) -> Result<Vec<u128>, OutOfMemory>
+    ensures { IfOk result (λ values. values.items ≡ costs.now) }
+{
+    let mut values = Vec::new(alloc);
+    for cost in costs {
+        values.push(*cost as u128)?;
+    }
+    Ok(values)
+}
+
+/// Gives the variables of a step these costs.
+fn put(values: &mut Listed<u128>, lines: &[u32], costs: &[u16])
+    requires known { All (λ v. v < length values.old) lines.now }
+    requires costs { length costs.now ≡ length values.old }
+    ensures count { length values.new ≡ length values.old }
+    ensures put { (v : ℕ) → slice_index values.new v ≡ cond (is_one_of lines.now v) (slice_index costs.now v) (slice_index values.old v) }
+{
+    for line in lines {
+        let place = *line as usize;
+        values.set(place, costs[place] as u128);
+    }
+}
+
+impl State {
+    /// The present network: no step is done.
+    pub(crate) fn present(alloc: Global, scene: &Scene) -> Result<State, OutOfMemory>
+        ensures state { IfOk result (IsStateOf scene.now) }
+        ensures none { IfOk result (λ state. state.done.items ≡ marks_of scene.now none_done) }
+    {
+        let done = no_marks(alloc, scene.step_count())?;
+        let values = widened(alloc, scene.present())?;
+        Ok(State {
+            done,
+            point: Point {
+                scale: 1,
+                values: Listed::from_items(values),
+            },
+        })
+    }
+
+    /// The state after some steps.
+    pub(crate) fn after(alloc: Global, scene: &Scene, steps: &[usize]) -> Result<State, OutOfMemory>
+        requires { All (λ k. k < step_count scene.now) steps.now }
+        ensures state { IfOk result (IsStateOf scene.now) }
+        ensures done { IfOk result (λ state. state.done.items ≡ marks_of scene.now (is_one_of steps.now)) }
+    {
+        let mut state = State::present(alloc, scene)?;
+        for step in steps {
+            state.do_step(scene, *step);
+        }
+        Ok(state)
+    }
+
+    /// The wanted network: all steps are done.
+    pub(crate) fn wanted(alloc: Global, scene: &Scene) -> Result<State, OutOfMemory>
+        ensures state { IfOk result (IsStateOf scene.now) }
+        ensures all { IfOk result (λ state. state.done.items ≡ marks_of scene.now all_done) }
+    {
+        let mut state = State::present(alloc, scene)?;
+        for step in 0..scene.step_count() {
+            state.do_step(scene, step);
+        }
+        Ok(state)
+    }
+
+    /// Does a step.
+    pub(crate) fn do_step(&mut self, scene: &Scene, step: usize)
+        requires state { IsStateOf scene.now self.old }
+        requires step { step < step_count scene.now }
+        ensures state { IsStateOf scene.now self.new }
+        ensures done { self.new.done.items ≡ slice_set self.old.done.items step true }
+    {
+        scene.keeps_conditions();
+        put(&mut self.point.values, scene.lines(step), scene.wanted());
+        self.done[step] = true;
+    }
+
+    /// Takes a step back that is done.
+    pub(crate) fn undo_step(&mut self, scene: &Scene, step: usize)
+        requires state { IsStateOf scene.now self.old }
+        requires step { step < step_count scene.now }
+        ensures state { IsStateOf scene.now self.new }
+        ensures undone { self.new.done.items ≡ slice_set self.old.done.items step false }
+    {
+        scene.keeps_conditions();
+        put(&mut self.point.values, scene.lines(step), scene.present());
+        self.done[step] = false;
+    }
+
+    /// Whether the path of a request is the only cheapest in the state.
+    pub(crate) fn is_only(&self, scene: &Scene, number: u32, room: &mut Room) -> bool
+        requires state { IsStateOf scene.now self.now }
+        requires known { number < length scene.now.paths }
+        requires room { IsRoomFor scene.now.graph room.old }
+        ensures room { IsRoomFor scene.now.graph room.new }
+        ensures only { IsTrue result ↔ IsOnlyIn scene.now (is_done_in self.now.done.items) number }
+    {
+        scene.keeps_conditions();
+        !find_rival(scene.graph(), scene.request(number), &self.point, room)
+    }
+}

@@ -1,0 +1,17 @@
+pub mod Changes
+pub mod CopyLaws
+pub mod Evidence
+pub mod InBoxes
+pub mod KeptBoxes
+pub mod KeptTrees
+pub mod KnownTrees
+pub mod ListWalks
+pub mod LookLaws
+pub mod LookedTrees
+pub mod MarkLaws
+pub mod NamingLaws
+pub mod SeekLaws
+pub mod ShownLaws
+pub mod StandingLaws
+pub mod TurnLaws
+pub mod Unspent

@@ -1,0 +1,9 @@
+pub mod Present
+pub mod KeptBoxes
+pub mod Looking
+pub mod Changes
+pub mod Marks
+pub mod Others
+pub mod Standings
+pub mod Telling
+pub mod Laws
