@@ -2,7 +2,8 @@
 use Rattle.std.proofs.Common.{◌≡◌, refl, [], ◌∷◌, Some, None}
 use Rattle.std.specs.Prelude.{codes, ◌-◌, ◌^◌}
 use Rattle.clap.proofs.OnLiterals.{clap_on_literals}
-use Rattle.command_words.specs.Jobs.{Bounds, Design, Check, Route}
+use Rattle.command_words.specs.Jobs.{Bounds, Design, Check, Change, Steps, Route}
+use Rattle.command_words.specs.declared.job.StepUnit.TheVariants.{Line, Router}
 use Rattle.command_words.specs.Commands.{job_of, job_of_row, row_of_word, table}
 
 abbrev usual : Bounds
@@ -28,6 +29,29 @@ dashes : job_of (codes "check" ∷ codes "--request=" ∷ codes "--answer" ∷ c
     ≡ Some (Check [] (codes "-") (codes "--help" ∷ []))
 unfolding job_of job_of_row row_of_word table clap_on_literals
 dashes = refl
+
+fewest_changes : job_of (codes "change" ∷ codes "A" ∷ codes "--request" ∷ codes "F" ∷ [])
+    ≡ Some (Change (record { request = codes "F"; limits = usual; configs = codes "A" ∷ [] }))
+unfolding job_of job_of_row row_of_word table clap_on_literals
+fewest_changes = refl
+
+-- a step is a cost line where `--by` isn't given
+steps_by_line : job_of (codes "steps" ∷ codes "--answer=A" ∷ codes "--request=F" ∷ codes "B" ∷ codes "C" ∷ [])
+    ≡ Some (Steps (codes "F") (codes "A") 100000 Line (codes "B" ∷ codes "C" ∷ []))
+unfolding job_of job_of_row row_of_word table clap_on_literals
+steps_by_line = refl
+
+steps_by_router : job_of (codes "steps" ∷ codes "--by=router" ∷ codes "--nodes=7" ∷ codes "--answer=A"
+    ∷ codes "--request=F" ∷ codes "B" ∷ [])
+    ≡ Some (Steps (codes "F") (codes "A") 7 Router (codes "B" ∷ []))
+unfolding job_of job_of_row row_of_word table clap_on_literals
+steps_by_router = refl
+
+steps_by_link : job_of (codes "steps" ∷ codes "--by" ∷ codes "link" ∷ codes "--answer=A" ∷ codes "--request=F"
+    ∷ codes "B" ∷ [])
+    ≡ None
+unfolding job_of job_of_row row_of_word table clap_on_literals
+steps_by_link = refl
 
 no_request : job_of (codes "design" ∷ codes "A.conf" ∷ []) ≡ None
 unfolding job_of job_of_row row_of_word table clap_on_literals

@@ -8,8 +8,9 @@ use Rattle.cost_base.specs.Lists.{same_bytes}
 use Rattle.command_words.specs.declared.job.Job.{Job}
 use Rattle.command_words.specs.declared.job.WordsStop.{WordsStop}
 use Rattle.command_words.specs.Forms.{Answers}
-use Rattle.command_words.specs.Jobs.{seen, Text, JobRead, SearchRead, IsInRange, Design, Check, Audit, Rewrite, Trial, Conflict, Spread, Total, Lsas, Route}
+use Rattle.command_words.specs.Jobs.{seen, Text, JobRead, SearchRead, IsInRange, Design, Check, Audit, Rewrite, Trial, Conflict, Spread, Total, Change, Steps, Lsas, Route}
 use Rattle.command_words.specs.Commands.{CommandRow, Found, search_of, job_of, job_of_row, row_of_word, table, takes_words, found_in, option_value, configs_found, number_between, number_or, from_low, of_two, of_three, trial_job}
+use Rattle.command_words.specs.Commands.{of_five, nodes_found, step_unit, steps_job}
 
 two_in : {A B : Type 0} (whole : A → B → JobRead) (a : Option A) (b : Option B)
     → ((x : A) (y : B) → a ≡ Some x → b ≡ Some y → IsInRange (whole x y)) → IfSome (of_two whole a b) IsInRange
@@ -23,6 +24,17 @@ three_in whole None b c h = tt
 three_in whole (Some x) None c h = tt
 three_in whole (Some x) (Some y) None h = tt
 three_in whole (Some x) (Some y) (Some z) h = h x y z
+
+five_in : {A B C D E : Type 0} (whole : A → B → C → D → E → JobRead)
+    (a : Option A) (b : Option B) (c : Option C) (d : Option D) (e : Option E)
+    → ((x : A) (y : B) (z : C) (u : D) (v : E) → c ≡ Some z → IsInRange (whole x y z u v))
+    → IfSome (of_five whole a b c d e) IsInRange
+five_in whole None b c d e h = tt
+five_in whole (Some x) None c d e h = tt
+five_in whole (Some x) (Some y) None d e h = tt
+five_in whole (Some x) (Some y) (Some z) None e h = tt
+five_in whole (Some x) (Some y) (Some z) (Some u) None h = tt
+five_in whole (Some x) (Some y) (Some z) (Some u) (Some v) h = h x y z u v refl
 
 search_in : (whole : SearchRead → JobRead) (o : Option SearchRead) → ((s : SearchRead) → IsInRange (whole s)) → IfSome (option_map whole o) IsInRange
 search_in whole None h = tt
@@ -56,6 +68,13 @@ trial_in found =
     let last = or_in 1 0 2147483647 (option_value (codes "start") found) start (omega arith) (omega arith) start_is in
     (most.0, most.1, omega arith))
 
+steps_in : (found : Found) → IfSome (steps_job found) IsInRange
+steps_in found =
+    five_in Steps (option_value (codes "request") found) (option_value (codes "answer") found) (nodes_found found)
+    (step_unit (option_value (codes "by") found)) (configs_found found)
+    (λ request answer nodes by configs is.
+    or_in 100000 1 10000000 (option_value (codes "nodes") found) nodes (omega arith) (omega arith) is)
+
 abbrev InRange : CommandRow → Type 0
 InRange form = (found : Found) → IfSome (form.job found) IsInRange
 
@@ -78,12 +97,19 @@ rows_in = (
               (
                 (λ found. search_in Total (search_of found) (λ s. tt)),
                 (
-                  (λ found. two_in Lsas (option_value (codes "request") found) (configs_found found) (λ x y e f. tt)),
+                  (λ found. search_in Change (search_of found) (λ s. tt)),
                   (
-                    (λ found. three_in Route (option_value (codes "lsas") found)
-                        (option_and_then quad (option_value (codes "from") found))
-                        (option_and_then quad (option_value (codes "to") found)) (λ x y z. tt)),
-                    tt,
+                    steps_in,
+                    (
+                      (λ found. two_in Lsas (option_value (codes "request") found) (configs_found found)
+                          (λ x y e f. tt)),
+                      (
+                        (λ found. three_in Route (option_value (codes "lsas") found)
+                            (option_and_then quad (option_value (codes "from") found))
+                            (option_and_then quad (option_value (codes "to") found)) (λ x y z. tt)),
+                        tt,
+                      ),
+                    ),
                   ),
                 ),
               ),

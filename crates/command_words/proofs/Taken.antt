@@ -21,6 +21,8 @@ free_row name.Trial = refl
 free_row name.Conflict = refl
 free_row name.Spread = refl
 free_row name.Total = refl
+free_row name.Change = refl
+free_row name.Steps = refl
 free_row name.Lsas = refl
 free_row name.Route = refl
 
@@ -34,6 +36,8 @@ simple_row name.Trial = refl
 simple_row name.Conflict = refl
 simple_row name.Spread = refl
 simple_row name.Total = refl
+simple_row name.Change = refl
+simple_row name.Steps = refl
 simple_row name.Lsas = refl
 simple_row name.Route = refl
 

@@ -7,7 +7,9 @@ use Rattle.clap.specs.Lexer.{usize_max}
 use Rattle.clap.specs.Walk.{Row, Rule, first_of, all_of, is_empty}
 use Rattle.clap.specs.Simple.{App, new_app, new_rule, with_rule, matches_of}
 use Rattle.clap.specs.Faults.{fault_of}
-use Rattle.command_words.specs.Jobs.{Text, Bounds, SearchRead, JobRead, Design, Check, Audit, Rewrite, Trial, Conflict, Spread, Total, Lsas, Route}
+use Rattle.command_words.specs.Jobs.{Text, Bounds, SearchRead, JobRead, Design, Check, Audit, Rewrite, Trial, Conflict, Spread, Total, Change, Steps, Lsas, Route}
+use Rattle.command_words.specs.declared.job.StepUnit.{StepUnit}
+use Rattle.command_words.specs.declared.job.StepUnit.TheVariants.{Line, Router}
 
 -- ---- the simple command of a row
 
@@ -82,11 +84,32 @@ abbrev pub of_three : {A B C D : Type 0} → (A → B → C → D) → Option A 
 of_three whole (Some a) (Some b) (Some c) = Some (whole a b c)
 of_three whole _ _ _ = None
 
--- the limits of a search: `--nodes N` of 1 to 10,000,000, else 100,000; `--bits B` of 28 to 127, else 127
+-- the whole of five parts, where each is there
+abbrev pub of_five : {A B C D E F : Type 0} → (A → B → C → D → E → F) →
+    Option A → Option B → Option C → Option D → Option E → Option F
+of_five whole (Some a) (Some b) (Some c) (Some d) (Some e) = Some (whole a b c d e)
+of_five whole _ _ _ _ _ = None
+
+-- the budget of nodes: `--nodes N` of 1 to 10,000,000, else 100,000
+abbrev pub nodes_found : Found → Option ℕ
+nodes_found found = number_or 100000 1 10000000 (option_value (codes "nodes") found)
+
+-- the limits of a search: the budget of nodes; `--bits B` of 28 to 127, else 127
 abbrev pub limits : Found → Option Bounds
 limits found = of_two (λ nodes bits. record { nodes = nodes; top = 2 ^ bits - 1 })
-    (number_or 100000 1 10000000 (option_value (codes "nodes") found))
-    (number_or 127 28 127 (option_value (codes "bits") found))
+    (nodes_found found) (number_or 127 28 127 (option_value (codes "bits") found))
+
+-- the unit of steps that a word names: a cost line, or the cost lines of a router
+abbrev pub unit_named : Text → Option StepUnit
+unit_named word =
+    if same_bytes word (codes "line") then Some Line
+    else if same_bytes word (codes "router") then Some Router
+    else None
+
+-- what a step is: `--by line` or `--by router`, else a cost line
+abbrev pub step_unit : Option Text → Option StepUnit
+step_unit None = Some Line
+step_unit (Some word) = unit_named word
 
 -- a request, the limits and the configurations
 abbrev pub search_of : Found → Option SearchRead
@@ -126,6 +149,15 @@ spread_job found = of_two Spread (search_of found) (option_value (codes "sets") 
 -- `total`: a request file, limits and configurations
 abbrev pub total_job : Found → Option JobRead
 total_job found = option_map Total (search_of found)
+
+-- `change`: a request file, limits and configurations
+abbrev pub change_job : Found → Option JobRead
+change_job found = option_map Change (search_of found)
+
+-- `steps`: a request file, an answer, a budget of nodes, what a step is, and configurations
+abbrev pub steps_job : Found → Option JobRead
+steps_job found = of_five Steps (option_value (codes "request") found) (option_value (codes "answer") found)
+    (nodes_found found) (step_unit (option_value (codes "by") found)) (configs_found found)
 
 -- `lsas`: a request file and configurations
 abbrev pub lsas_job : Found → Option JobRead
@@ -182,6 +214,15 @@ spread_row = row (codes "spread") (codes "request" ∷ codes "sets" ∷ []) (cod
 abbrev pub total_row : CommandRow
 total_row = row (codes "total") (codes "request" ∷ []) (codes "nodes" ∷ codes "bits" ∷ []) several total_job
 
+-- `change --request FILE [--nodes N] [--bits B] CONFIG..`
+abbrev pub change_row : CommandRow
+change_row = row (codes "change") (codes "request" ∷ []) (codes "nodes" ∷ codes "bits" ∷ []) several change_job
+
+-- `steps --request FILE --answer FILE [--nodes N] [--by UNIT] CONFIG..`
+abbrev pub steps_row : CommandRow
+steps_row =
+    row (codes "steps") (codes "request" ∷ codes "answer" ∷ []) (codes "nodes" ∷ codes "by" ∷ []) several steps_job
+
 -- `lsas --request FILE CONFIG..`
 abbrev pub lsas_row : CommandRow
 lsas_row = row (codes "lsas") (codes "request" ∷ []) [] several lsas_job
@@ -201,6 +242,8 @@ table =
     ∷ conflict_row
     ∷ spread_row
     ∷ total_row
+    ∷ change_row
+    ∷ steps_row
     ∷ lsas_row
     ∷ route_row
     ∷ []

@@ -11,7 +11,7 @@ use Rattle.command_words.specs.declared.table.CommandName.TheVariants as name
 use Rattle.command_words.specs.declared.table.ConfigWords.{ConfigWords}
 use Rattle.command_words.specs.declared.table.ConfigWords.TheVariants as words
 use Rattle.command_words.specs.Jobs.{Text}
-use Rattle.command_words.specs.Commands.{Files, none, one, several, CommandRow, Found, design_row, check_row, audit_row, rewrite_row, trial_row, conflict_row, spread_row, total_row, lsas_row, route_row}
+use Rattle.command_words.specs.Commands.{Files, none, one, several, CommandRow, Found, design_row, check_row, audit_row, rewrite_row, trial_row, conflict_row, spread_row, total_row, change_row, steps_row, lsas_row, route_row}
 
 -- the row of a command
 abbrev pub row_of_command : CommandName → CommandRow
@@ -23,6 +23,8 @@ row_of_command name.Trial = trial_row
 row_of_command name.Conflict = conflict_row
 row_of_command name.Spread = spread_row
 row_of_command name.Total = total_row
+row_of_command name.Change = change_row
+row_of_command name.Steps = steps_row
 row_of_command name.Lsas = lsas_row
 row_of_command name.Route = route_row
 

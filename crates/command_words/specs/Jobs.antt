@@ -4,6 +4,7 @@ use Rattle.wide_fraction.specs.declared.bounds.Limits.{Limits}
 use Rattle.command_words.specs.declared.job.Search.{Search}
 use Rattle.command_words.specs.declared.job.Job.{Job}
 use Rattle.command_words.specs.declared.job.Job.TheVariants as variant
+use Rattle.command_words.specs.declared.job.StepUnit.{StepUnit}
 use Rattle.text_lines.specs.Arguments.{texts}
 
 -- the bytes of a word
@@ -31,6 +32,8 @@ pub data JobRead : Type 0 where
   Conflict : (search : SearchRead) → JobRead
   Spread : (search : SearchRead) → (sets : Text) → JobRead
   Total : (search : SearchRead) → JobRead
+  Change : (search : SearchRead) → JobRead
+  Steps : (request : Text) → (answer : Text) → (nodes : ℕ) → (by : StepUnit) → (configs : List Text) → JobRead
   Lsas : (request : Text) → (configs : List Text) → JobRead
   Route : (lsas : Text) → (from : ℕ) → (to : ℕ) → JobRead
 
@@ -52,10 +55,14 @@ seen (variant.Trial blocks start) = Trial blocks start
 seen (variant.Conflict search) = Conflict (search_seen search)
 seen (variant.Spread search sets) = Spread (search_seen search) (string_bytes sets)
 seen (variant.Total search) = Total (search_seen search)
+seen (variant.Change search) = Change (search_seen search)
+seen (variant.Steps request answer nodes by configs) =
+    Steps (string_bytes request) (string_bytes answer) nodes by (texts configs.items)
 seen (variant.Lsas request configs) = Lsas (string_bytes request) (texts configs.items)
 seen (variant.Route lsas from to) = Route (string_bytes lsas) from to
 
--- the numbers of a trial are within their ranges
+-- the numbers of a trial and the budget of steps are within their ranges
 abbrev pub IsInRange : JobRead → Type 0
 IsInRange (Trial blocks start) = (1 ≤ blocks) × (blocks ≤ 125) × (start < 2 ^ 31)
+IsInRange (Steps request answer nodes by configs) = (1 ≤ nodes) × (nodes ≤ 10000000)
 IsInRange _ = Unit {0}

@@ -14,6 +14,15 @@ pub struct Search {
     pub configs: Vec<String>,
 }
 
+/// What one step of an order of changes is: the value of `--by`.
+#[derive(Clone, Copy, Debug, PartialEq, Eq)]
+pub enum StepUnit {
+    /// One cost line.
+    Line,
+    /// All cost lines of one router.
+    Router,
+}
+
 /// What the words ask for: the values of the options, the CONFIG words in their order, and the stated defaults.
 ///
 /// Texts are names of files: `request` is that of `--request`, `answer` that of `--answer`, `sets` that of `--sets`, `lsas`
@@ -52,6 +61,17 @@ pub enum Job {
     },
     /// Find the least total among the best costs.
     Total(Search),
+    /// Find the fewest changes of present costs.
+    Change(Search),
+    /// Find an order of an answer's changes that keeps traffic in place; at most `nodes` states are tested, 1 to
+    /// 10,000,000.
+    Steps {
+        request: String,
+        answer: String,
+        nodes: u32,
+        by: StepUnit,
+        configs: Vec<String>,
+    },
     /// Write the LSAs of the configurations at present costs (RFC 2328, A.4).
     Lsas {
         request: String,

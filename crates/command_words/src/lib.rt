@@ -14,19 +14,19 @@ mod reading;
 mod table;
 mod values;
 
-pub use job::{Job, Search, WordsStop};
+pub use job::{Job, Search, StepUnit, WordsStop};
 use reading::read_row;
 use table::{CommandName, command_named};
 
 /// The job that `words`, the words after the program's name, ask for.
 ///
-/// The first word names one of the ten commands, and a `clap` command that has the options of its row takes the
+/// The first word names one of the twelve commands, and a `clap` command that has the options of its row takes the
 /// others: options in any order and between the CONFIG words, each at most once, as `--option VALUE` or
 /// `--option=VALUE`, and none behind `--`.
 ///
 /// `Refused` comes exactly where the first word is missing or names no command, where that `clap` command doesn't
 /// take the other words (as where they ask for help), where a number isn't 1 to 10 decimal digits within its range,
-/// or where a router isn't a dotted quad.
+/// where a router isn't a dotted quad, or where the word of `--by` is neither `line` nor `router`.
 ///
 /// # Errors
 ///

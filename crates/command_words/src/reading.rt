@@ -2,13 +2,14 @@
 ghost use Rattle.std.specs.Prelude.{◌≡◌, ◌≢◌, MatchResult, true, false};
 ghost use Rattle.clap.specs.Values.{kind_of};
 ghost use Rattle.command_words.specs.Commands.{takes_words, found_in, job_of_row, search_of, design_job, check_job, audit_job, rewrite_job};
-ghost use Rattle.command_words.specs.Commands.{trial_job, conflict_job, spread_job, total_job, lsas_job, route_job};
+ghost use Rattle.command_words.specs.Commands.{trial_job, conflict_job, spread_job, total_job, change_job, steps_job};
+ghost use Rattle.command_words.specs.Commands.{lsas_job, route_job};
 ghost use Rattle.command_words.specs.Forms.{row_of_command, found, Answers};
 ghost use Rattle.command_words.specs.Jobs.{search_seen, seen};
 ghost use Rattle.text_lines.specs.Arguments.{texts};
 
 use crate::table::{CommandName, simple_command};
-use crate::values::{configs, limits, may_number, must_number, router, text};
+use crate::values::{configs, limits, may_number, must_number, nodes, router, step_unit, text};
 use crate::{Job, Search, WordsStop};
 use clap::error::ErrorKind;
 use clap::{ArgMatches, Error};
@@ -67,6 +68,8 @@ fn job_of_values(
         CommandName::Conflict => conflict(alloc, matches),
         CommandName::Spread => spread(alloc, matches),
         CommandName::Total => total(alloc, matches),
+        CommandName::Change => change(alloc, matches),
+        CommandName::Steps => steps(alloc, matches),
         CommandName::Lsas => lsas(alloc, matches),
         CommandName::Route => route(alloc, matches),
     }
@@ -153,6 +156,30 @@ fn total(alloc: Global, matches: &ArgMatches<'_>) -> Result<Job, WordsStop>
 {
     let search = searched(alloc, matches)?;
     Ok(Job::Total(search))
+}
+
+fn change(alloc: Global, matches: &ArgMatches<'_>) -> Result<Job, WordsStop>
+    ensures { Answers (change_job (found matches.now)) seen result }
+{
+    let search = searched(alloc, matches)?;
+    Ok(Job::Change(search))
+}
+
+fn steps(alloc: Global, matches: &ArgMatches<'_>) -> Result<Job, WordsStop>
+    ensures { Answers (steps_job (found matches.now)) seen result }
+{
+    let nodes = nodes(matches).ok_or(WordsStop::Refused)?;
+    let by = step_unit(matches).ok_or(WordsStop::Refused)?;
+    let request = text(alloc, matches, "request")?;
+    let answer = text(alloc, matches, "answer")?;
+    let configs = configs(alloc, matches)?;
+    Ok(Job::Steps {
+        request,
+        answer,
+        nodes: nodes as u32,
+        by,
+        configs,
+    })
 }
 
 fn lsas(alloc: Global, matches: &ArgMatches<'_>) -> Result<Job, WordsStop>

@@ -20,6 +20,8 @@ pub(crate) enum CommandName {
     Conflict,
     Spread,
     Total,
+    Change,
+    Steps,
     Lsas,
     Route,
 }
@@ -32,7 +34,7 @@ enum ConfigWords {
     Several,
 }
 
-static NAMES: [CommandName; 10] = [
+static NAMES: [CommandName; 12] = [
     CommandName::Design,
     CommandName::Check,
     CommandName::Audit,
@@ -41,6 +43,8 @@ static NAMES: [CommandName; 10] = [
     CommandName::Conflict,
     CommandName::Spread,
     CommandName::Total,
+    CommandName::Change,
+    CommandName::Steps,
     CommandName::Lsas,
     CommandName::Route,
 ];
@@ -59,6 +63,8 @@ impl CommandName {
             CommandName::Conflict => "conflict",
             CommandName::Spread => "spread",
             CommandName::Total => "total",
+            CommandName::Change => "change",
+            CommandName::Steps => "steps",
             CommandName::Lsas => "lsas",
             CommandName::Route => "route",
         }
@@ -86,7 +92,7 @@ pub(crate) fn simple_command<'a>(
 {
     let word = name.word();
     match name {
-        CommandName::Design | CommandName::Conflict | CommandName::Total => {
+        CommandName::Design | CommandName::Conflict | CommandName::Total | CommandName::Change => {
             command(alloc, word, &["request"], &["nodes", "bits"], Several)
         }
         CommandName::Check => command(alloc, word, &["request", "answer"], &[], Several),
@@ -99,6 +105,15 @@ pub(crate) fn simple_command<'a>(
                 word,
                 &["request", "sets"],
                 &["nodes", "bits"],
+                Several,
+            )
+        }
+        CommandName::Steps => {
+            command(
+                alloc,
+                word,
+                &["request", "answer"],
+                &["nodes", "by"],
                 Several,
             )
         }

@@ -1,12 +1,13 @@
 //! The values that a command finds in the words.
-ghost use Rattle.std.specs.Prelude.{◌≡◌, ◌≤◌, IfOk, IfSome, map, option_map, option_and_then, string_bytes};
+ghost use Rattle.std.specs.Prelude.{◌≡◌, ◌≤◌, IfOk, IfSome, map, option_map, option_and_then, string_bytes, codes};
 ghost use Rattle.text_lines.specs.Numbers as numbers;
 ghost use Rattle.command_words.specs.Commands.{option_value, configs_found, number_between, number_or, limits};
+ghost use Rattle.command_words.specs.Commands.{nodes_found, step_unit, unit_named};
 ghost use Rattle.command_words.specs.Forms.{found, now_texts, Answers};
 ghost use Rattle.command_words.specs.Jobs.{bounds};
 ghost use Rattle.text_lines.specs.Arguments.{texts};
 
-use crate::WordsStop;
+use crate::{StepUnit, WordsStop};
 use clap::ArgMatches;
 use std::alloc::{AllocError, Global};
 use text_lines::{number, quad};
@@ -89,11 +90,39 @@ pub(crate) fn router(matches: &ArgMatches<'_>, name: &str) -> Option<u32>
     quad(value(matches, name)?.as_bytes())
 }
 
+/// The budget of nodes; None where it is off its range.
+pub(crate) fn nodes(matches: &ArgMatches<'_>) -> Option<u64>
+    ensures { result ≡ nodes_found (found matches.now) }
+{
+    may_number(matches, "nodes", 1, 10_000_000, 100_000)
+}
+
+/// What a step is; None where the word of `--by` is neither `line` nor `router`.
+pub(crate) fn step_unit(matches: &ArgMatches<'_>) -> Option<StepUnit>
+    ensures { result ≡ step_unit (option_value (codes "by") (found matches.now)) }
+{
+    match value(matches, "by") {
+        Some(word) => unit_named(word),
+        None => Some(StepUnit::Line),
+    }
+}
+
+/// The unit of steps that a word names; None exactly where it names none.
+fn unit_named(word: &str) -> Option<StepUnit>
+    ensures { result ≡ unit_named word.now }
+{
+    match word {
+        "line" => Some(StepUnit::Line),
+        "router" => Some(StepUnit::Router),
+        _ => None,
+    }
+}
+
 /// The limits of a search; None where one is off its range.
 pub(crate) fn limits(matches: &ArgMatches<'_>) -> Option<Limits>
     ensures { option_map bounds result ≡ limits (found matches.now) }
 {
-    let nodes = may_number(matches, "nodes", 1, 10_000_000, 100_000)?;
+    let nodes = nodes(matches)?;
     let bits = may_number(matches, "bits", 28, 127, 127)?;
     Limits::new(nodes, Top::new(bits as u32)?)
 }

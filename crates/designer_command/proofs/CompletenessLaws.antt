@@ -11,17 +11,11 @@ use Rattle.cost_base.specs.Files.{count_of_name}
 use Rattle.cost_base.specs.Outside.{Rose}
 use Rattle.cost_base.specs.Histories.{Taken, CountsFailures, failure, failures}
 use Rattle.design_problem.specs.declared.answer.CapTree.{CapTree}
-use Rattle.design_problem.specs.declared.answer.Costs.{Costs}
+use Rattle.design_problem.specs.declared.answer.CostLine.{CostLine}
 use Rattle.design_problem.specs.Problems.{DesignProblem}
 use Rattle.design_problem.specs.Rows.{AreBestCosts}
-use Rattle.design_problem.specs.Answers.{AnswerParts}
 use Rattle.design_problem.specs.ProblemLaws.{HasNoFit}
-use Rattle.design_problem.specs.Text.{text}
-use Rattle.answer_lines.specs.Grammar.{AtHead}
-use Rattle.evidence_reader.specs.Refusals.{IsTextRefused}
-use Rattle.evidence_text.specs.AnswerValues.{IsAnswerValue}
-use Rattle.evidence_reader.proofs.OneAnswer.{texts_tell}
-use Rattle.evidence_reader.proofs.NoRefusal.{texts_read}
+use Rattle.sections_reader.proofs.SaidCosts.{said_once, said_read}
 use Rattle.least_bound.specs.Answered.{UnfinishedAt}
 use Rattle.config_writer.specs.Rewriting.{first_missing}
 use Rattle.command_words.specs.Jobs.{Bounds, JobRead}
@@ -31,8 +25,8 @@ use Rattle.trial_maker.specs.TrialTexts.{made_trial}
 use Rattle.input_files.specs.Readings.{Reading, Take, Refused, Ready, End, Says, Faulty, Failed, too_long, OnCame, EndsAs}
 use Rattle.input_files.specs.Outcomes.{Input}
 use Rattle.input_files.proofs.Readings.{failed, faulty_failed, file_as, said_failed}
-use Rattle.evidence_commands.specs.declared.rejection.Rejection.{Rejection}
-use Rattle.evidence_commands.specs.Checks.{IsTextOf, MayCheck}
+use Rattle.report_writer.specs.declared.rejection.Rejection.{Rejection}
+use Rattle.evidence_commands.specs.Checks.{MayCheck}
 use Rattle.evidence_commands.specs.Rewrites.{IsUnfit, new_costs, MayRewrite}
 use Rattle.design_commands.specs.Designs.{IsDesigned, IsShownImpossible, IsShownUndecided, MayDesign}
 use Rattle.design_commands.specs.Trials.{MayTry, MayTryEnd, trial_end, trial_limits}
@@ -102,28 +96,23 @@ designs_accepted limits d aim printed (inr is) may names answer came end bytes e
     let shown : IsShownImpossible limits d.problem printed = subst (λ (s : Status). MayDesign limits d s printed) is may in
     accepted names answer came (record { problem = d.problem; bytes = printed }) shown.answer end bytes ends shown.value shown.spelled shown.valid h
 
--- answers with one text have the same costs
-same_costs : (bytes : List ℕ) (a b : AnswerParts) → IsAnswerValue a → bytes ≡ text a → IsTextOf bytes b → b.costs ≡ a.costs
-same_costs bytes a b value spelled said = ap (λ (x : AnswerParts). x.costs) (texts_tell b a said.value.fits value.fits (sym said.spelled ∙ spelled))
+some_lines : (x y : List CostLine) → Some x ≡ Some y → x ≡ y
+some_lines x y e = cc
 
-some_costs : (x y : Costs) → Some x ≡ Some y → x ≡ y
-some_costs x y e = cc
-
-none_some : (x : Costs) → None ≡ Some x → ⊥
+none_some : (x : List CostLine) → Some x ≡ None → ⊥
 none_some x e = cc
 
 pub written : HeadedCostsAreWritten
-written config answer came r a costs end bytes ends value spelled printed headed h =
+written config answer came r costs end bytes ends said headed h =
     only_done _ MayRewrite came r end bytes own_rewrite (λ h. h) (λ h. h) (λ h. fit h.0 h.1) ends h
   where
     fit : (rejection : Rejection) → IsUnfit r rejection → ⊥
-    fit rejection (inl off) = texts_read a off.fault rejection.place value
-        (subst (λ (bs : List ℕ). IsTextRefused AtHead 0 bs off.fault rejection.place) spelled off.refused)
-    fit rejection (inr (inl without)) = none_some costs (sym without.none ∙ same_costs r.bytes a without.answer value spelled without.said ∙ printed)
+    fit rejection (inl off) = said_read r.bytes (Some costs) off.fault rejection.place said off.refused
+    fit rejection (inr (inl without)) = none_some costs (said_once r.bytes (Some costs) None said without.none)
     fit rejection (inr (inr missing)) =
         missing.missing
-        (subst (λ (cs : Costs). first_missing (new_costs r.config cs.lines) r.config.bytes ≡ None)
-        (some_costs costs missing.costs (sym printed ∙ sym (same_costs r.bytes a missing.answer value spelled missing.said) ∙ missing.printed)) headed)
+        (subst (λ (cs : List CostLine). first_missing (new_costs r.config cs) r.config.bytes ≡ None)
+        (some_lines costs missing.costs (said_once r.bytes (Some costs) (Some missing.costs) said missing.said)) headed)
 
 abbrev mark : Bool → ℕ
 mark b = cond b 1 0
@@ -185,6 +174,8 @@ no_read_fault (Some (read.Trial blocks start)) came bytes counted h = try_failed
 no_read_fault (Some (read.Conflict s)) came bytes counted h = none_failed _ came bytes counted h
 no_read_fault (Some (read.Spread s sets)) came bytes counted h = none_failed _ came bytes counted h
 no_read_fault (Some (read.Total s)) came bytes counted h = none_failed _ came bytes counted h
+no_read_fault (Some (read.Change s)) came bytes counted h = none_failed _ came bytes counted h
+no_read_fault (Some (read.Steps request answer nodes by configs)) came bytes counted h = none_failed _ came bytes counted h
 no_read_fault (Some (read.Lsas request configs)) came bytes counted h = none_failed _ came bytes counted h
 no_read_fault (Some (read.Route lsas from to)) came bytes counted h = none_failed _ came bytes counted h
 

@@ -29,7 +29,7 @@ use Rattle.designer_command.proofs.OwnStatuses.{only_done, own_conflict, own_lsa
 
 -- `conflict`
 
-done_undecided : status.Done ≡ status.Undecided → ⊥
+pub done_undecided : status.Done ≡ status.Undecided → ⊥
 done_undecided is = cc
 
 unknown_conflict : (limits : Bounds) (p : DesignProblem) (bytes : List ℕ) → CannotSpendOnSets p limits.top limits.nodes →
@@ -54,7 +54,7 @@ conflicts_found limits names came d end bytes ends h =
     }) ends h
 
 -- a search found costs, or that there are none, or its budget was used up
-abbrev IsFound : Status → Type 0
+abbrev pub IsFound : Status → Type 0
 IsFound s = (s ≡ status.Done) ⊎ (s ≡ status.Impossible) ⊎ (s ≡ status.Undecided)
 
 -- `total`
@@ -84,19 +84,19 @@ totals_found limits names came d end bytes ends h =
 
 -- `spread`
 
-impossible_undecided : status.Impossible ≡ status.Undecided → ⊥
+pub impossible_undecided : status.Impossible ≡ status.Undecided → ⊥
 impossible_undecided is = cc
 
-undecided_done : status.Undecided ≡ status.Done → ⊥
+pub undecided_done : status.Undecided ≡ status.Done → ⊥
 undecided_done is = cc
 
-undecided_impossible : status.Undecided ≡ status.Impossible → ⊥
+pub undecided_impossible : status.Undecided ≡ status.Impossible → ⊥
 undecided_impossible is = cc
 
-impossible_done : status.Impossible ≡ status.Done → ⊥
+pub impossible_done : status.Impossible ≡ status.Done → ⊥
 impossible_done is = cc
 
-done_impossible : status.Done ≡ status.Impossible → ⊥
+pub done_impossible : status.Done ≡ status.Impossible → ⊥
 done_impossible is = cc
 
 fit_settles : (limits : Bounds) (sharing : Sharing) (bytes : List ℕ) → ShowsSpread limits sharing status.Done bytes → IsSpreadSettled sharing status.Done

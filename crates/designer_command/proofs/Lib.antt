@@ -3,3 +3,4 @@ pub mod Runs
 pub mod LargeBudgets
 pub mod CompletenessLaws
 pub mod FurtherCommands
+pub mod ChangeCommands

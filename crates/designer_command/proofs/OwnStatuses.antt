@@ -10,6 +10,9 @@ use Rattle.database_commands.specs.Lsas.{MayLsas}
 use Rattle.database_commands.specs.Routes.{MayRoute}
 use Rattle.path_commands.specs.Conflicts.{MayConflict}
 use Rattle.path_commands.specs.Spreads.{MaySpread}
+use Rattle.command_words.specs.declared.job.StepUnit.{StepUnit}
+use Rattle.change_commands.specs.Changes.{MayChange}
+use Rattle.change_commands.specs.Steps.{MaySteps}
 use Rattle.design_commands.specs.TotalRuns.{MayTotal}
 use Rattle.design_commands.specs.Trials.{MayTry}
 use Rattle.designer_command.specs.Runs.{OnSaid, MayAfter}
@@ -61,6 +64,24 @@ own_spread limits = record { refused = λ x bytes h. h; failed = λ x bytes h. h
 
 pub own_total : (limits : Bounds) → SaysItsOwn (MayTotal limits)
 own_total limits = record { refused = λ x bytes h. h; failed = λ x bytes h. h; unwritten = λ x bytes h. h; wanting = λ x bytes h. h; worded = λ x bytes h. h }
+
+pub own_change : (limits : Bounds) → SaysItsOwn (MayChange limits)
+own_change limits = record {
+  refused = λ x bytes h. h;
+  failed = λ x bytes h. h;
+  unwritten = λ x bytes h. h;
+  wanting = λ x bytes h. h;
+  worded = λ x bytes h. h;
+}
+
+pub own_steps : (nodes : ℕ) (by : StepUnit) → SaysItsOwn (MaySteps nodes by)
+own_steps nodes by = record {
+  refused = λ x bytes h. h;
+  failed = λ x bytes h. h;
+  unwritten = λ x bytes h. h;
+  wanting = λ x bytes h. h;
+  worded = λ x bytes h. h;
+}
 
 pub own_lsas : SaysItsOwn MayLsas
 own_lsas = record { refused = λ x bytes h. h; failed = λ x bytes h. h; unwritten = λ x bytes h. h; wanting = λ x bytes h. h; worded = λ x bytes h. h }

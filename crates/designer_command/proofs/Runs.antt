@@ -25,11 +25,13 @@ use Rattle.path_commands.specs.Spreads.{MaySpread}
 use Rattle.evidence_commands.specs.Checks.{MayCheck}
 use Rattle.evidence_commands.specs.Rewrites.{MayRewrite}
 use Rattle.design_commands.specs.Designs.{MayDesign}
+use Rattle.change_commands.specs.Changes.{MayChange}
+use Rattle.change_commands.specs.Steps.{MaySteps}
 use Rattle.design_commands.specs.TotalRuns.{MayTotal}
 use Rattle.trial_maker.specs.TrialTexts.{made_trial}
 use Rattle.design_commands.specs.Trials.{MayTryEnd, trial_end}
 use Rattle.designer_command.specs.Runs.{IsMadeAs, IsTried, OnSaid, MayAfter, MayReport, MayWrite, ReportsJob, WritesNothing, WritesAll, Writes}
-use Rattle.designer_command.proofs.OwnStatuses.{SaysItsOwn, own_audit, own_check, own_conflict, own_design, own_lsas, own_rewrite, own_route, own_spread, own_total}
+use Rattle.designer_command.proofs.OwnStatuses.{SaysItsOwn, own_audit, own_change, own_check, own_conflict, own_design, own_lsas, own_rewrite, own_route, own_spread, own_steps, own_total}
 
 said_after : {A : Type 0} (reading : Reading A) (may : A → Status → List ℕ → Type 0) (came : List Taken) (s : Status)
     (bytes : List ℕ) → SaysItsOwn may → OnSaid reading came may s bytes → MayAfter reading may came s bytes
@@ -83,6 +85,9 @@ done_after (read.Trial blocks start) came made result h r = trial_after blocks s
 done_after (read.Conflict s) came made result h r = report_after _ (MayConflict s.limits) came made result (own_conflict s.limits) h r
 done_after (read.Spread s sets) came made result h r = report_after _ (MaySpread s.limits) came made result (own_spread s.limits) h r
 done_after (read.Total s) came made result h r = report_after _ (MayTotal s.limits) came made result (own_total s.limits) h r
+done_after (read.Change s) came made result h r = report_after _ (MayChange s.limits) came made result (own_change s.limits) h r
+done_after (read.Steps request answer nodes by configs) came made result h r =
+    report_after _ (MaySteps nodes by) came made result (own_steps nodes by) h r
 done_after (read.Lsas request configs) came made result h r = report_after _ MayLsas came made result own_lsas h r
 done_after (read.Route lsas from to) came made result h r = report_after _ (MayRoute from to) came made result (own_route from to) h r
 
@@ -125,6 +130,8 @@ writes_none (Some (read.Trial blocks start)) came = (
 writes_none (Some (read.Conflict s)) came = (λ bytes h. h, λ bytes h. h)
 writes_none (Some (read.Spread s sets)) came = (λ bytes h. h, λ bytes h. h)
 writes_none (Some (read.Total s)) came = (λ bytes h. h, λ bytes h. h)
+writes_none (Some (read.Change s)) came = (λ bytes h. h, λ bytes h. h)
+writes_none (Some (read.Steps request answer nodes by configs)) came = (λ bytes h. h, λ bytes h. h)
 writes_none (Some (read.Lsas request configs)) came = (λ bytes h. h, λ bytes h. h)
 writes_none (Some (read.Route lsas from to)) came = (λ bytes h. h, λ bytes h. h)
 

@@ -1,15 +1,15 @@
 -- When a run has to answer, and may not refuse: laws over what came of its files.
-use Rattle.std.specs.Prelude.{◌≡◌, ◌⊎◌, ℕ, ◌+◌, ◌*◌, ◌≤◌, List, All, Contains, None, Some}
+use Rattle.std.specs.Prelude.{◌≡◌, ◌⊎◌, ℕ, ◌+◌, ◌*◌, ◌^◌, ◌≤◌, List, All, Contains, None, Some, length}
 use Rattle.cost_base.specs.declared.Status.{Status}
 use Rattle.cost_base.specs.declared.Status.TheVariants as status
 use Rattle.cost_base.specs.Histories.{Taken}
-use Rattle.input_files.specs.declared.problem.View.TheVariants.{AsRequested, AtPresent}
+use Rattle.input_files.specs.declared.problem.View.TheVariants.{AsRequested, BesidePresent, AtPresent}
 use Rattle.input_files.specs.Inputs.{InputFiles}
 use Rattle.input_files.specs.Readings.{Says, EndsAs}
 use Rattle.input_files.specs.Outcomes.{Input, outcome}
 use Rattle.design_problem.specs.declared.tree.Entry.{Entry}
 use Rattle.design_problem.specs.declared.tree.Entry.TheVariants.{Undone}
-use Rattle.design_problem.specs.declared.answer.Costs.{Costs}
+use Rattle.design_problem.specs.declared.answer.CostLine.{CostLine}
 use Rattle.design_problem.specs.declared.form.Row.{Row}
 use Rattle.design_problem.specs.Problems.{DesignProblem}
 use Rattle.design_problem.specs.Boxes.{capped, points}
@@ -24,6 +24,7 @@ use Rattle.command_words.specs.Jobs.{Bounds}
 use Rattle.trial_maker.specs.TrialTexts.{made_trial}
 use Rattle.config_writer.specs.Rewriting.{first_missing}
 use Rattle.evidence_commands.specs.Checks.{Claim, claim_read}
+use Rattle.sections_reader.specs.Texts.{SaysCosts}
 use Rattle.evidence_commands.specs.Rewrites.{Revision, new_costs, revision_read}
 use Rattle.path_commands.specs.Conflicts.{MayConflict}
 use Rattle.path_commands.specs.SetFiles.{AreSetsIn, Sharing, spread_read}
@@ -33,6 +34,16 @@ use Rattle.spread_sets.specs.Answers.{HasNoSpread}
 use Rattle.spread_sets.specs.Laws.{CannotSpendOnSpread}
 use Rattle.conflict_core.specs.Laws.{CannotSpendOnSets}
 use Rattle.least_total.specs.Totals.{IsFormWithin, LeadsWithin, forms_within}
+use Rattle.least_change.specs.Laws.{CannotSpendOnChanges}
+use Rattle.change_commands.specs.Changes.{MayChange, question_of}
+use Rattle.change_commands.specs.Plans.{Plan, plan_read, rollout_of, first_line_fault}
+use Rattle.change_commands.specs.Steps.{MaySteps}
+use Rattle.change_steps.specs.Kinds.{steps_between}
+use Rattle.change_steps.specs.Rollouts.{Rollout}
+use Rattle.change_steps.specs.Orders.{AreHeld, IsSafeOrder}
+use Rattle.sections_reader.specs.Texts.{SaysCosts}
+use Rattle.command_words.specs.declared.job.StepUnit.{StepUnit}
+use Rattle.design_problem.specs.declared.answer.CostLine.{CostLine}
 use Rattle.lsa_bytes.specs.declared.Lsa.{Lsa}
 use Rattle.database_commands.specs.Lsas.{MayLsas, identified_read}
 use Rattle.database_commands.specs.Routes.{MayRoute, route_read}
@@ -92,13 +103,13 @@ WellFormedInputIsAudited =
     (names : InputFiles) (came : List Taken) (d : Input) (end : Status) (bytes : List ℕ) →
     EndsAs (outcome AtPresent names) came (Says d) → MayAfter (outcome AtPresent names) MayAudit came end bytes → end ≡ status.Done
 
--- Where the files of a rewrite say a configuration and the text of an answer whose costs of its router are of interfaces
--- with heads in it, nothing may be written but the configuration with these costs.
+-- Where the files of a rewrite say a configuration and a text with costs, an answer's or another one, whose lines of its
+-- router are of interfaces with heads in it, nothing may be written but the configuration with these costs.
 abbrev pub HeadedCostsAreWritten : Type 0
 HeadedCostsAreWritten =
-    (config answer : List ℕ) (came : List Taken) (r : Revision) (a : AnswerParts) (costs : Costs) (end : Status) (bytes : List ℕ) →
-    EndsAs (revision_read config answer) came (Says r) → IsAnswerValue a → r.bytes ≡ text a → a.costs ≡ Some costs →
-    first_missing (new_costs r.config costs.lines) r.config.bytes ≡ None →
+    (config answer : List ℕ) (came : List Taken) (r : Revision) (costs : List CostLine) (end : Status) (bytes : List ℕ) →
+    EndsAs (revision_read config answer) came (Says r) → SaysCosts r.bytes (Some costs) →
+    first_missing (new_costs r.config costs) r.config.bytes ≡ None →
     MayAfter (revision_read config answer) MayRewrite came end bytes → end ≡ status.Done
 
 -- a budget of twice as many entries as the box at the greatest upper bound has points, less one
@@ -165,6 +176,37 @@ LargeBudgetsSuffice =
     EndsAs (outcome AsRequested names) came (Says d) → IsLarge limits d.problem → LargeBudgetIsEnough limits d.problem)
     × ((limits : Bounds) (names : InputFiles) (file : List ℕ) (came : List Taken) (sharing : Sharing) →
     EndsAs (spread_read names file) came (Says sharing) → IsLarge limits sharing.problem → CannotSpendOnSharing limits sharing)
+
+-- Where its files say a problem, `change` may write nothing but what it found: that is settled where the budget can't be used
+-- up for a set of variables that keep their present costs, or for a cover tree.
+abbrev pub ChangesAreFound : Type 0
+ChangesAreFound =
+    (limits : Bounds) (names : InputFiles) (came : List Taken) (d : Input) (end : Status) (bytes : List ℕ) →
+    EndsAs (outcome BesidePresent names) came (Says d) → MayAfter (outcome BesidePresent names) (MayChange limits) came end bytes →
+    ((end ≡ status.Done) ⊎ (end ≡ status.Impossible) ⊎ (end ≡ status.Undecided))
+    × (CannotSpendOnChanges (question_of limits d) → IsRunSettled d.problem end)
+
+-- Done where the steps have a safe order for the held paths, Impossible where they have none, and nothing else
+pub record AreStepsSettled (by : StepUnit) (plan : Plan) (lines : List CostLine) (end : Status) : Type 0 where
+  pub held : List ℕ
+  pub are_held : AreHeld (rollout_of by plan.input lines) held
+  pub either : (end ≡ status.Done) ⊎ (end ≡ status.Impossible)
+  pub order : (order : List ℕ) → IsSafeOrder (rollout_of by plan.input lines) held order → end ≡ status.Done
+  pub none : ((order : List ℕ) → IsSafeOrder (rollout_of by plan.input lines) held order → ⊥) → end ≡ status.Impossible
+
+-- the budget can't be used up: it has as many states as the steps between have sets
+abbrev pub CannotSpendOnSteps : ℕ → Rollout → Type 0
+CannotSpendOnSteps nodes r = (held : List ℕ) → AreHeld r held → 2 ^ length (steps_between r held) ≤ nodes
+
+-- Where its files say a network and a text with cost lines of its linked interfaces, none named twice, `steps` may write
+-- nothing but what it found: that is settled where the budget can't be used up.
+abbrev pub StepsAreFound : Type 0
+StepsAreFound =
+    (nodes : ℕ) (by : StepUnit) (names : InputFiles) (answer : List ℕ) (came : List Taken) (plan : Plan) (lines : List CostLine)
+    (end : Status) (bytes : List ℕ) → EndsAs (plan_read names answer) came (Says plan) → SaysCosts plan.bytes (Some lines) →
+    first_line_fault plan.input.database lines ≡ None → MayAfter (plan_read names answer) (MaySteps nodes by) came end bytes →
+    ((end ≡ status.Done) ⊎ (end ≡ status.Impossible) ⊎ (end ≡ status.Undecided))
+    × (CannotSpendOnSteps nodes (rollout_of by plan.input lines) → AreStepsSettled by plan lines end)
 
 -- Where the files of `lsas` say a problem, and each configuration a router ID of its own, nothing may be written but the LSAs.
 abbrev pub IdentifiedInputIsWritten : Type 0

@@ -5,9 +5,9 @@ use Rattle.cost_base.specs.declared.Status.{Status}
 use Rattle.cost_base.specs.declared.Status.TheVariants.{Done, Impossible, Undecided, InputRefused, ReadFault, WriteFault, OutOfMemory, WordsRefused, EvidenceRefused}
 use Rattle.cost_base.specs.Outside.{Rose, GotAll}
 use Rattle.cost_base.specs.Histories.{Taken, AreTold, CountsFailures}
-use Rattle.command_words.specs.Jobs.{JobRead, SearchRead, Design, Check, Audit, Rewrite, Trial, Conflict, Spread, Total, Lsas, Route}
+use Rattle.command_words.specs.Jobs.{JobRead, SearchRead, Design, Check, Audit, Rewrite, Trial, Conflict, Spread, Total, Change, Steps, Lsas, Route}
 use Rattle.command_words.specs.Commands.{job_of}
-use Rattle.input_files.specs.declared.problem.View.TheVariants.{AsRequested, AtPresent}
+use Rattle.input_files.specs.declared.problem.View.TheVariants.{AsRequested, BesidePresent, AtPresent}
 use Rattle.input_files.specs.Inputs.{InputFiles}
 use Rattle.input_files.specs.Readings.{Refusal, Reading, Says, Faulty, Failed, EndsAs, Gave}
 use Rattle.input_files.specs.declared.stop.Stop.{Stop}
@@ -25,6 +25,9 @@ use Rattle.path_commands.specs.Audits.{MayAudit}
 use Rattle.path_commands.specs.Conflicts.{MayConflict}
 use Rattle.path_commands.specs.SetFiles.{spread_read}
 use Rattle.path_commands.specs.Spreads.{MaySpread}
+use Rattle.change_commands.specs.Changes.{MayChange}
+use Rattle.change_commands.specs.Plans.{plan_read}
+use Rattle.change_commands.specs.Steps.{MaySteps}
 use Rattle.designer_command.specs.Usage.{usage}
 use Rattle.design_commands.specs.Designs.{MayDesign}
 use Rattle.design_commands.specs.Trials.{MayTrial}
@@ -83,6 +86,9 @@ MayWrite (Some (Trial blocks start)) came status bytes = (came ≡ []) × MayTri
 MayWrite (Some (Conflict s)) came status bytes = MayAfter (outcome AsRequested (searched s)) (MayConflict s.limits) came status bytes
 MayWrite (Some (Spread s sets)) came status bytes = MayAfter (spread_read (searched s) sets) (MaySpread s.limits) came status bytes
 MayWrite (Some (Total s)) came status bytes = MayAfter (outcome AsRequested (searched s)) (MayTotal s.limits) came status bytes
+MayWrite (Some (Change s)) came status bytes = MayAfter (outcome BesidePresent (searched s)) (MayChange s.limits) came status bytes
+MayWrite (Some (Steps request answer nodes by configs)) came status bytes =
+    MayAfter (plan_read (input_files_of request configs) answer) (MaySteps nodes by) came status bytes
 MayWrite (Some (Lsas request configs)) came status bytes = MayAfter (identified_read (input_files_of request configs)) MayLsas came status bytes
 MayWrite (Some (Route lsas from to)) came status bytes = MayAfter (route_read lsas from to) (MayRoute from to) came status bytes
 MayWrite None came status bytes = MayRefuse came status bytes
@@ -105,6 +111,9 @@ IsMadeAs (Trial blocks start) came made = (came ≡ []) × IsTried blocks start 
 IsMadeAs (Conflict s) came made = IsReadAs (outcome AsRequested (searched s)) came (MayReport (MayConflict s.limits)) made
 IsMadeAs (Spread s sets) came made = IsReadAs (spread_read (searched s) sets) came (MayReport (MaySpread s.limits)) made
 IsMadeAs (Total s) came made = IsReadAs (outcome AsRequested (searched s)) came (MayReport (MayTotal s.limits)) made
+IsMadeAs (Change s) came made = IsReadAs (outcome BesidePresent (searched s)) came (MayReport (MayChange s.limits)) made
+IsMadeAs (Steps request answer nodes by configs) came made =
+    IsReadAs (plan_read (input_files_of request configs) answer) came (MayReport (MaySteps nodes by)) made
 IsMadeAs (Lsas request configs) came made = IsReadAs (identified_read (input_files_of request configs)) came (MayReport MayLsas) made
 IsMadeAs (Route lsas from to) came made = IsReadAs (route_read lsas from to) came (MayReport (MayRoute from to)) made
 

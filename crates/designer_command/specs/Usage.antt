@@ -15,6 +15,8 @@ usage_lines =
     ∷ codes "       ospfcost total --request F [--nodes N] [--bits B] CONFIG.."
     ∷ codes "       ospfcost lsas --request F CONFIG.."
     ∷ codes "       ospfcost route --lsas L --from A.B.C.D --to A.B.C.D"
+    ∷ codes "       ospfcost change --request F [--nodes N] [--bits B] CONFIG.."
+    ∷ codes "       ospfcost steps --request F --answer A [--nodes N] [--by line|router] CONFIG.."
     ∷ []
 
 -- the text that tells how the program is called

@@ -1,7 +1,7 @@
 //! When a run has to answer: each law is the contract of a function, most of them of one that does nothing.
 ghost use Rattle.std.specs.Prelude.{◌≢◌};
-ghost use Rattle.designer_command.specs.Completeness.{ConflictsAreFound, DesignsAreAccepted, HeadedCostsAreWritten, IdentifiedInputIsWritten};
-ghost use Rattle.designer_command.specs.Completeness.{KnownRoutersAreRouted, LargeBudgetsSuffice, TrialsAreDesigned, SpreadsAreFound, TotalsAreFound};
+ghost use Rattle.designer_command.specs.Completeness.{ChangesAreFound, ConflictsAreFound, DesignsAreAccepted, HeadedCostsAreWritten, IdentifiedInputIsWritten};
+ghost use Rattle.designer_command.specs.Completeness.{KnownRoutersAreRouted, LargeBudgetsSuffice, TrialsAreDesigned, SpreadsAreFound, StepsAreFound, TotalsAreFound};
 ghost use Rattle.designer_command.specs.Completeness.{ValidAnswersAreAccepted, WellFormedInputIsAudited, WellFormedInputIsDesigned};
 
 use crate::run;
@@ -41,7 +41,7 @@ pub fn well_formed_input_is_audited()
     ensures { WellFormedInputIsAudited }
 {}
 
-/// A rewrite with an answer's costs, whose interfaces of the router have heads, may write nothing but the configuration.
+/// A rewrite with the costs of a text, whose interfaces of the router have heads, may write nothing but the configuration.
 pub fn headed_costs_are_written()
     ensures { HeadedCostsAreWritten }
 {}
@@ -61,6 +61,18 @@ pub fn spreads_are_found()
 /// So with `total`: where the budget can't be used up it writes that there are no fit costs exactly where there are none.
 pub fn totals_are_found()
     ensures { TotalsAreFound }
+{}
+
+/// `change` on well-formed input may write nothing but what it found: where the budget can't be used up it writes fit costs with
+/// the fewest changes where there are fit costs, and that there are none exactly where there are none.
+pub fn changes_are_found()
+    ensures { ChangesAreFound }
+{}
+
+/// `steps` on well-formed input and a text with costs of its interfaces may write nothing but what it found: where each set of
+/// steps may be tested it writes a safe order where there is one, and that there is none exactly where there is none.
+pub fn steps_are_found()
+    ensures { StepsAreFound }
 {}
 
 /// `lsas` on well-formed input with router IDs may write nothing but the LSAs.

@@ -7,6 +7,7 @@ ghost use Rattle.input_files.specs.Readings.{Gave};
 ghost use Rattle.input_files.specs.Stops.{files_named};
 ghost use Rattle.designer_command.specs.Runs.{IsMadeAs, IsTried, input_files_of};
 
+use change_commands::{StepsWords, change_report, steps_report};
 use command_words::Job;
 use cost_base::Shelf;
 use cut_advisors::Advisor;
@@ -76,6 +77,24 @@ pub(crate) fn job_report<'a, S: Shelf>(
         Job::Total(search) => {
             let words = files(&search.request, &search.configs);
             total_report(alloc, words, &search.limits, shelf, advisors)
+        }
+        Job::Change(search) => {
+            let words = files(&search.request, &search.configs);
+            change_report(alloc, words, &search.limits, shelf)
+        }
+        Job::Steps {
+            request,
+            answer,
+            nodes,
+            by,
+            configs,
+        } => {
+            let steps = StepsWords {
+                answer,
+                nodes: *nodes,
+                by: *by,
+            };
+            steps_report(alloc, files(request, configs), steps, shelf)
         }
         Job::Lsas { request, configs } => lsas_report(alloc, files(request, configs), shelf),
         Job::Route { lsas, from, to } => route_report(alloc, lsas, *from, *to, shelf),

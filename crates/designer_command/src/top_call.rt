@@ -26,6 +26,8 @@ usage: ospfcost design --request F [--nodes N] [--bits B] CONFIG..
        ospfcost total --request F [--nodes N] [--bits B] CONFIG..
        ospfcost lsas --request F CONFIG..
        ospfcost route --lsas L --from A.B.C.D --to A.B.C.D
+       ospfcost change --request F [--nodes N] [--bits B] CONFIG..
+       ospfcost steps --request F --answer A [--nodes N] [--by line|router] CONFIG..
 ";
 
 /// The report of words that are refused.
@@ -87,6 +89,15 @@ fn write_made<K: Sink>(made: Result<Report, OutOfMemory>, out: &mut K) -> Status
 ///
 /// `route --lsas L --from A.B.C.D --to A.B.C.D` reads a file of LSAs, as `lsas` writes them, and writes the least cost from one
 /// router to the other and where the first edges of the cheapest paths lead, with status `Done`.
+///
+/// `change --request F CONFIG..` writes the cost lines that differ from the present ones, of fit costs that change as few
+/// variables as any, with status `Done`; with `Impossible` that no costs are fit, and with `Undecided` what was found until
+/// the budget was used up. Each comes with its evidence.
+///
+/// `steps --request F --answer A CONFIG..` reads a text with costs after the other files. It writes an order of their lines, or
+/// of their routers, in which each path that is the only cheapest before and after stays so after each step, with status
+/// `Done`; with `Impossible` that there is none, and with `Undecided` that the budget of states was used up, each with what
+/// stops the next steps; else `rejected NUMBER PLACE`, with status `EvidenceRefused`.
 ///
 /// The advisors are asked where a box is shared out, and told of each entry of a tree. Whatever they answer, all of this
 /// holds. Some of the first may be gone after the call, since they answered out of range; every other is left in its place,

@@ -4,9 +4,12 @@ use Rattle.form_search.proofs.AdvisorLaws.{left_alike}
 use Rattle.text_lines.specs.Arguments.{texts}
 use Rattle.command_words.specs.Jobs.{bounds}
 use Rattle.command_words.specs.Jobs as read
-use Rattle.input_files.specs.declared.problem.View.TheVariants.{AsRequested, AtPresent}
+use Rattle.input_files.specs.declared.problem.View.TheVariants.{AsRequested, BesidePresent, AtPresent}
 use Rattle.input_files.specs.Outcomes.{outcome}
 use Rattle.input_files.specs.Stops.{files_named}
+use Rattle.change_commands.specs.Changes.{MayChange}
+use Rattle.change_commands.specs.Plans.{plan_read}
+use Rattle.change_commands.specs.Steps.{MaySteps}
 use Rattle.design_commands.specs.Designs.{MayDesign}
 use Rattle.design_commands.specs.TotalRuns.{MayTotal}
 use Rattle.path_commands.specs.Audits.{MayAudit}
@@ -110,6 +113,34 @@ returns-in-Total-clause-made g c =
     (files_made given (outcome AsRequested) (MayTotal limits) c.total_report.result (files_named c.files-words-in-Total.result)
     (input_files_of c.deref-in-Total.result.now (texts c.deref-in-Total-2.result.now)) c.files-words-in-Total.ensures
     c.total_report.ensures.read)
+
+pub returns-in-Change-clause-made : goal.returns-in-Change-clause-made
+returns-in-Change-clause-made g c =
+    let given = g.S.Shelf.gave c.args.shelf.now c.change_report.new.shelf in
+    let limits = bounds c.in-Change.search.limits in
+    job_made given c.args.job.now
+    (read.Change (record { request = c.deref-in-Change.result.now; limits = limits; configs = texts c.deref-in-Change-2.result.now }))
+    c.change_report.result (rw (c.in-Change.is, c.deref-in-Change.ensures, c.deref-in-Change-2.ensures.value) refl)
+    (files_made given (outcome BesidePresent) (MayChange limits) c.change_report.result (files_named c.files-words-in-Change.result)
+    (input_files_of c.deref-in-Change.result.now (texts c.deref-in-Change-2.result.now)) c.files-words-in-Change.ensures
+    c.change_report.ensures)
+
+pub returns-in-Change-clause-advisors : goal.returns-in-Change-clause-advisors
+returns-in-Change-clause-advisors g c = left_alike _ _ _ refl
+
+pub returns-in-Steps-clause-made : goal.returns-in-Steps-clause-made
+returns-in-Steps-clause-made g c =
+    let given = g.S.Shelf.gave c.args.shelf.now c.steps_report.new.shelf in
+    job_made given c.args.job.now
+    (read.Steps c.deref-in-Steps-2.result.now c.deref-in-Steps.result.now c.in-Steps.nodes c.in-Steps.by (texts c.deref-in-Steps-3.result.now))
+    c.steps_report.result
+    (rw (c.in-Steps.is, c.deref-in-Steps.ensures, c.deref-in-Steps-2.ensures, c.deref-in-Steps-3.ensures.value) refl)
+    (files_made given (λ names. plan_read names c.deref-in-Steps.result.now) (MaySteps c.in-Steps.nodes c.in-Steps.by) c.steps_report.result
+    (files_named c.files-in-Steps.result) (input_files_of c.deref-in-Steps-2.result.now (texts c.deref-in-Steps-3.result.now))
+    c.files-in-Steps.ensures c.steps_report.ensures)
+
+pub returns-in-Steps-clause-advisors : goal.returns-in-Steps-clause-advisors
+returns-in-Steps-clause-advisors g c = left_alike _ _ _ refl
 
 pub returns-in-Lsas-clause-made : goal.returns-in-Lsas-clause-made
 returns-in-Lsas-clause-made g c =

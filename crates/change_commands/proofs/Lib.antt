@@ -1,0 +1,10 @@
+pub mod ChangedLaws
+pub mod ChangeTexts
+pub mod PresentCosts
+pub mod ShortLines
+pub mod ChangeRuns
+pub mod ChangeEnds
+pub mod PlanLaws
+pub mod StepRuns
+pub mod StepTexts
+pub mod ChangesBack

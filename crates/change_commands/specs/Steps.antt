@@ -1,0 +1,157 @@
+-- The text of `steps`, and what the command may write.
+use Rattle.std.specs.Prelude.{◌≡◌, ℕ, ◌+◌, ◌⊎◌, List, [], ◌∷◌, ◌++◌, map, length, codes, slice_get, slice_index, slice_index_or, Option, None, Some}
+use Rattle.cost_base.specs.Decimal.{decimal}
+use Rattle.cost_base.specs.declared.Status.{Status}
+use Rattle.cost_base.specs.declared.Status.TheVariants as status
+use Rattle.lsdb_build.specs.declared.Linked.{Linked}
+use Rattle.lsdb_build.specs.Graphs.{Database}
+use Rattle.design_problem.specs.declared.answer.CostLine.{CostLine}
+use Rattle.design_problem.specs.Text.{spaced}
+use Rattle.text_lines.specs.Lines.{with_ends}
+use Rattle.evidence_reader.specs.declared.stop.AnswerFault.{AnswerFault}
+use Rattle.evidence_reader.specs.Refusals.{IsTextRefused, number_of as number_of_text}
+use Rattle.sections_reader.specs.Texts.{SaysCosts, start_of_bytes}
+use Rattle.change_steps.specs.declared.found.Barrier.{Barrier}
+use Rattle.change_steps.specs.declared.found.Barrier.TheVariants.{Path, Untested}
+use Rattle.change_steps.specs.declared.found.Blocked.{Blocked}
+use Rattle.change_steps.specs.declared.found.Stuck.{Stuck}
+use Rattle.change_steps.specs.declared.found.Outcome.{Outcome}
+use Rattle.change_steps.specs.declared.found.Outcome.TheVariants.{Order, NoOrder, Undecided}
+use Rattle.change_steps.specs.declared.found.Steps.{Steps}
+use Rattle.change_steps.specs.Rollouts.{CostMoves, Rollout, lines_of_step}
+use Rattle.change_steps.specs.Outcomes.{AreStepsFound}
+use Rattle.command_words.specs.declared.job.StepUnit.{StepUnit}
+use Rattle.command_words.specs.declared.job.StepUnit.TheVariants as unit
+use Rattle.report_writer.specs.declared.rejection.Rejection.{Rejection}
+use Rattle.report_writer.specs.declared.report.Report.{Report}
+use Rattle.report_writer.specs.Reports.{Reports}
+use Rattle.report_writer.specs.Texts.{rejected_line}
+use Rattle.change_commands.specs.declared.plan.LineFault.{LineFault}
+use Rattle.change_commands.specs.Plans.{Plan, first_line_fault, moves_of, number_of_line, rollout_of}
+
+-- the names of a link: its router and its interface
+abbrev pub link_router : Database → ℕ → List ℕ
+link_router d l = name_of (slice_get d.links l)
+  where
+    name_of : Option Linked → List ℕ
+    name_of None = []
+    name_of (Some link) = slice_index_or d.routers link.router []
+
+abbrev pub link_interface : Database → ℕ → List ℕ
+link_interface d l = name_of (slice_get d.links l)
+  where
+    name_of : Option Linked → List ℕ
+    name_of None = []
+    name_of (Some link) = link.interface
+
+-- the first link of a step
+abbrev pub link_of_step : CostMoves → ℕ → ℕ
+link_of_step m k = slice_index (lines_of_step m k) 0
+
+-- the words that name a step: `ROUTER INTERFACE`, or `ROUTER`
+abbrev pub step_name : StepUnit → Database → CostMoves → ℕ → List (List ℕ)
+step_name unit.Line d m k = link_router d (link_of_step m k) ∷ link_interface d (link_of_step m k) ∷ []
+step_name unit.Router d m k = link_router d (link_of_step m k) ∷ []
+
+-- the words of what a step does: `OLD NEW`, or how many lines change
+abbrev pub step_words : StepUnit → CostMoves → ℕ → List (List ℕ)
+step_words unit.Line m k =
+    decimal (slice_index m.present (link_of_step m k)) ∷ decimal (slice_index m.wanted (link_of_step m k)) ∷ []
+step_words unit.Router m k = decimal (length (lines_of_step m k)) ∷ []
+
+-- `step I ROUTER INTERFACE OLD NEW` or `step I ROUTER COUNT`, I counting the lines from 0
+abbrev pub step_line : StepUnit → Database → CostMoves → ℕ → ℕ → List ℕ
+step_line by d m i k = spaced (codes "step" ∷ decimal i ∷ step_name by d m k ++ step_words by m k)
+
+-- the lines of steps, from line i on
+abbrev pub step_lines_from : StepUnit → Database → CostMoves → ℕ → List ℕ → List (List ℕ)
+step_lines_from by d m i [] = []
+step_lines_from by d m i (k ∷ ks) = step_line by d m i k ∷ step_lines_from by d m (i + 1) ks
+
+-- `steps COUNT`, and the steps
+abbrev pub steps_lines : StepUnit → Database → CostMoves → List ℕ → List (List ℕ)
+steps_lines by d m order = spaced (codes "steps" ∷ decimal (length order) ∷ []) ∷ step_lines_from by d m 0 order
+
+-- the number of the path that is in the way of a step, or `untested`
+abbrev pub barrier_word : Barrier → List ℕ
+barrier_word (Path path) = decimal path
+barrier_word Untested = codes "untested"
+
+-- `stuck ROUTER INTERFACE PATH` or `stuck ROUTER PATH`
+abbrev pub stuck_line : StepUnit → Database → CostMoves → Blocked → List ℕ
+stuck_line by d m blocked = spaced (codes "stuck" ∷ step_name by d m blocked.step ++ barrier_word blocked.by ∷ [])
+
+-- `held COUNT I ..`
+abbrev pub held_line : List ℕ → List ℕ
+held_line held = spaced (codes "held" ∷ decimal (length held) ∷ map decimal held)
+
+-- the steps that were done, and what stops each other one
+abbrev pub stuck_lines : StepUnit → Database → CostMoves → Stuck → List (List ℕ)
+stuck_lines by d m stuck = steps_lines by d m stuck.done.items ++ map (stuck_line by d m) stuck.blocked.items
+
+-- the verdict, the held paths and the steps
+abbrev pub outcome_lines : StepUnit → Database → CostMoves → List ℕ → Outcome → List (List ℕ)
+outcome_lines by d m held (Order order) = codes "verdict order" ∷ held_line held ∷ steps_lines by d m order.items
+outcome_lines by d m held (NoOrder stuck) = codes "verdict none" ∷ held_line held ∷ stuck_lines by d m stuck
+outcome_lines by d m held (Undecided stuck) = codes "verdict undecided" ∷ held_line held ∷ stuck_lines by d m stuck
+
+-- the text of `steps`
+abbrev pub steps_text : StepUnit → Database → CostMoves → Steps → List ℕ
+steps_text by d m steps =
+    with_ends (codes "ospfcost steps 1" ∷ outcome_lines by d m steps.held.items steps.outcome ++ codes "end" ∷ [])
+
+-- the status of a run that prints what was found
+abbrev pub outcome_status : Outcome → Status
+outcome_status (Order order) = status.Done
+outcome_status (NoOrder stuck) = status.Impossible
+outcome_status (Undecided stuck) = status.Undecided
+
+-- the report tells what was found of the steps of a rollout in these names
+pub record ReportsSteps (nodes : ℕ) (by : StepUnit) (d : Database) (r : Rollout) (report : Report) : Type 0 where
+  pub steps : Steps
+  pub found : AreStepsFound r nodes steps
+  pub reports : Reports (outcome_status steps.outcome) (steps_text by d r.moves steps) report
+
+-- The bytes are the text of what was found of the steps, which has this status: those from the present costs to the ones that
+-- the text of the plan says.
+pub record ShowsSteps (nodes : ℕ) (by : StepUnit) (plan : Plan) (aim : Status) (bytes : List ℕ) : Type 0 where
+  pub lines : List CostLine
+  pub said : SaysCosts plan.bytes (Some lines)
+  pub faultless : first_line_fault plan.input.database lines ≡ None
+  pub steps : Steps
+  pub found : AreStepsFound (rollout_of by plan.input lines) nodes steps
+  pub status : outcome_status steps.outcome ≡ aim
+  pub spelled : bytes ≡ steps_text by plan.input.database (moves_of by plan.input lines) steps
+
+-- the text is off its grammar
+pub record IsPlanOffGrammar (bytes : List ℕ) (rejection : Rejection) : Type 0 where
+  pub fault : AnswerFault
+  pub refused : IsTextRefused (start_of_bytes bytes) 0 bytes fault rejection.place
+  pub number : rejection.number ≡ number_of_text fault
+
+-- the text says that there are no costs
+pub record SaysNoCosts (bytes : List ℕ) (rejection : Rejection) : Type 0 where
+  pub said : SaysCosts bytes None
+  pub number : rejection.number ≡ 49
+  pub place : rejection.place ≡ 0
+
+-- a cost line of the text names no linked interface, or the interface of an earlier line
+pub record HasFaultyLine (plan : Plan) (rejection : Rejection) : Type 0 where
+  pub lines : List CostLine
+  pub said : SaysCosts plan.bytes (Some lines)
+  pub fault : LineFault
+  pub first : first_line_fault plan.input.database lines ≡ Some fault
+  pub number : rejection.number ≡ number_of_line fault
+  pub place : rejection.place ≡ 0
+
+-- why a plan is refused
+abbrev pub IsPlanRefused : Plan → Rejection → Type 0
+IsPlanRefused plan rejection = IsPlanOffGrammar plan.bytes rejection ⊎ SaysNoCosts plan.bytes rejection ⊎ HasFaultyLine plan rejection
+
+-- `steps`: a safe order; or that there is none; or that the budget was used up; else the text is refused
+abbrev pub MaySteps : ℕ → StepUnit → Plan → Status → List ℕ → Type 0
+MaySteps nodes by plan status.Done bytes = ShowsSteps nodes by plan status.Done bytes
+MaySteps nodes by plan status.Impossible bytes = ShowsSteps nodes by plan status.Impossible bytes
+MaySteps nodes by plan status.Undecided bytes = ShowsSteps nodes by plan status.Undecided bytes
+MaySteps nodes by plan status.EvidenceRefused bytes = (rejection : Rejection) × IsPlanRefused plan rejection × (bytes ≡ rejected_line rejection)
+MaySteps nodes by plan other bytes = ⊥

@@ -1,0 +1,125 @@
+//! `change`: the fewest changes of present costs for the requests of the files of words.
+ghost use Rattle.std.specs.Prelude.{◌≡◌, ℕ, ◌≤◌, IfOk};
+ghost use Rattle.command_words.specs.Jobs.{bounds};
+ghost use Rattle.input_files.specs.Readings.{Gave};
+ghost use Rattle.input_files.specs.Outcomes.{outcome};
+ghost use Rattle.input_files.specs.Stops.{IsReadAs, files_named};
+ghost use Rattle.design_problem.specs.Answers.{greatest_bound};
+ghost use Rattle.path_requests.specs.Meaning.{problem_of};
+ghost use Rattle.present_costs.specs.PresentCosts.{present_of_variables};
+ghost use Rattle.report_writer.specs.Reports.{Reports, bytes_in};
+ghost use Rattle.least_change.specs.Changes.{IsChangeFound};
+ghost use Rattle.change_commands.specs.Changes.{IsReportIn, MayChange, change_status, change_text};
+
+use crate::change_text::{fewest_text, impossible_text, undecided_text};
+use cost_base::{OutOfMemory, Shelf, Status};
+use cost_branching::keeps_conditions;
+use design_problem::{Problem, greatest_of};
+use input_files::{FileWords, Network, Stop, View, read_network};
+use least_change::{Change, change_count, find_change};
+use present_costs::present_of_variables;
+use report_writer::Report;
+use std::alloc::Global;
+use wide_fraction::Limits;
+
+/// The status of a run that prints this.
+fn status_of(change: &Change) -> Status
+    ensures { result ≡ change_status change.now }
+{
+    match change {
+        Change::Fewest { .. } => Status::Done,
+        Change::Impossible { .. } => Status::Impossible,
+        Change::Undecided { .. } => Status::Undecided,
+    }
+}
+
+/// The greatest upper bound of a problem's variables is a cost.
+fn keeps_ceiling(problem: &Problem)
+    ensures { greatest_bound problem.now ≤ 65535 }
+{
+    let _ceiling = greatest_of(problem.high.as_slice());
+}
+
+/// The text of what was found of the changes of a network's present costs.
+fn text_of_change(
+    alloc: Global,
+    network: &Network,
+    present: &[Option<u16>],
+    change: &Change,
+) -> Result<Vec<u8>, OutOfMemory>
+    requires built { network.now.problem ≡ problem_of network.now.requests network.now.lsdb }
+    requires present { present.now ≡ present_of_variables network.now.requests network.now.lsdb }
+    requires found { (top : ℕ) × (nodes : ℕ) × (nodes ≤ 10000000)
+        × IsChangeFound (record { problem = network.now.problem; present = present.now; top = top; nodes = nodes }) change.now }
+    ensures { IfOk result (λ text. text.items ≡ change_text network.now.requests network.now.lsdb network.now.problem change.now) }
+{
+    keeps_conditions(&network.problem);
+    keeps_ceiling(&network.problem);
+    match change {
+        Change::Fewest { costs, evidence } => {
+            let count = change_count(present, costs.as_slice());
+            fewest_text(alloc, network, count, costs, evidence)
+        }
+        Change::Impossible { rows, tree } => {
+            impossible_text(alloc, &network.problem, rows.as_slice(), tree)
+        }
+        Change::Undecided {
+            costs,
+            evidence,
+            open,
+        } => undecided_text(alloc, network, costs.as_ref(), evidence, open.as_ref()),
+    }
+}
+
+/// The report of what was found of the changes of a network's present costs.
+fn report_of_change(
+    alloc: Global,
+    network: &Network,
+    present: &[Option<u16>],
+    change: &Change,
+) -> Result<Report, OutOfMemory>
+    requires built { network.now.problem ≡ problem_of network.now.requests network.now.lsdb }
+    requires present { present.now ≡ present_of_variables network.now.requests network.now.lsdb }
+    requires found { (top : ℕ) × (nodes : ℕ) × (nodes ≤ 10000000)
+        × IsChangeFound (record { problem = network.now.problem; present = present.now; top = top; nodes = nodes }) change.now }
+    ensures { IfOk result (Reports (change_status change.now) (change_text network.now.requests network.now.lsdb network.now.problem change.now)) }
+{
+    let text = text_of_change(alloc, network, present, change)?;
+    Ok(Report::made(status_of(change), text))
+}
+
+/// The report of the changes of a network's present costs.
+fn report_of_network(
+    alloc: Global,
+    network: &Network,
+    limits: &Limits,
+) -> Result<Report, OutOfMemory>
+    requires { network.now.problem ≡ problem_of network.now.requests network.now.lsdb }
+    ensures { IfOk result (IsReportIn (bounds limits.now) network.now.requests network.now.lsdb network.now.problem) }
+{
+    keeps_ceiling(&network.problem);
+    let costs = present_of_variables(alloc, &network.requests, &network.lsdb, &network.problem)?;
+    let present = costs.as_slice();
+    let change = find_change(alloc, &network.problem, present, limits)?;
+    report_of_change(alloc, network, present, &change)
+}
+
+/// The report of `change` from the files of words: the text of what was found, with status 0 where it is fit costs that
+/// change as few variables of the present costs as any, 1 where no costs are fit, and 2 where the node budget was used up.
+///
+/// # Errors
+///
+/// The first fault of the files, the file that failed, or want of memory.
+pub fn change_report<'a, S: Shelf>(
+    alloc: Global,
+    words: FileWords<'a>,
+    limits: &Limits,
+    shelf: &mut S,
+) -> Result<Report, Stop<'a>>
+    ensures { Gave (S.gave shelf.old shelf.new)
+        (λ came. IsReadAs (outcome View.BesidePresent (files_named words.entry)) came
+        (λ report d. MayChange (bounds limits.now) d report.status (bytes_in report.text)) result) }
+{
+    let network = read_network(alloc, View::BesidePresent, words, shelf)?;
+    Ok(report_of_network(alloc, &network, limits)?)
+}

@@ -1,0 +1,120 @@
+//! The cost lines that differ from the present ones.
+ghost use Rattle.std.specs.Prelude.{◌≡◌, [], ◌++◌, slice_index_or, IfOk, OnOk};
+ghost use Rattle.area_graph.specs.Area.{edge_at};
+ghost use Rattle.lsdb_build.specs.Graphs.{IsAreaDatabase};
+ghost use Rattle.path_requests.specs.Meaning.{problem_of};
+ghost use Rattle.change_commands.specs.ChangedLines.{changed_lines, line_with, changed_cost};
+
+use area_graph::{Graph, Price};
+use cost_base::{Name, OutOfMemory};
+use design_problem::CostLine;
+use input_files::Network;
+use lsdb_build::{Linked, Lsdb};
+use path_requests::present_cost;
+use std::alloc::Global;
+
+/// The links of an area, in order.
+fn links_of(lsdb: &Lsdb) -> &[Linked]
+    ensures value { result.now ≡ lsdb.now.links }
+    ensures base { IsAreaDatabase lsdb.now }
+{
+    lsdb.links.as_slice()
+}
+
+/// The name of a router.
+fn router_name(lsdb: &Lsdb, router: u32) -> &[u8]
+    ensures { result.now ≡ slice_index_or lsdb.now.routers router [] }
+{
+    match lsdb.routers.as_slice().get(router as usize) {
+        Some(name) => name.as_bytes(),
+        None => &[],
+    }
+}
+
+/// The graph of a network's problem.
+fn graph_of(network: &Network) -> &Graph
+    ensures { result.now ≡ network.now.problem.graph }
+{
+    &network.problem.graph
+}
+
+/// The price of the link of a number.
+fn price_of_link(graph: &Graph, number: u32) -> Price
+    ensures { result ≡ (edge_at graph.now number).price }
+{
+    match graph.edges().get(number as usize) {
+        Some(edge) => edge.price,
+        None => Price::Zero,
+    }
+}
+
+/// The new cost of a link at this price, where it isn't the present one.
+fn changed_cost(price: Price, present: u16, costs: &[u16]) -> Option<u16>
+    ensures { result ≡ changed_cost price present costs.now }
+{
+    match price {
+        Price::Var(variable) => {
+            let cost = match costs.get(variable as usize) {
+                Some(cost) => *cost,
+                None => 0,
+            };
+            if present == cost { None } else { Some(cost) }
+        }
+        Price::Fixed(_) | Price::Zero => None,
+    }
+}
+
+/// The line that gives a link a cost.
+fn cost_line(alloc: Global, lsdb: &Lsdb, link: &Linked, cost: u16) -> Result<CostLine, OutOfMemory>
+    ensures { IfOk result (λ line. line ≡ record { router = slice_index_or lsdb.now.routers link.now.router []; interface = link.now.interface; cost = cost }) }
+{
+    Ok(CostLine {
+        router: Name::from_bytes(alloc, router_name(lsdb, link.router))?,
+        interface: Name::from_bytes(alloc, link.interface.as_bytes())?,
+        cost,
+    })
+}
+
+/// Adds the line of a link that has a new cost.
+fn push_changed(
+    alloc: Global,
+    lines: &mut Vec<CostLine>,
+    lsdb: &Lsdb,
+    link: &Linked,
+    cost: Option<u16>,
+) -> Result<(), OutOfMemory>
+    ensures { OnOk result (lines.new.items ≡ lines.old.items ++ line_with lsdb.now link.now cost) }
+{
+    if let Some(cost) = cost {
+        let line = cost_line(alloc, lsdb, link, cost)?;
+        lines.push(line)?;
+    }
+    Ok(())
+}
+
+/// The cost lines of a network that costs of its variables change: those of the free interfaces whose variable hasn't their
+/// present cost, in the order of the links. One pass over these.
+///
+/// # Errors
+///
+/// `OutOfMemory`.
+pub(crate) fn changed_lines(
+    alloc: Global,
+    network: &Network,
+    costs: &[u16],
+) -> Result<Vec<CostLine>, OutOfMemory>
+    requires { network.now.problem ≡ problem_of network.now.requests network.now.lsdb }
+    ensures { IfOk result (λ lines. lines.items ≡ changed_lines network.now.requests network.now.lsdb costs.now) }
+{
+    let graph = graph_of(network);
+    let mut lines = Vec::new(alloc);
+    for (i, link) in links_of(&network.lsdb).iter().enumerate() {
+        let cost = changed_cost(
+            price_of_link(graph, i as u32),
+            present_cost(&network.requests, link),
+            costs,
+        );
+        push_changed(alloc, &mut lines, &network.lsdb, link, cost)?;
+    }
+    Ok(lines)
+}

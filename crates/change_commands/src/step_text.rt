@@ -1,0 +1,298 @@
+//! The text of `steps`.
+ghost use Rattle.std.specs.Prelude.{◌≡◌, [], ◌∷◌, ◌++◌, codes, map, slice_index, IfOk, OnOk};
+ghost use Rattle.cost_base.specs.Decimal.{decimal};
+ghost use Rattle.text_lines.specs.Lines.{with_ends};
+ghost use Rattle.evidence_text.specs.Lines.{with_words};
+ghost use Rattle.change_steps.specs.Rollouts.{lines_of_step};
+ghost use Rattle.change_commands.specs.Steps.{barrier_word, held_line, link_interface, link_of_step, outcome_lines, link_router};
+ghost use Rattle.change_commands.specs.Steps.{step_line, step_name, step_words, steps_lines, steps_text, stuck_line, stuck_lines};
+
+use change_steps::{Barrier, Blocked, Moves, Outcome, Steps, Stuck};
+use command_words::StepUnit;
+use cost_base::OutOfMemory;
+use printed_parts::{push_line, push_word, push_words};
+use std::alloc::Global;
+use text_lines::{push_bytes, push_number};
+use wanted_paths::Names;
+
+/// Whose names and costs stand in the lines of steps, and what one step is.
+#[derive(Clone, Copy)]
+struct StepNames<'a> {
+    by: StepUnit,
+    names: &'a Names<'a>,
+    moves: &'a Moves,
+}
+
+/// The links of a step.
+fn links_of_step(moves: &Moves, step: usize) -> &[u32]
+    ensures { result.now ≡ lines_of_step moves.now step }
+{
+    match moves.steps.as_slice().get(step) {
+        Some(links) => links.as_slice(),
+        None => &[],
+    }
+}
+
+/// The first link of a step.
+fn link_of_step(moves: &Moves, step: usize) -> u32
+    ensures { result ≡ link_of_step moves.now step }
+{
+    match links_of_step(moves, step).first() {
+        Some(link) => *link,
+        None => 0,
+    }
+}
+
+/// The cost of a link among the costs of all.
+fn cost_of_link(costs: &[u16], link: u32) -> u16
+    ensures { result ≡ slice_index costs.now link }
+{
+    match costs.get(link as usize) {
+        Some(cost) => *cost,
+        None => 0,
+    }
+}
+
+/// The name of a link's router.
+fn router_of_link<'a>(names: &'a Names, link: u32) -> &'a [u8]
+    ensures { result.now ≡ link_router names.now link }
+{
+    match names.links().get(link as usize) {
+        Some(link) => names.router_name(link.router),
+        None => &[],
+    }
+}
+
+/// The name of a link's interface.
+fn interface_of_link<'a>(names: &'a Names, link: u32) -> &'a [u8]
+    ensures { result.now ≡ link_interface names.now link }
+{
+    match names.links().get(link as usize) {
+        Some(link) => link.interface.as_bytes(),
+        None => &[],
+    }
+}
+
+/// Adds a name behind a space.
+fn push_name(line: &mut Vec<u8>, name: &[u8]) -> Result<(), OutOfMemory>
+    ensures { OnOk result (line.new.items ≡ line.old.items ++ 32 ∷ name.now) }
+{
+    push_bytes(line, b" ")?;
+    push_bytes(line, name)
+}
+
+/// Adds a count behind a space.
+fn push_count(line: &mut Vec<u8>, count: usize) -> Result<(), OutOfMemory>
+    ensures { OnOk result (line.new.items ≡ line.old.items ++ 32 ∷ decimal count) }
+{
+    push_bytes(line, b" ")?;
+    push_number(line, count as u128)
+}
+
+/// Adds the words that name a step, each behind a space.
+fn push_step_name(line: &mut Vec<u8>, of: StepNames, step: usize) -> Result<(), OutOfMemory>
+    ensures { OnOk result (line.new.items ≡ with_words line.old.items (step_name of.entry.by of.entry.names.now of.entry.moves.now step)) }
+{
+    let link = link_of_step(of.moves, step);
+    push_name(line, router_of_link(of.names, link))?;
+    match of.by {
+        StepUnit::Line => push_name(line, interface_of_link(of.names, link)),
+        StepUnit::Router => Ok(()),
+    }
+}
+
+/// Adds the present and the wanted cost of a step's link, each behind a space.
+fn push_costs_of_step(line: &mut Vec<u8>, moves: &Moves, step: usize) -> Result<(), OutOfMemory>
+    ensures { OnOk result (line.new.items ≡ with_words line.old.items (step_words StepUnit.Line moves.now step)) }
+{
+    let link = link_of_step(moves, step);
+    push_word(
+        line,
+        u32::from(cost_of_link(moves.present.as_slice(), link)),
+    )?;
+    push_word(line, u32::from(cost_of_link(moves.wanted.as_slice(), link)))
+}
+
+/// Adds the words of what a step does, each behind a space.
+fn push_step_words(line: &mut Vec<u8>, of: StepNames, step: usize) -> Result<(), OutOfMemory>
+    ensures { OnOk result (line.new.items ≡ with_words line.old.items (step_words of.entry.by of.entry.moves.now step)) }
+{
+    match of.by {
+        StepUnit::Line => push_costs_of_step(line, of.moves, step),
+        StepUnit::Router => push_count(line, links_of_step(of.moves, step).len()),
+    }
+}
+
+/// The line of a step by its number among the lines.
+fn step_line(
+    alloc: Global,
+    of: StepNames,
+    number: usize,
+    step: usize,
+) -> Result<Vec<u8>, OutOfMemory>
+    ensures { IfOk result (λ line. line.items ≡ step_line of.entry.by of.entry.names.now of.entry.moves.now number step) }
+{
+    let mut line = Vec::from_slice(alloc, b"step")?;
+    push_count(&mut line, number)?;
+    push_step_name(&mut line, of, step)?;
+    push_step_words(&mut line, of, step)?;
+    Ok(line)
+}
+
+/// Adds the line of a step by its number among the lines.
+fn push_step(
+    alloc: Global,
+    text: &mut Vec<u8>,
+    of: StepNames,
+    number: usize,
+    step: usize,
+) -> Result<(), OutOfMemory>
+    ensures { OnOk result (text.new.items ≡ text.old.items ++ with_ends (step_line of.entry.by of.entry.names.now of.entry.moves.now number step ∷ [])) }
+{
+    let line = step_line(alloc, of, number, step)?;
+    push_line(text, line.as_slice())
+}
+
+/// Adds the line that tells how many steps there are.
+fn push_steps_count(alloc: Global, text: &mut Vec<u8>, count: usize) -> Result<(), OutOfMemory>
+    ensures { OnOk result (text.new.items ≡ text.old.items ++ with_ends ((codes "steps" ++ 32 ∷ decimal count) ∷ [])) }
+{
+    let mut line = Vec::from_slice(alloc, b"steps")?;
+    push_count(&mut line, count)?;
+    push_line(text, line.as_slice())
+}
+
+/// Adds the lines of steps.
+fn push_steps(
+    alloc: Global,
+    text: &mut Vec<u8>,
+    of: StepNames,
+    order: &[usize],
+) -> Result<(), OutOfMemory>
+    ensures { OnOk result (text.new.items ≡ text.old.items ++ with_ends (steps_lines of.entry.by of.entry.names.now of.entry.moves.now order.now)) }
+{
+    push_steps_count(alloc, text, order.len())?;
+    for (number, step) in order.iter().enumerate() {
+        push_step(alloc, text, of, number, *step)?;
+    }
+    Ok(())
+}
+
+/// Adds the word of what is in the way of a step, behind a space.
+fn push_barrier(line: &mut Vec<u8>, barrier: Barrier) -> Result<(), OutOfMemory>
+    ensures { OnOk result (line.new.items ≡ line.old.items ++ 32 ∷ barrier_word barrier) }
+{
+    match barrier {
+        Barrier::Path(path) => push_word(line, path),
+        Barrier::Untested => push_name(line, b"untested"),
+    }
+}
+
+/// The line of a step that can't follow.
+fn stuck_line(alloc: Global, of: StepNames, blocked: Blocked) -> Result<Vec<u8>, OutOfMemory>
+    ensures { IfOk result (λ line. line.items ≡ stuck_line of.entry.by of.entry.names.now of.entry.moves.now blocked) }
+{
+    let mut line = Vec::from_slice(alloc, b"stuck")?;
+    push_step_name(&mut line, of, blocked.step)?;
+    push_barrier(&mut line, blocked.by)?;
+    Ok(line)
+}
+
+/// Adds the line of a step that can't follow.
+fn push_blocked(
+    alloc: Global,
+    text: &mut Vec<u8>,
+    of: StepNames,
+    blocked: Blocked,
+) -> Result<(), OutOfMemory>
+    ensures { OnOk result (text.new.items ≡ text.old.items ++ with_ends (stuck_line of.entry.by of.entry.names.now of.entry.moves.now blocked ∷ [])) }
+{
+    let line = stuck_line(alloc, of, blocked)?;
+    push_line(text, line.as_slice())
+}
+
+/// Adds the lines of how far a search came.
+fn push_stuck(
+    alloc: Global,
+    text: &mut Vec<u8>,
+    of: StepNames,
+    stuck: &Stuck,
+) -> Result<(), OutOfMemory>
+    ensures { OnOk result (text.new.items ≡ text.old.items ++ with_ends (stuck_lines of.entry.by of.entry.names.now of.entry.moves.now stuck.now)) }
+{
+    push_steps(alloc, text, of, stuck.done.as_slice())?;
+    for blocked in stuck.blocked.as_slice() {
+        push_blocked(alloc, text, of, *blocked)?;
+    }
+    Ok(())
+}
+
+/// The line of the held paths.
+fn held_line(alloc: Global, held: &[u32]) -> Result<Vec<u8>, OutOfMemory>
+    ensures { IfOk result (λ line. line.items ≡ held_line held.now) }
+{
+    let mut line = Vec::from_slice(alloc, b"held")?;
+    push_count(&mut line, held.len())?;
+    push_words(&mut line, held)?;
+    Ok(line)
+}
+
+/// The first lines, up to that of the held paths.
+fn head_of(alloc: Global, verdict: &[u8], held: &[u32]) -> Result<Vec<u8>, OutOfMemory>
+    ensures { IfOk result (λ text. text.items ≡ with_ends (codes "ospfcost steps 1" ∷ verdict.now ∷ held_line held.now ∷ [])) }
+{
+    let held = held_line(alloc, held)?;
+    let mut text = Vec::new(alloc);
+    push_line(&mut text, b"ospfcost steps 1")?;
+    push_line(&mut text, verdict)?;
+    push_line(&mut text, held.as_slice())?;
+    Ok(text)
+}
+
+/// The text up to its last line.
+fn text_of_outcome(
+    alloc: Global,
+    of: StepNames,
+    held: &[u32],
+    outcome: &Outcome,
+) -> Result<Vec<u8>, OutOfMemory>
+    ensures { IfOk result (λ text. text.items ≡ with_ends (codes "ospfcost steps 1" ∷ outcome_lines of.entry.by of.entry.names.now of.entry.moves.now held.now outcome.now)) }
+{
+    match outcome {
+        Outcome::Order(order) => {
+            let mut text = head_of(alloc, b"verdict order", held)?;
+            push_steps(alloc, &mut text, of, order.as_slice())?;
+            Ok(text)
+        }
+        Outcome::NoOrder(stuck) => {
+            let mut text = head_of(alloc, b"verdict none", held)?;
+            push_stuck(alloc, &mut text, of, stuck)?;
+            Ok(text)
+        }
+        Outcome::Undecided(stuck) => {
+            let mut text = head_of(alloc, b"verdict undecided", held)?;
+            push_stuck(alloc, &mut text, of, stuck)?;
+            Ok(text)
+        }
+    }
+}
+
+/// The text of what was found of steps.
+///
+/// # Errors
+///
+/// `OutOfMemory`.
+pub(crate) fn text_of_steps(
+    alloc: Global,
+    by: StepUnit,
+    names: &Names,
+    moves: &Moves,
+    steps: &Steps,
+) -> Result<Vec<u8>, OutOfMemory>
+    ensures { IfOk result (λ text. text.items ≡ steps_text by names.now moves.now steps.now) }
+{
+    let of = StepNames { by, names, moves };
+    let mut text = text_of_outcome(alloc, of, steps.held.as_slice(), &steps.outcome)?;
+    push_line(&mut text, b"end")?;
+    Ok(text)
+}

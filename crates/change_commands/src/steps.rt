@@ -1,0 +1,210 @@
+//! `steps`: an order of the changes to a text's costs that keeps wanted paths in place.
+ghost use Rattle.std.specs.Prelude.{◌≡◌, ℕ, ◌<◌, ◌≤◌, Some, All, IfOk, length};
+ghost use Rattle.area_graph.specs.Costs.{IsPriced};
+ghost use Rattle.rival_separation.specs.Askers.{ArePathsOf};
+ghost use Rattle.design_problem.specs.Problems.{IsProblem};
+ghost use Rattle.evidence_reader.specs.Refusals.{IsReaderStop};
+ghost use Rattle.sections_reader.specs.Texts.{FitLines, SaysCosts, start_of_bytes};
+ghost use Rattle.present_costs.specs.AtCosts.{graph_by_links};
+ghost use Rattle.input_files.specs.Outcomes.{longest_answer};
+ghost use Rattle.input_files.specs.Readings.{Gave};
+ghost use Rattle.input_files.specs.Stops.{IsReadAs, files_named};
+ghost use Rattle.report_writer.specs.Reports.{bytes_in};
+ghost use Rattle.change_commands.specs.Plans.{IsAtPresent, IsPlanOf, Plan, plan_read};
+ghost use Rattle.change_commands.specs.Steps.{IsPlanRefused, MaySteps, ReportsSteps, outcome_status};
+
+use crate::plan::{moves_to, wanted_costs};
+use crate::step_text::text_of_steps;
+use change_steps::{Moves, Outcome, find_steps};
+use command_words::StepUnit;
+use cost_base::{Listed, OutOfMemory, Shelf, Status};
+use design_problem::{CostLine, Problem, Request};
+use evidence_reader::AnswerStop;
+use input_files::{FileWords, Network, Stop, View, read_answer_file, read_network};
+use present_costs::{costs_of_links, priced_by_links};
+use report_writer::{Rejection, Report, rejected_line_of};
+use sections_reader::read_costs;
+use std::alloc::Global;
+use wanted_paths::Names;
+
+/// What `steps` is asked besides its network: the file of the text with the costs, how many states may be tested, and what
+/// one step is.
+#[derive(Clone, Copy)]
+pub struct StepsWords<'a> {
+    /// The file of the text with the costs.
+    pub answer: &'a str,
+    /// How many states may be tested.
+    pub nodes: u32,
+    /// What one step is: a cost line, or all lines of a router.
+    pub by: StepUnit,
+}
+
+/// The status of a run that prints this.
+fn status_of(outcome: &Outcome) -> Status
+    ensures { result ≡ outcome_status outcome.now }
+{
+    match outcome {
+        Outcome::Order(_) => Status::Done,
+        Outcome::NoOrder(_) => Status::Impossible,
+        Outcome::Undecided(_) => Status::Undecided,
+    }
+}
+
+/// What the type of a problem keeps.
+fn keeps(problem: &Problem)
+    ensures { IsProblem problem.now }
+{
+    let _ = &problem.graph;
+}
+
+/// The requests of a problem.
+fn paths_of(problem: &Problem) -> &[Request]
+    ensures { result.now ≡ problem.now.paths }
+{
+    problem.paths.as_slice()
+}
+
+/// The report of a text that is refused.
+fn report_of_rejection(alloc: Global, rejection: Rejection) -> Result<Report, OutOfMemory>
+    ensures { IfOk result (λ report. (nodes : ℕ) (by : StepUnit) (plan : Plan) → IsPlanRefused plan rejection →
+        MaySteps nodes by plan report.status (bytes_in report.text)) }
+{
+    let text = rejected_line_of(alloc, rejection)?;
+    Ok(Report::made(Status::EvidenceRefused, text))
+}
+
+/// The report of a text that is off its grammar.
+fn report_of_stop(alloc: Global, stop: AnswerStop) -> Result<Report, OutOfMemory>
+    ensures { IfOk result (λ report. (nodes : ℕ) (by : StepUnit) (plan : Plan) → IsReaderStop (start_of_bytes plan.bytes) 0 plan.bytes stop →
+        MaySteps nodes by plan report.status (bytes_in report.text)) }
+{
+    match stop {
+        AnswerStop::Refused { fault, line } => {
+            let rejection = Rejection {
+                number: fault.number(),
+                place: u64::from(line),
+            };
+            report_of_rejection(alloc, rejection)
+        }
+        AnswerStop::OutOfMemory => Err(OutOfMemory),
+    }
+}
+
+/// The report of the steps of moves.
+fn report_of_moves(
+    alloc: Global,
+    network: &Network,
+    names: &Names,
+    moves: &Moves,
+    words: StepsWords,
+) -> Result<Report, OutOfMemory>
+    requires priced { All (λ edge. IsPriced (length moves.now.present) edge.price) (graph_by_links network.now.lsdb).edges }
+    requires paths { ArePathsOf (graph_by_links network.now.lsdb) network.now.problem.paths }
+    requires few { length network.now.problem.paths ≤ 10000 }
+    ensures { IfOk result (ReportsSteps words.entry.nodes words.entry.by names.now
+        (record { graph = graph_by_links network.now.lsdb; paths = network.now.problem.paths; moves = moves.now })) }
+{
+    let graph = priced_by_links(alloc, &network.lsdb)?;
+    let steps = find_steps(
+        alloc,
+        &graph,
+        paths_of(&network.problem),
+        moves,
+        words.nodes,
+    )?;
+    let text = text_of_steps(alloc, words.by, names, moves, &steps)?;
+    Ok(Report::made(status_of(&steps.outcome), text))
+}
+
+/// The report of the steps to the costs of lines.
+fn report_of_lines(
+    alloc: Global,
+    network: &Network,
+    lines: &[CostLine],
+    words: StepsWords,
+) -> Result<Report, OutOfMemory>
+    requires network { IsAtPresent network.now }
+    requires lines { All (λ line. 0 < line.cost) lines.now }
+    ensures { IfOk result (λ report. (plan : Plan) → IsPlanOf network.now plan → SaysCosts plan.bytes (Some lines.now) →
+        MaySteps words.entry.nodes words.entry.by plan report.status (bytes_in report.text)) }
+{
+    keeps(&network.problem);
+    let names = Names::new(alloc, &network.lsdb)?;
+    let present = costs_of_links(alloc, &network.requests, &network.lsdb)?;
+    match wanted_costs(alloc, &names, &present, lines)? {
+        Ok(wanted) => {
+            let moves = moves_to(alloc, words.by, &names, present, wanted)?;
+            report_of_moves(alloc, network, &names, &moves, words)
+        }
+        Err(fault) => {
+            let rejection = Rejection {
+                number: fault.number(),
+                place: 0,
+            };
+            report_of_rejection(alloc, rejection)
+        }
+    }
+}
+
+/// The report of the steps to the costs of a text, where it has costs.
+fn report_of_costs(
+    alloc: Global,
+    network: &Network,
+    costs: Option<Listed<CostLine>>,
+    words: StepsWords,
+) -> Result<Report, OutOfMemory>
+    requires network { IsAtPresent network.now }
+    requires lines { FitLines costs }
+    ensures { IfOk result (λ report. (plan : Plan) → IsPlanOf network.now plan → SaysCosts plan.bytes costs →
+        MaySteps words.entry.nodes words.entry.by plan report.status (bytes_in report.text)) }
+{
+    match costs {
+        Some(lines) => report_of_lines(alloc, network, lines.as_slice(), words),
+        None => report_of_rejection(
+            alloc,
+            Rejection {
+                number: 49,
+                place: 0,
+            },
+        ),
+    }
+}
+
+/// The report of the steps to the costs of a text.
+fn report_of_text(
+    alloc: Global,
+    network: &Network,
+    bytes: &[u8],
+    words: StepsWords,
+) -> Result<Report, OutOfMemory>
+    requires network { IsAtPresent network.now }
+    requires within { length bytes.now ≤ longest_answer }
+    ensures { IfOk result (λ report. (plan : Plan) → IsPlanOf network.now plan → plan.bytes ≡ bytes.now →
+        MaySteps words.entry.nodes words.entry.by plan report.status (bytes_in report.text)) }
+{
+    match read_costs(alloc, bytes) {
+        Ok(costs) => report_of_costs(alloc, network, costs, words),
+        Err(stop) => report_of_stop(alloc, stop),
+    }
+}
+
+/// The report of `steps` from the files of words, and after them the text with the costs: an order of its lines, or of its
+/// routers, in which each path that is the only cheapest before and after stays so after each step; that there is none; or
+/// that the budget of states was used up.
+///
+/// # Errors
+///
+/// `Stop`: a file failed or is too long, or the input has a fault; want of memory.
+pub fn steps_report<'a, S: Shelf>(
+    alloc: Global,
+    files: FileWords<'a>,
+    words: StepsWords<'a>,
+    shelf: &mut S,
+) -> Result<Report, Stop<'a>>
+    ensures { Gave (S.gave shelf.old shelf.new) (λ came. IsReadAs (plan_read (files_named files.entry) words.entry.answer.now) came
+        (λ report plan. MaySteps words.entry.nodes words.entry.by plan report.status (bytes_in report.text)) result) }
+{
+    let network = read_network(alloc, View::AtPresent, files, shelf)?;
+    let bytes = read_answer_file(alloc, shelf, words.answer)?;
+    Ok(report_of_text(alloc, &network, &bytes, words)?)
+}

@@ -1,0 +1,76 @@
+//! The program over the machine it runs on: the words that it was given, the machine's files, its standard output, and the
+//! line on a terminal that tells how far a search is.
+#![tactic(auto)]
+
+use command_words::{Job, read_words};
+use cost_base::{FileShelf, OutOfMemory, OutSink, Status};
+use cut_advisors::{Advisor, Progress, SmallestNumber};
+use designer_command::run_to_exit;
+use std::alloc::Global;
+use std::env::{self, Env};
+use std::io::{self, ErrorKind, IsTerminal};
+use std::process::ExitCode;
+
+/// The least number of seconds between two lines that tell how far a search is.
+const PAUSE: u64 = 5;
+
+/// The words after the program's name. Where one isn't UTF-8 there are none, so that the run tells its usage.
+fn words_given(rt: &(impl Env + AllocGlobal)) -> Result<Vec<String>, OutOfMemory> {
+    match env::args(rt) {
+        Ok(mut words) => {
+            let _program = words.next();
+            words.collect(rt.alloc()).map_err(|_| OutOfMemory)
+        }
+        Err(error) if error.kind() == ErrorKind::InvalidData => Ok(Vec::new(rt.alloc())),
+        Err(_) => Err(OutOfMemory),
+    }
+}
+
+/// How many entries a job allows a tree, where it is a search of which the advisors are told.
+fn budget_in(job: &Job) -> Option<u64> {
+    match job {
+        Job::Design(search) => Some(search.limits.nodes),
+        Job::Conflict(search) => Some(search.limits.nodes),
+        Job::Total(search) => Some(search.limits.nodes),
+        _ => None,
+    }
+}
+
+/// How many entries the words allow a tree, where they ask for such a search.
+fn budget_of(words: &[String], alloc: Global) -> Option<u64> {
+    match read_words(alloc, words) {
+        Ok(job) => budget_in(&job),
+        Err(_) => None,
+    }
+}
+
+/// The advisor that tells on standard error how far the search of these words is, where that is a terminal.
+fn progress_of(rt: &HostRuntime, words: &[String]) -> Option<Progress<HostRuntime>> {
+    if rt.stderr().is_terminal() {
+        Progress::begin(*rt, budget_of(words, rt.alloc())?, PAUSE)
+    } else {
+        None
+    }
+}
+
+/// Runs the words that the program was given over the machine's files and standard output, with the advisor that picks the
+/// first candidate. Behind it stands the one that tells how far the search is.
+fn run_program(rt: &HostRuntime) -> Result<ExitCode, OutOfMemory> {
+    let words = words_given(rt)?;
+    let mut advisors: Vec<Box<dyn Advisor>> = Vec::new(rt.alloc());
+    advisors.push(Box::new(rt.alloc(), SmallestNumber)?)?;
+    if let Some(progress) = progress_of(rt, &words) {
+        advisors.push(Box::new(rt.alloc(), progress)?)?;
+    }
+    let mut shelf = FileShelf::new(rt.alloc(), rt);
+    let mut out = OutSink::new(io::writer(rt));
+    Ok(run_to_exit(rt.alloc(), &words, &mut shelf, &mut out, &mut advisors))
+}
+
+/// Ends as the run does. Where there is no memory to begin it, it ends as a run does that has none.
+pub fn run_host(rt: &HostRuntime) -> ExitCode {
+    match run_program(rt) {
+        Ok(code) => code,
+        Err(OutOfMemory) => ExitCode::from(Status::OutOfMemory.number()),
+    }
+}
