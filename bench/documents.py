@@ -190,20 +190,20 @@ def check_names(claims):
 
 # Refusal numbers.
 
+NUMBER = re.compile(r"^[a-z_]*number_of[a-z_]* .*= (\d+)$")
+TABLE = re.compile(r"^[a-z_]+ .*= (\d+)$")
+
+
 def numbers_of_code():
-    """The numbers by which faults are written: those of the specs' tables."""
+    """The numbers by which faults are written: those of the specs' tables, of crates that the program stands on."""
     found = set()
+    below = reached(crates(), "ospfcost")
     for path in files_below("crates", ".antt"):
-        if re.search(r"/specs/(.*Numbers|Numbers)\.antt$", path) and "CapNumbers" not in path and "NewNumbers" not in path:
-            for line in text_of(path).splitlines():
-                number = re.match(r"^[a-z_]+ .*= (\d+)$", line)
-                if number:
-                    found.add(int(number.group(1)))
-    for path in files_below("crates/evidence_reader/specs", ".antt"):
-        for line in text_of(path).splitlines():
-            number = re.match(r"^[a-z_]*number_of[a-z_]* .*= (\d+)$", line)
-            if number:
-                found.add(int(number.group(1)))
+        name, _, rest = path.removeprefix("crates/").partition("/specs/")
+        if name not in below or not rest or "CapNumbers" in rest or "NewNumbers" in rest:
+            continue
+        form = TABLE if rest.endswith("Numbers.antt") else NUMBER
+        found |= {int(it.group(1)) for it in map(form.match, text_of(path).splitlines()) if it}
     return found - {0}
 
 
