@@ -1,9 +1,8 @@
 -- What the constants and a line of a kernel show of the table that it stands for.
-use Rattle.std.proofs.Common.{◌≡◌, ℕ, zero, suc, ◌+◌, ◌<◌, ◌≤◌, sym, ◌∙◌, ap, subst, List, [], length, arith}
+use Rattle.std.proofs.Common.{◌≡◌, ℕ, zero, suc, ◌+◌, ◌<◌, ◌≤◌, sym, ◌∙◌, ap, subst, List, length, arith}
 use Rattle.std.specs.Prelude.{ℤ, None, pos, ◌<ℤ◌, ◌≤ℤ◌, All}
-use Rattle.std.proofs.lemmas.List.{get_or_default}
 use Rattle.cost_base.proofs.ListLemmas.{get_or-map-numbers_from}
-use Rattle.whole_numbers.specs.Fractions.{Fraction, StandsFor}
+use Rattle.whole_numbers.specs.Fractions.{StandsFor}
 use Rattle.whole_numbers.specs.Lists.{number_at}
 use Rattle.design_problem.specs.Basis.{entry}
 use Rattle.design_problem.specs.Steps.{IsStuck}

@@ -1,6 +1,5 @@
 -- The lines of the box are the first ones.
-use Rattle.std.proofs.Common.{◌+◌, ◌<◌, ap, length, arith}
-use Rattle.std.specs.Prelude.{List}
+use Rattle.std.proofs.Common.{ap, length, arith}
 use Rattle.fraction_table.proofs.Pivots.{lines_long}
 use Rattle.fraction_table.proofs.table.Table.first_negative_bound.Goals as goal
 

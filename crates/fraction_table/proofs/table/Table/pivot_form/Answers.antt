@@ -1,7 +1,7 @@
 -- Where no form of the box has a negative constant, the shortest row is the pivot form, if there is one.
-use Rattle.std.proofs.Common.{ℕ, ◌+◌, ◌≡◌, ap, length, subst, sym}
-use Rattle.std.specs.Prelude.{List, Option, None, Some}
-use Rattle.fraction_table.specs.PivotForms.{IsFirstFound, IsPivotForm, IsShortestFound, row_constant, sign_at}
+use Rattle.std.proofs.Common.{ℕ, ◌+◌, ap, length, subst}
+use Rattle.std.specs.Prelude.{List}
+use Rattle.fraction_table.specs.PivotForms.{IsShortestFound, row_constant, sign_at}
 use Rattle.fraction_table.specs.PivotForms.IsPivotForm.{of_rows}
 use Rattle.fraction_table.proofs.PivotForms.{none_at_all}
 use Rattle.fraction_table.proofs.table.Table.pivot_form.Goals as goal

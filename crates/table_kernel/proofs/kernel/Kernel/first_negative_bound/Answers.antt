@@ -1,5 +1,5 @@
 -- The places of the box are the first ones.
-use Rattle.std.proofs.Common.{ap, length, arith}
+use Rattle.std.proofs.Common.{length, arith}
 use Rattle.fraction_table.proofs.Pivots.{members_long}
 use Rattle.table_kernel.proofs.kernel.Kernel.first_negative_bound.Goals as goal
 

@@ -1,5 +1,5 @@
 -- The rows' places stand behind those of the box.
-use Rattle.std.proofs.Common.{ap, length, arith}
+use Rattle.std.proofs.Common.{length, arith}
 use Rattle.fraction_table.proofs.Pivots.{members_long}
 use Rattle.table_kernel.proofs.kernel.Kernel.look_at_row.Goals as goal
 

@@ -1,5 +1,5 @@
 -- Where no form of the box has a negative constant, the shortest row is the pivot form, if there is one.
-use Rattle.std.proofs.Common.{ℕ, ◌+◌, ◌≡◌, ap, length, subst}
+use Rattle.std.proofs.Common.{ℕ, ◌+◌, ap, length, subst}
 use Rattle.whole_numbers.specs.Lists.{number_at}
 use Rattle.fraction_table.specs.PivotForms.{IsShortestFound, row_constant}
 use Rattle.fraction_table.specs.PivotForms.IsPivotForm.{of_rows}
