@@ -1,31 +1,26 @@
 #!/usr/bin/env python3
 """Runs `ospfcost design` and row generation by CBC and by GLPK on the same cases, one after the other.
 
-    compare.py [--program PATH] [--question design|change] [--cases small|whole] [--limit SECONDS] [--plot FILE]
-               [--case FOLDER ..]
+    compare.py [--program PATH] [--cases small|whole] [--limit SECONDS] [--plot FILE] [--case FOLDER ..]
 
 Prints a table: for each case the greatest cost, the user seconds of each, and how many times as long as `ospfcost` the
 solver took. The greatest costs are compared; where two differ, the script says so and ends with status 1. A run that
 passes the limit counts as `over`, and a table's ratio is then a lower bound. With --plot it also writes an SVG of how
-the times grow (it wants gnuplot). With --case it runs over folders that are there, such as examples/backbone. With
---question change it is `ospfcost change`, and CBC with a mark for each variable; the table has the fewest changes. A
-solver that isn't installed is left out.
+the times grow (it wants gnuplot). With --case it runs over folders that are there, such as examples/backbone.
 """
 import argparse
 import datetime
 import os
 import pathlib
 import platform
-import shutil
 import subprocess
 import sys
 import tempfile
 from dataclasses import dataclass
 
 import make_network
-from change_rows import change_count, put_changes
 from problem import read_problem
-from row_generation import TimeUp, generate, put_program, user_seconds
+from row_generation import SOLVERS, TimeUp, generate, user_seconds
 
 TOP = pathlib.Path(__file__).resolve().parents[1]
 PROGRAM = TOP / 'crates' / 'ospfcost' / 'out' / 'ospfcost'
@@ -37,41 +32,11 @@ LEAST = 0.001
 
 
 @dataclass
-class Question:
-    """A question: the command, its text's first line, the verdict that has a number, and what the number is; of the
-    solvers their names, what writes the program, and the number of costs."""
-    command: str
-    head: str
-    solved: str
-    number: str
-    solvers: tuple
-    put: object
-    count: object
-
-
-@dataclass
 class Run:
-    """What a run came to: the number that is least, `impossible`, `undecided` or `over`, and its user seconds."""
+    """What a run came to: the greatest cost, `impossible`, `undecided` or `over`, and its user seconds."""
     found: str
     seconds: float
     note: str = ''
-
-
-QUESTIONS = {
-    'design': Question('design', 'ospfcost answer 1', 'optimal', 'greatest cost', ('cbc', 'glpk'), put_program,
-                       lambda problem, costs: max(costs, default=0)),
-    'change': Question('change', 'ospfcost change 1', 'fewest', 'changes', ('cbc',), put_changes, change_count),
-}
-# The command of each solver.
-COMMANDS = {'cbc': 'cbc', 'glpk': 'glpsol'}
-
-
-def change_cases(kind):
-    """The cases with present costs, as those of `cases` with the number of costs that were drawn anew behind them."""
-    sizes = [(20, 20, 5), (30, 30, 5), (50, 50, 10)]
-    if kind == 'whole':
-        sizes += [(100, 100, 10), (200, 200, 5)]
-    return [('random', routers, paths, seed, 0, changed) for routers, paths, changed in sizes for seed in (1, 2)]
 
 
 def cases(kind):
@@ -88,30 +53,28 @@ def cases(kind):
     return found
 
 
-def run_program(question, program, request, configurations, limit, folder):
-    """One run of `ospfcost`."""
-    answer = os.path.join(folder, 'text.txt')
-    words = [program, question.command, '--request', request, *configurations]
+def run_design(program, request, configurations, limit, folder):
+    """One run of `ospfcost design`."""
+    answer = os.path.join(folder, 'design.txt')
     try:
         with open(answer, 'wb') as out:
-            seconds, status = user_seconds(words, limit, out)
+            seconds, status = user_seconds([program, 'design', '--request', request, *configurations], limit, out)
     except TimeUp:
         return Run('over', limit)
     with open(answer) as text:
-        head = [text.readline().strip() for _ in range(2)]
-    verdict = head[1].split()
-    if status not in (0, 1, 2) or head[0] != question.head:
+        head = [text.readline().split() for _ in range(2)]
+    if status not in (0, 1, 2) or head[0] != ['ospfcost', 'answer', '1']:
         sys.exit('%s ended with status %d' % (program, status))
-    return Run(verdict[2] if verdict[1] == question.solved else verdict[1], seconds)
+    return Run(head[1][2] if status == 0 else head[1][1], seconds)
 
 
-def run_solver(question, solver, problem, limit, folder):
+def run_solver(solver, problem, limit, folder):
     """One row generation."""
     try:
-        outcome = generate(problem, solver, folder, limit, question.put)
+        outcome = generate(problem, solver, folder, limit)
     except TimeUp:
         return Run('over', limit)
-    found = 'impossible' if outcome.costs is None else str(question.count(problem, outcome.costs))
+    found = 'impossible' if outcome.greatest is None else str(outcome.greatest)
     return Run(found, outcome.solver_seconds,
                '%d rounds, %d rows, %.1f s of search' % (outcome.rounds, outcome.rows, outcome.search_seconds))
 
@@ -128,19 +91,13 @@ def least_time(run):
     return best
 
 
-def solvers_of(question):
-    """The question's solvers that are installed."""
-    return [solver for solver in question.solvers if shutil.which(COMMANDS[solver])]
-
-
-def measure(question, program, request, configurations, limit):
+def measure(program, request, configurations, limit):
     """The runs of one case, by name."""
     problem = read_problem(request, configurations)
     with tempfile.TemporaryDirectory() as folder:
-        ours = least_time(lambda: run_program(question, program, request, configurations, limit, folder))
-        runs = {'ospfcost': ours}
-        for solver in solvers_of(question):
-            runs[solver] = least_time(lambda: run_solver(question, solver, problem, limit, folder))
+        runs = {'ospfcost': least_time(lambda: run_design(program, request, configurations, limit, folder))}
+        for solver in SOLVERS:
+            runs[solver] = least_time(lambda: run_solver(solver, problem, limit, folder))
     return problem, runs
 
 
@@ -168,9 +125,8 @@ def line_of(label, problem, runs):
     ours = runs['ospfcost']
     cells = [label, str(len(problem.routers)), str(len(problem.low)), str(len(problem.requests)), ours.found,
              seconds_of(ours)]
-    for solver in runs:
-        if solver != 'ospfcost':
-            cells += [seconds_of(runs[solver]), ratio(runs[solver], ours)]
+    for solver in SOLVERS:
+        cells += [seconds_of(runs[solver]), ratio(runs[solver], ours)]
     return '| ' + ' | '.join(cells) + ' |'
 
 
@@ -196,7 +152,7 @@ def plot(path, measured):
     for points, title, axis in ((by_routers, 'as many paths as routers, at most 100', 'routers'),
                                 (by_paths, '100 routers', 'paths')):
         points.sort(key=lambda point: point[0])
-        names = list(points[0][1]) if points else []
+        names = ['ospfcost', *SOLVERS]
         text += ["set title '%s'" % title, "set xlabel '%s'" % axis, 'plot '
                  + ', '.join("'-' with linespoints linewidth 2 title '%s'" % name for name in names)]
         for name in names:
@@ -209,36 +165,29 @@ def plot(path, measured):
 def main():
     words = argparse.ArgumentParser(description='Compares ospfcost with row generation by CBC and by GLPK.')
     words.add_argument('--program', default=str(PROGRAM))
-    words.add_argument('--question', choices=tuple(QUESTIONS), default='design')
     words.add_argument('--cases', choices=('small', 'whole'), default='small')
     words.add_argument('--limit', type=float, default=60.0)
     words.add_argument('--plot')
     words.add_argument('--case', nargs='+', default=[])
     asked = words.parse_args()
-    question = QUESTIONS[asked.question]
-    if asked.plot and question.command != 'design':
-        words.error('the picture is one of design')
     print(machine(), flush=True)
-    solvers = solvers_of(question)
-    names = ''.join(' %s s | times |' % solver for solver in solvers)
-    print('\n| network | routers | variables | paths | %s | ospfcost s |%s' % (question.number, names))
-    print('|---|---|---|---|---|---|' + '---|---|' * len(solvers), flush=True)
+    names = ' | '.join('%s s | times' % solver for solver in SOLVERS)
+    print('\n| network | routers | variables | paths | greatest cost | ospfcost s | %s |' % names)
+    print('|---|---|---|---|---|---|' + '---|---|' * len(SOLVERS), flush=True)
     measured, right = [], True
-    made = cases(asked.cases) if question.command == 'design' else change_cases(asked.cases)
     with tempfile.TemporaryDirectory() as folder:
-        waiting = [(folder_name, None) for folder_name in asked.case] or [(None, case) for case in made]
+        waiting = [(folder_name, None) for folder_name in asked.case] or [(None, case) for case in cases(asked.cases)]
         for given, case in waiting:
             if given is None:
                 label = '%s, seed %d%s' % (case[0], case[3], ', %d detours' % case[4] if case[4] else '')
-                label += ', %d drawn anew' % case[5] if case[5:] else ''
                 request, configurations = make_network.make(os.path.join(folder, '-'.join(map(str, case))), *case)
             else:
                 label = os.path.basename(given.rstrip('/'))
                 request = os.path.join(given, 'request.txt')
                 configurations = sorted(map(str, pathlib.Path(given).glob('*.conf')))
-            problem, runs = measure(question, asked.program, request, configurations, asked.limit)
+            problem, runs = measure(asked.program, request, configurations, asked.limit)
             print(line_of(label, problem, runs), flush=True)
-            for solver in solvers:
+            for solver in SOLVERS:
                 print('%s, %s: %s' % (label, solver, runs[solver].note), file=sys.stderr)
             if not agree(runs):
                 right = False

@@ -1,18 +1,15 @@
 #!/usr/bin/env python3
 """Makes a network with wanted paths, as configurations and a request that `ospfcost design` reads.
 
-    make_network.py FOLDER --kind KIND --routers N --paths Q --seed S [--changed C]
+    make_network.py FOLDER --kind KIND --routers N --paths Q --seed S
 
 Kinds: `random` (a random tree and then links between random routers, 3.5 links at each router on average),
 `grid` (as near to a square as N allows), `ring` (with a chord for each four routers), and `symmetric` (as `random`, and
 both ends of a link have one cost). The wanted paths are only cheapest paths between random routers under hidden random
 costs from 1 to 20, so there are costs that fit. With --detours D, D of them then avoid a link of theirs in place of
-that; whether costs fit is then open. With --changed C the configurations have present costs, which are the hidden ones
-but for C of them, and a quarter of the wanted paths, where so many are found, isn't the only cheapest at present. The
-same words make the same files.
+that; whether costs fit is then open. The same words make the same files.
 """
 import argparse
-import itertools
 import os
 import pathlib
 import random
@@ -83,14 +80,12 @@ def network_of(pairs, routers):
 
 
 def put_configurations(problem, folder):
-    """Writes a configuration for each router: the links k have the subnets 10.a.b.c/31, numbered by k. An interface with a
-    present cost gets its line."""
+    """Writes a configuration for each router: the links k have the subnets 10.a.b.c/31, numbered by k."""
     text = ['hostname %s\n!\n' % router for router in problem.routers]
     for edge, tail in enumerate(problem.tail):
         address = '10.%d.%d.%d' % (edge // 65536, edge // 256 % 256, edge % 256)
-        cost = ' ip ospf cost %d\n' % problem.present[edge] if problem.present else ''
-        text[tail] += ('interface %s\n ip address %s/31\n ip ospf area 0\n ip ospf network point-to-point\n%sexit\n!\n'
-                       % (problem.interface[edge], address, cost))
+        text[tail] += ('interface %s\n ip address %s/31\n ip ospf area 0\n ip ospf network point-to-point\nexit\n!\n'
+                       % (problem.interface[edge], address))
     paths = []
     for router, lines in zip(problem.routers, text):
         paths.append(os.path.join(folder, router + '.conf'))
@@ -109,30 +104,22 @@ def only_cheapest(problem, out, cost, far, start, target):
     return way
 
 
-def cheapest_pairs(problem, pairs, cost):
-    """Those of the pairs of routers between which there is an only cheapest path under these costs, each with that path."""
+def wanted_paths(problem, chance, cost, count):
+    """At most `count` only cheapest paths under these costs, between pairs of different routers."""
     into, out = problem.edges_into(), problem.edges_out()
-    far_to = {}
+    routers = len(problem.routers)
+    pairs = [(start, target) for start in range(routers) for target in range(routers) if start != target]
+    chance.shuffle(pairs)
+    paths, far_to = [], {}
     for start, target in pairs:
+        if len(paths) == count:
+            break
         if target not in far_to:
             far_to[target] = distances(problem, into, cost, target, frozenset(), frozenset())
         way = only_cheapest(problem, out, cost, far_to[target], start, target)
         if way is not None:
-            yield (start, target), way
-
-
-def wanted_paths(problem, chance, cost, count):
-    """At most `count` only cheapest paths under these costs, between pairs of different routers; where there are present
-    costs, first as many as may be, up to a quarter, that aren't only cheapest at present."""
-    routers = len(problem.routers)
-    pairs = [(start, target) for start in range(routers) for target in range(routers) if start != target]
-    chance.shuffle(pairs)
-    found = list(itertools.islice(cheapest_pairs(problem, pairs, cost), None if problem.present else count))
-    if problem.present:
-        now = dict(cheapest_pairs(problem, pairs, problem.present))
-        moved = [one for one in found if now.get(one[0]) != one[1]][:count // 4]
-        found = moved + [one for one in found if one not in moved]
-    return [way for _, way in found[:count]]
+            paths.append(way)
+    return paths
 
 
 def detour(problem, chance, cost, way):
@@ -158,7 +145,7 @@ def put_request(problem, paths, symmetric, folder):
     return path
 
 
-def make(folder, kind, routers, paths, seed, detours=0, changed=0):
+def make(folder, kind, routers, paths, seed, detours=0):
     """Makes the files of a network in a folder: the paths of the request and of the configurations."""
     os.makedirs(folder, exist_ok=True)
     chance = random.Random('%s %d %d %d %d' % (kind, routers, paths, detours, seed))
@@ -166,10 +153,6 @@ def make(folder, kind, routers, paths, seed, detours=0, changed=0):
     cost = [chance.randint(1, HIDDEN) for _ in problem.tail]
     if kind == 'symmetric':
         cost = [cost[edge - edge % 2] for edge in range(len(cost))]
-    if changed:
-        problem.present = list(cost)
-        for edge in chance.sample(range(len(cost)), min(changed, len(cost))):
-            cost[edge] = chance.randint(1, HIDDEN)
     wanted = wanted_paths(problem, chance, cost, paths)
     for place in chance.sample(range(len(wanted)), min(detours, len(wanted))):
         wanted[place] = detour(problem, chance, cost, wanted[place])
@@ -185,9 +168,8 @@ def main():
     words.add_argument('--paths', type=int, default=10)
     words.add_argument('--seed', type=int, default=1)
     words.add_argument('--detours', type=int, default=0)
-    words.add_argument('--changed', type=int, default=0)
     asked = words.parse_args()
-    make(asked.folder, asked.kind, asked.routers, asked.paths, asked.seed, asked.detours, asked.changed)
+    make(asked.folder, asked.kind, asked.routers, asked.paths, asked.seed, asked.detours)
 
 
 if __name__ == '__main__':

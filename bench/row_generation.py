@@ -21,9 +21,10 @@ class TimeUp(Exception):
 
 @dataclass
 class Outcome:
-    """What came of a row generation: the costs of the variables, None where there are none; rounds and rows; the user
+    """What came of a row generation: the greatest cost, None where there are no costs; rounds and rows; the user
     seconds of the solver's processes alone, and the seconds that the search for rivals took in this program."""
-    costs: object
+    greatest: object
+    costs: list
     rounds: int
     rows: int
     solver_seconds: float
@@ -130,23 +131,22 @@ def run_glpk(program, answer, limit, whole):
 SOLVERS = {'cbc': run_cbc, 'glpk': run_glpk}
 
 
-def generate(problem, solver, folder, limit, put=put_program):
-    """Row generation with this solver in at most `limit` user seconds of it; raises TimeUp past that. `put` writes the
-    program, with its objective."""
+def generate(problem, solver, folder, limit):
+    """Row generation with this solver in at most `limit` user seconds of it; raises TimeUp past that."""
     into, out = problem.edges_into(), problem.edges_out()
     program, answer = os.path.join(folder, 'program.lp'), os.path.join(folder, 'answer.txt')
     rows, seen = [], set()
     spent, searching, rounds = 0.0, 0.0, 0
     whole = False
     while True:
-        put(program, problem, rows, whole)
+        put_program(program, problem, rows, whole)
         point, seconds = SOLVERS[solver](program, answer, max(1.0, limit - spent), whole)
         spent += seconds
         rounds += 1
         if spent > limit:
             raise TimeUp()
         if point is None:
-            return Outcome(None, rounds, len(rows), spent, searching)
+            return Outcome(None, [], rounds, len(rows), spent, searching)
         values = [point.get('x%d' % variable, 0.0) for variable in range(len(problem.low))]
         if whole:
             values = [round(value) for value in values]
@@ -161,6 +161,6 @@ def generate(problem, solver, folder, limit, put=put_program):
                     more += 1
         searching += time.process_time() - began
         if more == 0 and whole:
-            return Outcome(values, rounds, len(rows), spent, searching)
+            return Outcome(max(values, default=0), values, rounds, len(rows), spent, searching)
         if more == 0:
             whole = True
