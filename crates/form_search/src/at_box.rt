@@ -122,24 +122,16 @@ fn at_box<S: RowSource>(
     requires true_forms { All (S.true_form source.old) pool.old }
     requires ranges { IsCostsBox (S.count source.old) costs.now }
     requires more { costs.now.low ≢ costs.now.high }
-    requires desk { IsDesk top (S.count source.old) pool.old desk.old }
+    requires desk { IsDesk (S.count source.old) desk.old }
     ensures next { IfOk result (λ next. (since : List (ℕ × Side)) →
         IsNextStep (S.accepted source.old) top pool.old pool.new (record { box = costs.now; since = since }) next) }
-    ensures desk { OnOk result (IsDesk top (S.count source.old) pool.new desk.new) }
+    ensures desk { OnOk result (IsDesk (S.count source.old) desk.new) }
     ensures grows { Grows (S.true_form source.old) pool.old pool.new }
     ensures in_step { OnOk result (S.in_step source.new pool.new) }
     ensures same { SameSource S.count S.accepted S.true_form S.candidates source.old source.new }
     ensures advisors { AreCalled ⟦<dyn Advisor as Advisor>⟧ (λ b. b.vtable) (λ b. state b) advisors.old.items advisors.new.items }
 {
-    match relax(
-        alloc,
-        source,
-        top,
-        pool,
-        costs,
-        &mut desk.table,
-        &mut desk.point,
-    )? {
+    match relax(alloc, source, top, pool, costs, &mut desk.point)? {
         Relaxed::Accepted => at_least_point(
             alloc,
             source,
@@ -168,9 +160,9 @@ pub(crate) fn next_at<S: RowSource>(
     requires true_forms { All (S.true_form source.old) pool.old }
     requires open { 0 < length tree.now.places }
     requires ranges { IsCostsBox (S.count source.old) (first_place tree.now.places).box }
-    requires desk { IsDesk top (S.count source.old) pool.old desk.old }
+    requires desk { IsDesk (S.count source.old) desk.old }
     ensures next { IfOk result (IsNextStep (S.accepted source.old) top pool.old pool.new (first_place tree.now.places)) }
-    ensures desk { OnOk result (IsDesk top (S.count source.old) pool.new desk.new) }
+    ensures desk { OnOk result (IsDesk (S.count source.old) desk.new) }
     ensures grows { Grows (S.true_form source.old) pool.old pool.new }
     ensures in_step { OnOk result (S.in_step source.new pool.new) }
     ensures same { SameSource S.count S.accepted S.true_form S.candidates source.old source.new }

@@ -7,7 +7,6 @@ use Rattle.design_problem.specs.OpenPlaces.{first_place}
 use Rattle.form_search.specs.declared.turn.Next.{Next}
 use Rattle.form_search.specs.Turns.{IsNextStep, IsWatch}
 use Rattle.form_search.proofs.AdvisorLaws.{left_alike}
-use Rattle.form_search.proofs.Relaxing.{kept_more}
 use Rattle.form_search.proofs.at_box.next_at.Goals as goal
 
 pub returns-in_err-entry-clause-advisors : goal.returns-in_err-entry-clause-advisors
@@ -27,11 +26,9 @@ pub returns-then-is_one_point-clause-desk : goal.returns-then-is_one_point-claus
 returns-then-is_one_point-clause-desk g c =
     let desk = c.requires.desk in
     let n = g.S.RowSource.count c.args.source.now in
-    let grows = c.at_one_point.ensures.grows in
     on_ok_weaker c.at_one_point.result
     (λ _. record {
       watch = subst (λ (m : ℕ). IsWatch m c.propagated.new.watch) c.requires.ranges.is_box.low_count c.propagated.ensures.watch;
-      table = kept_more c.args.top n c.args.pool.now c.at_one_point.new.pool grows.more c.args.desk.now.table grows.same desk.table;
       point = c.at_one_point.ensures.places ∙ desk.point;
     })
     c.at_one_point.ensures.in_step

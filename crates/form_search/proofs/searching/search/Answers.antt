@@ -31,7 +31,7 @@ boxes-init g c =
       growing =
           subst (λ (tree : Growing). IsGrowing (Accepted source) limits.top limits.nodes pool costs tree) (sym c.in_ok-tree.ensures.tree)
           (growing_start (Accepted source) limits.top limits.nodes pool costs);
-      desk = subst (λ (n : ℕ). IsDesk limits.top n pool desk) c.requires.ranges.low_count (c.in_ok-desk.ensures limits.top pool);
+      desk = subst (λ (n : ℕ). IsDesk n desk) c.requires.ranges.low_count c.in_ok-desk.ensures;
       grows = grows_none (IsTrue source) pool;
       same = same_alike g.S.RowSource.count Accepted IsTrue g.S.RowSource.candidates source;
       advisors = left_alike _ _ _ refl;
@@ -114,7 +114,7 @@ boxes-preserved g c =
           (g.S.RowSource.count source) c.boxes.pool now.pool costs tree c.in_ok-next.next turn.field-0 (Continue c.in-Continue.longer)
           c.requires.ranges was.same.same_points grows was.growing (c.is_open.ensures.0 c.boxes-test.true) next.next
           turn.ensures.outcome c.in-Continue.is;
-      desk = subst (λ (n : ℕ). IsDesk limits.top n now.pool now.desk) was.same.same_count next.desk;
+      desk = subst (λ (n : ℕ). IsDesk n now.desk) was.same.same_count next.desk;
       grows =
           grows_then (IsTrue source) (IsTrue c.boxes.source) c.args.pool.now c.boxes.pool now.pool was.same.same_forms
           was.grows grows;

@@ -9,7 +9,7 @@ abbrev pub invariant-boxes : goal.invariant-boxes
 invariant-boxes g l = record {
   in_step : g.S.RowSource.in_step l.source l.pool;
   growing : IsGrowing (g.S.RowSource.accepted l.initial.source) l.limits.top l.limits.nodes l.pool l.costs l.tree;
-  desk : IsDesk l.limits.top (g.S.RowSource.count l.initial.source) l.pool l.desk;
+  desk : IsDesk (g.S.RowSource.count l.initial.source) l.desk;
   grows : Grows (g.S.RowSource.true_form l.initial.source) l.initial.pool l.pool;
   same : SameSource g.S.RowSource.count g.S.RowSource.accepted g.S.RowSource.true_form g.S.RowSource.candidates l.initial.source l.source;
   advisors : AreAdvisorsLeft
