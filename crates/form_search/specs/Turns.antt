@@ -65,6 +65,16 @@ IsNextStep accepted top old new place Forms = HasNew old new
 IsNextStep accepted top old new place (Costs w) = IsInBox place.box w × accepted (at_costs w)
 IsNextStep accepted top old new place (ByEntry entry) = IsNextEntry accepted top new place entry
 
+-- no Split comes next
+abbrev pub IsUnsplit : Next → Type 0
+IsUnsplit Forms = Unit {0}
+IsUnsplit (Costs w) = Unit {0}
+IsUnsplit (ByEntry (Tighten var side value row)) = Unit {0}
+IsUnsplit (ByEntry (Split var value)) = ⊥
+IsUnsplit (ByEntry (Halve var value wide)) = Unit {0}
+IsUnsplit (ByEntry (Refute parts)) = Unit {0}
+IsUnsplit (ByEntry Undone) = Unit {0}
+
 -- a watch over n variables
 pub record IsWatch (n : ℕ) (watch : Watch) : Type 0 where
   pub lists : length watch.forms_of.items ≡ n

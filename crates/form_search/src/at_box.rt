@@ -1,13 +1,15 @@
 //! What comes next at the open box: by one form, by its least point, or by a cut.
-ghost use Rattle.std.specs.Prelude.{◌≡◌, ◌≢◌, ℕ, ◌<◌, List, length, All, IfOk, IfSome, OnOk};
+ghost use Rattle.std.specs.Prelude.{◌≡◌, ◌≢◌, ℕ, ◌<◌, List, length, slice_get, Some, All, IfOk, IfSome, OnOk};
 ghost use Rattle.area_graph.specs.declared.Point.{Point};
 ghost use Rattle.area_graph.specs.Costs.{at_costs};
 ghost use Rattle.design_problem.specs.declared.form.CostBox.{CostBox};
+ghost use Rattle.design_problem.specs.declared.tree.Entry.TheVariants.{Split};
 ghost use Rattle.design_problem.specs.declared.tree.Side.{Side};
 ghost use Rattle.design_problem.specs.Forms.{Form};
 ghost use Rattle.design_problem.specs.Boxes.{IsInBox, IsPointOf};
+ghost use Rattle.design_problem.specs.Earnest.{IsLeastPoint};
 ghost use Rattle.design_problem.specs.OpenPlaces.{first_place};
-ghost use Rattle.form_search.specs.Advised.{AreCalled};
+ghost use Rattle.form_search.specs.Advised.{AreAskedAt, AreAskedNext};
 ghost use Rattle.form_search.specs.Sources.{Grows, SameFor, SameSource};
 ghost use Rattle.form_search.specs.Points.{IsCostsBox, IsFractional, IsLeastOf, IsIntegralPoint};
 ghost use Rattle.form_search.specs.Turns.{IsDesk, IsNextStep, IsSplitAt};
@@ -55,7 +57,8 @@ fn costs_there<S: RowSource>(
 /// The Split at one of the candidates.
 fn split_at(candidates: &[Candidate], place: usize) -> Entry
     requires { place < length candidates.now }
-    ensures { (costs : CostBox) (point : Point) → All (IsFractional costs point) candidates.now → IsSplitAt costs point result }
+    ensures choice { (choice : Candidate) × (slice_get candidates.now place ≡ Some choice) × (result ≡ Split choice.var choice.floor) }
+    ensures fractional { (costs : CostBox) (point : Point) → All (IsFractional costs point) candidates.now → IsSplitAt costs point result }
 {
     let picked = candidates[place];
     Entry::Split {
@@ -76,7 +79,7 @@ fn split_there(
     requires inside { IsPointOf costs.now point.now }
     requires fractional { IsIntegralPoint point.now → ⊥ }
     ensures split { IfOk result (IsSplitAt costs.now point.now) }
-    ensures advisors { AreCalled ⟦<dyn Advisor as Advisor>⟧ (λ b. b.vtable) (λ b. state b) advisors.old.items advisors.new.items }
+    ensures asked { AreAskedAt ⟦<dyn Advisor as Advisor>⟧ (λ b. b.vtable) (λ b. state b) costs.now point.now result advisors.old.items advisors.new.items }
 {
     let candidates = candidates_of(alloc, point, costs, watch)?;
     let picked = choose(advisors, &candidates);
@@ -99,7 +102,8 @@ fn at_least_point<S: RowSource>(
     ensures point { point.new ≡ point.old }
     ensures in_step { SameFor (S.in_step source.old) (S.in_step source.new) }
     ensures same { SameSource S.count S.accepted S.true_form S.candidates source.old source.new }
-    ensures advisors { AreCalled ⟦<dyn Advisor as Advisor>⟧ (λ b. b.vtable) (λ b. state b) advisors.old.items advisors.new.items }
+    ensures asked { AreAskedNext ⟦<dyn Advisor as Advisor>⟧ (λ b. b.vtable) (λ b. state b)
+        (IsLeastPoint (S.accepted source.old)) costs.now result advisors.old.items advisors.new.items }
 {
     match costs_there(alloc, source, costs, point)? {
         Some(found) => Ok(Next::Costs(found)),
@@ -129,7 +133,8 @@ fn at_box<S: RowSource>(
     ensures grows { Grows (S.true_form source.old) pool.old pool.new }
     ensures in_step { OnOk result (S.in_step source.new pool.new) }
     ensures same { SameSource S.count S.accepted S.true_form S.candidates source.old source.new }
-    ensures advisors { AreCalled ⟦<dyn Advisor as Advisor>⟧ (λ b. b.vtable) (λ b. state b) advisors.old.items advisors.new.items }
+    ensures asked { AreAskedNext ⟦<dyn Advisor as Advisor>⟧ (λ b. b.vtable) (λ b. state b)
+        (IsLeastPoint (S.accepted source.old)) costs.now result advisors.old.items advisors.new.items }
 {
     match relax(alloc, source, top, pool, costs, &mut desk.point)? {
         Relaxed::Accepted => at_least_point(
@@ -166,7 +171,8 @@ pub(crate) fn next_at<S: RowSource>(
     ensures grows { Grows (S.true_form source.old) pool.old pool.new }
     ensures in_step { OnOk result (S.in_step source.new pool.new) }
     ensures same { SameSource S.count S.accepted S.true_form S.candidates source.old source.new }
-    ensures advisors { AreCalled ⟦<dyn Advisor as Advisor>⟧ (λ b. b.vtable) (λ b. state b) advisors.old.items advisors.new.items }
+    ensures asked { AreAskedNext ⟦<dyn Advisor as Advisor>⟧ (λ b. b.vtable) (λ b. state b)
+        (IsLeastPoint (S.accepted source.old)) (first_place tree.now.places).box result advisors.old.items advisors.new.items }
 {
     if let Some(entry) = propagated(alloc, pool, tree, &mut desk.watch)? {
         return Ok(Next::Entry(entry));
