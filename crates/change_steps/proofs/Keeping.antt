@@ -1,7 +1,7 @@
--- A path keeps being the only cheapest where no edge on it gets dearer and no other edge gets cheaper.
+-- A path keeps being the only cheapest where no edge on it gets dearer and none lies on a rival that gets too cheap.
 use Rattle.std.proofs.Common.{◌≡◌, ◌≢◌, ℕ, ◌+◌, ◌-◌, ◌<◌, ◌≤◌, refl, sym, ◌∙◌, ap, subst, List, [], ◌∷◌, map, length, inl, inr, ◌⊎◌, arith, All}
 use Rattle.std.specs.Prelude.{sum_by}
-use Rattle.std.proofs.lemmas.Bool.{cases_eq}
+use Rattle.std.proofs.lemmas.Bool.{cases_eq, cases_lt}
 use Rattle.std.proofs.lemmas.List.Sums.{sum_by-cons}
 use Rattle.std.proofs.lemmas.List.Elements.{All-head, All-tail}
 use Rattle.cost_base.specs.Lists.{Has, Lacks, NoneTwice}
@@ -128,20 +128,63 @@ known_if P (y ∷ ys) x all has = elim has [
   | inr later ↦ known_if P ys x (All-tail P y ys all) later
 ]
 
--- the only cheapest path stays so where no edge on it gets dearer and no other edge gets cheaper
+-- a walk whose edges' prices don't fall gets no cheaper
+pub pays_more : (g : Area) (p q : Point) (es : List ℕ) → ((e : ℕ) → paid g p e ≤ paid g q e) → cost g p es ≤ cost g q es
+pays_more g p q [] more = omega arith
+pays_more g p q (e ∷ es) more =
+    let old = sum_by-cons (paid g p) e es in
+    let new = sum_by-cons (paid g q) e es in
+    let here = more e in
+    let rest = pays_more g p q es more in
+    omega (arith, old, new, here, rest)
+
+-- some edge of a walk that isn't on a path gets cheaper, or none does
+falls_or_not : (g : Area) (p q : Point) (es walk : List ℕ) →
+    ((e : ℕ) → Has walk e → (Has es e → ⊥) → paid g p e ≤ paid g q e) ⊎ ((e : ℕ) × Has walk e × (Has es e → ⊥) × (paid g q e < paid g p e))
+falls_or_not g p q es [] = inl (λ e has. absurd has)
+falls_or_not g p q es (x ∷ xs) = elim (falls_or_not g p q es xs) [
+  | inr found ↦ inr (found.0, inr found.1, found.2, found.3)
+  | inl none ↦ elim (has_or_not es x) [
+    | inl there ↦ inl (λ e has away. elim has [ inl same ↦ absurd (away (subst (Has es) (sym same) there)) | inr later ↦ none e later away ])
+    | inr away ↦ elim (cases_lt (paid g q x) (paid g p x)) [
+      | inl less ↦ inr (x, inl refl, away, less)
+      | inr not_less ↦ inl (λ e has off. elim has [
+        | inl same ↦ subst (λ (y : ℕ). paid g p y ≤ paid g q y) (sym same) not_less
+        | inr later ↦ none e later off
+      ])
+    ]
+  ]
+]
+
+-- The only cheapest path stays so where no edge on it gets dearer, and each other edge gets no cheaper or lies on dearer
+-- paths alone.
+pub only_unless : (g : Area) (p q : Point) (ends : Ends) (es : List ℕ) → IsOnlyCheapest g p ends es →
+    ((e : ℕ) → Has es e → paid g q e ≤ paid g p e) →
+    ((e : ℕ) → e < length g.edges → (Has es e → ⊥) →
+    (paid g p e ≤ paid g q e) ⊎ ((other : List ℕ) → IsPathOf g ends other → Has other e → cost g q es < cost g q other)) → IsOnlyCheapest g q ends es
+only_unless g p q ends es only on off = record {
+  path = only.path;
+  others = λ other path differs.
+      let known = joined_known g ends.start other ends.end path.simple.joins in
+      elim (falls_or_not g p q es other) [
+        | inr found ↦ elim (off found.0 (known_if (λ i. i < length g.edges) other found.0 known found.1) found.2) [
+          | inl dearer ↦ let cheaper = found.3 in absurd (omega (arith, dearer, cheaper))
+          | inr over ↦ over other path found.1
+        ]
+        | inl none ↦
+            let before = only.others other path differs in
+            let mine = falls_all g p q es on in
+            let theirs = falls_by g p q other in
+            let less = sum_within (fallen g p q) other es (edges_once g ends other path) (λ e has. elim (has_or_not es e) [
+              | inl there ↦ inr there
+              | inr away ↦ let dearer = none e has away in inl (omega (arith, dearer))
+            ]) in
+            omega (arith, before, mine, theirs, less)
+      ];
+}
+
+-- so it does where no other edge gets cheaper
 pub only_kept : (g : Area) (p q : Point) (ends : Ends) (es : List ℕ) → IsOnlyCheapest g p ends es →
     ((e : ℕ) → Has es e → paid g q e ≤ paid g p e) →
     ((e : ℕ) → e < length g.edges → (Has es e → ⊥) → paid g p e ≤ paid g q e) → IsOnlyCheapest g q ends es
-only_kept g p q ends es only on off = record {
-  path = only.path;
-  others = λ other path differs.
-      let before = only.others other path differs in
-      let mine = falls_all g p q es on in
-      let theirs = falls_by g p q other in
-      let known = joined_known g ends.start other ends.end path.simple.joins in
-      let less = sum_within (fallen g p q) other es (edges_once g ends other path) (λ e has. elim (has_or_not es e) [
-        | inl there ↦ inr there
-        | inr away ↦ let dearer = off e (known_if (λ i. i < length g.edges) other e known has) away in inl (omega (arith, dearer))
-      ]) in
-      omega (arith, before, mine, theirs, less);
-}
+only_kept g p q ends es only on off = only_unless g p q ends es only on (λ e known away. inl (off e known away))

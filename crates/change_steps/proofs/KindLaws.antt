@@ -1,22 +1,18 @@
--- What the first and the last steps leave as it is, and what a step leaves that spares a path.
-use Rattle.std.proofs.Common.{◌≡◌, ℕ, ◌<◌, ◌≤◌, refl, sym, ◌∙◌, ap, subst, List, [], ◌∷◌, length, get_or, inl, inr, ◌⊎◌, arith, Bool, true, false, ◌&&◌, not, ltb-true, ltb-false}
+-- What the first and the last steps leave as it is.
+use Rattle.std.proofs.Common.{◌≡◌, ℕ, ◌<◌, ◌≤◌, refl, sym, ◌∙◌, ap, subst, List, [], ◌∷◌, length, get_or, inl, inr, ◌⊎◌, arith, Bool, true, false, not, ltb-true, ltb-false}
 use Rattle.std.specs.Prelude.{if◌then◌else◌}
 use Rattle.std.specs.List.{list_all}
 use Rattle.std.proofs.lemmas.Bool.{and_parts, cases_Bool, both_ways, false≢true, not-true}
 use Rattle.std.proofs.lemmas.List.Folds.{list_any_at}
 use Rattle.cost_base.specs.Lists.{Has}
 use Rattle.cost_base.proofs.ListLemmas.{same_test}
-use Rattle.area_graph.specs.declared.Price.TheVariants.{Var}
-use Rattle.area_graph.specs.Area.{edge_at}
-use Rattle.area_graph.proofs.Visits.{joined_known}
-use Rattle.design_problem.specs.Problems.{request_at, request_ends}
+use Rattle.design_problem.specs.Problems.{request_at}
 use Rattle.change_steps.specs.declared.kinds.Kind.TheVariants.{First, Between, Last}
 use Rattle.change_steps.specs.Rollouts.{CostMoves, IsRollout, Rollout, lines_of_step, step_count}
-use Rattle.change_steps.specs.Orders.{IsOnlyIn, IsSafe, cost_in, is_changed}
+use Rattle.change_steps.specs.Orders.{IsSafe, cost_in, is_changed}
 use Rattle.change_steps.specs.Kinds.{falls_off_held, goes_over, kind_of_step, lies_on_held, rises, rises_off_held}
-use Rattle.change_steps.specs.Search.{ArePricesApart, HasMore, spares}
-use Rattle.change_steps.proofs.Keeping.{has_or_not, known_if}
-use Rattle.change_steps.proofs.StateCosts.{changed_by, changed_if, changes_more, cost_changed, cost_left, goes_by, only_by_costs}
+use Rattle.change_steps.specs.Search.{HasMore}
+use Rattle.change_steps.proofs.StateCosts.{changed_by, changed_if, changes_more, cost_changed, cost_left, only_by_costs}
 
 list_all_has : (test : ℕ → Bool) (xs : List ℕ) (x : ℕ) → list_all test xs ≡ true → Has xs x → test x ≡ true
 list_all_has test [] x all has = absurd has
@@ -95,7 +91,7 @@ IsEased r held f g = (k : ℕ) → k < step_count r → (f k ≡ g k)
     ⊎ (((f k ≡ false) × (g k ≡ true) × (kind_of_step r held k ≡ First)) ⊎ ((f k ≡ true) × (g k ≡ false) × (kind_of_step r held k ≡ Last)))
 
 -- a cost of a changed variable, and of one that isn't, by whether it rises
-between_costs : (m : CostMoves) (f g : ℕ → Bool) (v : ℕ) → (is_changed m f v ≡ true → is_changed m g v ≡ false → rises m v ≡ false) →
+pub between_costs : (m : CostMoves) (f g : ℕ → Bool) (v : ℕ) → (is_changed m f v ≡ true → is_changed m g v ≡ false → rises m v ≡ false) →
     (is_changed m f v ≡ false → is_changed m g v ≡ true → rises m v ≡ true) → cost_in m f v ≤ cost_in m g v
 between_costs m f g v undone done = elim (cases_Bool (is_changed m f v)) [
   | inl f_is ↦
@@ -170,63 +166,9 @@ eased_safe r held f g is eased safe = λ i d within.
 
 -- One step more.
 
-stays_rising : (rising over apart : Bool) → (if rising then not over else (apart && over)) ≡ true → over ≡ true → (rising ≡ false) × (apart ≡ true)
-stays_rising true over apart spared on = absurd (both_ways over (not-true over spared) on)
-stays_rising false over apart spared on = (refl, (and_parts apart over spared).0)
-
-stays_falling : (rising over apart : Bool) → (if rising then not over else (apart && over)) ≡ true → rising ≡ false → (over ≡ true) × (apart ≡ true)
-stays_falling true over apart spared falls = absurd (false≢true (sym falls))
-stays_falling false over apart spared falls = let parts = and_parts apart over spared in (parts.1, parts.0)
-
 -- what one step more doesn't have stays as it was
 pub same_change : (r : Rollout) (f g : ℕ → Bool) (step v : ℕ) → HasMore r f g step → (Has (lines_of_step r.moves step) v → ⊥) →
     is_changed r.moves f v ≡ is_changed r.moves g v
 same_change r f g step v more away = same_test (is_changed r.moves f v) (is_changed r.moves g v)
     (changes_more r.moves f g v (λ k within is has. sym (more.others k (λ same. away (subst (λ (i : ℕ). Has (lines_of_step r.moves i) v) same has))) ∙ is))
     (changes_more r.moves g f v (λ k within is has. more.others k (λ same. away (subst (λ (i : ℕ). Has (lines_of_step r.moves i) v) same has)) ∙ is))
-
--- a path that a step spares stays the only cheapest after it
-pub spared_only : (r : Rollout) (f g : ℕ → Bool) (step k : ℕ) (apart : Bool) → IsRollout r → (apart ≡ true → ArePricesApart r.graph) →
-    HasMore r f g step → list_all (spares r apart (request_at r.paths k).path.edges) (lines_of_step r.moves step) ≡ true →
-    IsOnlyIn r f k → IsOnlyIn r g k
-spared_only r f g step k apart is apart_is more spared only =
-    only_by_costs r f g k is only
-    (λ v goes. elim (has_or_not (lines_of_step r.moves step) v) [
-      | inl has ↦
-          let falls = (stays_rising (rises r.moves v) (goes_over r.graph es v) apart (at v has) goes).0 in
-          between_costs r.moves g f v (λ g_is f_not. falls) (λ g_not f_is. absurd (both_ways (is_changed r.moves g v) g_not (changed v has)))
-      | inr away ↦
-          let same = same_change r f g step v more away in
-          between_costs r.moves g f v (λ g_is f_not. absurd (both_ways (is_changed r.moves f v) f_not (same ∙ g_is)))
-          (λ g_not f_is. absurd (both_ways (is_changed r.moves f v) (same ∙ g_not) f_is))
-    ])
-    (λ e v known off price. elim (has_or_not (lines_of_step r.moves step) v) [
-      | inl has ↦ between_costs r.moves f g v (λ f_is g_not. absurd (both_ways (is_changed r.moves g v) g_not (changed v has)))
-          (λ f_not g_is. rising e v known off price has)
-      | inr away ↦
-          let same = same_change r f g step v more away in
-          between_costs r.moves f g v (λ f_is g_not. absurd (both_ways (is_changed r.moves f v) (same ∙ g_not) f_is))
-          (λ f_not g_is. absurd (both_ways (is_changed r.moves f v) f_not (same ∙ g_is)))
-    ])
-  where
-    es : List ℕ
-    es = (request_at r.paths k).path.edges
-
-    at : (v : ℕ) → Has (lines_of_step r.moves step) v → spares r apart (request_at r.paths k).path.edges v ≡ true
-    at v has = list_all_has (spares r apart (request_at r.paths k).path.edges) (lines_of_step r.moves step) v spared has
-
-    changed : (v : ℕ) → Has (lines_of_step r.moves step) v → is_changed r.moves g v ≡ true
-    changed v has = changed_if r.moves g v step more.known more.done has
-
-    rising : (e v : ℕ) → e < length r.graph.edges → (Has (request_at r.paths k).path.edges e → ⊥) → (edge_at r.graph e).price ≡ Var v →
-        Has (lines_of_step r.moves step) v → rises r.moves v ≡ true
-    rising e v known off price has = elim (cases_Bool (rises r.moves v)) [
-      | inl rise ↦ rise
-      | inr falls ↦
-          let there = stays_falling (rises r.moves v) (goes_over r.graph (request_at r.paths k).path.edges v) apart (at v has) falls in
-          let by = goes_by r.graph (request_at r.paths k).path.edges v there.0 in
-          let other : by.0 < length r.graph.edges =
-          known_if (λ i. i < length r.graph.edges) (request_at r.paths k).path.edges by.0
-          (joined_known r.graph (request_ends (request_at r.paths k)).start (request_at r.paths k).path.edges (request_ends (request_at r.paths k)).end only.path.simple.joins) by.1 in
-          absurd (off (subst (Has (request_at r.paths k).path.edges) (apart_is there.1 by.0 e v other known by.2 price) by.1))
-    ]

@@ -1,4 +1,5 @@
 pub mod Keeping
+pub mod Passages
 pub mod StateCosts
 pub mod KindLaws
 pub mod MarkLaws
@@ -8,6 +9,7 @@ pub mod Counting
 pub mod SearchLaws
 pub mod HeldLaws
 pub mod StateLaws
+pub mod ReachLaws
 pub mod MarkedLaws
 pub mod PlanLaws
 pub mod TestedLaws

@@ -5,7 +5,6 @@ use Rattle.std.proofs.Math.Bool.{or_assoc}
 use Rattle.std.proofs.lemmas.Bool.{and_from, and_parts, both_ways, cases_lt, not_from_false, not-true, false≢true}
 use Rattle.std.proofs.lemmas.List.{drop_more, take-append-drop}
 use Rattle.std.proofs.lemmas.List.Folds.{list_any_at, list_any_more}
-use Rattle.area_graph.specs.declared.Price.TheVariants.{Var}
 use Rattle.area_graph.specs.Area.{Area, edge_at}
 use Rattle.area_graph.specs.Paths.{IsPathOf}
 use Rattle.area_graph.proofs.Visits.{joined_known}
@@ -18,7 +17,7 @@ use Rattle.change_steps.specs.Orders.{IsOnlyIn}
 use Rattle.change_steps.specs.Kinds.{comes_between, goes_over, kind_of_step, lies_on_held}
 use Rattle.change_steps.specs.States.{MayFollow, is_done_in}
 use Rattle.change_steps.specs.Outcomes.{IsFirstLost}
-use Rattle.change_steps.specs.Search.{AreHeldMarks, ArePricesApart}
+use Rattle.change_steps.specs.Search.{AreHeldMarks}
 
 -- Paths.
 
@@ -78,41 +77,6 @@ held_more_marked r held edges i marks new g within are graph edges_are count tol
       ∙ ap (λ (es : List ℕ). lies_on_held r (take i held) v || goes_over r.graph es v) edges_are
       ∙ sym (lies_more r held i v within);
 }
-
--- Prices.
-
--- the first n edges have variables of their own, which are marked
-pub record AreApartBelow (g : Area) (n : ℕ) (seen : List Bool) : Type 0 where
-  pub marked : (e v : ℕ) → e < n → (edge_at g e).price ≡ Var v → get_or seen v false ≡ true
-  pub apart : (e f v : ℕ) → e < n → f < n → (edge_at g e).price ≡ Var v → (edge_at g f).price ≡ Var v → e ≡ f
-
-pub none_apart : (g : Area) (seen : List Bool) → AreApartBelow g 0 seen
-none_apart g seen = record { marked = λ e v within. absurd (omega arith); apart = λ e f v within. absurd (omega arith) }
-
-pub apart_more : (g : Area) (n : ℕ) (seen new : List Bool) → AreApartBelow g n seen →
-    ((v : ℕ) → get_or seen v false ≡ true → get_or new v false ≡ true) →
-    ((v : ℕ) → (edge_at g n).price ≡ Var v → (get_or seen v false ≡ false) × (get_or new v false ≡ true)) → AreApartBelow g (n + 1) new
-apart_more g n seen new are kept fresh = record {
-  marked = λ e v within price. elim (cases_lt e n) [
-    | inl before ↦ kept v (are.marked e v before price)
-    | inr last ↦ (fresh v (ap (λ (i : ℕ). (edge_at g i).price) (let same : n ≡ e = omega (arith, within, last) in same) ∙ price)).1
-  ];
-  apart = λ e f v first second mine theirs. elim (cases_lt e n) [
-    | inl e_before ↦ elim (cases_lt f n) [
-      | inl f_before ↦ are.apart e f v e_before f_before mine theirs
-      | inr f_last ↦ absurd (both_ways (get_or seen v false)
-          (fresh v (ap (λ (i : ℕ). (edge_at g i).price) (let same : n ≡ f = omega (arith, second, f_last) in same) ∙ theirs)).0 (are.marked e v e_before mine))
-    ]
-    | inr e_last ↦ elim (cases_lt f n) [
-      | inl f_before ↦ absurd (both_ways (get_or seen v false)
-          (fresh v (ap (λ (i : ℕ). (edge_at g i).price) (let same : n ≡ e = omega (arith, first, e_last) in same) ∙ mine)).0 (are.marked f v f_before theirs))
-      | inr f_last ↦ omega (arith, first, second, e_last, f_last)
-    ]
-  ];
-}
-
-pub apart_all : (g : Area) (n : ℕ) (seen : List Bool) → AreApartBelow g n seen → length g.edges ≤ n → ArePricesApart g
-apart_all g n seen are past = λ e f v first second. are.apart e f v (omega (arith, past, first)) (omega (arith, past, second))
 
 -- Steps that may follow.
 

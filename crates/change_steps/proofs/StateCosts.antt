@@ -134,7 +134,7 @@ state_fits r done is = record {
 -- Prices.
 
 -- a price compares as the cost of its variable does
-price_le : (ws vs : List ℕ) (price : Price) → ((v : ℕ) → price ≡ Var v → get_or ws v 0 ≤ get_or vs v 0) →
+pub price_le : (ws vs : List ℕ) (price : Price) → ((v : ℕ) → price ≡ Var v → get_or ws v 0 ≤ get_or vs v 0) →
     price_at (at_costs ws) price ≤ price_at (at_costs vs) price
 price_le ws vs (Fixed c) each = omega arith
 price_le ws vs (Var v) each = each v refl
@@ -166,6 +166,16 @@ goes_by g (x ∷ xs) v goes = elim (or_cases (is_var v (edge_at g x).price) (goe
   | inr later ↦ let by = goes_by g xs v later in (by.0, inr by.1, by.2)
 ]
 
+-- the costs of two states compare as those of each variable
+pub costs_le : (m : CostMoves) (f g : ℕ → Bool) (v : ℕ) → cost_in m f v ≤ cost_in m g v → get_or (costs_in m f) v 0 ≤ get_or (costs_in m g) v 0
+costs_le m f g v less = elim (cases_lt v (length m.present)) [
+  | inl within ↦ let mine = cost_at m f v within in let theirs = cost_at m g v within in omega (arith, mine, theirs, less)
+  | inr past ↦
+      let mine = get_or_past (costs_in m f) v 0 (let count = length-costs_in m f in omega (arith, count, past)) in
+      let theirs = get_or_past (costs_in m g) v 0 (let count = length-costs_in m g in omega (arith, count, past)) in
+      omega (arith, mine, theirs)
+]
+
 -- in another state the path of a request stays the only cheapest where the costs of its variables don't rise, and those of
 -- edges off it don't fall
 pub only_by_costs : (r : Rollout) (f g : ℕ → Bool) (k : ℕ) → IsRollout r → IsOnlyIn r f k →
@@ -176,15 +186,6 @@ only_by_costs r f g k is only on off =
     only_kept r.graph (at_costs (costs_in r.moves f)) (at_costs (costs_in r.moves g)) (request_ends (request_at r.paths k))
     (request_at r.paths k).path.edges only
     (λ e has. price_le (costs_in r.moves g) (costs_in r.moves f) (edge_at r.graph e).price
-    (λ v price. at_both g f v (on v (goes_if r.graph (request_at r.paths k).path.edges e v has price))))
+    (λ v price. costs_le r.moves g f v (on v (goes_if r.graph (request_at r.paths k).path.edges e v has price))))
     (λ e known away. price_le (costs_in r.moves f) (costs_in r.moves g) (edge_at r.graph e).price
-    (λ v price. at_both f g v (off e v known away price)))
-  where
-    at_both : (h l : ℕ → Bool) (v : ℕ) → cost_in r.moves h v ≤ cost_in r.moves l v → get_or (costs_in r.moves h) v 0 ≤ get_or (costs_in r.moves l) v 0
-    at_both h l v less = elim (cases_lt v (length r.moves.present)) [
-      | inl within ↦ let mine = cost_at r.moves h v within in let theirs = cost_at r.moves l v within in omega (arith, mine, theirs, less)
-      | inr past ↦
-          let mine = get_or_past (costs_in r.moves h) v 0 (let count = length-costs_in r.moves h in omega (arith, count, past)) in
-          let theirs = get_or_past (costs_in r.moves l) v 0 (let count = length-costs_in r.moves l in omega (arith, count, past)) in
-          omega (arith, mine, theirs)
-    ]
+    (λ v price. costs_le r.moves f g v (off e v known away price)))

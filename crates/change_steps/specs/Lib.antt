@@ -4,4 +4,5 @@ pub mod Kinds
 pub mod States
 pub mod Outcomes
 pub mod Search
+pub mod Reaches
 pub mod Walks

@@ -1,26 +1,18 @@
 -- What a search for an order keeps. No public clause cites it.
 use Rattle.std.specs.Prelude.{◌≡◌, ◌≢◌, ℕ, nat_lt, ◌<◌, ◌≤◌, ◌&&◌, ◌++◌, ◌∷◌, ◌⊎◌, Bool, true, false, not, List, [], filter, length, map, take, slice_index_or, slice_set, All, Contains, if◌then◌else◌}
 use Rattle.cost_base.specs.Lists.{numbers_from}
-use Rattle.area_graph.specs.declared.Price.TheVariants.{Var}
-use Rattle.area_graph.specs.Area.{Area, edge_at}
 use Rattle.area_graph.specs.Costs.{at_costs}
 use Rattle.change_steps.specs.declared.found.Blocked.{Blocked}
 use Rattle.change_steps.specs.declared.kinds.Kind.{Kind}
 use Rattle.change_steps.specs.declared.kinds.Kind.TheVariants.{Between}
+use Rattle.change_steps.specs.declared.reach.Reach.{Reach}
 use Rattle.change_steps.specs.declared.state.State.{State}
 use Rattle.change_steps.specs.Rollouts.{IsRollout, Rollout, step_count}
 use Rattle.change_steps.specs.Orders.{AreHeld, IsSafe, IsSafeLine, costs_in, is_one_of}
-use Rattle.change_steps.specs.Kinds.{comes_between, comes_last, first_steps, goes_over, kind_of_step, lies_on_held, rises}
+use Rattle.change_steps.specs.Kinds.{comes_between, comes_last, first_steps, kind_of_step, lies_on_held}
 use Rattle.change_steps.specs.Outcomes.{IsBarrier, IsGreatest}
 use Rattle.change_steps.specs.States.{AreTested, MayFollow, is_done_in, marks_of}
-
--- no two edges have one variable
-abbrev pub ArePricesApart : Area → Type 0
-ArePricesApart g = (e f v : ℕ) → e < length g.edges → f < length g.edges → (edge_at g e).price ≡ Var v → (edge_at g f).price ≡ Var v → e ≡ f
-
--- the line takes nothing from a path: it rises off the path, or it falls on it, where no two edges have one variable
-abbrev pub spares : Rollout → Bool → List ℕ → ℕ → Bool
-spares r apart es v = if rises r.moves v then not (goes_over r.graph es v) else (apart && goes_over r.graph es v)
+use Rattle.change_steps.specs.Reaches.{IsReach}
 
 -- a mark for each variable, which tells whether it lies on a held path
 pub record AreHeldMarks (r : Rollout) (held : List ℕ) (marks : List Bool) : Type 0 where
@@ -37,12 +29,12 @@ pub record HeldRollout : Type 0 where
   pub rollout : Rollout
   pub held : List ℕ
 
--- what a plan keeps: the held paths, the kind of each step, and whether no two edges have one variable
-pub record IsPlan (p : HeldRollout) (kinds : List Kind) (apart : Bool) : Type 0 where
+-- what a plan keeps: the held paths, the kind of each step, and what the steps may take from the held paths
+pub record IsPlan (p : HeldRollout) (kinds : List Kind) (reach : Reach) : Type 0 where
   pub rollout : IsRollout p.rollout
   pub held : AreHeld p.rollout p.held
   pub same : kinds ≡ map (kind_of_step p.rollout p.held) (numbers_from 0 (step_count p.rollout))
-  pub prices : apart ≡ true → ArePricesApart p.rollout.graph
+  pub reaches : IsReach p.rollout reach
 
 -- one state has a step more than another, which may have it already
 pub record HasMore (r : Rollout) (f g : ℕ → Bool) (step : ℕ) : Type 0 where

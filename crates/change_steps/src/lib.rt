@@ -9,6 +9,7 @@ mod kinds;
 mod marks;
 mod moves;
 mod plan;
+mod reach;
 mod scene;
 mod state;
 mod tested;

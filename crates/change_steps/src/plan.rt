@@ -9,14 +9,13 @@ ghost use Rattle.change_steps.specs.Orders.{AreHeld, IsSafe, IsOnlyIn};
 ghost use Rattle.change_steps.specs.Kinds.{comes_between, goes_over, has_kind, kind_of_step};
 ghost use Rattle.change_steps.specs.States.{MayFollow, is_done_in};
 ghost use Rattle.change_steps.specs.Outcomes.{IsFirstLost};
-ghost use Rattle.change_steps.specs.Search.{ArePricesApart, HasMore, HeldRollout, IsStateOf, spares};
+ghost use Rattle.change_steps.specs.Search.{HasMore, HeldRollout, IsStateOf};
 
 use crate::held::find_held;
-use crate::kinds::{Kind, is_kind, is_variable, kinds_of, line_rises};
-use crate::marks::no_marks;
+use crate::kinds::{Kind, is_kind, kinds_of};
+use crate::reach::Reach;
 use crate::scene::Scene;
 use crate::state::State;
-use area_graph::{Graph, Price, edge_of};
 use cost_base::OutOfMemory;
 use spf_ties::Room;
 use std::alloc::Global;
@@ -28,8 +27,7 @@ pub(crate) struct Plan<'a> {
     scene: Scene<'a>,
     held: Vec<u32>,
     kinds: Vec<Kind>,
-    /// Whether no two edges have one variable.
-    apart: bool,
+    reach: Reach,
 }
 
 impl<'a> Model for Plan<'a> {
@@ -39,54 +37,7 @@ impl<'a> Model for Plan<'a> {
 
     ghost view = { λ p. record { rollout = p.scene; held = p.held.items } };
 
-    ghost invariant = { λ p. IsPlan (record { rollout = p.scene; held = p.held.items }) p.kinds.items p.apart };
-}
-
-/// Sets the mark of a price's variable. Tells whether it wasn't set; a price of no variable is new too.
-fn is_new(seen: &mut Vec<bool>, price: Price) -> bool
-    ensures count { length seen.new.items ≡ length seen.old.items }
-    ensures kept { (v : ℕ) → slice_index_or seen.old.items v false ≡ true → slice_index_or seen.new.items v false ≡ true }
-    ensures new { IsTrue result → (v : ℕ) → price ≡ Price.Var v →
-        (slice_index_or seen.old.items v false ≡ false) × (slice_index_or seen.new.items v false ≡ true) }
-{
-    match price {
-        Price::Var(number) => {
-            let place = number as usize;
-            if place < seen.len() && !seen[place] {
-                seen[place] = true;
-                true
-            } else {
-                false
-            }
-        }
-        Price::Fixed(_) | Price::Zero => true,
-    }
-}
-
-/// Whether no two edges have one variable.
-fn are_apart(alloc: Global, scene: &Scene) -> Result<bool, OutOfMemory>
-    ensures { IfOk result (λ apart. apart ≡ true → ArePricesApart scene.now.graph) }
-{
-    let mut seen = no_marks(alloc, scene.present().len())?;
-    for number in 0..scene.edge_count() {
-        if !is_new(&mut seen, edge_of(scene.graph(), number).price) {
-            return Ok(false);
-        }
-    }
-    Ok(true)
-}
-
-/// Whether a path goes over an interface with that variable's cost.
-fn has_line(graph: &Graph, edges: &[u32], line: u32) -> bool
-    requires { All (λ e. e < length graph.now.edges) edges.now }
-    ensures { result ≡ goes_over graph.now edges.now line }
-{
-    for edge in edges {
-        if is_variable(edge_of(graph, *edge).price, line) {
-            return true;
-        }
-    }
-    false
+    ghost invariant = { λ p. IsPlan (record { rollout = p.scene; held = p.held.items }) p.kinds.items p.reach };
 }
 
 /// The kind at a place.
@@ -95,33 +46,6 @@ fn kind_at(kinds: &[Kind], step: usize) -> Kind
     ensures { result ≡ slice_index_or kinds.now step Kind.Between }
 {
     kinds[step]
-}
-
-/// Whether a line takes nothing from a path.
-fn spares_line(scene: &Scene, apart: bool, edges: &[u32], line: u32) -> bool
-    requires edges { All (λ e. e < length scene.now.graph.edges) edges.now }
-    requires line { line < length scene.now.moves.present }
-    ensures { result ≡ spares scene.now apart edges.now line }
-{
-    if line_rises(scene, line) {
-        !has_line(scene.graph(), edges, line)
-    } else {
-        apart && has_line(scene.graph(), edges, line)
-    }
-}
-
-/// Whether each line of some takes nothing from a path.
-fn spares_all(scene: &Scene, apart: bool, edges: &[u32], lines: &[u32]) -> bool
-    requires edges { All (λ e. e < length scene.now.graph.edges) edges.now }
-    requires lines { All (λ v. v < length scene.now.moves.present) lines.now }
-    ensures { result ≡ list_all (spares scene.now apart edges.now) lines.now }
-{
-    for line in lines {
-        if !spares_line(scene, apart, edges, *line) {
-            return false;
-        }
-    }
-    true
 }
 
 impl<'a> Plan<'a> {
@@ -135,12 +59,12 @@ impl<'a> Plan<'a> {
         scene.keeps_conditions();
         let held = find_held(alloc, &scene, room)?;
         let kinds = kinds_of(alloc, &scene, &held)?;
-        let apart = are_apart(alloc, &scene)?;
+        let reach = Reach::new(alloc, &scene, &held, &kinds, room)?;
         Ok(Plan {
             scene,
             held,
             kinds,
-            apart,
+            reach,
         })
     }
 
@@ -174,7 +98,7 @@ impl<'a> Plan<'a> {
             scene: _,
             held,
             kinds: _,
-            apart: _,
+            reach: _,
         } = self;
         held
     }
@@ -234,18 +158,16 @@ impl<'a> Plan<'a> {
         None
     }
 
-    /// Whether a step takes nothing from the path of a request, which then stays the only cheapest: its lines rise off
-    /// the path, or fall on it.
-    fn spares(&self, step: usize, number: u32) -> bool
+    /// Whether a step that was done last is seen to have taken nothing from the path of a request, which then stays the
+    /// only cheapest.
+    fn spares(&self, state: &State, step: usize, number: u32) -> bool
+        requires state { IsStateOf self.now.rollout state.now }
         requires step { step < step_count self.now.rollout }
         requires known { number < length self.now.rollout.paths }
-        ensures { IsTrue result → (f g : ℕ → Bool) → HasMore self.now.rollout f g step → IsOnlyIn self.now.rollout f number →
-            IsOnlyIn self.now.rollout g number }
+        ensures { IsTrue result → (before : ℕ → Bool) → HasMore self.now.rollout before (is_done_in state.now.done.items) step →
+            IsOnlyIn self.now.rollout before number → IsOnlyIn self.now.rollout (is_done_in state.now.done.items) number }
     {
-        let scene = &self.scene;
-        scene.keeps_conditions();
-        let edges = scene.request(number).path.edges.as_slice();
-        spares_all(scene, self.apart, edges, scene.lines(step))
+        self.reach.spares(&self.scene, state, number, step)
     }
 
     /// Whether a state is safe, one step of which was done last, after a state that was safe. Held paths that the step
@@ -259,7 +181,7 @@ impl<'a> Plan<'a> {
     {
         self.keeps_conditions();
         for number in self.held() {
-            if !self.spares(step, *number) && !state.is_only(self.scene(), *number, room) {
+            if !self.spares(state, step, *number) && !state.is_only(self.scene(), *number, room) {
                 return false;
             }
         }

@@ -111,6 +111,13 @@ impl State {
         self.done[step] = false;
     }
 
+    /// The costs, as a point.
+    pub(crate) fn point(&self) -> &Point
+        ensures { result.now ≡ self.now.point }
+    {
+        &self.point
+    }
+
     /// Whether the path of a request is the only cheapest in the state.
     pub(crate) fn is_only(&self, scene: &Scene, number: u32, room: &mut Room) -> bool
         requires state { IsStateOf scene.now self.now }

@@ -18,7 +18,7 @@ loop-number-preserved c = elim c.else-not-spares.branch [
     room = subst (λ (f : Findings). IsRoomFor c.args.self.now.rollout.graph f) (sym w.room-is) c.loop-number.invariant.room;
     safe = All-more (IsOnlyIn c.args.self.now.rollout (is_done_in c.args.state.now.done.items)) c.held-number-items.result.now c.loop-number.number-index 0
         c.loop-number-test.true c.loop-number.invariant.safe
-        (c.spares.ensures w.if-not-spares.false c.requires.before.0 (is_done_in c.args.state.now.done.items) c.requires.before.1
+        (c.spares.ensures w.if-not-spares.false c.requires.before.0 c.requires.before.1
         (subst (λ (xs : List ℕ). All (IsOnlyIn c.args.self.now.rollout c.requires.before.0) xs) (sym c.held-number-items.ensures) c.requires.before.2 c.loop-number.number-index 0 c.loop-number-test.true));
   }
 ]

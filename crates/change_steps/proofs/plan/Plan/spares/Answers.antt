@@ -1,15 +1,14 @@
-use Rattle.std.proofs.Common.{◌∙◌, ap, sym}
-use Rattle.design_problem.specs.declared.problem.Request.{Request}
-use Rattle.change_steps.proofs.PlanLaws.{edges_known, spares_is}
+use Rattle.std.proofs.Common.{All, ap, subst}
+use Rattle.change_steps.specs.Rollouts.{IsRollout, Rollout}
+use Rattle.change_steps.specs.States.{is_done_in}
+use Rattle.change_steps.specs.Search.{HeldRollout}
+use Rattle.change_steps.specs.Reaches.{IsHarmless, edges_of_step}
+use Rattle.change_steps.proofs.ReachLaws.{harmless_only}
 use Rattle.change_steps.proofs.plan.Plan.spares.Goals as goal
 
-pub spares_all-requires-clause-edges : goal.spares_all-requires-clause-edges
-spares_all-requires-clause-edges c =
-    edges_known _ c.args.self.now c.self.inside.kinds.items c.self.inside.apart c.as_slice-edges.result.now c.args.number c.self.invariant c.self.view_is
-    (c.as_slice-edges.ensures ∙ ap (λ (q : Request). q.path.edges) c.request.ensures) c.requires.known
-
 pub returns : goal.returns
-returns c = λ spared f g more only.
-    spares_is _ c.args.self.now c.self.inside.kinds.items c.self.inside.apart c.as_slice-edges.result.now c.lines.result.now c.args.step c.args.number
-    c.self.invariant c.self.view_is (c.as_slice-edges.ensures ∙ ap (λ (q : Request). q.path.edges) c.request.ensures) c.lines.ensures
-    (sym c.spares_all.ensures ∙ spared) f g more only
+returns c = λ spared before more only.
+    harmless_only c.args.self.now.rollout before (is_done_in c.args.state.now.done.items) c.args.step c.args.number
+    (subst (λ (p : HeldRollout). IsRollout p.rollout) c.self.view_is c.self.invariant.rollout) more
+    (subst (λ (r : Rollout). All (IsHarmless r (is_done_in c.args.state.now.done.items) c.args.number) (edges_of_step r c.args.step))
+    (ap (λ (p : HeldRollout). p.rollout) c.self.view_is) (c.spares.ensures spared)) only

@@ -1,0 +1,340 @@
+//! What rivals cost at least that go over the links of a step.
+ghost use Rattle.std.specs.Prelude.{◌≡◌, ◌<◌, ◌≤◌, ◌^◌, ℕ, [], All, IfOk, IsTrue, Some, length, map, slice_index_or};
+ghost use Rattle.cost_base.specs.Lists.{numbers_from};
+ghost use Rattle.area_graph.specs.Costs.{FitsPoint, IsPriced, at_costs};
+ghost use Rattle.spf_ties.specs.Distances.{IsRoomFor};
+ghost use Rattle.change_steps.specs.Rollouts.{step_count};
+ghost use Rattle.change_steps.specs.States.{is_done_in};
+ghost use Rattle.change_steps.specs.Search.{IsStateOf};
+ghost use Rattle.change_steps.specs.Reaches.{AreAtLeast, AreDearerOver, AreLeastTo, IsHarmless, IsReach, at_least, edges_of_step, has_price, least_cost, least_costs, price_rises};
+
+use crate::kinds::{Kind, is_kind, line_rises};
+use crate::marks::no_marks;
+use crate::scene::Scene;
+use crate::state::State;
+use area_graph::{Graph, Point, Price, edge_of, path_cost, price_of};
+use cost_base::{Listed, OutOfMemory};
+use spf_ties::Room;
+use std::alloc::Global;
+
+/// More than a simple path can cost.
+const FAR: u32 = 1 << 26;
+
+/// The edges whose costs steps change, and what paths cost at least, whichever steps are done.
+#[derive(Drop)]
+pub(crate) struct Reach {
+    /// The edges whose costs each step changes.
+    edges: Listed<Listed<u32>>,
+    /// For a vertex that is asked for, what a path to it from each vertex costs at least.
+    least: Listed<Listed<u32>>,
+}
+
+/// Whether a price is the cost of one of these variables.
+fn has_price(lines: &[u32], price: Price) -> bool
+    ensures { result ≡ has_price lines.now price }
+{
+    match price {
+        Price::Var(line) => lines.contains(&line),
+        Price::Fixed(_) | Price::Zero => false,
+    }
+}
+
+/// The edges whose costs a step changes.
+#[tactic(auto, unfolding(crate::specs::Reaches::edges_of_step))]
+fn edges_of_step(alloc: Global, scene: &Scene, step: usize) -> Result<Vec<u32>, OutOfMemory>
+    requires { step < step_count scene.now }
+    ensures { IfOk result (λ edges. edges.items ≡ edges_of_step scene.now step) }
+{
+    scene.keeps_conditions();
+    let lines = scene.lines(step);
+    let mut edges = Vec::new(alloc);
+    for number in 0..scene.edge_count() {
+        if has_price(lines, edge_of(scene.graph(), number).price) {
+            edges.push(number)?;
+        }
+    }
+    Ok(edges)
+}
+
+/// The least cost of a variable in any state.
+fn least_cost(scene: &Scene, line: usize) -> u16
+    requires { line < length scene.now.moves.present }
+    ensures { result ≡ least_cost scene.now.moves line }
+{
+    scene.keeps_conditions();
+    let present = scene.present()[line];
+    let wanted = scene.wanted()[line];
+    if present < wanted { present } else { wanted }
+}
+
+/// The least costs of the variables in any state.
+#[tactic(auto, unfolding(crate::specs::Reaches::least_costs))]
+fn least_costs(alloc: Global, scene: &Scene) -> Result<Point, OutOfMemory>
+    ensures { IfOk result (λ point. point ≡ at_costs (least_costs scene.now.moves)) }
+{
+    let mut values = Vec::new(alloc);
+    for line in 0..scene.present().len() {
+        values.push(least_cost(scene, line) as u128)?;
+    }
+    Ok(Point {
+        scale: 1,
+        values: Listed::from_items(values),
+    })
+}
+
+/// A number of 32 bits that is at most the least cost, where there is one.
+fn at_most(least: Option<u128>) -> u32
+    ensures { (cost : ℕ) → least ≡ Some cost → result ≤ cost }
+{
+    match least {
+        Some(cost) => { if cost < FAR as u128 { cost as u32 } else { FAR } }
+        None => FAR,
+    }
+}
+
+/// What a path to a vertex from each vertex costs at least, at a point.
+fn least_to(
+    alloc: Global,
+    graph: &Graph,
+    point: &Point,
+    target: u32,
+    room: &mut Room,
+) -> Result<Vec<u32>, OutOfMemory>
+    requires room { IsRoomFor graph.now room.old }
+    requires fits { FitsPoint graph.now point.now }
+    requires target { target < length graph.now.vertices }
+    ensures room { IsRoomFor graph.now room.new }
+    ensures least { IfOk result (λ least. AreLeastTo graph.now point.now target least.items) }
+{
+    graph.keeps_conditions();
+    room.distances_to(graph, point, target);
+    let mut least = Vec::new(alloc);
+    for vertex in 0..graph.vertices().len() as u32 {
+        least.push(at_most(room.distance(vertex)))?;
+    }
+    Ok(least)
+}
+
+/// Marks a vertex, if it is one of those that have marks.
+fn mark(marks: &mut Vec<bool>, vertex: u32)
+    ensures { length marks.new.items ≡ length marks.old.items }
+{
+    if (vertex as usize) < marks.len() {
+        marks[vertex as usize] = true;
+    }
+}
+
+/// Marks the vertices that some edges leave.
+fn mark_starts(marks: &mut Vec<bool>, graph: &Graph, edges: &[u32])
+    ensures { length marks.new.items ≡ length marks.old.items }
+{
+    for number in edges {
+        if let Some(edge) = graph.edges().get(*number as usize) {
+            mark(marks, edge.from);
+        }
+    }
+}
+
+/// Marks the ends of the held paths.
+fn mark_ends(marks: &mut Vec<bool>, scene: &Scene, held: &[u32])
+    requires { All (λ k. k < length scene.now.paths) held.now }
+    ensures { length marks.new.items ≡ length marks.old.items }
+{
+    for number in held {
+        mark(marks, scene.request(*number).end);
+    }
+}
+
+/// Whether the step of a place comes between the first and the last ones.
+fn is_between(kinds: &[Kind], step: usize) -> bool {
+    match kinds.get(step) {
+        Some(kind) => is_kind(Kind::Between, *kind),
+        None => false,
+    }
+}
+
+/// A mark for each vertex that an edge of a step between leaves, or at which a held path ends.
+fn mark_asked(
+    alloc: Global,
+    scene: &Scene,
+    held: &[u32],
+    kinds: &[Kind],
+    edges: &[Listed<u32>],
+) -> Result<Vec<bool>, OutOfMemory>
+    requires { All (λ k. k < length scene.now.paths) held.now }
+    ensures { IfOk result (λ asked. length asked.items ≡ length scene.now.graph.vertices) }
+{
+    let graph = scene.graph();
+    let mut asked = no_marks(alloc, graph.vertices().len())?;
+    let mut has_between = false;
+    for (step, list) in edges.iter().enumerate() {
+        if is_between(kinds, step) {
+            has_between = true;
+            mark_starts(&mut asked, graph, list.as_slice());
+        }
+    }
+    if has_between {
+        mark_ends(&mut asked, scene, held);
+    }
+    Ok(asked)
+}
+
+/// The edges whose costs each step changes.
+fn edges_of_steps(alloc: Global, scene: &Scene) -> Result<Vec<Listed<u32>>, OutOfMemory>
+    ensures { IfOk result (λ edges. edges.items ≡ map (edges_of_step scene.now) (numbers_from 0 (step_count scene.now))) }
+{
+    let mut edges = Vec::new(alloc);
+    for step in 0..scene.step_count() {
+        let list = edges_of_step(alloc, scene, step)?;
+        edges.push(Listed::from_items(list))?;
+    }
+    Ok(edges)
+}
+
+/// What paths to each vertex that is asked for cost at least, whichever steps are done.
+fn least_to_each(
+    alloc: Global,
+    scene: &Scene,
+    asked: &[bool],
+    room: &mut Room,
+) -> Result<Vec<Listed<u32>>, OutOfMemory>
+    requires room { IsRoomFor scene.now.graph room.old }
+    requires asked { length asked.now ≡ length scene.now.graph.vertices }
+    ensures room { IsRoomFor scene.now.graph room.new }
+    ensures least { IfOk result (λ least. AreAtLeast scene.now.graph (at_costs (least_costs scene.now.moves)) least.items) }
+{
+    scene.keeps_conditions();
+    let graph = scene.graph();
+    let point = least_costs(alloc, scene)?;
+    let mut least = Vec::new(alloc);
+    for target in 0..asked.len() as u32 {
+        if asked[target as usize] {
+            let row = least_to(alloc, graph, &point, target, room)?;
+            least.push(Listed::from_items(row))?;
+        } else {
+            least.push(Listed::new(alloc))?;
+        }
+    }
+    Ok(least)
+}
+
+/// The number at a place; 0 past the end.
+fn number_at(numbers: &[u32], place: u32) -> u128
+    ensures number { result ≡ slice_index_or numbers.now place 0 }
+    ensures below { result < 2 ^ 32 }
+{
+    match numbers.get(place as usize) {
+        Some(number) => *number as u128,
+        None => 0,
+    }
+}
+
+/// Whether the wanted price is greater than the present one.
+fn price_rises(scene: &Scene, price: Price) -> bool
+    requires { IsPriced (length scene.now.moves.present) price }
+    ensures { result ≡ price_rises scene.now.moves price }
+{
+    match price {
+        Price::Var(line) => line_rises(scene, line),
+        Price::Fixed(_) | Price::Zero => false,
+    }
+}
+
+impl Reach {
+    /// What the steps of a rollout may take from its held paths.
+    pub(crate) fn new(
+        alloc: Global,
+        scene: &Scene,
+        held: &[u32],
+        kinds: &[Kind],
+        room: &mut Room,
+    ) -> Result<Reach, OutOfMemory>
+        requires room { IsRoomFor scene.now.graph room.old }
+        requires held { All (λ k. k < length scene.now.paths) held.now }
+        ensures room { IsRoomFor scene.now.graph room.new }
+        ensures reach { IfOk result (IsReach scene.now) }
+    {
+        let edges = edges_of_steps(alloc, scene)?;
+        let asked = mark_asked(alloc, scene, held, kinds, &edges)?;
+        let least = least_to_each(alloc, scene, &asked, room)?;
+        Ok(Reach {
+            edges: Listed::from_items(edges),
+            least: Listed::from_items(least),
+        })
+    }
+
+    /// The edges whose costs a step changes.
+    fn edges(&self, step: usize) -> &[u32]
+        requires { step < length self.now.edges }
+        ensures { result.now ≡ slice_index_or self.now.edges step [] }
+    {
+        let edges = self.edges.as_slice();
+        let list = &edges[step];
+        list.as_slice()
+    }
+
+    /// What a path costs at least from one vertex to another.
+    fn at_least(&self, start: u32, target: u32) -> u128
+        ensures least { result ≡ at_least self.now.least start target }
+        ensures below { result < 2 ^ 32 }
+    {
+        let least = self.least.as_slice();
+        match least.get(target as usize) {
+            Some(row) => number_at(row.as_slice(), start),
+            None => 0,
+        }
+    }
+
+    /// Whether each rival that goes over an edge is seen to cost more than the path of a request.
+    fn are_dearer_over(&self, scene: &Scene, state: &State, number: u32, edge: u32) -> bool
+        requires reach { IsReach scene.now self.now }
+        requires state { IsStateOf scene.now state.now }
+        requires number { number < length scene.now.paths }
+        requires edge { edge < length scene.now.graph.edges }
+        ensures { IsTrue result → AreDearerOver scene.now (is_done_in state.now.done.items) number edge }
+    {
+        scene.keeps_conditions();
+        let graph = scene.graph();
+        graph.keeps_conditions();
+        let point = state.point();
+        let request = scene.request(number);
+        let over = edge_of(graph, edge);
+        let before = self.at_least(request.path.start, over.from);
+        let behind = self.at_least(over.to, request.end);
+        path_cost(graph, &request.path, point) < before + (price_of(over.price, point) + behind)
+    }
+
+    /// Whether an edge is seen to take nothing from the path of a request by the price that a step gave it.
+    fn is_harmless(&self, scene: &Scene, state: &State, number: u32, edge: u32) -> bool
+        requires reach { IsReach scene.now self.now }
+        requires state { IsStateOf scene.now state.now }
+        requires number { number < length scene.now.paths }
+        requires edge { edge < length scene.now.graph.edges }
+        ensures { IsTrue result → IsHarmless scene.now (is_done_in state.now.done.items) number edge }
+    {
+        scene.keeps_conditions();
+        let rises = price_rises(scene, edge_of(scene.graph(), edge).price);
+        let edges = scene.request(number).path.edges.as_slice();
+        if edges.contains(&edge) {
+            !rises
+        } else {
+            rises || self.are_dearer_over(scene, state, number, edge)
+        }
+    }
+
+    /// Whether a step is seen to have taken nothing from the path of a request.
+    pub(crate) fn spares(&self, scene: &Scene, state: &State, number: u32, step: usize) -> bool
+        requires reach { IsReach scene.now self.now }
+        requires state { IsStateOf scene.now state.now }
+        requires number { number < length scene.now.paths }
+        requires step { step < step_count scene.now }
+        ensures { IsTrue result → All (IsHarmless scene.now (is_done_in state.now.done.items) number) (edges_of_step scene.now step) }
+    {
+        for edge in self.edges(step) {
+            if !self.is_harmless(scene, state, number, *edge) {
+                return false;
+            }
+        }
+        true
+    }
+}
