@@ -1,3 +1,2 @@
-pub mod LsaFiles
 pub mod LsasRuns
 pub mod Routes

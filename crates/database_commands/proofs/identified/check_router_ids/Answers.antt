@@ -2,7 +2,7 @@ use Rattle.std.proofs.Common.{sym, subst, []}
 use Rattle.input_files.specs.Stops.{StopsAs, files_named}
 use Rattle.database_commands.specs.Lsas.{if_identified}
 use Rattle.database_commands.proofs.LsasRuns.{ids_ready, ids_stop}
-use Rattle.database_commands.proofs.lsas.check_router_ids.Goals as goal
+use Rattle.database_commands.proofs.identified.check_router_ids.Goals as goal
 
 pub returns-in-None : goal.returns-in-None
 returns-in-None c d same = ids_ready (files_named c.args.words) d _ (sym c.in-None.ensures)

@@ -15,9 +15,9 @@ use Rattle.lsa_bytes.specs.Files.{decided}
 use Rattle.lsa_bytes.specs.Grammar.{length_of, said_at}
 use Rattle.lsa_bytes.specs.Numbers.{number_of}
 
--- 64 MiB
-abbrev pub longest_lsas : ℕ
-longest_lsas = 67108864
+-- 64 MiB: the greatest length of a file of LSAs, and of a live file
+abbrev pub longest_database : ℕ
+longest_database = 67108864
 
 -- an LSA that is off the grammar ends the reading
 abbrev pub by_fault : List Instance → ℕ → Option LsaFault → Result (List Lsa) (LsaFault × ℕ) → Result (List Lsa) (LsaFault × ℕ)
@@ -44,7 +44,7 @@ if_lsas file (Err fault) = Refused (record { number = number_of fault.0; file = 
 
 -- a file of LSAs: its size, and then its LSAs up to the first fault
 abbrev pub lsas_read : List ℕ → Reading (List Lsa)
-lsas_read file = file_read longest_lsas file >>= λ bytes. if_lsas file (lsas_in bytes)
+lsas_read file = file_read longest_database file >>= λ bytes. if_lsas file (lsas_in bytes)
 
 -- the stop of LSAs that are refused
 abbrev pub lsa_stop : LsaStop → Bor (List ℕ) → Stop

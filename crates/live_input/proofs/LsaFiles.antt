@@ -16,7 +16,7 @@ use Rattle.lsa_bytes.proofs.ReadSoFar.{IsUnderway, IsFirst, begin, next, all_rea
 use Rattle.lsa_bytes.proofs.Pieces.{one_outcome}
 use Rattle.input_files.specs.Readings.{Says, EndsAs}
 use Rattle.input_files.specs.Stops.{StopsAs, IsReadAndMade}
-use Rattle.database_commands.specs.LsaFiles.{by_fault, lsas_behind, lsas_in, if_lsas, lsa_stop}
+use Rattle.live_input.specs.LsaFiles.{by_fault, lsas_behind, lsas_in, if_lsas, lsa_stop}
 
 -- what instances and a fault behind them come to, the bytes come to
 comes_to : (bytes : List ℕ) (instances : List Instance) (behind : Option (LsaFault × ℕ)) → AreReadFrom bytes instances behind →
