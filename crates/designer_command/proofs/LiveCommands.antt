@@ -3,7 +3,7 @@ use Rattle.std.proofs.Common.{◌≡◌, ◌∙◌, ℕ, refl, sym, List, true, 
 use Rattle.cost_base.specs.declared.Status.{Status}
 use Rattle.cost_base.specs.declared.Status.TheVariants as status
 use Rattle.cost_base.specs.Histories.{Taken}
-use Rattle.database_commands.specs.Compares.{Comparison, MayCompare, are_alike, difference_text, differences_of}
+use Rattle.database_commands.specs.Compares.{Comparison, MayCompare, difference_text, differences_of}
 use Rattle.path_commands.specs.LiveAudits.{MayAuditLive}
 use Rattle.help_texts.specs.Texts.{help_text, version_text}
 use Rattle.designer_command.specs.Runs.{MayTell}

@@ -1,5 +1,5 @@
 -- An audit is of the files, or of the running area of a live file.
-use Rattle.std.proofs.Common.{◌≡◌, refl, List, ℕ, Option, None, Some, option_map, string_bytes}
+use Rattle.std.proofs.Common.{◌≡◌, refl, None, Some, option_map, string_bytes}
 use Rattle.text_lines.specs.Arguments.{texts}
 use Rattle.input_files.specs.declared.problem.View.TheVariants.{AtPresent}
 use Rattle.input_files.specs.Outcomes.{outcome}
