@@ -1,3 +1,3 @@
-pub mod LsaFiles
 pub mod LsasRuns
 pub mod Routes
+pub mod Compares

@@ -28,6 +28,7 @@ use Rattle.lsa_bytes.specs.Numbers.{number_of}
 use Rattle.lsa_bytes.specs.Written.{bytes_of_all}
 use Rattle.lsa_writer.specs.WrittenLsas.{written_lsas}
 use Rattle.lsa_writer.specs.OneGraph.{IsDatabaseOf, SayGraph}
+use Rattle.database_commands.specs.Identified.{IsIdentified}
 use Rattle.database_commands.specs.Lsas.{present_costs, AreWritten, MayLsas, if_identified}
 use Rattle.database_commands.proofs.Routes.{refusal_stops}
 
@@ -89,19 +90,8 @@ pub ids_ready : (names : InputFiles) (d : Input) (fault : Option IdFault) → fa
     IsReadAndMade (if_identified names d fault) [] (λ (u : Unit {0}) said. said ≡ d) tt
 ids_ready names d fault none = record { said = d; ends = subst (λ f. EndsAs (if_identified names d f) [] (Says d)) (sym none) refl; fits = refl }
 
--- what a report says of the network that was read
-pub reported : (names : InputFiles) (d : Input) (configs : List Router) (bytes : List ℕ) (report : Report) →
-    routers_of d.files ≡ configs → first_id_fault [] 0 configs ≡ None → AreWritten d bytes → Reports Done bytes report →
-    IsReadAndMade (if_identified names d (first_id_fault [] 0 (routers_of d.files))) [] (λ (r : Report) x. MayLsas x r.status (bytes_in r.text)) report
-reported names d configs bytes report same none are is =
-    record {
-      said = d;
-      ends = subst (λ f. EndsAs (if_identified names d f) [] (Says d)) (sym (ap (first_id_fault [] 0) same ∙ none)) refl;
-      fits = subst (λ (s : Status). MayLsas d s (bytes_in report.text)) (sym is.status) (subst (AreWritten d) (sym is.text) are);
-    }
-
 -- the IDs were tested without a fault
-pub ids_fine : (names : InputFiles) (d : Input) (configs : List Router) (u : Unit {0}) →
+ids_fine : (names : InputFiles) (d : Input) (configs : List Router) (u : Unit {0}) →
     IsReadAndMade (if_identified names d (first_id_fault [] 0 configs)) [] (λ (v : Unit {0}) said. said ≡ d) u →
     first_id_fault [] 0 configs ≡ None
 ids_fine names d configs u ready = by_fault (first_id_fault [] 0 configs) ready.ends
@@ -109,3 +99,21 @@ ids_fine names d configs u ready = by_fault (first_id_fault [] 0 configs) ready.
     by_fault : (f : Option IdFault) → EndsAs (if_identified names d f) [] (Says ready.said) → f ≡ None
     by_fault None ends = refl
     by_fault (Some found) ends = absurd (said_faulty ready.said _ ends)
+
+-- the network that was read, after its IDs were tested
+pub identified : (names : InputFiles) (d : Input) (configs : List Router) (network : Network) (u : Unit {0}) → routers_of d.files ≡ configs →
+    IsNetworkOf AtPresent names network d →
+    IsReadAndMade (if_identified names d (first_id_fault [] 0 configs)) [] (λ (v : Unit {0}) said. said ≡ d) u →
+    IsReadAndMade (if_identified names d (first_id_fault [] 0 (routers_of d.files))) [] (IsIdentified names) network
+identified names d configs network u same is ready =
+    let none : first_id_fault [] 0 (routers_of d.files) ≡ None = ap (first_id_fault [] 0) same ∙ ids_fine names d configs u ready in
+    record {
+      said = d;
+      ends = subst (λ f. EndsAs (if_identified names d f) [] (Says d)) (sym none) refl;
+      fits = record { network_is = is; identified = none };
+    }
+
+-- what a report says of the network that was read
+pub reported : (d : Input) (bytes : List ℕ) (report : Report) → AreWritten d bytes → Reports Done bytes report →
+    MayLsas d report.status (bytes_in report.text)
+reported d bytes report are is = subst (λ (s : Status). MayLsas d s (bytes_in report.text)) (sym is.status) (subst (AreWritten d) (sym is.text) are)

@@ -1,5 +1,7 @@
 pub mod Lsas
+pub mod Identified
 pub mod Quads
-pub mod LsaFiles
 pub mod Routes
 pub mod Found
+pub mod Compares
+pub mod Compared

@@ -13,7 +13,7 @@ use Rattle.lsa_bytes.specs.declared.stop.LsaFault.TheVariants.{NoRouterId}
 use Rattle.lsa_bytes.specs.AreaGraphs.{lsa_graph, routers_among, networks_among, router_vertex_back}
 use Rattle.lsa_bytes.specs.Databases.{is_router_of}
 use Rattle.lsa_bytes.specs.Numbers.{number_of}
-use Rattle.database_commands.specs.LsaFiles.{lsas_read}
+use Rattle.live_input.specs.LsaFiles.{lsas_read}
 use Rattle.database_commands.specs.Quads.{router_id_text}
 
 -- a router ID without a router-LSA is refused: 0 stands for the one to start from, 1 for the one to go to

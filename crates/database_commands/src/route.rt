@@ -10,13 +10,14 @@ ghost use Rattle.database_commands.specs.Found.{EndsBy, IsFoundEnd, end_by};
 ghost use Rattle.database_commands.specs.Routes.{IsRoute, MayRoute, route_read};
 ghost use Rattle.report_writer.specs.Reports.{bytes_in};
 
-use crate::database::{check_router, read_database};
+use crate::database::check_router;
 use crate::hops::push_hops;
 use crate::quads::push_quad;
 use crate::vertices::{vertex_ids, vertex_of};
 use area_graph::{Graph, Point};
 use cost_base::{Listed, OutOfMemory, Shelf, Status};
 use input_files::Stop;
+use live_input::read_database;
 use lsa_bytes::{Database, graph_of_lsas};
 use report_writer::Report;
 use spf_ties::Room;

@@ -6,3 +6,4 @@ pub mod Configs
 pub mod Stops
 pub mod Ends
 pub mod Networks
+pub mod Layouts

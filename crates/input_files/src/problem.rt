@@ -88,7 +88,7 @@ fn place_of<'a>(fault: ResolutionFault, lsdb: &Lsdb, words: FileWords<'a>) -> (&
 }
 
 /// The stop of requests that aren't resolved.
-fn stop_of_resolution<'a>(stop: ResolutionStop, lsdb: &Lsdb, words: FileWords<'a>) -> Stop<'a>
+pub(crate) fn stop_of_resolution<'a>(stop: ResolutionStop, lsdb: &Lsdb, words: FileWords<'a>) -> Stop<'a>
     ensures { resolution_stop stop lsdb.now (files_named words.entry) result }
 {
     match stop {
@@ -135,7 +135,11 @@ fn resolution_beside_present<'a>(
 }
 
 /// The problem that requests make of a topology at present costs.
-fn resolution_at_present<'a>(
+///
+/// # Errors
+///
+/// `Stop`: a line of the requests can't be resolved, or an interface has no cost; want of memory.
+pub fn resolution_at_present<'a>(
     alloc: Global,
     requests: &RequestFile,
     lsdb: &Lsdb,

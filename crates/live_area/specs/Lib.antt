@@ -1,2 +1,3 @@
 pub mod LiveLinks
 pub mod Differences
+pub mod LiveCosts

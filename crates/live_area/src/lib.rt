@@ -39,5 +39,7 @@ mod comparing;
 mod interfaces;
 mod links;
 mod routers;
+mod running;
 
 pub use comparing::compare;
+pub use running::{RunningArea, running_area};

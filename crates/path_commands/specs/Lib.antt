@@ -1,4 +1,6 @@
 pub mod Audits
 pub mod Conflicts
+pub mod Gone
+pub mod LiveAudits
 pub mod SetFiles
 pub mod Spreads

@@ -2,12 +2,15 @@
 #![tactic(auto)]
 
 mod audit;
+mod audit_live;
 mod conflict;
 mod conflict_text;
+mod gone;
 mod sets_file;
 mod spread;
 mod spread_text;
 
 pub use audit::audit_report;
+pub use audit_live::audit_live_report;
 pub use conflict::conflict_report;
 pub use spread::spread_report;

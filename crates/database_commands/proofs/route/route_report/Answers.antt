@@ -6,7 +6,7 @@ use Rattle.input_files.proofs.Stops.{gave_stop, gave_made}
 use Rattle.report_writer.specs.declared.report.Report.{Report}
 use Rattle.report_writer.specs.Reports.{bytes_in}
 use Rattle.lsa_bytes.specs.declared.Lsa.{Lsa}
-use Rattle.database_commands.specs.LsaFiles.{lsas_read}
+use Rattle.live_input.specs.LsaFiles.{lsas_read}
 use Rattle.database_commands.specs.Routes.{MayRoute, unless_unknown}
 use Rattle.database_commands.proofs.Routes.{unknown_start, unknown_end, routed}
 use Rattle.database_commands.proofs.route.route_report.Goals as goal

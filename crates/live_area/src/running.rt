@@ -1,0 +1,152 @@
+//! An area at the costs at which it runs.
+ghost use Rattle.std.specs.Prelude.{◌≡◌, ◌<◌, Some, All, IfOk, IfSome, is_some, map, slice_get};
+ghost use Rattle.std.specs.Option.{option_or};
+ghost use Rattle.lsa_writer.specs.Ends.{end_of, router_id_in};
+ghost use Rattle.live_area.specs.LiveCosts as definition;
+
+use crate::links::{LiveLink, live_links, metric_at};
+use cost_base::{Listed, Name, OutOfMemory};
+use interface_model::RouterConfig;
+use lsa_bytes::{Database, Lsa};
+use lsa_writer::{LinkEnd, ends_of};
+use lsdb_build::{Linked, Lsdb};
+use std::alloc::Global;
+
+/// An area at the costs at which it runs.
+#[derive(Drop)]
+pub struct RunningArea {
+    /// The area, with the metric of its link in place of each linked interface's cost, where it has a link.
+    pub lsdb: Lsdb,
+    /// The numbers of the linked interfaces without a link, in rising order.
+    pub missing: Vec<u32>,
+}
+
+/// Whether the configuration of a number has a router ID.
+fn has_router_id(configs: &[RouterConfig], router: u32) -> bool
+    ensures { result ≡ is_some (router_id_in (slice_get configs.now router)) }
+{
+    match configs.get(router as usize) {
+        Some(config) => config.router_id.is_some(),
+        None => false,
+    }
+}
+
+/// The metric of the link of a linked interface, by its number and the ends of all.
+fn metric_of(
+    configs: &[RouterConfig],
+    found: &[LiveLink],
+    ends: &[LinkEnd],
+    number: usize,
+    link: &Linked,
+) -> Option<u16>
+    requires { slice_get ends.now number ≡ Some (end_of configs.now link.now) }
+    ensures { result ≡ definition.metric_among configs.now found.now link.now }
+{
+    let end = ends.get(number)?;
+    if has_router_id(configs, link.router) {
+        metric_at(found, *end)
+    } else {
+        None
+    }
+}
+
+/// The metrics of the links of linked interfaces, in order.
+fn metrics_among(
+    alloc: Global,
+    configs: &[RouterConfig],
+    found: &[LiveLink],
+    links: &[Linked],
+) -> Result<Vec<Option<u16>>, OutOfMemory>
+    ensures { IfOk result (λ metrics. metrics.items ≡ map (definition.metric_among configs.now found.now) links.now) }
+{
+    let ends = ends_of(alloc, configs, links)?;
+    let mut metrics = Vec::new(alloc);
+    for (number, link) in links.iter().enumerate() {
+        metrics.push(metric_of(configs, found, &ends, number, link))?;
+    }
+    Ok(metrics)
+}
+
+/// The metrics of the links of linked interfaces, as LSAs say them, in order.
+fn live_metrics(
+    alloc: Global,
+    configs: &[RouterConfig],
+    links: &[Linked],
+    lsas: &[Lsa],
+) -> Result<Vec<Option<u16>>, OutOfMemory>
+    ensures { IfOk result (λ metrics. metrics.items ≡ map (definition.live_metric configs.now lsas.now) links.now) }
+{
+    let found = live_links(alloc, lsas)?;
+    metrics_among(alloc, configs, &found, links)
+}
+
+/// The numbers of the interfaces without a metric, in rising order.
+fn missing_of(alloc: Global, metrics: &[Option<u16>]) -> Result<Vec<u32>, OutOfMemory>
+    ensures { IfOk result (λ missing. missing.items ≡ definition.without_metric 0 metrics.now) }
+{
+    let mut missing = Vec::new(alloc);
+    for (number, metric) in metrics.iter().enumerate() {
+        if metric.is_none() {
+            missing.push(number as u32)?;
+        }
+    }
+    Ok(missing)
+}
+
+/// A linked interface with a metric in place of its cost, if there is one.
+fn costed(alloc: Global, link: &Linked, metric: Option<u16>) -> Result<Linked, OutOfMemory>
+    ensures { IfOk result (λ made. made ≡ record link.now { cost = option_or metric link.now.cost }) }
+{
+    Ok(Linked {
+        router: link.router,
+        interface: Name::from_bytes(alloc, link.interface.as_bytes())?,
+        line: link.line,
+        cost: metric.or(link.cost),
+        to: link.to,
+        link_back: link.link_back,
+    })
+}
+
+/// Linked interfaces with metrics in place of their costs, where there are.
+fn costed_links(
+    alloc: Global,
+    links: &[Linked],
+    metrics: &[Option<u16>],
+) -> Result<Vec<Linked>, OutOfMemory>
+    ensures { IfOk result (λ made. made.items ≡ definition.costed_links links.now metrics.now) }
+{
+    let mut made = Vec::new(alloc);
+    for (link, metric) in links.iter().zip(metrics) {
+        made.push(costed(alloc, link, *metric)?)?;
+    }
+    Ok(made)
+}
+
+/// An area at the costs at which it runs, as the LSAs that count say them. The link of a linked interface is the first one
+/// of type 1 or 2 in the router-LSA of its router ID whose link data is its address; an interface of a configuration
+/// without a router ID has none.
+///
+/// # Errors
+///
+/// `OutOfMemory` where memory runs out, and never else.
+pub fn running_area(
+    alloc: Global,
+    configs: &[RouterConfig],
+    lsdb: Lsdb,
+    live: &Database,
+) -> Result<RunningArea, OutOfMemory>
+    ensures costs { IfOk result (λ area. area.lsdb ≡ definition.with_live_costs configs.now live.now lsdb) }
+    ensures missing { IfOk result (λ area. area.missing.items ≡ definition.missing_links configs.now live.now lsdb.links) }
+{
+    let metrics = live_metrics(alloc, configs, lsdb.links.as_slice(), live.as_slice())?;
+    let links = costed_links(alloc, lsdb.links.as_slice(), &metrics)?;
+    let missing = missing_of(alloc, &metrics)?;
+    Ok(RunningArea {
+        lsdb: Lsdb {
+            routers: lsdb.routers,
+            links: Listed::from_items(links),
+            subnets: lsdb.subnets,
+        },
+        missing,
+    })
+}

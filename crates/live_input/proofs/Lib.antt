@@ -1,0 +1,2 @@
+pub mod LsaFiles
+pub mod LiveReadings

@@ -1,0 +1,83 @@
+-- Read LSA by LSA, bytes come to what they come to.
+use Rattle.std.proofs.Common.{◌≡◌, ℕ, zero, suc, ◌+◌, ◌<◌, ◌≤◌, refl, sym, ◌∙◌, ap, subst, List, [], ◌∷◌, ◌++◌, length, take, drop, arith, Option, None, Some, Result, Ok, Err}
+use Rattle.std.specs.Borrow.{Bor}
+use Rattle.std.proofs.lemmas.List.{length-drop}
+use Rattle.lsa_bytes.specs.declared.stop.LsaFault.{LsaFault}
+use Rattle.lsa_bytes.specs.declared.stop.LsaStop.{LsaStop}
+use Rattle.lsa_bytes.specs.declared.stop.LsaStop.TheVariants.{Refused, OutOfMemory}
+use Rattle.lsa_bytes.specs.declared.Lsa.{Lsa}
+use Rattle.lsa_bytes.specs.declared.instances.Instance.{Instance}
+use Rattle.lsa_bytes.specs.Grammar.{length_of, said_at}
+use Rattle.lsa_bytes.specs.Faults.{length_fault, body_fault, form_fault}
+use Rattle.lsa_bytes.specs.Files.{ComesTo, Refuses, decided, instances_in}
+use Rattle.lsa_bytes.specs.Reading.{AreReadFrom}
+use Rattle.lsa_bytes.proofs.Lengths.{option_or-none, begins_whole}
+use Rattle.lsa_bytes.proofs.ReadSoFar.{IsUnderway, IsFirst, begin, next, all_read, broken_off}
+use Rattle.lsa_bytes.proofs.Pieces.{one_outcome}
+use Rattle.input_files.specs.Readings.{Says, EndsAs}
+use Rattle.input_files.specs.Stops.{StopsAs, IsReadAndMade}
+use Rattle.live_input.specs.LsaFiles.{by_fault, lsas_behind, lsas_in, if_lsas, lsa_stop}
+
+-- what instances and a fault behind them come to, the bytes come to
+comes_to : (bytes : List ℕ) (instances : List Instance) (behind : Option (LsaFault × ℕ)) → AreReadFrom bytes instances behind →
+    ComesTo bytes (decided instances behind)
+comes_to bytes instances behind read = record {
+  pieces = read.pieces;
+  rest = read.rest;
+  cut = read.cut;
+  is = ap (λ (all : List Instance). decided all behind) read.said ∙ ap (decided (instances_in 0 read.pieces)) read.behind_is;
+}
+
+-- the first LSA of the rest is off the grammar, or the bytes come to what they come to behind it
+by_found : (bytes rest : List ℕ) (before : List Instance) (offset : ℕ) (later : Result (List Lsa) (LsaFault × ℕ))
+    (found : Option LsaFault) → IsUnderway bytes rest before → 0 < length rest → offset + length rest ≡ length bytes →
+    form_fault rest ≡ found → (form_fault rest ≡ None → ComesTo bytes later) → ComesTo bytes (by_fault before offset found later)
+by_found bytes rest before offset later (Some fault) so_far some at is further =
+    comes_to bytes before (Some (fault, offset)) (broken_off bytes rest before offset fault so_far some (omega (arith, at)) is)
+by_found bytes rest before offset later None so_far some at is further = further is
+
+come_to : (most : ℕ) (bytes rest : List ℕ) (before : List Instance) (offset : ℕ) → IsUnderway bytes rest before →
+    length rest ≤ most → offset + length rest ≡ length bytes → ComesTo bytes (lsas_behind most before offset rest)
+come_to zero bytes rest before offset so_far few at = comes_to bytes before None (all_read bytes rest before so_far (omega (arith, few)))
+come_to (suc most) bytes [] before offset so_far few at = comes_to bytes before None (all_read bytes [] before so_far refl)
+come_to (suc most) bytes (byte ∷ more) before offset so_far few at =
+    let rest : List ℕ = byte ∷ more in
+    by_found bytes rest before offset
+    (lsas_behind most (before ++ said_at offset (take (length_of rest) rest)) (offset + length_of rest)
+    (drop (length_of rest) rest)) (form_fault rest) so_far (omega arith) at refl
+    (λ none.
+    (let parts = option_or-none (length_fault rest) (body_fault (take (length_of rest) rest)) none in
+    let begins = begins_whole rest parts.0 in
+    let first : IsFirst rest (take (length_of rest) rest) (drop (length_of rest) rest) = record { lsa_is = refl; behind_is = refl; begins = begins } in
+    come_to most bytes (drop (length_of rest) rest) (before ++ said_at offset (take (length_of rest) rest)) (offset + length_of rest)
+    (next bytes rest (take (length_of rest) rest) (drop (length_of rest) rest) before
+    (before ++ said_at offset (take (length_of rest) rest)) offset so_far first (omega (arith, at)) parts.1 refl)
+    (omega (arith, few, begins.header, begins.whole, length-drop (length_of rest) rest))
+    (omega (arith, at, begins.whole, length-drop (length_of rest) rest))))
+
+-- the bytes come to this, and to nothing else
+pub comes : (bytes : List ℕ) → ComesTo bytes (lsas_in bytes)
+comes bytes = come_to (length bytes) bytes bytes [] 0 (begin bytes [] refl) (omega arith) (omega arith)
+
+pub lsas_are : (bytes : List ℕ) (r : Result (List Lsa) (LsaFault × ℕ)) → ComesTo bytes r → lsas_in bytes ≡ r
+lsas_are bytes r is = one_outcome bytes (lsas_in bytes) r (comes bytes) is
+
+-- what was read of a file's bytes
+pub lsas_ready : (file bytes : List ℕ) (lsas : List Lsa) → ComesTo bytes (Ok lsas) → IsReadAndMade (if_lsas file (lsas_in bytes)) [] (λ made said. made ≡ said) lsas
+lsas_ready file bytes lsas is =
+    record {
+      said = lsas;
+      ends = subst
+          (λ (r : Result (List Lsa) (LsaFault × ℕ)). EndsAs (if_lsas file r) [] (Says lsas))
+          (sym (lsas_are bytes (Ok lsas) is)) refl;
+      fits = refl;
+    }
+
+-- the stop of LSAs that are refused
+pub lsas_stop : (file : Bor (List ℕ)) (bytes : List ℕ) (stop : LsaStop) → Refuses bytes stop →
+    StopsAs (if_lsas file.now (lsas_in bytes)) [] (lsa_stop stop file)
+lsas_stop file bytes (Refused fault offset) is =
+    subst (λ (r : Result (List Lsa) (LsaFault × ℕ)).
+    StopsAs (if_lsas file.now r) [] (lsa_stop (Refused fault offset) file))
+    (sym (lsas_are bytes (Err (fault, offset)) is)) refl
+lsas_stop file bytes OutOfMemory is = tt

@@ -1,0 +1,3 @@
+pub mod LsaFiles
+pub mod LiveReadings
+pub mod Laws

@@ -1,0 +1,40 @@
+-- What a live file says of an area, read after its size.
+use Rattle.std.specs.Prelude.{ℕ, List, Result, Ok, Err, if◌then◌else◌}
+use Rattle.std.specs.Borrow.{Bor}
+use Rattle.std.specs.Str.{is_utf8}
+use Rattle.std.specs.Str.Lossy.{utf8_valid_len}
+use Rattle.lsa_bytes.specs.declared.Lsa.{Lsa}
+use Rattle.live_reader.specs.declared.stop.LiveFault.{LiveFault}
+use Rattle.live_reader.specs.declared.stop.LiveFault.TheVariants.{BadJson}
+use Rattle.live_reader.specs.declared.stop.LiveStop.{LiveStop}
+use Rattle.live_reader.specs.declared.stop.LiveStop.TheVariants.{Refused as LiveRefused, OutOfMemory as NoMemoryForLive}
+use Rattle.live_reader.specs.FaultNumbers.{number_of}
+use Rattle.live_reader.specs.LiveFiles.{begins_object, said_by_json, as_live}
+use Rattle.live_reader.specs.Texts.{line_of_offset}
+use Rattle.input_files.specs.declared.stop.Stop.{Stop}
+use Rattle.input_files.specs.declared.stop.Stop.TheVariants.{Refused as StopRefused, OutOfMemory as StopOutOfMemory}
+use Rattle.input_files.specs.Readings.{Reading, Refused, Ready, ◌>>=◌}
+use Rattle.input_files.specs.Outcomes.{file_read}
+use Rattle.live_input.specs.LsaFiles.{longest_database, lsas_in}
+
+-- what bytes come to as JSON; bytes that aren't UTF-8 are no JSON, on the line where they cease to be so
+abbrev pub json_in : ℕ → List ℕ → Result (List Lsa) (LiveFault × ℕ)
+json_in area bytes = if is_utf8 bytes then said_by_json area bytes else Err (BadJson, line_of_offset bytes (utf8_valid_len bytes))
+
+-- what a live file comes to for an area, as JSON or as LSA bytes: the LSAs that count, or the first fault and its place
+abbrev pub live_in : ℕ → List ℕ → Result (List Lsa) (LiveFault × ℕ)
+live_in area bytes = if begins_object bytes then json_in area bytes else as_live (lsas_in bytes)
+
+-- a fault is written with its place, a line of JSON or an offset in LSA bytes
+abbrev pub if_live : List ℕ → Result (List Lsa) (LiveFault × ℕ) → Reading (List Lsa)
+if_live file (Ok lsas) = Ready lsas
+if_live file (Err fault) = Refused (record { number = number_of fault.0; file = file; line = fault.1 })
+
+-- a live file: its size, and then the LSAs of an area up to the first fault
+abbrev pub live_read : List ℕ → ℕ → Reading (List Lsa)
+live_read file area = file_read longest_database file >>= λ bytes. if_live file (live_in area bytes)
+
+-- the stop of a live file that is refused
+abbrev pub live_stop : LiveStop → Bor (List ℕ) → Stop
+live_stop (LiveRefused fault place) file = StopRefused (number_of fault) file place
+live_stop NoMemoryForLive file = StopOutOfMemory

@@ -1,0 +1,52 @@
+-- What a file of LSAs says, read LSA by LSA.
+use Rattle.std.specs.Prelude.{ℕ, zero, suc, ◌+◌, List, [], ◌∷◌, ◌++◌, length, take, drop, Option, Some, None, Result, Ok, Err}
+use Rattle.std.specs.Borrow.{Bor}
+use Rattle.input_files.specs.declared.stop.Stop.{Stop}
+use Rattle.input_files.specs.declared.stop.Stop.TheVariants.{Refused as StopRefused, OutOfMemory as StopOutOfMemory}
+use Rattle.input_files.specs.Readings.{Reading, Refused, Ready, ◌>>=◌}
+use Rattle.input_files.specs.Outcomes.{file_read}
+use Rattle.lsa_bytes.specs.declared.stop.LsaFault.{LsaFault}
+use Rattle.lsa_bytes.specs.declared.stop.LsaStop.{LsaStop}
+use Rattle.lsa_bytes.specs.declared.stop.LsaStop.TheVariants.{Refused as LsaRefused, OutOfMemory as NoMemoryForLsas}
+use Rattle.lsa_bytes.specs.declared.Lsa.{Lsa}
+use Rattle.lsa_bytes.specs.declared.instances.Instance.{Instance}
+use Rattle.lsa_bytes.specs.Faults.{form_fault}
+use Rattle.lsa_bytes.specs.Files.{decided}
+use Rattle.lsa_bytes.specs.Grammar.{length_of, said_at}
+use Rattle.lsa_bytes.specs.Numbers.{number_of}
+
+-- 64 MiB: the greatest length of a file of LSAs, and of a live file
+abbrev pub longest_database : ℕ
+longest_database = 67108864
+
+-- an LSA that is off the grammar ends the reading
+abbrev pub by_fault : List Instance → ℕ → Option LsaFault → Result (List Lsa) (LsaFault × ℕ) → Result (List Lsa) (LsaFault × ℕ)
+by_fault before offset (Some fault) later = decided before (Some (fault, offset))
+by_fault before offset None later = later
+
+-- what at most so many LSAs from an offset on come to, behind the instances before it
+abbrev pub lsas_behind : ℕ → List Instance → ℕ → List ℕ → Result (List Lsa) (LsaFault × ℕ)
+lsas_behind zero before offset rest = decided before None
+lsas_behind (suc most) before offset [] = decided before None
+lsas_behind (suc most) before offset (byte ∷ bytes) =
+    let rest = byte ∷ bytes in
+    by_fault before offset (form_fault rest)
+    (lsas_behind most (before ++ said_at offset (take (length_of rest) rest)) (offset + length_of rest) (drop (length_of rest) rest))
+
+-- the LSAs of the bytes that count, or the first fault and its offset
+abbrev pub lsas_in : List ℕ → Result (List Lsa) (LsaFault × ℕ)
+lsas_in bytes = lsas_behind (length bytes) [] 0 bytes
+
+-- a fault is written with its offset in place of a line
+abbrev pub if_lsas : List ℕ → Result (List Lsa) (LsaFault × ℕ) → Reading (List Lsa)
+if_lsas file (Ok lsas) = Ready lsas
+if_lsas file (Err fault) = Refused (record { number = number_of fault.0; file = file; line = fault.1 })
+
+-- a file of LSAs: its size, and then its LSAs up to the first fault
+abbrev pub lsas_read : List ℕ → Reading (List Lsa)
+lsas_read file = file_read longest_database file >>= λ bytes. if_lsas file (lsas_in bytes)
+
+-- the stop of LSAs that are refused
+abbrev pub lsa_stop : LsaStop → Bor (List ℕ) → Stop
+lsa_stop (LsaRefused fault offset) file = StopRefused (number_of fault) file offset
+lsa_stop NoMemoryForLsas file = StopOutOfMemory

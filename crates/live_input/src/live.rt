@@ -1,0 +1,47 @@
+//! Reading a live file.
+ghost use Rattle.std.specs.Prelude.{◌≡◌};
+ghost use Rattle.input_files.specs.Readings.{Gave};
+ghost use Rattle.input_files.specs.Stops.{IsReadAs};
+ghost use Rattle.live_input.specs.LiveReadings.{live_read, live_stop};
+
+use crate::LONGEST_DATABASE;
+use cost_base::Shelf;
+use input_files::{Stop, read_file};
+use live_reader::{LiveStop, read_live};
+use lsa_bytes::Database;
+use std::alloc::Global;
+
+/// The stop of a live file that is refused, with the place of the fault in place of a line.
+fn stop_of_live(stop: LiveStop, file: &str) -> Stop<'_>
+    ensures { result ≡ live_stop stop file.entry }
+{
+    match stop {
+        LiveStop::Refused { fault, place } => Stop::Refused {
+            number: fault.number(),
+            file,
+            line: place,
+        },
+        LiveStop::OutOfMemory => Stop::OutOfMemory,
+    }
+}
+
+/// The LSAs of an area that count, as a live file says them: JSON as FRRouting prints it, or LSA bytes.
+///
+/// # Errors
+///
+/// `Stop`: the file failed or is too long, or has a fault, with the line of JSON or the offset in LSA bytes as the line;
+/// want of memory.
+pub fn read_live_file<'a, S: Shelf>(
+    alloc: Global,
+    shelf: &mut S,
+    name: &'a str,
+    area: u32,
+) -> Result<Database, Stop<'a>>
+    ensures { Gave (S.gave shelf.old shelf.new) (λ came. IsReadAs (live_read name.now area) came (λ database lsas. database ≡ lsas) result) }
+{
+    let bytes = read_file(alloc, shelf, name, LONGEST_DATABASE)?;
+    match read_live(alloc, &bytes, area) {
+        Ok(database) => Ok(database),
+        Err(stop) => Err(stop_of_live(stop, name)),
+    }
+}

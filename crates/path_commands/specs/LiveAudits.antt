@@ -1,0 +1,92 @@
+-- What an audit of a running area prints of wanted paths.
+use Rattle.std.specs.Prelude.{◌≡◌, ℕ, ◌+◌, List, [], ◌∷◌, ◌++◌, filter, length, slice_get, codes, Bool, Option, Some, None}
+use Rattle.std.specs.List.{AllZip, list_any}
+use Rattle.cost_base.specs.Decimal.{decimal}
+use Rattle.cost_base.specs.Lists.{numbers_from}
+use Rattle.cost_base.specs.declared.Status.{Status}
+use Rattle.cost_base.specs.declared.Status.TheVariants.{Done}
+use Rattle.area_graph.specs.Area.{Area}
+use Rattle.area_graph.specs.Costs.{at_costs}
+use Rattle.area_graph.specs.Paths.{Avoids}
+use Rattle.lsdb_build.specs.Graphs.{Database}
+use Rattle.spf_ties.specs.Distances.{IsLeastCost}
+use Rattle.design_problem.specs.declared.problem.Request.{Request}
+use Rattle.design_problem.specs.Problems.{DesignProblem, request_ends}
+use Rattle.wanted_paths.specs.Paths.{link_takes}
+use Rattle.lsa_bytes.specs.declared.Lsa.{Lsa}
+use Rattle.live_area.specs.LiveCosts.{missing_links, with_live_costs}
+use Rattle.live_input.specs.LiveReadings.{live_read}
+use Rattle.input_files.specs.declared.problem.View.TheVariants.{AtPresent}
+use Rattle.input_files.specs.Inputs.{InputFiles}
+use Rattle.input_files.specs.Layouts.{LaidOut, layout_read}
+use Rattle.input_files.specs.Outcomes.{problem_read, routers_of}
+use Rattle.input_files.specs.Readings.{Reading, Ready, ◌>>=◌}
+use Rattle.report_writer.specs.Texts.{line_of_words}
+use Rattle.path_commands.specs.declared.audit_live.LivePath.{LivePath}
+use Rattle.path_commands.specs.declared.audit_live.LivePath.TheVariants.{Stands, Gone}
+use Rattle.path_commands.specs.Audits.{IsAudited, audit_line}
+
+-- a running area: what its files say, the LSAs of its live file, and the problem at the costs at which it runs
+pub record Running : Type 0 where
+  pub laid : LaidOut
+  pub lsas : List Lsa
+  pub problem : DesignProblem
+
+-- the area of files with the metric of its link in place of each linked interface's cost, where it has a link
+abbrev pub running_database : LaidOut → List Lsa → Database
+running_database laid lsas = with_live_costs (routers_of laid.files) lsas laid.database
+
+-- What the files of a network and then the live file say. Each linked interface needs a cost then, that of its link or else
+-- that of its configuration or the default.
+abbrev pub live_audit_read : InputFiles → List ℕ → Reading Running
+live_audit_read names live =
+    layout_read names >>= λ laid.
+    live_read live laid.asked.area >>= λ lsas.
+    problem_read AtPresent names laid.asked (running_database laid lsas) >>= λ p.
+    Ready (record { laid = laid; lsas = lsas; problem = p })
+
+-- the edges of linked interfaces, in both directions of their point-to-point links, or from and to their subnets
+abbrev pub edges_of_links : Database → Area → List ℕ → List ℕ
+edges_of_links d g links = filter (λ e. list_any (λ l. link_takes d g l (slice_get d.links l) e) links) (numbers_from 0 (length g.edges))
+
+-- the edges that are gone with the linked interfaces that have no link
+abbrev pub gone_edges : Running → List ℕ
+gone_edges now =
+    let d = running_database now.laid now.lsas in
+    edges_of_links d now.problem.graph (missing_links (routers_of now.laid.files) now.lsas now.laid.database.links)
+
+-- a request in what is left without some edges
+abbrev pub left_without : List ℕ → Request → Request
+left_without gone r = record r { excluded = r.excluded ++ gone }
+
+-- what is found of a wanted path: it is audited in what is left, or an edge of it is gone, and then its request's least cost
+-- in what is left is told
+abbrev pub IsFoundLive : Area → List ℕ → Request → LivePath → Type 0
+IsFoundLive g gone r (Stands path) = Avoids gone r.path.edges × IsAudited g (left_without gone r) path
+IsFoundLive g gone r (Gone least) = (Avoids gone r.path.edges → ⊥) × IsLeastCost g (at_costs []) (request_ends (left_without gone r)) least
+
+-- `least L`, or `unreachable`
+abbrev pub left_words : Option ℕ → List (List ℕ)
+left_words (Some least) = codes "least" ∷ decimal least ∷ []
+left_words None = codes "unreachable" ∷ []
+
+-- the line of an audit; or `path I gone least L`, or `path I gone unreachable`
+abbrev pub live_line : ℕ → LivePath → List ℕ
+live_line i (Stands path) = audit_line i path
+live_line i (Gone least) = line_of_words (codes "path" ∷ decimal i ∷ codes "gone" ∷ left_words least)
+
+-- a line for each path, from number i on
+abbrev pub live_lines : ℕ → List LivePath → List ℕ
+live_lines i [] = []
+live_lines i (path ∷ paths) = live_line i path ++ live_lines (i + 1) paths
+
+-- the text of an audit of a running area
+pub record IsLiveAudit (now : Running) (bytes : List ℕ) : Type 0 where
+  pub paths : List LivePath
+  pub found : AllZip (IsFoundLive now.problem.graph (gone_edges now)) now.problem.paths paths
+  pub spelled : bytes ≡ live_lines 0 paths
+
+-- `audit --live`
+abbrev pub MayAuditLive : Running → Status → List ℕ → Type 0
+MayAuditLive now Done bytes = IsLiveAudit now bytes
+MayAuditLive now status bytes = ⊥

@@ -1,0 +1,208 @@
+//! `audit --live`: how the wanted paths stand at the costs at which the area runs.
+ghost use Rattle.std.specs.Prelude.{◌≡◌, ◌<◌, ◌↔◌, [], IfOk, IsTrue, length};
+ghost use Rattle.std.specs.List.{AllZip};
+ghost use Rattle.area_graph.specs.Costs.{FitsPoint, at_costs};
+ghost use Rattle.area_graph.specs.Paths.{Avoids, IsPathOf};
+ghost use Rattle.spf_ties.specs.Distances.{IsLeastCost, IsRoomFor};
+ghost use Rattle.design_problem.specs.Problems.{request_ends};
+ghost use Rattle.live_area.specs.LiveCosts.{missing_links};
+ghost use Rattle.input_files.specs.Readings.{Gave};
+ghost use Rattle.input_files.specs.Stops.{IsReadAs, files_named};
+ghost use Rattle.path_commands.specs.LiveAudits.{IsFoundLive, MayAuditLive, edges_of_links, left_without, live_audit_read, live_line, live_lines};
+ghost use Rattle.report_writer.specs.Reports.{bytes_in};
+
+use crate::audit::{AuditedPath, audited, line_of};
+use crate::gone::edges_of_links;
+use area_graph::{Graph, Path, Point, Removal, mark_excluded};
+use cost_base::{Listed, OutOfMemory, Shelf, Status};
+use design_problem::{Problem, Request};
+use input_files::{FileWords, Stop, read_layout, resolution_at_present};
+use live_area::{RunningArea, running_area};
+use live_input::read_live_file;
+use report_writer::Report;
+use spf_ties::Room;
+use std::alloc::Global;
+use text_lines::{push_bytes, push_number};
+
+/// What is found of a wanted path in an area of which edges are gone.
+#[derive(Clone, Copy, Debug, PartialEq, Eq)]
+pub(crate) enum LivePath {
+    /// No edge of it is gone: how it stands in what is left.
+    Stands(AuditedPath),
+    /// An edge of it is gone: the least cost of its request in what is left, if it has a path there.
+    Gone(Option<u128>),
+}
+
+/// Whether none of the edges is gone.
+fn is_left(gone: &Removal<'_>, edges: &[u32]) -> bool
+    ensures { IsTrue result ↔ Avoids gone.now edges.now }
+{
+    for edge in edges {
+        if !gone.leaves(*edge) {
+            return false;
+        }
+    }
+    true
+}
+
+/// A request in what is left without some edges.
+fn left_without(
+    alloc: Global,
+    gone: &Removal<'_>,
+    request: &Request,
+) -> Result<Request, OutOfMemory>
+    ensures { IfOk result (λ left. left ≡ left_without gone.now request.now) }
+{
+    let mut excluded = Vec::from_slice(alloc, request.excluded.as_slice())?;
+    excluded.extend_from_slice(gone.excluded)?;
+    Ok(Request {
+        path: Path {
+            start: request.path.start,
+            edges: request.path.edges.copy(alloc)?,
+        },
+        end: request.end,
+        excluded: Listed::from_items(excluded),
+    })
+}
+
+/// The least cost of the simple paths of a request, None where it has none.
+fn least_left(graph: &Graph, request: &Request, point: &Point, room: &mut Room) -> Option<u128>
+    requires room { IsRoomFor graph.now room.old }
+    requires fits { FitsPoint graph.now point.now }
+    requires start { request.now.path.start < length graph.now.vertices }
+    requires end { request.now.end < length graph.now.vertices }
+    ensures room { IsRoomFor graph.now room.new }
+    ensures least { IsLeastCost graph.now point.now (request_ends request.now) result }
+{
+    room.distances_without(graph, point, request.end, request.excluded.as_slice());
+    room.distance(request.path.start)
+}
+
+/// What is found of a wanted path where edges are gone.
+fn found_live(
+    alloc: Global,
+    graph: &Graph,
+    gone: &Removal<'_>,
+    request: &Request,
+    room: &mut Room,
+) -> Result<LivePath, OutOfMemory>
+    requires room { IsRoomFor graph.now room.old }
+    requires fits { FitsPoint graph.now (at_costs []) }
+    requires path { IsPathOf graph.now (request_ends request.now) request.now.path.edges }
+    ensures room { IsRoomFor graph.now room.new }
+    ensures found { IfOk result (IsFoundLive graph.now gone.now request.now) }
+{
+    let point = Point {
+        scale: 1,
+        values: Listed::new(alloc),
+    };
+    let left = left_without(alloc, gone, request)?;
+    if is_left(gone, request.path.edges.as_slice()) {
+        Ok(LivePath::Stands(audited(graph, &left, &point, room)))
+    } else {
+        Ok(LivePath::Gone(least_left(graph, &left, &point, room)))
+    }
+}
+
+/// What is found of the wanted paths of a problem without variables where edges are gone.
+fn audit_left(
+    alloc: Global,
+    problem: &Problem,
+    gone: &Removal<'_>,
+) -> Result<Vec<LivePath>, OutOfMemory>
+    requires { problem.now.low ≡ [] }
+    ensures { IfOk result (λ found. AllZip (IsFoundLive problem.now.graph gone.now) problem.now.paths found.items) }
+{
+    let mut room = Room::new(alloc, &problem.graph)?;
+    let mut found = Vec::new(alloc);
+    for request in problem.paths.as_slice() {
+        found.push(found_live(alloc, &problem.graph, gone, request, &mut room)?)?;
+    }
+    Ok(found)
+}
+
+/// What is found of the wanted paths of a problem at the costs at which an area runs.
+fn audit_running(
+    alloc: Global,
+    problem: &Problem,
+    running: &RunningArea,
+) -> Result<Vec<LivePath>, OutOfMemory>
+    requires { problem.now.low ≡ [] }
+    ensures { IfOk result (λ found. AllZip (IsFoundLive problem.now.graph
+        (edges_of_links running.now.lsdb problem.now.graph running.now.missing.items)) problem.now.paths found.items) }
+{
+    let edges = edges_of_links(alloc, &running.lsdb, &problem.graph, &running.missing)?;
+    let mut marks = vec![in alloc; false; problem.graph.edges().len()]?;
+    mark_excluded(&mut marks, &edges);
+    let gone = Removal {
+        excluded: &edges,
+        marks: &marks,
+    };
+    audit_left(alloc, problem, &gone)
+}
+
+/// The line of a path, by its number, of which an edge is gone.
+fn gone_line(alloc: Global, number: usize, least: Option<u128>) -> Result<Vec<u8>, OutOfMemory>
+    ensures { IfOk result (λ line. line.items ≡ live_line number (LivePath.Gone least)) }
+{
+    let mut line = Vec::new(alloc);
+    push_bytes(&mut line, b"path ")?;
+    push_number(&mut line, number as u128)?;
+    match least {
+        Some(least) => {
+            push_bytes(&mut line, b" gone least ")?;
+            push_number(&mut line, least)?;
+            push_bytes(&mut line, b"\n")?;
+        }
+        None => push_bytes(&mut line, b" gone unreachable\n")?,
+    }
+    Ok(line)
+}
+
+/// The line of a path by its number, with its LF.
+fn live_line(alloc: Global, number: usize, path: LivePath) -> Result<Vec<u8>, OutOfMemory>
+    ensures { IfOk result (λ line. line.items ≡ live_line number path) }
+{
+    match path {
+        LivePath::Stands(path) => line_of(alloc, number, path),
+        LivePath::Gone(least) => gone_line(alloc, number, least),
+    }
+}
+
+/// The text of an audit of a running area: a line for each path.
+fn live_text(alloc: Global, paths: &[LivePath]) -> Result<Vec<u8>, OutOfMemory>
+    ensures { IfOk result (λ text. text.items ≡ live_lines 0 paths.now) }
+{
+    let mut text = Vec::new(alloc);
+    for (number, path) in paths.iter().enumerate() {
+        let line = live_line(alloc, number, *path)?;
+        push_bytes(&mut text, &line)?;
+    }
+    Ok(text)
+}
+
+/// The report of an audit of an area as it runs: of the files of words, and then of the live file, which says the metrics of
+/// the links that stand in place of present costs. A linked interface without a link is gone, with its link in both directions.
+/// There is a line for each wanted path.
+///
+/// # Errors
+///
+/// `Stop`: a file failed or is too long, or the input has a fault; a linked interface has neither a link nor a cost; want of
+/// memory.
+pub fn audit_live_report<'a, S: Shelf>(
+    alloc: Global,
+    words: FileWords<'a>,
+    live: &'a str,
+    shelf: &mut S,
+) -> Result<Report, Stop<'a>>
+    ensures { Gave (S.gave shelf.old shelf.new) (λ came. IsReadAs (live_audit_read (files_named words.entry) live.now) came
+        (λ report said. MayAuditLive said report.status (bytes_in report.text)) result) }
+{
+    let layout = read_layout(alloc, words, shelf)?;
+    let lsas = read_live_file(alloc, shelf, live, layout.requests.area)?;
+    let running = running_area(alloc, &layout.configs, layout.lsdb, &lsas)?;
+    let problem = resolution_at_present(alloc, &layout.requests, &running.lsdb, words)?;
+    let found = audit_running(alloc, &problem, &running)?;
+    let text = live_text(alloc, &found)?;
+    Ok(Report::made(Status::Done, text))
+}
