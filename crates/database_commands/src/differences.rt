@@ -107,12 +107,7 @@ fn stranger_line(alloc: Global, router: u32) -> Result<Vec<u8>, OutOfMemory>
 }
 
 /// The line of a link that is that of no linked interface.
-fn unknown_line(
-    alloc: Global,
-    router: u32,
-    address: u32,
-    live: u16,
-) -> Result<Vec<u8>, OutOfMemory>
+fn unknown_line(alloc: Global, router: u32, address: u32, live: u16) -> Result<Vec<u8>, OutOfMemory>
     ensures { (d : Database) → IfOk result (λ line. line.items ≡ line_of_words (difference_words d (Difference.Unknown router address live))) }
 {
     let mut line = Vec::new(alloc);
@@ -140,11 +135,7 @@ fn same_line(alloc: Global, same: u32, linked: u32) -> Result<Vec<u8>, OutOfMemo
 }
 
 /// A line of a comparison, with its LF.
-fn difference_line(
-    alloc: Global,
-    lsdb: &Lsdb,
-    line: Difference,
-) -> Result<Vec<u8>, OutOfMemory>
+fn difference_line(alloc: Global, lsdb: &Lsdb, line: Difference) -> Result<Vec<u8>, OutOfMemory>
     ensures { IfOk result (λ text. text.items ≡ line_of_words (difference_words lsdb.now line)) }
 {
     match line {
