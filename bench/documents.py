@@ -1,7 +1,8 @@
 """Checks what the documents claim and a machine can tell. It is run by hand, from any folder:
 
-    python3 bench/documents.py          counts, edges of the map, names, refusal numbers, links
-    python3 bench/documents.py --run    besides, each command of the documents, with the built program
+    python3 bench/documents.py          counts, edges of the map, names, refusal numbers, texts of help, links, what must be
+                                        believed
+    python3 bench/documents.py --run    besides, each command of the documents and of the texts of help, with the built program
 
 A document says in comments that no reader sees what its commands print:
 
@@ -19,6 +20,8 @@ import re
 import subprocess
 import sys
 import tempfile
+
+import believed
 
 TOP = os.path.dirname(os.path.dirname(os.path.abspath(__file__)))
 COMMENT = re.compile(r"<!-- (prints|begins|makes|status) (.*?) -->")
@@ -221,6 +224,91 @@ def check_numbers(claims, path="docs/operators.md"):
         claims.claim(number in code, f"{path}:{line}", f"no refusal of the code has the number {number}")
 
 
+MEANING = re.compile(r"^ +(\d+) => at\(?$|^ +(\d+) => at\(", re.M)
+
+
+def check_meanings(claims, path="crates/refusal_sentences/src/meanings.rt", page="docs/operators.md"):
+    """Each number of the code has a sentence, and a faulty line with its mended form, and no other number has one."""
+    code = numbers_of_code()
+    meant = {int(one or other) for one, other in MEANING.findall(text_of(path))}
+    mended = {int(it) for it in re.findall(r"^\| (\d+) \|", text_of(page).partition("## Faulty lines, mended")[2].partition("\n## ")[0], re.M)}
+    for place, told in ((path, meant), (page, mended)):
+        for number in sorted(code ^ told):
+            claims.claim(number not in code, place, f"refusal {number} of the code isn't there")
+            claims.claim(number not in told, place, f"no refusal of the code has the number {number}")
+    claims.claim(code == meant == mended, path, "numbers differ")
+
+
+# Texts of help.
+
+HELP = "crates/help_texts/src/texts"
+
+
+def rust_text(path, name):
+    """The text of a constant that begins with a backslash behind its quote."""
+    return re.search(rf'const {name}: &str = "\\\n(.*?)";', text_of(path), re.S).group(1).replace('\\"', '"')
+
+
+def usage_lines():
+    lines = rust_text("crates/designer_command/src/top_call.rt", "USAGE").splitlines()
+    return {line.split()[2 if line.startswith("usage:") else 1]: "usage: " + line.removeprefix("usage:").strip() for line in lines}
+
+
+def help_texts():
+    for name in os.listdir(os.path.join(TOP, HELP)):
+        yield name.removesuffix(".rt"), f"{HELP}/{name}", rust_text(f"{HELP}/{name}", "TEXT")
+
+
+def ranges_of_code():
+    """What the code takes for the number of an option: the least, the greatest, and what stands for it."""
+    text = text_of("crates/command_words/src/values.rt") + text_of("crates/command_words/src/reading.rt")
+    for name, rest in re.findall(r'm(?:ay|ust)_number\(matches, "([a-z]+)", ([0-9_, ]+)\)', text):
+        yield name, [int(it.replace("_", "")) for it in rest.split(",")]
+
+
+def check_help(claims):
+    """The texts of help: the usage line, each word with its range, at most 40 lines; and the version."""
+    usage, ranges, readme = usage_lines(), dict(ranges_of_code()), text_of("README.md")
+    for name, path, text in help_texts():
+        claims.claim(len(text.splitlines()) <= 40, path, "more than 40 lines")
+        claims.claim("\nexample\n  ./ospfcost " in text, path, "no example")
+        if name == "all":
+            for command in usage:
+                claims.claim(re.search(rf"^  {command} ", text, re.M), path, f"nothing on {command}")
+            continue
+        claims.claim(text.splitlines()[0] == usage.get(name), path, "the first line isn't that of the usage text")
+        words = text.partition("\nwords\n")[2].partition("\n\n")[0]
+        for option in re.findall(r"--([a-z]+)", text.splitlines()[0]):
+            about = re.search(rf"^  --{option} (.*?)(?=\n  -|\n  [A-Z]|\Z)", words, re.M | re.S)
+            claims.claim(about, path, f"nothing on --{option}")
+            if about and option in ranges and not (name == "steps" and option == "bits"):
+                low, high, *default = ranges[option]
+                claims.claim(f"{low} to {high}" in about.group(1), path, f"--{option} goes from {low} to {high}")
+                for usual in default:
+                    claims.claim(f"({usual})" in about.group(1), path, f"{usual} stands for --{option}")
+                    claims.claim(f"{usual:,}" in readme or str(usual) in readme, "README.md", f"no word on the default {usual} of --{option}")
+        row = re.search(rf"^\| `{name}\b(.*?)`(?: \||,)|`{name}`", readme, re.M)
+        claims.claim(row, "README.md", f"no row of {name}")
+    version = rust_text("crates/help_texts/src/lib.rt", "VERSION").splitlines()[1].removeprefix("proved with ")
+    claims.claim(f"`{version}`" in readme, "README.md", f"the program says that it is proved with {version}")
+    try:
+        kit = subprocess.run(["rt", "version"], capture_output=True, text=True).stdout.strip()
+        claims.claim(kit == version, "crates/help_texts/src/lib.rt", f"`rt version` says {kit}")
+    except OSError:
+        print("no `rt` here: the checker of `version` isn't looked at")
+
+
+def run_help(claims, folder):
+    """The examples of the texts of help end with a status that the text has."""
+    for name, path, text in help_texts():
+        command = re.search(r"\nexample\n  (.*)", text).group(1)
+        ran = subprocess.run(["sh", "-c", command], cwd=folder, stdin=subprocess.DEVNULL, capture_output=True)
+        told = (0, 1) if name == "compare" else (0,)
+        claims.claim(ran.returncode in told, path, f"{command} ends with status {ran.returncode}")
+        if name in ("help", "all"):
+            claims.claim(ran.stdout.decode() == rust_text(f"{HELP}/design.rt", "TEXT"), path, f"{command} prints something else")
+
+
 # Links.
 
 def check_links(claims):
@@ -232,6 +320,13 @@ def check_links(claims):
                     claims.claim(there, f"{path}:{number}", f"the link to {target} leads nowhere")
             for target in re.findall(r"\b((?:docs|bench|examples|crates)/(?!NAME)[A-Za-z_0-9/.-]+\.(?:md|py|sh|txt|svg|rt|antt))\b", line):
                 claims.claim(os.path.exists(os.path.join(TOP, target)), f"{path}:{number}", f"there is no {target}")
+
+
+# What must be believed.
+
+def check_believed(claims):
+    """docs/believed.md is what believed.py makes of the code."""
+    claims.claim(text_of(believed.PAGE) == believed.page(believed.believed()), believed.PAGE, "the code has another list (python3 bench/believed.py --write)")
 
 
 # Commands.
@@ -292,6 +387,7 @@ def run_commands(claims):
         for path in documents():
             for command in commands_in(path):
                 run_one(claims, path, command, folder)
+        run_help(claims, folder)
 
 
 def run_one(claims, path, command, folder):
@@ -330,7 +426,10 @@ def main(words):
     check_map(claims)
     check_names(claims)
     check_numbers(claims)
+    check_meanings(claims)
+    check_help(claims)
     check_links(claims)
+    check_believed(claims)
     if words:
         run_commands(claims)
     for text in claims.false:

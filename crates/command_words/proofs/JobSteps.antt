@@ -1,15 +1,15 @@
 -- From the values that a row finds to the job of its words.
-use Rattle.std.proofs.Common.{◌≡◌, ◌∙◌, cond, true, false, List, [], ◌∷◌, Option, Some, None, Result, Ok, Err, IsErrAnd, MatchOption, option_map, option_and_then, sym, ap, subst, length, arith}
+use Rattle.std.proofs.Common.{◌≡◌, ◌∙◌, cond, true, false, List, [], ◌∷◌, Option, Some, None, Result, Ok, Err, IsErrAnd, MatchOption, option_and_then, sym, ap, subst, length, arith}
 use Rattle.std.specs.declared.string.String.{String}
 use Rattle.std.specs.declared.alloc.Global.{Global}
 use Rattle.text_lines.specs.Arguments.{texts}
 use Rattle.command_words.specs.declared.job.Job.{Job}
 use Rattle.command_words.specs.declared.job.WordsStop.{WordsStop}
 use Rattle.command_words.specs.declared.job.WordsStop.TheVariants.{Refused}
-use Rattle.command_words.specs.declared.table.CommandName.{CommandName}
+use Rattle.command_words.specs.declared.job.CommandName.{CommandName}
 use Rattle.command_words.specs.Jobs.{Text, seen}
-use Rattle.command_words.specs.Commands.{CommandRow, Found, found_in, job_of, job_of_row, row_of_word, takes_words}
-use Rattle.command_words.specs.Forms.{row_of_command, Answers}
+use Rattle.command_words.specs.Commands.{CommandRow, Found, found_in, job_of, job_of_row, row_of, command_named, takes_words}
+use Rattle.command_words.specs.Forms.{Answers}
 
 -- words that the row's simple command doesn't take have no job
 pub refused_row : (form : CommandRow) (words : List Text) (r : Result Job WordsStop) (e : WordsStop) → IsErrAnd r (λ y. y ≡ e)
@@ -28,11 +28,11 @@ taken_row form words found r takes same h =
     subst (λ part. Answers part seen r) is h
 
 -- the first word picks the row
-pub named_row : (word : Text) (others : List Text) (o : Option CommandName) → option_map row_of_command o ≡ row_of_word word
-    → MatchOption o (job_of (word ∷ others) ≡ None) (λ n. job_of (word ∷ others) ≡ job_of_row (row_of_command n) (word ∷ others))
+pub named_row : (word : Text) (others : List Text) (o : Option CommandName) → o ≡ command_named word
+    → MatchOption o (job_of (word ∷ others) ≡ None) (λ n. job_of (word ∷ others) ≡ job_of_row (row_of n) (word ∷ others))
 unfolding job_of
-named_row word others None is = ap (option_and_then (λ form. job_of_row form (word ∷ others))) (sym is)
-named_row word others (Some n) is = ap (option_and_then (λ form. job_of_row form (word ∷ others))) (sym is)
+named_row word others None is = ap (option_and_then (λ n. job_of_row (row_of n) (word ∷ others))) (sym is)
+named_row word others (Some n) is = ap (option_and_then (λ n. job_of_row (row_of n) (word ∷ others))) (sym is)
 
 -- no words, no job
 pub no_words : (words : List (String Global)) → length words ≡ 0 → job_of (texts words) ≡ None

@@ -1,16 +1,16 @@
 -- The ranges of numbers in jobs.
 use Rattle.std.proofs.Common.{◌≡◌, ◌∙◌, Result, Ok, Err, IfOk, ◌≤◌, ℕ, Bool, cond, true, false, List, [], ◌∷◌, Option, Some, None, IfSome, option_and_then, option_map, codes, refl, subst, arith}
-use Rattle.std.specs.Prelude.{find, nat_le}
-use Rattle.std.specs.List.{AllByRecursion}
+use Rattle.std.specs.Prelude.{nat_le}
 use Rattle.text_lines.specs.Numbers.{number, quad}
 use Rattle.text_lines.proofs.NumberLaws.{number_within-le}
-use Rattle.cost_base.specs.Lists.{same_bytes}
 use Rattle.command_words.specs.declared.job.Job.{Job}
 use Rattle.command_words.specs.declared.job.WordsStop.{WordsStop}
 use Rattle.command_words.specs.Forms.{Answers}
-use Rattle.command_words.specs.Jobs.{seen, Text, JobRead, SearchRead, IsInRange, Design, Check, Audit, Rewrite, Trial, Conflict, Spread, Total, Change, Steps, Lsas, Route}
-use Rattle.command_words.specs.Commands.{CommandRow, Found, search_of, job_of, job_of_row, row_of_word, table, takes_words, found_in, option_value, configs_found, number_between, number_or, from_low, of_two, of_three, trial_job}
-use Rattle.command_words.specs.Commands.{of_five, nodes_found, step_unit, steps_job}
+use Rattle.command_words.specs.Jobs.{seen, Text, JobRead, SearchRead, IsInRange, Design, Check, Audit, Rewrite, Trial, Conflict, Spread, Total, Change, Steps, Compare, Lsas, Route, Help}
+use Rattle.command_words.specs.Commands.{CommandRow, Found, search_of, job_of, job_of_row, row_of, command_named, takes_words, found_in, option_value, configs_found, number_between, number_or, from_low, of_two, of_three, trial_job}
+use Rattle.command_words.specs.Commands.{of_five, nodes_found, step_unit, steps_job, topic_of}
+use Rattle.command_words.specs.declared.job.CommandName.{CommandName}
+use Rattle.command_words.specs.declared.job.CommandName.TheVariants as name
 
 two_in : {A B : Type 0} (whole : A → B → JobRead) (a : Option A) (b : Option B)
     → ((x : A) (y : B) → a ≡ Some x → b ≡ Some y → IsInRange (whole x y)) → IfSome (of_two whole a b) IsInRange
@@ -75,63 +75,36 @@ steps_in found =
     (λ request answer nodes by configs is.
     or_in 100000 1 10000000 (option_value (codes "nodes") found) nodes (omega arith) (omega arith) is)
 
+help_in : (o : Option (Option CommandName)) → IfSome (option_map Help o) IsInRange
+help_in None = tt
+help_in (Some topic) = tt
+
 abbrev InRange : CommandRow → Type 0
 InRange form = (found : Found) → IfSome (form.job found) IsInRange
 
-rows_in : AllByRecursion InRange table
-unfolding table
-rows_in = (
-  (λ found. search_in Design (search_of found) (λ s. tt)),
-  (
-    (λ found. three_in Check (option_value (codes "request") found) (option_value (codes "answer") found) (configs_found found) (λ x y z. tt)),
-    (
-      (λ found. two_in Audit (option_value (codes "request") found) (configs_found found) (λ x y e f. tt)),
-      (
-        (λ found. two_in Rewrite (option_value (codes "answer") found) (option_value (codes "CONFIG") found) (λ x y e f. tt)),
-        (
-          trial_in,
-          (
-            (λ found. search_in Conflict (search_of found) (λ s. tt)),
-            (
-              (λ found. two_in Spread (search_of found) (option_value (codes "sets") found) (λ x y e f. tt)),
-              (
-                (λ found. search_in Total (search_of found) (λ s. tt)),
-                (
-                  (λ found. search_in Change (search_of found) (λ s. tt)),
-                  (
-                    steps_in,
-                    (
-                      (λ found. two_in Lsas (option_value (codes "request") found) (configs_found found)
-                          (λ x y e f. tt)),
-                      (
-                        (λ found. three_in Route (option_value (codes "lsas") found)
-                            (option_and_then quad (option_value (codes "from") found))
-                            (option_and_then quad (option_value (codes "to") found)) (λ x y z. tt)),
-                        tt,
-                      ),
-                    ),
-                  ),
-                ),
-              ),
-            ),
-          ),
-        ),
-      ),
-    ),
-  ),
-)
-
-found_holds : {X : Type 0} (p : X → Bool) (P : X → Type 0) (xs : List X) → AllByRecursion P xs → IfSome (find p xs) P
-found_holds p P [] h = tt
-found_holds p P (x ∷ xs) h = go (p x) (found_holds p P xs h.1)
-  where
-    go : (b : Bool) → IfSome (find p xs) P → IfSome (cond b (Some x) (find p xs)) P
-    go true rest = h.0
-    go false rest = rest
-
-row_in : (word : Text) → IfSome (row_of_word word) InRange
-unfolding row_of_word
-row_in word = found_holds (λ form. same_bytes form.name word) InRange table rows_in
+row_in : (n : CommandName) → InRange (row_of n)
+row_in name.Design found = search_in Design (search_of found) (λ s. tt)
+row_in name.Check found =
+    three_in Check (option_value (codes "request") found) (option_value (codes "answer") found) (configs_found found) (λ x y z. tt)
+row_in name.Audit found =
+    two_in (λ request configs. Audit request (option_value (codes "live") found) configs) (option_value (codes "request") found)
+    (configs_found found) (λ x y e f. tt)
+row_in name.Rewrite found =
+    two_in Rewrite (option_value (codes "answer") found) (option_value (codes "CONFIG") found) (λ x y e f. tt)
+row_in name.Trial found = trial_in found
+row_in name.Conflict found = search_in Conflict (search_of found) (λ s. tt)
+row_in name.Spread found = two_in Spread (search_of found) (option_value (codes "sets") found) (λ x y e f. tt)
+row_in name.Total found = search_in Total (search_of found) (λ s. tt)
+row_in name.Change found = search_in Change (search_of found) (λ s. tt)
+row_in name.Steps found = steps_in found
+row_in name.Compare found =
+    three_in Compare (option_value (codes "live") found) (option_value (codes "request") found) (configs_found found) (λ x y z. tt)
+row_in name.Lsas found = two_in Lsas (option_value (codes "request") found) (configs_found found) (λ x y e f. tt)
+row_in name.Route found =
+    three_in Route (option_value (codes "lsas") found) (option_and_then quad (option_value (codes "from") found))
+    (option_and_then quad (option_value (codes "to") found)) (λ x y z. tt)
+row_in name.Help found = help_in (topic_of (option_value (codes "COMMAND") found))
+row_in name.Version found = tt
 
 row_job_in : (form : CommandRow) (words : List Text) → InRange form → IfSome (job_of_row form words) IsInRange
 unfolding job_of_row
@@ -141,15 +114,15 @@ row_job_in form words h = go (takes_words form words)
     go true = h (found_in form words)
     go false = tt
 
-named_in : (words : List Text) (o : Option CommandRow) → IfSome o InRange → IfSome (option_and_then (λ form. job_of_row form words) o) IsInRange
-named_in words None h = tt
-named_in words (Some form) h = row_job_in form words h
+named_in : (words : List Text) (o : Option CommandName) → IfSome (option_and_then (λ n. job_of_row (row_of n) words) o) IsInRange
+named_in words None = tt
+named_in words (Some n) = row_job_in (row_of n) words (row_in n)
 
 -- the numbers of each job are within their ranges
 pub job_in : (words : List Text) → IfSome (job_of words) IsInRange
 unfolding job_of
 job_in [] = tt
-job_in (command ∷ others) = named_in (command ∷ others) (row_of_word command) (row_in command)
+job_in (command ∷ others) = named_in (command ∷ others) (command_named command)
 
 -- so a job that words ask for has them there
 pub asked_in : (words : List Text) (job : JobRead) → job_of words ≡ Some job → IsInRange job

@@ -1,22 +1,21 @@
--- Rows of the table, one after the other.
-use Rattle.std.proofs.Common.{◌≡◌, ◌∙◌, ◌<◌, ◌+◌, ℕ, cond, false, zero, suc, List, [], ◌∷◌, map, length, drop, Option, Some, sym, ap, arith}
+-- The names of the commands, one after the other.
+use Rattle.std.proofs.Common.{◌≡◌, ◌∙◌, ◌<◌, ◌+◌, ℕ, cond, false, zero, suc, List, [], ◌∷◌, length, drop, Option, Some, sym, ap, arith}
 use Rattle.std.specs.Prelude.{find}
 use Rattle.std.specs.List.{slice_index_or}
 use Rattle.cost_base.specs.Lists.{same_bytes}
-use Rattle.command_words.specs.declared.table.CommandName.{CommandName}
+use Rattle.command_words.specs.declared.job.CommandName.{CommandName}
 use Rattle.command_words.specs.Jobs.{Text}
-use Rattle.command_words.specs.Commands.{CommandRow}
-use Rattle.command_words.specs.Forms.{row_of_command}
+use Rattle.command_words.specs.Commands.{word_of}
 
--- where the first row left has another name, the rows behind it have the word's
-pub next_row : (names : List CommandName) (word : Text) (i : ℕ) (d : CommandName) (o : Option CommandRow) → i < length names
-    → same_bytes (row_of_command (slice_index_or names i d)).name word ≡ false
-    → find (λ form. same_bytes form.name word) (map row_of_command (drop i names)) ≡ o
-    → find (λ form. same_bytes form.name word) (map row_of_command (drop (i + 1) names)) ≡ o
-next_row [] word i d o lt differs left = absurd (omega arith)
-next_row (n ∷ names) word zero d o lt differs left =
-    ap (λ b. cond b (Some (row_of_command n)) (find (λ form. same_bytes form.name word) (map row_of_command names))) (sym differs) ∙ left
-next_row (n ∷ names) word (suc i) d o lt differs left =
+-- where the first name left is another one, the word names one behind it
+pub next_name : (names : List CommandName) (word : Text) (i : ℕ) (d : CommandName) (o : Option CommandName) → i < length names
+    → same_bytes (word_of (slice_index_or names i d)) word ≡ false
+    → find (λ n. same_bytes (word_of n) word) (drop i names) ≡ o
+    → find (λ n. same_bytes (word_of n) word) (drop (i + 1) names) ≡ o
+next_name [] word i d o lt differs left = absurd (omega arith)
+next_name (n ∷ names) word zero d o lt differs left =
+    ap (λ b. cond b (Some n) (find (λ n. same_bytes (word_of n) word) names)) (sym differs) ∙ left
+next_name (n ∷ names) word (suc i) d o lt differs left =
     let same : suc i + 1 ≡ suc (i + 1) = omega arith in
-    ap (λ k. find (λ form. same_bytes form.name word) (map row_of_command (drop k (n ∷ names)))) same
-    ∙ next_row names word i d o (omega arith) differs left
+    ap (λ k. find (λ n. same_bytes (word_of n) word) (drop k (n ∷ names))) same
+    ∙ next_name names word i d o (omega arith) differs left

@@ -7,17 +7,64 @@ use Rattle.clap.specs.Lexer.{usize_max}
 use Rattle.clap.specs.Walk.{Row, Rule, first_of, all_of, is_empty}
 use Rattle.clap.specs.Simple.{App, new_app, new_rule, with_rule, matches_of}
 use Rattle.clap.specs.Faults.{fault_of}
-use Rattle.command_words.specs.Jobs.{Text, Bounds, SearchRead, JobRead, Design, Check, Audit, Rewrite, Trial, Conflict, Spread, Total, Change, Steps, Lsas, Route}
+use Rattle.command_words.specs.Jobs.{Text, Bounds, SearchRead, JobRead, Design, Check, Audit, Rewrite, Trial, Conflict, Spread, Total, Change, Steps, Compare, Lsas, Route, Help, Version}
+use Rattle.command_words.specs.declared.job.CommandName.{CommandName}
+use Rattle.command_words.specs.declared.job.CommandName.TheVariants as name
 use Rattle.command_words.specs.declared.job.StepUnit.{StepUnit}
 use Rattle.command_words.specs.declared.job.StepUnit.TheVariants.{Line, Router}
 
+-- ---- the commands
+
+-- the word that names a command
+abbrev pub word_of : CommandName → Text
+word_of name.Design = codes "design"
+word_of name.Check = codes "check"
+word_of name.Audit = codes "audit"
+word_of name.Rewrite = codes "rewrite"
+word_of name.Trial = codes "trial"
+word_of name.Conflict = codes "conflict"
+word_of name.Spread = codes "spread"
+word_of name.Total = codes "total"
+word_of name.Change = codes "change"
+word_of name.Steps = codes "steps"
+word_of name.Compare = codes "compare"
+word_of name.Lsas = codes "lsas"
+word_of name.Route = codes "route"
+word_of name.Help = codes "help"
+word_of name.Version = codes "version"
+
+-- all commands
+unfoldable pub commands : List CommandName
+commands =
+    name.Design
+    ∷ name.Check
+    ∷ name.Audit
+    ∷ name.Rewrite
+    ∷ name.Trial
+    ∷ name.Conflict
+    ∷ name.Spread
+    ∷ name.Total
+    ∷ name.Change
+    ∷ name.Steps
+    ∷ name.Compare
+    ∷ name.Lsas
+    ∷ name.Route
+    ∷ name.Help
+    ∷ name.Version
+    ∷ []
+
+-- the command that a word names
+unfoldable pub command_named : Text → Option CommandName
+command_named word = find (λ n. same_bytes (word_of n) word) commands
+
 -- ---- the simple command of a row
 
--- how many CONFIG words a command takes
-pub data Files : Type 0 where
-  none : Files
-  one : Files
-  several : Files
+-- the words that a command takes beside its options: none, one CONFIG, one or more, or a COMMAND that may be left out
+pub data Operands : Type 0 where
+  none : Operands
+  config : Operands
+  configs : Operands
+  topic : Operands
 
 -- an option `--NAME VALUE`, which must be given or may be
 abbrev pub option : Bool → Text → Rule
@@ -31,20 +78,25 @@ config_word = record (new_rule (codes "CONFIG")) { required = true }
 abbrev pub config_words : Rule
 config_words = record config_word { range = Some (record { start_inclusive = 1; end_inclusive = usize_max }) }
 
--- the rules for the CONFIG words that a command takes
-abbrev pub files_rules : Files → List Rule
-files_rules none = []
-files_rules one = config_word ∷ []
-files_rules several = config_words ∷ []
+-- the COMMAND word, which may be left out
+abbrev pub topic_word : Rule
+topic_word = new_rule (codes "COMMAND")
+
+-- the rules for the operands of a command
+abbrev pub operand_rules : Operands → List Rule
+operand_rules none = []
+operand_rules config = config_word ∷ []
+operand_rules configs = config_words ∷ []
+operand_rules topic = topic_word ∷ []
 
 -- the command with these rules, in their order
 abbrev pub with_rules : App → List Rule → App
 with_rules app rules = fold with_rule app rules
 
--- the command of this name with the options that must be given, those that may be, and its CONFIG words
-abbrev pub command_of : Text → List Text → List Text → Files → App
-command_of name must may files =
-    with_rules (with_rules (with_rules (new_app name) (map (option true) must)) (map (option false) may)) (files_rules files)
+-- the command of this name with the options that must be given, those that may be, and its operands
+abbrev pub command_of : Text → List Text → List Text → Operands → App
+command_of name must may operands =
+    with_rules (with_rules (with_rules (new_app name) (map (option true) must)) (map (option false) may)) (operand_rules operands)
 
 -- ---- what the words give
 
@@ -111,6 +163,11 @@ abbrev pub step_unit : Option Text → Option StepUnit
 step_unit None = Some Line
 step_unit (Some word) = unit_named word
 
+-- what help is asked about: all commands, or the one that the word names
+abbrev pub topic_of : Option Text → Option (Option CommandName)
+topic_of None = Some None
+topic_of (Some word) = option_map Some (command_named word)
+
 -- a request, the limits and the configurations
 abbrev pub search_of : Found → Option SearchRead
 search_of found = of_three (λ request limits configs. record { request = request; limits = limits; configs = configs })
@@ -124,9 +181,10 @@ design_job found = option_map Design (search_of found)
 abbrev pub check_job : Found → Option JobRead
 check_job found = of_three Check (option_value (codes "request") found) (option_value (codes "answer") found) (configs_found found)
 
--- `audit`: a request file and configurations
+-- `audit`: a request file, the database of the running area where it's given, and configurations
 abbrev pub audit_job : Found → Option JobRead
-audit_job found = of_two Audit (option_value (codes "request") found) (configs_found found)
+audit_job found = of_two (λ request configs. Audit request (option_value (codes "live") found) configs)
+    (option_value (codes "request") found) (configs_found found)
 
 -- `rewrite`: an answer and one configuration
 abbrev pub rewrite_job : Found → Option JobRead
@@ -159,6 +217,10 @@ abbrev pub steps_job : Found → Option JobRead
 steps_job found = of_five Steps (option_value (codes "request") found) (option_value (codes "answer") found)
     (nodes_found found) (step_unit (option_value (codes "by") found)) (configs_found found)
 
+-- `compare`: the database of the running area, a request file and configurations
+abbrev pub compare_job : Found → Option JobRead
+compare_job found = of_three Compare (option_value (codes "live") found) (option_value (codes "request") found) (configs_found found)
+
 -- `lsas`: a request file and configurations
 abbrev pub lsas_job : Found → Option JobRead
 lsas_job found = of_two Lsas (option_value (codes "request") found) (configs_found found)
@@ -168,91 +230,62 @@ abbrev pub route_job : Found → Option JobRead
 route_job found = of_three Route (option_value (codes "lsas") found)
     (option_and_then quad (option_value (codes "from") found)) (option_and_then quad (option_value (codes "to") found))
 
+-- `help`: about all commands, or one of them
+abbrev pub help_job : Found → Option JobRead
+help_job found = option_map Help (topic_of (option_value (codes "COMMAND") found))
+
 -- ---- the table of commands
 
--- a row: a command, the options that must be given, those that may be, its CONFIG words, and its job
+-- a row: a command, the options that must be given, those that may be, its operands, and its job
 pub record CommandRow : Type 0 where
-  pub name : Text
+  pub name : CommandName
   pub must : List Text
   pub may : List Text
-  pub files : Files
+  pub operands : Operands
   pub job : Found → Option JobRead
 
 -- a row of the command table
-abbrev pub row : Text → List Text → List Text → Files → (Found → Option JobRead) → CommandRow
-row name must may files job = record { name = name; must = must; may = may; files = files; job = job }
+abbrev pub row : CommandName → List Text → List Text → Operands → (Found → Option JobRead) → CommandRow
+row name must may operands job = record { name = name; must = must; may = may; operands = operands; job = job }
 
+-- The table of commands, a row for each:
 -- `design --request FILE [--nodes N] [--bits B] CONFIG..`
-abbrev pub design_row : CommandRow
-design_row = row (codes "design") (codes "request" ∷ []) (codes "nodes" ∷ codes "bits" ∷ []) several design_job
-
 -- `check --request FILE --answer FILE CONFIG..`
-abbrev pub check_row : CommandRow
-check_row = row (codes "check") (codes "request" ∷ codes "answer" ∷ []) [] several check_job
-
--- `audit --request FILE CONFIG..`
-abbrev pub audit_row : CommandRow
-audit_row = row (codes "audit") (codes "request" ∷ []) [] several audit_job
-
+-- `audit --request FILE [--live FILE] CONFIG..`
 -- `rewrite --answer FILE CONFIG`
-abbrev pub rewrite_row : CommandRow
-rewrite_row = row (codes "rewrite") (codes "answer" ∷ []) [] one rewrite_job
-
 -- `trial --blocks T [--start S]`
-abbrev pub trial_row : CommandRow
-trial_row = row (codes "trial") (codes "blocks" ∷ []) (codes "start" ∷ []) none trial_job
-
 -- `conflict --request FILE [--nodes N] [--bits B] CONFIG..`
-abbrev pub conflict_row : CommandRow
-conflict_row = row (codes "conflict") (codes "request" ∷ []) (codes "nodes" ∷ codes "bits" ∷ []) several conflict_job
-
 -- `spread --request FILE --sets FILE [--nodes N] [--bits B] CONFIG..`
-abbrev pub spread_row : CommandRow
-spread_row = row (codes "spread") (codes "request" ∷ codes "sets" ∷ []) (codes "nodes" ∷ codes "bits" ∷ []) several spread_job
-
 -- `total --request FILE [--nodes N] [--bits B] CONFIG..`
-abbrev pub total_row : CommandRow
-total_row = row (codes "total") (codes "request" ∷ []) (codes "nodes" ∷ codes "bits" ∷ []) several total_job
-
 -- `change --request FILE [--nodes N] [--bits B] CONFIG..`
-abbrev pub change_row : CommandRow
-change_row = row (codes "change") (codes "request" ∷ []) (codes "nodes" ∷ codes "bits" ∷ []) several change_job
-
 -- `steps --request FILE --answer FILE [--nodes N] [--by UNIT] CONFIG..`
-abbrev pub steps_row : CommandRow
-steps_row =
-    row (codes "steps") (codes "request" ∷ codes "answer" ∷ []) (codes "nodes" ∷ codes "by" ∷ []) several steps_job
-
+-- `compare --live FILE --request FILE CONFIG..`
 -- `lsas --request FILE CONFIG..`
-abbrev pub lsas_row : CommandRow
-lsas_row = row (codes "lsas") (codes "request" ∷ []) [] several lsas_job
-
 -- `route --lsas FILE --from ID --to ID`
-abbrev pub route_row : CommandRow
-route_row = row (codes "route") (codes "lsas" ∷ codes "from" ∷ codes "to" ∷ []) [] none route_job
-
--- the table of commands: one row for each
-unfoldable pub table : List CommandRow
-table =
-    design_row
-    ∷ check_row
-    ∷ audit_row
-    ∷ rewrite_row
-    ∷ trial_row
-    ∷ conflict_row
-    ∷ spread_row
-    ∷ total_row
-    ∷ change_row
-    ∷ steps_row
-    ∷ lsas_row
-    ∷ route_row
-    ∷ []
+-- `help [COMMAND]`
+-- `version`
+abbrev pub row_of : CommandName → CommandRow
+row_of name.Design = row name.Design (codes "request" ∷ []) (codes "nodes" ∷ codes "bits" ∷ []) configs design_job
+row_of name.Check = row name.Check (codes "request" ∷ codes "answer" ∷ []) [] configs check_job
+row_of name.Audit = row name.Audit (codes "request" ∷ []) (codes "live" ∷ []) configs audit_job
+row_of name.Rewrite = row name.Rewrite (codes "answer" ∷ []) [] config rewrite_job
+row_of name.Trial = row name.Trial (codes "blocks" ∷ []) (codes "start" ∷ []) none trial_job
+row_of name.Conflict = row name.Conflict (codes "request" ∷ []) (codes "nodes" ∷ codes "bits" ∷ []) configs conflict_job
+row_of name.Spread = row name.Spread (codes "request" ∷ codes "sets" ∷ []) (codes "nodes" ∷ codes "bits" ∷ []) configs spread_job
+row_of name.Total = row name.Total (codes "request" ∷ []) (codes "nodes" ∷ codes "bits" ∷ []) configs total_job
+row_of name.Change = row name.Change (codes "request" ∷ []) (codes "nodes" ∷ codes "bits" ∷ []) configs change_job
+row_of name.Steps = row name.Steps (codes "request" ∷ codes "answer" ∷ []) (codes "nodes" ∷ codes "by" ∷ []) configs steps_job
+row_of name.Compare = row name.Compare (codes "live" ∷ codes "request" ∷ []) [] configs compare_job
+row_of name.Lsas = row name.Lsas (codes "request" ∷ []) [] configs lsas_job
+row_of name.Route = row name.Route (codes "lsas" ∷ codes "from" ∷ codes "to" ∷ []) [] none route_job
+row_of name.Help = row name.Help [] [] topic help_job
+row_of name.Version = row name.Version [] [] none (λ _. Some Version)
 
 -- ---- words
 
 -- the simple command of a row, as `clap` reads it
 abbrev pub app_of_row : CommandRow → App
-app_of_row form = command_of form.name form.must form.may form.files
+app_of_row form = command_of (word_of form.name) form.must form.may form.operands
 
 -- The simple command of a row takes the words behind the first, which `clap` passes over: no step of its reading
 -- fails.
@@ -267,11 +300,7 @@ found_in form words = matches_of (app_of_row form) words
 unfoldable pub job_of_row : CommandRow → List Text → Option JobRead
 job_of_row form words = if takes_words form words then form.job (found_in form words) else None
 
--- the row of a command
-unfoldable pub row_of_word : Text → Option CommandRow
-row_of_word word = find (λ form. same_bytes form.name word) table
-
 -- the job that words ask for; None where they're off the table
 unfoldable pub job_of : List Text → Option JobRead
 job_of [] = None
-job_of (command ∷ others) = option_and_then (λ form. job_of_row form (command ∷ others)) (row_of_word command)
+job_of (command ∷ others) = option_and_then (λ n. job_of_row (row_of n) (command ∷ others)) (command_named command)

@@ -1,10 +1,11 @@
 -- Jobs as contracts see them.
-use Rattle.std.specs.Prelude.{ℕ, ◌<◌, ◌≤◌, ◌^◌, List, string_bytes}
+use Rattle.std.specs.Prelude.{ℕ, ◌<◌, ◌≤◌, ◌^◌, List, Option, option_map, string_bytes}
 use Rattle.wide_fraction.specs.declared.bounds.Limits.{Limits}
 use Rattle.command_words.specs.declared.job.Search.{Search}
 use Rattle.command_words.specs.declared.job.Job.{Job}
 use Rattle.command_words.specs.declared.job.Job.TheVariants as variant
 use Rattle.command_words.specs.declared.job.StepUnit.{StepUnit}
+use Rattle.command_words.specs.declared.job.CommandName.{CommandName}
 use Rattle.text_lines.specs.Arguments.{texts}
 
 -- the bytes of a word
@@ -26,7 +27,7 @@ pub record SearchRead : Type 0 where
 pub data JobRead : Type 0 where
   Design : (search : SearchRead) → JobRead
   Check : (request : Text) → (answer : Text) → (configs : List Text) → JobRead
-  Audit : (request : Text) → (configs : List Text) → JobRead
+  Audit : (request : Text) → (live : Option Text) → (configs : List Text) → JobRead
   Rewrite : (answer : Text) → (config : Text) → JobRead
   Trial : (blocks : ℕ) → (start : ℕ) → JobRead
   Conflict : (search : SearchRead) → JobRead
@@ -34,8 +35,11 @@ pub data JobRead : Type 0 where
   Total : (search : SearchRead) → JobRead
   Change : (search : SearchRead) → JobRead
   Steps : (request : Text) → (answer : Text) → (nodes : ℕ) → (by : StepUnit) → (configs : List Text) → JobRead
+  Compare : (live : Text) → (request : Text) → (configs : List Text) → JobRead
   Lsas : (request : Text) → (configs : List Text) → JobRead
   Route : (lsas : Text) → (from : ℕ) → (to : ℕ) → JobRead
+  Help : (topic : Option CommandName) → JobRead
+  Version : JobRead
 
 -- the limits of a search as contracts see them
 abbrev pub bounds : Limits → Bounds
@@ -49,7 +53,7 @@ search_seen search = record { request = string_bytes search.request; limits = bo
 abbrev pub seen : Job → JobRead
 seen (variant.Design search) = Design (search_seen search)
 seen (variant.Check request answer configs) = Check (string_bytes request) (string_bytes answer) (texts configs.items)
-seen (variant.Audit request configs) = Audit (string_bytes request) (texts configs.items)
+seen (variant.Audit request live configs) = Audit (string_bytes request) (option_map string_bytes live) (texts configs.items)
 seen (variant.Rewrite answer config) = Rewrite (string_bytes answer) (string_bytes config)
 seen (variant.Trial blocks start) = Trial blocks start
 seen (variant.Conflict search) = Conflict (search_seen search)
@@ -58,8 +62,11 @@ seen (variant.Total search) = Total (search_seen search)
 seen (variant.Change search) = Change (search_seen search)
 seen (variant.Steps request answer nodes by configs) =
     Steps (string_bytes request) (string_bytes answer) nodes by (texts configs.items)
+seen (variant.Compare live request configs) = Compare (string_bytes live) (string_bytes request) (texts configs.items)
 seen (variant.Lsas request configs) = Lsas (string_bytes request) (texts configs.items)
 seen (variant.Route lsas from to) = Route (string_bytes lsas) from to
+seen (variant.Help topic) = Help topic
+seen variant.Version = Version
 
 -- the numbers of a trial and the budget of steps are within their ranges
 abbrev pub IsInRange : JobRead → Type 0

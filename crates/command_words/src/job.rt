@@ -23,10 +23,30 @@ pub enum StepUnit {
     Router,
 }
 
+/// The commands.
+#[derive(Clone, Copy, Debug, PartialEq, Eq)]
+pub enum CommandName {
+    Design,
+    Check,
+    Audit,
+    Rewrite,
+    Trial,
+    Conflict,
+    Spread,
+    Total,
+    Change,
+    Steps,
+    Compare,
+    Lsas,
+    Route,
+    Help,
+    Version,
+}
+
 /// What the words ask for: the values of the options, the CONFIG words in their order, and the stated defaults.
 ///
-/// Texts are names of files: `request` is that of `--request`, `answer` that of `--answer`, `sets` that of `--sets`, `lsas`
-/// that of `--lsas`; `config` and `configs` are the CONFIG words.
+/// Texts are names of files: `request` is that of `--request`, `answer` that of `--answer`, `sets` that of `--sets`, `live`
+/// that of `--live`, `lsas` that of `--lsas`; `config` and `configs` are the CONFIG words.
 #[derive(Debug, Drop)]
 pub enum Job {
     /// Find costs, or evidence that there are none.
@@ -37,9 +57,10 @@ pub enum Job {
         answer: String,
         configs: Vec<String>,
     },
-    /// Report the wanted paths at present costs.
+    /// Report the wanted paths at present costs, or at those of the running area where `--live` names its database.
     Audit {
         request: String,
+        live: Option<String>,
         configs: Vec<String>,
     },
     /// Write a configuration with an answer's costs.
@@ -72,6 +93,12 @@ pub enum Job {
         by: StepUnit,
         configs: Vec<String>,
     },
+    /// Tell where the database of the running area differs from the configurations.
+    Compare {
+        live: String,
+        request: String,
+        configs: Vec<String>,
+    },
     /// Write the LSAs of the configurations at present costs (RFC 2328, A.4).
     Lsas {
         request: String,
@@ -83,6 +110,10 @@ pub enum Job {
         from: u32,
         to: u32,
     },
+    /// Tell what the commands do, or what one of them does.
+    Help(Option<CommandName>),
+    /// Tell the program's version.
+    Version,
 }
 
 /// Why no job was read.

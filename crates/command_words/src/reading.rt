@@ -1,23 +1,25 @@
 //! The jobs of the commands, from the values that they find.
 ghost use Rattle.std.specs.Prelude.{◌≡◌, ◌≢◌, MatchResult, true, false};
 ghost use Rattle.clap.specs.Values.{kind_of};
-ghost use Rattle.command_words.specs.Commands.{takes_words, found_in, job_of_row, search_of, design_job, check_job, audit_job, rewrite_job};
+ghost use Rattle.command_words.specs.Commands.{row_of, takes_words, found_in, job_of_row, search_of, design_job, check_job, audit_job, rewrite_job};
 ghost use Rattle.command_words.specs.Commands.{trial_job, conflict_job, spread_job, total_job, change_job, steps_job};
-ghost use Rattle.command_words.specs.Commands.{lsas_job, route_job};
-ghost use Rattle.command_words.specs.Forms.{row_of_command, found, Answers};
+ghost use Rattle.command_words.specs.Commands.{compare_job, lsas_job, route_job, help_job};
+ghost use Rattle.command_words.specs.Forms.{found, Answers};
 ghost use Rattle.command_words.specs.Jobs.{search_seen, seen};
 ghost use Rattle.text_lines.specs.Arguments.{texts};
 
-use crate::table::{CommandName, simple_command};
-use crate::values::{configs, limits, may_number, must_number, nodes, router, step_unit, text};
-use crate::{Job, Search, WordsStop};
+use crate::table::simple_command;
+use crate::values::{
+    configs, limits, may_number, may_text, must_number, nodes, router, step_unit, text, topic,
+};
+use crate::{CommandName, Job, Search, WordsStop};
 use clap::error::ErrorKind;
 use clap::{ArgMatches, Error};
 use std::alloc::Global;
 
 /// The job of words whose first is this command's.
 pub(crate) fn read_row(alloc: Global, name: CommandName, words: &[String]) -> Result<Job, WordsStop>
-    ensures { Answers (job_of_row (row_of_command name) (texts words.now)) seen result }
+    ensures { Answers (job_of_row (row_of name) (texts words.now)) seen result }
 {
     let matches = find_values(alloc, name, words)?;
     job_of_values(alloc, name, &matches)
@@ -30,8 +32,8 @@ fn find_values<'a>(
     words: &'a [String],
 ) -> Result<ArgMatches<'a>, WordsStop>
     ensures { MatchResult result
-        (λ matches. (takes_words (row_of_command name) (texts words.now) ≡ true) × (found matches ≡ found_in (row_of_command name) (texts words.now)))
-        (λ stop. stop ≡ WordsStop.Refused → takes_words (row_of_command name) (texts words.now) ≡ false) }
+        (λ matches. (takes_words (row_of name) (texts words.now) ≡ true) × (found matches ≡ found_in (row_of name) (texts words.now)))
+        (λ stop. stop ≡ WordsStop.Refused → takes_words (row_of name) (texts words.now) ≡ false) }
 {
     let command = simple_command(alloc, name)?;
     match command.try_get_matches_from(words) {
@@ -57,7 +59,7 @@ fn job_of_values(
     name: CommandName,
     matches: &ArgMatches<'_>,
 ) -> Result<Job, WordsStop>
-    ensures { Answers ((row_of_command name).job (found matches.now)) seen result }
+    ensures { Answers ((row_of name).job (found matches.now)) seen result }
 {
     match name {
         CommandName::Design => design(alloc, matches),
@@ -70,8 +72,11 @@ fn job_of_values(
         CommandName::Total => total(alloc, matches),
         CommandName::Change => change(alloc, matches),
         CommandName::Steps => steps(alloc, matches),
+        CommandName::Compare => compare(alloc, matches),
         CommandName::Lsas => lsas(alloc, matches),
         CommandName::Route => route(alloc, matches),
+        CommandName::Help => help(matches),
+        CommandName::Version => Ok(Job::Version),
     }
 }
 
@@ -113,8 +118,13 @@ fn audit(alloc: Global, matches: &ArgMatches<'_>) -> Result<Job, WordsStop>
     ensures { Answers (audit_job (found matches.now)) seen result }
 {
     let request = text(alloc, matches, "request")?;
+    let live = may_text(alloc, matches, "live")?;
     let configs = configs(alloc, matches)?;
-    Ok(Job::Audit { request, configs })
+    Ok(Job::Audit {
+        request,
+        live,
+        configs,
+    })
 }
 
 fn rewrite(alloc: Global, matches: &ArgMatches<'_>) -> Result<Job, WordsStop>
@@ -182,6 +192,19 @@ fn steps(alloc: Global, matches: &ArgMatches<'_>) -> Result<Job, WordsStop>
     })
 }
 
+fn compare(alloc: Global, matches: &ArgMatches<'_>) -> Result<Job, WordsStop>
+    ensures { Answers (compare_job (found matches.now)) seen result }
+{
+    let live = text(alloc, matches, "live")?;
+    let request = text(alloc, matches, "request")?;
+    let configs = configs(alloc, matches)?;
+    Ok(Job::Compare {
+        live,
+        request,
+        configs,
+    })
+}
+
 fn lsas(alloc: Global, matches: &ArgMatches<'_>) -> Result<Job, WordsStop>
     ensures { Answers (lsas_job (found matches.now)) seen result }
 {
@@ -197,4 +220,11 @@ fn route(alloc: Global, matches: &ArgMatches<'_>) -> Result<Job, WordsStop>
     let to = router(matches, "to").ok_or(WordsStop::Refused)?;
     let lsas = text(alloc, matches, "lsas")?;
     Ok(Job::Route { lsas, from, to })
+}
+
+fn help(matches: &ArgMatches<'_>) -> Result<Job, WordsStop>
+    ensures { Answers (help_job (found matches.now)) seen result }
+{
+    let topic = topic(matches).ok_or(WordsStop::Refused)?;
+    Ok(Job::Help(topic))
 }

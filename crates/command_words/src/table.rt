@@ -1,40 +1,26 @@
 //! The command table: the commands and their options.
-ghost use Rattle.std.specs.Prelude.{◌≡◌, IfOk, map, option_map, true, false};
+ghost use Rattle.std.specs.Prelude.{◌≡◌, IfOk, map, true, false};
 ghost use Rattle.clap.specs.Walk.{rule_of};
 ghost use Rattle.clap.specs.Simple.{app_of};
-ghost use Rattle.command_words.specs.Commands.{option, config_word, config_words, files_rules, with_rules, command_of, app_of_row, row_of_word};
-ghost use Rattle.command_words.specs.Forms.{row_of_command, files_of_words, now_texts};
+ghost use Rattle.command_words.specs.Commands.{option, config_word, config_words, topic_word, operand_rules, with_rules, command_of, app_of_row};
+ghost use Rattle.command_words.specs.Commands.{command_named, row_of, word_of};
+ghost use Rattle.command_words.specs.Forms.{operands_of, now_texts};
 
-use crate::table::ConfigWords::{Nothing, One, Several};
+use crate::CommandName;
+use crate::table::Operands::{Config, Configs, Nothing, Topic};
 use clap::{Arg, Command};
 use std::alloc::{AllocError, Global};
 
-/// The commands.
-#[derive(Clone, Copy, Debug, PartialEq, Eq)]
-pub(crate) enum CommandName {
-    Design,
-    Check,
-    Audit,
-    Rewrite,
-    Trial,
-    Conflict,
-    Spread,
-    Total,
-    Change,
-    Steps,
-    Lsas,
-    Route,
-}
-
-/// How many CONFIG words a command takes.
+/// The words that a command takes beside its options.
 #[derive(Clone, Copy)]
-enum ConfigWords {
+enum Operands {
     Nothing,
-    One,
-    Several,
+    Config,
+    Configs,
+    Topic,
 }
 
-static NAMES: [CommandName; 12] = [
+static NAMES: [CommandName; 15] = [
     CommandName::Design,
     CommandName::Check,
     CommandName::Audit,
@@ -45,14 +31,17 @@ static NAMES: [CommandName; 12] = [
     CommandName::Total,
     CommandName::Change,
     CommandName::Steps,
+    CommandName::Compare,
     CommandName::Lsas,
     CommandName::Route,
+    CommandName::Help,
+    CommandName::Version,
 ];
 
 impl CommandName {
     /// The word that names the command.
-    fn word(self) -> &'static str
-        ensures { result.now ≡ (row_of_command self).name }
+    pub fn word(self) -> &'static str
+        ensures { result.now ≡ word_of self }
     {
         match self {
             CommandName::Design => "design",
@@ -65,15 +54,18 @@ impl CommandName {
             CommandName::Total => "total",
             CommandName::Change => "change",
             CommandName::Steps => "steps",
+            CommandName::Compare => "compare",
             CommandName::Lsas => "lsas",
             CommandName::Route => "route",
+            CommandName::Help => "help",
+            CommandName::Version => "version",
         }
     }
 }
 
 /// The command that a word names; None exactly where it names none.
 pub(crate) fn command_named(word: &[u8]) -> Option<CommandName>
-    ensures { option_map row_of_command result ≡ row_of_word word.now }
+    ensures { result ≡ command_named word.now }
 {
     for name in NAMES {
         if name.word().as_bytes() == word {
@@ -88,16 +80,16 @@ pub(crate) fn simple_command<'a>(
     alloc: Global,
     name: CommandName,
 ) -> Result<Command<'a>, AllocError>
-    ensures { IfOk result (λ command. app_of command ≡ app_of_row (row_of_command name)) }
+    ensures { IfOk result (λ command. app_of command ≡ app_of_row (row_of name)) }
 {
     let word = name.word();
     match name {
         CommandName::Design | CommandName::Conflict | CommandName::Total | CommandName::Change => {
-            command(alloc, word, &["request"], &["nodes", "bits"], Several)
+            command(alloc, word, &["request"], &["nodes", "bits"], Configs)
         }
-        CommandName::Check => command(alloc, word, &["request", "answer"], &[], Several),
-        CommandName::Audit | CommandName::Lsas => command(alloc, word, &["request"], &[], Several),
-        CommandName::Rewrite => command(alloc, word, &["answer"], &[], One),
+        CommandName::Check => command(alloc, word, &["request", "answer"], &[], Configs),
+        CommandName::Audit => command(alloc, word, &["request"], &["live"], Configs),
+        CommandName::Rewrite => command(alloc, word, &["answer"], &[], Config),
         CommandName::Trial => command(alloc, word, &["blocks"], &["start"], Nothing),
         CommandName::Spread => {
             command(
@@ -105,7 +97,7 @@ pub(crate) fn simple_command<'a>(
                 word,
                 &["request", "sets"],
                 &["nodes", "bits"],
-                Several,
+                Configs,
             )
         }
         CommandName::Steps => {
@@ -114,26 +106,30 @@ pub(crate) fn simple_command<'a>(
                 word,
                 &["request", "answer"],
                 &["nodes", "by"],
-                Several,
+                Configs,
             )
         }
+        CommandName::Compare => command(alloc, word, &["live", "request"], &[], Configs),
+        CommandName::Lsas => command(alloc, word, &["request"], &[], Configs),
         CommandName::Route => command(alloc, word, &["lsas", "from", "to"], &[], Nothing),
+        CommandName::Help => command(alloc, word, &[], &[], Topic),
+        CommandName::Version => command(alloc, word, &[], &[], Nothing),
     }
 }
 
-/// A command with the options that must be given, those that may be, and its CONFIG words.
+/// A command with the options that must be given, those that may be, and its operands.
 fn command<'a>(
     alloc: Global,
     name: &'a str,
     must: &[&'a str],
     may: &[&'a str],
-    configs: ConfigWords,
+    operands: Operands,
 ) -> Result<Command<'a>, AllocError>
-    ensures { IfOk result (λ command. app_of command ≡ command_of name.now (now_texts must.now) (now_texts may.now) (files_of_words configs)) }
+    ensures { IfOk result (λ command. app_of command ≡ command_of name.now (now_texts must.now) (now_texts may.now) (operands_of operands)) }
 {
     let command = with_options(alloc, Command::new(alloc, name), must, true)?;
     let command = with_options(alloc, command, may, false)?;
-    with_configs(alloc, command, configs)
+    with_operands(alloc, command, operands)
 }
 
 /// The command with one more option of each name.
@@ -152,18 +148,19 @@ fn with_options<'a>(
     Ok(more)
 }
 
-/// The command with its CONFIG words.
-fn with_configs<'a>(
+/// The command with its operands.
+fn with_operands<'a>(
     alloc: Global,
     command: Command<'a>,
-    configs: ConfigWords,
+    operands: Operands,
 ) -> Result<Command<'a>, AllocError>
-    ensures { IfOk result (λ more. app_of more ≡ with_rules (app_of command.entry) (files_rules (files_of_words configs))) }
+    ensures { IfOk result (λ more. app_of more ≡ with_rules (app_of command.entry) (operand_rules (operands_of operands))) }
 {
-    match configs {
+    match operands {
         Nothing => Ok(command),
-        One => command.arg(config_word(alloc)),
-        Several => command.arg(config_words(alloc)),
+        Config => command.arg(config_word(alloc)),
+        Configs => command.arg(config_words(alloc)),
+        Topic => command.arg(topic_word(alloc)),
     }
 }
 
@@ -189,4 +186,12 @@ fn config_words<'a>(alloc: Global) -> Arg<'a>
     ensures local { result.global ≡ false }
 {
     Arg::new(alloc, "CONFIG").required(true).num_args(1..)
+}
+
+/// The COMMAND word, which may be left out.
+fn topic_word<'a>(alloc: Global) -> Arg<'a>
+    ensures rule { rule_of result ≡ topic_word }
+    ensures local { result.global ≡ false }
+{
+    Arg::new(alloc, "COMMAND")
 }

@@ -1,13 +1,14 @@
 //! The values that a command finds in the words.
-ghost use Rattle.std.specs.Prelude.{◌≡◌, ◌≤◌, IfOk, IfSome, map, option_map, option_and_then, string_bytes, codes};
+ghost use Rattle.std.specs.Prelude.{◌≡◌, ◌≤◌, IfOk, IfSome, Some, map, option_map, option_and_then, string_bytes, codes};
 ghost use Rattle.text_lines.specs.Numbers as numbers;
 ghost use Rattle.command_words.specs.Commands.{option_value, configs_found, number_between, number_or, limits};
-ghost use Rattle.command_words.specs.Commands.{nodes_found, step_unit, unit_named};
+ghost use Rattle.command_words.specs.Commands.{nodes_found, step_unit, unit_named, topic_of};
 ghost use Rattle.command_words.specs.Forms.{found, now_texts, Answers};
 ghost use Rattle.command_words.specs.Jobs.{bounds};
 ghost use Rattle.text_lines.specs.Arguments.{texts};
 
-use crate::{StepUnit, WordsStop};
+use crate::table::command_named;
+use crate::{CommandName, StepUnit, WordsStop};
 use clap::ArgMatches;
 use std::alloc::{AllocError, Global};
 use text_lines::{number, quad};
@@ -27,6 +28,20 @@ pub(crate) fn text(alloc: Global, matches: &ArgMatches<'_>, name: &str) -> Resul
     match value(matches, name) {
         Some(value) => Ok(String::from_str(alloc, value)?),
         None => Err(WordsStop::Refused),
+    }
+}
+
+/// A copy of the value of an option that may be given, where it is.
+pub(crate) fn may_text(
+    alloc: Global,
+    matches: &ArgMatches<'_>,
+    name: &str,
+) -> Result<Option<String>, AllocError>
+    ensures { IfOk result (λ text. option_map string_bytes text ≡ option_value name.now (found matches.now)) }
+{
+    match value(matches, name) {
+        Some(value) => Ok(Some(String::from_str(alloc, value)?)),
+        None => Ok(None),
     }
 }
 
@@ -115,6 +130,16 @@ fn unit_named(word: &str) -> Option<StepUnit>
         "line" => Some(StepUnit::Line),
         "router" => Some(StepUnit::Router),
         _ => None,
+    }
+}
+
+/// What help is asked about: all commands, or the one that the word names; None where it names none.
+pub(crate) fn topic(matches: &ArgMatches<'_>) -> Option<Option<CommandName>>
+    ensures { result ≡ topic_of (option_value (codes "COMMAND") (found matches.now)) }
+{
+    match value(matches, "COMMAND") {
+        Some(word) => Some(Some(command_named(word.as_bytes())?)),
+        None => Some(None),
     }
 }
 

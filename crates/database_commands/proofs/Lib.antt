@@ -1,2 +1,3 @@
 pub mod LsasRuns
 pub mod Routes
+pub mod Compares

@@ -1,5 +1,6 @@
 //! `compare`: where the running area differs from its configurations.
-ghost use Rattle.std.specs.Prelude.{◌≡◌, ◌==◌, IfOk, map};
+ghost use Rattle.std.specs.Prelude.{◌≡◌, IfOk, map};
+ghost use Rattle.std.specs.List.{list_all};
 ghost use Rattle.path_requests.specs.Meaning.{present_cost};
 ghost use Rattle.input_files.specs.Readings.{Gave};
 ghost use Rattle.input_files.specs.Stops.{IsReadAs, files_named};
@@ -30,12 +31,19 @@ fn counts_all(line: &Difference) -> bool
     }
 }
 
+/// Whether each line counts all linked interfaces as those with a link of their present cost.
+fn each_counts_all(lines: &[Difference]) -> bool
+    ensures { result ≡ list_all definition.counts_all lines.now }
+{
+    lines.iter().all(|line| counts_all(line))
+}
+
 /// Whether there is no line but the count, and the same number stands in it twice.
 fn are_alike(lines: &[Difference]) -> bool
     ensures { result ≡ definition.are_alike lines.now }
 {
-    let all = lines.iter().all(counts_all);
-    lines.len() == 1 && all
+    let count = each_counts_all(lines);
+    lines.len() == 1 && count
 }
 
 /// The status of a comparison with these lines.
@@ -47,6 +55,13 @@ fn status_of(lines: &[Difference]) -> Status
     } else {
         Status::Impossible
     }
+}
+
+/// The area that the request of a network names.
+fn area_of(network: &Network) -> u32
+    ensures { result ≡ network.now.requests.area }
+{
+    network.requests.area
 }
 
 /// The report of a network beside the LSAs of its area that count.
@@ -77,6 +92,7 @@ pub fn compare_report<'a, S: Shelf>(
         (λ report said. MayCompare said report.status (bytes_in report.text)) result) }
 {
     let network = read_identified(alloc, words, shelf)?;
-    let database = read_live_file(alloc, shelf, live, network.requests.area)?;
-    Ok(comparison(alloc, &network, &database)?)
+    let database = read_live_file(alloc, shelf, live, area_of(&network))?;
+    let report = comparison(alloc, &network, &database)?;
+    Ok(report)
 }

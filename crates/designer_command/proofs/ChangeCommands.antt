@@ -1,6 +1,6 @@
 -- When `change` and `steps` have to answer.
 use Rattle.std.proofs.Common.{◌≡◌, ℕ, ◌≤◌, refl, sym, ◌∙◌, subst, List, length, inl, inr, arith}
-use Rattle.std.specs.Prelude.{◌⊎◌, ◌^◌, None, Some}
+use Rattle.std.specs.Prelude.{◌^◌, None, Some}
 use Rattle.cost_base.specs.declared.Status.{Status}
 use Rattle.cost_base.specs.declared.Status.TheVariants as status
 use Rattle.design_problem.specs.Problems.{DesignProblem}

@@ -168,7 +168,8 @@ no_read_fault : (job : Option JobRead) (came : List Taken) (bytes : List ℕ) �
 no_read_fault None came bytes counted h = h
 no_read_fault (Some (read.Design s)) came bytes counted h = none_failed _ came bytes counted h
 no_read_fault (Some (read.Check request answer configs)) came bytes counted h = none_failed _ came bytes counted h
-no_read_fault (Some (read.Audit request configs)) came bytes counted h = none_failed _ came bytes counted h
+no_read_fault (Some (read.Audit request None configs)) came bytes counted h = none_failed _ came bytes counted h
+no_read_fault (Some (read.Audit request (Some live) configs)) came bytes counted h = none_failed _ came bytes counted h
 no_read_fault (Some (read.Rewrite answer config)) came bytes counted h = none_failed _ came bytes counted h
 no_read_fault (Some (read.Trial blocks start)) came bytes counted h = try_failed blocks start (trial_end (made_trial blocks start)) bytes h.1
 no_read_fault (Some (read.Conflict s)) came bytes counted h = none_failed _ came bytes counted h
@@ -176,8 +177,11 @@ no_read_fault (Some (read.Spread s sets)) came bytes counted h = none_failed _ c
 no_read_fault (Some (read.Total s)) came bytes counted h = none_failed _ came bytes counted h
 no_read_fault (Some (read.Change s)) came bytes counted h = none_failed _ came bytes counted h
 no_read_fault (Some (read.Steps request answer nodes by configs)) came bytes counted h = none_failed _ came bytes counted h
+no_read_fault (Some (read.Compare live request configs)) came bytes counted h = none_failed _ came bytes counted h
 no_read_fault (Some (read.Lsas request configs)) came bytes counted h = none_failed _ came bytes counted h
 no_read_fault (Some (read.Route lsas from to)) came bytes counted h = none_failed _ came bytes counted h
+no_read_fault (Some (read.Help topic)) came bytes counted h = h
+no_read_fault (Some read.Version) came bytes counted h = h
 
 -- over counts that stay 0 no run ends with a fault of a shelf
 pub sure_shelf : (words : List (List ℕ)) (gave : List Taken → Type 0) (held : List ℕ → Option (List ℕ))

@@ -4,3 +4,4 @@ pub mod LargeBudgets
 pub mod CompletenessLaws
 pub mod FurtherCommands
 pub mod ChangeCommands
+pub mod LiveCommands

@@ -6,6 +6,7 @@ use Rattle.cost_base.specs.Histories.{Taken}
 use Rattle.command_words.specs.Jobs.{Bounds}
 use Rattle.input_files.specs.Readings.{Reading, Says, Faulty, Failed, EndsAs}
 use Rattle.input_files.proofs.Readings.{one_end, one_said, said_faulty, said_failed}
+use Rattle.database_commands.specs.Compares.{MayCompare}
 use Rattle.database_commands.specs.Lsas.{MayLsas}
 use Rattle.database_commands.specs.Routes.{MayRoute}
 use Rattle.path_commands.specs.Conflicts.{MayConflict}
@@ -17,6 +18,7 @@ use Rattle.design_commands.specs.TotalRuns.{MayTotal}
 use Rattle.design_commands.specs.Trials.{MayTry}
 use Rattle.designer_command.specs.Runs.{OnSaid, MayAfter}
 use Rattle.path_commands.specs.Audits.{MayAudit}
+use Rattle.path_commands.specs.LiveAudits.{MayAuditLive}
 use Rattle.evidence_commands.specs.Checks.{MayCheck}
 use Rattle.design_commands.specs.Designs.{MayDesign}
 use Rattle.evidence_commands.specs.Rewrites.{MayRewrite}
@@ -37,6 +39,12 @@ own_check = record { refused = λ x bytes h. h; failed = λ x bytes h. h; unwrit
 
 pub own_audit : SaysItsOwn MayAudit
 own_audit = record { refused = λ x bytes h. h; failed = λ x bytes h. h; unwritten = λ x bytes h. h; wanting = λ x bytes h. h; worded = λ x bytes h. h }
+
+pub own_audit_live : SaysItsOwn MayAuditLive
+own_audit_live = record { refused = λ x bytes h. h; failed = λ x bytes h. h; unwritten = λ x bytes h. h; wanting = λ x bytes h. h; worded = λ x bytes h. h }
+
+pub own_compare : SaysItsOwn MayCompare
+own_compare = record { refused = λ x bytes h. h; failed = λ x bytes h. h; unwritten = λ x bytes h. h; wanting = λ x bytes h. h; worded = λ x bytes h. h }
 
 pub own_rewrite : SaysItsOwn MayRewrite
 own_rewrite = record { refused = λ x bytes h. h; failed = λ x bytes h. h; unwritten = λ x bytes h. h; wanting = λ x bytes h. h; worded = λ x bytes h. h }

@@ -14,13 +14,15 @@ use Rattle.input_files.specs.declared.stop.Stop.TheVariants as stops
 use Rattle.input_files.specs.Readings.{Reading, Gave, End, Says, Faulty, Failed}
 use Rattle.input_files.specs.Stops.{StopsAs, IsReadAs, refusal_in}
 use Rattle.report_writer.specs.declared.report.Report.{Report}
-use Rattle.report_writer.specs.Reports.{ReportsStop, ReportsAny, IsWritten, bytes_in}
+use Rattle.report_writer.specs.Reports.{Reports, ReportsStop, ReportsAny, IsWritten, bytes_in}
 use Rattle.input_files.specs.Inputs.{InputFiles}
 use Rattle.input_files.specs.Outcomes.{Input}
+use Rattle.database_commands.specs.Compares.{MayCompare}
 use Rattle.database_commands.specs.Lsas.{MayLsas}
 use Rattle.database_commands.specs.Routes.{MayRoute}
 use Rattle.path_commands.specs.Audits.{MayAudit}
 use Rattle.path_commands.specs.Conflicts.{MayConflict}
+use Rattle.path_commands.specs.LiveAudits.{MayAuditLive}
 use Rattle.path_commands.specs.Spreads.{MaySpread}
 use Rattle.evidence_commands.specs.Checks.{MayCheck}
 use Rattle.evidence_commands.specs.Rewrites.{MayRewrite}
@@ -30,8 +32,9 @@ use Rattle.change_commands.specs.Steps.{MaySteps}
 use Rattle.design_commands.specs.TotalRuns.{MayTotal}
 use Rattle.trial_maker.specs.TrialTexts.{made_trial}
 use Rattle.design_commands.specs.Trials.{MayTryEnd, trial_end}
-use Rattle.designer_command.specs.Runs.{IsMadeAs, IsTried, OnSaid, MayAfter, MayReport, MayWrite, ReportsJob, WritesNothing, WritesAll, Writes}
-use Rattle.designer_command.proofs.OwnStatuses.{SaysItsOwn, own_audit, own_change, own_check, own_conflict, own_design, own_lsas, own_rewrite, own_route, own_spread, own_steps, own_total}
+use Rattle.designer_command.specs.Runs.{IsMadeAs, IsTold, IsTried, OnSaid, MayAfter, MayReport, MayTell, MayWrite, ReportsJob, WritesNothing, WritesAll, Writes}
+use Rattle.help_texts.specs.Texts.{help_text, version_text}
+use Rattle.designer_command.proofs.OwnStatuses.{SaysItsOwn, own_audit, own_audit_live, own_change, own_check, own_compare, own_conflict, own_design, own_lsas, own_rewrite, own_route, own_spread, own_steps, own_total}
 
 said_after : {A : Type 0} (reading : Reading A) (may : A → Status → List ℕ → Type 0) (came : List Taken) (s : Status)
     (bytes : List ℕ) → SaysItsOwn may → OnSaid reading came may s bytes → MayAfter reading may came s bytes
@@ -74,12 +77,26 @@ trial_after blocks start came (Ok report) result h same =
 trial_after blocks start came (Err stop) (Err e) h r = tt
 trial_after blocks start came (Err stop) (Ok report) h r = absurd (subst (λ (s : Stop). ReportsStop s (Ok report)) h.1 r)
 
+told_report : (text : List ℕ) (came : List Taken) (report : Report) → came ≡ [] → Reports status.Done text report →
+    MayTell text came report.status (bytes_in report.text)
+told_report text came report none told =
+    subst (λ (s : Status). MayTell text came s (bytes_in report.text)) (sym told.status) (none, told.text)
+
+told_after : (text : List ℕ) (came : List Taken) (made : Result Report Stop) (result : Result Report OutOfMemory) →
+    (came ≡ []) × IsTold text made → ReportsAny made result →
+    IfOk result (λ report. MayTell text came report.status (bytes_in report.text))
+told_after text came (Ok report) result h same =
+    subst (λ (r : Result Report OutOfMemory). IfOk r (λ made. MayTell text came made.status (bytes_in made.text))) (sym same)
+    (told_report text came report h.0 h.1)
+told_after text came (Err stop) result h r = absurd h.1
+
 -- what the command of a job makes is, once it is a report, what the job may write
 done_after : (job : JobRead) (came : List Taken) (made : Result Report Stop) (result : Result Report OutOfMemory) →
     IsMadeAs job came made → ReportsAny made result → IfOk result (λ report. MayWrite (Some job) came report.status (bytes_in report.text))
 done_after (read.Design s) came made result h r = report_after _ (MayDesign s.limits) came made result (own_design s.limits) h r
 done_after (read.Check request answer configs) came made result h r = report_after _ MayCheck came made result own_check h r
-done_after (read.Audit request configs) came made result h r = report_after _ MayAudit came made result own_audit h r
+done_after (read.Audit request None configs) came made result h r = report_after _ MayAudit came made result own_audit h r
+done_after (read.Audit request (Some live) configs) came made result h r = report_after _ MayAuditLive came made result own_audit_live h r
 done_after (read.Rewrite answer config) came made result h r = report_after _ MayRewrite came made result own_rewrite h r
 done_after (read.Trial blocks start) came made result h r = trial_after blocks start came made result h r
 done_after (read.Conflict s) came made result h r = report_after _ (MayConflict s.limits) came made result (own_conflict s.limits) h r
@@ -88,8 +105,11 @@ done_after (read.Total s) came made result h r = report_after _ (MayTotal s.limi
 done_after (read.Change s) came made result h r = report_after _ (MayChange s.limits) came made result (own_change s.limits) h r
 done_after (read.Steps request answer nodes by configs) came made result h r =
     report_after _ (MaySteps nodes by) came made result (own_steps nodes by) h r
+done_after (read.Compare live request configs) came made result h r = report_after _ MayCompare came made result own_compare h r
 done_after (read.Lsas request configs) came made result h r = report_after _ MayLsas came made result own_lsas h r
 done_after (read.Route lsas from to) came made result h r = report_after _ (MayRoute from to) came made result (own_route from to) h r
+done_after (read.Help topic) came made result h r = told_after (help_text topic) came made result h r
+done_after read.Version came made result h r = told_after version_text came made result h r
 
 pub job_done : (Given : List Taken → Type 0) (job : JobRead) (made : Result Report Stop) (result : Result Report OutOfMemory) →
     Gave Given (λ came. IsMadeAs job came made) → ReportsAny made result → ReportsJob Given job result
@@ -121,7 +141,8 @@ pub writes_none : (job : Option JobRead) (came : List Taken) → WritesNone (May
 writes_none None came = (λ bytes h. h, λ bytes h. h)
 writes_none (Some (read.Design s)) came = (λ bytes h. h, λ bytes h. h)
 writes_none (Some (read.Check request answer configs)) came = (λ bytes h. h, λ bytes h. h)
-writes_none (Some (read.Audit request configs)) came = (λ bytes h. h, λ bytes h. h)
+writes_none (Some (read.Audit request None configs)) came = (λ bytes h. h, λ bytes h. h)
+writes_none (Some (read.Audit request (Some live) configs)) came = (λ bytes h. h, λ bytes h. h)
 writes_none (Some (read.Rewrite answer config)) came = (λ bytes h. h, λ bytes h. h)
 writes_none (Some (read.Trial blocks start)) came = (
   λ bytes h. try_unwritten blocks start (trial_end (made_trial blocks start)) bytes h.1,
@@ -132,8 +153,11 @@ writes_none (Some (read.Spread s sets)) came = (λ bytes h. h, λ bytes h. h)
 writes_none (Some (read.Total s)) came = (λ bytes h. h, λ bytes h. h)
 writes_none (Some (read.Change s)) came = (λ bytes h. h, λ bytes h. h)
 writes_none (Some (read.Steps request answer nodes by configs)) came = (λ bytes h. h, λ bytes h. h)
+writes_none (Some (read.Compare live request configs)) came = (λ bytes h. h, λ bytes h. h)
 writes_none (Some (read.Lsas request configs)) came = (λ bytes h. h, λ bytes h. h)
 writes_none (Some (read.Route lsas from to)) came = (λ bytes h. h, λ bytes h. h)
+writes_none (Some (read.Help topic)) came = (λ bytes h. h, λ bytes h. h)
+writes_none (Some read.Version) came = (λ bytes h. h, λ bytes h. h)
 
 -- a text that may be written, written whole
 whole_meets : (may : Status → List ℕ → Type 0) (handed : List ℕ → Type 0) (got_before got_now : Option (List ℕ))
@@ -181,3 +205,10 @@ made_meets Same may handed got_before got_now count_before count_now (Err e) end
 pub job_made : (Given : List Taken → Type 0) (job : Job) (said : JobRead) (made : Result Report Stop) →
     seen job ≡ said → Gave Given (λ came. IsMadeAs said came made) → Gave Given (λ came. IsMadeAs (seen job) came made)
 job_made Given job said made is a = subst (λ (j : JobRead). Gave Given (λ came. IsMadeAs j came made)) (sym is) a
+
+-- an audit with the same live file, or without one, makes the same
+pub audit_made : (Given : List Taken → Type 0) (request : List ℕ) (configs : List (List ℕ)) (live other : Option (List ℕ))
+    (made : Result Report Stop) → live ≡ other → Gave Given (λ came. IsMadeAs (read.Audit request other configs) came made) →
+    Gave Given (λ came. IsMadeAs (read.Audit request live configs) came made)
+audit_made Given request configs live other made same a =
+    subst (λ (o : Option (List ℕ)). Gave Given (λ came. IsMadeAs (read.Audit request o configs) came made)) (sym same) a

@@ -1,5 +1,5 @@
 -- When a run has to answer, and may not refuse: laws over what came of its files.
-use Rattle.std.specs.Prelude.{◌≡◌, ◌⊎◌, ℕ, ◌+◌, ◌*◌, ◌^◌, ◌≤◌, List, All, Contains, None, Some, length}
+use Rattle.std.specs.Prelude.{◌≡◌, ◌⊎◌, ℕ, ◌+◌, ◌*◌, ◌^◌, ◌≤◌, List, All, Contains, Option, None, Some, length, true, false}
 use Rattle.cost_base.specs.declared.Status.{Status}
 use Rattle.cost_base.specs.declared.Status.TheVariants as status
 use Rattle.cost_base.specs.Histories.{Taken}
@@ -20,7 +20,8 @@ use Rattle.design_problem.specs.Answers.{AnswerParts, IsValid, whole_box}
 use Rattle.design_problem.specs.ProblemLaws.{HasNoFit}
 use Rattle.design_problem.specs.Text.{text}
 use Rattle.evidence_text.specs.AnswerValues.{IsAnswerValue}
-use Rattle.command_words.specs.Jobs.{Bounds}
+use Rattle.command_words.specs.Jobs.{Bounds, Help, Version}
+use Rattle.command_words.specs.declared.job.CommandName.{CommandName}
 use Rattle.trial_maker.specs.TrialTexts.{made_trial}
 use Rattle.config_writer.specs.Rewriting.{first_missing}
 use Rattle.evidence_commands.specs.Checks.{Claim, claim_read}
@@ -45,12 +46,15 @@ use Rattle.sections_reader.specs.Texts.{SaysCosts}
 use Rattle.command_words.specs.declared.job.StepUnit.{StepUnit}
 use Rattle.design_problem.specs.declared.answer.CostLine.{CostLine}
 use Rattle.lsa_bytes.specs.declared.Lsa.{Lsa}
+use Rattle.database_commands.specs.Compares.{Comparison, MayCompare, are_alike, compare_read, difference_text, differences_of}
 use Rattle.database_commands.specs.Lsas.{MayLsas, identified_read}
 use Rattle.database_commands.specs.Routes.{MayRoute, route_read}
 use Rattle.design_commands.specs.TotalRuns.{MayTotal}
 use Rattle.design_commands.specs.Trials.{MayTrial, trial_end, trial_limits}
-use Rattle.designer_command.specs.Runs.{MayAfter}
+use Rattle.designer_command.specs.Runs.{MayAfter, MayWrite}
+use Rattle.help_texts.specs.Texts.{help_text, version_text}
 use Rattle.path_commands.specs.Audits.{MayAudit}
+use Rattle.path_commands.specs.LiveAudits.{MayAuditLive, Running, live_audit_read}
 use Rattle.evidence_commands.specs.Checks.{MayCheck}
 use Rattle.design_commands.specs.Designs.{MayDesign}
 use Rattle.evidence_commands.specs.Rewrites.{MayRewrite}
@@ -213,6 +217,32 @@ abbrev pub IdentifiedInputIsWritten : Type 0
 IdentifiedInputIsWritten =
     (names : InputFiles) (came : List Taken) (d : Input) (end : Status) (bytes : List ℕ) →
     EndsAs (identified_read names) came (Says d) → MayAfter (identified_read names) MayLsas came end bytes → end ≡ status.Done
+
+-- Where the files of an audit of a running area say one, nothing may be written but its lines.
+abbrev pub RunningAreaIsAudited : Type 0
+RunningAreaIsAudited =
+    (names : InputFiles) (live : List ℕ) (came : List Taken) (now : Running) (end : Status) (bytes : List ℕ) →
+    EndsAs (live_audit_read names live) came (Says now) → MayAfter (live_audit_read names live) MayAuditLive came end bytes →
+    end ≡ status.Done
+
+-- Done where the running area has no difference from its configurations, Impossible where it has one
+abbrev pub IsCompared : Comparison → Status → Type 0
+IsCompared c end =
+    (are_alike (differences_of c) ≡ true → end ≡ status.Done) × (are_alike (differences_of c) ≡ false → end ≡ status.Impossible)
+
+-- Where the files of a comparison say one, nothing may be written but the differences.
+abbrev pub DifferencesAreWritten : Type 0
+DifferencesAreWritten =
+    (names : InputFiles) (live : List ℕ) (came : List Taken) (c : Comparison) (end : Status) (bytes : List ℕ) →
+    EndsAs (compare_read names live) came (Says c) → MayAfter (compare_read names live) MayCompare came end bytes →
+    IsCompared c end × (bytes ≡ difference_text c.input.database (differences_of c))
+
+-- Words that ask for help, or for the version, may write nothing but that text, whatever the files.
+abbrev pub HelpIsWritten : Type 0
+HelpIsWritten =
+    (came : List Taken) (end : Status) (bytes : List ℕ) →
+    ((topic : Option CommandName) → MayWrite (Some (Help topic)) came end bytes → (end ≡ status.Done) × (bytes ≡ help_text topic))
+    × (MayWrite (Some Version) came end bytes → (end ≡ status.Done) × (bytes ≡ version_text))
 
 -- Where the file of `route` says LSAs among which both routers have one, nothing may be written but the route.
 abbrev pub KnownRoutersAreRouted : Type 0

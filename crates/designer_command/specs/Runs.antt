@@ -5,7 +5,7 @@ use Rattle.cost_base.specs.declared.Status.{Status}
 use Rattle.cost_base.specs.declared.Status.TheVariants.{Done, Impossible, Undecided, InputRefused, ReadFault, WriteFault, OutOfMemory, WordsRefused, EvidenceRefused}
 use Rattle.cost_base.specs.Outside.{Rose, GotAll}
 use Rattle.cost_base.specs.Histories.{Taken, AreTold, CountsFailures}
-use Rattle.command_words.specs.Jobs.{JobRead, SearchRead, Design, Check, Audit, Rewrite, Trial, Conflict, Spread, Total, Change, Steps, Lsas, Route}
+use Rattle.command_words.specs.Jobs.{JobRead, SearchRead, Design, Check, Audit, Rewrite, Trial, Conflict, Spread, Total, Change, Steps, Compare, Lsas, Route, Help, Version}
 use Rattle.command_words.specs.Commands.{job_of}
 use Rattle.input_files.specs.declared.problem.View.TheVariants.{AsRequested, BesidePresent, AtPresent}
 use Rattle.input_files.specs.Inputs.{InputFiles}
@@ -16,18 +16,21 @@ use Rattle.input_files.specs.Stops.{IsReadAs}
 use Rattle.input_files.specs.Outcomes.{outcome}
 use Rattle.evidence_commands.specs.Checks.{MayCheck, claim_read}
 use Rattle.evidence_commands.specs.Rewrites.{MayRewrite, revision_read}
+use Rattle.database_commands.specs.Compares.{MayCompare, compare_read}
 use Rattle.database_commands.specs.Lsas.{MayLsas, identified_read}
 use Rattle.database_commands.specs.Routes.{MayRoute, route_read}
 use Rattle.report_writer.specs.declared.report.Report.{Report}
-use Rattle.report_writer.specs.Reports.{bytes_in}
+use Rattle.report_writer.specs.Reports.{Reports, bytes_in}
 use Rattle.report_writer.specs.Texts.{refused_line, read_fault_line}
 use Rattle.path_commands.specs.Audits.{MayAudit}
 use Rattle.path_commands.specs.Conflicts.{MayConflict}
+use Rattle.path_commands.specs.LiveAudits.{MayAuditLive, live_audit_read}
 use Rattle.path_commands.specs.SetFiles.{spread_read}
 use Rattle.path_commands.specs.Spreads.{MaySpread}
 use Rattle.change_commands.specs.Changes.{MayChange}
 use Rattle.change_commands.specs.Plans.{plan_read}
 use Rattle.change_commands.specs.Steps.{MaySteps}
+use Rattle.help_texts.specs.Texts.{help_text, version_text}
 use Rattle.designer_command.specs.Usage.{usage}
 use Rattle.design_commands.specs.Designs.{MayDesign}
 use Rattle.design_commands.specs.Trials.{MayTrial}
@@ -68,6 +71,11 @@ abbrev pub MayRefuse : List Taken → Status → List ℕ → Type 0
 MayRefuse came WordsRefused bytes = (came ≡ []) × (bytes ≡ usage)
 MayRefuse came status bytes = ⊥
 
+-- a text that is always the same is told: no file is asked for
+abbrev pub MayTell : List ℕ → List Taken → Status → List ℕ → Type 0
+MayTell text came Done bytes = (came ≡ []) × (bytes ≡ text)
+MayTell text came status bytes = ⊥
+
 -- the files of a request and of configurations
 abbrev pub input_files_of : List ℕ → List (List ℕ) → InputFiles
 input_files_of request configs = record { request = request; configs = configs }
@@ -80,7 +88,9 @@ searched s = input_files_of s.request s.configs
 abbrev pub MayWrite : Option JobRead → List Taken → Status → List ℕ → Type 0
 MayWrite (Some (Design s)) came status bytes = MayAfter (outcome AsRequested (searched s)) (MayDesign s.limits) came status bytes
 MayWrite (Some (Check request answer configs)) came status bytes = MayAfter (claim_read (input_files_of request configs) answer) MayCheck came status bytes
-MayWrite (Some (Audit request configs)) came status bytes = MayAfter (outcome AtPresent (input_files_of request configs)) MayAudit came status bytes
+MayWrite (Some (Audit request None configs)) came status bytes = MayAfter (outcome AtPresent (input_files_of request configs)) MayAudit came status bytes
+MayWrite (Some (Audit request (Some live) configs)) came status bytes =
+    MayAfter (live_audit_read (input_files_of request configs) live) MayAuditLive came status bytes
 MayWrite (Some (Rewrite answer config)) came status bytes = MayAfter (revision_read config answer) MayRewrite came status bytes
 MayWrite (Some (Trial blocks start)) came status bytes = (came ≡ []) × MayTrial blocks start status bytes
 MayWrite (Some (Conflict s)) came status bytes = MayAfter (outcome AsRequested (searched s)) (MayConflict s.limits) came status bytes
@@ -89,8 +99,12 @@ MayWrite (Some (Total s)) came status bytes = MayAfter (outcome AsRequested (sea
 MayWrite (Some (Change s)) came status bytes = MayAfter (outcome BesidePresent (searched s)) (MayChange s.limits) came status bytes
 MayWrite (Some (Steps request answer nodes by configs)) came status bytes =
     MayAfter (plan_read (input_files_of request configs) answer) (MaySteps nodes by) came status bytes
+MayWrite (Some (Compare live request configs)) came status bytes =
+    MayAfter (compare_read (input_files_of request configs) live) MayCompare came status bytes
 MayWrite (Some (Lsas request configs)) came status bytes = MayAfter (identified_read (input_files_of request configs)) MayLsas came status bytes
 MayWrite (Some (Route lsas from to)) came status bytes = MayAfter (route_read lsas from to) (MayRoute from to) came status bytes
+MayWrite (Some (Help topic)) came status bytes = MayTell (help_text topic) came status bytes
+MayWrite (Some Version) came status bytes = MayTell version_text came status bytes
 MayWrite None came status bytes = MayRefuse came status bytes
 
 -- a report has a status and a text that a command may write of what its files say
@@ -101,11 +115,17 @@ MayReport may report said = may said report.status (bytes_in report.text)
 abbrev pub IsTried : ℕ → ℕ → Result Report Stop → Type 0
 IsTried blocks start made = MatchResult made (λ report. MayTrial blocks start report.status (bytes_in report.text)) (λ stop. stop ≡ NoMemoryLeft)
 
+-- a report of this text, which nothing stops
+abbrev pub IsTold : List ℕ → Result Report Stop → Type 0
+IsTold text made = MatchResult made (Reports Done text) (λ stop. ⊥)
+
 -- what the command of a job makes, a report or what stopped it, is as what came of its files says
 abbrev pub IsMadeAs : JobRead → List Taken → Result Report Stop → Type 0
 IsMadeAs (Design s) came made = IsReadAs (outcome AsRequested (searched s)) came (MayReport (MayDesign s.limits)) made
 IsMadeAs (Check request answer configs) came made = IsReadAs (claim_read (input_files_of request configs) answer) came (MayReport MayCheck) made
-IsMadeAs (Audit request configs) came made = IsReadAs (outcome AtPresent (input_files_of request configs)) came (MayReport MayAudit) made
+IsMadeAs (Audit request None configs) came made = IsReadAs (outcome AtPresent (input_files_of request configs)) came (MayReport MayAudit) made
+IsMadeAs (Audit request (Some live) configs) came made =
+    IsReadAs (live_audit_read (input_files_of request configs) live) came (MayReport MayAuditLive) made
 IsMadeAs (Rewrite answer config) came made = IsReadAs (revision_read config answer) came (MayReport MayRewrite) made
 IsMadeAs (Trial blocks start) came made = (came ≡ []) × IsTried blocks start made
 IsMadeAs (Conflict s) came made = IsReadAs (outcome AsRequested (searched s)) came (MayReport (MayConflict s.limits)) made
@@ -114,8 +134,12 @@ IsMadeAs (Total s) came made = IsReadAs (outcome AsRequested (searched s)) came 
 IsMadeAs (Change s) came made = IsReadAs (outcome BesidePresent (searched s)) came (MayReport (MayChange s.limits)) made
 IsMadeAs (Steps request answer nodes by configs) came made =
     IsReadAs (plan_read (input_files_of request configs) answer) came (MayReport (MaySteps nodes by)) made
+IsMadeAs (Compare live request configs) came made =
+    IsReadAs (compare_read (input_files_of request configs) live) came (MayReport MayCompare) made
 IsMadeAs (Lsas request configs) came made = IsReadAs (identified_read (input_files_of request configs)) came (MayReport MayLsas) made
 IsMadeAs (Route lsas from to) came made = IsReadAs (route_read lsas from to) came (MayReport (MayRoute from to)) made
+IsMadeAs (Help topic) came made = (came ≡ []) × IsTold (help_text topic) made
+IsMadeAs Version came made = (came ≡ []) × IsTold version_text made
 
 -- what a job reports, where memory suffices, is right for what came of its files
 abbrev pub ReportsJob : (List Taken → Type 0) → JobRead → Result Report NoMemory → Type 0

@@ -1,7 +1,7 @@
 //! When a run has to answer: each law is the contract of a function, most of them of one that does nothing.
 ghost use Rattle.std.specs.Prelude.{◌≢◌};
-ghost use Rattle.designer_command.specs.Completeness.{ChangesAreFound, ConflictsAreFound, DesignsAreAccepted, HeadedCostsAreWritten, IdentifiedInputIsWritten};
-ghost use Rattle.designer_command.specs.Completeness.{KnownRoutersAreRouted, LargeBudgetsSuffice, TrialsAreDesigned, SpreadsAreFound, StepsAreFound, TotalsAreFound};
+ghost use Rattle.designer_command.specs.Completeness.{ChangesAreFound, ConflictsAreFound, DesignsAreAccepted, DifferencesAreWritten, HeadedCostsAreWritten, HelpIsWritten};
+ghost use Rattle.designer_command.specs.Completeness.{IdentifiedInputIsWritten, KnownRoutersAreRouted, LargeBudgetsSuffice, RunningAreaIsAudited, TrialsAreDesigned, SpreadsAreFound, StepsAreFound, TotalsAreFound};
 ghost use Rattle.designer_command.specs.Completeness.{ValidAnswersAreAccepted, WellFormedInputIsAudited, WellFormedInputIsDesigned};
 
 use crate::run;
@@ -78,6 +78,22 @@ pub fn steps_are_found()
 /// `lsas` on well-formed input with router IDs may write nothing but the LSAs.
 pub fn identified_input_is_written()
     ensures { IdentifiedInputIsWritten }
+{}
+
+/// An audit of a running area whose files have no fault may write nothing but its lines.
+pub fn running_area_is_audited()
+    ensures { RunningAreaIsAudited }
+{}
+
+/// `compare` on well-formed input with router IDs and a live file without a fault may write nothing but the differences, and tells
+/// by its status whether there are some.
+pub fn differences_are_written()
+    ensures { DifferencesAreWritten }
+{}
+
+/// `help` and `version` may write nothing but their texts, whatever the files.
+pub fn help_is_written()
+    ensures { HelpIsWritten }
 {}
 
 /// `route` on LSAs without a fault, among which both routers have one, may write nothing but the route.

@@ -1,22 +1,24 @@
 //! From a job to its report: each command's function stands in the crate of its kind.
-ghost use Rattle.std.specs.Prelude.{◌≡◌, ◌≤◌, ◌<◌, ◌^◌};
+ghost use Rattle.std.specs.Prelude.{◌≡◌, ◌≤◌, ◌<◌, ◌^◌, option_map, string_bytes};
 ghost use Rattle.form_search.specs.Advised.{AreCalled};
 ghost use Rattle.text_lines.specs.Arguments.{texts};
-ghost use Rattle.command_words.specs.Jobs.{IsInRange, seen};
+ghost use Rattle.command_words.specs.Jobs.{Audit, IsInRange, seen};
+ghost use Rattle.help_texts.specs.Texts.{help_text, version_text};
 ghost use Rattle.input_files.specs.Readings.{Gave};
 ghost use Rattle.input_files.specs.Stops.{files_named};
-ghost use Rattle.designer_command.specs.Runs.{IsMadeAs, IsTried, input_files_of};
+ghost use Rattle.designer_command.specs.Runs.{IsMadeAs, IsTold, IsTried, input_files_of};
 
 use change_commands::{StepsWords, change_report, steps_report};
-use command_words::Job;
-use cost_base::Shelf;
+use command_words::{CommandName, Job};
+use cost_base::{Shelf, Status};
 use cut_advisors::Advisor;
-use database_commands::{lsas_report, route_report};
+use database_commands::{compare_report, lsas_report, route_report};
 use design_commands::{TrialCase, design_report, total_report, trial_report};
 use evidence_commands::{check_report, rewrite_report};
+use help_texts::{help_text, version_text};
 use input_files::{FileWords, Stop};
-use path_commands::{audit_report, conflict_report, spread_report};
-use report_writer::Report;
+use path_commands::{audit_live_report, audit_report, conflict_report, spread_report};
+use report_writer::{Report, Text};
 use std::alloc::Global;
 
 /// The files of a request and of configurations.
@@ -42,6 +44,43 @@ fn made_trial<'a>(
     Ok(trial_report(alloc, TrialCase { blocks, start }, advisors)?)
 }
 
+/// What `audit` makes: at present costs, or with a live file at those of the running area.
+fn made_audit<'a, S: Shelf>(
+    alloc: Global,
+    request: &'a str,
+    live: &'a Option<String>,
+    configs: &'a [String],
+    shelf: &mut S,
+) -> Result<Report, Stop<'a>>
+    ensures { Gave (S.gave shelf.old shelf.new)
+        (λ came. IsMadeAs (Audit request.now (option_map string_bytes live.now) (texts configs.now)) came result) }
+{
+    match live {
+        Some(live) => audit_live_report(alloc, files(request, configs), live, shelf),
+        None => audit_report(alloc, files(request, configs), shelf),
+    }
+}
+
+/// What `help` makes: no file is read.
+fn told_help<'a>(topic: Option<CommandName>) -> Result<Report, Stop<'a>>
+    ensures { IsTold (help_text topic) result }
+{
+    Ok(Report {
+        status: Status::Done,
+        text: Text::Fixed(help_text(topic)),
+    })
+}
+
+/// What `version` makes: no file is read.
+fn told_version<'a>() -> Result<Report, Stop<'a>>
+    ensures { IsTold version_text result }
+{
+    Ok(Report {
+        status: Status::Done,
+        text: Text::Fixed(version_text()),
+    })
+}
+
 /// What a job's command makes: its report, or what stopped it.
 pub(crate) fn job_report<'a, S: Shelf>(
     alloc: Global,
@@ -63,7 +102,11 @@ pub(crate) fn job_report<'a, S: Shelf>(
             answer,
             configs,
         } => check_report(alloc, files(request, configs), answer, shelf),
-        Job::Audit { request, configs } => audit_report(alloc, files(request, configs), shelf),
+        Job::Audit {
+            request,
+            live,
+            configs,
+        } => made_audit(alloc, request, live, configs, shelf),
         Job::Rewrite { answer, config } => rewrite_report(alloc, answer, config, shelf),
         Job::Trial { blocks, start } => made_trial(alloc, *blocks, *start, advisors),
         Job::Conflict(search) => {
@@ -96,7 +139,14 @@ pub(crate) fn job_report<'a, S: Shelf>(
             };
             steps_report(alloc, files(request, configs), steps, shelf)
         }
+        Job::Compare {
+            live,
+            request,
+            configs,
+        } => compare_report(alloc, files(request, configs), live, shelf),
         Job::Lsas { request, configs } => lsas_report(alloc, files(request, configs), shelf),
         Job::Route { lsas, from, to } => route_report(alloc, lsas, *from, *to, shelf),
+        Job::Help(topic) => told_help(*topic),
+        Job::Version => told_version(),
     }
 }

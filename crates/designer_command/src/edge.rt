@@ -14,25 +14,25 @@ use cut_advisors::Advisor;
 use std::alloc::Global;
 use std::process::ExitCode;
 
-/// Runs the program on the words after its name, and gives the number of the run's status as the exit status of the process.
+/// Runs the program on the words after its name, and gives the run's status, and its number as the exit status of the process.
 pub fn run_to_exit<S: Shelf, K: Sink>(
     alloc: Global,
     words: &[String],
     shelf: &mut S,
     out: &mut K,
     advisors: &mut Vec<Box<dyn Advisor>>,
-) -> ExitCode
-    ensures meets { (status : Status) × (exit_status result ≡ status_number status)
-        × RunMeets (texts words.now) (S.gave shelf.old shelf.new)
+) -> (Status, ExitCode)
+    ensures exit { exit_status result.1 ≡ status_number result.0 }
+    ensures meets { RunMeets (texts words.now) (S.gave shelf.old shelf.new)
         (S.held shelf.old) (S.faults shelf.old) (S.faults shelf.new)
         (K.handed out.old out.new) (K.got out.old) (K.got out.new)
-        (K.faults out.old) (K.faults out.new) status }
+        (K.faults out.old) (K.faults out.new) result.0 }
     ensures held { (name : List ℕ) → S.held shelf.new name ≡ S.held shelf.old name }
     ensures advisors { AreCalled ⟦<dyn Advisor as Advisor>⟧ (λ b. b.vtable) (λ b. state b)
         advisors.old.items advisors.new.items }
 {
     let status = run(alloc, words, shelf, out, advisors);
-    ExitCode::from(status.number())
+    (status, ExitCode::from(status.number()))
 }
 
 /// A run over a shelf and a sink that keep records: what the records grew by is what came of the files and what was handed

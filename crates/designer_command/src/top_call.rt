@@ -18,7 +18,7 @@ use std::alloc::Global;
 const USAGE: &str = "\
 usage: ospfcost design --request F [--nodes N] [--bits B] CONFIG..
        ospfcost check --request F --answer A CONFIG..
-       ospfcost audit --request F CONFIG..
+       ospfcost audit --request F [--live L] CONFIG..
        ospfcost rewrite --answer A CONFIG
        ospfcost trial --blocks T [--start S]
        ospfcost conflict --request F [--nodes N] [--bits B] CONFIG..
@@ -28,6 +28,9 @@ usage: ospfcost design --request F [--nodes N] [--bits B] CONFIG..
        ospfcost route --lsas L --from A.B.C.D --to A.B.C.D
        ospfcost change --request F [--nodes N] [--bits B] CONFIG..
        ospfcost steps --request F --answer A [--nodes N] [--by line|router] CONFIG..
+       ospfcost compare --live L --request F CONFIG..
+       ospfcost help [COMMAND]
+       ospfcost version
 ";
 
 /// The report of words that are refused.
@@ -65,7 +68,8 @@ fn write_made<K: Sink>(made: Result<Report, OutOfMemory>, out: &mut K) -> Status
 /// `trial --blocks T` makes a case and designs it with a budget of 100,000 entries. It writes a summary line and, with
 /// `Impossible` and `Undecided`, the answer's text behind it. No file is read.
 ///
-/// `audit --request F CONFIG..` writes a line for each wanted path, with status `Done`.
+/// `audit --request F CONFIG..` writes a line for each wanted path, with status `Done`: at present costs, or with `--live L` at
+/// those at which the area runs whose database the file L has.
 ///
 /// `check --request F --answer A CONFIG..` reads the answer's file after the other files. It writes `accepted optimal K` or
 /// `accepted impossible`, with status `Done`, where the file's bytes are the text of a valid answer; else
@@ -98,6 +102,12 @@ fn write_made<K: Sink>(made: Result<Report, OutOfMemory>, out: &mut K) -> Status
 /// of their routers, in which each path that is the only cheapest before and after stays so after each step, with status
 /// `Done`; with `Impossible` that there is none, and with `Undecided` that the budget of states was used up, each with what
 /// stops the next steps; else `rejected NUMBER PLACE`, with status `EvidenceRefused`.
+///
+/// `compare --live L --request F CONFIG..` reads the database of the running area after the other files. It writes a line for
+/// each difference from the configurations, and how many interfaces are the same, with status `Done` where there is no
+/// difference, and `Impossible` where there is one.
+///
+/// `help [COMMAND]` and `version` write a text that is always the same, with status `Done`. No file is read.
 ///
 /// The advisors are asked where a box is shared out, and told of each entry of a tree. Whatever they answer, all of this
 /// holds. Some of the first may be gone after the call, since they answered out of range; every other is left in its place,

@@ -1,11 +1,12 @@
 //! The program over the machine it runs on: the words that it was given, the machine's files, its standard output, and the
-//! line on a terminal that tells how far a search is.
+//! lines on a terminal that tell how far a search is, and what a refusal means.
 #![tactic(auto)]
 
 use command_words::{Job, read_words};
 use cost_base::{FileShelf, OutOfMemory, OutSink, Status};
 use cut_advisors::{Advisor, Progress, SmallestNumber};
 use designer_command::run_to_exit;
+use refusal_sentences::{FirstPiece, sentence_of};
 use std::alloc::Global;
 use std::env::{self, Env};
 use std::io::{self, ErrorKind, IsTerminal};
@@ -53,8 +54,20 @@ fn progress_of(rt: &HostRuntime, words: &[String]) -> Option<Progress<HostRuntim
     }
 }
 
+/// Tells on standard error what the line of a refusal means, where that is a terminal and the run ended by a refusal.
+fn tell_refusal(rt: &HostRuntime, status: Status, line: &[u8]) {
+    if !matches!(status, Status::InputRefused | Status::EvidenceRefused)
+        || !rt.stderr().is_terminal()
+    {
+        return;
+    }
+    if let Ok(Some(sentence)) = sentence_of(rt.alloc(), line) {
+        let _written = eprintln!(rt; "{sentence}");
+    }
+}
+
 /// Runs the words that the program was given over the machine's files and standard output, with the advisor that picks the
-/// first candidate. Behind it stands the one that tells how far the search is.
+/// first candidate. Behind it stands the one that tells how far the search is. A refusal is then told in words.
 fn run_program(rt: &HostRuntime) -> Result<ExitCode, OutOfMemory> {
     let words = words_given(rt)?;
     let mut advisors: Vec<Box<dyn Advisor>> = Vec::new(rt.alloc());
@@ -63,8 +76,10 @@ fn run_program(rt: &HostRuntime) -> Result<ExitCode, OutOfMemory> {
         advisors.push(Box::new(rt.alloc(), progress)?)?;
     }
     let mut shelf = FileShelf::new(rt.alloc(), rt);
-    let mut out = OutSink::new(io::writer(rt));
-    Ok(run_to_exit(rt.alloc(), &words, &mut shelf, &mut out, &mut advisors))
+    let mut out = FirstPiece::new(rt.alloc(), OutSink::new(io::writer(rt)));
+    let (status, code) = run_to_exit(rt.alloc(), &words, &mut shelf, &mut out, &mut advisors);
+    tell_refusal(rt, status, out.first());
+    Ok(code)
 }
 
 /// Ends as the run does. Where there is no memory to begin it, it ends as a run does that has none.

@@ -1,5 +1,5 @@
 use Rattle.std.proofs.Common.{◌∙◌, ap}
-use Rattle.command_words.specs.Commands.{row_of_word}
+use Rattle.command_words.specs.Commands.{command_named}
 use Rattle.text_lines.specs.Arguments.{texts}
 use Rattle.command_words.proofs.JobSteps.{named_row, no_words}
 use Rattle.command_words.proofs.named.Goals as goal
@@ -10,4 +10,4 @@ returns-in_err-first c = rw c.from_residual.ensures (no_words c.args.words.now c
 pub returns : goal.returns
 returns c =
     rw (ap texts c.in_ok-first.ensures.cases.0)
-    (named_row _ (texts c.in_ok-first._others.now) c.command_named.result (c.command_named.ensures ∙ ap row_of_word c.as_bytes.ensures.value))
+    (named_row _ (texts c.in_ok-first._others.now) c.command_named.result (c.command_named.ensures ∙ ap command_named c.as_bytes.ensures.value))

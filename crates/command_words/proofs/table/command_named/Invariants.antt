@@ -1,11 +1,10 @@
-use Rattle.std.proofs.Common.{◌≡◌, map, drop}
+use Rattle.std.proofs.Common.{◌≡◌, drop}
 use Rattle.std.specs.Prelude.{find}
 use Rattle.cost_base.specs.Lists.{same_bytes}
-use Rattle.command_words.specs.Commands.{row_of_word}
-use Rattle.command_words.specs.Forms.{row_of_command}
+use Rattle.command_words.specs.Commands.{command_named, word_of}
 use Rattle.command_words.proofs.table.command_named.Given as goal
 
--- the rows that are left have the word's, where one has it
+-- the word names one of the commands that are left, where it names one
 abbrev pub invariant-loop-name : goal.invariant-loop-name
 invariant-loop-name l =
-    find (λ form. same_bytes form.name l.word) (map row_of_command (drop l.name-index l.name-items)) ≡ row_of_word l.word
+    find (λ n. same_bytes (word_of n) l.word) (drop l.name-index l.name-items) ≡ command_named l.word

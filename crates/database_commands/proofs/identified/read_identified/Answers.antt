@@ -1,5 +1,5 @@
 -- The network was read, and its router IDs were tested.
-use Rattle.std.proofs.Common.{◌≡◌, ◌∙◌, [], sym, ap, refl, subst, arith, length, Ok, Err, None}
+use Rattle.std.proofs.Common.{◌∙◌, [], sym, ap, arith, length, Ok, Err}
 use Rattle.std.proofs.lemmas.Result.{err_from_is_err_and}
 use Rattle.input_files.specs.declared.problem.View.TheVariants.{AtPresent}
 use Rattle.input_files.specs.declared.network.Network.{Network}

@@ -18,7 +18,7 @@ use Rattle.lsa_bytes.specs.Written.{bytes_of_all}
 use Rattle.lsa_writer.specs.WrittenLsas.{written_lsas}
 use Rattle.lsa_writer.specs.OneGraph.{IsDatabaseOf}
 use Rattle.database_commands.specs.Lsas.{MayLsas, if_identified}
-use Rattle.database_commands.proofs.LsasRuns.{costs_above, is_built, few_configs, are_written, ids_refused, ids_fine, reported}
+use Rattle.database_commands.proofs.LsasRuns.{costs_above, is_built, are_written, reported}
 use Rattle.database_commands.proofs.lsas.lsas_report.Goals as goal
 
 pub lsas_of-requires-clause-built : goal.lsas_of-requires-clause-built

@@ -1,10 +1,10 @@
 -- What each command makes is as what came of its files says.
-use Rattle.std.proofs.Common.{refl, ap, []}
+use Rattle.std.proofs.Common.{refl, ap, [], option_map, string_bytes}
 use Rattle.form_search.proofs.AdvisorLaws.{left_alike}
 use Rattle.text_lines.specs.Arguments.{texts}
 use Rattle.command_words.specs.Jobs.{bounds}
 use Rattle.command_words.specs.Jobs as read
-use Rattle.input_files.specs.declared.problem.View.TheVariants.{AsRequested, BesidePresent, AtPresent}
+use Rattle.input_files.specs.declared.problem.View.TheVariants.{AsRequested, BesidePresent}
 use Rattle.input_files.specs.Outcomes.{outcome}
 use Rattle.input_files.specs.Stops.{files_named}
 use Rattle.change_commands.specs.Changes.{MayChange}
@@ -12,11 +12,11 @@ use Rattle.change_commands.specs.Plans.{plan_read}
 use Rattle.change_commands.specs.Steps.{MaySteps}
 use Rattle.design_commands.specs.Designs.{MayDesign}
 use Rattle.design_commands.specs.TotalRuns.{MayTotal}
-use Rattle.path_commands.specs.Audits.{MayAudit}
 use Rattle.path_commands.specs.Conflicts.{MayConflict}
 use Rattle.path_commands.specs.SetFiles.{spread_read}
 use Rattle.path_commands.specs.Spreads.{MaySpread}
 use Rattle.evidence_commands.specs.Checks.{MayCheck, claim_read}
+use Rattle.database_commands.specs.Compares.{MayCompare, compare_read}
 use Rattle.database_commands.specs.Lsas.{MayLsas, identified_read}
 use Rattle.designer_command.specs.Runs.{input_files_of}
 use Rattle.designer_command.proofs.Runs.{files_made, job_made}
@@ -48,12 +48,11 @@ returns-in-Check-clause-advisors g c = left_alike _ _ _ refl
 
 pub returns-in-Audit-clause-made : goal.returns-in-Audit-clause-made
 returns-in-Audit-clause-made g c =
-    let given = g.S.Shelf.gave c.args.shelf.now c.audit_report.new.shelf in
-    job_made given c.args.job.now (read.Audit c.deref-in-Audit.result.now (texts c.deref-in-Audit-2.result.now))
-    c.audit_report.result (rw (c.in-Audit.is, c.deref-in-Audit.ensures, c.deref-in-Audit-2.ensures.value) refl)
-    (files_made given (outcome AtPresent) MayAudit c.audit_report.result (files_named c.files-in-Audit.result)
-    (input_files_of c.deref-in-Audit.result.now (texts c.deref-in-Audit-2.result.now)) c.files-in-Audit.ensures
-    c.audit_report.ensures)
+    let given = g.S.Shelf.gave c.args.shelf.now c.made_audit.new.shelf in
+    job_made given c.args.job.now
+    (read.Audit c.deref-in-Audit.result.now (option_map string_bytes c.in-Audit.live) (texts c.deref-in-Audit-2.result.now))
+    c.made_audit.result (rw (c.in-Audit.is, c.deref-in-Audit.ensures, c.deref-in-Audit-2.ensures.value) refl)
+    c.made_audit.ensures
 
 pub returns-in-Audit-clause-advisors : goal.returns-in-Audit-clause-advisors
 returns-in-Audit-clause-advisors g c = left_alike _ _ _ refl
@@ -141,6 +140,38 @@ returns-in-Steps-clause-made g c =
 
 pub returns-in-Steps-clause-advisors : goal.returns-in-Steps-clause-advisors
 returns-in-Steps-clause-advisors g c = left_alike _ _ _ refl
+
+pub returns-in-Compare-clause-made : goal.returns-in-Compare-clause-made
+returns-in-Compare-clause-made g c =
+    let given = g.S.Shelf.gave c.args.shelf.now c.compare_report.new.shelf in
+    job_made given c.args.job.now
+    (read.Compare c.deref-in-Compare-3.result.now c.deref-in-Compare.result.now (texts c.deref-in-Compare-2.result.now))
+    c.compare_report.result
+    (rw (c.in-Compare.is, c.deref-in-Compare.ensures, c.deref-in-Compare-3.ensures, c.deref-in-Compare-2.ensures.value) refl)
+    (files_made given (λ names. compare_read names c.deref-in-Compare-3.result.now) MayCompare c.compare_report.result
+    (files_named c.files-in-Compare.result) (input_files_of c.deref-in-Compare.result.now (texts c.deref-in-Compare-2.result.now))
+    c.files-in-Compare.ensures c.compare_report.ensures)
+
+pub returns-in-Compare-clause-advisors : goal.returns-in-Compare-clause-advisors
+returns-in-Compare-clause-advisors g c = left_alike _ _ _ refl
+
+pub returns-in-Help-clause-made : goal.returns-in-Help-clause-made
+returns-in-Help-clause-made g c =
+    let given = g.S.Shelf.gave c.args.shelf.now c.args.shelf.now in
+    job_made given c.args.job.now (read.Help c.in-Help.topic) c.told_help.result (ap read.seen c.in-Help.is)
+    (record { came = []; given = g.met.S.Shelf.gave_none c.args.shelf.now; so = (refl, c.told_help.ensures) })
+
+pub returns-in-Help-clause-advisors : goal.returns-in-Help-clause-advisors
+returns-in-Help-clause-advisors g c = left_alike _ _ _ refl
+
+pub returns-in-Version-clause-made : goal.returns-in-Version-clause-made
+returns-in-Version-clause-made g c =
+    let given = g.S.Shelf.gave c.args.shelf.now c.args.shelf.now in
+    job_made given c.args.job.now read.Version c.told_version.result (ap read.seen c.in-Version.is)
+    (record { came = []; given = g.met.S.Shelf.gave_none c.args.shelf.now; so = (refl, c.told_version.ensures) })
+
+pub returns-in-Version-clause-advisors : goal.returns-in-Version-clause-advisors
+returns-in-Version-clause-advisors g c = left_alike _ _ _ refl
 
 pub returns-in-Lsas-clause-made : goal.returns-in-Lsas-clause-made
 returns-in-Lsas-clause-made g c =

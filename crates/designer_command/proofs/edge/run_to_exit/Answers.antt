@@ -2,5 +2,5 @@
 use Rattle.std.proofs.Common.{◌∙◌}
 use Rattle.designer_command.proofs.edge.run_to_exit.Goals as goal
 
-pub returns-clause-meets : goal.returns-clause-meets
-returns-clause-meets g c = (c.run-status.result, c.from.ensures ∙ c.number.ensures, c.run-status.ensures.meets)
+pub returns-clause-exit : goal.returns-clause-exit
+returns-clause-exit g c = c.from.ensures ∙ c.number.ensures
