@@ -3,10 +3,8 @@ use Rattle.std.proofs.Common.{◌≡◌, ℕ, ◌+◌, ◌<◌, refl, sym, ◌�
 use Rattle.std.specs.List.{AllZip}
 use Rattle.std.proofs.lemmas.List.{take_more}
 use Rattle.cost_base.proofs.ListLemmas.{zip_push}
-use Rattle.area_graph.specs.Area.{Area}
-use Rattle.design_problem.specs.declared.problem.Request.{Request}
 use Rattle.path_commands.specs.declared.audit.AuditedPath.{AuditedPath}
-use Rattle.path_commands.specs.Audits.{IsAudited, audit_line, audit_lines}
+use Rattle.path_commands.specs.Audits.{audit_line, audit_lines}
 
 -- what is found of the next thing goes behind what was found of those before
 pub found_push : {X Y : Type 0} (R : X → Y → Type 0) (things : List X) (i : ℕ) (thing : X) (found more : List Y) (new : Y) →

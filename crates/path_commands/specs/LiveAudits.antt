@@ -1,5 +1,5 @@
 -- What an audit of a running area prints of wanted paths.
-use Rattle.std.specs.Prelude.{◌≡◌, ℕ, ◌+◌, List, [], ◌∷◌, ◌++◌, filter, length, slice_get, codes, Bool, Option, Some, None}
+use Rattle.std.specs.Prelude.{◌≡◌, ℕ, ◌+◌, List, [], ◌∷◌, ◌++◌, filter, length, slice_get, codes, Option, Some, None}
 use Rattle.std.specs.List.{AllZip, list_any}
 use Rattle.cost_base.specs.Decimal.{decimal}
 use Rattle.cost_base.specs.Lists.{numbers_from}

@@ -61,7 +61,9 @@ fn is_taken(lsdb: &Lsdb, graph: &Graph, links: &[u32], edge: u32) -> bool
     requires { edge < length graph.now.edges }
     ensures { result ≡ list_any (λ l. link_takes lsdb.now graph.now l (slice_get lsdb.now.links l) edge) links.now }
 {
-    links.iter().any(|link| link_takes(lsdb, graph, *link, edge))
+    links
+        .iter()
+        .any(|link| link_takes(lsdb, graph, *link, edge))
 }
 
 /// Adds an edge, if it is one of those that are sought.

@@ -1,5 +1,5 @@
 -- What was found of the next path goes behind the others.
-use Rattle.std.proofs.Common.{subst, ◌<◌, length, rules}
+use Rattle.std.proofs.Common.{subst}
 use Rattle.spf_ties.specs.Distances.{IsRoomFor}
 use Rattle.design_problem.specs.Problems.{DesignProblem}
 use Rattle.path_commands.specs.LiveAudits.{IsFoundLive}

@@ -1,5 +1,5 @@
 -- The next edge stands behind the others where it is of one of the links.
-use Rattle.std.proofs.Common.{◌∙◌, ap, Bool, List, [], ◌∷◌, ◌++◌, cond}
+use Rattle.std.proofs.Common.{◌∙◌, ap, Bool, [], ◌∷◌, ◌++◌, cond}
 use Rattle.std.specs.Prelude.{slice_get}
 use Rattle.std.specs.List.{list_any}
 use Rattle.wanted_paths.specs.Paths.{link_takes}
