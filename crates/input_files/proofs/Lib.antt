@@ -8,3 +8,4 @@ pub mod Ends
 pub mod Networks
 pub mod LaterFiles
 pub mod PresentNetworks
+pub mod Layouts

@@ -1,3 +1,4 @@
 pub mod LiveLinks
 pub mod Differences
 pub mod LiveCosts
+pub mod Indexes

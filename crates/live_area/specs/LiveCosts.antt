@@ -1,5 +1,5 @@
 -- An area at the costs at which it runs, as the LSAs that count say them.
-use Rattle.std.specs.Prelude.{ℕ, ◌+◌, List, [], ◌∷◌, ◌++◌, flat_map, map, slice_get, is_some, Option, None, if◌then◌else◌}
+use Rattle.std.specs.Prelude.{ℕ, ◌+◌, List, [], ◌∷◌, ◌++◌, flat_map, map, slice_get, slice_index_or, is_some, Option, None, if◌then◌else◌}
 use Rattle.std.specs.Option.{option_or}
 use Rattle.interface_model.specs.Records.{Router}
 use Rattle.lsdb_build.specs.declared.Linked.{Linked}
@@ -34,8 +34,7 @@ without_metric l (metric ∷ metrics) = (if is_some metric then [] else l ∷ []
 abbrev pub missing_links : List Router → List Lsa → List Linked → List ℕ
 missing_links configs lsas links = without_metric 0 (map (live_metric configs lsas) links)
 
--- linked interfaces with metrics in place of their costs, one by one
-abbrev pub costed_links : List Linked → List (Option ℕ) → List Linked
-costed_links [] metrics = []
-costed_links (link ∷ links) [] = []
-costed_links (link ∷ links) (metric ∷ metrics) = costed_by metric link ∷ costed_links links metrics
+-- linked interfaces with the metrics at their places in place of their costs, from place l on
+abbrev pub costed_from : List (Option ℕ) → ℕ → List Linked → List Linked
+costed_from metrics l [] = []
+costed_from metrics l (link ∷ links) = costed_by (slice_index_or metrics l None) link ∷ costed_from metrics (l + 1) links

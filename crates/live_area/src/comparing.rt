@@ -5,6 +5,7 @@ ghost use Rattle.live_area.specs.Differences.{difference_lines};
 use crate::Difference;
 use crate::interfaces::{compare_interfaces, push_interface_lines, same_count};
 use crate::links::live_links;
+use crate::metrics::EndMetrics;
 use crate::routers::push_router_lines;
 use cost_base::OutOfMemory;
 use interface_model::RouterConfig;
@@ -38,10 +39,11 @@ pub fn compare(
     let ends = ends_of(alloc, configs, links)?;
     let lsas = live.as_slice();
     let found = live_links(alloc, lsas)?;
-    let interfaces = compare_interfaces(alloc, lsas, &found, links, &ends, costs)?;
+    let metrics = EndMetrics::among(alloc, &ends, &found)?;
+    let interfaces = compare_interfaces(alloc, lsas, &metrics, links, &ends, costs)?;
     let mut lines = Vec::new(alloc);
     push_interface_lines(&mut lines, &interfaces)?;
-    push_router_lines(alloc, &mut lines, configs, &ends, lsas)?;
+    push_router_lines(alloc, &mut lines, configs, &metrics, lsas)?;
     lines.push(Difference::Same {
         same: same_count(&interfaces),
         linked: links.len() as u32,

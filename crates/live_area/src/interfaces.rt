@@ -1,16 +1,21 @@
 //! Linked interfaces beside their links.
-ghost use Rattle.std.specs.Prelude.{◌≡◌, ◌≤◌, ◌++◌, None, IfOk, OnOk, count_by, length, option_to_list, slice_index};
+ghost use Rattle.std.specs.Prelude.{◌≡◌, ◌≤◌, ◌++◌, ℕ, List, None, IfOk, OnOk, count_by, length, option_to_list, slice_index};
 ghost use Rattle.std.specs.List.{list_any};
+ghost use Rattle.std.specs.Ordering.{nat_cmp};
+ghost use Rattle.std.specs.BTreeSet.{contains};
 ghost use Rattle.lsa_bytes.specs.Databases.{is_router_of};
+ghost use Rattle.live_area.specs.declared.links.LiveLink.{LiveLink as OneLink};
+ghost use Rattle.live_area.specs.Indexes.{HasMetrics};
 ghost use Rattle.live_area.specs.Differences as definition;
 
 use crate::Difference;
-use crate::links::{LiveLink, metric_at};
+use crate::metrics::EndMetrics;
 use cost_base::OutOfMemory;
 use lsa_bytes::{Lsa, is_router};
 use lsa_writer::LinkEnd;
 use lsdb_build::Linked;
 use std::alloc::Global;
+use std::collections::BTreeSet;
 
 /// A linked interface: the number of its configuration, its own, its present cost, whether a router-LSA of its router
 /// counts, and the metric of its link.
@@ -23,18 +28,17 @@ pub struct Compared {
     pub metric: Option<u16>,
 }
 
-/// Whether an LSA is a router-LSA of a router.
-fn is_router_of(lsa: &Lsa, router: u32) -> bool
-    ensures { result ≡ is_router_of router lsa.now }
+/// The advertising routers of the router-LSAs.
+fn router_ids(alloc: Global, lsas: &[Lsa]) -> Result<BTreeSet<u32>, OutOfMemory>
+    ensures { IfOk result (λ ids. (router : ℕ) → contains nat_cmp ids router ≡ list_any (is_router_of router) lsas.now) }
 {
-    is_router(lsa) && lsa.router == router
-}
-
-/// Whether a router-LSA of a router counts.
-fn counts(lsas: &[Lsa], router: u32) -> bool
-    ensures { result ≡ list_any (is_router_of router) lsas.now }
-{
-    lsas.iter().any(|lsa| is_router_of(lsa, router))
+    let mut ids = BTreeSet::new(alloc);
+    for lsa in lsas {
+        if is_router(lsa) {
+            ids.insert(lsa.router)?;
+        }
+    }
+    Ok(ids)
 }
 
 /// The number of the router of a link by its number, 0 where there is none.
@@ -58,22 +62,24 @@ fn cost_at(costs: &[u16], link: usize) -> u16
 pub fn compare_interfaces(
     alloc: Global,
     lsas: &[Lsa],
-    live: &[LiveLink],
+    metrics: &EndMetrics,
     links: &[Linked],
     ends: &[LinkEnd],
     costs: &[u16],
 ) -> Result<Vec<Compared>, OutOfMemory>
     requires { length ends.now ≤ 4000 }
-    ensures { IfOk result (λ interfaces. interfaces.items ≡ definition.compared_from lsas.now live.now links.now costs.now 0 ends.now) }
+    ensures { IfOk result (λ interfaces. (all : List OneLink) → HasMetrics metrics.now.by_name ends.now all →
+        interfaces.items ≡ definition.compared_from lsas.now all links.now costs.now 0 ends.now) }
 {
+    let routers = router_ids(alloc, lsas)?;
     let mut interfaces = Vec::new(alloc);
     for (link, end) in ends.iter().enumerate() {
         interfaces.push(Compared {
             router: router_of(links, link),
             link: link as u32,
             cost: cost_at(costs, link),
-            counts: counts(lsas, end.router),
-            metric: metric_at(live, *end),
+            counts: routers.contains(&end.router),
+            metric: metrics.at(*end),
         })?;
     }
     Ok(interfaces)

@@ -38,6 +38,7 @@ pub enum Difference {
 mod comparing;
 mod interfaces;
 mod links;
+mod metrics;
 mod routers;
 mod running;
 

@@ -1,17 +1,21 @@
 //! Router-LSAs beside the configurations.
-ghost use Rattle.std.specs.Prelude.{◌≡◌, ◌++◌, [], OnOk, flat_map};
+ghost use Rattle.std.specs.Prelude.{◌≡◌, ◌&&◌, List, [], ◌∷◌, ◌++◌, None, Some, if◌then◌else◌, not, IfOk, OnOk, flat_map, option_to_list};
 ghost use Rattle.std.specs.List.{list_any};
+ghost use Rattle.lsa_writer.specs.declared.ends.LinkEnd.{LinkEnd as OneEnd};
+ghost use Rattle.live_area.specs.declared.links.LiveLink.{LiveLink as OneLink};
+ghost use Rattle.live_area.specs.Indexes.{HasMetrics, HaveSeen};
 ghost use Rattle.lsa_bytes.specs.Ids.{is_id};
 ghost use Rattle.live_area.specs.Differences as definition;
 
 use crate::Difference;
 use crate::interfaces::push_line;
 use crate::links::{LiveLink, links_of_lsa};
+use crate::metrics::EndMetrics;
 use cost_base::OutOfMemory;
 use interface_model::RouterConfig;
 use lsa_bytes::{Lsa, is_router};
-use lsa_writer::LinkEnd;
 use std::alloc::Global;
+use std::collections::BTreeSet;
 
 /// Whether a configuration has a router ID.
 fn has_id(config: &RouterConfig, id: u32) -> bool
@@ -27,41 +31,11 @@ fn is_known(configs: &[RouterConfig], id: u32) -> bool
     configs.iter().any(|config| has_id(config, id))
 }
 
-/// Whether an interface's end has the router ID and the address of a link.
-fn is_end_of(end: &LinkEnd, link: LiveLink) -> bool
-    ensures { result ≡ definition.is_end_of link end.now }
+/// The line of a link: none where it is the first of its data that its router-LSA has, and that of a linked interface.
+fn unknown_line(known: bool, first: bool, link: LiveLink) -> Option<Difference>
+    ensures { result ≡ (if known && first then None else Some (Difference.Unknown link.router link.address link.metric)) }
 {
-    end.router == link.router && end.address == link.address
-}
-
-/// Whether one of the ends has the router ID and the address of a link.
-fn has_end(ends: &[LinkEnd], link: LiveLink) -> bool
-    ensures { result ≡ list_any (definition.is_end_of link) ends.now }
-{
-    ends.iter().any(|end| is_end_of(end, link))
-}
-
-/// Whether two links have the same data.
-fn has_address(link: &LiveLink, address: u32) -> bool
-    ensures { result ≡ definition.has_address address link.now }
-{
-    link.address == address
-}
-
-/// Whether one of the links has this data.
-fn has_link(links: &[LiveLink], address: u32) -> bool
-    ensures { result ≡ list_any (definition.has_address address) links.now }
-{
-    links.iter().any(|link| has_address(link, address))
-}
-
-/// The line of a link behind others of its router-LSA: none where it is that of a linked interface.
-fn unknown_line(ends: &[LinkEnd], before: &[LiveLink], link: LiveLink) -> Option<Difference>
-    ensures { result ≡ definition.unknown_line ends.now before.now link }
-{
-    let known = has_end(ends, link);
-    let again = has_link(before, link.address);
-    if known && !again {
+    if known && first {
         return None;
     }
     Some(Difference::Unknown {
@@ -71,17 +45,28 @@ fn unknown_line(ends: &[LinkEnd], before: &[LiveLink], link: LiveLink) -> Option
     })
 }
 
+/// Notes the data of a link behind others; tells whether none of them has these data.
+fn see(seen: &mut BTreeSet<u32>, link: LiveLink) -> Result<bool, OutOfMemory>
+    ensures first { IfOk result (λ first. (before : List OneLink) → HaveSeen seen.old before → first ≡ not (list_any (definition.has_address link.address) before)) }
+    ensures seen { OnOk result ((before : List OneLink) → HaveSeen seen.old before → HaveSeen seen.new (before ++ link ∷ [])) }
+{
+    Ok(seen.insert(link.address)?)
+}
+
 /// Adds the lines of the links of a router-LSA, in order.
 fn push_unknown_lines(
+    alloc: Global,
     lines: &mut Vec<Difference>,
-    ends: &[LinkEnd],
+    metrics: &EndMetrics,
     links: &[LiveLink],
 ) -> Result<(), OutOfMemory>
-    ensures { OnOk result (lines.new.items ≡ lines.old.items ++ definition.unknown_lines ends.now [] links.now) }
+    ensures { OnOk result ((ends : List OneEnd) (all : List OneLink) → HasMetrics metrics.now.by_name ends all →
+        lines.new.items ≡ lines.old.items ++ definition.unknown_lines ends [] links.now) }
 {
-    for (number, link) in links.iter().enumerate() {
-        let (before, _) = links.split_at(number);
-        push_line(lines, unknown_line(ends, before, *link))?;
+    let mut seen = BTreeSet::new(alloc);
+    for link in links {
+        let first = see(&mut seen, *link)?;
+        push_line(lines, unknown_line(metrics.has_end(*link), first, *link))?;
     }
     Ok(())
 }
@@ -91,10 +76,11 @@ fn push_lsa_lines(
     alloc: Global,
     lines: &mut Vec<Difference>,
     configs: &[RouterConfig],
-    ends: &[LinkEnd],
+    metrics: &EndMetrics,
     lsa: &Lsa,
 ) -> Result<(), OutOfMemory>
-    ensures { OnOk result (lines.new.items ≡ lines.old.items ++ definition.lsa_lines configs.now ends.now lsa.now) }
+    ensures { OnOk result ((ends : List OneEnd) (all : List OneLink) → HasMetrics metrics.now.by_name ends all →
+        lines.new.items ≡ lines.old.items ++ definition.lsa_lines configs.now ends lsa.now) }
 {
     if !is_router(lsa) {
         return Ok(());
@@ -103,7 +89,8 @@ fn push_lsa_lines(
         return push_line(lines, Some(Difference::Stranger { router: lsa.router }));
     }
     let links = links_of_lsa(alloc, lsa)?;
-    push_unknown_lines(lines, ends, &links)
+    push_unknown_lines(alloc, lines, metrics, &links)?;
+    Ok(())
 }
 
 /// Adds the lines of router-LSAs, in order.
@@ -111,13 +98,14 @@ pub fn push_router_lines(
     alloc: Global,
     lines: &mut Vec<Difference>,
     configs: &[RouterConfig],
-    ends: &[LinkEnd],
+    metrics: &EndMetrics,
     lsas: &[Lsa],
 ) -> Result<(), OutOfMemory>
-    ensures { OnOk result (lines.new.items ≡ lines.old.items ++ flat_map (definition.lsa_lines configs.now ends.now) lsas.now) }
+    ensures { OnOk result ((ends : List OneEnd) (all : List OneLink) → HasMetrics metrics.now.by_name ends all →
+        lines.new.items ≡ lines.old.items ++ flat_map (definition.lsa_lines configs.now ends) lsas.now) }
 {
     for lsa in lsas {
-        push_lsa_lines(alloc, lines, configs, ends, lsa)?;
+        push_lsa_lines(alloc, lines, configs, metrics, lsa)?;
     }
     Ok(())
 }

@@ -1,5 +1,5 @@
 //! An area at the costs at which it runs.
-ghost use Rattle.std.specs.Prelude.{◌≡◌, ◌<◌, Some, All, IfOk, IfSome, is_some, map, slice_get};
+ghost use Rattle.std.specs.Prelude.{◌≡◌, ◌≤◌, None, Some, IfOk, is_some, length, map, slice_get, slice_index_or};
 ghost use Rattle.std.specs.Option.{option_or};
 ghost use Rattle.lsa_writer.specs.Ends.{end_of, router_id_in};
 ghost use Rattle.live_area.specs.LiveCosts as definition;
@@ -82,6 +82,7 @@ fn live_metrics(
 
 /// The numbers of the interfaces without a metric, in rising order.
 fn missing_of(alloc: Global, metrics: &[Option<u16>]) -> Result<Vec<u32>, OutOfMemory>
+    requires { length metrics.now ≤ 4000 }
     ensures { IfOk result (λ missing. missing.items ≡ definition.without_metric 0 metrics.now) }
 {
     let mut missing = Vec::new(alloc);
@@ -107,17 +108,27 @@ fn costed(alloc: Global, link: &Linked, metric: Option<u16>) -> Result<Linked, O
     })
 }
 
-/// Linked interfaces with metrics in place of their costs, where there are.
+/// The metric at a place, if there is one.
+fn metric_in(metrics: &[Option<u16>], place: usize) -> Option<u16>
+    ensures { result ≡ slice_index_or metrics.now place None }
+{
+    match metrics.get(place) {
+        Some(metric) => *metric,
+        None => None,
+    }
+}
+
+/// Linked interfaces with the metrics at their places in place of their costs, where there are.
 fn costed_links(
     alloc: Global,
     links: &[Linked],
     metrics: &[Option<u16>],
 ) -> Result<Vec<Linked>, OutOfMemory>
-    ensures { IfOk result (λ made. made.items ≡ definition.costed_links links.now metrics.now) }
+    ensures { IfOk result (λ made. made.items ≡ definition.costed_from metrics.now 0 links.now) }
 {
     let mut made = Vec::new(alloc);
-    for (link, metric) in links.iter().zip(metrics) {
-        made.push(costed(alloc, link, *metric)?)?;
+    for (place, link) in links.iter().enumerate() {
+        made.push(costed(alloc, link, metric_in(metrics, place))?)?;
     }
     Ok(made)
 }

@@ -1,8 +1,14 @@
-use Rattle.std.proofs.Common.{◌≡◌, ◌++◌, drop, take}
-use Rattle.std.specs.Prelude.{[]}
+use Rattle.std.proofs.Common.{◌≡◌, ◌++◌, List, [], drop, take}
+use Rattle.lsa_writer.specs.declared.ends.LinkEnd.{LinkEnd}
+use Rattle.live_area.specs.declared.links.LiveLink.{LiveLink}
 use Rattle.live_area.specs.Differences.{unknown_lines}
+use Rattle.live_area.specs.Indexes.{HasMetrics, HaveSeen}
 use Rattle.live_area.proofs.routers.push_unknown_lines.Given as goal
 
--- with the lines of the links that are left they are all
-abbrev pub invariant-loop-number : goal.invariant-loop-number
-invariant-loop-number l = l.lines.items ++ unknown_lines l.ends (take l.number l.links) (drop l.number l.links) ≡ l.fn.lines.items ++ unknown_lines l.fn.ends [] l.fn.links
+-- the data of the links before were seen, and with the lines of the links that are left they are all
+abbrev pub invariant-loop-link : goal.invariant-loop-link
+invariant-loop-link l = record {
+  seen : HaveSeen l.seen (take l.link-index l.links);
+  lines : (ends : List LinkEnd) (all : List LiveLink) → HasMetrics l.metrics.by_name ends all →
+      l.lines.items ++ unknown_lines ends (take l.link-index l.links) (drop l.link-index l.links) ≡ l.fn.lines.items ++ unknown_lines ends [] l.fn.links;
+}
