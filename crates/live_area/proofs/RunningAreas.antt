@@ -1,6 +1,6 @@
 -- An area at the costs at which it runs is one.
-use Rattle.std.proofs.Common.{inl, inr, ◌≡◌, ◌≢◌, ℕ, zero, suc, ◌+◌, ◌<◌, ◌≤◌, refl, sym, ◌∙◌, ap, subst, List, [], ◌∷◌, ◌++◌, length, map, get_or, arith, Bool, true, false, cond, Option, Some, None}
-use Rattle.std.specs.Prelude.{All, AllPairs, IfSome, filter, flat_map, is_some, slice_get, slice_index_or, ◌&&◌, ◌==◌, ◌||◌}
+use Rattle.std.proofs.Common.{inl, inr, ◌≡◌, ◌≢◌, ℕ, zero, suc, ◌+◌, ◌<◌, ◌≤◌, refl, sym, ◌∙◌, ap, subst, List, [], ◌∷◌, length, map, arith, Bool, true, false, Option, Some, None}
+use Rattle.std.specs.Prelude.{All, AllPairs, IfSome, filter, flat_map, is_some, slice_get, slice_index_or, ◌&&◌, ◌==◌}
 use Rattle.std.specs.List.{AllByRecursion, list_any}
 use Rattle.std.specs.Option.{option_map, option_or}
 use Rattle.std.proofs.lemmas.List.{length-map}
@@ -9,7 +9,6 @@ use Rattle.std.proofs.lemmas.List.Kept.{AllPairs-cons}
 use Rattle.std.proofs.lemmas.Option.{get_or_from_slice_get, slice_get-map}
 use Rattle.std.proofs.lemmas.Bool.{cases_Bool, false≢true, or_parts}
 use Rattle.cost_base.specs.Lists.{numbers_from}
-use Rattle.cost_base.specs.Words.{IsWord}
 use Rattle.cost_base.proofs.ListLemmas.{filter-numbers_from-agree, each_append}
 use Rattle.interface_model.specs.Records.{Router}
 use Rattle.lsdb_build.specs.declared.Far.{Far}
@@ -25,7 +24,7 @@ use Rattle.lsa_bytes.specs.Databases.{IsLsaDatabase, has_zero_metric, is_zero_li
 use Rattle.lsa_writer.specs.declared.ends.LinkEnd.{LinkEnd}
 use Rattle.lsa_writer.specs.Ends.{end_of, router_id_in}
 use Rattle.live_area.specs.declared.links.LiveLink.{LiveLink}
-use Rattle.live_area.specs.LiveLinks.{is_area_link, live_link, live_links_among, live_links_in, live_links_of, is_of_end, metric_at}
+use Rattle.live_area.specs.LiveLinks.{is_area_link, live_links_among, live_links_in, live_links_of, is_of_end, metric_at}
 use Rattle.live_area.specs.LiveCosts.{costed_by, costed_from, live_metric, metric_among, with_live_costs}
 
 -- Metrics of links are above 0.
@@ -86,7 +85,7 @@ costed_are f metrics l (link ∷ links) each =
     let here : l ≡ l + 0 = omega arith in
     let head : slice_index_or metrics l None ≡ f link = ap (λ n. slice_index_or metrics n None) here ∙ each 0 link refl in
     let tail = costed_are f metrics (l + 1) links
-        (λ k x at. let next : l + 1 + k ≡ l + suc k = omega arith in ap (λ n. slice_index_or metrics n None) next ∙ each (suc k) x at) in
+    (λ k x at. let next : l + 1 + k ≡ l + suc k = omega arith in ap (λ n. slice_index_or metrics n None) next ∙ each (suc k) x at) in
     rw (head, tail) refl
 
 metric_here : (f : Linked → Option ℕ) (links : List Linked) (k : ℕ) (link : Linked) → slice_get links k ≡ Some link → slice_index_or (map f links) k None ≡ f link
@@ -121,9 +120,11 @@ back_of f l link (Some other) is = is
 
 back_stays : (f : Linked → Option ℕ) (d : Database) (l : ℕ) (link : Linked) (far : Far) (back : Option ℕ) → HasLinkBack d l link far back →
     HasLinkBack (with_costs f d) l (costed_by (f link) link) far back
-back_stays f d l link (ToRouter r) (Some m) has =
-    (has.0, subst (λ (o : Option Linked). IsLinkBackOf l (costed_by (f link) link) o) (sym (slice_get-map (λ x. costed_by (f x) x) d.links m))
-    (back_of f l link (slice_get d.links m) has.1))
+back_stays f d l link (ToRouter r) (Some m) has = (
+  has.0,
+  subst (λ (o : Option Linked). IsLinkBackOf l (costed_by (f link) link) o) (sym (slice_get-map (λ x. costed_by (f x) x) d.links m))
+      (back_of f l link (slice_get d.links m) has.1),
+)
 back_stays f d l link (ToRouter r) None has = has
 back_stays f d l link (ToSubnet s) None has = has
 back_stays f d l link (ToSubnet s) (Some m) has = has

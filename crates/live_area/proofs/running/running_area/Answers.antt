@@ -1,6 +1,5 @@
 -- What was made is the area with the costs at which it runs.
-use Rattle.std.proofs.Common.{◌≡◌, ◌∙◌, ap, subst, sym, List, length, arith, map}
-use Rattle.std.proofs.lemmas.List.{length-map}
+use Rattle.std.proofs.Common.{◌≡◌, ◌∙◌, ap, subst, sym, List, map}
 use Rattle.lsdb_build.specs.Graphs.{Database, IsAreaDatabase}
 use Rattle.lsa_bytes.specs.declared.Lsa.{Lsa}
 use Rattle.live_area.specs.LiveCosts.{costed_from, live_metric, with_live_costs}
