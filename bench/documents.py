@@ -1,6 +1,7 @@
 """Checks what the documents claim and a machine can tell. It is run by hand, from any folder:
 
-    python3 bench/documents.py          counts, edges of the map, names, refusal numbers, texts of help, links
+    python3 bench/documents.py          counts, edges of the map, names, refusal numbers, texts of help, links, what must be
+                                        believed
     python3 bench/documents.py --run    besides, each command of the documents and of the texts of help, with the built program
 
 A document says in comments that no reader sees what its commands print:
@@ -19,6 +20,8 @@ import re
 import subprocess
 import sys
 import tempfile
+
+import believed
 
 TOP = os.path.dirname(os.path.dirname(os.path.abspath(__file__)))
 COMMENT = re.compile(r"<!-- (prints|begins|makes|status) (.*?) -->")
@@ -319,6 +322,13 @@ def check_links(claims):
                 claims.claim(os.path.exists(os.path.join(TOP, target)), f"{path}:{number}", f"there is no {target}")
 
 
+# What must be believed.
+
+def check_believed(claims):
+    """docs/believed.md is what believed.py makes of the code."""
+    claims.claim(text_of(believed.PAGE) == believed.page(believed.believed()), believed.PAGE, "the code has another list (python3 bench/believed.py --write)")
+
+
 # Commands.
 
 class Command:
@@ -419,6 +429,7 @@ def main(words):
     check_meanings(claims)
     check_help(claims)
     check_links(claims)
+    check_believed(claims)
     if words:
         run_commands(claims)
     for text in claims.false:

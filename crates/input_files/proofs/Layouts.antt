@@ -1,5 +1,5 @@
 -- The layout that was made is that of what the files say.
-use Rattle.std.proofs.Common.{◌≡◌, refl, sym, ◌∙◌, subst, List, [], ◌++◌, Option, None, Ok, Err}
+use Rattle.std.proofs.Common.{◌≡◌, refl, sym, ◌∙◌, subst, List, [], ◌++◌, Ok, Err}
 use Rattle.cost_base.specs.Histories.{Taken}
 use Rattle.cost_base.specs.Lists.{first_of}
 use Rattle.interface_model.specs.Records.{Router}
@@ -13,7 +13,7 @@ use Rattle.input_files.specs.Inputs.{InputFiles}
 use Rattle.input_files.specs.Readings.{Reading, Ready, ◌>>=◌, Says, EndsAs, Gave}
 use Rattle.input_files.specs.Outcomes.{ConfigFile, request_read, configs_read, routers_of, topology_read}
 use Rattle.input_files.specs.Layouts.{LaidOut, IsLayoutOf, area_read, layout_read, lines_read, unless_faulty}
-use Rattle.input_files.specs.Stops.{StopsAs, IsReadAndMade, IsReadAs}
+use Rattle.input_files.specs.Stops.{StopsAs, IsReadAndMade}
 use Rattle.input_files.proofs.Problems.{IsAsked, AreRouters}
 use Rattle.input_files.proofs.Stops.{stops_first, read_then, gave_then, gave_made, gave_stop}
 

@@ -88,7 +88,11 @@ fn place_of<'a>(fault: ResolutionFault, lsdb: &Lsdb, words: FileWords<'a>) -> (&
 }
 
 /// The stop of requests that aren't resolved.
-pub(crate) fn stop_of_resolution<'a>(stop: ResolutionStop, lsdb: &Lsdb, words: FileWords<'a>) -> Stop<'a>
+pub(crate) fn stop_of_resolution<'a>(
+    stop: ResolutionStop,
+    lsdb: &Lsdb,
+    words: FileWords<'a>,
+) -> Stop<'a>
     ensures { resolution_stop stop lsdb.now (files_named words.entry) result }
 {
     match stop {

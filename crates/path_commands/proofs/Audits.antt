@@ -3,19 +3,16 @@ use Rattle.std.proofs.Common.{◌≡◌, ℕ, ◌+◌, ◌<◌, refl, sym, ◌�
 use Rattle.std.specs.List.{AllZip}
 use Rattle.std.proofs.lemmas.List.{take_more}
 use Rattle.cost_base.proofs.ListLemmas.{zip_push}
-use Rattle.area_graph.specs.Area.{Area}
-use Rattle.design_problem.specs.declared.problem.Request.{Request}
 use Rattle.path_commands.specs.declared.audit.AuditedPath.{AuditedPath}
-use Rattle.path_commands.specs.Audits.{IsAudited, audit_line, audit_lines}
+use Rattle.path_commands.specs.Audits.{audit_line, audit_lines}
 
--- the next path was audited
-pub audited_push : (g : Area) (requests : List Request) (i : ℕ) (request : Request) (found more : List AuditedPath)
-    (path : AuditedPath) → i < length requests → request ≡ get_or requests i request →
-    AllZip (IsAudited g) (take i requests) found → IsAudited g request path → more ≡ found ++ path ∷ [] → AllZip (IsAudited g) (take (i + 1) requests) more
-audited_push g requests i request found more path below is zip here pushed =
-    let are : take (i + 1) requests ≡ take i requests ++ request ∷ [] = take_more requests i request below
-    ∙ ap (λ (r : Request). take i requests ++ r ∷ []) (sym is) in
-    rw (pushed, are) (zip_push (IsAudited g) (take i requests) found request path zip here)
+-- what is found of the next thing goes behind what was found of those before
+pub found_push : {X Y : Type 0} (R : X → Y → Type 0) (things : List X) (i : ℕ) (thing : X) (found more : List Y) (new : Y) →
+    i < length things → thing ≡ get_or things i thing → AllZip R (take i things) found → R thing new → more ≡ found ++ new ∷ [] →
+    AllZip R (take (i + 1) things) more
+found_push R things i thing found more new below is zip here pushed =
+    let are : take (i + 1) things ≡ take i things ++ thing ∷ [] = take_more things i thing below ∙ ap (λ x. take i things ++ x ∷ []) (sym is) in
+    rw (pushed, are) (zip_push R (take i things) found thing new zip here)
 
 -- the line of the next path was made, and put behind the text
 pub audit_turn : (paths : List AuditedPath) (i : ℕ) (text more line : List ℕ) (d : AuditedPath) → i < length paths →

@@ -6,3 +6,5 @@ pub mod ConflictRuns
 pub mod ConflictLines
 pub mod SpreadTexts
 pub mod SpreadRuns
+pub mod LiveAudits
+pub mod LiveAuditRuns

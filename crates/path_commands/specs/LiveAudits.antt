@@ -1,5 +1,5 @@
 -- What an audit of a running area prints of wanted paths.
-use Rattle.std.specs.Prelude.{◌≡◌, ℕ, ◌+◌, List, [], ◌∷◌, ◌++◌, filter, length, slice_get, codes, Bool, Option, Some, None}
+use Rattle.std.specs.Prelude.{◌≡◌, ℕ, ◌+◌, List, [], ◌∷◌, ◌++◌, filter, length, slice_get, codes, Option, Some, None}
 use Rattle.std.specs.List.{AllZip, list_any}
 use Rattle.cost_base.specs.Decimal.{decimal}
 use Rattle.cost_base.specs.Lists.{numbers_from}
@@ -36,14 +36,15 @@ pub record Running : Type 0 where
 abbrev pub running_database : LaidOut → List Lsa → Database
 running_database laid lsas = with_live_costs (routers_of laid.files) lsas laid.database
 
--- What the files of a network and then the live file say. Each linked interface needs a cost then, that of its link or else
--- that of its configuration or the default.
+-- the problem at the costs at which an area runs; each linked interface needs one, that of its link or else that of its
+-- configuration or the default
+abbrev pub running_read : InputFiles → LaidOut → List Lsa → Reading Running
+running_read names laid lsas =
+    problem_read AtPresent names laid.asked (running_database laid lsas) >>= λ p. Ready (record { laid = laid; lsas = lsas; problem = p })
+
+-- what the files of a network say but for its costs, then the live file, and then the costs
 abbrev pub live_audit_read : InputFiles → List ℕ → Reading Running
-live_audit_read names live =
-    layout_read names >>= λ laid.
-    live_read live laid.asked.area >>= λ lsas.
-    problem_read AtPresent names laid.asked (running_database laid lsas) >>= λ p.
-    Ready (record { laid = laid; lsas = lsas; problem = p })
+live_audit_read names live = layout_read names >>= λ laid. live_read live laid.asked.area >>= λ lsas. running_read names laid lsas
 
 -- the edges of linked interfaces, in both directions of their point-to-point links, or from and to their subnets
 abbrev pub edges_of_links : Database → Area → List ℕ → List ℕ

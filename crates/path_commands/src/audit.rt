@@ -81,7 +81,12 @@ fn is_only(graph: &Graph, request: &Request, point: &Point, room: &mut Room) -> 
 }
 
 /// What is found of a wanted path.
-fn audited(graph: &Graph, request: &Request, point: &Point, room: &mut Room) -> AuditedPath
+pub(crate) fn audited(
+    graph: &Graph,
+    request: &Request,
+    point: &Point,
+    room: &mut Room,
+) -> AuditedPath
     requires room { IsRoomFor graph.now room.old }
     requires point { point.now ≡ at_costs [] }
     requires fits { FitsPoint graph.now point.now }
@@ -129,7 +134,11 @@ fn word_of(standing: Standing) -> &'static [u8]
 }
 
 /// The line of a path by its number, with its LF.
-fn line_of(alloc: Global, number: usize, path: AuditedPath) -> Result<Vec<u8>, OutOfMemory>
+pub(crate) fn line_of(
+    alloc: Global,
+    number: usize,
+    path: AuditedPath,
+) -> Result<Vec<u8>, OutOfMemory>
     ensures { IfOk result (λ line. line.items ≡ audit_line number path) }
 {
     let mut line = Vec::new(alloc);

@@ -5,10 +5,10 @@ ghost use Rattle.area_graph.specs.Costs.{FitsPoint, at_costs};
 ghost use Rattle.area_graph.specs.Paths.{Avoids, IsPathOf};
 ghost use Rattle.spf_ties.specs.Distances.{IsLeastCost, IsRoomFor};
 ghost use Rattle.design_problem.specs.Problems.{request_ends};
-ghost use Rattle.live_area.specs.LiveCosts.{missing_links};
+ghost use Rattle.input_files.specs.Layouts.{IsLayoutOf, LaidOut};
 ghost use Rattle.input_files.specs.Readings.{Gave};
 ghost use Rattle.input_files.specs.Stops.{IsReadAs, files_named};
-ghost use Rattle.path_commands.specs.LiveAudits.{IsFoundLive, MayAuditLive, edges_of_links, left_without, live_audit_read, live_line, live_lines};
+ghost use Rattle.path_commands.specs.LiveAudits.{IsFoundLive, MayAuditLive, edges_of_links, left_without, live_audit_read, live_line, live_lines, running_read};
 ghost use Rattle.report_writer.specs.Reports.{bytes_in};
 
 use crate::audit::{AuditedPath, audited, line_of};
@@ -16,10 +16,12 @@ use crate::gone::edges_of_links;
 use area_graph::{Graph, Path, Point, Removal, mark_excluded};
 use cost_base::{Listed, OutOfMemory, Shelf, Status};
 use design_problem::{Problem, Request};
-use input_files::{FileWords, Stop, read_layout, resolution_at_present};
+use input_files::{FileWords, Layout, Stop, read_layout, resolution_at_present};
 use live_area::{RunningArea, running_area};
 use live_input::read_live_file;
+use lsa_bytes::Database;
 use report_writer::Report;
+use request_reader::RequestFile;
 use spf_ties::Room;
 use std::alloc::Global;
 use text_lines::{push_bytes, push_number};
@@ -181,6 +183,35 @@ fn live_text(alloc: Global, paths: &[LivePath]) -> Result<Vec<u8>, OutOfMemory>
     Ok(text)
 }
 
+/// The area that requests are for.
+fn area_of(requests: &RequestFile) -> u32
+    ensures { result ≡ requests.now.area }
+{
+    requests.area
+}
+
+/// The report of an audit of the area of a layout at the costs of a running area.
+fn report_of_running<'a>(
+    alloc: Global,
+    layout: Layout,
+    live: &Database,
+    words: FileWords<'a>,
+) -> Result<Report, Stop<'a>>
+    ensures { (laid : LaidOut) → IsLayoutOf layout laid → IsReadAs (running_read (files_named words.entry) laid live.now) []
+        (λ report said. MayAuditLive said report.status (bytes_in report.text)) result }
+{
+    let Layout {
+        requests,
+        configs,
+        lsdb,
+    } = layout;
+    let running = running_area(alloc, &configs, lsdb, live)?;
+    let problem = resolution_at_present(alloc, &requests, &running.lsdb, words)?;
+    let found = audit_running(alloc, &problem, &running)?;
+    let text = live_text(alloc, &found)?;
+    Ok(Report::made(Status::Done, text))
+}
+
 /// The report of an audit of an area as it runs: of the files of words, and then of the live file, which says the metrics of
 /// the links that stand in place of present costs. A linked interface without a link is gone, with its link in both directions.
 /// There is a line for each wanted path.
@@ -199,10 +230,6 @@ pub fn audit_live_report<'a, S: Shelf>(
         (λ report said. MayAuditLive said report.status (bytes_in report.text)) result) }
 {
     let layout = read_layout(alloc, words, shelf)?;
-    let lsas = read_live_file(alloc, shelf, live, layout.requests.area)?;
-    let running = running_area(alloc, &layout.configs, layout.lsdb, &lsas)?;
-    let problem = resolution_at_present(alloc, &layout.requests, &running.lsdb, words)?;
-    let found = audit_running(alloc, &problem, &running)?;
-    let text = live_text(alloc, &found)?;
-    Ok(Report::made(Status::Done, text))
+    let lsas = read_live_file(alloc, shelf, live, area_of(&layout.requests))?;
+    report_of_running(alloc, layout, &lsas, words)
 }

@@ -1,5 +1,5 @@
 //! The edges of linked interfaces, in both directions.
-ghost use Rattle.std.specs.Prelude.{◌≡◌, ◌<◌, ◌^◌, ◌==◌, ◌||◌, IfOk, length, slice_get};
+ghost use Rattle.std.specs.Prelude.{◌≡◌, ◌<◌, ◌^◌, ◌==◌, ◌||◌, ◌++◌, ◌∷◌, [], if◌then◌else◌, IfOk, OnOk, length, slice_get};
 ghost use Rattle.area_graph.specs.Area.{edge_at};
 ghost use Rattle.std.specs.List.{list_any};
 ghost use Rattle.wanted_paths.specs.Paths.{link_takes};
@@ -61,7 +61,19 @@ fn is_taken(lsdb: &Lsdb, graph: &Graph, links: &[u32], edge: u32) -> bool
     requires { edge < length graph.now.edges }
     ensures { result ≡ list_any (λ l. link_takes lsdb.now graph.now l (slice_get lsdb.now.links l) edge) links.now }
 {
-    links.iter().any(|link| link_takes(lsdb, graph, *link, edge))
+    links
+        .iter()
+        .any(|link| link_takes(lsdb, graph, *link, edge))
+}
+
+/// Adds an edge, if it is one of those that are sought.
+fn push_if(edges: &mut Vec<u32>, edge: u32, is_sought: bool) -> Result<(), OutOfMemory>
+    ensures { OnOk result (edges.new.items ≡ edges.old.items ++ (if is_sought then edge ∷ [] else [])) }
+{
+    if is_sought {
+        edges.push(edge)?;
+    }
+    Ok(())
 }
 
 /// The edges of some links in both directions, in rising order.
@@ -76,9 +88,7 @@ pub(crate) fn edges_of_links(
     graph.keeps_conditions();
     let mut edges = Vec::new(alloc);
     for edge in 0..graph.edges().len() as u32 {
-        if is_taken(lsdb, graph, links, edge) {
-            edges.push(edge)?;
-        }
+        push_if(&mut edges, edge, is_taken(lsdb, graph, links, edge))?;
     }
     Ok(edges)
 }
