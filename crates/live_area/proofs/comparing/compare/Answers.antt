@@ -1,4 +1,4 @@
-use Rattle.std.proofs.Common.{◌≡◌, ◌∙◌, ◌++◌, List, None, ap, arith, length, refl, subst, sym}
+use Rattle.std.proofs.Common.{◌∙◌, ◌++◌, List, None, ap, arith, length, refl, subst, sym}
 use Rattle.std.specs.Prelude.{count_by}
 use Rattle.std.proofs.lemmas.List.{length-map}
 use Rattle.lsa_writer.specs.declared.ends.LinkEnd.{LinkEnd}

@@ -1,4 +1,4 @@
-use Rattle.std.proofs.Common.{rules, List, ap, sym, ◌∙◌, ◌++◌}
+use Rattle.std.proofs.Common.{rules, List, ap, ◌∙◌, ◌++◌}
 use Rattle.live_area.specs.declared.Difference.{Difference}
 use Rattle.live_area.proofs.LineSteps.{known_lines}
 use Rattle.live_area.proofs.routers.push_lsa_lines.Goals as goal
