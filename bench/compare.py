@@ -1,12 +1,15 @@
 #!/usr/bin/env python3
-"""Runs `ospfcost design` and row generation by CBC and by GLPK on the same cases, one after the other.
+"""Runs `ospfcost` and row generation by CBC and by GLPK on the same cases, one after the other.
 
-    compare.py [--program PATH] [--cases small|whole] [--limit SECONDS] [--plot FILE] [--case FOLDER ..]
+    compare.py [--program PATH] [--question design|total|change|conflict] [--cases small|whole|large] [--limit SECONDS]
+               [--plot FILE] [--case FOLDER ..]
 
-Prints a table: for each case the greatest cost, the user seconds of each, and how many times as long as `ospfcost` the
-solver took. The greatest costs are compared; where two differ, the script says so and ends with status 1. A run that
-passes the limit counts as `over`, and a table's ratio is then a lower bound. With --plot it also writes an SVG of how
-the times grow (it wants gnuplot). With --case it runs over folders that are there, such as examples/backbone.
+Prints a table: for each case what was found (the greatest cost; with `total` the least sum of costs of that greatest
+cost; with `change` the fewest changed variables), the user seconds of each, and how many times as long as `ospfcost`
+the solver took. What was found is compared; where two differ, the script says so and ends with status 1. A run that
+passes the limit counts as `over`, and a table's ratio is then a lower bound. `conflict` has the times of `design` in
+the solvers' place. With --plot it also writes an SVG of how the times grow (it wants gnuplot). With --case it runs over
+folders that are there, such as examples/backbone.
 """
 import argparse
 import datetime
@@ -33,48 +36,70 @@ LEAST = 0.001
 
 @dataclass
 class Run:
-    """What a run came to: the greatest cost, `impossible`, `undecided` or `over`, and its user seconds."""
+    """What a run came to: a number, `impossible`, `undecided`, `over`, or what `conflict` tells, and its user seconds."""
     found: str
     seconds: float
     note: str = ''
 
 
-def cases(kind):
-    """The cases, as (network, routers, paths, seed, detours). The first ones grow in routers, the next in paths."""
+def cases(kind, question):
+    """The cases, as (network, routers, paths, seed, detours, moved costs). The first ones grow in routers, the next in
+    paths. `change` has present costs, of which some were moved."""
+    if kind == 'large':
+        found = [('random', 200, 200, 1), ('random', 200, 200, 2), ('random', 200, 400, 1), ('random', 250, 250, 1),
+                 ('random', 250, 1000, 1), ('random', 50, 1000, 1), ('symmetric', 200, 200, 1), ('grid', 144, 200, 1)]
+        return [(*case, 0, 5 if question == 'change' else None) for case in found]
     grown = [(20, 20), (30, 30), (50, 50), (75, 75), (100, 100)]
     if kind == 'whole':
         grown += [(150, 100), (200, 100)]
-    found = [('random', routers, paths, seed, 0) for routers, paths in grown for seed in (1, 2)]
+    if question == 'change':
+        return [('random', routers, paths, seed, 0, 10) for routers, paths in grown for seed in (1, 2)]
+    found = [('random', routers, paths, seed, 0, None) for routers, paths in grown for seed in (1, 2)]
     most = 200 if kind == 'whole' else 100
-    found += [('random', 100, paths, 1, 0) for paths in (25, 50, 150, 200) if paths <= most]
-    found += [('random', 50, 50, 1, 10), ('grid', 36, 40, 1, 0), ('ring', 40, 40, 1, 0), ('symmetric', 50, 50, 1, 0)]
+    found += [('random', 100, paths, 1, 0, None) for paths in (25, 50, 150, 200) if paths <= most]
+    found += [('random', 50, 50, 1, 10, None), ('grid', 36, 40, 1, 0, None), ('ring', 40, 40, 1, 0, None),
+              ('symmetric', 50, 50, 1, 0, None)]
     if kind == 'whole':
-        found += [('grid', 100, 60, 1, 0), ('ring', 100, 60, 1, 0), ('symmetric', 100, 100, 1, 0)]
+        found += [('grid', 100, 60, 1, 0, None), ('ring', 100, 60, 1, 0, None), ('symmetric', 100, 100, 1, 0, None)]
     return found
 
 
-def run_design(program, request, configurations, limit, folder):
-    """One run of `ospfcost design`."""
-    answer = os.path.join(folder, 'design.txt')
+def number_behind(lines, word):
+    """The number of the last line `WORD NUMBER`."""
+    return [words[1] for words in lines if len(words) == 2 and words[0] == word][-1]
+
+
+def found_in(question, status, text):
+    """What a text tells."""
+    lines = [line.split() for line in text.splitlines()]
+    if status not in (0, 1, 2) or lines[0][0] != 'ospfcost':
+        sys.exit('%s ended with status %d' % (question, status))
+    verdicts = [words for words in lines if words[0] == 'verdict']
+    if question == 'conflict':
+        return ' '.join(verdicts[0][1:2] + next((words[1:2] for words in lines if words[0] == 'members'), []))
+    if status != 0:
+        return verdicts[0][1]
+    return number_behind(lines, 'total') if question == 'total' else verdicts[0][2]
+
+
+def run_design(question, program, request, configurations, limit, folder):
+    """One run of `ospfcost`."""
+    answer = os.path.join(folder, 'answer-of-ospfcost.txt')
     try:
         with open(answer, 'wb') as out:
-            seconds, status = user_seconds([program, 'design', '--request', request, *configurations], limit, out)
+            seconds, status = user_seconds([program, question, '--request', request, *configurations], limit, out)
     except TimeUp:
         return Run('over', limit)
-    with open(answer) as text:
-        head = [text.readline().split() for _ in range(2)]
-    if status not in (0, 1, 2) or head[0] != ['ospfcost', 'answer', '1']:
-        sys.exit('%s ended with status %d' % (program, status))
-    return Run(head[1][2] if status == 0 else head[1][1], seconds)
+    return Run(found_in(question, status, pathlib.Path(answer).read_text()), seconds)
 
 
-def run_solver(solver, problem, limit, folder):
+def run_solver(question, solver, problem, limit, folder):
     """One row generation."""
     try:
-        outcome = generate(problem, solver, folder, limit)
+        outcome = generate(problem, solver, folder, limit, question)
     except TimeUp:
         return Run('over', limit)
-    found = 'impossible' if outcome.greatest is None else str(outcome.greatest)
+    found = 'impossible' if outcome.found is None else str(outcome.found)
     return Run(found, outcome.solver_seconds,
                '%d rounds, %d rows, %.1f s of search' % (outcome.rounds, outcome.rows, outcome.search_seconds))
 
@@ -91,13 +116,21 @@ def least_time(run):
     return best
 
 
-def measure(program, request, configurations, limit):
+def rivals_of(question):
+    """What runs beside a question."""
+    return ['design'] if question == 'conflict' else list(SOLVERS)
+
+
+def measure(question, program, request, configurations, limit):
     """The runs of one case, by name."""
     problem = read_problem(request, configurations)
     with tempfile.TemporaryDirectory() as folder:
-        runs = {'ospfcost': least_time(lambda: run_design(program, request, configurations, limit, folder))}
-        for solver in SOLVERS:
-            runs[solver] = least_time(lambda: run_solver(solver, problem, limit, folder))
+        runs = {'ospfcost': least_time(lambda: run_design(question, program, request, configurations, limit, folder))}
+        for other in rivals_of(question):
+            if other == 'design':
+                runs[other] = least_time(lambda: run_design(other, program, request, configurations, limit, folder))
+            else:
+                runs[other] = least_time(lambda: run_solver(question, other, problem, limit, folder))
     return problem, runs
 
 
@@ -120,13 +153,13 @@ def ratio(run, base):
     return '%s%.*f' % ('> ' if is_bound else '', 0 if times >= 10 else 1, times)
 
 
-def line_of(label, problem, runs):
+def line_of(question, label, problem, runs):
     """A line of the table."""
     ours = runs['ospfcost']
     cells = [label, str(len(problem.routers)), str(len(problem.low)), str(len(problem.requests)), ours.found,
              seconds_of(ours)]
-    for solver in SOLVERS:
-        cells += [seconds_of(runs[solver]), ratio(runs[solver], ours)]
+    for other in rivals_of(question):
+        cells += [seconds_of(runs[other]), ratio(runs[other], ours)]
     return '| ' + ' | '.join(cells) + ' |'
 
 
@@ -165,31 +198,36 @@ def plot(path, measured):
 def main():
     words = argparse.ArgumentParser(description='Compares ospfcost with row generation by CBC and by GLPK.')
     words.add_argument('--program', default=str(PROGRAM))
-    words.add_argument('--cases', choices=('small', 'whole'), default='small')
+    words.add_argument('--question', choices=('design', 'total', 'change', 'conflict'), default='design')
+    words.add_argument('--cases', choices=('small', 'whole', 'large'), default='small')
     words.add_argument('--limit', type=float, default=60.0)
     words.add_argument('--plot')
     words.add_argument('--case', nargs='+', default=[])
     asked = words.parse_args()
     print(machine(), flush=True)
-    names = ' | '.join('%s s | times' % solver for solver in SOLVERS)
-    print('\n| network | routers | variables | paths | greatest cost | ospfcost s | %s |' % names)
-    print('|---|---|---|---|---|---|' + '---|---|' * len(SOLVERS), flush=True)
+    others = rivals_of(asked.question)
+    names = ' | '.join('%s s | times' % other for other in others)
+    found = {'design': 'greatest cost', 'total': 'least sum', 'change': 'changes', 'conflict': 'found'}[asked.question]
+    print('\n| network | routers | variables | paths | %s | %s s | %s |'
+          % (found, 'ospfcost' if asked.question == 'design' else asked.question, names))
+    print('|---|---|---|---|---|---|' + '---|---|' * len(others), flush=True)
     measured, right = [], True
     with tempfile.TemporaryDirectory() as folder:
-        waiting = [(folder_name, None) for folder_name in asked.case] or [(None, case) for case in cases(asked.cases)]
+        waiting = [(folder_name, None) for folder_name in asked.case] or [(None, case) for case in cases(asked.cases, asked.question)]
         for given, case in waiting:
             if given is None:
-                label = '%s, seed %d%s' % (case[0], case[3], ', %d detours' % case[4] if case[4] else '')
+                label = '%s, seed %d%s%s' % (case[0], case[3], ', %d detours' % case[4] if case[4] else '',
+                                             ', %d moved' % case[5] if case[5] else '')
                 request, configurations = make_network.make(os.path.join(folder, '-'.join(map(str, case))), *case)
             else:
                 label = os.path.basename(given.rstrip('/'))
                 request = os.path.join(given, 'request.txt')
                 configurations = sorted(map(str, pathlib.Path(given).glob('*.conf')))
-            problem, runs = measure(asked.program, request, configurations, asked.limit)
-            print(line_of(label, problem, runs), flush=True)
-            for solver in SOLVERS:
-                print('%s, %s: %s' % (label, solver, runs[solver].note), file=sys.stderr)
-            if not agree(runs):
+            problem, runs = measure(asked.question, asked.program, request, configurations, asked.limit)
+            print(line_of(asked.question, label, problem, runs), flush=True)
+            for other in others:
+                print('%s, %s: %s' % (label, other, runs[other].note), file=sys.stderr)
+            if asked.question != 'conflict' and not agree(runs):
                 right = False
                 print('they differ: %s' % {name: run.found for name, run in runs.items()}, flush=True)
             if case is not None:

@@ -1,6 +1,6 @@
 """Checks what the documents claim and a machine can tell. It is run by hand, from any folder:
 
-    python3 bench/documents.py          counts, edges of the map, names, refusal numbers, links
+    python3 bench/documents.py          counts, edges of the map, names, refusal numbers, links, what must be believed
     python3 bench/documents.py --run    besides, each command of the documents, with the built program
 
 A document says in comments that no reader sees what its commands print:
@@ -19,6 +19,8 @@ import re
 import subprocess
 import sys
 import tempfile
+
+import believed
 
 TOP = os.path.dirname(os.path.dirname(os.path.abspath(__file__)))
 COMMENT = re.compile(r"<!-- (prints|begins|makes|status) (.*?) -->")
@@ -234,6 +236,13 @@ def check_links(claims):
                 claims.claim(os.path.exists(os.path.join(TOP, target)), f"{path}:{number}", f"there is no {target}")
 
 
+# What must be believed.
+
+def check_believed(claims):
+    """docs/believed.md is what believed.py makes of the code."""
+    claims.claim(text_of(believed.PAGE) == believed.page(believed.believed()), believed.PAGE, "the code has another list (python3 bench/believed.py --write)")
+
+
 # Commands.
 
 class Command:
@@ -331,6 +340,7 @@ def main(words):
     check_names(claims)
     check_numbers(claims)
     check_links(claims)
+    check_believed(claims)
     if words:
         run_commands(claims)
     for text in claims.false:

@@ -41,6 +41,8 @@ def runs():
         "total": ["total", *words_of("total", *request)],
         "lsas": ["lsas", *words_of("database", *request)],
         "route": ["route", "--lsas", "examples/database/area.lsa", "--from", "198.18.0.2", "--to", "198.18.0.4"],
+        "change": ["change", *words_of("tour", *request)],
+        "steps": ["steps", *words_of("backbone", *request, "--answer", "change.txt")],
         "trial": ["trial", "--blocks", "2"],
         "words": ["design"],
     }

@@ -1,13 +1,15 @@
 #!/usr/bin/env python3
 """Makes a network with wanted paths, as configurations and a request that `ospfcost design` reads.
 
-    make_network.py FOLDER --kind KIND --routers N --paths Q --seed S
+    make_network.py FOLDER --kind KIND --routers N --paths Q --seed S [--detours D] [--moved M]
 
 Kinds: `random` (a random tree and then links between random routers, 3.5 links at each router on average),
 `grid` (as near to a square as N allows), `ring` (with a chord for each four routers), and `symmetric` (as `random`, and
 both ends of a link have one cost). The wanted paths are only cheapest paths between random routers under hidden random
 costs from 1 to 20, so there are costs that fit. With --detours D, D of them then avoid a link of theirs in place of
-that; whether costs fit is then open. The same words make the same files.
+that; whether costs fit is then open. With --moved M the interfaces have present costs, which are the hidden ones but
+for M of them, and the first quarter of the paths, where so many can be found, isn't cheapest at present: at most M
+changes will do. The same words make the same files.
 """
 import argparse
 import os
@@ -79,13 +81,15 @@ def network_of(pairs, routers):
     return problem
 
 
-def put_configurations(problem, folder):
-    """Writes a configuration for each router: the links k have the subnets 10.a.b.c/31, numbered by k."""
+def put_configurations(problem, folder, present):
+    """Writes a configuration for each router: the links k have the subnets 10.a.b.c/31, numbered by k. Where there are
+    present costs, each interface has its own."""
     text = ['hostname %s\n!\n' % router for router in problem.routers]
     for edge, tail in enumerate(problem.tail):
         address = '10.%d.%d.%d' % (edge // 65536, edge // 256 % 256, edge % 256)
-        text[tail] += ('interface %s\n ip address %s/31\n ip ospf area 0\n ip ospf network point-to-point\nexit\n!\n'
-                       % (problem.interface[edge], address))
+        cost = ' ip ospf cost %d\n' % present[edge] if present else ''
+        text[tail] += ('interface %s\n ip address %s/31\n ip ospf area 0\n%s ip ospf network point-to-point\nexit\n!\n'
+                       % (problem.interface[edge], address, cost))
     paths = []
     for router, lines in zip(problem.routers, text):
         paths.append(os.path.join(folder, router + '.conf'))
@@ -104,22 +108,30 @@ def only_cheapest(problem, out, cost, far, start, target):
     return way
 
 
-def wanted_paths(problem, chance, cost, count):
-    """At most `count` only cheapest paths under these costs, between pairs of different routers."""
+def wanted_paths(problem, chance, cost, count, present=None):
+    """At most `count` only cheapest paths under these costs, between pairs of different routers. With present costs the
+    first quarter of them aren't cheapest under those, as long as the pairs suffice."""
     into, out = problem.edges_into(), problem.edges_out()
     routers = len(problem.routers)
     pairs = [(start, target) for start in range(routers) for target in range(routers) if start != target]
     chance.shuffle(pairs)
-    paths, far_to = [], {}
+    paths, held, far_to, far_now = [], [], {}, {}
     for start, target in pairs:
-        if len(paths) == count:
+        if len(paths) == count or (len(paths) >= count // 4 and len(paths) + len(held) >= count):
             break
         if target not in far_to:
             far_to[target] = distances(problem, into, cost, target, frozenset(), frozenset())
         way = only_cheapest(problem, out, cost, far_to[target], start, target)
-        if way is not None:
-            paths.append(way)
-    return paths
+        if way is None:
+            continue
+        if present is not None:
+            if target not in far_now:
+                far_now[target] = distances(problem, into, present, target, frozenset(), frozenset())
+            if only_cheapest(problem, out, present, far_now[target], start, target) == way:
+                held.append(way)
+                continue
+        paths.append(way)
+    return (paths + held)[:count]
 
 
 def detour(problem, chance, cost, way):
@@ -145,7 +157,7 @@ def put_request(problem, paths, symmetric, folder):
     return path
 
 
-def make(folder, kind, routers, paths, seed, detours=0):
+def make(folder, kind, routers, paths, seed, detours=0, moved=None):
     """Makes the files of a network in a folder: the paths of the request and of the configurations."""
     os.makedirs(folder, exist_ok=True)
     chance = random.Random('%s %d %d %d %d' % (kind, routers, paths, detours, seed))
@@ -153,10 +165,15 @@ def make(folder, kind, routers, paths, seed, detours=0):
     cost = [chance.randint(1, HIDDEN) for _ in problem.tail]
     if kind == 'symmetric':
         cost = [cost[edge - edge % 2] for edge in range(len(cost))]
-    wanted = wanted_paths(problem, chance, cost, paths)
+    present = None
+    if moved is not None:
+        present = list(cost)
+        for edge in chance.sample(range(len(cost)), moved):
+            cost[edge] = chance.randint(1, HIDDEN)
+    wanted = wanted_paths(problem, chance, cost, paths, present)
     for place in chance.sample(range(len(wanted)), min(detours, len(wanted))):
         wanted[place] = detour(problem, chance, cost, wanted[place])
-    configurations = put_configurations(problem, folder)
+    configurations = put_configurations(problem, folder, present)
     return put_request(problem, wanted, kind == 'symmetric', folder), configurations
 
 
@@ -168,8 +185,9 @@ def main():
     words.add_argument('--paths', type=int, default=10)
     words.add_argument('--seed', type=int, default=1)
     words.add_argument('--detours', type=int, default=0)
+    words.add_argument('--moved', type=int)
     asked = words.parse_args()
-    make(asked.folder, asked.kind, asked.routers, asked.paths, asked.seed, asked.detours)
+    make(asked.folder, asked.kind, asked.routers, asked.paths, asked.seed, asked.detours, asked.moved)
 
 
 if __name__ == '__main__':

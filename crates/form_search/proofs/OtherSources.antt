@@ -12,14 +12,14 @@ use Rattle.form_search.specs.declared.turn.Next.TheVariants.{Forms, Costs, Entry
 use Rattle.form_search.specs.Sources.{SameFor}
 use Rattle.form_search.specs.Turns.{IsNextStep}
 
-least_same : (accepted other : Point → Type 0) (box : CostBox) (point : Point) → SameFor accepted other → IsLeastPoint accepted box point → IsLeastPoint other box point
+pub least_same : (accepted other : Point → Type 0) (box : CostBox) (point : Point) → SameFor accepted other → IsLeastPoint accepted box point → IsLeastPoint other box point
 least_same accepted other box point same least = record {
   inside = least.inside;
   accepted = (same point).0 least.accepted;
   least = λ q q_in q_is before. least.least q q_in ((same q).1 q_is) before;
 }
 
-swapped : (accepted other : Point → Type 0) → SameFor accepted other → SameFor other accepted
+pub swapped : (accepted other : Point → Type 0) → SameFor accepted other → SameFor other accepted
 swapped accepted other same = λ x. ((same x).1, (same x).0)
 
 earnest_same : (accepted other : Point → Type 0) (top : ℕ) (forms : List Form) (place : OpenPlace) (entry : Entry) →

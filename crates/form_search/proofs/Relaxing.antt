@@ -1,6 +1,6 @@
 -- Rounds of a relaxation: the forms fit the box, the tableau that is kept holds the first forms of a pool that grew, and
 -- each new form is one that was missing.
-use Rattle.std.proofs.Common.{◌≡◌, ℕ, ◌<◌, sym, ◌∙◌, subst, inl, inr, List, ◌++◌, length, Option, None, Some, arith}
+use Rattle.std.proofs.Common.{◌≡◌, ℕ, ◌<◌, sym, ◌∙◌, subst, inl, inr, List, ◌++◌, Option, None, Some, arith}
 use Rattle.std.specs.Prelude.{All, Contains}
 use Rattle.std.proofs.lemmas.List.{length-append, take-append-le}
 use Rattle.std.proofs.lemmas.List.Elements.{Contains-append_cases}
@@ -31,7 +31,9 @@ fit_box n accepted box forms kept hold k d k_in =
 pub held_more : (top n : ℕ) (old new more : List Form) (table : HeldTableau) → new ≡ old ++ more → IsHeld top n old table → IsHeld top n new table
 held_more top n old new more table same held = subst (λ (forms : List Form). IsHeld top n forms table) (sym same) (record {
   same_top = held.same_top;
+  noted_top = held.noted_top;
   width = held.width;
+  noted_width = held.noted_width;
   taken = held.taken;
   few = let longer = length-append old more in let few = held.few in omega arith;
   rows = held.rows ∙ sym (take-append-le held.taken old more held.few);
@@ -39,19 +41,19 @@ held_more top n old new more table same held = subst (λ (forms : List Form). Is
 })
 
 -- so does one that is kept
-pub kept_more : (top n : ℕ) (old new more : List Form) (kept : Option HeldTableau) → new ≡ old ++ more → IsTableauKept top n old kept → IsTableauKept top n new kept
-kept_more top n old new more None same is = tt
-kept_more top n old new more (Some table) same is = held_more top n old new more table same is
+pub kept_more : (old new more : List Form) (kept : Option HeldTableau) → new ≡ old ++ more → IsTableauKept old kept → IsTableauKept new kept
+kept_more old new more None same is = tt
+kept_more old new more (Some table) same is = held_more table.top table.variables old new more table same is
 
 -- it stands there by its own top
 pub stands_own : (top : ℕ) (box : CostBox) (forms : List Form) (table : HeldTableau) → StandsAt top box forms table → StandsAt table.tableau.top box forms table
 stands_own top box forms table stands = subst (λ (t : ℕ). StandsAt t box forms table) (sym stands.is_held.same_top) stands
 
--- what was kept in n variables, at a box of n variables
-pub kept_there : (top n : ℕ) (box : CostBox) (forms : List Form) (kept taken : Option HeldTableau) → IsCostsBox n box →
-    taken ≡ kept → IsTableauKept top n forms kept → IsTableauKept top (length box.low) forms taken
-kept_there top n box forms kept taken costs same is =
-    subst (λ (m : ℕ). IsTableauKept top m forms taken) (sym costs.is_box.low_count) (subst (λ (o : Option HeldTableau). IsTableauKept top n forms o) (sym same) is)
+-- what it was started for is its own
+pub held_own : (top n : ℕ) (forms : List Form) (table : HeldTableau) → IsHeld top n forms table → IsHeld table.top table.variables forms table
+held_own top n forms table held =
+    subst (λ (t : ℕ). IsHeld t table.variables forms table) (sym held.noted_top)
+    (subst (λ (m : ℕ). IsHeld top m forms table) (sym held.noted_width) held)
 
 -- what a call brought is a true form
 pub new_true : (IsTrue : Form → Type 0) (old new : List Form) (form : Form) → Grows IsTrue old new → Contains new form → (Contains old form → ⊥) → IsTrue form

@@ -1,27 +1,143 @@
--- What many calls leave of a list of advisors.
-use Rattle.std.specs.Prelude.{◌≡◌, ℕ, ◌⊎◌, List, drop}
+-- How a search calls its advisors, and what many searches leave of them.
+use Rattle.std.specs.Prelude.{◌≡◌, ℕ, ◌⊎◌, List, [], ◌∷◌, ◌++◌, length, slice_get, Some, Result, Ok, Err, IfOk}
 use Rattle.std.specs.List.{AllZip}
+use Rattle.std.specs.List.Sorted.{IsPermutation}
+use Rattle.std.specs.declared.ops.ControlFlow.{ControlFlow}
+use Rattle.std.specs.declared.ops.ControlFlow.TheVariants.{Break, Continue}
+use Rattle.cost_base.specs.declared.OutOfMemory.{OutOfMemory}
+use Rattle.area_graph.specs.declared.Point.{Point}
+use Rattle.design_problem.specs.declared.form.CostBox.{CostBox}
 use Rattle.design_problem.specs.declared.tree.Entry.{Entry}
+use Rattle.design_problem.specs.declared.tree.Entry.TheVariants.{Tighten, Split, Halve, Refute, Undone}
+use Rattle.design_problem.specs.Boxes.{IsPointOf}
+use Rattle.design_problem.specs.OpenPlaces.{Growing, first_place, fresh, grown, undones}
 use Rattle.cut_advisors.specs.declared.advisor.Advisor.{Ghosts}
 use Rattle.cut_advisors.specs.declared.candidate.Candidate.{Candidate}
+use Rattle.cut_advisors.specs.Choosing.{IsChosen}
+use Rattle.form_search.specs.declared.found.Found.{Found}
+use Rattle.form_search.specs.declared.found.Found.TheVariants.{Costs, Refuted, Undecided}
+use Rattle.form_search.specs.declared.turn.Next.{Next}
+use Rattle.form_search.specs.declared.turn.Next.TheVariants.{Forms, Costs as ByCosts, Entry as ByEntry}
+use Rattle.form_search.specs.Points.{candidates_at}
 
--- One call: the advisor is itself, at the state that a pick among some choices leaves, or at the one after an entry of
--- which it was told.
-abbrev pub IsCalled : {A : Type 0} → (A → A → Type 0) → (A → List ℕ) → (A → List ℕ → List Candidate → List ℕ) → (A → List ℕ → Entry → List ℕ) → A → A → Type 0
-IsCalled IsItself state left after b c =
-    IsItself b c × (((choices : List Candidate) × (state c ≡ left b (state b) choices)) ⊎ ((entry : Entry) × (state c ≡ after b (state b) entry)))
+-- The advisors are asked for a Split of the box: their choices are the variables that are fractional at a point of it, each
+-- once, and the Split is at the choice that they pick. Which point is asked for, and what a pick does, are given.
+pub record AreAskedFor {A : Type 0} (IsHere : CostBox → Point → Type 0) (Picks : List Candidate → ℕ → List A → List A → Type 0)
+    (box : CostBox) (var value : ℕ) (old new : List A) : Type 0 where
+  pub point : Point
+  pub here : IsHere box point
+  pub choices : List Candidate
+  pub all : IsPermutation (candidates_at box point) choices
+  pub position : ℕ
+  pub picked : Picks choices position old new
+  pub choice : Candidate
+  pub is_choice : slice_get choices position ≡ Some choice
+  pub same_var : var ≡ choice.var
+  pub same_value : value ≡ choice.floor
 
--- some calls lead from the one to the other, each a step
-pub data StepsLead {A : Type 0} (Step : A → A → Type 0) : A → A → Type 0 where
-  none : (a : A) → StepsLead Step a a
-  more : (a b c : A) → StepsLead Step a b → Step b c → StepsLead Step a c
+-- before a Split the advisors are asked for it, and before another entry they are asked for nothing
+abbrev pub AreReadyFor : {A : Type 0} → (CostBox → Point → Type 0) → (List Candidate → ℕ → List A → List A → Type 0) → CostBox → Entry → List A → List A → Type 0
+AreReadyFor IsHere Picks box (Tighten var side value row) old new = new ≡ old
+AreReadyFor IsHere Picks box (Split var value) old new = AreAskedFor IsHere Picks box var value old new
+AreReadyFor IsHere Picks box (Halve var value wide) old new = new ≡ old
+AreReadyFor IsHere Picks box (Refute parts) old new = new ≡ old
+AreReadyFor IsHere Picks box Undone old new = new ≡ old
 
--- from some place on the old list, each is left, and stands as its calls left it
-pub record AreAdvisorsLeft {A : Type 0} (Step : A → A → Type 0) (old new : List A) : Type 0 where
-  pub excluded : ℕ
-  pub left : AllZip (StepsLead Step) (drop excluded old) new
+-- The calls along a tree that grows over a box, entry by entry: of each entry the advisors are told once, and before each
+-- Split, and no other entry, they are asked for it at the open box.
+pub data AreCalledAlong {A : Type 0} (IsHere : CostBox → Point → Type 0) (Picks : List Candidate → ℕ → List A → List A → Type 0)
+    (Tells : Entry → List A → List A → Type 0) (box : CostBox) : Growing → List A → List A → Type 0 where
+  begun : (old : List A) → AreCalledAlong IsHere Picks Tells box (record { entries = []; places = fresh box ∷ [] }) old old
+  longer : (tree : Growing) → (entry : Entry) → (old now asked new : List A) →
+      AreCalledAlong IsHere Picks Tells box tree old now → AreReadyFor IsHere Picks (first_place tree.places).box entry now asked →
+      Tells entry asked new → AreCalledAlong IsHere Picks Tells box (grown tree entry) old new
 
--- the advisors that are left, each after some calls: the rules of its kind tell how a call leaves it
+-- the calls of a search: those along a tree, and maybe one question more, whose Split isn't added
+pub record AreCalledBySearch {A : Type 0} (IsHere : CostBox → Point → Type 0) (Picks : List Candidate → ℕ → List A → List A → Type 0)
+    (Tells : Entry → List A → List A → Type 0) (box : CostBox) (tree : Growing) (old new : List A) : Type 0 where
+  pub left : List A
+  pub along : AreCalledAlong IsHere Picks Tells box tree old left
+  pub last : (new ≡ left) ⊎ ((var value : ℕ) × AreAskedFor IsHere Picks (first_place tree.places).box var value left new)
+
+-- the tree that grew is that of what was found
+abbrev pub IsTreeOf : Growing → Found → Type 0
+IsTreeOf tree (Costs w) = Unit {0}
+IsTreeOf tree (Refuted entries) = entries ≡ tree.entries
+IsTreeOf tree (Undecided entries) = entries ≡ tree.entries ++ undones (length tree.places)
+
+-- What a pick does to the advisors: the first one that picks in range answers, and stands as its pick leaves it; those
+-- before it, which pick out of range, are gone; the others stay as they are.
+abbrev pub IsPick : {A : Type 0} → (A → A → Type 0) → (A → List ℕ) → (A → List ℕ → List Candidate → ℕ) →
+    (A → List ℕ → List Candidate → List ℕ) → List Candidate → ℕ → List A → List A → Type 0
+IsPick IsItself state would left choices position old new =
+    IsChosen (λ b. would b (state b) choices) (λ b c. IsItself b c × (state c ≡ left b (state b) choices)) (length choices) old position new
+
+-- what the telling of an entry does to them: each is told
+abbrev pub AreAllTold : {A : Type 0} → (A → A → Type 0) → (A → List ℕ) → (A → List ℕ → Entry → List ℕ) → Entry → List A → List A → Type 0
+AreAllTold IsItself state after entry old new = AllZip (λ b c. IsItself b c × (state c ≡ after b (state b) entry)) old new
+
+-- one search called them: along some tree over some box, at points of its boxes
+abbrev pub IsSearched : {A : Type 0} → (A → A → Type 0) → (A → List ℕ) → (A → List ℕ → List Candidate → ℕ) →
+    (A → List ℕ → List Candidate → List ℕ) → (A → List ℕ → Entry → List ℕ) → List A → List A → Type 0
+IsSearched IsItself state would left after old new = (box : CostBox) × (tree : Growing)
+    × AreCalledBySearch IsPointOf (IsPick IsItself state would left) (AreAllTold IsItself state after) box tree old new
+
+-- some searches lead from the one list to the other
+pub data AreAdvisorsLeft {A : Type 0} (Search : List A → List A → Type 0) : List A → List A → Type 0 where
+  none : (xs : List A) → AreAdvisorsLeft Search xs xs
+  more : (xs ys zs : List A) → AreAdvisorsLeft Search xs ys → Search ys zs → AreAdvisorsLeft Search xs zs
+
+-- The advisors that are left by some searches: the rules of its kind tell what each picks, and how a call leaves it. So one
+-- that is gone picked out of range, and each other one was told all entries and asked for each Split that came to it.
 abbrev pub AreCalled : {A V : Type 0} {X : V → Type 0} → ((rules : V) → Ghosts (X rules)) → (A → V) → (A → List ℕ) → List A → List A → Type 0
 AreCalled members rules state =
-    AreAdvisorsLeft (IsCalled (λ b c. rules c ≡ rules b) state (λ b. (members (rules b)).left) (λ b. (members (rules b)).after))
+    AreAdvisorsLeft (IsSearched (λ b c. rules c ≡ rules b) state (λ b. (members (rules b)).would) (λ b. (members (rules b)).left) (λ b. (members (rules b)).after))
+
+-- they were called along the tree that a search of the box answers, at the points that it asks for
+pub record AreAdvised {A V : Type 0} {X : V → Type 0} (members : (rules : V) → Ghosts (X rules)) (rules : A → V) (state : A → List ℕ)
+    (IsHere : CostBox → Point → Type 0) (box : CostBox) (result : Result Found OutOfMemory) (old new : List A) : Type 0 where
+  pub tree : Growing
+  pub is_tree : IfOk result (IsTreeOf tree)
+  pub calls : AreCalledBySearch IsHere (IsPick (λ b c. rules c ≡ rules b) state (λ b. (members (rules b)).would) (λ b. (members (rules b)).left))
+      (AreAllTold (λ b c. rules c ≡ rules b) state (λ b. (members (rules b)).after)) box tree old new
+
+-- before what comes next they were asked for its Split, and for nothing where another entry comes, or none
+abbrev pub IsAskedNext : {A : Type 0} → (CostBox → Point → Type 0) → (List Candidate → ℕ → List A → List A → Type 0) → CostBox →
+    Result Next OutOfMemory → List A → List A → Type 0
+IsAskedNext IsHere Picks box (Ok Forms) old new = new ≡ old
+IsAskedNext IsHere Picks box (Ok (ByCosts w)) old new = new ≡ old
+IsAskedNext IsHere Picks box (Ok (ByEntry entry)) old new = AreReadyFor IsHere Picks box entry old new
+IsAskedNext IsHere Picks box (Err e) old new = new ≡ old
+
+abbrev pub AreAskedNext : {A V : Type 0} {X : V → Type 0} → ((rules : V) → Ghosts (X rules)) → (A → V) → (A → List ℕ) →
+    (CostBox → Point → Type 0) → CostBox → Result Next OutOfMemory → List A → List A → Type 0
+AreAskedNext members rules state IsHere box result old new =
+    IsAskedNext IsHere (IsPick (λ b c. rules c ≡ rules b) state (λ b. (members (rules b)).would) (λ b. (members (rules b)).left)) box result old new
+
+-- the point of the box, and no other
+abbrev pub IsAt : CostBox → Point → CostBox → Point → Type 0
+IsAt box point b p = (b ≡ box) × (p ≡ point)
+
+-- they were asked for a Split at the point, and for nothing where memory was wanting
+abbrev pub AreAskedAt : {A V : Type 0} {X : V → Type 0} → ((rules : V) → Ghosts (X rules)) → (A → V) → (A → List ℕ) →
+    CostBox → Point → Result Entry OutOfMemory → List A → List A → Type 0
+AreAskedAt members rules state box point (Ok entry) old new =
+    AreReadyFor (IsAt box point) (IsPick (λ b c. rules c ≡ rules b) state (λ b. (members (rules b)).would) (λ b. (members (rules b)).left)) box entry old new
+AreAskedAt members rules state box point (Err e) old new = new ≡ old
+
+-- they were told the entry that comes next, if one does
+abbrev pub IsToldOf : {A : Type 0} → (Entry → List A → List A → Type 0) → Next → List A → List A → Type 0
+IsToldOf Tells Forms old new = new ≡ old
+IsToldOf Tells (ByCosts w) old new = new ≡ old
+IsToldOf Tells (ByEntry entry) old new = Tells entry old new
+
+-- they were told the entry by which a search goes on; where it ends, only one for which memory was wanting
+abbrev pub IsToldNext : {A : Type 0} → (Entry → List A → List A → Type 0) → Next → Result (ControlFlow Found Growing) OutOfMemory → List A → List A → Type 0
+IsToldNext Tells next (Ok (Continue tree)) old new = IsToldOf Tells next old new
+IsToldNext Tells next (Ok (Break found)) old new = new ≡ old
+IsToldNext Tells next (Err e) old new = (new ≡ old) ⊎ IsToldOf Tells next old new
+
+abbrev pub AreToldNext : {A V : Type 0} {X : V → Type 0} → ((rules : V) → Ghosts (X rules)) → (A → V) → (A → List ℕ) →
+    Next → Result (ControlFlow Found Growing) OutOfMemory → List A → List A → Type 0
+AreToldNext members rules state next result old new =
+    IsToldNext (AreAllTold (λ b c. rules c ≡ rules b) state (λ b. (members (rules b)).after)) next result old new

@@ -1,5 +1,5 @@
--- Points of a box, whole and fractional. No public clause cites it.
-use Rattle.std.specs.Prelude.{◌≡◌, ℕ, ◌+◌, ◌*◌, ◌^◌, ◌<◌, ◌≤◌, ◌%◌, slice_index, All, length}
+-- Points of a box, whole and fractional, and the candidates for a cut there.
+use Rattle.std.specs.Prelude.{◌≡◌, ℕ, zero, suc, ◌+◌, ◌*◌, ◌/◌, ◌^◌, ◌<◌, ◌≤◌, ◌%◌, ◌==◌, List, [], ◌∷◌, ◌++◌, slice_index, All, length, if◌then◌else◌}
 use Rattle.area_graph.specs.declared.Point.{Point}
 use Rattle.design_problem.specs.declared.form.CostBox.{CostBox}
 use Rattle.design_problem.specs.Boxes.{IsBox}
@@ -29,3 +29,25 @@ pub record IsFractional (box : CostBox) (point : Point) (candidate : Candidate) 
   pub below : slice_index point.values candidate.var < (candidate.floor + 1) * point.scale
   pub low : candidate.low ≡ slice_index box.low candidate.var
   pub high : candidate.high ≡ slice_index box.high candidate.var
+
+-- a variable as a candidate: its value rounded down, and its range
+abbrev pub candidate_at : CostBox → Point → ℕ → Candidate
+candidate_at box point var = record {
+  var = var;
+  floor = slice_index point.values var / point.scale;
+  low = slice_index box.low var;
+  high = slice_index box.high var;
+}
+
+-- the candidate of a variable, if its value isn't whole
+abbrev pub candidate_of : CostBox → Point → ℕ → List Candidate
+candidate_of box point var = if slice_index point.values var % point.scale == 0 then [] else candidate_at box point var ∷ []
+
+-- the candidates among the first n variables
+abbrev pub candidates_below : CostBox → Point → ℕ → List Candidate
+candidates_below box point zero = []
+candidates_below box point (suc n) = candidates_below box point n ++ candidate_of box point n
+
+-- the candidates of a point: all variables whose values aren't whole there, in rising order
+abbrev pub candidates_at : CostBox → Point → List Candidate
+candidates_at box point = candidates_below box point (length point.values)

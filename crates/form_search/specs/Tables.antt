@@ -21,16 +21,18 @@ use Rattle.form_search.specs.Points.{IsLeastOf}
 -- A tableau in n variables that holds the first forms of the pool; where a step has stopped it, maybe one more than it counts.
 pub record IsHeld (top n : ℕ) (forms : List Form) (table : HeldTableau) : Type 0 where
   pub same_top : table.tableau.top ≡ top
+  pub noted_top : table.top ≡ top
   pub width : length table.tableau.costs.low ≡ n
+  pub noted_width : table.variables ≡ n
   pub taken : ℕ
   pub few : taken ≤ length forms
   pub rows : table.tableau.rows ≡ take taken forms
   pub all : IsGoing table.tableau.stage → taken ≡ table.held
 
--- a tableau that is kept from box to box, if there is one
-abbrev pub IsTableauKept : ℕ → ℕ → List Form → Option HeldTableau → Type 0
-IsTableauKept top n forms None = Unit {0}
-IsTableauKept top n forms (Some table) = IsHeld top n forms table
+-- the tableau that is kept beside a pool, if there is one, holds the pool's first forms
+abbrev pub IsTableauKept : List Form → Option HeldTableau → Type 0
+IsTableauKept forms None = Unit {0}
+IsTableauKept forms (Some table) = IsHeld table.top table.variables forms table
 
 -- the tableau stands over the box, and no step has stopped it
 pub record StandsAt (top : ℕ) (box : CostBox) (forms : List Form) (table : HeldTableau) : Type 0 where

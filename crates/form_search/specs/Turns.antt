@@ -21,7 +21,6 @@ use Rattle.form_search.specs.declared.watch.Watch.{Watch}
 use Rattle.cut_advisors.specs.declared.candidate.Candidate.{Candidate}
 use Rattle.form_search.specs.Finds.{IsShort}
 use Rattle.form_search.specs.Points.{IsFractional}
-use Rattle.form_search.specs.Tables.{IsTableauKept}
 
 -- an entry that may come next at the place, over the pool's forms
 pub record IsNextEntry (accepted : Point → Type 0) (top : ℕ) (forms : List Form) (place : OpenPlace) (entry : Entry) : Type 0 where
@@ -66,6 +65,16 @@ IsNextStep accepted top old new place Forms = HasNew old new
 IsNextStep accepted top old new place (Costs w) = IsInBox place.box w × accepted (at_costs w)
 IsNextStep accepted top old new place (ByEntry entry) = IsNextEntry accepted top new place entry
 
+-- no Split comes next
+abbrev pub IsUnsplit : Next → Type 0
+IsUnsplit Forms = Unit {0}
+IsUnsplit (Costs w) = Unit {0}
+IsUnsplit (ByEntry (Tighten var side value row)) = Unit {0}
+IsUnsplit (ByEntry (Split var value)) = ⊥
+IsUnsplit (ByEntry (Halve var value wide)) = Unit {0}
+IsUnsplit (ByEntry (Refute parts)) = Unit {0}
+IsUnsplit (ByEntry Undone) = Unit {0}
+
 -- a watch over n variables
 pub record IsWatch (n : ℕ) (watch : Watch) : Type 0 where
   pub lists : length watch.forms_of.items ≡ n
@@ -73,9 +82,8 @@ pub record IsWatch (n : ℕ) (watch : Watch) : Type 0 where
   pub high : length watch.high.items ≡ n
 
 -- what is kept from box to box, in n variables
-pub record IsDesk (top n : ℕ) (forms : List Form) (desk : Desk) : Type 0 where
+pub record IsDesk (n : ℕ) (desk : Desk) : Type 0 where
   pub watch : IsWatch n desk.watch
-  pub table : IsTableauKept top n forms desk.table
   pub point : length desk.point.values ≡ n
 
 -- an entry that comes next is sound over some forms

@@ -1,13 +1,15 @@
 //! What comes next at the open box: by one form, by its least point, or by a cut.
-ghost use Rattle.std.specs.Prelude.{◌≡◌, ◌≢◌, ℕ, ◌<◌, List, length, All, IfOk, IfSome, OnOk};
+ghost use Rattle.std.specs.Prelude.{◌≡◌, ◌≢◌, ℕ, ◌<◌, List, length, slice_get, Some, All, IfOk, IfSome, OnOk};
 ghost use Rattle.area_graph.specs.declared.Point.{Point};
 ghost use Rattle.area_graph.specs.Costs.{at_costs};
 ghost use Rattle.design_problem.specs.declared.form.CostBox.{CostBox};
+ghost use Rattle.design_problem.specs.declared.tree.Entry.TheVariants.{Split};
 ghost use Rattle.design_problem.specs.declared.tree.Side.{Side};
 ghost use Rattle.design_problem.specs.Forms.{Form};
 ghost use Rattle.design_problem.specs.Boxes.{IsInBox, IsPointOf};
+ghost use Rattle.design_problem.specs.Earnest.{IsLeastPoint};
 ghost use Rattle.design_problem.specs.OpenPlaces.{first_place};
-ghost use Rattle.form_search.specs.Advised.{AreCalled};
+ghost use Rattle.form_search.specs.Advised.{AreAskedAt, AreAskedNext};
 ghost use Rattle.form_search.specs.Sources.{Grows, SameFor, SameSource};
 ghost use Rattle.form_search.specs.Points.{IsCostsBox, IsFractional, IsLeastOf, IsIntegralPoint};
 ghost use Rattle.form_search.specs.Turns.{IsDesk, IsNextStep, IsSplitAt};
@@ -55,7 +57,8 @@ fn costs_there<S: RowSource>(
 /// The Split at one of the candidates.
 fn split_at(candidates: &[Candidate], place: usize) -> Entry
     requires { place < length candidates.now }
-    ensures { (costs : CostBox) (point : Point) → All (IsFractional costs point) candidates.now → IsSplitAt costs point result }
+    ensures choice { (choice : Candidate) × (slice_get candidates.now place ≡ Some choice) × (result ≡ Split choice.var choice.floor) }
+    ensures fractional { (costs : CostBox) (point : Point) → All (IsFractional costs point) candidates.now → IsSplitAt costs point result }
 {
     let picked = candidates[place];
     Entry::Split {
@@ -76,7 +79,7 @@ fn split_there(
     requires inside { IsPointOf costs.now point.now }
     requires fractional { IsIntegralPoint point.now → ⊥ }
     ensures split { IfOk result (IsSplitAt costs.now point.now) }
-    ensures advisors { AreCalled ⟦<dyn Advisor as Advisor>⟧ (λ b. b.vtable) (λ b. state b) advisors.old.items advisors.new.items }
+    ensures asked { AreAskedAt ⟦<dyn Advisor as Advisor>⟧ (λ b. b.vtable) (λ b. state b) costs.now point.now result advisors.old.items advisors.new.items }
 {
     let candidates = candidates_of(alloc, point, costs, watch)?;
     let picked = choose(advisors, &candidates);
@@ -99,7 +102,8 @@ fn at_least_point<S: RowSource>(
     ensures point { point.new ≡ point.old }
     ensures in_step { SameFor (S.in_step source.old) (S.in_step source.new) }
     ensures same { SameSource S.count S.accepted S.true_form S.candidates source.old source.new }
-    ensures advisors { AreCalled ⟦<dyn Advisor as Advisor>⟧ (λ b. b.vtable) (λ b. state b) advisors.old.items advisors.new.items }
+    ensures asked { AreAskedNext ⟦<dyn Advisor as Advisor>⟧ (λ b. b.vtable) (λ b. state b)
+        (IsLeastPoint (S.accepted source.old)) costs.now result advisors.old.items advisors.new.items }
 {
     match costs_there(alloc, source, costs, point)? {
         Some(found) => Ok(Next::Costs(found)),
@@ -122,24 +126,17 @@ fn at_box<S: RowSource>(
     requires true_forms { All (S.true_form source.old) pool.old }
     requires ranges { IsCostsBox (S.count source.old) costs.now }
     requires more { costs.now.low ≢ costs.now.high }
-    requires desk { IsDesk top (S.count source.old) pool.old desk.old }
+    requires desk { IsDesk (S.count source.old) desk.old }
     ensures next { IfOk result (λ next. (since : List (ℕ × Side)) →
         IsNextStep (S.accepted source.old) top pool.old pool.new (record { box = costs.now; since = since }) next) }
-    ensures desk { OnOk result (IsDesk top (S.count source.old) pool.new desk.new) }
+    ensures desk { OnOk result (IsDesk (S.count source.old) desk.new) }
     ensures grows { Grows (S.true_form source.old) pool.old pool.new }
     ensures in_step { OnOk result (S.in_step source.new pool.new) }
     ensures same { SameSource S.count S.accepted S.true_form S.candidates source.old source.new }
-    ensures advisors { AreCalled ⟦<dyn Advisor as Advisor>⟧ (λ b. b.vtable) (λ b. state b) advisors.old.items advisors.new.items }
+    ensures asked { AreAskedNext ⟦<dyn Advisor as Advisor>⟧ (λ b. b.vtable) (λ b. state b)
+        (IsLeastPoint (S.accepted source.old)) costs.now result advisors.old.items advisors.new.items }
 {
-    match relax(
-        alloc,
-        source,
-        top,
-        pool,
-        costs,
-        &mut desk.table,
-        &mut desk.point,
-    )? {
+    match relax(alloc, source, top, pool, costs, &mut desk.point)? {
         Relaxed::Accepted => at_least_point(
             alloc,
             source,
@@ -168,13 +165,14 @@ pub(crate) fn next_at<S: RowSource>(
     requires true_forms { All (S.true_form source.old) pool.old }
     requires open { 0 < length tree.now.places }
     requires ranges { IsCostsBox (S.count source.old) (first_place tree.now.places).box }
-    requires desk { IsDesk top (S.count source.old) pool.old desk.old }
+    requires desk { IsDesk (S.count source.old) desk.old }
     ensures next { IfOk result (IsNextStep (S.accepted source.old) top pool.old pool.new (first_place tree.now.places)) }
-    ensures desk { OnOk result (IsDesk top (S.count source.old) pool.new desk.new) }
+    ensures desk { OnOk result (IsDesk (S.count source.old) desk.new) }
     ensures grows { Grows (S.true_form source.old) pool.old pool.new }
     ensures in_step { OnOk result (S.in_step source.new pool.new) }
     ensures same { SameSource S.count S.accepted S.true_form S.candidates source.old source.new }
-    ensures advisors { AreCalled ⟦<dyn Advisor as Advisor>⟧ (λ b. b.vtable) (λ b. state b) advisors.old.items advisors.new.items }
+    ensures asked { AreAskedNext ⟦<dyn Advisor as Advisor>⟧ (λ b. b.vtable) (λ b. state b)
+        (IsLeastPoint (S.accepted source.old)) (first_place tree.now.places).box result advisors.old.items advisors.new.items }
 {
     if let Some(entry) = propagated(alloc, pool, tree, &mut desk.watch)? {
         return Ok(Next::Entry(entry));

@@ -1,7 +1,8 @@
 //! The variables at which a box may be split.
-ghost use Rattle.std.specs.Prelude.{◌≡◌, ℕ, ◌%◌, ◌^◌, ◌<◌, ◌≤◌, length, slice_index, All, IfOk, OnOk};
+ghost use Rattle.std.specs.Prelude.{◌≡◌, ℕ, ◌%◌, ◌^◌, ◌<◌, ◌≤◌, ◌++◌, length, slice_index, All, IfOk, OnOk};
+ghost use Rattle.std.specs.List.Sorted.{IsPermutation};
 ghost use Rattle.design_problem.specs.Boxes.{IsPointOf};
-ghost use Rattle.form_search.specs.Points.{IsCostsBox, IsFractional, IsIntegralPoint};
+ghost use Rattle.form_search.specs.Points.{IsCostsBox, IsFractional, IsIntegralPoint, candidate_of, candidates_at};
 
 use crate::watch::Watch;
 use area_graph::Point;
@@ -48,6 +49,7 @@ fn push_fractional(
     requires inside { IsPointOf costs.now point.now }
     requires known { var < length point.now.values }
     requires so_far { All (IsFractional costs.now point.now) candidates.old.items }
+    ensures pushed { OnOk result (candidates.new.items ≡ candidates.old.items ++ candidate_of costs.now point.now var) }
     ensures fractional { OnOk result (All (IsFractional costs.now point.now) candidates.new.items) }
     ensures more { OnOk result (length candidates.old.items ≤ length candidates.new.items) }
     ensures some { OnOk result ((slice_index point.now.values var % point.now.scale ≡ 0 → ⊥) → 0 < length candidates.new.items) }
@@ -70,6 +72,7 @@ fn push_fractional(
 fn fractional(alloc: Global, point: &Point, costs: &CostBox) -> Result<Vec<Candidate>, OutOfMemory>
     requires ranges { IsCostsBox (length costs.now.low) costs.now }
     requires inside { IsPointOf costs.now point.now }
+    ensures all { IfOk result (λ found. found.items ≡ candidates_at costs.now point.now) }
     ensures fractional { IfOk result (λ found. All (IsFractional costs.now point.now) found.items) }
     ensures some { (IsIntegralPoint point.now → ⊥) → IfOk result (λ found. 0 < length found.items) }
 {
@@ -89,6 +92,7 @@ pub(crate) fn candidates_of(
 ) -> Result<Vec<Candidate>, OutOfMemory>
     requires ranges { IsCostsBox (length costs.now.low) costs.now }
     requires inside { IsPointOf costs.now point.now }
+    ensures all { IfOk result (λ found. IsPermutation (candidates_at costs.now point.now) found.items) }
     ensures fractional { IfOk result (λ found. All (IsFractional costs.now point.now) found.items) }
     ensures some { (IsIntegralPoint point.now → ⊥) → IfOk result (λ found. 0 < length found.items) }
 {

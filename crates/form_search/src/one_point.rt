@@ -4,7 +4,7 @@ ghost use Rattle.design_problem.specs.declared.tree.Side.{Side};
 ghost use Rattle.design_problem.specs.Boxes.{greatest};
 ghost use Rattle.form_search.specs.Sources.{Grows, SameSource};
 ghost use Rattle.form_search.specs.Points.{IsCostsBox};
-ghost use Rattle.form_search.specs.Turns.{IsNextStep};
+ghost use Rattle.form_search.specs.Turns.{IsNextStep, IsUnsplit};
 
 use crate::points::{low_costs, put_costs};
 use crate::propagation::{first_negative, refute_by};
@@ -37,6 +37,7 @@ fn ask_there<S: RowSource>(
     requires places { length point.old.values ≡ S.count source.old }
     ensures next { (top : ℕ) (since : List (ℕ × Side)) →
         IfOk result (IsNextStep (S.accepted source.old) top pool.old pool.new (record { box = costs.now; since = since })) }
+    ensures unsplit { IfOk result IsUnsplit }
     ensures places { length point.new.values ≡ length point.old.values }
     ensures grows { Grows (S.true_form source.old) pool.old pool.new }
     ensures in_step { OnOk result (S.in_step source.new pool.new) }
@@ -64,6 +65,7 @@ pub(crate) fn at_one_point<S: RowSource>(
     requires places { length point.old.values ≡ S.count source.old }
     ensures next { (top : ℕ) (since : List (ℕ × Side)) →
         IfOk result (IsNextStep (S.accepted source.old) top pool.old pool.new (record { box = costs.now; since = since })) }
+    ensures unsplit { IfOk result IsUnsplit }
     ensures places { length point.new.values ≡ length point.old.values }
     ensures grows { Grows (S.true_form source.old) pool.old pool.new }
     ensures in_step { OnOk result (S.in_step source.new pool.new) }

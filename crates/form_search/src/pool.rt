@@ -1,15 +1,21 @@
-//! The pool of forms.
+//! The pool of forms, and the tableau that is kept with it.
 ghost use Rattle.std.specs.Prelude.{◌≡◌, ◌++◌, [], ◌∷◌, take, OnOk, OnErr};
+ghost use Rattle.form_search.specs.Tables.{IsHeld, IsTableauKept};
 
+use crate::table::HeldTableau;
 use cost_base::OutOfMemory;
 use design_problem::Form;
 use std::alloc::Global;
 use std::marker::Model;
 
 /// The forms that a search knows. Contracts see the list of the forms.
+///
+/// It keeps the tableau of the last box that a search over it relaxed, which holds the first forms of the pool, for the
+/// next such box.
 #[derive(Drop)]
 pub struct FormPool {
     forms: Vec<Form>,
+    table: Option<HeldTableau>,
 }
 
 impl Model for FormPool {
@@ -19,6 +25,10 @@ impl Model for FormPool {
     ghost Value = { List Form };
 
     ghost view = { λ p. p.forms.items };
+
+    ghost use Rattle.form_search.specs.Tables.{IsTableauKept};
+
+    ghost invariant = { λ p. IsTableauKept p.forms.items p.table };
 }
 
 impl FormPool {
@@ -28,6 +38,7 @@ impl FormPool {
     {
         FormPool {
             forms: Vec::new(alloc),
+            table: None,
         }
     }
 
@@ -43,11 +54,28 @@ impl FormPool {
         Ok(self.forms.push(form)?)
     }
 
-    /// Takes away the forms behind the first `count`.
+    /// Takes away the forms behind the first `count`, and the tableau.
     pub fn truncate(&mut self, count: usize)
         ensures { self.new ≡ take count self.old }
     {
+        self.table = None;
         self.forms.truncate(count);
+    }
+
+    /// Takes out the tableau that is kept, if there is one.
+    pub(crate) fn take_tableau(&mut self) -> Option<HeldTableau>
+        ensures forms { self.new ≡ self.old }
+        ensures kept { IsTableauKept self.old result }
+    {
+        self.table.take()
+    }
+
+    /// Keeps a tableau that holds the first forms.
+    pub(crate) fn keep_tableau(&mut self, table: HeldTableau)
+        requires { IsHeld table.top table.variables self.old table }
+        ensures { self.new ≡ self.old }
+    {
+        self.table = Some(table);
     }
 
     /// The forms, in order.

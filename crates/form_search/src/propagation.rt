@@ -10,7 +10,7 @@ ghost use Rattle.form_search.specs.Turns.{AreFormsOf, IsFormIn, IsNextRow, IsWat
 
 use crate::FormPool;
 use crate::watch::Watch;
-use bound_propagation::tighten;
+use bound_propagation::tighten_within;
 use cost_base::OutOfMemory;
 use design_problem::{CostBox, Entry, Form, Parts, TreeBuilder, greatest_over};
 use std::alloc::Global;
@@ -52,12 +52,13 @@ fn entry_of(
     ensures entry { (forms : List Form) → row < length forms → form_at forms row ≡ form.now →
         IfOk result (λ found. IfSome found (IsNextRow forms (first_place tree.now.places))) }
     ensures watch { (n : ℕ) → IsWatch n watch.old → IsWatch n watch.new }
+    ensures waiting { watch.new.waiting ≡ watch.old.waiting }
 {
-    if greatest_over(form, tree.costs()) < 0 {
+    let most = greatest_over(form, tree.costs());
+    if most < 0 {
         return Ok(Some(refute_by(alloc, row)?));
     }
-    let Some(step) = tighten(form, tree.costs()) else {
-        watch.rest(row);
+    let Some(step) = tighten_within(form, tree.costs(), most) else {
         return Ok(None);
     };
     if tree.is_tightened(step.var, step.side) {
@@ -89,17 +90,16 @@ pub(crate) fn propagated(
     let forms = pool.as_slice();
     watch.learn(forms)?;
     if tree.is_fresh() {
-        watch.release();
+        watch.release()?;
     }
-    watch.look(tree.costs());
-    for row in watch.first()..forms.len() {
-        if watch.is_pending(row) {
+    watch.look(tree)?;
+    while let Some(row) = watch.next() {
+        if row < forms.len() {
             if let Some(entry) = entry_of(alloc, &forms[row], row, tree, watch)? {
-                watch.looked_to(row);
+                watch.keep(row)?;
                 return Ok(Some(entry));
             }
         }
     }
-    watch.looked_to(forms.len());
     Ok(None)
 }

@@ -4,7 +4,7 @@ ghost use Rattle.design_problem.specs.Earnest.{IsLeastPoint};
 ghost use Rattle.design_problem.specs.Forms.{AreMet};
 ghost use Rattle.form_search.specs.Sources.{Grows, SameSource};
 ghost use Rattle.form_search.specs.Points.{IsCostsBox};
-ghost use Rattle.form_search.specs.Tables.{IsHeld, IsTableauKept, IsRelaxation, StandsAt};
+ghost use Rattle.form_search.specs.Tables.{IsHeld, IsRelaxation, StandsAt};
 ghost use Rattle.form_search.specs.Turns.{HasNew};
 
 use crate::table::{HeldTableau, Least, moved};
@@ -111,32 +111,29 @@ fn relax_by<S: RowSource>(
     }
 }
 
-/// Relaxes a box: moves the kept tableau there or starts one, and asks the source at the least point that meets the pool's
-/// forms, until that point is accepted or there is none. The tableau is kept.
+/// Relaxes a box: moves the tableau that is kept with the pool there or starts one, and asks the source at the least point
+/// that meets the pool's forms, until that point is accepted or there is none. The tableau is kept with the pool.
 pub(crate) fn relax<S: RowSource>(
     alloc: Global,
     source: &mut S,
     top: Top,
     pool: &mut FormPool,
     costs: &CostBox,
-    kept: &mut Option<HeldTableau>,
     point: &mut Point,
 ) -> Result<Relaxed, OutOfMemory>
     requires in_step { S.in_step source.old pool.old }
     requires true_forms { All (S.true_form source.old) pool.old }
     requires ranges { IsCostsBox (S.count source.old) costs.now }
     requires some { 0 < S.count source.old }
-    requires kept { IsTableauKept top (S.count source.old) pool.old kept.old }
     requires places { length point.old.values ≡ S.count source.old }
     ensures relaxed { IfOk result (IsRelaxation (S.accepted source.old) top costs.now pool.new point.new) }
-    ensures kept { OnOk result (IsTableauKept top (S.count source.old) pool.new kept.new) }
     ensures places { length point.new.values ≡ length point.old.values }
     ensures grows { Grows (S.true_form source.old) pool.old pool.new }
     ensures in_step { OnOk result (S.in_step source.new pool.new) }
     ensures same { SameSource S.count S.accepted S.true_form S.candidates source.old source.new }
 {
-    let mut table = moved(alloc, kept.take(), costs, top)?;
+    let mut table = moved(alloc, pool.take_tableau(), costs, top)?;
     let relaxed = relax_by(alloc, source, pool, costs, &mut table, point)?;
-    *kept = Some(table);
+    pool.keep_tableau(table);
     Ok(relaxed)
 }

@@ -4,8 +4,9 @@ ghost use Rattle.std.specs.List.{AllZip};
 ghost use Rattle.design_problem.specs.Forms.{Form};
 ghost use Rattle.design_problem.specs.Boxes.{IsBox};
 ghost use Rattle.design_problem.specs.Trees.{IsSingleTree, SoundAt};
+ghost use Rattle.design_problem.specs.Earnest.{IsLeastPoint};
 ghost use Rattle.design_problem.specs.OpenPlaces.{first_place, fresh, grown, undones};
-ghost use Rattle.form_search.specs.Advised.{AreCalled};
+ghost use Rattle.form_search.specs.Advised.{AreAdvised, AreToldNext};
 ghost use Rattle.form_search.specs.Finds.{IsSearchResult};
 ghost use Rattle.form_search.specs.Points.{IsCostsBox};
 ghost use Rattle.form_search.specs.Sources.{Grows, SameSource};
@@ -62,7 +63,7 @@ fn turn(
     requires sound { IsSoundNext (first_place tree.places).box next }
     requires whole { IsSingleTree (tree.entries ++ undones (length tree.places)) }
     ensures outcome { IfOk result (λ outcome. outcome ≡ turned nodes tree next) }
-    ensures advisors { AreCalled ⟦<dyn Advisor as Advisor>⟧ (λ b. b.vtable) (λ b. state b) advisors.old.items advisors.new.items }
+    ensures told { AreToldNext ⟦<dyn Advisor as Advisor>⟧ (λ b. b.vtable) (λ b. state b) next result advisors.old.items advisors.new.items }
 {
     match next {
         Next::Forms => Ok(ControlFlow::Continue(tree)),
@@ -103,7 +104,8 @@ pub fn search<S: RowSource>(
     ensures grows { Grows (S.true_form source.old) pool.old pool.new }
     ensures in_step { OnOk result (S.in_step source.new pool.new) }
     ensures same { SameSource S.count S.accepted S.true_form S.candidates source.old source.new }
-    ensures advisors { AreCalled ⟦<dyn Advisor as Advisor>⟧ (λ b. b.vtable) (λ b. state b) advisors.old.items advisors.new.items }
+    ensures advisors { AreAdvised ⟦<dyn Advisor as Advisor>⟧ (λ b. b.vtable) (λ b. state b)
+        (IsLeastPoint (S.accepted source.old)) costs.now result advisors.old.items advisors.new.items }
 {
     let mut tree = first_tree(alloc, source.variables(), costs)?;
     let mut desk = Desk::start(alloc, costs)?;

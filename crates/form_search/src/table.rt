@@ -1,5 +1,5 @@
-//! The tableau that is kept from box to box.
-ghost use Rattle.std.specs.Prelude.{◌≡◌, ℕ, ◌^◌, ◌<◌, List, length, All, IfErr, IfOk, OnErr, OnOk};
+//! The tableau that is kept from box to box, and with the pool from search to search.
+ghost use Rattle.std.specs.Prelude.{◌≡◌, ℕ, ◌^◌, ◌<◌, List, ◌↔◌, length, All, IfErr, IfOk, IsTrue, OnErr, OnOk};
 ghost use Rattle.design_problem.specs.Forms.{Form};
 ghost use Rattle.design_problem.specs.Boxes.{IsBox};
 ghost use Rattle.design_problem.specs.Steps.{IsStepTooWide, ratio_of};
@@ -15,11 +15,13 @@ use fraction_table::{SimplexStop, Solved};
 use std::alloc::Global;
 use wide_fraction::{Frac, Top, Wide};
 
-/// A tableau that holds the first `held` forms of the pool.
+/// A tableau that holds the first `held` forms of the pool, with what it was started for.
 #[derive(Drop)]
 pub(crate) struct HeldTableau {
     tableau: Tableau,
     held: usize,
+    top: Top,
+    variables: usize,
 }
 
 /// What a tableau says of its box and the pool's forms.
@@ -33,8 +35,22 @@ pub(crate) enum Least {
     Wide(WideAt),
 }
 
-/// The tableau over the box: the kept one moved there, with the forms that it holds; a new one where none is kept or the
-/// kept one had stopped.
+/// A new tableau over the box, which holds no form yet.
+fn started(alloc: Global, costs: &CostBox, top: Top) -> Result<HeldTableau, OutOfMemory>
+    requires ranges { IsBox (length costs.now.low) costs.now }
+    requires few { length costs.now.low < 2 ^ 32 }
+    ensures { (forms : List Form) → IfOk result (StandsAt top costs.now forms) }
+{
+    Ok(HeldTableau {
+        tableau: Tableau::start(alloc, costs, top)?,
+        held: 0,
+        top,
+        variables: costs.low.as_slice().len(),
+    })
+}
+
+/// The tableau over the box: the kept one moved there, with the forms that it holds; a new one where none is kept, or the
+/// kept one is another top's or of another number of variables, or it had stopped.
 pub(crate) fn moved(
     alloc: Global,
     kept: Option<HeldTableau>,
@@ -43,18 +59,17 @@ pub(crate) fn moved(
 ) -> Result<HeldTableau, OutOfMemory>
     requires ranges { IsBox (length costs.now.low) costs.now }
     requires few { length costs.now.low < 2 ^ 32 }
-    requires fits { (forms : List Form) × IsTableauKept top (length costs.now.low) forms kept × All (FitsBox costs.now) forms }
-    ensures { (forms : List Form) → IsTableauKept top (length costs.now.low) forms kept → IfOk result (StandsAt top costs.now forms) }
+    requires fits { (forms : List Form) × IsTableauKept forms kept × All (FitsBox costs.now) forms }
+    ensures { (forms : List Form) → IsTableauKept forms kept → IfOk result (StandsAt top costs.now forms) }
 {
     if let Some(mut table) = kept {
-        if table.tableau.rebase(costs).is_ok() {
-            return Ok(table);
+        if table.is_for(costs.low.as_slice().len(), top) {
+            if table.tableau.rebase(costs).is_ok() {
+                return Ok(table);
+            }
         }
     }
-    Ok(HeldTableau {
-        tableau: Tableau::start(alloc, costs, top)?,
-        held: 0,
-    })
+    started(alloc, costs, top)
 }
 
 /// The fraction as it is printed.
@@ -69,6 +84,13 @@ fn ratio_of(fraction: Frac) -> Ratio
 }
 
 impl HeldTableau {
+    /// Whether it was started for so many variables and this top.
+    fn is_for(&self, variables: usize, top: Top) -> bool
+        ensures { IsTrue result ↔ ((self.now.variables ≡ variables) × (self.now.top ≡ top)) }
+    {
+        self.variables == variables && self.top.size() == top.size()
+    }
+
     /// Adds the forms of the pool that it doesn't hold yet, in order.
     fn add_rows(&mut self, alloc: Global, forms: &[Form]) -> Result<(), SimplexStop>
         requires stands { StandsAt self.old.tableau.top self.old.tableau.costs forms.now self.old }

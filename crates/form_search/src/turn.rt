@@ -1,13 +1,11 @@
 //! What comes next at the open box.
-ghost use Rattle.std.specs.Prelude.{◌≡◌, ◌≢◌, ℕ, ◌^◌, ◌<◌, ◌≤◌, List, length, slice_index, IfOk};
-ghost use Rattle.design_problem.specs.Forms.{Form};
+ghost use Rattle.std.specs.Prelude.{◌≡◌, ◌≢◌, ℕ, ◌^◌, ◌<◌, ◌≤◌, length, slice_index, IfOk};
 ghost use Rattle.design_problem.specs.Boxes.{IsBox};
 ghost use Rattle.design_problem.specs.declared.tree.Entry.TheVariants.{Halve};
 ghost use Rattle.design_problem.specs.Trees.{CutsAt};
 ghost use Rattle.form_search.specs.Turns.{IsDesk};
 
 use crate::points::blank_point;
-use crate::table::HeldTableau;
 use crate::watch::Watch;
 use area_graph::Point;
 use cost_base::OutOfMemory;
@@ -30,8 +28,6 @@ pub(crate) enum Next {
 pub(crate) struct Desk {
     /// The forms that may say something.
     pub(crate) watch: Watch,
-    /// The tableau of the last box that was relaxed, if there is one.
-    pub(crate) table: Option<HeldTableau>,
     /// The point that is asked, with a place for each variable.
     pub(crate) point: Point,
 }
@@ -40,11 +36,10 @@ impl Desk {
     /// At the first box.
     pub(crate) fn start(alloc: Global, costs: &CostBox) -> Result<Desk, OutOfMemory>
         requires { length costs.now.high ≡ length costs.now.low }
-        ensures { (top : ℕ) (forms : List Form) → IfOk result (IsDesk top (length costs.now.low) forms) }
+        ensures { IfOk result (IsDesk (length costs.now.low)) }
     {
         Ok(Desk {
             watch: Watch::start(alloc, costs)?,
-            table: None,
             point: blank_point(alloc, costs.low.as_slice().len())?,
         })
     }

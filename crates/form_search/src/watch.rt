@@ -1,10 +1,14 @@
 //! Which forms may still say something about the box at work.
-ghost use Rattle.std.specs.Prelude.{◌≡◌, ℕ, ◌<◌, ◌≤◌, ◌++◌, [], ◌∷◌, length, IfOk, OnOk};
+ghost use Rattle.std.specs.Prelude.{◌≡◌, ℕ, ◌<◌, ◌≤◌, ◌++◌, [], ◌∷◌, length, IfOk, IfSome, OnOk};
+ghost use Rattle.std.specs.BinaryHeap.{heap_len};
+ghost use Rattle.design_problem.specs.OpenPlaces.{first_place};
 ghost use Rattle.form_search.specs.Turns.{IsWatch};
 
 use cost_base::OutOfMemory;
-use design_problem::{CostBox, Form};
+use design_problem::{CostBox, Entry, Form, TreeBuilder};
 use std::alloc::Global;
+use std::cmp::Reverse;
+use std::collections::BinaryHeap;
 
 /// The forms of a pool that may say something about the box at work. A form that was looked at without a step leaves
 /// them, and comes back where the range of one of its variables changes.
@@ -14,8 +18,8 @@ pub(crate) struct Watch {
     forms_of: Vec<Vec<usize>>,
     /// Whether each form may say something.
     pending: Vec<bool>,
-    /// No form before this one may.
-    first: usize,
+    /// The forms that may, the first one on top.
+    waiting: BinaryHeap<Reverse<usize>>,
     /// The forms whose step was barred at the box.
     barred: Vec<usize>,
     /// The ranges as they were when they were compared last.
@@ -53,6 +57,33 @@ fn note(lists: &mut Vec<Vec<usize>>, var: usize, row: usize) -> Result<(), OutOf
     }
 }
 
+/// Makes a form one that may say something.
+fn wake(
+    pending: &mut Vec<bool>,
+    waiting: &mut BinaryHeap<Reverse<usize>>,
+    row: usize,
+) -> Result<(), OutOfMemory> {
+    if let Some(pending) = pending.get_mut(row) {
+        if !*pending {
+            waiting.push(Reverse(row))?;
+            *pending = true;
+        }
+    }
+    Ok(())
+}
+
+/// Makes forms such.
+fn wake_all(
+    pending: &mut Vec<bool>,
+    waiting: &mut BinaryHeap<Reverse<usize>>,
+    rows: &[usize],
+) -> Result<(), OutOfMemory> {
+    for row in rows {
+        wake(pending, waiting, *row)?;
+    }
+    Ok(())
+}
+
 impl Watch {
     /// The watch over a box, without a form.
     pub(crate) fn start(alloc: Global, costs: &CostBox) -> Result<Watch, OutOfMemory>
@@ -65,7 +96,7 @@ impl Watch {
         Ok(Watch {
             forms_of,
             pending: Vec::new(alloc),
-            first: 0,
+            waiting: BinaryHeap::new(alloc),
             barred: Vec::new(alloc),
             low,
             high,
@@ -96,106 +127,106 @@ impl Watch {
         for term in form.terms() {
             self.learn_term(term.var, row)?;
         }
-        push(&mut self.pending, true)?;
-        self.first = self.first.min(row);
-        Ok(())
+        push(&mut self.pending, false)?;
+        wake(&mut self.pending, &mut self.waiting, row)
     }
 
-    /// Makes the form one that may say something.
-    fn wake(&mut self, row: usize)
-        ensures watch { (n : ℕ) → IsWatch n self.old → IsWatch n self.new }
-        ensures barred { self.new.barred ≡ self.old.barred }
-    {
-        if let Some(pending) = self.pending.get_mut(row) {
-            *pending = true;
-        }
-        self.first = self.first.min(row);
-    }
-
-    /// Makes the forms of a variable such.
-    fn wake_forms_of(&mut self, var: usize)
+    /// Makes the forms of a variable such as may say something.
+    fn wake_forms_of(&mut self, var: usize) -> Result<(), OutOfMemory>
         ensures { (n : ℕ) → IsWatch n self.old → IsWatch n self.new }
     {
-        let Some(forms) = self.forms_of.get(var) else {
-            return;
-        };
-        for row in forms.as_slice() {
-            if let Some(pending) = self.pending.get_mut(*row) {
-                *pending = true;
-            }
-            self.first = self.first.min(*row);
+        match self.forms_of.get(var) {
+            Some(forms) => wake_all(&mut self.pending, &mut self.waiting, forms.as_slice()),
+            None => Ok(()),
         }
     }
 
     /// Compares the range of a variable, and wakes its forms where it changed.
-    fn look_at(&mut self, var: usize, low: u16, high: u16)
-        requires low { var < length self.old.low.items }
-        requires high { var < length self.old.high.items }
-        ensures { (n : ℕ) → IsWatch n self.old → IsWatch n self.new }
-    {
-        if low != self.low.as_slice()[var] || high != self.high.as_slice()[var] {
-            self.low[var] = low;
-            self.high[var] = high;
-            self.wake_forms_of(var);
-        }
-    }
-
-    /// Compares the ranges with those of the box, and wakes the forms of each variable whose range changed.
-    pub(crate) fn look(&mut self, costs: &CostBox)
+    fn look_at(&mut self, costs: &CostBox, var: usize) -> Result<(), OutOfMemory>
         requires high { length costs.now.high ≡ length costs.now.low }
         requires watch { IsWatch (length costs.now.low) self.old }
         ensures { IsWatch (length costs.now.low) self.new }
     {
         let low = costs.low.as_slice();
         let high = costs.high.as_slice();
-        for var in 0..low.len() {
-            self.look_at(var, low[var], high[var]);
+        if var >= low.len() {
+            return Ok(());
+        }
+        if low[var] == self.low.as_slice()[var] && high[var] == self.high.as_slice()[var] {
+            return Ok(());
+        }
+        self.low[var] = low[var];
+        self.high[var] = high[var];
+        self.wake_forms_of(var)
+    }
+
+    /// Compares all ranges.
+    fn look_at_all(&mut self, costs: &CostBox) -> Result<(), OutOfMemory>
+        requires high { length costs.now.high ≡ length costs.now.low }
+        requires watch { IsWatch (length costs.now.low) self.old }
+        ensures { IsWatch (length costs.now.low) self.new }
+    {
+        for var in 0..costs.low.as_slice().len() {
+            self.look_at(costs, var)?;
+        }
+        Ok(())
+    }
+
+    /// Compares the ranges that may have changed with those of the open box, and wakes the forms of each variable whose range
+    /// did: an entry that leaves the box or a part of it changes one range; behind another one any range may have changed.
+    pub(crate) fn look(&mut self, tree: &TreeBuilder) -> Result<(), OutOfMemory>
+        requires open { 0 < length tree.now.places }
+        requires high { length (first_place tree.now.places).box.high ≡ length (first_place tree.now.places).box.low }
+        requires watch { IsWatch (length (first_place tree.now.places).box.low) self.old }
+        ensures { IsWatch (length (first_place tree.now.places).box.low) self.new }
+    {
+        let costs = tree.costs();
+        match tree.entries().last() {
+            Some(Entry::Tighten { var, .. }) => self.look_at(costs, *var as usize),
+            Some(Entry::Split { var, .. }) => self.look_at(costs, *var as usize),
+            Some(Entry::Halve { var, .. }) => self.look_at(costs, *var as usize),
+            _ => self.look_at_all(costs),
         }
     }
 
     /// Wakes the forms whose step was barred: nothing bars them at a new box.
-    pub(crate) fn release(&mut self)
+    pub(crate) fn release(&mut self) -> Result<(), OutOfMemory>
         ensures { (n : ℕ) → IsWatch n self.old → IsWatch n self.new }
     {
         while let Some(row) = self.barred.pop() {
-            self.wake(row);
+            wake(&mut self.pending, &mut self.waiting, row)?;
+        }
+        Ok(())
+    }
+
+    /// The first form that may say something: it is looked at, and leaves them.
+    pub(crate) fn next(&mut self) -> Option<usize>
+        ensures watch { (n : ℕ) → IsWatch n self.old → IsWatch n self.new }
+        ensures fewer { IfSome result (λ row. heap_len self.new.waiting < heap_len self.old.waiting) }
+    {
+        match self.waiting.pop() {
+            Some(Reverse(row)) => {
+                if let Some(pending) = self.pending.get_mut(row) {
+                    *pending = false;
+                }
+                Some(row)
+            }
+            None => None,
         }
     }
 
-    /// No form before it may say something.
-    pub(crate) fn first(&self) -> usize {
-        self.first
-    }
-
-    /// Every form before it was looked at.
-    pub(crate) fn looked_to(&mut self, row: usize)
+    /// The form that was looked at had a step, so it may have more.
+    pub(crate) fn keep(&mut self, row: usize) -> Result<(), OutOfMemory>
         ensures { (n : ℕ) → IsWatch n self.old → IsWatch n self.new }
     {
-        self.first = row;
+        wake(&mut self.pending, &mut self.waiting, row)
     }
 
-    /// Whether the form may say something.
-    pub(crate) fn is_pending(&self, row: usize) -> bool {
-        match self.pending.get(row) {
-            Some(pending) => *pending,
-            None => false,
-        }
-    }
-
-    /// The form was looked at without a step.
-    pub(crate) fn rest(&mut self, row: usize)
-        ensures { (n : ℕ) → IsWatch n self.old → IsWatch n self.new }
-    {
-        if let Some(pending) = self.pending.get_mut(row) {
-            *pending = false;
-        }
-    }
-
-    /// The form's step was barred.
+    /// The step of the form that was looked at was barred.
     pub(crate) fn bar(&mut self, row: usize) -> Result<(), OutOfMemory>
-        ensures { (n : ℕ) → IsWatch n self.old → IsWatch n self.new }
+        ensures watch { (n : ℕ) → IsWatch n self.old → IsWatch n self.new }
+        ensures waiting { self.new.waiting ≡ self.old.waiting }
     {
-        self.rest(row);
         push(&mut self.barred, row)
     }
 

@@ -7,6 +7,7 @@ pub mod StartLines
 pub mod SoundTables
 pub mod Pivots
 pub mod Solutions
+pub mod PivotForms
 pub mod ColumnOrders
 pub mod Choices
 pub mod Transitive

@@ -2,6 +2,7 @@ pub mod Tableaus
 pub mod ValidTables
 pub mod Moves
 pub mod Pivots
+pub mod PivotForms
 pub mod Ranks
 pub mod Corners
 pub mod Multipliers

@@ -88,15 +88,6 @@ IsBestBelow t line bound (Some column) =
 abbrev pub AreHigh : Table → Type 0
 AreHigh t = All (λ line. pos 0 ≤ℤ (entry line 0).numerator) t.lines.items
 
--- the constant of a line is negative
-abbrev pub IsConstantNegative : Table → ℕ → Type 0
-IsConstantNegative t line = (line < length t.lines.items) × ((entry (line_at t line) 0).numerator <ℤ pos 0)
-
--- what a search for a negative constant finds
-abbrev pub IsFoundBelow : Table → Option ℕ → Type 0
-IsFoundBelow t None = AreHigh t
-IsFoundBelow t (Some line) = IsConstantNegative t line
-
 -- what a step towards the answer leaves: the lines show the answer, or the rank rose
 abbrev pub IsAhead : Table → Table → Option Solved → Type 0
 IsAhead old new None = rank old < rank new

@@ -10,7 +10,7 @@ use Rattle.integer_pivots.proofs.Crossings.{item_is, positive_size}
 use Rattle.integer_pivots.proofs.Sizes.{read, read_number}
 use Rattle.table_kernel.specs.declared.kernel.OutOfRange.{OutOfRange}
 use Rattle.table_kernel.specs.declared.kernel.Kernel.{Kernel}
-use Rattle.table_kernel.specs.Turns.{IsBestColumn, IsFoundNegative, KeepsNumbers, along_numbers, numbers_of_place}
+use Rattle.table_kernel.specs.Turns.{IsBestColumn, IsPivotPlace, KeepsNumbers, along_numbers, numbers_of_place}
 use Rattle.table_kernel.specs.Turnings.{IsHeldUp, IsReadyToTurn, IsRefusedAt, MayTurn, turn_at}
 use Rattle.table_kernel.proofs.SameButRoom.{rebuilt}
 
@@ -48,15 +48,15 @@ refused_at k m place column keeps line_kept line_is best along_is refused =
       refused = refused;
     }
 
--- at the first form with a negative constant
+-- at the pivot form
 pub held_up : (old new : Kernel) (place : ℕ) (found : Result (Option Solved) OutOfRange) →
-    IsFoundNegative old (Some place) → OnErr found (KeepsNumbers old new) →
+    IsPivotPlace old place → OnErr found (KeepsNumbers old new) →
     OnErr found ((column : ℕ) × IsRefusedAt new place column) → OnErr found (IsHeldUp new)
-held_up old new place (Ok solved) first keeps refused = tt
-held_up old new place (Err out) first keeps refused =
+held_up old new place (Ok solved) due keeps refused = tt
+held_up old new place (Err out) due keeps refused =
     record {
       place = place;
-      first = subst (λ (h : Kernel). IsFoundNegative h (Some place)) (sym (rebuilt old new keeps)) first;
+      due = subst (λ (h : Kernel). IsPivotPlace h place) (sym (rebuilt old new keeps)) due;
       column = refused.0;
       refused = refused.1;
     }

@@ -1,16 +1,17 @@
 -- What the constants and a line of a kernel show of the table that it stands for.
-use Rattle.std.proofs.Common.{◌≡◌, ℕ, zero, suc, ◌+◌, ◌<◌, ◌≤◌, sym, ◌∙◌, ap, subst, List, [], length, arith}
+use Rattle.std.proofs.Common.{◌≡◌, ℕ, zero, suc, ◌+◌, ◌<◌, ◌≤◌, sym, ◌∙◌, ap, subst, List, length, arith}
 use Rattle.std.specs.Prelude.{ℤ, None, pos, ◌<ℤ◌, ◌≤ℤ◌, All}
-use Rattle.std.proofs.lemmas.List.{get_or_default}
 use Rattle.cost_base.proofs.ListLemmas.{get_or-map-numbers_from}
-use Rattle.whole_numbers.specs.Fractions.{Fraction, StandsFor}
+use Rattle.whole_numbers.specs.Fractions.{StandsFor}
 use Rattle.whole_numbers.specs.Lists.{number_at}
 use Rattle.design_problem.specs.Basis.{entry}
 use Rattle.design_problem.specs.Steps.{IsStuck}
 use Rattle.fraction_table.specs.declared.table.Table.{Table}
+use Rattle.fraction_table.specs.PivotForms.{NoneNegative, sign_at}
 use Rattle.fraction_table.specs.Pivots.{line_at}
 use Rattle.fraction_table.specs.ValidTables.{number_of_form}
 use Rattle.fraction_rows.proofs.RowLaws.{number_at as number_there}
+use Rattle.fraction_table.proofs.PivotForms.{none_high, pivot_among, pivot_negative}
 use Rattle.fraction_table.proofs.Pivots.{line_long, lines_long, members_long, whole_line}
 use Rattle.fraction_table.proofs.Solutions.{high_number, low_number, negative_number}
 use Rattle.fraction_table.proofs.IntegralTurns.{stand_at}
@@ -18,7 +19,7 @@ use Rattle.fraction_table.proofs.theory.TurnedNumbers.{numbers_at, numbers_long}
 use Rattle.table_kernel.specs.declared.kernel.Kernel.{Kernel}
 use Rattle.table_kernel.specs.Kernels.{IsKernel, stated, width_of}
 use Rattle.table_kernel.specs.Numbers.{number_at_column}
-use Rattle.table_kernel.specs.Turns.{IsBestColumn, KeepsNumbers, column_of, form_of_place, numbers_of_place}
+use Rattle.table_kernel.specs.Turns.{IsBestColumn, IsPivotPlace, KeepsNumbers, column_of, form_of_place, numbers_of_place}
 use Rattle.table_kernel.proofs.Columns.{column_number}
 
 -- a line's entry has the sign of its number
@@ -91,18 +92,27 @@ module _ (k : Kernel) (m : IsKernel k) (place : ℕ) (place_in : place < length 
           entry_low c c_in (low c c_in)
 
 -- where no constant is negative, no line's is
-pub lines_high : (k : Kernel) → IsKernel k → All (λ z. pos 0 ≤ℤ z) k.constants.items → All (λ line. pos 0 ≤ℤ (entry line 0).numerator) (stated k).lines.items
-lines_high k m high place d place_is =
-    let place_in : place < length k.constants.items =
+pub lines_high : (k : Kernel) → IsKernel k → NoneNegative (width_of k + width_of k + length k.table.rows.items) (number_at k.constants.items) →
+    All (λ line. pos 0 ≤ℤ (entry line 0).numerator) (stated k).lines.items
+lines_high k m none = none_high (stated k) m.whole high
+  where
+    high : NoneNegative (width_of k + width_of k + length k.table.rows.items) (sign_at (stated k))
+    high place place_in =
+        entry_high k m place (omega (arith, place_in, m.shaped.constants, members_long k.table.costs (length k.table.rows.items))) (none place place_in)
+
+-- the pivot form is one of the kernel's
+pub pivot_place_in : (k : Kernel) → IsKernel k → (place : ℕ) → IsPivotPlace k place → place < length k.constants.items
+pivot_place_in k m place due =
     omega (
       arith,
-      place_is,
+      pivot_among (width_of k) k.table.rows.items (number_at k.constants.items) place due,
       m.shaped.constants,
       members_long k.table.costs (length k.table.rows.items),
-      lines_long (stated k) m.whole,
-    ) in
-    subst (λ (line : List Fraction). pos 0 ≤ℤ (entry line 0).numerator) (get_or_default (stated k).lines.items place [] d place_is)
-    (entry_high k m place place_in (high place (pos 0) place_in))
+    )
+
+-- its constant is negative
+pub pivot_place_below : (k : Kernel) (place : ℕ) → IsPivotPlace k place → number_at k.constants.items place <ℤ pos 0
+pivot_place_below k place due = pivot_negative (width_of k) k.table.rows.items (number_at k.constants.items) place due
 
 -- a line that is put down, where it is positive at no column
 pub none_positive : (old new : Kernel) (place : ℕ) → KeepsNumbers old new → new.line.items ≡ numbers_of_place old place →

@@ -6,7 +6,7 @@ use Rattle.integer_pivots.specs.Leads.{AreLeads}
 use Rattle.integer_pivots.specs.Numbers.{AllWithin, greatest_of}
 use Rattle.integer_pivots.specs.Turns.{AreTouched, AreIntegralTurns, IsNumberTurned, IsTurnedRow, IsIntegralTurn, size_after, turn_of}
 use Rattle.table_kernel.specs.declared.kernel.Kernel.{Kernel}
-use Rattle.table_kernel.specs.Turns.{IsBestColumn, IsFoundNegative, along_numbers, numbers_of_place}
+use Rattle.table_kernel.specs.Turns.{IsBestColumn, IsPivotPlace, along_numbers, numbers_of_place}
 
 -- what the turn of a kernel needs of its numbers
 pub record IsReadyToTurn (k : Kernel) : Type 0 where
@@ -141,9 +141,9 @@ pub record IsRefusedAt (k : Kernel) (place column : ℕ) : Type 0 where
   pub along : k.along.items ≡ along_numbers k column
   pub refused : MayTurn k place column → ⊥
 
--- the pivot that is due, at the first form with a negative constant, isn't covered
+-- the pivot that is due, at the pivot form, isn't covered
 pub record IsHeldUp (k : Kernel) : Type 0 where
   pub place : ℕ
-  pub first : IsFoundNegative k (Some place)
+  pub due : IsPivotPlace k place
   pub column : ℕ
   pub refused : IsRefusedAt k place column

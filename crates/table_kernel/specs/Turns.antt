@@ -1,11 +1,12 @@
 -- What the work on a kernel needs and leaves: its room, the choice of a column, a turn, a row more, and another box.
-use Rattle.std.specs.Prelude.{◌≡◌, ◌≢◌, ℕ, ◌+◌, ◌*◌, ◌^◌, ◌<◌, ◌≤◌, List, [], ◌∷◌, ℤ, pos, ◌-ℤ◌, ◌*ℤ◌, ◌+ℤ◌, ◌<ℤ◌, ◌≤ℤ◌, nat_abs, Option, None, Some, map, length, vec_capacity, vec_len, All}
+use Rattle.std.specs.Prelude.{◌≡◌, ◌≢◌, ℕ, ◌+◌, ◌*◌, ◌^◌, ◌<◌, ◌≤◌, List, [], ◌∷◌, ℤ, pos, ◌-ℤ◌, ◌*ℤ◌, ◌+ℤ◌, ◌<ℤ◌, ◌≤ℤ◌, nat_abs, Option, None, Some, map, length, vec_capacity, vec_len}
 use Rattle.cost_base.specs.Lists.{numbers_from}
 use Rattle.whole_numbers.specs.Lists.{number_at}
 use Rattle.design_problem.specs.declared.form.CostBox.{CostBox}
 use Rattle.design_problem.specs.declared.form.Form.{Form}
 use Rattle.design_problem.specs.Basis.{member_form}
 use Rattle.design_problem.specs.Forms.{value_for_costs}
+use Rattle.fraction_table.specs.PivotForms.{IsPivotForm}
 use Rattle.fraction_table.specs.Pivots.{LeadsNoNegative, member_at, turned_column}
 use Rattle.fraction_table.specs.RowLines.{HasPlace}
 use Rattle.fraction_table.specs.ValidTables.{members_of_box}
@@ -58,11 +59,9 @@ IsBestColumn k (Some best) =
     (best < width_of k) × (pos 0 <ℤ number_at k.line.items best)
     × ((c : ℕ) → c < width_of k → c ≢ best → pos 0 <ℤ number_at k.line.items c → IsNotAfterInKernel k best c)
 
--- what a search for the first negative constant finds
-abbrev pub IsFoundNegative : Kernel → Option ℕ → Type 0
-IsFoundNegative k None = All (λ z. pos 0 ≤ℤ z) k.constants.items
-IsFoundNegative k (Some place) =
-    (place < length k.constants.items) × (number_at k.constants.items place <ℤ pos 0) × ((p : ℕ) → p < place → pos 0 ≤ℤ number_at k.constants.items p)
+-- the pivot form of a kernel, by its place
+abbrev pub IsPivotPlace : Kernel → ℕ → Type 0
+IsPivotPlace k place = IsPivotForm (width_of k) k.table.rows.items (number_at k.constants.items) place
 
 -- a form's constant at the basis, by those of x - low
 abbrev pub row_constant_of : Kernel → Form → ℤ

@@ -1,40 +1,94 @@
 //! The work towards an answer: pivots, until the constants show one.
-ghost use Rattle.std.specs.Prelude.{ℕ, ◌<◌, length, pos, ◌<ℤ◌, IfOk, OnErr};
+ghost use Rattle.std.specs.Prelude.{ℕ, ◌+◌, ◌<◌, ◌↔◌, length, pos, ◌<ℤ◌, IsTrue, IfOk, OnErr};
 ghost use Rattle.whole_numbers.specs.Lists.{number_at};
 ghost use Rattle.fraction_table.specs.declared.stage.Stage.TheVariants.{Ended};
+ghost use Rattle.fraction_table.specs.PivotForms.{IsFirstFound, IsPivotFormFound, IsShortestFound, row_constant};
 ghost use Rattle.fraction_table.specs.Pivots.{IsAhead, KeepsBoxAndRows};
 ghost use Rattle.fraction_table.specs.ValidTables.{IsShown};
-ghost use Rattle.table_kernel.specs.Kernels.{IsKernel, kernel_lines, stated};
+ghost use Rattle.table_kernel.specs.Kernels.{IsKernel, kernel_lines, stated, width_of};
 ghost use Rattle.table_kernel.specs.Turnings.{IsHeldUp, IsRefusedAt};
-ghost use Rattle.table_kernel.specs.Turns.{IsFoundNegative, KeepsNumbers};
+ghost use Rattle.table_kernel.specs.Turns.{IsPivotPlace, KeepsNumbers};
 
 use crate::Kernel;
 use crate::kernel::OutOfRange;
-use fraction_table::Solved;
+use fraction_table::{Solved, shorter_row};
 
 impl Kernel {
-    /// The first form with a negative constant.
-    fn first_negative(&self) -> Option<usize>
-        ensures { IsFoundNegative self.now result }
+    /// Whether the constant of a place's form is negative.
+    fn is_below(&self, place: usize) -> bool
+        requires { place < length self.now.constants.items }
+        ensures { IsTrue result ↔ (number_at self.now.constants.items place <ℤ pos 0) }
     {
-        for place in 0..self.constants.len() {
-            if self.constants[place] < 0 {
+        self.constants[place] < 0
+    }
+
+    /// The first form of the box with a negative constant: one x - low, or, where there is none, one high - x.
+    fn first_negative_bound(&self) -> Option<usize>
+        requires kernel { IsKernel self.now }
+        ensures { IsFirstFound (width_of self.now + width_of self.now) (number_at self.now.constants.items) result }
+    {
+        let width = self.width();
+        for place in 0..width + width {
+            if self.is_below(place) {
                 return Some(place);
             }
         }
         None
     }
 
-    /// Turns the kernel at a form whose constant is negative; or tells that the form refutes the box, where it is
-    /// positive at no column.
+    /// The shortest row so far with a negative constant, once one more was looked at.
+    fn look_at_row(&self, shortest: Option<usize>, row: usize) -> Option<usize>
+        requires kernel { IsKernel self.now }
+        requires row { row < length self.now.table.rows.items }
+        requires shortest { IsShortestFound row self.now.table.rows.items (row_constant (width_of self.now) (number_at self.now.constants.items)) shortest }
+        ensures { IsShortestFound (row + 1) self.now.table.rows.items (row_constant (width_of self.now) (number_at self.now.constants.items)) result }
+    {
+        let width = self.width();
+        if !self.is_below(width + width + row) {
+            return shortest;
+        }
+        match shortest {
+            None => Some(row),
+            Some(earlier) => Some(shorter_row(self.table.rows.as_slice(), earlier, row)),
+        }
+    }
+
+    /// Of the rows with a negative constant the one with the fewest terms, of equals the first.
+    fn shortest_negative_row(&self) -> Option<usize>
+        requires kernel { IsKernel self.now }
+        ensures { IsShortestFound (length self.now.table.rows.items) self.now.table.rows.items (row_constant (width_of self.now) (number_at self.now.constants.items)) result }
+    {
+        let mut shortest = None;
+        for row in 0..self.table.rows.len() {
+            shortest = self.look_at_row(shortest, row);
+        }
+        shortest
+    }
+
+    /// The pivot form, by its place: the first form x - low with a negative constant, else the first form high - x with
+    /// one, else of the rows with one the row with the fewest terms, of equals the first.
+    pub fn pivot_form(&self) -> Option<usize>
+        requires kernel { IsKernel self.now }
+        ensures { IsPivotFormFound (width_of self.now) self.now.table.rows.items (number_at self.now.constants.items) result }
+    {
+        if let Some(place) = self.first_negative_bound() {
+            return Some(place);
+        }
+        let width = self.width();
+        match self.shortest_negative_row() {
+            None => None,
+            Some(row) => Some(width + width + row),
+        }
+    }
+
+    /// Turns the kernel at the pivot form; or tells that the form refutes the box, where it is positive at no column.
     ///
     /// # Errors
     ///
     /// `OutOfRange` where the bounds don't cover that. Then the kernel's numbers are as before.
     fn raise(&mut self, place: usize) -> Result<Option<Solved>, OutOfRange>
         requires kernel { IsKernel self.old }
-        requires place { place < length self.old.constants.items }
-        requires below { number_at self.old.constants.items place <ℤ pos 0 }
+        requires due { IsPivotPlace self.old place }
         ensures kernel { IsKernel self.new }
         ensures ahead { IfOk result (λ solved. IsAhead (stated self.old) (stated self.new) solved) }
         ensures keeps { KeepsBoxAndRows (stated self.old) (stated self.new) }
@@ -51,8 +105,7 @@ impl Kernel {
         }
     }
 
-    /// One step towards the answer: the answer, where the constants show it, and else a pivot at the first form with a
-    /// negative constant.
+    /// One step towards the answer: the answer, where the constants show it, and else a pivot at the pivot form.
     ///
     /// # Errors
     ///
@@ -64,7 +117,7 @@ impl Kernel {
         ensures keeps { KeepsBoxAndRows (stated self.old) (stated self.new) }
         ensures held_up { OnErr result (IsHeldUp self.new) }
     {
-        match self.first_negative() {
+        match self.pivot_form() {
             None => Ok(Some(Solved::Feasible)),
             Some(place) => self.raise(place),
         }

@@ -1,7 +1,7 @@
 use Rattle.std.proofs.Common.{refl, ◌∙◌, sym, subst}
 use Rattle.std.specs.Prelude.{All}
 use Rattle.std.proofs.lemmas.Result.{IfOk-weaker}
-use Rattle.form_search.proofs.AdvisorLaws.{left_alike}
+use Rattle.form_search.proofs.AdvisorLaws.{left_advised, left_alike}
 use Rattle.cost_branching.specs.Pools.{IsRowPool, Pooled}
 use Rattle.cost_branching.specs.Rivals.{IsTrueRowForm, KnownRows}
 use Rattle.cost_branching.proofs.Caps.{pool_as, pool_true}
@@ -26,3 +26,9 @@ returns-clause-pool g c =
     (λ found in_step. pool_as c.args.problem.now source.problem source.rows c.into_rows.result.items forms
     (c.into_rows.ensures.problem ∙ sym c.requires.problem) c.into_rows.ensures.rows in_step)
     c.search-found.ensures.in_step
+
+pub returns-clause-advisors : goal.returns-clause-advisors
+returns-clause-advisors g c =
+    let called = c.search-found.ensures.advisors in
+    left_advised _ _ (λ b. (goal.Advisor-dyn g (b.vtable, b.value)).would) (λ b. (goal.Advisor-dyn g (b.vtable, b.value)).left)
+    (λ b. (goal.Advisor-dyn g (b.vtable, b.value)).after) _ _ called.tree _ _ called.calls (λ b point least. least.inside)

@@ -1,15 +1,13 @@
 use Rattle.std.proofs.Common.{ℕ, refl, List}
-use Rattle.std.proofs.lemmas.Result.{IfOk-weaker}
+use Rattle.std.proofs.lemmas.Result.{IfOk-weaker, err_from_is_err_and}
 use Rattle.design_problem.specs.declared.tree.Side.{Side}
 use Rattle.design_problem.specs.Forms.{Form}
+use Rattle.design_problem.specs.Earnest.{IsLeastPoint}
 use Rattle.form_search.specs.declared.turn.Next.{Next}
 use Rattle.form_search.specs.Turns.{IsNextStep}
-use Rattle.form_search.proofs.AdvisorLaws.{left_alike}
-use Rattle.form_search.proofs.OtherSources.{next_same}
+use Rattle.form_search.proofs.AdvisorLaws.{asked_next_there, halve_ready}
+use Rattle.form_search.proofs.OtherSources.{least_same, next_same, swapped}
 use Rattle.form_search.proofs.at_box.at_box.Goals as goal
-
-pub returns-in_err-relax-clause-advisors : goal.returns-in_err-relax-clause-advisors
-returns-in_err-relax-clause-advisors g c = left_alike _ _ _ refl
 
 pub returns-in-Accepted-clause-next : goal.returns-in-Accepted-clause-next
 returns-in-Accepted-clause-next g c =
@@ -25,8 +23,19 @@ returns-in-Accepted-clause-next g c =
     (record { box = costs; since = since }) next c.relax.ensures.same.same_points (is c.args.top old new since) in
     IfOk-weaker _ _ _ here c.at_least_point.ensures.next
 
-pub returns-in-Refuted-clause-advisors : goal.returns-in-Refuted-clause-advisors
-returns-in-Refuted-clause-advisors g c = left_alike _ _ _ refl
+pub returns-in_err-relax-clause-asked : goal.returns-in_err-relax-clause-asked
+returns-in_err-relax-clause-asked g c =
+    let p = err_from_is_err_and c.from_residual.result c.from_residual.ensures.1 in
+    rw p.1 refl
 
-pub returns-in-Wide-clause-advisors : goal.returns-in-Wide-clause-advisors
-returns-in-Wide-clause-advisors g c = left_alike _ _ _ refl
+pub returns-in-Accepted-clause-asked : goal.returns-in-Accepted-clause-asked
+returns-in-Accepted-clause-asked g c =
+    let Accepted = g.S.RowSource.accepted in
+    let old = c.args.source.now in
+    let new = c.relax.new.source in
+    asked_next_there (IsLeastPoint (Accepted new)) (IsLeastPoint (Accepted old)) _ c.args.costs.now c.at_least_point.result _ _
+    (λ b point least. least_same (Accepted new) (Accepted old) b point (swapped (Accepted old) (Accepted new) c.relax.ensures.same.same_points) least)
+    c.at_least_point.ensures.asked
+
+pub returns-in-Wide-clause-asked : goal.returns-in-Wide-clause-asked
+returns-in-Wide-clause-asked g c = halve_ready _ _ _ _ _ _ _ c.halved.ensures refl

@@ -1,15 +1,18 @@
-use Rattle.std.proofs.Common.{refl, subst}
+use Rattle.std.proofs.Common.{refl, sym, subst}
+use Rattle.std.proofs.lemmas.Result.{err_from_is_err_and}
 use Rattle.area_graph.specs.declared.Point.{Point}
+use Rattle.design_problem.specs.declared.form.CostBox.{CostBox}
+use Rattle.design_problem.specs.Earnest.{IsLeastPoint}
+use Rattle.form_search.specs.Advised.{IsAt}
 use Rattle.form_search.specs.Turns.{IsSplitAt}
-use Rattle.form_search.proofs.AdvisorLaws.{left_alike}
+use Rattle.form_search.proofs.AdvisorLaws.{ready_there}
 use Rattle.form_search.proofs.NextEntries.{next_split_at}
 use Rattle.form_search.proofs.at_box.at_least_point.Goals as goal
 
-pub returns-in_err-found-clause-advisors : goal.returns-in_err-found-clause-advisors
-returns-in_err-found-clause-advisors g c = left_alike _ _ _ refl
-
-pub returns-in-Some-clause-advisors : goal.returns-in-Some-clause-advisors
-returns-in-Some-clause-advisors g c = left_alike _ _ _ refl
+pub returns-in_err-found-clause-asked : goal.returns-in_err-found-clause-asked
+returns-in_err-found-clause-asked g c =
+    let p = err_from_is_err_and c.from_residual.result c.from_residual.ensures.1 in
+    rw p.1 refl
 
 pub returns-in_ok-split_there-in-None-clause-next : goal.returns-in_ok-split_there-in-None-clause-next
 returns-in_ok-split_there-in-None-clause-next g c = λ top old new since.
@@ -17,3 +20,18 @@ returns-in_ok-split_there-in-None-clause-next g c = λ top old new since.
     next_split_at (g.S.RowSource.accepted c.args.source.now) top (g.S.RowSource.count c.args.source.now) new (record { box = c.args.costs.now; since = since })
     c.args.point.now entry c.requires.ranges.is_box c.requires.least.least
     (subst (λ (p : Point). IsSplitAt c.args.costs.now p entry) c.costs_there.ensures.point c.in_ok-split_there-in-None.ensures.split)
+
+pub returns-in_ok-split_there-in-None-clause-asked : goal.returns-in_ok-split_there-in-None-clause-asked
+returns-in_ok-split_there-in-None-clause-asked g c =
+    let Accepted = g.S.RowSource.accepted c.args.source.now in
+    let least : IsLeastPoint Accepted c.args.costs.now c.costs_there.new.point =
+    subst (λ (p : Point). IsLeastPoint Accepted c.args.costs.now p) (sym c.costs_there.ensures.point) c.requires.least.least in
+    ready_there (IsAt c.args.costs.now c.costs_there.new.point) (IsLeastPoint Accepted) _ c.args.costs.now c.in_ok-split_there-in-None.field-0 _ _
+    (λ b q is. subst (λ (r : Point). IsLeastPoint Accepted b r) (sym is.1)
+    (subst (λ (x : CostBox). IsLeastPoint Accepted x c.costs_there.new.point) (sym is.0) least))
+    c.in_ok-split_there-in-None.ensures.asked
+
+pub returns-in_err-split_there-in-None-clause-asked : goal.returns-in_err-split_there-in-None-clause-asked
+returns-in_err-split_there-in-None-clause-asked g c =
+    let p = err_from_is_err_and c.from_residual-in_err-split_there-in-None.result c.from_residual-in_err-split_there-in-None.ensures.1 in
+    rw p.1 c.in_err-split_there-in-None.ensures.asked

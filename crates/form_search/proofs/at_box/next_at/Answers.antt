@@ -1,20 +1,14 @@
 use Rattle.std.proofs.Common.{ℕ, refl, ◌∙◌, subst, List}
-use Rattle.std.specs.Prelude.{IfOk}
-use Rattle.std.proofs.lemmas.Result.{IfOk-weaker, on_ok_weaker}
+use Rattle.std.specs.Prelude.{IfOk, IfSome, Option}
+use Rattle.std.proofs.lemmas.Result.{IfOk-weaker, err_from_is_err_and, on_ok_weaker}
 use Rattle.design_problem.specs.declared.form.CostBox.{CostBox}
+use Rattle.design_problem.specs.declared.tree.Entry.{Entry}
 use Rattle.design_problem.specs.declared.tree.Side.{Side}
 use Rattle.design_problem.specs.OpenPlaces.{first_place}
 use Rattle.form_search.specs.declared.turn.Next.{Next}
-use Rattle.form_search.specs.Turns.{IsNextStep, IsWatch}
-use Rattle.form_search.proofs.AdvisorLaws.{left_alike}
-use Rattle.form_search.proofs.Relaxing.{kept_more}
+use Rattle.form_search.specs.Turns.{IsNextRow, IsNextStep, IsWatch}
+use Rattle.form_search.proofs.AdvisorLaws.{asked_in, row_ready, unsplit_ready}
 use Rattle.form_search.proofs.at_box.next_at.Goals as goal
-
-pub returns-in_err-entry-clause-advisors : goal.returns-in_err-entry-clause-advisors
-returns-in_err-entry-clause-advisors g c = left_alike _ _ _ refl
-
-pub returns-in-Some-clause-advisors : goal.returns-in-Some-clause-advisors
-returns-in-Some-clause-advisors g c = left_alike _ _ _ refl
 
 pub returns-then-is_one_point-clause-next : goal.returns-then-is_one_point-clause-next
 returns-then-is_one_point-clause-next g c =
@@ -27,17 +21,12 @@ pub returns-then-is_one_point-clause-desk : goal.returns-then-is_one_point-claus
 returns-then-is_one_point-clause-desk g c =
     let desk = c.requires.desk in
     let n = g.S.RowSource.count c.args.source.now in
-    let grows = c.at_one_point.ensures.grows in
     on_ok_weaker c.at_one_point.result
     (λ _. record {
       watch = subst (λ (m : ℕ). IsWatch m c.propagated.new.watch) c.requires.ranges.is_box.low_count c.propagated.ensures.watch;
-      table = kept_more c.args.top n c.args.pool.now c.at_one_point.new.pool grows.more c.args.desk.now.table grows.same desk.table;
       point = c.at_one_point.ensures.places ∙ desk.point;
     })
     c.at_one_point.ensures.in_step
-
-pub returns-then-is_one_point-clause-advisors : goal.returns-then-is_one_point-clause-advisors
-returns-then-is_one_point-clause-advisors g c = left_alike _ _ _ refl
 
 pub returns-else-is_one_point-clause-next : goal.returns-else-is_one_point-clause-next
 returns-else-is_one_point-clause-next g c =
@@ -46,3 +35,21 @@ returns-else-is_one_point-clause-next g c =
     let here : (next : Next) → ((since : List (ℕ × Side)) → IsHere (record { box = c.costs-costs.result.now; since = since }) next) → IsHere place next =
     λ next is. subst (λ (box : CostBox). IsHere (record { box = box; since = place.since }) next) (c.costs-costs.ensures c.requires.open) (is place.since) in
     IfOk-weaker _ _ _ here c.at_box.ensures.next
+
+pub returns-in_err-entry-clause-asked : goal.returns-in_err-entry-clause-asked
+returns-in_err-entry-clause-asked g c =
+    let p = err_from_is_err_and c.from_residual.result c.from_residual.ensures.1 in
+    rw p.1 refl
+
+pub returns-in-Some-clause-asked : goal.returns-in-Some-clause-asked
+returns-in-Some-clause-asked g c =
+    let place = first_place c.args.tree.now.places in
+    row_ready _ _ c.args.pool.now place place.box c.in-Some.entry _ _
+    (subst (λ (o : Option Entry). IfSome o (IsNextRow c.args.pool.now place)) c.in-Some.is c.in_ok-entry.ensures.entry) refl
+
+pub returns-then-is_one_point-clause-asked : goal.returns-then-is_one_point-clause-asked
+returns-then-is_one_point-clause-asked g c = unsplit_ready _ _ _ c.at_one_point.result _ _ c.at_one_point.ensures.unsplit refl
+
+pub returns-else-is_one_point-clause-asked : goal.returns-else-is_one_point-clause-asked
+returns-else-is_one_point-clause-asked g c =
+    asked_in _ _ _ _ c.at_box.result _ _ (c.costs-costs.ensures c.requires.open) c.at_box.ensures.asked

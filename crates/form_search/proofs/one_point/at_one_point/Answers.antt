@@ -1,8 +1,11 @@
-use Rattle.std.proofs.Common.{◌<◌, refl, subst, List, length}
+use Rattle.std.proofs.Common.{◌<◌, refl, sym, subst, List, length}
 use Rattle.std.specs.Prelude.{pos, ◌<ℤ◌}
 use Rattle.design_problem.specs.Forms.{Form}
 use Rattle.design_problem.specs.Boxes.{greatest}
 use Rattle.design_problem.specs.Forms.{form_at}
+use Rattle.design_problem.specs.declared.tree.Entry.{Entry}
+use Rattle.form_search.specs.declared.turn.Next.TheVariants.{Entry as ByEntry}
+use Rattle.form_search.specs.Turns.{IsUnsplit}
 use Rattle.form_search.proofs.NextEntries.{next_refute, row_next}
 use Rattle.form_search.proofs.one_point.at_one_point.Goals as goal
 
@@ -15,3 +18,6 @@ returns-in_ok-refute_by-in-Some-clause-next g c top since =
     row_next (g.S.RowSource.accepted c.args.source.now) top pool (record { box = costs; since = since }) c.in_ok-refute_by-in-Some.field-0
     (next_refute pool row (record { box = costs; since = since }) (form_at pool row) costs
     c.in_ok-refute_by-in-Some.field-0 found.0 refl refl found.1 c.in_ok-refute_by-in-Some.ensures)
+
+pub returns-in_ok-refute_by-in-Some-clause-unsplit : goal.returns-in_ok-refute_by-in-Some-clause-unsplit
+returns-in_ok-refute_by-in-Some-clause-unsplit g c = subst (λ (e : Entry). IsUnsplit (ByEntry e)) (sym c.in_ok-refute_by-in-Some.ensures) tt

@@ -1,21 +1,28 @@
-use Rattle.std.proofs.Common.{ℕ, ◌∙◌, refl, sym, subst, List, Continue, Break}
+use Rattle.std.proofs.Common.{ℕ, ◌∙◌, refl, sym, subst, inl, List, Ok, Continue, Break}
+use Rattle.std.proofs.lemmas.Result.{err_from_is_err_and}
 use Rattle.std.proofs.lemmas.Bool.{false≢true}
 use Rattle.design_problem.specs.declared.tree.Entry.{Entry}
 use Rattle.design_problem.specs.OpenPlaces.{Growing, first_place}
+use Rattle.design_problem.specs.Earnest.{IsLeastPoint}
 use Rattle.form_search.specs.declared.found.Found.TheVariants.{Refuted}
 use Rattle.form_search.specs.Finds.{IsSearchResult}
 use Rattle.form_search.specs.Points.{IsCostsBox}
 use Rattle.form_search.specs.Turns.{IsDesk}
-use Rattle.form_search.proofs.AdvisorLaws.{left_alike, left_then}
+use Rattle.form_search.proofs.AdvisorLaws.{along_begun, along_next, asked_next_there, calls_begun, calls_end, start, tree_found, wanting_end}
+use Rattle.form_search.proofs.OtherSources.{least_same, swapped}
 use Rattle.form_search.proofs.SourceLaws.{grows_none, grows_then, same_alike, same_then, trues_kept}
 use Rattle.form_search.proofs.GrowingTrees.{IsGrowing, ended_whole, first_costs, first_in, growing_ends, growing_start, turn_falls, turn_shown, undone_whole}
 use Rattle.form_search.proofs.searching.search.Goals as goal
 
 pub returns-in_err-tree-clause-advisors : goal.returns-in_err-tree-clause-advisors
-returns-in_err-tree-clause-advisors g c = left_alike _ _ _ refl
+returns-in_err-tree-clause-advisors g c =
+    let p = err_from_is_err_and c.from_residual.result c.from_residual.ensures.1 in
+    rw (p.1, p.2) (record { tree = start c.args.costs.now; is_tree = tt; calls = calls_begun _ _ _ _ _ })
 
 pub returns-in_err-desk-clause-advisors : goal.returns-in_err-desk-clause-advisors
-returns-in_err-desk-clause-advisors g c = left_alike _ _ _ refl
+returns-in_err-desk-clause-advisors g c =
+    let p = err_from_is_err_and c.from_residual-in_err-desk.result c.from_residual-in_err-desk.ensures.1 in
+    rw (p.1, p.2) (record { tree = start c.args.costs.now; is_tree = tt; calls = calls_begun _ _ _ _ _ })
 
 pub boxes-init : goal.boxes-init
 boxes-init g c =
@@ -31,10 +38,10 @@ boxes-init g c =
       growing =
           subst (λ (tree : Growing). IsGrowing (Accepted source) limits.top limits.nodes pool costs tree) (sym c.in_ok-tree.ensures.tree)
           (growing_start (Accepted source) limits.top limits.nodes pool costs);
-      desk = subst (λ (n : ℕ). IsDesk limits.top n pool desk) c.requires.ranges.low_count (c.in_ok-desk.ensures limits.top pool);
+      desk = subst (λ (n : ℕ). IsDesk n desk) c.requires.ranges.low_count c.in_ok-desk.ensures;
       grows = grows_none (IsTrue source) pool;
       same = same_alike g.S.RowSource.count Accepted IsTrue g.S.RowSource.candidates source;
-      advisors = left_alike _ _ _ refl;
+      advisors = along_begun _ _ _ costs c.in_ok-tree.tree c.args.advisors.now.items c.in_ok-tree.ensures.tree;
     }
 
 pub next_at-requires-clause-true_forms : goal.next_at-requires-clause-true_forms
@@ -64,7 +71,13 @@ returns-in_err-next-clause-grows g c =
     was.same.same_forms was.grows c.next_at.ensures.grows
 
 pub returns-in_err-next-clause-advisors : goal.returns-in_err-next-clause-advisors
-returns-in_err-next-clause-advisors g c = left_then _ _ _ _ c.boxes.invariant.advisors c.next_at.ensures.advisors
+returns-in_err-next-clause-advisors g c =
+    let p = err_from_is_err_and c.from_residual-in_err-next.result c.from_residual-in_err-next.ensures.1 in
+    rw (p.1, p.2) (record {
+      tree = c.boxes.tree;
+      is_tree = tt;
+      calls = record { left = c.boxes.advisors.items; along = c.boxes.invariant.advisors; last = inl c.in_err-next.ensures.asked };
+    })
 
 pub turn-requires-clause-whole : goal.turn-requires-clause-whole
 turn-requires-clause-whole g c =
@@ -79,7 +92,16 @@ returns-in_err-longer-clause-grows g c =
     was.same.same_forms was.grows c.next_at.ensures.grows
 
 pub returns-in_err-longer-clause-advisors : goal.returns-in_err-longer-clause-advisors
-returns-in_err-longer-clause-advisors g c = left_then _ _ _ _ (left_then _ _ _ _ c.boxes.invariant.advisors c.next_at.ensures.advisors) c.turn.ensures.advisors
+returns-in_err-longer-clause-advisors g c =
+    let Accepted = g.S.RowSource.accepted in
+    let asked = asked_next_there (IsLeastPoint (Accepted c.boxes.source)) (IsLeastPoint (Accepted c.args.source.now)) _
+    (first_place c.boxes.tree.places).box (Ok c.in_ok-next.next) _ _
+    (λ b point least. least_same (Accepted c.boxes.source) (Accepted c.args.source.now) b point
+    (swapped (Accepted c.args.source.now) (Accepted c.boxes.source) c.boxes.invariant.same.same_points) least)
+    c.in_ok-next.ensures.asked in
+    let end = wanting_end _ _ _ c.args.costs.now c.boxes.tree c.in_ok-next.next _ _ _ _ c.boxes.invariant.advisors asked c.in_err-longer.ensures.told in
+    let p = err_from_is_err_and c.from_residual-in_err-longer.result c.from_residual-in_err-longer.ensures.1 in
+    rw (p.1, p.2) (record { tree = end.0; is_tree = tt; calls = end.1 })
 
 pub boxes-smaller : goal.boxes-smaller
 boxes-smaller g c =
@@ -107,6 +129,11 @@ boxes-preserved g c =
     let grows = c.next_at.ensures.grows in
     let next = c.in_ok-next.ensures in
     let turn = c.in_ok-longer in
+    let asked = asked_next_there (IsLeastPoint (Accepted c.boxes.source)) (IsLeastPoint (Accepted source)) _
+    (first_place tree.places).box (Ok c.in_ok-next.next) _ _
+    (λ b point least. least_same (Accepted c.boxes.source) (Accepted source) b point
+    (swapped (Accepted source) (Accepted c.boxes.source) was.same.same_points) least)
+    next.asked in
     record {
       in_step = next.in_step;
       growing =
@@ -114,14 +141,16 @@ boxes-preserved g c =
           (g.S.RowSource.count source) c.boxes.pool now.pool costs tree c.in_ok-next.next turn.field-0 (Continue c.in-Continue.longer)
           c.requires.ranges was.same.same_points grows was.growing (c.is_open.ensures.0 c.boxes-test.true) next.next
           turn.ensures.outcome c.in-Continue.is;
-      desk = subst (λ (n : ℕ). IsDesk limits.top n now.pool now.desk) was.same.same_count next.desk;
+      desk = subst (λ (n : ℕ). IsDesk n now.desk) was.same.same_count next.desk;
       grows =
           grows_then (IsTrue source) (IsTrue c.boxes.source) c.args.pool.now c.boxes.pool now.pool was.same.same_forms
           was.grows grows;
       same =
           same_then g.S.RowSource.count Accepted IsTrue g.S.RowSource.candidates source c.boxes.source now.source was.same
           c.next_at.ensures.same;
-      advisors = left_then _ _ _ _ (left_then _ _ _ _ was.advisors c.next_at.ensures.advisors) c.turn.ensures.advisors;
+      advisors =
+          along_next _ _ _ costs limits.nodes tree c.in-Continue.longer c.in_ok-next.next turn.field-0 _ _ _ _ was.advisors
+          asked turn.ensures.told c.in-Continue.is turn.ensures.outcome;
     }
 
 pub returns-in-Break-clause-found : goal.returns-in-Break-clause-found
@@ -144,7 +173,20 @@ returns-in-Break-clause-grows g c =
     was.same.same_forms was.grows c.next_at.ensures.grows
 
 pub returns-in-Break-clause-advisors : goal.returns-in-Break-clause-advisors
-returns-in-Break-clause-advisors g c = left_then _ _ _ _ (left_then _ _ _ _ c.boxes.invariant.advisors c.next_at.ensures.advisors) c.turn.ensures.advisors
+returns-in-Break-clause-advisors g c =
+    let Accepted = g.S.RowSource.accepted in
+    let asked = asked_next_there (IsLeastPoint (Accepted c.boxes.source)) (IsLeastPoint (Accepted c.args.source.now)) _
+    (first_place c.boxes.tree.places).box (Ok c.in_ok-next.next) _ _
+    (λ b point least. least_same (Accepted c.boxes.source) (Accepted c.args.source.now) b point
+    (swapped (Accepted c.args.source.now) (Accepted c.boxes.source) c.boxes.invariant.same.same_points) least)
+    c.in_ok-next.ensures.asked in
+    record {
+      tree = c.boxes.tree;
+      is_tree = tree_found c.args.limits.now.nodes c.boxes.tree c.in_ok-next.next c.in-Break.found (sym c.in-Break.is ∙ c.in_ok-longer.ensures.outcome);
+      calls =
+          calls_end _ _ _ c.args.costs.now c.boxes.tree c.in_ok-next.next c.in_ok-longer.field-0 c.in-Break.found _ _ _ _
+          c.boxes.invariant.advisors asked c.in_ok-longer.ensures.told c.in-Break.is;
+    }
 
 pub into_tree-requires : goal.into_tree-requires
 into_tree-requires g c =
@@ -160,3 +202,10 @@ returns-clause-found g c =
     subst (λ (tree : List Entry). IsSearchResult Accepted limits.top limits.nodes c.boxes.pool costs (Refuted tree)) (sym c.into_tree.ensures)
     (growing_ends Accepted limits.top limits.nodes c.boxes.pool costs c.boxes.tree c.boxes.invariant.growing
     (λ some. false≢true (sym c.boxes-test.false ∙ c.is_open.ensures.1 some)))
+
+pub returns-clause-advisors : goal.returns-clause-advisors
+returns-clause-advisors g c = record {
+  tree = c.boxes.tree;
+  is_tree = c.into_tree.ensures;
+  calls = record { left = c.boxes.advisors.items; along = c.boxes.invariant.advisors; last = inl refl };
+}

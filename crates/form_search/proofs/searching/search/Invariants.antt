@@ -1,5 +1,6 @@
 use Rattle.std.proofs.Common.{◌≡◌}
-use Rattle.form_search.specs.Advised.{AreAdvisorsLeft, IsCalled}
+use Rattle.design_problem.specs.Earnest.{IsLeastPoint}
+use Rattle.form_search.specs.Advised.{AreAllTold, AreCalledAlong, IsPick}
 use Rattle.form_search.specs.Sources.{Grows, SameSource}
 use Rattle.form_search.specs.Turns.{IsDesk}
 use Rattle.form_search.proofs.GrowingTrees.{IsGrowing, left_of}
@@ -9,13 +10,15 @@ abbrev pub invariant-boxes : goal.invariant-boxes
 invariant-boxes g l = record {
   in_step : g.S.RowSource.in_step l.source l.pool;
   growing : IsGrowing (g.S.RowSource.accepted l.initial.source) l.limits.top l.limits.nodes l.pool l.costs l.tree;
-  desk : IsDesk l.limits.top (g.S.RowSource.count l.initial.source) l.pool l.desk;
+  desk : IsDesk (g.S.RowSource.count l.initial.source) l.desk;
   grows : Grows (g.S.RowSource.true_form l.initial.source) l.initial.pool l.pool;
   same : SameSource g.S.RowSource.count g.S.RowSource.accepted g.S.RowSource.true_form g.S.RowSource.candidates l.initial.source l.source;
-  advisors : AreAdvisorsLeft
-      (IsCalled (λ b c. c.vtable ≡ b.vtable) (λ b. (goal.Advisor-dyn g (b.vtable, b.value)).state b.value)
-      (λ b. (goal.Advisor-dyn g (b.vtable, b.value)).left) (λ b. (goal.Advisor-dyn g (b.vtable, b.value)).after))
-      l.initial.advisors.items l.advisors.items;
+  advisors : AreCalledAlong (IsLeastPoint (g.S.RowSource.accepted l.initial.source))
+      (IsPick (λ b c. c.vtable ≡ b.vtable) (λ b. (goal.Advisor-dyn g (b.vtable, b.value)).state b.value)
+      (λ b. (goal.Advisor-dyn g (b.vtable, b.value)).would) (λ b. (goal.Advisor-dyn g (b.vtable, b.value)).left))
+      (AreAllTold (λ b c. c.vtable ≡ b.vtable) (λ b. (goal.Advisor-dyn g (b.vtable, b.value)).state b.value)
+      (λ b. (goal.Advisor-dyn g (b.vtable, b.value)).after))
+      l.costs l.tree l.initial.advisors.items l.advisors.items;
 }
 
 abbrev pub decreases-boxes : goal.decreases-boxes

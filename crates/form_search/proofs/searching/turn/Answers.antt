@@ -1,11 +1,9 @@
-use Rattle.std.proofs.Common.{refl, inr, length, ap, ◌∙◌, arith}
+use Rattle.std.proofs.Common.{refl, inl, inr, length, ap, ◌∙◌, arith}
+use Rattle.std.proofs.lemmas.Result.{err_from_is_err_and}
 use Rattle.design_problem.specs.OpenPlaces.{Growing}
-use Rattle.form_search.proofs.AdvisorLaws.{left_alike, left_told}
+use Rattle.form_search.proofs.AdvisorLaws.{told_entry, told_forms}
 use Rattle.form_search.proofs.GrowingTrees.{turned_full}
 use Rattle.form_search.proofs.searching.turn.Goals as goal
-
-pub returns-in_err-undone-in-Entry-clause-advisors : goal.returns-in_err-undone-in-Entry-clause-advisors
-returns-in_err-undone-in-Entry-clause-advisors g c = left_alike _ _ _ refl
 
 pub returns-then-entries-nodes-clause-outcome : goal.returns-then-entries-nodes-clause-outcome
 returns-then-entries-nodes-clause-outcome g c =
@@ -13,17 +11,21 @@ returns-then-entries-nodes-clause-outcome g c =
     (omega (arith, c.if-entries-nodes.true, ap length c.entries.ensures))
     (c.into_tree.ensures ∙ ap (λ (tree : Growing). tree.entries) c.in_ok-undone-in-Entry.ensures)
 
-pub returns-then-entries-nodes-clause-advisors : goal.returns-then-entries-nodes-clause-advisors
-returns-then-entries-nodes-clause-advisors g c = left_alike _ _ _ refl
+pub returns-in_err-undone-in-Entry-clause-told : goal.returns-in_err-undone-in-Entry-clause-told
+returns-in_err-undone-in-Entry-clause-told g c =
+    let p = err_from_is_err_and c.from_residual.result c.from_residual.ensures.1 in
+    rw p.1 (inl refl)
 
-pub returns-in_err-with_told-in-Entry-clause-advisors : goal.returns-in_err-with_told-in-Entry-clause-advisors
-returns-in_err-with_told-in-Entry-clause-advisors g c = left_told _ _ (λ a b called. (called.0, inr (_, called.1))) _ _ c.with_told.ensures.told
+pub returns-then-entries-nodes-clause-told : goal.returns-then-entries-nodes-clause-told
+returns-then-entries-nodes-clause-told g c = refl
 
-pub returns-in-Forms-clause-advisors : goal.returns-in-Forms-clause-advisors
-returns-in-Forms-clause-advisors g c = left_alike _ _ _ refl
+pub returns-in_err-with_told-in-Entry-clause-told : goal.returns-in_err-with_told-in-Entry-clause-told
+returns-in_err-with_told-in-Entry-clause-told g c =
+    let p = err_from_is_err_and c.from_residual-in_err-with_told-in-Entry.result c.from_residual-in_err-with_told-in-Entry.ensures.1 in
+    rw p.1 (inr (told_entry _ c.args.next c.in-Entry.entry _ _ c.in-Entry.is c.with_told.ensures.told))
 
-pub returns-in-Costs-clause-advisors : goal.returns-in-Costs-clause-advisors
-returns-in-Costs-clause-advisors g c = left_alike _ _ _ refl
+pub returns-in_ok-with_told-in-Entry-clause-told : goal.returns-in_ok-with_told-in-Entry-clause-told
+returns-in_ok-with_told-in-Entry-clause-told g c = told_entry _ c.args.next c.in-Entry.entry _ _ c.in-Entry.is c.with_told.ensures.told
 
-pub returns-in_ok-with_told-in-Entry-clause-advisors : goal.returns-in_ok-with_told-in-Entry-clause-advisors
-returns-in_ok-with_told-in-Entry-clause-advisors g c = left_told _ _ (λ a b called. (called.0, inr (_, called.1))) _ _ c.with_told.ensures.told
+pub returns-in-Forms-clause-told : goal.returns-in-Forms-clause-told
+returns-in-Forms-clause-told g c = told_forms _ c.args.next _ _ c.in-Forms.is refl
