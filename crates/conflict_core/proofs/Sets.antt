@@ -1,9 +1,10 @@
 -- Sets of requests: fewer requests, the rows of a restricted problem in the whole one, and conflicts that are refuted.
-use Rattle.std.proofs.Common.{◌≡◌, ℕ, zero, suc, ◌+◌, ◌<◌, ◌≤◌, refl, sym, ◌∙◌, ap, subst, inl, inr, List, [], ◌∷◌, ◌++◌, map, length, get_or, arith}
+use Rattle.std.proofs.Common.{◌≡◌, ℕ, zero, suc, ◌≢◌, ◌+◌, ◌-◌, ◌<◌, ◌==◌, eq-eqb, false, ◌≤◌, refl, sym, ◌∙◌, ap, subst, inl, inr, List, [], ◌∷◌, ◌++◌, map, length, get_or, arith}
 use Rattle.std.specs.Prelude.{All, AllPairs, Contains, slice_get, slice_index, Option, None, Some}
-use Rattle.std.specs.List.{remove}
-use Rattle.std.proofs.lemmas.Bool.{cases_lt}
+use Rattle.std.specs.List.{list_any, remove}
+use Rattle.std.proofs.lemmas.Bool.{both_ways, cases_lt, false_from_ne_true, or_left, or_right}
 use Rattle.std.proofs.lemmas.List.{length-map, get_or-map, get_or_default}
+use Rattle.std.proofs.lemmas.List.Elements.{All-cons}
 use Rattle.std.proofs.lemmas.List.Edits.{get_or-remove_below, get_or-remove_above, length-remove}
 use Rattle.std.proofs.lemmas.List.Kept.{AllPairs-from_increasing}
 use Rattle.std.proofs.lemmas.List.Quantifiers.{all_pairs_remove}
@@ -13,18 +14,21 @@ use Rattle.cost_base.proofs.ListLemmas.{get_or-map-numbers_from, get_or-numbers_
 use Rattle.area_graph.specs.Area.{Area}
 use Rattle.area_graph.specs.Costs.{IsOnlyCheapest, at_costs}
 use Rattle.design_problem.specs.declared.problem.Request.{Request}
+use Rattle.design_problem.specs.declared.form.Form.{Form}
+use Rattle.design_problem.specs.declared.tree.Entry.{Entry}
 use Rattle.design_problem.specs.declared.form.Row.{Row}
 use Rattle.design_problem.specs.Problems.{DesignProblem, IsProblem, request_ends, no_request, request_at, restricted}
 use Rattle.design_problem.specs.Rows.{IsFit, IsRivalOf, IsRow, LeadsEach, box_of, form_between, form_of_row, forms_of_rows, path_edges}
 use Rattle.design_problem.specs.Boxes.{capped}
-use Rattle.design_problem.specs.Answers.{greatest_bound}
+use Rattle.design_problem.specs.Trees.{IsClosed, IsSoundTree}
+use Rattle.design_problem.specs.Answers.{greatest_bound, whole_box}
 use Rattle.design_problem.proofs.OpenPlaces.{earnest_tree_sound}
 use Rattle.design_problem.proofs.ProblemTrees.{low_below, tree_leaves_none}
 use Rattle.design_problem.proofs.RestrictedProblems.{restricted_kept}
 use Rattle.cost_branching.specs.Pools.{Differ}
 use Rattle.conflict_core.specs.declared.deciding.SetTree.{SetTree}
 use Rattle.conflict_core.specs.Conflicts.{IsConflict, IsRequestSet, all_requests}
-use Rattle.conflict_core.specs.Deciding.{IsRefutedSet, whole_row}
+use Rattle.conflict_core.specs.Deciding.{AreConflictRows, IsRefutedSet, whole_row}
 
 -- Lists without one of their members.
 
@@ -45,6 +49,25 @@ rest_contained xs n within k d k_in =
         sym (get_or-remove_above xs n (get_or (remove xs n) k d) k above within)
             ∙ get_or_default (remove xs n) k (get_or (remove xs n) k d) d k_in,
       )
+    ]
+
+-- what stood there and isn't the one that was taken out is left
+pub still_contained : (xs : List ℕ) (n y : ℕ) → n < length xs → Contains xs y → y ≢ slice_index xs n → Contains (remove xs n) y
+still_contained xs n y within has other =
+    let long = length-remove xs n within in
+    elim (cases_lt has.0 n) [
+      | inl below ↦ (has.0, omega arith, get_or-remove_below xs n y has.0 below within ∙ has.2)
+      | inr above ↦ elim (cases_lt n has.0) [
+        | inl behind ↦
+            let next : (has.0 - 1) + 1 ≡ has.0 = omega (arith, behind) in (
+              has.0 - 1,
+              omega arith,
+              get_or-remove_above xs n y (has.0 - 1) (omega (arith, behind)) within ∙ ap (λ (i : ℕ). get_or xs i y) next ∙ has.2,
+            )
+        | inr not_behind ↦
+            let here : has.0 ≡ n = omega (arith, above, not_behind) in
+            absurd (other (sym has.2 ∙ get_or_default xs has.0 y 0 has.1 ∙ ap (λ (i : ℕ). get_or xs i 0) here))
+      ]
     ]
 
 -- the later one is taken out first, or the earlier one
@@ -195,6 +218,58 @@ refuted_conflict p top nodes t kept refuted =
       no_higher = low_below q q_kept;
       sound = earnest_tree_sound (LeadsEach q) top (forms_of_rows q t.pool.rows) (capped (box_of q) (greatest_bound p)) t.tree is.tree.earnest;
       closed = refuted.closed;
+    })
+
+-- Rows of requests.
+
+-- none of the rows is one of a request
+pub none_of : (request : ℕ) (rows : List Row) → list_any (λ row. row.request == request) rows ≡ false → All (λ row. row.request ≢ request) rows
+none_of request [] none = λ k d within. absurd (omega arith)
+none_of request (row ∷ rows) none = All-cons (λ r. r.request ≢ request) row rows
+    (λ same. both_ways (list_any (λ r. r.request == request) (row ∷ rows)) none
+    (or_left (row.request == request) (list_any (λ r. r.request == request) rows) (eq-eqb row.request request same)))
+    (none_of request rows (false_from_ne_true (list_any (λ r. r.request == request) rows)
+    (λ some. both_ways (list_any (λ r. r.request == request) (row ∷ rows)) none
+    (or_right (row.request == request) (list_any (λ r. r.request == request) rows) some))))
+
+-- rows of some requests, as those of the restricted problem
+record Within (p : DesignProblem) (members : List ℕ) (rows : List Row) : Type 0 where
+  restricted_rows : List Row
+  same : map (whole_row members) restricted_rows ≡ rows
+  are : All (IsRow (restricted p members)) restricted_rows
+
+within_set : (p : DesignProblem) (members : List ℕ) (rows : List Row) → All (λ m. m < length p.paths) members → All (IsRow p) rows →
+    All (λ row. Contains members row.request) rows → Within p members rows
+within_set p members [] known true_rows contained = record { restricted_rows = []; same = refl; are = λ k d k_in. absurd (omega arith) }
+within_set p members (row ∷ rows) known true_rows contained =
+    let rest = within_set p members rows known (λ k d k_in. true_rows (suc k) d (omega arith)) (λ k d k_in. contained (suc k) d (omega arith)) in
+    let has = contained 0 row (omega arith) in
+    let at : slice_index members has.0 ≡ row.request = get_or_default members has.0 0 row.request has.1 ∙ has.2 in
+    let here : Row = record { request = has.0; rival = row.rival } in
+    record {
+      restricted_rows = here ∷ rest.restricted_rows;
+      same = ap (λ (n : ℕ). let r : Row = record { request = n; rival = row.rival } in r ∷ map (whole_row members) rest.restricted_rows) at
+          ∙ ap (λ (rs : List Row). row ∷ rs) rest.same;
+      are = All-cons (IsRow (restricted p members)) here rest.restricted_rows
+          (subst (λ (r : Option Request). IsRivalOf p.graph r row.rival.edges)
+          (sym (same_request p members has.0 known has.1 ∙ ap (λ (m : ℕ). slice_get p.paths m) at)) (true_rows 0 row (omega arith)))
+          rest.are;
+    }
+
+-- a closed sound tree over rows of some requests shows that any set of requests with these is a conflict
+pub rows_conflict : (p : DesignProblem) (rows : List Row) (tree : List Entry) → IsProblem p → All (IsRow p) rows →
+    IsSoundTree (forms_of_rows p rows) (whole_box p) tree → IsClosed tree → AreConflictRows p rows
+rows_conflict p rows tree kept true_rows sound closed = λ members set contained.
+    let q : DesignProblem = restricted p members in
+    let q_kept : IsProblem q = restricted_kept p members kept set.rising set.known in
+    let own = within_set p members rows set.known true_rows contained in
+    tree_leaves_none q own.restricted_rows (record { cap = greatest_bound p; tree = tree }) q_kept own.are
+    (record {
+      at_cap = refl;
+      no_higher = low_below q q_kept;
+      sound = subst (λ (forms : List Form). IsSoundTree forms (whole_box p) tree)
+          (ap (λ (rs : List Row). forms_of_rows p rs) (sym own.same) ∙ whole_forms p members own.restricted_rows set.known own.are) sound;
+      closed = closed;
     })
 
 -- Lists by other names.

@@ -1,5 +1,5 @@
 -- What is decided of one set of requests, and of one after the other. No public clause cites it.
-use Rattle.std.specs.Prelude.{◌≡◌, ℕ, ◌+◌, ◌<◌, ◌≤◌, List, [], length, slice_index, slice_index_or, Contains}
+use Rattle.std.specs.Prelude.{◌≡◌, ◌⊎◌, ℕ, ◌+◌, ◌<◌, ◌≤◌, List, [], length, slice_index, slice_index_or, All, Contains}
 use Rattle.std.specs.List.{remove}
 use Rattle.design_problem.specs.declared.form.Row.{Row}
 use Rattle.design_problem.specs.declared.tree.Entry.TheVariants.{Undone}
@@ -16,7 +16,7 @@ use Rattle.conflict_core.specs.declared.shrinking.Shrunk.{Shrunk}
 use Rattle.conflict_core.specs.declared.shrinking.Tried.{Tried}
 use Rattle.conflict_core.specs.declared.shrinking.Tried.TheVariants.{On, Stuck}
 use Rattle.conflict_core.specs.declared.telling.Told.{Told}
-use Rattle.conflict_core.specs.Conflicts.{IsConflictLessOne, IsRequestSet, IsTreeOfSet}
+use Rattle.conflict_core.specs.Conflicts.{IsConflict, IsConflictLessOne, IsRequestSet, IsTreeOfSet, all_requests}
 
 -- a tree of the set's restricted problem, by the rows of its pool
 pub record IsSetTree (p : DesignProblem) (top nodes : ℕ) (t : SetTree) : Type 0 where
@@ -42,17 +42,29 @@ IsSetDecided p top nodes members (Costs w) = IsFit (restricted p members) w
 IsSetDecided p top nodes members (Refuted t) = (t.members.items ≡ members) × IsRefutedSet p top nodes t
 IsSetDecided p top nodes members (Undecided t) = (t.members.items ≡ members) × IsUndecidedSet p top nodes t
 
--- a conflict, and costs for each of its first members that are fit without it
-pub record IsShrunk (p : DesignProblem) (top nodes : ℕ) (s : Shrunk) : Type 0 where
-  pub conflict : IsRefutedSet p top nodes s.conflict
-  pub few : length s.without.items ≤ length s.conflict.members.items
-  pub fits : (k : ℕ) → k < length s.without.items → IsFit (restricted p (remove s.conflict.members.items k)) (slice_index_or s.without.items k [])
+-- costs for each of the first requests of a set, which are fit without it
+abbrev pub AreFitWithout : DesignProblem → List ℕ → List (List ℕ) → Type 0
+AreFitWithout p members without = (k : ℕ) → k < length without → IsFit (restricted p (remove members k)) (slice_index_or without k [])
+
+-- each set with the requests of these rows is a conflict
+abbrev pub AreConflictRows : DesignProblem → List Row → Type 0
+AreConflictRows p rows = (members : List ℕ) → IsRequestSet p members → All (λ row. Contains members row.request) rows → IsConflict p members
+
+-- a conflict by rows of its members, which is all requests or a conflict without one of its members, and costs for each
+-- of its first members that are fit without it
+pub record IsShrunk (p : DesignProblem) (s : Shrunk) : Type 0 where
+  pub set : IsRequestSet p s.members
+  pub conflict : AreConflictRows p s.rows
+  pub of_members : All (λ row. Contains s.members row.request) s.rows
+  pub tried : (s.members ≡ all_requests p) ⊎ IsConflictLessOne p s.members
+  pub few : length s.without.items ≤ length s.members
+  pub fits : AreFitWithout p s.members s.without.items
 
 -- The next member was left out: it stays out, or there are costs without it, so fewer members are left to try; or the
 -- budget was used up.
 abbrev pub IsMemberTried : DesignProblem → ℕ → ℕ → Shrunk → Tried → Type 0
 IsMemberTried p top nodes old (On new) =
-    IsShrunk p top nodes new × (length new.conflict.members.items + length old.without.items < length old.conflict.members.items + length new.without.items)
+    IsShrunk p new × (length new.members + length old.without.items < length old.members + length new.without.items)
 IsMemberTried p top nodes old (Stuck t) = IsUndecidedSet p top nodes t × IsConflictLessOne p t.members.items
 
 -- the row with its request's number in the whole problem

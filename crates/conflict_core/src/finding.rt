@@ -2,7 +2,7 @@
 ghost use Rattle.std.specs.Prelude.{◌≡◌, ◌⊎◌, ℕ, ◌≤◌, length, IfOk};
 ghost use Rattle.form_search.specs.Advised.{AreCalled};
 ghost use Rattle.conflict_core.specs.Conflicts.{IsConflictFound, IsConflictLessOne, all_requests};
-ghost use Rattle.conflict_core.specs.Deciding.{IsRefutedSet, IsShrunk, IsUndecidedSet};
+ghost use Rattle.conflict_core.specs.Deciding.{AreFitWithout, IsRefutedSet, IsShrunk, IsUndecidedSet};
 
 use crate::conflict::Conflict;
 use crate::deciding::{Decided, SetTree, decide_set};
@@ -12,7 +12,7 @@ use crate::telling::{Told, tell};
 use cost_base::{Listed, OutOfMemory};
 use cost_branching::keeps_conditions;
 use cut_advisors::Advisor;
-use design_problem::Problem;
+use design_problem::{CostList, Problem};
 use std::alloc::Global;
 use wide_fraction::Limits;
 
@@ -35,13 +35,18 @@ fn unknown(alloc: Global, problem: &Problem, set: SetTree) -> Result<Conflict, O
 }
 
 /// A conflict for whose members there are costs without each.
-fn core(alloc: Global, problem: &Problem, shrunk: Shrunk) -> Result<Conflict, OutOfMemory>
-    requires shrunk { (top : ℕ) × (nodes : ℕ) × IsShrunk problem.now top nodes shrunk }
-    requires ended { length shrunk.conflict.members.items ≤ length shrunk.without.items }
-    ensures { (top nodes : ℕ) → IsShrunk problem.now top nodes shrunk → IfOk result (IsConflictFound problem.now top nodes) }
+fn core(
+    alloc: Global,
+    problem: &Problem,
+    conflict: SetTree,
+    without: Vec<CostList>,
+) -> Result<Conflict, OutOfMemory>
+    requires conflict { (top : ℕ) × (nodes : ℕ) × IsRefutedSet problem.now top nodes conflict }
+    requires counted { length without.items ≡ length conflict.members.items }
+    requires fits { AreFitWithout problem.now conflict.members.items without.items }
+    ensures { (top nodes : ℕ) → IsRefutedSet problem.now top nodes conflict → IfOk result (IsConflictFound problem.now top nodes) }
 {
     keeps_conditions(problem);
-    let Shrunk { conflict, without } = shrunk;
     let Told {
         members,
         rows,
@@ -55,6 +60,27 @@ fn core(alloc: Global, problem: &Problem, shrunk: Shrunk) -> Result<Conflict, Ou
     })
 }
 
+/// Decides a conflict once more, for its own tree.
+fn finish(
+    alloc: Global,
+    problem: &Problem,
+    limits: &Limits,
+    shrunk: Shrunk,
+    advisors: &mut Vec<Box<dyn Advisor>>,
+) -> Result<Conflict, OutOfMemory>
+    requires shrunk { IsShrunk problem.now shrunk }
+    requires ended { length shrunk.members ≤ length shrunk.without.items }
+    ensures found { IfOk result (IsConflictFound problem.now limits.now.top limits.now.nodes) }
+    ensures advisors { AreCalled ⟦<dyn Advisor as Advisor>⟧ (λ b. b.vtable) (λ b. state b) advisors.old.items advisors.new.items }
+{
+    let members = Vec::from_slice(alloc, shrunk.members.as_slice())?;
+    match decide_set(alloc, problem, members, limits, advisors)? {
+        Decided::Costs(_) => unreachable!(),
+        Decided::Refuted(conflict) => core(alloc, problem, conflict, shrunk.without),
+        Decided::Undecided(set) => unknown(alloc, problem, set),
+    }
+}
+
 /// Leaves out one member of a conflict after the other.
 fn shrink(
     alloc: Global,
@@ -63,27 +89,36 @@ fn shrink(
     conflict: SetTree,
     advisors: &mut Vec<Box<dyn Advisor>>,
 ) -> Result<Conflict, OutOfMemory>
-    requires { IsRefutedSet problem.now limits.now.top limits.now.nodes conflict }
+    requires conflict { IsRefutedSet problem.now limits.now.top limits.now.nodes conflict }
+    requires all { conflict.members.items ≡ all_requests problem.now }
     ensures found { IfOk result (IsConflictFound problem.now limits.now.top limits.now.nodes) }
     ensures advisors { AreCalled ⟦<dyn Advisor as Advisor>⟧ (λ b. b.vtable) (λ b. state b) advisors.old.items advisors.new.items }
 {
+    keeps_conditions(problem);
+    let Told {
+        members,
+        rows,
+        tree: _,
+    } = tell(alloc, problem, conflict)?;
     let mut shrunk = Shrunk {
-        conflict,
+        members,
+        rows,
         without: Vec::new(alloc),
     };
-    while shrunk.without.len() < shrunk.conflict.members.len() {
+    while shrunk.without.len() < shrunk.members.as_slice().len() {
         match leave_out(alloc, problem, limits, shrunk, advisors)? {
             Tried::On(next) => shrunk = next,
             Tried::Stuck(set) => return unknown(alloc, problem, set),
         }
     }
-    core(alloc, problem, shrunk)
+    finish(alloc, problem, limits, shrunk, advisors)
 }
 
 /// Looks for a least conflict among the requests of a problem.
 ///
 /// All requests are decided first, at the greatest upper bound. Where they have no fit costs, each request in rising
-/// order is left out, and stays out where the others have none either. Fits has fit costs of the whole problem. A core
+/// order is left out, and stays out where the others have none either. That is known without a search where the last
+/// tree has no row of it; so the core is decided once more, for its own tree. Fits has fit costs of the whole problem. A core
 /// is a least conflict, with a closed earnest tree, and fit costs for each set without one of its members. Unknown has
 /// the earnest tree that used up the budget, with exactly `limits.nodes` entries.
 ///

@@ -1,22 +1,27 @@
 //! A conflict that is made smaller.
-ghost use Rattle.std.specs.Prelude.{◌≡◌, ◌<◌, ◌++◌, ◌∷◌, [], length, IfOk};
-ghost use Rattle.std.specs.List.{remove};
+ghost use Rattle.std.specs.Prelude.{◌≡◌, ◌<◌, ◌++◌, ◌∷◌, ◌==◌, [], length, IfOk, slice_index};
+ghost use Rattle.std.specs.List.{list_any, remove};
 ghost use Rattle.form_search.specs.Advised.{AreCalled};
 ghost use Rattle.conflict_core.specs.Deciding.{IsShrunk, IsMemberTried};
 
 use crate::deciding::{Decided, SetTree, decide_set};
 use crate::members::without_one;
-use cost_base::OutOfMemory;
+use crate::telling::{Told, tell};
+use cost_base::{Listed, OutOfMemory};
 use cost_branching::keeps_conditions;
 use cut_advisors::Advisor;
-use design_problem::{CostList, Problem};
+use design_problem::{CostList, Problem, Row};
 use std::alloc::Global;
 use wide_fraction::Limits;
 
-/// A conflict, and costs for each of its first members that are fit without it.
+/// A conflict, the rows of a tree that shows it, and costs for each of its first members that are fit without it.
 #[derive(Drop)]
 pub(crate) struct Shrunk {
-    pub(crate) conflict: SetTree,
+    /// The requests, in rising order.
+    pub(crate) members: Listed<u32>,
+    /// Rows of some of them, which alone are a conflict.
+    pub(crate) rows: Listed<Row>,
+    /// Costs for the first members.
     pub(crate) without: Vec<CostList>,
 }
 
@@ -32,42 +37,92 @@ pub(crate) enum Tried {
 impl Shrunk {
     /// With costs that are fit without the next member.
     fn with_costs(self, costs: CostList) -> Result<Shrunk, OutOfMemory>
-        ensures conflict { IfOk result (λ next. next.conflict ≡ self.conflict) }
+        ensures members { IfOk result (λ next. next.members ≡ self.members) }
+        ensures rows { IfOk result (λ next. next.rows ≡ self.rows) }
         ensures without { IfOk result (λ next. next.without.items ≡ self.without.items ++ costs ∷ []) }
     {
         let Shrunk {
-            conflict,
+            members,
+            rows,
             mut without,
         } = self;
         without.push(costs)?;
-        Ok(Shrunk { conflict, without })
+        Ok(Shrunk {
+            members,
+            rows,
+            without,
+        })
     }
 
-    /// With a smaller conflict.
-    fn with_conflict(self, conflict: SetTree) -> Shrunk
-        ensures { result ≡ record self { conflict = conflict } }
+    /// With fewer members, and the same rows.
+    fn with_members(self, members: Vec<u32>) -> Shrunk
+        ensures { result ≡ record self { members = members.items } }
     {
         let Shrunk {
-            conflict: _,
+            members: _,
+            rows,
             without,
         } = self;
-        Shrunk { conflict, without }
+        Shrunk {
+            members: Listed::from_items(members),
+            rows,
+            without,
+        }
+    }
+
+    /// With a smaller conflict, by another tree.
+    fn with_told(self, told: Told) -> Shrunk
+        ensures { result ≡ record self { members = told.members; rows = told.rows } }
+    {
+        let Shrunk {
+            members: _,
+            rows: _,
+            without,
+        } = self;
+        let Told {
+            members,
+            rows,
+            tree: _,
+        } = told;
+        Shrunk {
+            members,
+            rows,
+            without,
+        }
     }
 }
 
 /// The members but the next one for which it isn't known whether the others are a conflict without it.
 fn without_next(alloc: Global, shrunk: &Shrunk) -> Result<Vec<u32>, OutOfMemory>
-    requires { length shrunk.now.without.items < length shrunk.now.conflict.members.items }
-    ensures { IfOk result (λ others. others.items ≡ remove shrunk.now.conflict.members.items (length shrunk.now.without.items)) }
+    requires { length shrunk.now.without.items < length shrunk.now.members }
+    ensures { IfOk result (λ others. others.items ≡ remove shrunk.now.members (length shrunk.now.without.items)) }
 {
-    without_one(
-        alloc,
-        shrunk.conflict.members.as_slice(),
-        shrunk.without.len(),
-    )
+    without_one(alloc, shrunk.members.as_slice(), shrunk.without.len())
 }
 
-/// Leaves out the next member for which it isn't known whether the others are a conflict without it.
+/// Whether a row is one of a request.
+fn has_row_of(rows: &[Row], request: u32) -> bool
+    ensures { result ≡ list_any (λ row. row.request == request) rows.now }
+{
+    for row in rows {
+        if row.request == request {
+            return true;
+        }
+    }
+    false
+}
+
+/// Whether the rows are also of the next member. Without such rows the others are a conflict too.
+fn uses_next(shrunk: &Shrunk) -> bool
+    requires { length shrunk.now.without.items < length shrunk.now.members }
+    ensures { result ≡ list_any (λ row. row.request == slice_index shrunk.now.members (length shrunk.now.without.items)) shrunk.now.rows }
+{
+    let members = shrunk.members.as_slice();
+    has_row_of(shrunk.rows.as_slice(), members[shrunk.without.len()])
+}
+
+/// Leaves out the next member for which it isn't known whether the others are a conflict without it. Nothing is searched
+/// where the rows do without it.
 pub(crate) fn leave_out(
     alloc: Global,
     problem: &Problem,
@@ -75,16 +130,22 @@ pub(crate) fn leave_out(
     shrunk: Shrunk,
     advisors: &mut Vec<Box<dyn Advisor>>,
 ) -> Result<Tried, OutOfMemory>
-    requires shrunk { IsShrunk problem.now limits.now.top limits.now.nodes shrunk }
-    requires left { length shrunk.without.items < length shrunk.conflict.members.items }
+    requires shrunk { IsShrunk problem.now shrunk }
+    requires left { length shrunk.without.items < length shrunk.members }
     ensures turned { IfOk result (IsMemberTried problem.now limits.now.top limits.now.nodes shrunk) }
     ensures advisors { AreCalled ⟦<dyn Advisor as Advisor>⟧ (λ b. b.vtable) (λ b. state b) advisors.old.items advisors.new.items }
 {
     keeps_conditions(problem);
     let others = without_next(alloc, &shrunk)?;
+    if !uses_next(&shrunk) {
+        return Ok(Tried::On(shrunk.with_members(others)));
+    }
     match decide_set(alloc, problem, others, limits, advisors)? {
         Decided::Costs(costs) => Ok(Tried::On(shrunk.with_costs(costs)?)),
-        Decided::Refuted(conflict) => Ok(Tried::On(shrunk.with_conflict(conflict))),
+        Decided::Refuted(conflict) => {
+            let told = tell(alloc, problem, conflict)?;
+            Ok(Tried::On(shrunk.with_told(told)))
+        }
         Decided::Undecided(set) => Ok(Tried::Stuck(set)),
     }
 }

@@ -8,12 +8,23 @@ use Rattle.conflict_core.specs.Deciding.{IsMemberTried}
 use Rattle.conflict_core.proofs.ShrinkingLaws.{not_tried}
 use Rattle.conflict_core.proofs.finding.shrink.Goals as goal
 
+pub tell-requires : goal.tell-requires
+tell-requires g c = (c.args.limits.now.top, c.args.limits.now.nodes, c.requires.conflict.tree)
+
+pub returns-in_err-members-clause-advisors : goal.returns-in_err-members-clause-advisors
+returns-in_err-members-clause-advisors g c = left_alike _ _ _ refl
+
 pub loop-shrunk-init : goal.loop-shrunk-init
 loop-shrunk-init g c =
     let p = c.args.problem.now in
     let limits = c.args.limits.now in
-    let begun : Shrunk = record { conflict = c.args.conflict; without = c.new.result } in
-    record { shrunk = not_tried p limits.top limits.nodes begun c.requires c.new.ensures.items; advisors = left_alike _ _ _ refl }
+    let told = c.in_ok-members.field-0 in
+    let begun : Shrunk = record { members = told.members; rows = told.rows; without = c.new.result } in
+    record {
+      shrunk = not_tried p limits.top limits.nodes c.args.conflict told begun c.keeps_conditions.ensures.problem c.requires.conflict c.requires.all
+          (c.in_ok-members.ensures limits.top limits.nodes c.requires.conflict.tree) refl refl c.new.ensures.items;
+      advisors = left_alike _ _ _ refl;
+    }
 
 pub returns-in_err-next-clause-advisors : goal.returns-in_err-next-clause-advisors
 returns-in_err-next-clause-advisors g c = left_then _ _ _ _ c.loop-shrunk.invariant.advisors c.leave_out.ensures.advisors
@@ -39,5 +50,5 @@ returns-in-Stuck-clause-found g c =
 pub returns-in-Stuck-clause-advisors : goal.returns-in-Stuck-clause-advisors
 returns-in-Stuck-clause-advisors g c = left_then _ _ _ _ c.loop-shrunk.invariant.advisors c.leave_out.ensures.advisors
 
-pub returns-clause-found : goal.returns-clause-found
-returns-clause-found g c = c.core.ensures c.args.limits.now.top c.args.limits.now.nodes c.loop-shrunk.invariant.shrunk
+pub returns-clause-advisors : goal.returns-clause-advisors
+returns-clause-advisors g c = left_then _ _ _ _ c.loop-shrunk.invariant.advisors c.finish.ensures.advisors

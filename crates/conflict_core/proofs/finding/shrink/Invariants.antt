@@ -6,7 +6,7 @@ use Rattle.conflict_core.proofs.finding.shrink.Given as goal
 -- the conflict so far, and how its advisors stand
 abbrev pub invariant-loop-shrunk : goal.invariant-loop-shrunk
 invariant-loop-shrunk g l = record {
-  shrunk : IsShrunk l.problem l.limits.top l.limits.nodes l.shrunk;
+  shrunk : IsShrunk l.problem l.shrunk;
   advisors : AreAdvisorsLeft
       (IsSearched (λ b c. c.vtable ≡ b.vtable) (λ b. (goal.Advisor-dyn g (b.vtable, b.value)).state b.value)
       (λ b. (goal.Advisor-dyn g (b.vtable, b.value)).would) (λ b. (goal.Advisor-dyn g (b.vtable, b.value)).left)
@@ -16,4 +16,4 @@ invariant-loop-shrunk g l = record {
 
 -- the members that are left to try
 abbrev pub decreases-loop-shrunk : goal.decreases-loop-shrunk
-decreases-loop-shrunk g l = length l.shrunk.conflict.members.items - length l.shrunk.without.items
+decreases-loop-shrunk g l = length l.shrunk.members - length l.shrunk.without.items

@@ -10,9 +10,9 @@ use Rattle.conflict_core.proofs.shrinking.without_next.Goals as goal
 pub returns : goal.returns
 returns c =
     let shrunk = c.args.shrunk.now in
-    let members = shrunk.conflict.members.items in
+    let members = shrunk.members in
     let tried : c.len.result ≡ length shrunk.without.items = omega (arith, c.len.ensures, shrunk.without.ok.0) in
     IfOk-weaker c.without_one.result (λ (rest : Vec ℕ Global). rest.items ≡ remove c.as_slice.result.now c.len.result)
     (λ (rest : Vec ℕ Global). rest.items ≡ remove members (length shrunk.without.items))
     (λ rest is. others_are members rest.items c.as_slice.result.now c.len.result (length shrunk.without.items)
-    c.as_slice.ensures.value tried is) c.without_one.ensures
+    c.as_slice.ensures tried is) c.without_one.ensures
