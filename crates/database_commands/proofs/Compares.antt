@@ -10,7 +10,7 @@ use Rattle.input_files.specs.declared.problem.View.TheVariants.{AtPresent}
 use Rattle.input_files.specs.declared.network.Network.{Network}
 use Rattle.input_files.specs.Inputs.{InputFiles}
 use Rattle.input_files.specs.Networks.{IsNetworkOf}
-use Rattle.input_files.specs.Outcomes.{Input, routers_of}
+use Rattle.input_files.specs.Outcomes.{routers_of}
 use Rattle.report_writer.specs.declared.report.Report.{Report}
 use Rattle.report_writer.specs.Reports.{bytes_in}
 use Rattle.lsa_bytes.specs.declared.Lsa.{Lsa}
@@ -36,8 +36,10 @@ may c d lines report base is reports =
   where
     status : report.status ≡ cond (are_alike (differences_of c)) Done Impossible
     status = reports.status ∙ ap (λ (ls : List Difference). cond (are_alike ls) Done Impossible) is
+
     text : bytes_in report.text ≡ difference_text c.input.database (differences_of c)
     text = reports.text ∙ ap (λ (b : Database). difference_text b lines) base ∙ ap (difference_text c.input.database) is
+
     by_alike : (b : Bool) → are_alike (differences_of c) ≡ b → MayCompare c (cond b Done Impossible) (bytes_in report.text)
     by_alike true alike = (alike, text)
     by_alike false differ = (differ, text)
