@@ -10,7 +10,7 @@ use Rattle.input_files.specs.declared.problem.View.TheVariants.{AtPresent}
 use Rattle.input_files.specs.declared.network.Network.{Network}
 use Rattle.input_files.specs.Inputs.{InputFiles}
 use Rattle.input_files.specs.Networks.{IsNetworkOf}
-use Rattle.input_files.specs.Outcomes.{Input, routers_of}
+use Rattle.input_files.specs.Outcomes.{routers_of}
 use Rattle.report_writer.specs.declared.report.Report.{Report}
 use Rattle.report_writer.specs.Reports.{bytes_in}
 use Rattle.lsa_bytes.specs.declared.Lsa.{Lsa}

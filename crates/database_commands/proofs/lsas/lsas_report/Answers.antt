@@ -1,23 +1,16 @@
 -- The network was read, and its LSAs were written.
-use Rattle.std.proofs.Common.{◌≡◌, ◌∙◌, ◌<◌, List, ℕ, [], sym, ap, subst, arith, length, map, Ok, Err, All}
+use Rattle.std.proofs.Common.{◌≡◌, ◌∙◌, ◌<◌, List, ℕ, [], sym, ap, subst, length, map, All}
 use Rattle.std.proofs.lemmas.Result.{err_from_is_err_and}
 use Rattle.std.proofs.lemmas.List.{length-map}
 use Rattle.interface_model.specs.Records.{Router}
 use Rattle.lsdb_build.specs.Graphs.{Database}
 use Rattle.path_requests.specs.Meaning.{present_cost}
 use Rattle.request_reader.specs.Asked.{Asked}
-use Rattle.input_files.specs.declared.problem.View.TheVariants.{AtPresent}
-use Rattle.input_files.specs.Outcomes.{outcome, routers_of}
-use Rattle.input_files.specs.Networks.{IsNetworkOf}
 use Rattle.input_files.specs.Stops.{files_named}
-use Rattle.input_files.proofs.Stops.{gave_stop, gave_made}
-use Rattle.report_writer.specs.declared.report.Report.{Report}
-use Rattle.report_writer.specs.Reports.{bytes_in}
 use Rattle.lsa_bytes.specs.Ids.{first_id_fault}
 use Rattle.lsa_bytes.specs.Written.{bytes_of_all}
 use Rattle.lsa_writer.specs.WrittenLsas.{written_lsas}
 use Rattle.lsa_writer.specs.OneGraph.{IsDatabaseOf}
-use Rattle.database_commands.specs.Lsas.{MayLsas, if_identified}
 use Rattle.database_commands.proofs.LsasRuns.{costs_above, is_built, are_written, reported}
 use Rattle.database_commands.proofs.lsas.lsas_report.Goals as goal
 
