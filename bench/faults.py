@@ -43,6 +43,9 @@ def runs():
         "route": ["route", "--lsas", "examples/database/area.lsa", "--from", "198.18.0.2", "--to", "198.18.0.4"],
         "change": ["change", *words_of("tour", *request)],
         "steps": ["steps", *words_of("backbone", *request, "--answer", "change.txt")],
+        "compare": ["compare", *words_of("tour", "--live", "running.json", *request)],
+        "audit of a running area": ["audit", *words_of("tour", "--live", "running.json", *request)],
+        "help": ["help", "design"],
         "trial": ["trial", "--blocks", "2"],
         "words": ["design"],
     }
