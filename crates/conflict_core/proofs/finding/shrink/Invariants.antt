@@ -1,5 +1,5 @@
 use Rattle.std.proofs.Common.{◌≡◌, ◌-◌, length}
-use Rattle.form_search.specs.Advised.{AreAdvisorsLeft, IsCalled}
+use Rattle.form_search.specs.Advised.{AreAdvisorsLeft, IsSearched}
 use Rattle.conflict_core.specs.Deciding.{IsShrunk}
 use Rattle.conflict_core.proofs.finding.shrink.Given as goal
 
@@ -8,8 +8,9 @@ abbrev pub invariant-loop-shrunk : goal.invariant-loop-shrunk
 invariant-loop-shrunk g l = record {
   shrunk : IsShrunk l.problem l.limits.top l.limits.nodes l.shrunk;
   advisors : AreAdvisorsLeft
-      (IsCalled (λ b c. c.vtable ≡ b.vtable) (λ b. (goal.Advisor-dyn g (b.vtable, b.value)).state b.value)
-      (λ b. (goal.Advisor-dyn g (b.vtable, b.value)).left) (λ b. (goal.Advisor-dyn g (b.vtable, b.value)).after))
+      (IsSearched (λ b c. c.vtable ≡ b.vtable) (λ b. (goal.Advisor-dyn g (b.vtable, b.value)).state b.value)
+      (λ b. (goal.Advisor-dyn g (b.vtable, b.value)).would) (λ b. (goal.Advisor-dyn g (b.vtable, b.value)).left)
+      (λ b. (goal.Advisor-dyn g (b.vtable, b.value)).after))
       l.initial.advisors.items l.advisors.items;
 }
 
