@@ -10,7 +10,7 @@ use Rattle.input_files.specs.declared.problem.View.TheVariants.{AtPresent}
 use Rattle.input_files.specs.Outcomes.{outcome, routers_of}
 use Rattle.input_files.specs.Networks.{IsNetworkOf}
 use Rattle.input_files.specs.Stops.{files_named}
-use Rattle.input_files.proofs.Stops.{gave_stop, gave_made}
+use Rattle.input_files.proofs.Stops.{gave_stop, gave_made, gave_wanting}
 use Rattle.report_writer.specs.declared.report.Report.{Report}
 use Rattle.report_writer.specs.Reports.{bytes_in}
 use Rattle.lsa_bytes.specs.Ids.{first_id_fault}
@@ -73,15 +73,17 @@ lsas_of-requires-clause-priced g c =
 
 pub returns-in_err-costs : goal.returns-in_err-costs
 returns-in_err-costs g c =
-    let read = c.in_ok-network.ensures.read in
+    let names = files_named c.args.words in
     let p = err_from_is_err_and c.from_residual-in_err-costs.result c.from_residual-in_err-costs.ensures.1 in
-    rw (p.1, p.2) (record { came = read.came; given = read.given; so = tt })
+    rw (p.1, p.2) (gave_stop (g.S.Shelf.gave c.args.shelf.now c.read_network.new.shelf) (outcome AtPresent names)
+    (λ d. if_identified names d (first_id_fault [] 0 (routers_of d.files))) _ (gave_wanting _ _ _ _ c.in_ok-network.ensures.read))
 
 pub returns-in_err-bytes : goal.returns-in_err-bytes
 returns-in_err-bytes g c =
-    let read = c.in_ok-network.ensures.read in
+    let names = files_named c.args.words in
     let p = err_from_is_err_and c.from_residual-in_err-bytes.result c.from_residual-in_err-bytes.ensures.1 in
-    rw (p.1, p.2) (record { came = read.came; given = read.given; so = tt })
+    rw (p.1, p.2) (gave_stop (g.S.Shelf.gave c.args.shelf.now c.read_network.new.shelf) (outcome AtPresent names)
+    (λ d. if_identified names d (first_id_fault [] 0 (routers_of d.files))) _ (gave_wanting _ _ _ _ c.in_ok-network.ensures.read))
 
 pub returns : goal.returns
 returns g c =
