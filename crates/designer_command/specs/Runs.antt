@@ -1,5 +1,5 @@
 -- What a run may write, with the status that it ends with.
-use Rattle.std.specs.Prelude.{◌≡◌, ℕ, List, [], take, Option, None, Some, Result, IfOk, MatchResult}
+use Rattle.std.specs.Prelude.{◌≡◌, ℕ, List, [], take, Option, None, Some, Result, Err, IfOk, MatchResult}
 use Rattle.cost_base.specs.declared.OutOfMemory.{OutOfMemory as NoMemory}
 use Rattle.cost_base.specs.declared.Status.{Status}
 use Rattle.cost_base.specs.declared.Status.TheVariants.{Done, Impossible, Undecided, InputRefused, ReadFault, WriteFault, OutOfMemory, WordsRefused, EvidenceRefused}
@@ -141,9 +141,18 @@ IsMadeAs (Route lsas from to) came made = IsReadAs (route_read lsas from to) cam
 IsMadeAs (Help topic) came made = (came ≡ []) × IsTold (help_text topic) made
 IsMadeAs Version came made = (came ≡ []) × IsTold version_text made
 
--- what a job reports, where memory suffices, is right for what came of its files
+-- Where memory was wanting, what came is a beginning of what the words ask for: as it may stop their command. Help, the
+-- version and refused words ask for no file.
+abbrev pub MayWant : Option JobRead → List Taken → Type 0
+MayWant (Some (Help topic)) came = came ≡ []
+MayWant (Some Version) came = came ≡ []
+MayWant (Some job) came = IsMadeAs job came (Err NoMemoryLeft)
+MayWant None came = came ≡ []
+
+-- what a job reports, where memory suffices, is right for what came of its files; where it doesn't, this begins what it asks for
 abbrev pub ReportsJob : (List Taken → Type 0) → JobRead → Result Report NoMemory → Type 0
-ReportsJob given job made = Gave given (λ came. IfOk made (λ report. MayWrite (Some job) came report.status (bytes_in report.text)))
+ReportsJob given job made =
+    Gave given (λ came. IfOk made (λ report. MayWrite (Some job) came report.status (bytes_in report.text)) × MayWant (Some job) came)
 
 -- the sink was handed a text that may be written, and no more
 pub record WritesAll (may : Status → List ℕ → Type 0) (handed : List ℕ → Type 0) (got_before got_now : Option (List ℕ)) (status : Status) : Type 0 where
@@ -191,3 +200,4 @@ pub record RunMeets (words : List (List ℕ)) (gave : List Taken → Type 0) (he
   pub told : AreTold held came
   pub counted : CountsFailures before now came
   pub written : Writes (MayWrite (job_of words) came) handed got_before got_now count_before count_now status
+  pub begun : status ≡ OutOfMemory → MayWant (job_of words) came
