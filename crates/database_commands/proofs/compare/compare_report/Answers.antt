@@ -1,5 +1,5 @@
 -- The network was read, then the live file, and the two were compared.
-use Rattle.std.proofs.Common.{◌≡◌, ◌∙◌, ℕ, List, ◌++◌, Ok, Err, refl, ap, subst}
+use Rattle.std.proofs.Common.{◌≡◌, ◌∙◌, ℕ, List, Ok, Err, refl, ap, subst}
 use Rattle.std.proofs.lemmas.Result.{err_from_is_err_and}
 use Rattle.request_reader.specs.Asked.{Asked}
 use Rattle.input_files.specs.Readings.{Reading, Ready, ◌>>=◌, Gave}
