@@ -1,5 +1,5 @@
 -- How a run ends, by what it reports and what of that was put.
-use Rattle.std.proofs.Common.{◌≡◌, ℕ, sym, subst, List, [], inl, inr}
+use Rattle.std.proofs.Common.{◌≡◌, ℕ, refl, sym, subst, List, [], inl, inr}
 use Rattle.std.specs.Prelude.{Option, Result, Ok, Err, Some, None, IfOk, MatchResult, take}
 use Rattle.cost_base.specs.declared.OutOfMemory.{OutOfMemory}
 use Rattle.cost_base.specs.declared.Status.{Status}
@@ -13,6 +13,7 @@ use Rattle.input_files.specs.declared.stop.Stop.{Stop}
 use Rattle.input_files.specs.declared.stop.Stop.TheVariants as stops
 use Rattle.input_files.specs.Readings.{Reading, Gave, End, Says, Faulty, Failed}
 use Rattle.input_files.specs.Stops.{StopsAs, IsReadAs, refusal_in}
+use Rattle.input_files.proofs.Stops.{read_begins}
 use Rattle.report_writer.specs.declared.report.Report.{Report}
 use Rattle.report_writer.specs.Reports.{Reports, ReportsStop, ReportsAny, IsWritten, bytes_in}
 use Rattle.input_files.specs.Inputs.{InputFiles}
@@ -32,7 +33,7 @@ use Rattle.change_commands.specs.Steps.{MaySteps}
 use Rattle.design_commands.specs.TotalRuns.{MayTotal}
 use Rattle.trial_maker.specs.TrialTexts.{made_trial}
 use Rattle.design_commands.specs.Trials.{MayTryEnd, trial_end}
-use Rattle.designer_command.specs.Runs.{IsMadeAs, IsTold, IsTried, OnSaid, MayAfter, MayReport, MayTell, MayWrite, ReportsJob, WritesNothing, WritesAll, Writes}
+use Rattle.designer_command.specs.Runs.{IsMadeAs, IsTold, IsTried, OnSaid, MayAfter, MayReport, MayTell, MayWant, MayWrite, ReportsJob, WritesNothing, WritesAll, Writes}
 use Rattle.help_texts.specs.Texts.{help_text, version_text}
 use Rattle.designer_command.proofs.OwnStatuses.{SaysItsOwn, own_audit, own_audit_live, own_change, own_check, own_compare, own_conflict, own_design, own_lsas, own_rewrite, own_route, own_spread, own_steps, own_total}
 
@@ -111,9 +112,49 @@ done_after (read.Route lsas from to) came made result h r = report_after _ (MayR
 done_after (read.Help topic) came made result h r = told_after (help_text topic) came made result h r
 done_after read.Version came made result h r = told_after version_text came made result h r
 
+-- whatever it makes, what came begins what the words ask for
+wanting_after : (job : JobRead) (came : List Taken) (made : Result Report Stop) → IsMadeAs job came made → MayWant (Some job) came
+wanting_after (read.Design s) came made h = read_begins _ came _ made h
+wanting_after (read.Check request answer configs) came made h = read_begins _ came _ made h
+wanting_after (read.Audit request None configs) came made h = read_begins _ came _ made h
+wanting_after (read.Audit request (Some live) configs) came made h = read_begins _ came _ made h
+wanting_after (read.Rewrite answer config) came made h = read_begins _ came _ made h
+wanting_after (read.Trial blocks start) came made h = h.0
+wanting_after (read.Conflict s) came made h = read_begins _ came _ made h
+wanting_after (read.Spread s sets) came made h = read_begins _ came _ made h
+wanting_after (read.Total s) came made h = read_begins _ came _ made h
+wanting_after (read.Change s) came made h = read_begins _ came _ made h
+wanting_after (read.Steps request answer nodes by configs) came made h = read_begins _ came _ made h
+wanting_after (read.Compare live request configs) came made h = read_begins _ came _ made h
+wanting_after (read.Lsas request configs) came made h = read_begins _ came _ made h
+wanting_after (read.Route lsas from to) came made h = read_begins _ came _ made h
+wanting_after (read.Help topic) came made h = h.0
+wanting_after read.Version came made h = h.0
+
+-- no file was asked for
+pub wants_none : (job : Option JobRead) → MayWant job []
+wants_none None = refl
+wants_none (Some (read.Design s)) = tt
+wants_none (Some (read.Check request answer configs)) = tt
+wants_none (Some (read.Audit request None configs)) = tt
+wants_none (Some (read.Audit request (Some live) configs)) = tt
+wants_none (Some (read.Rewrite answer config)) = tt
+wants_none (Some (read.Trial blocks start)) = refl
+wants_none (Some (read.Conflict s)) = tt
+wants_none (Some (read.Spread s sets)) = tt
+wants_none (Some (read.Total s)) = tt
+wants_none (Some (read.Change s)) = tt
+wants_none (Some (read.Steps request answer nodes by configs)) = tt
+wants_none (Some (read.Compare live request configs)) = tt
+wants_none (Some (read.Lsas request configs)) = tt
+wants_none (Some (read.Route lsas from to)) = tt
+wants_none (Some (read.Help topic)) = refl
+wants_none (Some read.Version) = refl
+
 pub job_done : (Given : List Taken → Type 0) (job : JobRead) (made : Result Report Stop) (result : Result Report OutOfMemory) →
     Gave Given (λ came. IsMadeAs job came made) → ReportsAny made result → ReportsJob Given job result
-job_done Given job made result a r = record { came = a.came; given = a.given; so = done_after job a.came made result a.so r }
+job_done Given job made result a r =
+    record { came = a.came; given = a.given; so = (done_after job a.came made result a.so r, wanting_after job a.came made a.so) }
 
 -- files by another name make the same
 pub files_made : {A : Type 0} (Given : List Taken → Type 0) (reading : InputFiles → Reading A) (may : A → Status → List ℕ → Type 0)

@@ -9,7 +9,7 @@ use Rattle.command_words.specs.Jobs.{JobRead, SearchRead, Design, Check, Audit, 
 use Rattle.command_words.specs.Commands.{job_of}
 use Rattle.input_files.specs.declared.problem.View.TheVariants.{AsRequested, BesidePresent, AtPresent}
 use Rattle.input_files.specs.Inputs.{InputFiles}
-use Rattle.input_files.specs.Readings.{Refusal, Reading, Says, Faulty, Failed, EndsAs, Gave}
+use Rattle.input_files.specs.Readings.{Refusal, Reading, Says, Faulty, Failed, EndsAs, Begins, Gave}
 use Rattle.input_files.specs.declared.stop.Stop.{Stop}
 use Rattle.input_files.specs.declared.stop.Stop.TheVariants.{OutOfMemory as NoMemoryLeft}
 use Rattle.input_files.specs.Stops.{IsReadAs}
@@ -141,9 +141,30 @@ IsMadeAs (Route lsas from to) came made = IsReadAs (route_read lsas from to) cam
 IsMadeAs (Help topic) came made = (came ≡ []) × IsTold (help_text topic) made
 IsMadeAs Version came made = (came ≡ []) × IsTold version_text made
 
--- what a job reports, where memory suffices, is right for what came of its files
+-- Where memory was wanting, what came is a beginning of what the words ask for; of no file where they ask for none.
+abbrev pub MayWant : Option JobRead → List Taken → Type 0
+MayWant (Some (Design s)) came = Begins (outcome AsRequested (searched s)) came
+MayWant (Some (Check request answer configs)) came = Begins (claim_read (input_files_of request configs) answer) came
+MayWant (Some (Audit request None configs)) came = Begins (outcome AtPresent (input_files_of request configs)) came
+MayWant (Some (Audit request (Some live) configs)) came = Begins (live_audit_read (input_files_of request configs) live) came
+MayWant (Some (Rewrite answer config)) came = Begins (revision_read config answer) came
+MayWant (Some (Trial blocks start)) came = came ≡ []
+MayWant (Some (Conflict s)) came = Begins (outcome AsRequested (searched s)) came
+MayWant (Some (Spread s sets)) came = Begins (spread_read (searched s) sets) came
+MayWant (Some (Total s)) came = Begins (outcome AsRequested (searched s)) came
+MayWant (Some (Change s)) came = Begins (outcome BesidePresent (searched s)) came
+MayWant (Some (Steps request answer nodes by configs)) came = Begins (plan_read (input_files_of request configs) answer) came
+MayWant (Some (Compare live request configs)) came = Begins (compare_read (input_files_of request configs) live) came
+MayWant (Some (Lsas request configs)) came = Begins (identified_read (input_files_of request configs)) came
+MayWant (Some (Route lsas from to)) came = Begins (route_read lsas from to) came
+MayWant (Some (Help topic)) came = came ≡ []
+MayWant (Some Version) came = came ≡ []
+MayWant None came = came ≡ []
+
+-- what a job reports, where memory suffices, is right for what came of its files; where it doesn't, this begins what it asks for
 abbrev pub ReportsJob : (List Taken → Type 0) → JobRead → Result Report NoMemory → Type 0
-ReportsJob given job made = Gave given (λ came. IfOk made (λ report. MayWrite (Some job) came report.status (bytes_in report.text)))
+ReportsJob given job made =
+    Gave given (λ came. IfOk made (λ report. MayWrite (Some job) came report.status (bytes_in report.text)) × MayWant (Some job) came)
 
 -- the sink was handed a text that may be written, and no more
 pub record WritesAll (may : Status → List ℕ → Type 0) (handed : List ℕ → Type 0) (got_before got_now : Option (List ℕ)) (status : Status) : Type 0 where
@@ -191,3 +212,4 @@ pub record RunMeets (words : List (List ℕ)) (gave : List Taken → Type 0) (he
   pub told : AreTold held came
   pub counted : CountsFailures before now came
   pub written : Writes (MayWrite (job_of words) came) handed got_before got_now count_before count_now status
+  pub begun : status ≡ OutOfMemory → MayWant (job_of words) came

@@ -120,7 +120,7 @@ fn write_made<K: Sink>(made: Result<Report, OutOfMemory>, out: &mut K) -> Status
 ///
 /// `InputRefused` with the first fault; `ReadFault` where a file of the words failed; `WriteFault` where the sink's count
 /// of faults rose, and then a part of a text that this call may write was written; `OutOfMemory`, and then nothing was
-/// written; `WordsRefused` off the words, with the usage text.
+/// written, and the files that were asked for begin those of the words; `WordsRefused` off the words, with the usage text.
 pub fn run<S: Shelf, K: Sink>(
     alloc: Global,
     words: &[String],

@@ -9,10 +9,10 @@ use Rattle.config_reader.specs.Configs.{config_of}
 use Rattle.text_lines.specs.Arguments.{texts}
 use Rattle.input_files.specs.declared.stop.Stop.{Stop}
 use Rattle.input_files.specs.declared.stop.Stop.TheVariants as stops
-use Rattle.input_files.specs.Readings.{Reading, Ready, ◌>>=◌, End, Says, Faulty, Failed, EndsAs}
+use Rattle.input_files.specs.Readings.{Reading, Ready, ◌>>=◌, End, Says, Faulty, Failed, EndsAs, Begins}
 use Rattle.input_files.specs.Outcomes.{ConfigFile, config_read, configs_read, routers_of}
 use Rattle.input_files.specs.Stops.{StopsAs, IsReadAndMade, refusal_in}
-use Rattle.input_files.proofs.Readings.{ends_then, ends_faulty, ends_failed, bind_assoc, bind_ready}
+use Rattle.input_files.proofs.Readings.{begins_first, begins_then, ends_begin, ends_then, ends_faulty, ends_failed, bind_assoc, bind_ready}
 
 -- Of all configurations some are left. Those that were read, of which this came, have these routers; and whatever ends the
 -- reading of the others ends that of all.
@@ -22,6 +22,7 @@ pub record Progress (all left : List (List ℕ)) (routers : List Router) (came :
   pub goes : (more : List Taken) (end : End (List ConfigFile)) →
       EndsAs (configs_read left >>= λ others. Ready (files ++ others)) more end →
       EndsAs (configs_read all) (came ++ more) end
+  pub begins : (more : List Taken) → Begins (configs_read left >>= λ others. Ready (files ++ others)) more → Begins (configs_read all) (came ++ more)
 
 -- at first all are left
 pub progress_begins : (all : List (List ℕ)) → Progress all all [] []
@@ -29,6 +30,7 @@ progress_begins all = record {
   files = [];
   said = refl;
   goes = λ more end h. subst (λ (m : Reading (List ConfigFile)). EndsAs m more end) (sym (bind_ready (configs_read all))) h;
+  begins = λ more h. subst (λ (m : Reading (List ConfigFile)). Begins m more) (sym (bind_ready (configs_read all))) h;
 }
 
 -- the configurations from a place on, behind those that were read
@@ -59,6 +61,14 @@ progress_goes all names name routers router came xs p ready = record {
       let here = ends_then (config_read name) (rest_read names p.files) xs more ready.said end ready.ends last in
       subst (λ (l : List Taken). EndsAs (configs_read all) l end) (sym (append_assoc came xs more))
       (p.goes (xs ++ more) end (subst (λ (m : Reading (List ConfigFile)). EndsAs m (xs ++ more) end) (sym (rest_is name names p.files)) here));
+  begins = λ more h.
+      let last : Begins (rest_read names p.files ready.said) more =
+      subst (λ (f : List ConfigFile → List ConfigFile).
+      Begins (configs_read names >>= λ others. Ready (f others)) more)
+      (λ i others. append_assoc p.files (ready.said ∷ []) others i) h in
+      let here = begins_then (config_read name) (rest_read names p.files) xs more ready.said ready.ends last in
+      subst (λ (l : List Taken). Begins (configs_read all) l) (sym (append_assoc came xs more))
+      (p.begins (xs ++ more) (subst (λ (m : Reading (List ConfigFile)). Begins m (xs ++ more)) (sym (rest_is name names p.files)) here));
 }
 
 -- none is left
@@ -84,7 +94,17 @@ progress_stops all names name routers came xs (stops.Refused number file line) p
 progress_stops all names name routers came xs (stops.ReadFault file) p h =
     p.goes xs (Failed file.now) (subst (λ (m : Reading (List ConfigFile)). EndsAs m xs (Failed file.now))
     (sym (rest_is name names p.files)) (ends_failed (config_read name) (rest_read names p.files) xs file.now h))
-progress_stops all names name routers came xs stops.OutOfMemory p h = tt
+progress_stops all names name routers came xs stops.OutOfMemory p h =
+    p.begins xs (subst (λ (m : Reading (List ConfigFile)). Begins m xs) (sym (rest_is name names p.files))
+    (begins_first (config_read name) (rest_read names p.files) xs h))
+
+-- so does want of memory for one that was read
+pub progress_wanting : (all names : List (List ℕ)) (name : List ℕ) (routers : List Router) (router : Router) (came xs : List Taken) →
+    Progress all (name ∷ names) routers came →
+    IsReadAndMade (config_read name) xs (λ (r : Router) file. r ≡ config_of file.name file.bytes) router →
+    StopsAs (configs_read all) (came ++ xs) stops.OutOfMemory
+progress_wanting all names name routers router came xs p ready =
+    progress_stops all names name routers came xs stops.OutOfMemory p (ends_begin (config_read name) xs (Says ready.said) ready.ends)
 
 -- the words from a place on begin with the word there
 texts_from : (words : List (String Global)) (i : ℕ) (word : String Global) → i < length words →

@@ -2,9 +2,10 @@
 use Rattle.std.proofs.Common.{refl, List, ◌++◌, Ok, Err}
 use Rattle.cost_base.specs.Histories.{Taken}
 use Rattle.input_files.specs.declared.stop.Stop.{Stop}
+use Rattle.input_files.specs.declared.stop.Stop.TheVariants as stops
 use Rattle.input_files.specs.Readings.{Reading, Ready, ◌>>=◌, Gave}
 use Rattle.input_files.specs.Stops.{StopsAs, IsReadAndMade}
-use Rattle.input_files.proofs.Stops.{gave_then, gave_made, gave_stop}
+use Rattle.input_files.proofs.Stops.{gave_then, gave_made, gave_stop, gave_wanting}
 
 -- what stops the file stops both, where the others were read
 pub second_stops : {A B C T : Type 0} (First Later Both : List Taken → Type 0) (m : Reading A) (n : Reading B) (k : A →
@@ -17,10 +18,13 @@ second_stops {A} {B} {C} {T} First Later Both m n k Fits made stop more a b =
     (Err stop) more a (λ x fits. gave_stop Later n (λ y. Ready (k x y)) stop b)
 
 -- both were read, and then memory was wanting
-pub both_came : {P Q : List Taken → Type 0} (First Later Both : List Taken → Type 0) →
-    ((xs ys : List Taken) → First xs → Later ys → Both (xs ++ ys)) → Gave First P → Gave Later Q →
-    Gave Both (λ came. Unit {0})
-both_came First Later Both more a b = record { came = a.came ++ b.came; given = more a.came b.came a.given b.given; so = tt }
+pub both_wanting : {A B C T U : Type 0} (First Later Both : List Taken → Type 0) (m : Reading A) (n : Reading B) (k : A →
+    B → C) (Fits : T → A → Type 0) (Suits : U → B → Type 0) (made : T) (other : U) →
+    ((xs ys : List Taken) → First xs → Later ys → Both (xs ++ ys)) → Gave First (λ came. IsReadAndMade m came Fits made) →
+    Gave Later (λ came. IsReadAndMade n came Suits other) →
+    Gave Both (λ came. StopsAs (m >>= λ x. n >>= λ y. Ready (k x y)) came stops.OutOfMemory)
+both_wanting First Later Both m n k Fits Suits made other more a b =
+    second_stops First Later Both m n k Fits made stops.OutOfMemory more a (gave_wanting Later n Suits other b)
 
 -- what was made of both is as both say
 pub pair_made : {A B C T U V : Type 0} (First Later Both : List Taken → Type 0) (m : Reading A) (n : Reading B) (k : A →

@@ -3,7 +3,7 @@ use Rattle.std.proofs.Common.{◌≡◌, ℕ, refl, sym, ◌∙◌, ap, subst, L
 use Rattle.cost_base.specs.declared.ShelfStop.{ShelfStop}
 use Rattle.cost_base.specs.declared.ShelfStop.TheVariants as stop
 use Rattle.cost_base.specs.Histories.{Taken}
-use Rattle.input_files.specs.Readings.{Refusal, Reading, Take, Refused, Ready, ◌>>=◌, End, Says, Faulty, Failed, too_long, OnCame, EndsAs}
+use Rattle.input_files.specs.Readings.{Refusal, Reading, Take, Refused, Ready, ◌>>=◌, End, Says, Faulty, Failed, too_long, OnCame, EndsAs, OnBytes, Begins}
 
 -- Ends differ.
 
@@ -122,6 +122,64 @@ ends_failed {A} {B} (Take name most next) f (taken ∷ xs) file first = (
       (λ bytes h. ends_failed (next bytes) f xs file h)
       (λ h. absurd (faulty_failed {A = A} (too_long name) file (sym h.1)))
       (λ h. (h.0, failed_of {A = A} {B = B} file name h.1))
+      first.2,
+)
+
+on_bytes : (came : Result (List ℕ) ShelfStop) (P Q : List ℕ → Type 0) (N M : Type 0) →
+    ((bytes : List ℕ) → P bytes → Q bytes) → (N → M) → OnBytes came P N → OnBytes came Q M
+on_bytes (Ok bytes) P Q N M read none h = read bytes h
+on_bytes (Err e) P Q N M read none h = none h
+
+bytes_of : (came : Result (List ℕ) ShelfStop) (P Q : List ℕ → Type 0) (L F N : Type 0) →
+    ((bytes : List ℕ) → P bytes → Q bytes) → (L → N) → (F → N) → OnCame came P L F → OnBytes came Q N
+bytes_of (Ok bytes) P Q L F N read long fault h = read bytes h
+bytes_of (Err stop.TooLong) P Q L F N read long fault h = long h
+bytes_of (Err stop.Failed) P Q L F N read long fault h = fault h
+bytes_of (Err stop.OutOfMemory) P Q L F N read long fault h = absurd h
+
+-- what ends a reading begins it
+pub ends_begin : {A : Type 0} (m : Reading A) (xs : List Taken) (end : End A) → EndsAs m xs end → Begins m xs
+ends_begin (Ready x) [] end h = tt
+ends_begin (Ready x) (taken ∷ xs) end h = absurd h
+ends_begin (Refused r) [] end h = tt
+ends_begin (Refused r) (taken ∷ xs) end h = absurd h
+ends_begin (Take name most next) [] end h = tt
+ends_begin (Take name most next) (taken ∷ xs) end h = (
+  h.0,
+  h.1,
+  bytes_of taken.came (λ bytes. EndsAs (next bytes) xs end) (λ bytes. Begins (next bytes) xs)
+      ((xs ≡ []) × (end ≡ Faulty (too_long name))) ((xs ≡ []) × (end ≡ Failed name)) (xs ≡ [])
+      (λ bytes k. ends_begin (next bytes) xs end k) (λ k. k.0) (λ k. k.0) h.2,
+)
+
+-- what begins the one reading begins both
+pub begins_first : {A B : Type 0} (m : Reading A) (f : A → Reading B) (xs : List Taken) → Begins m xs → Begins (m >>= f) xs
+begins_first m f [] h = tt
+begins_first (Ready x) f (taken ∷ xs) h = absurd h
+begins_first (Refused r) f (taken ∷ xs) h = absurd h
+begins_first (Take name most next) f (taken ∷ xs) h = (
+  h.0,
+  h.1,
+  on_bytes taken.came (λ bytes. Begins (next bytes) xs) (λ bytes. Begins (next bytes >>= f) xs) (xs ≡ []) (xs ≡ [])
+      (λ bytes k. begins_first (next bytes) f xs k) (λ k. k) h.2,
+)
+
+-- where the one reading says this, what begins the other begins both behind it
+pub begins_then : {A B : Type 0} (m : Reading A) (f : A → Reading B) (xs ys : List Taken) (x : A) →
+    EndsAs m xs (Says x) → Begins (f x) ys → Begins (m >>= f) (xs ++ ys)
+begins_then (Ready y) f [] ys x first second = subst (λ z. Begins (f z) ys) (one_said x y first) second
+begins_then (Ready y) f (taken ∷ xs) ys x first second = absurd first
+begins_then (Refused r) f [] ys x first second = absurd (said_faulty x r first)
+begins_then (Refused r) f (taken ∷ xs) ys x first second = absurd first
+begins_then (Take name most next) f [] ys x first second = absurd first
+begins_then {A} {B} (Take name most next) f (taken ∷ xs) ys x first second = (
+  first.0,
+  first.1,
+  bytes_of taken.came (λ bytes. EndsAs (next bytes) xs (Says x)) (λ bytes. Begins (next bytes >>= f) (xs ++ ys))
+      ((xs ≡ []) × (Says x ≡ Faulty (too_long name))) ((xs ≡ []) × (Says x ≡ Failed name)) (xs ++ ys ≡ [])
+      (λ bytes h. begins_then (next bytes) f xs ys x h second)
+      (λ h. absurd (said_faulty x (too_long name) h.1))
+      (λ h. absurd (said_failed x name h.1))
       first.2,
 )
 

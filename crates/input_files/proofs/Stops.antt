@@ -6,23 +6,23 @@ use Rattle.cost_base.specs.declared.ShelfStop.TheVariants as shelf
 use Rattle.cost_base.specs.Histories.{Taken}
 use Rattle.input_files.specs.declared.stop.Stop.{Stop}
 use Rattle.input_files.specs.declared.stop.Stop.TheVariants as stops
-use Rattle.input_files.specs.Readings.{Reading, ◌>>=◌, Says, Faulty, Failed, EndsAs, Gave}
+use Rattle.input_files.specs.Readings.{Reading, ◌>>=◌, Says, Faulty, Failed, EndsAs, Begins, Gave}
 use Rattle.input_files.specs.Outcomes.{file_read}
 use Rattle.input_files.specs.Stops.{StopsAs, IsReadAndMade, IsReadAs, file_stop, refusal_in}
-use Rattle.input_files.proofs.Readings.{ends_then, ends_faulty, ends_failed}
+use Rattle.input_files.proofs.Readings.{begins_first, begins_then, ends_begin, ends_then, ends_faulty, ends_failed}
 
 -- what stops the one reading stops both
 pub stops_first : {A B : Type 0} (m : Reading A) (f : A → Reading B) (xs : List Taken) (stop : Stop) → StopsAs m xs stop → StopsAs (m >>= f) xs stop
 stops_first m f xs (stops.Refused number file line) h = ends_faulty m f xs (refusal_in number file line) h
 stops_first m f xs (stops.ReadFault file) h = ends_failed m f xs file.now h
-stops_first m f xs stops.OutOfMemory h = tt
+stops_first m f xs stops.OutOfMemory h = begins_first m f xs h
 
 -- what stops the other reading stops both, where the one says this
 pub stops_then : {A B : Type 0} (m : Reading A) (f : A → Reading B) (xs ys : List Taken) (x : A) (stop : Stop) →
     EndsAs m xs (Says x) → StopsAs (f x) ys stop → StopsAs (m >>= f) (xs ++ ys) stop
 stops_then m f xs ys x (stops.Refused number file line) first h = ends_then m f xs ys x (Faulty (refusal_in number file line)) first h
 stops_then m f xs ys x (stops.ReadFault file) first h = ends_then m f xs ys x (Failed file.now) first h
-stops_then m f xs ys x stops.OutOfMemory first h = tt
+stops_then m f xs ys x stops.OutOfMemory first h = begins_then m f xs ys x first h
 
 -- what was read of both readings is what both say
 pub read_then : {A B T U : Type 0} (m : Reading A) (f : A → Reading B) (xs ys : List Taken) (Fits : T → A → Type 0)
@@ -72,4 +72,17 @@ pub file_stops : (most : ℕ) (why : ShelfStop) (file : Bor (List ℕ)) →
     (file_stop why file)
 file_stops most shelf.Failed file = (refl, refl, (refl, refl))
 file_stops most shelf.TooLong file = (refl, refl, (refl, refl))
-file_stops most shelf.OutOfMemory file = tt
+file_stops most shelf.OutOfMemory file = (refl, refl, refl)
+
+-- what was read, or what stopped it, begins the reading
+pub read_begins : {A T : Type 0} (m : Reading A) (came : List Taken) (Fits : T → A → Type 0) (result : Result T Stop) →
+    IsReadAs m came Fits result → Begins m came
+read_begins m came Fits (Ok made) h = ends_begin m came (Says h.said) h.ends
+read_begins m came Fits (Err (stops.Refused number file line)) h = ends_begin m came (Faulty (refusal_in number file line)) h
+read_begins m came Fits (Err (stops.ReadFault file)) h = ends_begin m came (Failed file.now) h
+read_begins m came Fits (Err stops.OutOfMemory) h = h
+
+-- the files were read, and then memory was wanting
+pub gave_wanting : {A T : Type 0} (Given : List Taken → Type 0) (m : Reading A) (Fits : T → A → Type 0) (made : T) →
+    Gave Given (λ came. IsReadAndMade m came Fits made) → Gave Given (λ came. StopsAs m came stops.OutOfMemory)
+gave_wanting Given m Fits made a = record { came = a.came; given = a.given; so = ends_begin m a.came (Says a.so.said) a.so.ends }

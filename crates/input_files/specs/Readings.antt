@@ -55,6 +55,20 @@ EndsAs (Take name most next) (taken ∷ more) end =
     (taken.name ≡ name) × (taken.most ≡ most)
     × OnCame taken.came (λ bytes. EndsAs (next bytes) more end) ((more ≡ []) × (end ≡ Faulty (too_long name))) ((more ≡ []) × (end ≡ Failed name))
 
+-- of what came of a file: this of its bytes, and this where none came
+abbrev pub OnBytes : Result (List ℕ) ShelfStop → (List ℕ → Type 0) → Type 0 → Type 0
+OnBytes (Ok bytes) Bytes Stopped = Bytes bytes
+OnBytes (Err stop) Bytes Stopped = Stopped
+
+-- What came of files begins a reading. It is of files that the reading asks for, each once, in its turn and with its
+-- limit, and of no other: what comes behind may be missing, and nothing comes behind a file that stopped it.
+abbrev pub Begins : {A : Type 0} → Reading A → List Taken → Type 0
+Begins reading [] = Unit {0}
+Begins (Ready x) (taken ∷ more) = ⊥
+Begins (Refused r) (taken ∷ more) = ⊥
+Begins (Take name most next) (taken ∷ more) =
+    (taken.name ≡ name) × (taken.most ≡ most) × OnBytes taken.came (λ bytes. Begins (next bytes) more) (more ≡ [])
+
 -- what a shelf gave between two states, of which `gave` tells, is a list of this kind
 pub record Gave (gave : List Taken → Type 0) (P : List Taken → Type 0) : Type 0 where
   pub came : List Taken

@@ -23,7 +23,7 @@ use Rattle.input_files.specs.declared.stop.Stop.{Stop}
 use Rattle.input_files.specs.declared.stop.Stop.TheVariants.{Refused, ReadFault, OutOfMemory}
 use Rattle.input_files.specs.declared.reading.FileWords.{FileWords}
 use Rattle.input_files.specs.Inputs.{InputFiles}
-use Rattle.input_files.specs.Readings.{Refusal, Reading, Says, Faulty, Failed, EndsAs}
+use Rattle.input_files.specs.Readings.{Refusal, Reading, Says, Faulty, Failed, EndsAs, Begins}
 use Rattle.input_files.specs.Outcomes.{file_of, resolution_refusal}
 
 -- the files that words name
@@ -34,11 +34,11 @@ files_named words = record { request = words.request.now; configs = texts words.
 abbrev pub refusal_in : ℕ → Bor (List ℕ) → ℕ → Refusal
 refusal_in number file line = record { number = number; file = file.now; line = line }
 
--- a stop tells how a reading ends that it stopped; want of memory tells nothing
+-- a stop tells how a reading ends that it stopped; where memory was wanting, what came begins the reading
 abbrev pub StopsAs : {A : Type 0} → Reading A → List Taken → Stop → Type 0
 StopsAs reading came (Refused number file line) = EndsAs reading came (Faulty (refusal_in number file line))
 StopsAs reading came (ReadFault file) = EndsAs reading came (Failed file.now)
-StopsAs reading came OutOfMemory = Unit {0}
+StopsAs reading came OutOfMemory = Begins reading came
 
 -- what came of the files says this, of which the code made a result that Fits it
 pub record IsReadAndMade {A T : Type 0} (reading : Reading A) (came : List Taken) (Fits : T → A → Type 0) (made : T) : Type 0 where

@@ -4,7 +4,6 @@ use Rattle.std.specs.List.{AllZip}
 use Rattle.cost_base.specs.declared.Status.TheVariants as status
 use Rattle.cost_base.specs.Histories.{Taken}
 use Rattle.design_problem.specs.Problems.{DesignProblem}
-use Rattle.design_problem.specs.Text.{text}
 use Rattle.input_files.specs.declared.problem.View.{View}
 use Rattle.input_files.specs.Inputs.{InputFiles}
 use Rattle.input_files.specs.Readings.{Gave}

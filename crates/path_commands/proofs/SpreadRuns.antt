@@ -1,5 +1,5 @@
 -- What `spread` reports of the problem and the sets that were read.
-use Rattle.std.proofs.Common.{◌≡◌, ℕ, refl, sym, subst, List, []}
+use Rattle.std.proofs.Common.{◌≡◌, ℕ, refl, sym, subst, List, [], ◌++◌, Err}
 use Rattle.std.specs.Prelude.{Option, None}
 use Rattle.std.specs.Borrow.{Bor}
 use Rattle.cost_base.specs.Histories.{Taken}
@@ -12,6 +12,12 @@ use Rattle.set_reader.specs.FaultNumbers.{number_of}
 use Rattle.set_reader.specs.Reading.{AreSaid, TellsReading, set_fault}
 use Rattle.set_reader.specs.SpreadSets.{AreSetsOf}
 use Rattle.command_words.specs.Jobs.{Bounds}
+use Rattle.input_files.specs.declared.problem.View.TheVariants.{AsRequested}
+use Rattle.input_files.specs.declared.stop.Stop.TheVariants.{OutOfMemory as NoMemory}
+use Rattle.input_files.specs.Inputs.{InputFiles}
+use Rattle.input_files.specs.Outcomes.{outcome}
+use Rattle.input_files.proofs.Problems.{IsProblemOf}
+use Rattle.input_files.proofs.Stops.{gave_then, gave_wanting}
 use Rattle.input_files.specs.Readings.{EndsAs, Faulty, Gave, Says}
 use Rattle.input_files.specs.Stops.{IsReadAndMade, StopsAs, refusal_in}
 use Rattle.report_writer.specs.declared.report.Report.{Report}
@@ -19,7 +25,7 @@ use Rattle.report_writer.specs.Reports.{Reports, bytes_in}
 use Rattle.spread_sets.specs.declared.spread.Spread.{Spread}
 use Rattle.spread_sets.specs.declared.spread.Spread.TheVariants.{Fit, Impossible, Undecided}
 use Rattle.spread_sets.specs.Answers.{IsSpreadFound}
-use Rattle.path_commands.specs.SetFiles.{AreSetsIn, Sharing, if_sets, set_stop, sets_read}
+use Rattle.path_commands.specs.SetFiles.{AreSetsIn, Sharing, if_sets, set_stop, sets_read, spread_read}
 use Rattle.path_commands.specs.Spreads.{MaySpread, spread_text, spread_status}
 use Rattle.report_writer.proofs.ReportLaws.{may_report}
 
@@ -85,3 +91,15 @@ spread_found Given limits file p q sets spread report same read found r =
             reports (found_may limits sharing sets spread read.so.fits.1 of_said);
       };
     })
+
+-- both files were read, and then memory was wanting
+pub spread_wanting : (First Later Both : List Taken → Type 0) (names : InputFiles) (file : List ℕ) (p : DesignProblem) (sets : List (List ℕ)) →
+    ((xs ys : List Taken) → First xs → Later ys → Both (xs ++ ys)) →
+    Gave First (λ came. IsReadAndMade (outcome AsRequested names) came IsProblemOf p) →
+    Gave Later (λ came. IsReadAndMade (sets_read file p) came (AreSetsFor p) sets) →
+    Gave Both (λ came. StopsAs (spread_read names file) came NoMemory)
+spread_wanting First Later Both names file p sets more a b =
+    gave_then First Later Both (outcome AsRequested names) (λ x. sets_read file x.problem) IsProblemOf
+    (λ (u : Unit {0}) (sharing : Sharing). Unit {0}) p (Err NoMemory) more a
+    (λ x is. subst (λ (q : DesignProblem). Gave Later (λ came. StopsAs (sets_read file q) came NoMemory)) (sym is.0)
+    (gave_wanting Later (sets_read file p) (AreSetsFor p) sets b))

@@ -2,6 +2,7 @@
 use Rattle.std.proofs.lemmas.Result.{err_from_is_err_and}
 use Rattle.command_words.specs.Jobs.{bounds}
 use Rattle.input_files.specs.Stops.{files_named}
+use Rattle.input_files.proofs.Stops.{gave_wanting}
 use Rattle.change_commands.proofs.ChangeRuns.{change_found}
 use Rattle.change_commands.proofs.PresentCosts.{network_built}
 use Rattle.change_commands.proofs.change.change_report.Goals as goal
@@ -12,9 +13,8 @@ report_of_network-requires g c =
 
 pub returns-in_err-report_of_network : goal.returns-in_err-report_of_network
 returns-in_err-report_of_network g c =
-    let read = c.in_ok-network.ensures.read in
     let e = err_from_is_err_and c.from_residual-in_err-report_of_network.result c.from_residual-in_err-report_of_network.ensures.1 in
-    rw (e.1, e.2) (record { came = read.came; given = read.given; so = tt })
+    rw (e.1, e.2) (gave_wanting _ _ _ _ c.in_ok-network.ensures.read)
 
 pub returns : goal.returns
 returns g c =

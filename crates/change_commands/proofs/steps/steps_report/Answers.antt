@@ -9,7 +9,7 @@ use Rattle.input_files.specs.Readings.{Ready, ◌>>=◌}
 use Rattle.input_files.specs.Outcomes.{Input, outcome, file_read, longest_answer}
 use Rattle.input_files.specs.Stops.{files_named}
 use Rattle.input_files.proofs.Stops.{gave_stop}
-use Rattle.input_files.proofs.LaterFiles.{both_came, second_stops, pair_made}
+use Rattle.input_files.proofs.LaterFiles.{both_wanting, second_stops, pair_made}
 use Rattle.report_writer.specs.declared.report.Report.{Report}
 use Rattle.report_writer.specs.Reports.{bytes_in}
 use Rattle.change_commands.specs.Plans.{Plan}
@@ -64,5 +64,6 @@ returns-in_err-report_of_text g c =
     let b = c.read_network.new.shelf in
     let d = c.read_answer_file.new.shelf in
     let p = err_from_is_err_and c.from_residual-in_err-report_of_text.result c.from_residual-in_err-report_of_text.ensures.1 in
-    rw (p.1, p.2) (both_came (g.S.Shelf.gave a b) (g.S.Shelf.gave b d) (g.S.Shelf.gave a d)
+    rw (p.1, p.2) (both_wanting (g.S.Shelf.gave a b) (g.S.Shelf.gave b d) (g.S.Shelf.gave a d)
+    (outcome AtPresent (files_named c.args.files)) (file_read longest_answer c.args.words.answer.now) plan_of _ _ _ _
     (g.met.S.Shelf.gave_more a b d) c.in_ok-network.ensures.read c.in_ok-bytes.ensures.read)

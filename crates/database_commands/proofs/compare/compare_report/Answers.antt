@@ -1,11 +1,12 @@
 -- The network was read, then the live file, and the two were compared.
-use Rattle.std.proofs.Common.{◌≡◌, ◌∙◌, ℕ, List, ◌++◌, Ok, Err, refl, ap, subst}
+use Rattle.std.proofs.Common.{◌≡◌, ◌∙◌, ℕ, List, Ok, Err, refl, ap, subst}
 use Rattle.std.proofs.lemmas.Result.{err_from_is_err_and}
 use Rattle.request_reader.specs.Asked.{Asked}
 use Rattle.input_files.specs.Readings.{Reading, Ready, ◌>>=◌, Gave}
 use Rattle.input_files.specs.Outcomes.{Input}
 use Rattle.input_files.specs.Stops.{StopsAs, IsReadAndMade, files_named}
-use Rattle.input_files.proofs.Stops.{gave_stop, gave_made, gave_then}
+use Rattle.input_files.specs.declared.stop.Stop.TheVariants as stops
+use Rattle.input_files.proofs.Stops.{gave_stop, gave_made, gave_then, gave_wanting}
 use Rattle.report_writer.specs.declared.report.Report.{Report}
 use Rattle.report_writer.specs.Reports.{bytes_in}
 use Rattle.lsa_bytes.specs.declared.Lsa.{Lsa}
@@ -49,12 +50,15 @@ returns-in_err-report g c =
     let a = c.args.shelf.now in
     let b = c.read_identified.new.shelf in
     let d = c.read_live_file.new.shelf in
+    let names = files_named c.args.words in
+    let live = c.args.live.now in
     let p = err_from_is_err_and c.from_residual-in_err-report.result c.from_residual-in_err-report.ensures.1 in
-    rw (p.1, p.2) (record {
-      came = c.in_ok-network.ensures.came ++ c.in_ok-database.ensures.came;
-      given = g.met.S.Shelf.gave_more a b d _ _ c.in_ok-network.ensures.given c.in_ok-database.ensures.given;
-      so = tt;
-    })
+    rw (p.1, p.2) (gave_then (g.S.Shelf.gave a b) (g.S.Shelf.gave b d) (g.S.Shelf.gave a d) (identified_read names) (then_live live)
+    (IsIdentified names) Fits c.in_ok-network.network (Err stops.OutOfMemory) (g.met.S.Shelf.gave_more a b d) c.in_ok-network.ensures
+    (λ x fits. gave_stop (g.S.Shelf.gave b d) (live_read live x.asked.area) (λ lsas. Ready (record { input = x; live = lsas })) stops.OutOfMemory
+    (gave_wanting (g.S.Shelf.gave b d) (live_read live x.asked.area) (λ (database : List Lsa) lsas. database ≡ lsas) c.in_ok-database.database
+    (subst (λ area. Gave (g.S.Shelf.gave b d) (λ came. IsReadAndMade (live_read live area) came (λ (database : List Lsa) lsas. database ≡ lsas) c.in_ok-database.database))
+    (c.area_of.ensures ∙ ap (λ (asked : Asked). asked.area) fits.network_is.requests) c.in_ok-database.ensures))))
 
 pub returns : goal.returns
 returns g c =

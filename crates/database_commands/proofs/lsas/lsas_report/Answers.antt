@@ -7,6 +7,7 @@ use Rattle.lsdb_build.specs.Graphs.{Database}
 use Rattle.path_requests.specs.Meaning.{present_cost}
 use Rattle.request_reader.specs.Asked.{Asked}
 use Rattle.input_files.specs.Stops.{files_named}
+use Rattle.input_files.proofs.Stops.{gave_wanting}
 use Rattle.lsa_bytes.specs.Ids.{first_id_fault}
 use Rattle.lsa_bytes.specs.Written.{bytes_of_all}
 use Rattle.lsa_writer.specs.WrittenLsas.{written_lsas}
@@ -41,15 +42,13 @@ lsas_of-requires-clause-priced g c =
 
 pub returns-in_err-costs : goal.returns-in_err-costs
 returns-in_err-costs g c =
-    let read = c.in_ok-network.ensures in
     let p = err_from_is_err_and c.from_residual-in_err-costs.result c.from_residual-in_err-costs.ensures.1 in
-    rw (p.1, p.2) (record { came = read.came; given = read.given; so = tt })
+    rw (p.1, p.2) (gave_wanting _ _ _ _ c.in_ok-network.ensures)
 
 pub returns-in_err-bytes : goal.returns-in_err-bytes
 returns-in_err-bytes g c =
-    let read = c.in_ok-network.ensures in
     let p = err_from_is_err_and c.from_residual-in_err-bytes.result c.from_residual-in_err-bytes.ensures.1 in
-    rw (p.1, p.2) (record { came = read.came; given = read.given; so = tt })
+    rw (p.1, p.2) (gave_wanting _ _ _ _ c.in_ok-network.ensures)
 
 pub returns : goal.returns
 returns g c =

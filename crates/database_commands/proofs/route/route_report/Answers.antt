@@ -1,8 +1,9 @@
 -- The LSAs were read, both routers were found, and the line was made.
 use Rattle.std.proofs.Common.{◌≡◌, ◌∙◌, List, Ok, Err}
 use Rattle.std.proofs.lemmas.Result.{err_from_is_err_and}
+use Rattle.input_files.specs.declared.stop.Stop.TheVariants as stops
 use Rattle.input_files.specs.Readings.{Ready}
-use Rattle.input_files.proofs.Stops.{gave_stop, gave_made}
+use Rattle.input_files.proofs.Stops.{gave_stop, gave_made, gave_wanting}
 use Rattle.report_writer.specs.declared.report.Report.{Report}
 use Rattle.report_writer.specs.Reports.{bytes_in}
 use Rattle.lsa_bytes.specs.declared.Lsa.{Lsa}
@@ -45,9 +46,11 @@ returns-in_err-check_router-2 g c =
 
 pub returns-in_err-line : goal.returns-in_err-line
 returns-in_err-line g c =
-    let read = c.in_ok-database.ensures in
+    let file = c.args.lsas.now in
     let p = err_from_is_err_and c.from_residual-in_err-line.result c.from_residual-in_err-line.ensures.1 in
-    rw (p.1, p.2) (record { came = read.came; given = read.given; so = tt })
+    rw (p.1, p.2) (gave_stop (g.S.Shelf.gave c.args.shelf.now c.read_database.new.shelf) (lsas_read file)
+    (λ lsas. unless_unknown file c.args.from 0 lsas (unless_unknown file c.args.to 1 lsas (Ready lsas))) stops.OutOfMemory
+    (gave_wanting _ _ _ _ c.in_ok-database.ensures))
 
 pub returns : goal.returns
 returns g c =

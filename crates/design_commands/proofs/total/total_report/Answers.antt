@@ -4,6 +4,7 @@ use Rattle.std.proofs.lemmas.Result.{err_from_is_err_and}
 use Rattle.form_search.proofs.AdvisorLaws.{left_alike}
 use Rattle.command_words.specs.Jobs.{bounds}
 use Rattle.input_files.specs.Stops.{files_named}
+use Rattle.input_files.proofs.Stops.{gave_wanting}
 use Rattle.design_commands.proofs.TotalRuns.{total_found}
 use Rattle.design_commands.proofs.total.total_report.Goals as goal
 
@@ -15,9 +16,13 @@ returns-clause-read g c =
 
 pub returns-in_err-report_of_total-clause-read : goal.returns-in_err-report_of_total-clause-read
 returns-in_err-report_of_total-clause-read g c =
-    let read = c.in_ok-problem.ensures.read in
     let p = err_from_is_err_and c.from_residual-in_err-report_of_total.result c.from_residual-in_err-report_of_total.ensures.1 in
-    rw (p.1, p.2) (record { came = read.came; given = read.given; so = tt })
+    rw (p.1, p.2) (gave_wanting _ _ _ _ c.in_ok-problem.ensures.read)
+
+pub returns-in_err-answer-clause-read : goal.returns-in_err-answer-clause-read
+returns-in_err-answer-clause-read g c =
+    let p = err_from_is_err_and c.from_residual-in_err-answer.result c.from_residual-in_err-answer.ensures.1 in
+    rw (p.1, p.2) (gave_wanting _ _ _ _ c.in_ok-problem.ensures.read)
 
 pub returns-in_err-problem-clause-advisors : goal.returns-in_err-problem-clause-advisors
 returns-in_err-problem-clause-advisors g c = left_alike _ _ _ refl

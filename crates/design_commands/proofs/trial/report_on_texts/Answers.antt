@@ -3,6 +3,7 @@ use Rattle.std.proofs.lemmas.Result.{err_from_is_err_and}
 use Rattle.std.proofs.Common.{refl}
 use Rattle.form_search.proofs.AdvisorLaws.{left_alike}
 use Rattle.input_files.specs.Stops.{files_named}
+use Rattle.input_files.proofs.Stops.{gave_wanting}
 use Rattle.design_commands.proofs.Trials.{tried_found}
 use Rattle.design_commands.proofs.trial.report_on_texts.Goals as goal
 
@@ -12,11 +13,15 @@ returns-clause-read g c =
     (files_named c.args.words) c.in_ok-problem.problem c.in_ok-report_of_trial.field-0 c.in_ok-problem.ensures.read
     c.in_ok-report_of_trial.ensures
 
+pub returns-in_err-answer-clause-read : goal.returns-in_err-answer-clause-read
+returns-in_err-answer-clause-read g c =
+    let p = err_from_is_err_and c.from_residual-in_err-answer.result c.from_residual-in_err-answer.ensures.1 in
+    rw (p.1, p.2) (gave_wanting _ _ _ _ c.in_ok-problem.ensures.read)
+
 pub returns-in_err-report_of_trial-clause-read : goal.returns-in_err-report_of_trial-clause-read
 returns-in_err-report_of_trial-clause-read g c =
-    let read = c.in_ok-problem.ensures.read in
     let p = err_from_is_err_and c.from_residual-in_err-report_of_trial.result c.from_residual-in_err-report_of_trial.ensures.1 in
-    rw (p.1, p.2) (record { came = read.came; given = read.given; so = tt })
+    rw (p.1, p.2) (gave_wanting _ _ _ _ c.in_ok-problem.ensures.read)
 
 pub returns-in_err-problem-clause-advisors : goal.returns-in_err-problem-clause-advisors
 returns-in_err-problem-clause-advisors g c = left_alike _ _ _ refl

@@ -9,8 +9,8 @@ use Rattle.command_words.specs.Commands.{job_of}
 use Rattle.text_lines.specs.Arguments.{texts}
 use Rattle.report_writer.specs.Reports.{bytes_in}
 use Rattle.designer_command.specs.Usage.{usage}
-use Rattle.designer_command.specs.Runs.{MayWrite, Writes}
-use Rattle.designer_command.proofs.Runs.{job_done, made_meets, written_meets, writes_none}
+use Rattle.designer_command.specs.Runs.{MayWant, MayWrite, Writes}
+use Rattle.designer_command.proofs.Runs.{job_done, made_meets, wants_none, written_meets, writes_none}
 use Rattle.report_writer.proofs.Cuts.{made_by_pieces, none_by_pieces, text_by_pieces}
 use Rattle.report_writer.proofs.ReportLaws.{may_report}
 use Rattle.designer_command.proofs.top_call.run.Goals as goal
@@ -42,7 +42,8 @@ returns-in-Ok g c =
                   (g.met.K.Sink.handed_none o);
               same = ap (λ sink. g.K.Sink.got sink) same;
             })
-            did.so c.write_made.ensures.written);
+            did.so.0 c.write_made.ensures.written);
+        begun = λ wanting. subst (λ (job : Option JobRead). MayWant job did.came) (sym c.in-Ok.ensures.job) did.so.1;
       };
       pieces = made_by_pieces g.K.Sink.handed o p c.report_of.result c.write_made.result c.write_made.ensures.pieces;
       held = g.met.S.Shelf.gave_held a b did.came did.given;
@@ -69,6 +70,7 @@ returns-in-Err-Refused-clause-meets g c =
           c.usage_report.ensures (subst (λ (job : Option JobRead). MayWrite job [] status.WordsRefused usage)
           (sym none) (refl, refl)))
           c.write_report.ensures.written;
+      begun = λ wanting. wants_none (job_of words);
     }
 
 pub returns-in-Err-Refused-clause-pieces : goal.returns-in-Err-Refused-clause-pieces
@@ -78,6 +80,18 @@ returns-in-Err-Refused-clause-pieces g c =
 
 pub returns-in-Err-Refused-clause-advisors : goal.returns-in-Err-Refused-clause-advisors
 returns-in-Err-Refused-clause-advisors g c = left_alike _ _ _ refl
+
+pub returns-in-Err-OutOfMemory-clause-meets : goal.returns-in-Err-OutOfMemory-clause-meets
+returns-in-Err-OutOfMemory-clause-meets g c =
+    let a = c.args.shelf.now in
+    record {
+      came = [];
+      given = g.met.S.Shelf.gave_none a;
+      told = tt;
+      counted = g.met.S.Shelf.gave_counted a a [] (g.met.S.Shelf.gave_none a);
+      written = record { written = g.met.K.Sink.handed_none c.args.out.now; same = refl };
+      begun = λ wanting. wants_none (job_of (texts c.args.words.now));
+    }
 
 pub returns-in-Err-OutOfMemory-clause-pieces : goal.returns-in-Err-OutOfMemory-clause-pieces
 returns-in-Err-OutOfMemory-clause-pieces g c = none_by_pieces g.K.Sink.handed c.args.out.now c.args.out.now _ refl

@@ -11,7 +11,7 @@ use Rattle.input_files.specs.Stops.{files_named}
 use Rattle.input_files.proofs.Problems.{IsProblemOf}
 use Rattle.input_files.proofs.Stops.{gave_stop}
 use Rattle.evidence_commands.specs.Checks.{Claim, IsJudged}
-use Rattle.input_files.proofs.LaterFiles.{both_came, second_stops, pair_made}
+use Rattle.input_files.proofs.LaterFiles.{both_wanting, second_stops, pair_made}
 use Rattle.evidence_commands.proofs.check.check_files.Goals as goal
 
 abbrev claim_of : Input → List ℕ → Claim
@@ -55,5 +55,6 @@ returns-in_err-judge g c =
     let b = c.read_problem.new.shelf in
     let d = c.read_answer_file.new.shelf in
     let p = err_from_is_err_and c.from_residual-in_err-judge.result c.from_residual-in_err-judge.ensures.1 in
-    rw (p.1, p.2) (both_came (g.S.Shelf.gave a b) (g.S.Shelf.gave b d) (g.S.Shelf.gave a d)
+    rw (p.1, p.2) (both_wanting (g.S.Shelf.gave a b) (g.S.Shelf.gave b d) (g.S.Shelf.gave a d)
+    (outcome AsRequested (files_named c.args.words)) (file_read longest_answer c.args.answer.now) claim_of _ _ _ _
     (g.met.S.Shelf.gave_more a b d) c.in_ok-problem.ensures.read c.in_ok-bytes.ensures.read)

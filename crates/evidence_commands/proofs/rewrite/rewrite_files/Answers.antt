@@ -7,7 +7,7 @@ use Rattle.input_files.specs.Readings.{Ready, ◌>>=◌}
 use Rattle.input_files.specs.Outcomes.{ConfigFile, config_read, file_read, longest_answer}
 use Rattle.input_files.proofs.Stops.{gave_stop}
 use Rattle.evidence_commands.specs.Rewrites.{Revision, IsRevised}
-use Rattle.input_files.proofs.LaterFiles.{both_came, second_stops, pair_made}
+use Rattle.input_files.proofs.LaterFiles.{both_wanting, second_stops, pair_made}
 use Rattle.evidence_commands.proofs.rewrite.rewrite_files.Goals as goal
 
 abbrev revision_of : ConfigFile → List ℕ → Revision
@@ -51,5 +51,6 @@ returns-in_err-revised_by_text g c =
     let b = c.read_config_text.new.shelf in
     let d = c.read_answer_file.new.shelf in
     let p = err_from_is_err_and c.from_residual-in_err-revised_by_text.result c.from_residual-in_err-revised_by_text.ensures.1 in
-    rw (p.1, p.2) (both_came (g.S.Shelf.gave a b) (g.S.Shelf.gave b d) (g.S.Shelf.gave a d)
+    rw (p.1, p.2) (both_wanting (g.S.Shelf.gave a b) (g.S.Shelf.gave b d) (g.S.Shelf.gave a d)
+    (config_read c.args.config.now) (file_read longest_answer c.args.answer.now) revision_of _ _ _ _
     (g.met.S.Shelf.gave_more a b d) c.in_ok-text.ensures c.in_ok-bytes.ensures.read)

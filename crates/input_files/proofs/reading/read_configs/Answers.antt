@@ -6,7 +6,7 @@ use Rattle.std.proofs.lemmas.List.{drop_all}
 use Rattle.std.proofs.lemmas.Result.{err_from_is_err_and}
 use Rattle.interface_model.specs.Records.{Router}
 use Rattle.text_lines.specs.Arguments.{texts}
-use Rattle.input_files.proofs.Configs.{Progress, progress_begins, progress_stops, progress_goes, progress_ends, progress_next}
+use Rattle.input_files.proofs.Configs.{Progress, progress_begins, progress_stops, progress_goes, progress_ends, progress_next, progress_wanting}
 use Rattle.input_files.proofs.reading.read_configs.Goals as goal
 
 pub loop-name-init : goal.loop-name-init
@@ -53,10 +53,15 @@ pub returns-in-Err : goal.returns-in-Err
 returns-in-Err g c =
     let before = c.loop-name.invariant in
     let now = c.in_ok-config.ensures in
+    let names = c.args.names.now in
+    let i = c.loop-name.name-index in
+    let name = c.as_str.result.now in
+    let below : i < length names = search rules in
+    let next = progress_next names i c.name-item.result name c.loop-name.configs.items before.came below c.name-item.is c.as_str.ensures.value before.so in
     record {
       came = before.came ++ now.came;
       given = g.met.S.Shelf.gave_more c.args.shelf.now c.loop-name.shelf c.read_config.new.shelf before.came now.came before.given now.given;
-      so = tt;
+      so = progress_wanting (texts names) (texts (drop (i + 1) names)) name c.loop-name.configs.items c.in_ok-config.config before.came now.came next now.so;
     }
 
 pub returns : goal.returns

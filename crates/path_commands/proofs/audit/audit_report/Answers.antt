@@ -1,8 +1,20 @@
 -- The paths of the problem that was read were audited.
 use Rattle.input_files.specs.declared.problem.View.TheVariants.{AtPresent}
+use Rattle.std.proofs.lemmas.Result.{err_from_is_err_and}
 use Rattle.input_files.specs.Stops.{files_named}
+use Rattle.input_files.proofs.Stops.{gave_wanting}
 use Rattle.path_commands.proofs.AuditRuns.{audit_found}
 use Rattle.path_commands.proofs.audit.audit_report.Goals as goal
+
+pub returns-in_err-found : goal.returns-in_err-found
+returns-in_err-found g c =
+    let p = err_from_is_err_and c.from_residual-in_err-found.result c.from_residual-in_err-found.ensures.1 in
+    rw (p.1, p.2) (gave_wanting _ _ _ _ c.in_ok-problem.ensures.read)
+
+pub returns-in_err-text : goal.returns-in_err-text
+returns-in_err-text g c =
+    let p = err_from_is_err_and c.from_residual-in_err-text.result c.from_residual-in_err-text.ensures.1 in
+    rw (p.1, p.2) (gave_wanting _ _ _ _ c.in_ok-problem.ensures.read)
 
 pub returns : goal.returns
 returns g c =

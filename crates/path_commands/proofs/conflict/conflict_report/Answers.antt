@@ -1,7 +1,9 @@
 -- What is found of the problem that was read is told.
 use Rattle.std.proofs.Common.{refl}
 use Rattle.command_words.specs.Jobs.{bounds}
+use Rattle.std.proofs.lemmas.Result.{err_from_is_err_and}
 use Rattle.input_files.specs.Stops.{files_named}
+use Rattle.input_files.proofs.Stops.{gave_wanting}
 use Rattle.form_search.proofs.AdvisorLaws.{left_alike}
 use Rattle.path_commands.proofs.ConflictRuns.{conflict_found}
 use Rattle.path_commands.proofs.conflict.conflict_report.Goals as goal
@@ -13,6 +15,16 @@ pub report_of_conflict-requires : goal.report_of_conflict-requires
 report_of_conflict-requires g c =
     let limits = c.args.limits.now in
     (limits.top, limits.nodes, limits.budget_end, c.in_ok-conflict.ensures.found)
+
+pub returns-in_err-conflict-clause-read : goal.returns-in_err-conflict-clause-read
+returns-in_err-conflict-clause-read g c =
+    let p = err_from_is_err_and c.from_residual-in_err-conflict.result c.from_residual-in_err-conflict.ensures.1 in
+    rw (p.1, p.2) (gave_wanting _ _ _ _ c.in_ok-problem.ensures.read)
+
+pub returns-in_err-report_of_conflict-clause-read : goal.returns-in_err-report_of_conflict-clause-read
+returns-in_err-report_of_conflict-clause-read g c =
+    let p = err_from_is_err_and c.from_residual-in_err-report_of_conflict.result c.from_residual-in_err-report_of_conflict.ensures.1 in
+    rw (p.1, p.2) (gave_wanting _ _ _ _ c.in_ok-problem.ensures.read)
 
 pub returns-clause-read : goal.returns-clause-read
 returns-clause-read g c =

@@ -11,10 +11,9 @@ use Rattle.input_files.proofs.Problems.{IsProblemOf}
 use Rattle.input_files.proofs.Stops.{gave_stop, gave_then}
 use Rattle.report_writer.specs.declared.report.Report.{Report}
 use Rattle.report_writer.specs.Reports.{bytes_in}
-use Rattle.input_files.proofs.LaterFiles.{both_came}
 use Rattle.path_commands.specs.SetFiles.{Sharing, sets_read}
 use Rattle.path_commands.specs.Spreads.{MaySpread}
-use Rattle.path_commands.proofs.SpreadRuns.{spread_found}
+use Rattle.path_commands.proofs.SpreadRuns.{spread_found, spread_wanting}
 use Rattle.path_commands.proofs.spread.spread_report.Goals as goal
 
 pub returns-in_err-problem : goal.returns-in_err-problem
@@ -48,7 +47,8 @@ returns-in_err-spread g c =
     let b = c.read_problem.new.shelf in
     let d = c.read_sets_file.new.shelf in
     let e = err_from_is_err_and c.from_residual-in_err-spread.result c.from_residual-in_err-spread.ensures.1 in
-    rw (e.1, e.2) (both_came (g.S.Shelf.gave a b) (g.S.Shelf.gave b d) (g.S.Shelf.gave a d)
+    rw (e.1, e.2) (spread_wanting (g.S.Shelf.gave a b) (g.S.Shelf.gave b d) (g.S.Shelf.gave a d)
+    (files_named c.args.words) c.args.sets.now c.in_ok-problem.problem c.in_ok-sets.sets
     (g.met.S.Shelf.gave_more a b d) c.in_ok-problem.ensures.read c.in_ok-sets.ensures.read)
 
 pub report_of_spread-requires : goal.report_of_spread-requires
@@ -62,7 +62,8 @@ returns-in_err-report_of_spread g c =
     let b = c.read_problem.new.shelf in
     let d = c.read_sets_file.new.shelf in
     let e = err_from_is_err_and c.from_residual-in_err-report_of_spread.result c.from_residual-in_err-report_of_spread.ensures.1 in
-    rw (e.1, e.2) (both_came (g.S.Shelf.gave a b) (g.S.Shelf.gave b d) (g.S.Shelf.gave a d)
+    rw (e.1, e.2) (spread_wanting (g.S.Shelf.gave a b) (g.S.Shelf.gave b d) (g.S.Shelf.gave a d)
+    (files_named c.args.words) c.args.sets.now c.in_ok-problem.problem c.in_ok-sets.sets
     (g.met.S.Shelf.gave_more a b d) c.in_ok-problem.ensures.read c.in_ok-sets.ensures.read)
 
 pub returns : goal.returns
