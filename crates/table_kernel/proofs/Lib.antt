@@ -28,3 +28,7 @@ pub mod Refusals
 pub mod TurnKernels
 pub mod StayingWithin
 pub mod TurnedRows
+pub mod TermSums
+pub mod RowWeights
+pub mod ConstantSums
+pub mod Places

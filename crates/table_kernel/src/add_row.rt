@@ -10,6 +10,7 @@ ghost use Rattle.table_kernel.specs.Kernels.{IsKernel, width_of};
 ghost use Rattle.table_kernel.specs.Rows.{HasRowPlace, HoldsNumbers, IsCovered};
 
 use crate::Kernel;
+use crate::constants::row_constant;
 use cost_base::OutOfMemory;
 use design_problem::Form;
 use fraction_table::BlankRow;
@@ -76,7 +77,12 @@ impl Kernel {
               stage = Open;
             } }
     {
-        let constant = self.row_constant(&row.form);
+        let constant = row_constant(
+            &row.form,
+            &self.table.costs,
+            self.common,
+            self.constants.as_slice(),
+        );
         self.constants.push_reserved(constant);
         self.table.put_blank(row);
     }
