@@ -36,7 +36,7 @@ module _ (costs : CostBox) (rows : List Form) (D : ℕ) (lows : List (List ℤ))
   total_is f =
       ap (λ z. (pos D *ℤ value_for_costs f costs.low) +ℤ z) (from_lows_at f.coefficients lows 0 ∙ ap (product_sum f.coefficients) (sym zs_are))
 
-  low_total : (v : ℕ) → v < length costs.low → number_of_form D costs.low lows (member_form (length costs.low) rows (Low v (slice_index costs.low v))) 0 ≡ number_at zs v
+  pub low_total : (v : ℕ) → v < length costs.low → number_of_form D costs.low lows (member_form (length costs.low) rows (Low v (slice_index costs.low v))) 0 ≡ number_at zs v
   low_total v v_in =
       total_is (member_form (length costs.low) rows (Low v (slice_index costs.low v)))
       ∙ ap (λ z. (pos D *ℤ z) +ℤ product_sum (member_form (length costs.low) rows (Low v (slice_index costs.low v))).coefficients zs) (low_value costs.low rows v v_in)
