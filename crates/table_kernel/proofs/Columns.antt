@@ -65,7 +65,7 @@ constants_long k s = at_place_long k s 0
 abbrev pub line_number : Line → ℕ → ℤ
 line_number line place = number_at (line.constant ∷ line.numbers) place
 
-scaled_at : (n : ℤ) (zs : List ℤ) (place : ℕ) → number_at (map (λ z. z *ℤ n) zs) place ≡ (number_at zs place *ℤ n)
+pub scaled_at : (n : ℤ) (zs : List ℤ) (place : ℕ) → number_at (map (λ z. z *ℤ n) zs) place ≡ (number_at zs place *ℤ n)
 scaled_at n [] place = ring (n ∷ []) (num (pos 0)) (num (pos 0) ⊗ var 0) refl
 scaled_at n (z ∷ zs) zero = refl
 scaled_at n (z ∷ zs) (suc place) = scaled_at n zs place

@@ -5,7 +5,6 @@ pub mod OverCommon
 pub mod AtBasis
 pub mod StartNumbers
 pub mod StartKernels
-pub mod BoundMoves
 pub mod BoxMoves
 pub mod LineFills
 pub mod Restated
@@ -16,9 +15,6 @@ pub mod LineSums
 pub mod RowSums
 pub mod MoreRows
 pub mod Corners
-pub mod MoveSteps
-pub mod MovedConstants
-pub mod MovedKernels
 pub mod Lines
 pub mod SameKernels
 pub mod Turning
@@ -32,3 +28,9 @@ pub mod TermSums
 pub mod RowWeights
 pub mod ConstantSums
 pub mod Places
+pub mod UnboxedBases
+pub mod MovedBases
+pub mod MovedLines
+pub mod MovedKernels
+pub mod PutKernels
+pub mod Shares
