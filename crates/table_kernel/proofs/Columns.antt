@@ -135,23 +135,27 @@ share_small D line small = omega (arith, small, div-le_self D (nat_abs line.deno
 pub common_small : (k : Kernel) → IsBounded k → nat_abs k.common ≤ 2 ^ 30
 common_small k b = size_most k.common (2 ^ 30) b.positive b.common
 
+-- a number of a small line
+pub number_small : (line : Line) → IsLine line → (c : ℕ) → nat_abs (number_at line.numbers c) ≤ 2 ^ 30
+number_small line l c =
+    let most : nat_abs line.reach ≤ 2 ^ 30 = size_at_most line.reach (2 ^ 30) l.reach_positive l.reach in
+    omega (arith, most, number_within (nat_abs line.reach) line.numbers c l.numbers)
+  where
+    size_at_most : (z : ℤ) (n : ℕ) → pos 0 ≤ℤ z → z ≤ℤ pos n → nat_abs z ≤ n
+    size_at_most (pos m) n high low = omega (arith, ints)
+    size_at_most (negsuc m) n high low = absurd (omega (arith, ints))
+
 -- the number of a small line over the common denominator
 pub scaled_within : (D : ℕ) (line : Line) (c : ℕ) → IsLine line → D ≤ 2 ^ 30 → nat_abs (number_at (scaled_line D line) (suc c)) ≤ 2 ^ 60
 scaled_within D line c l small =
     let is = scaled_number D line (suc c) in
-    let number : nat_abs (number_at line.numbers c) ≤ 2 ^ 30 =
-    let most : nat_abs line.reach ≤ 2 ^ 30 = size_at_most line.reach (2 ^ 30) l.reach_positive l.reach in
-    omega (arith, most, number_within (nat_abs line.reach) line.numbers c l.numbers) in
+    let number = number_small line l c in
     let times : nat_abs (number_at line.numbers c *ℤ pos (share_of D line)) ≡ nat_abs (number_at line.numbers c) * share_of D line =
     unsigned_abs-mul (number_at line.numbers c) (pos (share_of D line)) in
     let share = share_small D line small in
     let product : nat_abs (number_at line.numbers c) * share_of D line ≤ nat_abs (number_at line.numbers c) * 2 ^ 30 =
     mul-le-mul_left (nat_abs (number_at line.numbers c)) share in
     omega (arith, ap nat_abs is, times, product, number)
-  where
-    size_at_most : (z : ℤ) (n : ℕ) → pos 0 ≤ℤ z → z ≤ℤ pos n → nat_abs z ≤ n
-    size_at_most (pos m) n high low = omega (arith, ints)
-    size_at_most (negsuc m) n high low = absurd (omega (arith, ints))
 
 -- the numbers at a column are within 2^60
 pub column_within : (k : Kernel) → IsBounded k → (c : ℕ) → AllWithin (2 ^ 60) (column_of k c)

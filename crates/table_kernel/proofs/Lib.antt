@@ -34,3 +34,4 @@ pub mod MovedLines
 pub mod MovedKernels
 pub mod PutKernels
 pub mod Shares
+pub mod MoveReads

@@ -6,7 +6,7 @@ ghost use Rattle.fraction_table.specs.Tableaus.{FitsBox};
 ghost use Rattle.integer_pivots.specs.Lines.{IsLine};
 ghost use Rattle.table_kernel.specs.Kernels.{IsKernel, IsMoving, stated, width_of};
 ghost use Rattle.table_kernel.specs.Moves.{IsBasisMoved, KeepsInMove, KeepsOfBox, LineMayMove, MayMove, box_distance, distance_of, lines_after_high, lines_after_low, raised_line, step_of};
-ghost use Rattle.table_kernel.specs.Turns.{KeepsAllButLows, line_of};
+ghost use Rattle.table_kernel.specs.Turns.{line_of};
 
 use crate::Kernel;
 use crate::kernel::OutOfRange;
@@ -42,21 +42,21 @@ fn step(line: &Line) -> i64
     }
 }
 
-impl Kernel {
-    /// Lets the constant of each line of x - low rise by its number at a column times a fall.
-    fn raise_constants(&mut self, column: usize, fall: i64)
-        requires kernel { IsMoving self.old }
-        requires column { column < width_of self.old }
-        requires fall { nat_abs fall < 2 ^ 16 }
-        ensures lines { self.new.lows.items ≡ map (raised_line column fall) self.old.lows.items }
-        ensures keeps { KeepsAllButLows self.old self.new }
-    {
-        for var in 0..self.lows.len() {
-            let number = self.lows[var].numbers.as_slice()[column];
-            self.lows[var].constant += fall * number;
-        }
+/// Lets the constant of each line rise by its number at a column times a fall.
+fn raise(lines: &mut [Line], column: usize, fall: i64)
+    requires long { All (λ line. column < length line.numbers) lines.old }
+    requires lines { All IsLine lines.old }
+    requires constants { All (λ line. nat_abs line.constant ≤ 2 ^ 44) lines.old }
+    requires fall { nat_abs fall < 2 ^ 16 }
+    ensures { lines.new ≡ map (raised_line column fall) lines.old }
+{
+    for var in 0..lines.len() {
+        let number = lines[var].numbers.as_slice()[column];
+        lines[var].constant += fall * number;
     }
+}
 
+impl Kernel {
     /// Moves the lines where the form x - low of a variable falls, and the member in the basis.
     fn shift_low(&mut self, var: usize, before: Member, after: Member, fall: i64)
         requires kernel { IsMoving self.old }
@@ -69,7 +69,7 @@ impl Kernel {
         match column_of(self.table.basis.as_slice(), before) {
             None => self.lows[var].constant -= self.lows[var].denominator * fall,
             Some(column) => {
-                self.raise_constants(column as usize, fall);
+                raise(self.lows.as_mut_slice(), column as usize, fall);
                 self.lows[var].constant = 0;
                 self.table.basis[column as usize] = after;
             }
@@ -85,7 +85,7 @@ impl Kernel {
         ensures costs { self.new.table.costs ≡ self.old.table.costs }
     {
         if let Some(column) = column_of(self.table.basis.as_slice(), before) {
-            self.raise_constants(column as usize, fall);
+            raise(self.lows.as_mut_slice(), column as usize, fall);
             self.table.basis[column as usize] = after;
         }
     }

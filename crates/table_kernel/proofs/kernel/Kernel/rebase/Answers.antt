@@ -9,9 +9,9 @@ use Rattle.fraction_table.proofs.Shifts.{moved_same}
 use Rattle.fraction_table.proofs.BetweenBoxes.{AreAlike, all_moved, high_step, low_step, none_moved}
 use Rattle.table_kernel.specs.declared.kernel.Kernel.{Kernel}
 use Rattle.table_kernel.specs.Kernels.{IsKernel, stated, width_of}
-use Rattle.table_kernel.specs.Turns.{MayMove}
+use Rattle.table_kernel.specs.Moves.{MayMove}
 use Rattle.table_kernel.proofs.AtBasis.{kernel_moves}
-use Rattle.table_kernel.proofs.BoxMoves.{both_keep, high_may, high_room, low_may, low_room, settled}
+use Rattle.table_kernel.proofs.BoxMoves.{both_keep, high_may, high_room, low_may, low_room, settled_box, settled_fit}
 use Rattle.table_kernel.proofs.Distances.{left_of}
 use Rattle.table_kernel.proofs.kernel.Kernel.rebase.Goals.{After-move_low}
 use Rattle.table_kernel.proofs.kernel.Kernel.rebase.Goals as goal
@@ -22,8 +22,8 @@ loop-var-init c =
     let m = kernel_moves k c.requires.kernel in
     record {
       kernel = m;
-      moved = none_moved (stated k) c.args.costs.now (sym (moved_same k.table.costs k.table.rows.items k.table.basis.items m.unboxed.members));
-      keeps = record { top = refl; rows = refl; width = refl; common = refl; reach = refl; weight = refl };
+      moved = none_moved (stated k) c.args.costs.now (sym (moved_same k.table.costs k.table.rows.items k.table.basis.items m.basis.members));
+      keeps = record { top = refl; rows = refl; width = refl; common = refl; lows = refl };
       room = c.moves_within.ensures.0 c.if-not-moves_within.false;
     }
 
@@ -104,17 +104,22 @@ loop-var-preserved c =
       room = subst (λ k. MayMove s (left_of old.table.costs.low costs.low k + left_of old.table.costs.high costs.high k)) next room;
     }
 
+-- all bounds have moved
+module _ (c : After-loop-var) where
+  all_are : IsMoved (stated c.args.self.now) c.args.costs.now (stated c.loop-var.self)
+  all_are =
+      all_moved (stated c.args.self.now) (stated c.loop-var.self) c.args.costs.now c.loop-var.var
+      (alike c.args.self.now c.args.costs.now c.requires.kernel c.requires.ranges)
+      (omega (
+        arith,
+        c.loop-var-test.false,
+        c.loop-var.auto.var-end,
+        ap length c.as_slice-low.ensures,
+        c.requires.ranges.low_count,
+      )) c.loop-var.invariant.moved
+
+pub put_constants-requires-clause-fit : goal.put_constants-requires-clause-fit
+put_constants-requires-clause-fit c = ?
+
 pub returns-clause-kernel : goal.returns-clause-kernel
-returns-clause-kernel c =
-    let old = c.args.self.now in
-    let costs = c.args.costs.now in
-    let all = all_moved (stated old) (stated c.loop-var.self) costs c.loop-var.var
-    (alike old costs c.requires.kernel c.requires.ranges)
-    (omega (
-      arith,
-      c.loop-var-test.false,
-      c.loop-var.auto.var-end,
-      ap length c.as_slice-low.ensures,
-      c.requires.ranges.low_count,
-    )) c.loop-var.invariant.moved in
-    settled old c.loop-var.self costs c.loop-var.invariant.kernel c.loop-var.invariant.keeps all.costs_are c.requires.ranges c.requires.fits
+returns-clause-kernel c = ?
