@@ -1,6 +1,7 @@
 -- One more place is done.
 use Rattle.std.proofs.Common.{◌^◌, ◌<◌, arith, length, ap, sym, ◌∙◌}
-use Rattle.std.specs.Prelude.{◌≡◌, ℤ, pos, nat_abs, List, slice_set}
+use Rattle.std.specs.Prelude.{◌≡◌, ℤ, pos, ◌+ℤ◌, ◌*ℤ◌, nat_abs, List, slice_set}
+use Rattle.whole_numbers.specs.Lists.{number_at}
 use Rattle.integer_pivots.specs.Numbers.{more_sums}
 use Rattle.integer_pivots.proofs.Sizes.{read, read_number}
 use Rattle.integer_pivots.proofs.PartSums.{multiple_fits, partly_all, partly_long, put_step}
@@ -20,7 +21,7 @@ set-requires c = omega (arith, long (goal.at.set-requires c).In-loop-index, c.lo
 
 pub overflow_mul-factor : goal.overflow_mul-factor
 overflow_mul-factor c =
-    multiple_fits c.args.factor _ c.requires.factor (c.requires.numbers c.loop-index.index (pos 0) c.loop-index-test.true)
+    multiple_fits c.args.factor (number_at c.args.numbers.now c.loop-index.index) c.requires.factor (c.requires.numbers c.loop-index.index (pos 0) c.loop-index-test.true)
 
 pub overflow_add-sum : goal.overflow_add-sum
 overflow_add-sum c =
@@ -36,7 +37,7 @@ loop-index-preserved c =
     let i = c.loop-index.index in
     let sum_in : i < length c.args.sums.now = omega (arith, c.loop-index-test.true, c.requires.long) in
     let same = read_number c.args.factor (let e : nat_abs c.args.factor < 2 ^ 63 = omega (arith, c.requires.factor) in e) in
-    c.set.ensures ∙ ap (λ (xs : List ℤ). slice_set xs i _) (sym c.as_slice.ensures)
+    c.set.ensures ∙ ap (λ (xs : List ℤ). slice_set xs i (read (read (number_at c.as_slice.result.now i) +ℤ read (read c.args.factor *ℤ read (number_at c.args.numbers.now i))))) (sym c.as_slice.ensures)
     ∙ (put_step c.args.sums.now c.args.factor (read c.args.factor) c.args.numbers.now i c.as_slice.result.now
     sum_in c.loop-index-test.true c.requires.factor same (c.requires.numbers i (pos 0) c.loop-index-test.true)
     (c.requires.sums i (pos 0) sum_in) (c.as_slice.ensures ∙ c.loop-index.invariant)).1
