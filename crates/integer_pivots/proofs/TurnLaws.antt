@@ -217,3 +217,13 @@ sizes_kept m f a b c d first second kept =
     let more : m * a ≤ m * b = mul-le-mul_left m first in
     let too : f * c ≤ f * d = mul-le-mul_left f second in
     omega (arith, more, too, kept)
+
+-- the number at the pivot's column stays small
+pub own_kept : (m f : ℕ) (d : ℤ) → nat_abs d ≤ 2 ^ 30 → f * nat_abs d ≤ 2 ^ 30 → m * 0 + f * nat_abs (read d) ≤ 2 ^ 30
+own_kept m f d small kept =
+    subst (λ (z : ℤ). m * 0 + f * nat_abs z ≤ 2 ^ 30) (sym (read_number d (omega (arith, small)))) (omega (arith, kept))
+
+pub own_told : (m f : ℕ) (d : ℤ) → nat_abs d ≤ 2 ^ 30 → m * 0 + f * nat_abs (read d) ≤ 2 ^ 30 → f * nat_abs d ≤ 2 ^ 30
+own_told m f d small kept =
+    let there = subst (λ (z : ℤ). m * 0 + f * nat_abs z ≤ 2 ^ 30) (read_number d (omega (arith, small))) kept in
+    omega (arith, there)
