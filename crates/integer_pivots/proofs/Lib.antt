@@ -9,3 +9,4 @@ pub mod TouchedColumns
 pub mod Quotients
 pub mod LineLaws
 pub mod TurnLaws
+pub mod TurnedLines

@@ -161,7 +161,7 @@ module _ (m most f e a : ℤ) (k : AreKept m most f e a) where
 abbrev pub wide : ℤ → ℤ
 wide z = to_z w128 (of_z w128 z)
 
-wide_number : (z : ℤ) → nat_abs z < 2 ^ 127 → wide z ≡ z
+pub wide_number : (z : ℤ) → nat_abs z < 2 ^ 127 → wide z ≡ z
 wide_number z small = to_z-of_z w128 z (fits_signed_from_abs w128 z small)
 
 fitting_size : (z : ℤ) → mag z < 2 ^ 63 → nat_abs z ≤ 2 ^ 63
