@@ -1,5 +1,5 @@
 -- The columns in which a line isn't 0, and numbers of which those in these columns are written.
-use Rattle.std.proofs.Common.{◌≡◌, ◌≢◌, ℕ, zero, suc, ◌+◌, ◌<◌, ◌≤◌, refl, sym, ◌∙◌, ap, subst, List, [], ◌∷◌, ◌++◌, length, arith, inl, inr, ◌⊎◌, get_or-set_same, get_or-set_other}
+use Rattle.std.proofs.Common.{◌≡◌, ◌≢◌, ℕ, zero, suc, ◌+◌, ◌<◌, refl, sym, ◌∙◌, ap, subst, List, [], ◌∷◌, ◌++◌, length, arith, inl, inr, ◌⊎◌, get_or-set_same, get_or-set_other}
 use Rattle.std.specs.Prelude.{ℤ, pos, slice_index_or, slice_set}
 use Rattle.std.proofs.Math.Seq.{get_or-append_seam}
 use Rattle.std.proofs.lemmas.Bool.{cases_eq}

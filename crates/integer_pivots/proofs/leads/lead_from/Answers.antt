@@ -1,5 +1,5 @@
 -- One more variable has 0 in the column.
-use Rattle.std.proofs.Common.{◌≡◌, ℕ, sym, ◌∙◌, ap, List, [], SFits, w64, to_z, rules}
+use Rattle.std.proofs.Common.{◌≡◌, sym, ◌∙◌, ap, List, [], SFits, w64, to_z, rules}
 use Rattle.std.specs.Prelude.{ℤ, pos, slice_index_or}
 use Rattle.std.proofs.lemmas.Int.{to_z-of_z}
 use Rattle.std.proofs.lemmas.List.{get_or_default}

@@ -1,5 +1,5 @@
 -- One more lead was turned.
-use Rattle.std.proofs.Common.{◌≡◌, ◌<◌, ◌∙◌, ap, subst, length, List, arith, SFits, w64, rules}
+use Rattle.std.proofs.Common.{◌<◌, ◌∙◌, ap, subst, length, List, arith, SFits, w64, rules}
 use Rattle.std.specs.Prelude.{ℤ, slice_index}
 use Rattle.std.proofs.lemmas.Int.{to_z-of_z}
 use Rattle.std.proofs.lemmas.List.{length-set}

@@ -1,10 +1,9 @@
 -- 1 and 0 need no division; what is computed of the sizes else is no greater than the second one.
-use Rattle.std.proofs.Common.{◌≡◌, ℕ, ◌^◌, ◌<◌, sym, ◌∙◌, ap, subst, arith, FitsSigned, w64, to_z}
+use Rattle.std.proofs.Common.{◌≡◌, ◌^◌, ◌<◌, sym, ◌∙◌, ap, subst, arith, w64, to_z}
 use Rattle.std.specs.Prelude.{ℤ, pos, ◌<ℤ◌, ◌≤ℤ◌, nat_abs}
 use Rattle.std.proofs.lemmas.Int.{fits_signed_from_abs, to_z_pos, to_z-of_z}
 use mathlib.Core.Path.{ap₂}
 use Rattle.whole_numbers.specs.Fractions.{gcd}
-use Rattle.integer_pivots.proofs.Sizes.{read}
 use Rattle.integer_pivots.proofs.Quotients.{bits_of, common_all, common_fits, common_most, common_one, common_positive}
 use Rattle.integer_pivots.proofs.line.common_with.Goals as goal
 use Rattle.integer_pivots.proofs.line.common_with.Goals.{then-part-eq1-via-then-part-eq1, then-part-eq1-via-else-part-eq1+then-number-eq0, After-greatest_common_divisor}

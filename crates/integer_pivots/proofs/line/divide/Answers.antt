@@ -1,8 +1,7 @@
 -- One more number is over the divisor.
-use Rattle.std.proofs.Common.{◌≡◌, ℕ, ◌+◌, ◌<◌, ◌≤◌, refl, sym, ◌∙◌, ap, subst, List, length, arith, w64}
+use Rattle.std.proofs.Common.{◌≡◌, ℕ, ◌+◌, ◌<◌, sym, ◌∙◌, ap, subst, List, length, arith}
 use Rattle.std.specs.Prelude.{ℤ, pos, ◌*ℤ◌, nat_abs}
 use Prim.Native.Nat.{◌∣◌}
-use Rattle.std.proofs.lemmas.Int.{to_z-of_z}
 use Rattle.whole_numbers.specs.Lists.{number_at}
 use Rattle.integer_pivots.proofs.Sizes.{read, read_known, read_number}
 use Rattle.integer_pivots.proofs.Quotients.{read_divides}

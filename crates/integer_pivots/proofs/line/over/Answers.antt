@@ -1,5 +1,5 @@
 -- A division that leaves no rest.
-use Rattle.std.proofs.Common.{◌≡◌, ◌^◌, ◌≤◌, refl, sym, ◌∙◌, ap, subst, arith, w64}
+use Rattle.std.proofs.Common.{◌≡◌, ◌≤◌, sym, ◌∙◌, ap, subst, arith, w64}
 use Rattle.std.specs.Prelude.{ℤ, pos, ◌*ℤ◌, nat_abs}
 use Rattle.std.specs.Int.Signed.{quot_z}
 use Rattle.std.proofs.lemmas.Int.{to_z-of_z}

@@ -1,5 +1,5 @@
 -- The least common multiple isn't below either number, and is computed where both are small.
-use Rattle.std.proofs.Common.{◌≡◌, ℕ, ◌^◌, ◌<◌, ◌≤◌, sym, ◌∙◌, ap, subst, arith, w64, to_z, true, false, FitsSigned}
+use Rattle.std.proofs.Common.{◌≡◌, ◌^◌, ◌≤◌, sym, ◌∙◌, ap, subst, arith, w64, true, false, FitsSigned}
 use Rattle.std.specs.Prelude.{ℤ, pos, ◌*ℤ◌, ◌<ℤ◌, ◌≤ℤ◌, nat_abs}
 use Rattle.std.specs.Int.Signed.{lt_z}
 use Prim.Native.Nat.{◌∣◌}

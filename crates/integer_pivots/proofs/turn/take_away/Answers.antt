@@ -1,5 +1,5 @@
 -- The multiple is taken away in one more column.
-use Rattle.std.proofs.Common.{◌≡◌, ℕ, ◌+◌, ◌<◌, ◌≤◌, ◌^◌, sym, ◌∙◌, ap, subst, List, length, arith}
+use Rattle.std.proofs.Common.{◌≡◌, ℕ, ◌+◌, ◌≤◌, ◌^◌, sym, ◌∙◌, ap, subst, List, length, arith}
 use Rattle.std.specs.Prelude.{ℤ, pos, ◌-ℤ◌, ◌*ℤ◌, nat_abs, slice_index_or}
 use Rattle.whole_numbers.specs.Lists.{number_at}
 use Rattle.integer_pivots.proofs.Sizes.{read, read_number}

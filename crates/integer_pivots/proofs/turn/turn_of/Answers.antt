@@ -1,5 +1,5 @@
 -- 1 and 0 need no division; else both numbers are over what they have in common.
-use Rattle.std.proofs.Common.{◌≡◌, sym, ◌∙◌, ap, subst, w64, to_z}
+use Rattle.std.proofs.Common.{sym, ◌∙◌, ap, subst, w64}
 use Rattle.std.specs.Prelude.{ℤ, pos, nat_abs}
 use Prim.Native.Nat.{◌∣◌}
 use Rattle.std.proofs.lemmas.Int.{to_z-of_z}

@@ -1,5 +1,5 @@
 -- What one more number has in common with those before it.
-use Rattle.std.proofs.Common.{◌≡◌, ℕ, ◌≤◌, sym, ◌∙◌, ap, subst, List, length, arith, w64, to_z}
+use Rattle.std.proofs.Common.{◌∙◌, ap, List, length, arith, w64, to_z}
 use Rattle.std.specs.Prelude.{ℤ, pos, nat_abs}
 use mathlib.Core.Path.{ap₂}
 use Rattle.whole_numbers.specs.Fractions.{gcd}

@@ -1,6 +1,6 @@
 -- Each number stands over the divisor.
-use Rattle.std.proofs.Common.{◌≡◌, ◌^◌, ◌≤◌, sym, ◌∙◌, ap, subst, arith, w64, to_z}
-use Rattle.std.specs.Prelude.{ℤ, pos, ◌*ℤ◌, nat_abs}
+use Rattle.std.proofs.Common.{sym, ◌∙◌, ap, subst, w64}
+use Rattle.std.specs.Prelude.{ℤ, ◌*ℤ◌, nat_abs}
 use Prim.Native.Nat.{◌∣◌}
 use Rattle.std.proofs.lemmas.Int.{to_z-of_z}
 use Rattle.whole_numbers.specs.Lists.{number_at}

@@ -1,7 +1,6 @@
 -- What is in common goes out, and the greatest number is the reach.
-use Rattle.std.proofs.Common.{◌≡◌, ◌^◌, ◌≤◌, sym, ◌∙◌, ap, subst, List, length, arith}
-use Rattle.std.specs.Prelude.{ℤ, pos, nat_abs}
-use Prim.Native.Nat.{◌∣◌}
+use Rattle.std.proofs.Common.{◌^◌, sym, ap, subst, length, arith}
+use Rattle.std.specs.Prelude.{nat_abs}
 use Rattle.integer_pivots.specs.Numbers.{AllWithin}
 use Rattle.integer_pivots.proofs.Sizes.{read, read_known}
 use Rattle.integer_pivots.proofs.LineLaws.{IsCommonPart, lowest_over_common, reduced_within}

@@ -1,16 +1,16 @@
 -- The numbers turn, and what they have in common goes out.
-use Rattle.std.proofs.Common.{◌≡◌, ℕ, ◌*◌, ◌^◌, ◌<◌, ◌≤◌, sym, ◌∙◌, ap, subst, List, length, arith}
-use Rattle.std.specs.Prelude.{ℤ, pos, ◌*ℤ◌, ◌-ℤ◌, ◌<ℤ◌, ◌≤ℤ◌, nat_abs}
+use Rattle.std.proofs.Common.{◌≡◌, ℕ, ◌*◌, ◌^◌, ◌≤◌, sym, ◌∙◌, ap, subst, List, arith}
+use Rattle.std.specs.Prelude.{ℤ, pos, ◌*ℤ◌, ◌-ℤ◌, ◌<ℤ◌, nat_abs}
 use Prim.Native.Nat.{◌∣◌}
 use Rattle.std.proofs.lemmas.Int.{ints, unsigned_abs-mul}
 use Rattle.std.proofs.lemmas.Nat.Gcd.{le_of_dvd}
 use Rattle.std.proofs.Math.Nat.{dvd-mul_right}
 use Rattle.whole_numbers.specs.Lists.{number_at}
 use Rattle.whole_numbers.proofs.FractionLaws.{product_positive}
-use Rattle.whole_numbers.proofs.Sizes.{positive_is, size_positive}
+use Rattle.whole_numbers.proofs.Sizes.{size_positive}
 use Rattle.integer_pivots.specs.declared.turn.Turn.{Turn}
 use Rattle.integer_pivots.specs.Numbers.{AllWithin}
-use Rattle.integer_pivots.specs.Turns.{turn_at, turned_number}
+use Rattle.integer_pivots.specs.Turns.{turned_number}
 use Rattle.integer_pivots.proofs.Sizes.{number_within, positive_size, product_read, read, read_number, size_of, wider}
 use Rattle.integer_pivots.proofs.TurnLaws.{turn_positive, turn_small, wide, wide_number}
 use Rattle.integer_pivots.proofs.TurnedLines.{AreMade, made_count, made_others, made_own, made_within, multiplied_within, product_high, scaled}
