@@ -1,8 +1,9 @@
 //! Lines: whole numbers over one denominator each.
-ghost use Rattle.std.specs.Prelude.{◌≡◌, ℕ, ◌^◌, ◌*◌, ◌+◌, ◌<◌, ◌≤◌, pos, ◌*ℤ◌, ◌<ℤ◌, ◌≤ℤ◌, nat_abs, length};
+ghost use Rattle.std.specs.Prelude.{◌≡◌, ℕ, ◌^◌, ◌<◌, ◌≤◌, pos, ◌*ℤ◌, ◌<ℤ◌, ◌≤ℤ◌, nat_abs, length};
 ghost use Prim.Native.Nat.{◌∣◌};
+ghost use Rattle.whole_numbers.specs.Fractions.{exact_quotient, gcd};
 ghost use Rattle.whole_numbers.specs.Lists.{number_at};
-ghost use Rattle.integer_pivots.specs.Lines.{IsInLowestTerms, IsLine, IsReduced};
+ghost use Rattle.integer_pivots.specs.Lines.{IsInLowestTerms, IsReduced};
 ghost use Rattle.integer_pivots.specs.Numbers.{AllWithin};
 
 use crate::bounds::greatest;
@@ -22,14 +23,12 @@ pub struct Line {
     pub reach: i64,
 }
 
-/// The greatest common divisor of a number's size and a divisor.
-fn common_with(number: i64, part: i64) -> i64
+/// The greatest common divisor of a number's size and a positive number.
+pub fn common_with(number: i64, part: i64) -> i64
     requires part { pos 0 <ℤ part }
+    ensures value { result ≡ pos (gcd (nat_abs number) (nat_abs part)) }
     ensures positive { pos 0 <ℤ result }
     ensures least { result ≤ℤ part }
-    ensures number { nat_abs result ∣ nat_abs number }
-    ensures part { nat_abs result ∣ nat_abs part }
-    ensures greatest { (d : ℕ) → d ∣ nat_abs number → d ∣ nat_abs part → d ∣ nat_abs result }
 {
     if part == 1 || number == 0 {
         return part;
@@ -41,10 +40,11 @@ fn common_with(number: i64, part: i64) -> i64
 }
 
 /// A number into which a divisor goes, over it.
-fn over(number: i64, part: i64) -> i64
+pub fn over(number: i64, part: i64) -> i64
     requires part { pos 0 <ℤ part }
     requires whole { nat_abs part ∣ nat_abs number }
     requires size { nat_abs number ≤ 2 ^ 62 }
+    ensures value { result ≡ exact_quotient number (nat_abs part) }
     ensures times { (result *ℤ part) ≡ number }
     ensures size { nat_abs result ≤ nat_abs number }
 {
@@ -54,10 +54,25 @@ fn over(number: i64, part: i64) -> i64
     number / part
 }
 
+/// Puts each number, into which a divisor goes, over it.
+fn divide(numbers: &mut Listed<i64>, part: i64)
+    requires part { pos 0 <ℤ part }
+    requires whole { (c : ℕ) → c < length numbers.old → nat_abs part ∣ nat_abs (number_at numbers.old c) }
+    requires sizes { AllWithin (2 ^ 62) numbers.old }
+    ensures count { length numbers.new ≡ length numbers.old }
+    ensures numbers { (c : ℕ) → c < length numbers.old → (number_at numbers.new c *ℤ part) ≡ number_at numbers.old c }
+{
+    for column in 0..numbers.as_slice().len() {
+        let number = numbers.as_slice()[column];
+        numbers.set(column, over(number, part));
+    }
+}
+
 impl Line {
     /// What the denominator, the constant and all numbers have in common.
     fn common_part(&self) -> i64
         requires positive { pos 0 <ℤ self.now.denominator }
+        requires sizes { (nat_abs self.now.denominator ≤ 2 ^ 62) × (nat_abs self.now.constant ≤ 2 ^ 62) × AllWithin (2 ^ 62) self.now.numbers }
         ensures positive { pos 0 <ℤ result }
         ensures denominator { nat_abs result ∣ nat_abs self.now.denominator }
         ensures constant { nat_abs result ∣ nat_abs self.now.constant }
@@ -66,30 +81,31 @@ impl Line {
             ((c : ℕ) → c < length self.now.numbers → d ∣ nat_abs (number_at self.now.numbers c)) → d ∣ nat_abs result }
     {
         let mut part = common_with(self.constant, self.denominator);
-        for column in 0..self.numbers.as_slice().len() {
+        let numbers = self.numbers.as_slice();
+        for column in 0..numbers.len() {
             if part == 1 {
                 return 1;
             }
-            part = common_with(self.numbers.as_slice()[column], part);
+            part = common_with(numbers[column], part);
         }
         part
     }
 
-    /// Divides the numbers at the columns.
-    fn divide_numbers(&mut self, part: i64)
+    /// Puts the denominator, the constant and all numbers over a number that goes into each.
+    fn put_over(&mut self, part: i64)
         requires part { pos 0 <ℤ part }
-        requires whole { (c : ℕ) → c < length self.old.numbers → nat_abs part ∣ nat_abs (number_at self.old.numbers c) }
-        requires sizes { AllWithin (2 ^ 62) self.old.numbers }
-        ensures count { length self.new.numbers ≡ length self.old.numbers }
-        ensures numbers { (c : ℕ) → c < length self.old.numbers → (number_at self.new.numbers c *ℤ part) ≡ number_at self.old.numbers c }
-        ensures denominator { self.new.denominator ≡ self.old.denominator }
-        ensures constant { self.new.constant ≡ self.old.constant }
-        ensures reach { self.new.reach ≡ self.old.reach }
+        requires denominator { nat_abs part ∣ nat_abs self.old.denominator }
+        requires constant { nat_abs part ∣ nat_abs self.old.constant }
+        requires numbers { (c : ℕ) → c < length self.old.numbers → nat_abs part ∣ nat_abs (number_at self.old.numbers c) }
+        requires sizes { (nat_abs self.old.denominator ≤ 2 ^ 62) × (nat_abs self.old.constant ≤ 2 ^ 62) × AllWithin (2 ^ 62) self.old.numbers }
+        ensures { IsReduced self.old self.new (nat_abs part) }
     {
-        for column in 0..self.numbers.as_slice().len() {
-            let number = self.numbers.as_slice()[column];
-            self.numbers.set(column, over(number, part));
+        if part == 1 {
+            return;
         }
+        self.denominator = over(self.denominator, part);
+        self.constant = over(self.constant, part);
+        divide(&mut self.numbers, part);
     }
 
     /// Brings a line into lowest terms: what its denominator, its constant and all its numbers have in common goes out.
@@ -107,11 +123,7 @@ impl Line {
         ensures least { (most : ℕ) → AllWithin most self.old.numbers → nat_abs self.new.reach ≤ most }
     {
         let part = self.common_part();
-        if part != 1 {
-            self.denominator = over(self.denominator, part);
-            self.constant = over(self.constant, part);
-            self.divide_numbers(part);
-        }
+        self.put_over(part);
         self.reach = greatest(self.numbers.as_slice());
     }
 }

@@ -1,16 +1,15 @@
 //! How a pivot turns one line.
-ghost use Rattle.std.specs.Prelude.{◌≡◌, ℕ, ◌^◌, ◌*◌, ◌+◌, ◌<◌, ◌≤◌, ◌↔◌, pos, ◌-ℤ◌, ◌*ℤ◌, ◌<ℤ◌, ◌≤ℤ◌, nat_abs, length, map, IsTrue, MatchOption, vec_capacity};
+ghost use Rattle.std.specs.Prelude.{◌≡◌, ℕ, ◌^◌, ◌*◌, ◌+◌, ◌<◌, ◌≤◌, ◌↔◌, pos, ◌-ℤ◌, ◌*ℤ◌, ◌<ℤ◌, ◌≤ℤ◌, nat_abs, length, IsTrue, MatchOption, vec_capacity};
 ghost use Prim.Native.Nat.{◌∣◌};
 ghost use Rattle.whole_numbers.specs.Fractions.{lcm};
 ghost use Rattle.whole_numbers.specs.Lists.{number_at};
 ghost use Rattle.integer_pivots.specs.Lines.{IsInLowestTerms, IsLine};
-ghost use Rattle.integer_pivots.specs.Numbers.{AllWithin, greatest_of};
+ghost use Rattle.integer_pivots.specs.Numbers.{AllWithin};
 ghost use Rattle.integer_pivots.specs.Turns.{AreNonZeros, IsTurnedLine, StaysSmall, turn_at, turn_by, turned_number};
 
 use crate::bounds::{ENTRY_LIMIT, greatest};
-use crate::line::Line;
+use crate::line::{Line, common_with, over};
 use cost_base::Listed;
-use whole_numbers::greatest_common_divisor;
 
 /// How a line turns: what it is multiplied by, and how many times the entering form's line is taken away then.
 #[derive(Clone, Copy)]
@@ -36,13 +35,10 @@ pub fn turn_of(number: i64, pivot: i64) -> Turn
             factor: number,
         };
     }
-    let common = greatest_common_divisor(
-        u128::from(number.unsigned_abs()),
-        u128::from(pivot.unsigned_abs()),
-    ) as i64;
+    let common = common_with(number, pivot);
     Turn {
-        multiplier: pivot / common,
-        factor: number / common,
+        multiplier: over(pivot, common),
+        factor: over(number, common),
     }
 }
 
@@ -56,11 +52,7 @@ pub fn common_multiple(first: i64, second: i64) -> Option<i64>
     if ENTRY_LIMIT < second {
         return None;
     }
-    let part = greatest_common_divisor(
-        u128::from(first.unsigned_abs()),
-        u128::from(second.unsigned_abs()),
-    ) as i64;
-    let common = first / part * second;
+    let common = over(first, common_with(first, second)) * second;
     if ENTRY_LIMIT < common {
         return None;
     }
@@ -85,7 +77,8 @@ pub fn put_touched(touched: &mut Vec<usize>, line: &[i64])
 fn multiply(numbers: &mut Listed<i64>, multiplier: i64)
     requires sizes { AllWithin (2 ^ 30) numbers.old }
     requires multiplier { nat_abs multiplier ≤ 2 ^ 30 }
-    ensures { numbers.new ≡ map (λ z. multiplier *ℤ z) numbers.old }
+    ensures count { length numbers.new ≡ length numbers.old }
+    ensures each { (c : ℕ) → c < length numbers.old → number_at numbers.new c ≡ (multiplier *ℤ number_at numbers.old c) }
 {
     if multiplier == 1 {
         return;
@@ -145,7 +138,7 @@ impl Line {
         requires factor { nat_abs turn.factor ≤ 2 ^ 30 }
         ensures { IsTrue result ↔ StaysSmall turn self.now entering.now }
     {
-        if turn.factor.abs() * entering.denominator > ENTRY_LIMIT {
+        if !turn.keeps(0, entering.denominator) {
             return false;
         }
         if turn.keeps(self.reach, entering.reach) {
