@@ -9,5 +9,6 @@ use Rattle.table_kernel.proofs.Columns.{place_is}
 use Rattle.table_kernel.proofs.AtBasis.{basis_kernel}
 use Rattle.table_kernel.proofs.SameButRoom.{rebuilt}
 use Rattle.table_kernel.proofs.SameKernels.{kernel_same}
-use Rattle.table_kernel.proofs.Turning.{rows_crossed}
+use Rattle.table_kernel.proofs.Pivoting.{rank_rose}
+use Rattle.table_kernel.proofs.TurnKernels.{ready_of}
 use Rattle.table_kernel.proofs.kernel.Kernel.width.Goals as goal
