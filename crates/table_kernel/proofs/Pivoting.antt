@@ -1,13 +1,12 @@
 -- After a pivot a kernel is one, and its rank rose.
 use Rattle.std.specs.declared.alloc.Global.{Global}
-use Rattle.std.proofs.Common.{Vec, ◌≡◌, ℕ, zero, suc, ◌*◌, ◌^◌, ◌<◌, ◌≤◌, sym, ◌∙◌, ap, subst, List, [], map, length, arith, zero-add}
+use Rattle.std.proofs.Common.{Vec, ◌≡◌, ℕ, zero, suc, ◌*◌, ◌^◌, ◌<◌, ◌≤◌, sym, ◌∙◌, ap, subst, List, map, length, arith, zero-add}
 use Rattle.std.specs.Prelude.{ℤ, pos, ◌*ℤ◌, ◌<ℤ◌, nat_abs, slice_set, vec_capacity, All, Some}
 use Rattle.std.proofs.lemmas.List.{get_or_default, length-map}
 use Rattle.cost_base.proofs.ListLemmas.{get_or-map-numbers_from}
 use Rattle.whole_numbers.specs.Fractions.{Fraction}
 use Rattle.whole_numbers.specs.Lists.{number_at}
 use Rattle.whole_numbers.proofs.Sizes.{positive_is, size_positive}
-use Rattle.design_problem.specs.declared.form.Form.{Form}
 use Rattle.design_problem.specs.declared.tree.Member.{Member}
 use Rattle.design_problem.specs.Basis.{LeadsPositive}
 use Rattle.design_problem.specs.Boxes.{IsBox}
@@ -15,7 +14,7 @@ use Rattle.fraction_table.specs.declared.table.Table.{Table}
 use Rattle.fraction_table.specs.Pivots.{IsLeastColumn, KeepsBoxAndRows, member_at, numbers_in_column}
 use Rattle.fraction_table.specs.Ranks.{rank}
 use Rattle.fraction_table.specs.Tableaus.{FitsBox}
-use Rattle.fraction_table.specs.ValidTables.{AllLong, HasRoom, members_of_box, number_of_form}
+use Rattle.fraction_table.specs.ValidTables.{AllLong, HasRoom, members_of_box}
 use Rattle.fraction_table.proofs.Ranks.{negative_size, rank_rises_to}
 use Rattle.fraction_table.proofs.theory.Rise.{rise}
 use Rattle.fraction_table.proofs.theory.TurnedLeads.{column_other, length-numbers_in}
@@ -29,10 +28,10 @@ use Rattle.table_kernel.specs.Bases.{AreAtBasis}
 use Rattle.table_kernel.specs.Kernels.{IsBounded, IsKernel, IsShaped, lows_of, stated, width_of}
 use Rattle.table_kernel.specs.Lines.{IsBestColumn, IsEntering, column_of, form_of_place, numbers_of_place}
 use Rattle.table_kernel.specs.Numbers.{number_at_column, scaled_line}
-use Rattle.table_kernel.specs.Turns.{HasTurned, line_of}
+use Rattle.table_kernel.specs.Turns.{HasTurned}
 use Rattle.table_kernel.proofs.AtBasis.{crossed_basis, basis_kernel, kernel_basis, scaled_by}
 use Rattle.table_kernel.proofs.Columns.{column_number, line_number, place_is}
-use Rattle.table_kernel.proofs.Turning.{EntersAt, IsTurnOf, IsTurnedOver, basis_turned, column_up, entering_numbers, least_crossed, positive_too, rise_from, rows_crossed}
+use Rattle.table_kernel.proofs.Turning.{EntersAt, IsTurnOf, basis_turned, column_up, entering_numbers, least_crossed, positive_too, rise_from, rows_crossed}
 
 -- What a pivot of a kernel needs.
 pub record IsPivotIn (k : Kernel) (place column : ℕ) : Type 0 where
@@ -97,7 +96,7 @@ module _ (k : Kernel) (place column : ℕ) (p : IsPivotIn k place column) where
   pivot_is : number_at (place_numbers k place) (suc column) ≡ pos (nat_abs (number_at (place_numbers k place) (suc column)))
   pivot_is = positive_is (number_at (place_numbers k place) (suc column)) pivot_positive
 
-  pub is_least : IsLeastColumn (width_of k) (lows_of k) (place_numbers k place) column
+  is_least : IsLeastColumn (width_of k) (lows_of k) (place_numbers k place) column
   is_least c c_in other b b_is above =
       let D = nat_abs k.common in
       let f = nat_abs k.entering.denominator in
@@ -116,8 +115,8 @@ module _ (k : Kernel) (place column : ℕ) (p : IsPivotIn k place column) where
   turn_is = record {
     member = place_is k p.kernel.shaped place p.place_in;
     j_in = p.best.0;
-    at_j = sym (numbers_at (width_of k) (nat_abs k.common) k.table.costs.low (lows_of k) (form_of_place k place) (suc column)
-        (omega (arith, p.best.0))) ∙ pivot_is;
+    at_j = sym (numbers_at (width_of k) (nat_abs k.common) k.table.costs.low (lows_of k) (form_of_place k place)
+        (suc column) (omega (arith, p.best.0))) ∙ pivot_is;
     positive = size_positive (number_at (place_numbers k place) (suc column)) pivot_positive;
     least = is_least;
   }
@@ -137,7 +136,7 @@ module _ (k : Kernel) (place column : ℕ) (p : IsPivotIn k place column) where
     after_positive = size_positive h.common t.positive
 
     -- the new numbers over the old denominator and the pivot are the turned rows over the new one
-    pub rows_are : map (scaled_by (nat_abs k.common * nat_abs (number_at (place_numbers k place) (suc column)))) (lows_of h)
+    rows_are : map (scaled_by (nat_abs k.common * nat_abs (number_at (place_numbers k place) (suc column)))) (lows_of h)
         ≡ map (scaled_by (nat_abs h.common)) (turned_rows (lows_of k) (place_numbers k place) (suc column) (nat_abs k.common))
     rows_are =
         rows_crossed (nat_abs k.common) (nat_abs h.common) (nat_abs (number_at (place_numbers k place) (suc column)))

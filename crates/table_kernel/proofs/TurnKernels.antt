@@ -3,9 +3,8 @@ use Rattle.std.proofs.Common.{◌≡◌, ℕ, ◌<◌, sym, ◌∙◌, ap, subst
 use Rattle.std.specs.Prelude.{pos, ◌<ℤ◌, Some}
 use Rattle.whole_numbers.specs.Lists.{number_at}
 use Rattle.integer_pivots.specs.declared.line.Line.{Line}
-use Rattle.integer_pivots.specs.Turns.{AreNonZeros}
 use Rattle.table_kernel.specs.declared.kernel.Kernel.{Kernel}
-use Rattle.table_kernel.specs.Kernels.{IsKernel, width_of}
+use Rattle.table_kernel.specs.Kernels.{IsKernel}
 use Rattle.table_kernel.specs.Lines.{IsBestColumn, IsEntering, KeepsNumbers}
 use Rattle.table_kernel.specs.Turns.{IsReadyToTurn}
 use Rattle.table_kernel.proofs.Pivoting.{IsPivotIn}
@@ -37,12 +36,6 @@ pivot_stays k m place column keeps entering p =
           });
       best = subst (λ (h : Kernel). IsBestColumn h (Some column)) same p.best;
     }
-
--- and the columns that were looked up are those of the line
-pub touched_stay : (k m : Kernel) → KeepsNumbers k m → m.entering ≡ k.entering →
-    AreNonZeros k.entering.numbers (width_of k) m.left.items → AreNonZeros m.entering.numbers (width_of m) m.left.items
-touched_stay k m keeps entering touched =
-    subst (λ (h : Kernel). AreNonZeros h.entering.numbers (width_of h) m.left.items) (sym (left_alone k m keeps entering)) touched
 
 -- the kernel is ready for its turn
 pub ready_of : (k : Kernel) (place column : ℕ) → IsPivotIn k place column → IsReadyToTurn k column

@@ -289,32 +289,19 @@ positive_too g h (pos (suc n)) (pos (suc m)) g_positive same high = omega (arith
 positive_too g h (pos (suc n)) (negsuc m) g_positive same high =
     let product : 0 < suc n * g = grind (arith, g_positive) in absurd (omega (arith, ints, same, product))
 
--- so where numbers lead positive, those lead so that are the same with positive factors
-positive_head : (g h : ℕ) (z w : ℤ) (zs ws : List ℤ) → 0 < g → 0 < h → (z *ℤ pos g) ≡ (w *ℤ pos h) →
-    (LeadsPositive zs → LeadsPositive ws) → LeadsPositive (z ∷ zs) → LeadsPositive (w ∷ ws)
-positive_head g h (pos zero) w zs ws g_positive h_positive same rest leads =
-    subst (λ (y : ℤ). LeadsPositive (y ∷ ws)) (sym (zero_too g h w h_positive same)) (rest leads)
-positive_head g h (pos (suc n)) w zs ws g_positive h_positive same rest leads =
-    leading w (positive_too g h (pos (suc n)) w g_positive same (omega (arith, ints)))
+-- so what leads in the one way leads so with the other one at its head
+signs_keep : (Old New : ℤ → Type 0) (g h : ℕ) (z w : ℤ) → 0 < g → 0 < h → (z *ℤ pos g) ≡ (w *ℤ pos h) →
+    (Old (pos 0) → New (pos 0)) → ((n : ℕ) → New (pos (suc n))) → ((n : ℕ) → Old (negsuc n) → ⊥) → Old z → New w
+signs_keep Old New g h (pos zero) w g_positive h_positive same rest high low old =
+    subst New (sym (zero_too g h w h_positive same)) (rest old)
+signs_keep Old New g h (pos (suc n)) w g_positive h_positive same rest high low old =
+    above w (positive_too g h (pos (suc n)) w g_positive same (omega (arith, ints)))
   where
-    leading : (y : ℤ) → pos 0 <ℤ y → LeadsPositive (y ∷ ws)
-    leading (pos zero) high = absurd (omega (arith, ints, high))
-    leading (pos (suc m)) high = tt
-    leading (negsuc m) high = absurd (omega (arith, ints, high))
-positive_head g h (negsuc n) w zs ws g_positive h_positive same rest leads = absurd leads
-
-no_negative_head : (g h : ℕ) (z w : ℤ) (zs ws : List ℤ) → 0 < g → 0 < h → (z *ℤ pos g) ≡ (w *ℤ pos h) →
-    (LeadsNoNegative zs → LeadsNoNegative ws) → LeadsNoNegative (z ∷ zs) → LeadsNoNegative (w ∷ ws)
-no_negative_head g h (pos zero) w zs ws g_positive h_positive same rest leads =
-    subst (λ (y : ℤ). LeadsNoNegative (y ∷ ws)) (sym (zero_too g h w h_positive same)) (rest leads)
-no_negative_head g h (pos (suc n)) w zs ws g_positive h_positive same rest leads =
-    leading w (positive_too g h (pos (suc n)) w g_positive same (omega (arith, ints)))
-  where
-    leading : (y : ℤ) → pos 0 <ℤ y → LeadsNoNegative (y ∷ ws)
-    leading (pos zero) high = absurd (omega (arith, ints, high))
-    leading (pos (suc m)) high = tt
-    leading (negsuc m) high = absurd (omega (arith, ints, high))
-no_negative_head g h (negsuc n) w zs ws g_positive h_positive same rest leads = absurd leads
+    above : (y : ℤ) → pos 0 <ℤ y → New y
+    above (pos zero) y_positive = absurd (omega (arith, ints, y_positive))
+    above (pos (suc m)) y_positive = high m
+    above (negsuc m) y_positive = absurd (omega (arith, ints, y_positive))
+signs_keep Old New g h (negsuc n) w g_positive h_positive same rest high low old = absurd (low n old)
 
 -- The least column by a line's numbers u and t over the one denominator is so by those over another one, a and b.
 pub least_crossed : (g h u a : ℕ) (t b : ℤ) (xs ys : List ℤ) → 0 < g → 0 < h → (pos u *ℤ pos g) ≡ (pos a *ℤ pos h) →
@@ -322,13 +309,13 @@ pub least_crossed : (g h u a : ℕ) (t b : ℤ) (xs ys : List ℤ) → 0 < g →
 least_crossed g h u a t b [] ys g_positive h_positive own other leads = tt
 least_crossed g h u a t b (x ∷ xs) [] g_positive h_positive own other leads = tt
 least_crossed g h u a t b (x ∷ xs) (y ∷ ys) g_positive h_positive own other leads =
-    no_negative_head g h ((pos u *ℤ x) -ℤ (t *ℤ y)) ((pos a *ℤ x) -ℤ (b *ℤ y))
-    (turned_column u xs t ys) (turned_column a xs b ys) g_positive h_positive
+    signs_keep (λ (z : ℤ). LeadsNoNegative (z ∷ turned_column u xs t ys)) (λ (z : ℤ). LeadsNoNegative (z ∷ turned_column a xs b ys))
+    g h ((pos u *ℤ x) -ℤ (t *ℤ y)) ((pos a *ℤ x) -ℤ (b *ℤ y)) g_positive h_positive
     (ring_by (pos u ∷ x ∷ t ∷ y ∷ pos g ∷ pos a ∷ b ∷ pos h ∷ [])
     ((var 0 ⊗ var 1 ⊖ var 2 ⊗ var 3) ⊗ var 4) ((var 5 ⊗ var 1 ⊖ var 6 ⊗ var 3) ⊗ var 7)
     (using (var 1) (var 0 ⊗ var 4) (var 5 ⊗ var 7) own
     (using (neg (var 3)) (var 2 ⊗ var 4) (var 6 ⊗ var 7) other nothing)) refl)
-    (least_crossed g h u a t b xs ys g_positive h_positive own other) leads
+    (least_crossed g h u a t b xs ys g_positive h_positive own other) (λ n. tt) (λ n low. low) leads
 
 -- the numbers in a column, each times g
 pub column_up : (g place : ℕ) (rows : List (List ℤ)) → numbers_in_column place (map (scaled_by g) rows) ≡ map (λ z. z *ℤ pos g) (numbers_in_column place rows)
@@ -350,11 +337,11 @@ rise_from D L a u b [] (x ∷ olds) (y ∷ ys) D_positive L_positive a_positive 
 rise_from D L a u b (new ∷ news) (x ∷ olds) (y ∷ ys) D_positive L_positive a_positive u_positive below same long count leads =
     let heads = head_same (new *ℤ pos (D * a)) (((pos a *ℤ x) -ℤ (b *ℤ y)) *ℤ pos L)
     (map (λ z. z *ℤ pos (D * a)) news) (map (λ z. z *ℤ pos L) (turned_column a olds b ys)) same in
-    positive_head (D * L * u) a y ((pos D *ℤ (new *ℤ pos D)) -ℤ ((pos D *ℤ pos L) *ℤ x)) ys
-    (rise D L (map (λ z. z *ℤ pos D) news) olds) (mul-pos (mul-pos D_positive L_positive) u_positive) a_positive
+    signs_keep (λ (z : ℤ). LeadsPositive (z ∷ ys)) (λ (z : ℤ). LeadsPositive (z ∷ rise D L (map (λ z. z *ℤ pos D) news) olds))
+    (D * L * u) a y ((pos D *ℤ (new *ℤ pos D)) -ℤ ((pos D *ℤ pos L) *ℤ x)) (mul-pos (mul-pos D_positive L_positive) u_positive) a_positive
     (ring_by (pos D ∷ pos L ∷ pos a ∷ pos u ∷ b ∷ new ∷ x ∷ y ∷ [])
     (var 7 ⊗ (var 0 ⊗ var 1 ⊗ var 3)) ((var 0 ⊗ (var 5 ⊗ var 0) ⊖ (var 0 ⊗ var 1) ⊗ var 6) ⊗ var 2)
     (using (neg (var 0)) (var 5 ⊗ (var 0 ⊗ var 2)) ((var 2 ⊗ var 6 ⊖ var 4 ⊗ var 7) ⊗ var 1) heads.0
     (using (var 7 ⊗ var 0 ⊗ var 1) (var 4 ⊕ var 3) (num (pos 0)) below nothing)) refl)
     (rise_from D L a u b news olds ys D_positive L_positive a_positive u_positive below heads.1
-    (omega (arith, long)) (omega (arith, count))) leads
+    (omega (arith, long)) (omega (arith, count))) (λ n. tt) (λ n low. low) leads

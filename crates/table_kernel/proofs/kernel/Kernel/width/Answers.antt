@@ -9,6 +9,4 @@ use Rattle.table_kernel.proofs.Columns.{place_is}
 use Rattle.table_kernel.proofs.AtBasis.{basis_kernel}
 use Rattle.table_kernel.proofs.SameButRoom.{rebuilt}
 use Rattle.table_kernel.proofs.SameKernels.{kernel_same}
-use Rattle.table_kernel.proofs.Pivoting.{rank_rose}
-use Rattle.table_kernel.proofs.TurnKernels.{ready_of}
 use Rattle.table_kernel.proofs.kernel.Kernel.width.Goals as goal
