@@ -76,7 +76,7 @@ long_down : (n g : ℕ) (lows : List (List ℤ)) → AllLong n (map (scaled_by g
 long_down n g [] long = tt
 long_down n g (ts ∷ lows) long = (sym (length-map ts (λ z. z *ℤ pos g)) ∙ long.0, long_down n g lows long.1)
 
-number_scaled : (g : ℕ) (ts : List ℤ) (place : ℕ) → number_at (scaled_by g ts) place ≡ (number_at ts place *ℤ pos g)
+pub number_scaled : (g : ℕ) (ts : List ℤ) (place : ℕ) → number_at (scaled_by g ts) place ≡ (number_at ts place *ℤ pos g)
 number_scaled g [] place = ring (pos g ∷ []) (num (pos 0)) (num (pos 0) ⊗ var 0) refl
 number_scaled g (t ∷ ts) zero = refl
 number_scaled g (t ∷ ts) (suc place) = number_scaled g ts place
