@@ -42,3 +42,8 @@ returns-clause-least c most all =
     let within = reduced_within c.args.self.now c.put_over.new.self (nat_abs (read c.common_part-part.result)) most c.put_over.ensures all in
     let least = c.greatest-self.ensures.least most (subst (AllWithin most) (sym c.as_slice.ensures) within) in
     omega (arith, least, ap nat_abs (read_known c.greatest-self.result c.greatest-self.type_inv))
+
+pub returns-clause-reached : goal.returns-clause-reached
+returns-clause-reached c most all =
+    let least = c.greatest-self.ensures.least most (subst (AllWithin most) (sym c.as_slice.ensures) all) in
+    omega (arith, least, ap nat_abs (read_known c.greatest-self.result c.greatest-self.type_inv))
