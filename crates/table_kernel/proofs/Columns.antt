@@ -3,7 +3,7 @@ use Rattle.std.proofs.Common.{◌≡◌, ℕ, zero, suc, ◌*◌, ◌^◌, ◌<�
 use Rattle.std.specs.Prelude.{ℤ, pos, negsuc, ◌+ℤ◌, ◌*ℤ◌, ◌≤ℤ◌, neg_ℤ, nat_abs, slice_index_or, sum_by}
 use Rattle.std.proofs.Math.Nat.{div-le_self, mul-le-mul_left, mul-le-mul_right}
 use Rattle.std.proofs.lemmas.Int.{ints, unsigned_abs-mul}
-use Rattle.std.proofs.lemmas.List.{get_or-map, length-map}
+use Rattle.std.proofs.lemmas.List.{get_or-map, get_or_default, length-map}
 use Rattle.std.proofs.lemmas.List.Elements.{All-tail, All-map, All-weaker}
 use Rattle.std.proofs.lemmas.List.Sums.{sum_by-cons}
 use Rattle.whole_numbers.proofs.Ring.{var, num, neg, ◌⊗◌, ring}
@@ -144,6 +144,10 @@ number_small line l c =
     size_at_most : (z : ℤ) (n : ℕ) → pos 0 ≤ℤ z → z ≤ℤ pos n → nat_abs z ≤ n
     size_at_most (pos m) n high low = omega (arith, ints)
     size_at_most (negsuc m) n high low = absurd (omega (arith, ints))
+
+pub reach_small : (line : Line) → IsLine line → AllWithin (2 ^ 30) line.numbers
+reach_small line l c d c_in =
+    subst (λ (z : ℤ). nat_abs z ≤ 2 ^ 30) (get_or_default line.numbers c (pos 0) d c_in) (number_small line l c)
 
 -- the number of a small line over the common denominator
 pub scaled_within : (D : ℕ) (line : Line) (c : ℕ) → IsLine line → D ≤ 2 ^ 30 → nat_abs (number_at (scaled_line D line) (suc c)) ≤ 2 ^ 60

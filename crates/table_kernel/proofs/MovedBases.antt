@@ -2,11 +2,12 @@
 use Rattle.std.proofs.Common.{◌≡◌, ◌≢◌, ℕ, zero, suc, ◌+◌, ◌<◌, ◌≤◌, sym, ◌∙◌, ap, subst, List, map, length, arith}
 use Rattle.std.specs.Prelude.{ℤ, pos, ◌-ℤ◌, ◌*ℤ◌, Option, slice_index, slice_index_or, All}
 use Rattle.std.proofs.lemmas.List.{length-map}
+use Rattle.std.proofs.Math.Seq.{set-get_or}
 use Rattle.design_problem.specs.declared.form.Form.{Form}
 use Rattle.design_problem.specs.declared.form.CostBox.{CostBox}
 use Rattle.design_problem.specs.declared.tree.Member.{Member}
 use Rattle.design_problem.specs.declared.tree.Member.TheVariants.{High, Low}
-use Rattle.design_problem.specs.Basis.{forms_of, member_form}
+use Rattle.design_problem.specs.Basis.{IsFormOf, forms_of, member_form}
 use Rattle.design_problem.specs.Boxes.{with_high, with_low}
 use Rattle.design_problem.specs.Forms.{no_form}
 use Rattle.fraction_table.specs.Moves.{IsColumnOf, put_at}
@@ -14,7 +15,7 @@ use Rattle.fraction_table.specs.Tableaus.{moved_basis, moved_member}
 use Rattle.fraction_table.specs.ValidTables.{AllLong, AreMixtures, low_forms, number_of_form}
 use Rattle.fraction_table.proofs.MovedTables.{AreMoved, IsFall, fallen_basis, high_fall, high_moved, low_fall, low_moved, raised_rows}
 use Rattle.fraction_table.proofs.MovedWholes.{all_moved, column_inside, forms_fallen, kept_columns, kept_constants, moved_put}
-use Rattle.fraction_table.proofs.Shifts.{length-raised}
+use Rattle.fraction_table.proofs.Shifts.{length-raised, moved_same}
 use Rattle.fraction_table.proofs.theory.MovedNumbers.{lowered_rows}
 use Rattle.table_kernel.specs.Bases.{AreAtBasis}
 use Rattle.table_kernel.specs.Numbers.{fraction_lines}
@@ -114,3 +115,20 @@ module _ (costs next : CostBox) (rows : List Form) (basis : List Member) (D : �
             ∙ none j place (omega (arith, width, j_in)) (omega (arith, width, place_in)) apart;
         lead = λ j j_in. numbered.lead j (omega (arith, width, j_in));
       }
+
+-- a bound that stays
+pub low_same : (costs : CostBox) (rows : List Form) (basis : List Member) (v bound : ℕ) → All (IsFormOf costs rows) basis →
+    bound ≡ slice_index costs.low v →
+    (costs ≡ with_low costs v bound) × (basis ≡ moved_basis (with_low costs v bound) basis)
+low_same costs rows basis v bound members bound_is =
+    let same : costs ≡ with_low costs v bound =
+    sym (ap (with_low costs v) bound_is ∙ ap (λ (bs : List ℕ). record { low = bs; high = costs.high }) (set-get_or costs.low v 0)) in
+    (same, sym (ap (λ (box : CostBox). moved_basis box basis) (sym same) ∙ moved_same costs rows basis members))
+
+pub high_same : (costs : CostBox) (rows : List Form) (basis : List Member) (v bound : ℕ) → All (IsFormOf costs rows) basis →
+    bound ≡ slice_index costs.high v →
+    (costs ≡ with_high costs v bound) × (basis ≡ moved_basis (with_high costs v bound) basis)
+high_same costs rows basis v bound members bound_is =
+    let same : costs ≡ with_high costs v bound =
+    sym (ap (with_high costs v) bound_is ∙ ap (λ (bs : List ℕ). record { low = costs.low; high = bs }) (set-get_or costs.high v 0)) in
+    (same, sym (ap (λ (box : CostBox). moved_basis box basis) (sym same) ∙ moved_same costs rows basis members))

@@ -258,6 +258,22 @@ high_moves k s m v bound now v_in keeps costs_same sh now_is may =
     (ap (map (scaled_line D)) sh.lines ∙ high_lows D k.lows.items sh.column fall)
     may
 
+-- how far the lines moved
+pub low_shift_moved : (k s : Kernel) (m : IsMoving k) (v bound : ℕ) → v < width_of k →
+    IsLowShift k s v (Low v (slice_index k.table.costs.low v)) (Low v bound) (pos bound -ℤ pos (slice_index k.table.costs.low v)) →
+    AreLinesMoved (nat_abs (pos bound -ℤ pos (slice_index k.table.costs.low v))) k.lows.items s.lows.items
+low_shift_moved k s m v bound v_in sh =
+    let fall = pos bound -ℤ pos (slice_index k.table.costs.low v) in
+    subst (AreLinesMoved (nat_abs fall) k.lows.items) (sym sh.lines)
+    (low_lines_moved (nat_abs fall) v k.lows.items sh.column fall (omega (arith, v_in, m.shaped.lows)) refl)
+
+pub high_shift_moved : (k s : Kernel) (m : IsMoving k) (v bound : ℕ) → v < width_of k →
+    IsHighShift k s (High v (slice_index k.table.costs.high v)) (High v bound) (pos (slice_index k.table.costs.high v) -ℤ pos bound) →
+    AreLinesMoved (nat_abs (pos (slice_index k.table.costs.high v) -ℤ pos bound)) k.lows.items s.lows.items
+high_shift_moved k s m v bound v_in sh =
+    let fall = pos (slice_index k.table.costs.high v) -ℤ pos bound in
+    subst (AreLinesMoved (nat_abs fall) k.lows.items) (sym sh.lines) (high_lines_moved (nat_abs fall) k.lows.items sh.column fall refl)
+
 -- a bound that falls falls by little
 pub small_fall : (a b : ℕ) (z : ℤ) → a < 2 ^ 16 → b < 2 ^ 16 → z ≡ (pos a -ℤ pos b) → nat_abs z < 2 ^ 16
 small_fall a b z a_small b_small z_is = subst (λ (y : ℤ). nat_abs y < 2 ^ 16) (sym z_is) (omega (arith, ints, a_small, b_small))
