@@ -105,6 +105,7 @@ impl Line {
         ensures reach_positive { pos 0 ≤ℤ self.new.reach }
         ensures within { AllWithin (nat_abs self.new.reach) self.new.numbers }
         ensures least { (most : ℕ) → AllWithin most self.old.numbers → nat_abs self.new.reach ≤ most }
+        ensures reached { (most : ℕ) → AllWithin most self.new.numbers → nat_abs self.new.reach ≤ most }
     {
         let part = self.common_part();
         if part != 1 {
