@@ -1,9 +1,9 @@
 -- The factors of which a row's line is made, and the sums of lines times these, term by term.
-use Rattle.std.proofs.Common.{◌≡◌, ℕ, zero, suc, ◌+◌, ◌*◌, ◌^◌, ◌<◌, ◌≤◌, refl, sym, subst, ◌∙◌, ap, List, [], ◌∷◌, map, length, get_or, drop, arith, drop-cons}
-use Rattle.std.specs.Prelude.{ℤ, pos, ◌+ℤ◌, ◌*ℤ◌, nat_abs, slice_index_or, sum_by, All}
+use Rattle.std.proofs.Common.{◌≡◌, ℕ, zero, suc, ◌+◌, ◌*◌, ◌^◌, ◌<◌, ◌≤◌, refl, sym, subst, ◌∙◌, ap, List, [], ◌∷◌, map, length, get_or, drop, arith, drop-cons, FitsSigned, w64}
+use Rattle.std.specs.Prelude.{ℤ, pos, negsuc, ◌+ℤ◌, ◌*ℤ◌, ◌≤ℤ◌, neg_ℤ, nat_abs, slice_index_or, sum_by, All}
 use native.Mathlib.Nat.{zero-mul}
-use Rattle.std.proofs.Math.Nat.{add-mul, mul-le-mul_left, mul-le-mul_right}
-use Rattle.std.proofs.lemmas.Int.{ints, unsigned_abs-mul}
+use Rattle.std.proofs.Math.Nat.{add-mul, mul-le-mul, mul-le-mul_left, mul-le-mul_right}
+use Rattle.std.proofs.lemmas.Int.{fits_signed_from_abs, ints, unsigned_abs-mul}
 use Rattle.std.proofs.lemmas.List.{get_or_default, get_or-map, length-map}
 use Rattle.std.proofs.lemmas.List.Sums.{sum_by-cons}
 use Rattle.whole_numbers.specs.Lists.{number_at}
@@ -15,7 +15,8 @@ use Rattle.integer_pivots.specs.declared.line.Line.{Line}
 use Rattle.integer_pivots.specs.Lines.{IsLine, no_line}
 use Rattle.integer_pivots.specs.Numbers.{AllWithin, more_sums, product_sum}
 use Rattle.integer_pivots.proofs.PartSums.{more_at, more_long}
-use Rattle.integer_pivots.proofs.Sizes.{number_within}
+use Rattle.whole_numbers.proofs.Sizes.{negated_size}
+use Rattle.integer_pivots.proofs.Sizes.{number_within, read, read_number}
 use Rattle.table_kernel.specs.Lines.{factors_of}
 use Rattle.table_kernel.specs.Numbers.{scaled_line, share_of}
 use Rattle.table_kernel.proofs.Columns.{scaled_number, share_small}
@@ -105,6 +106,48 @@ factors_more D lines ts index d sum small index_in s =
     let t = get_or ts index d in
     part_more (factor_at D lines) (room_by (2 ^ 30)) (2 ^ 46) ts index d sum index_in
     (mul-le-mul_left (nat_abs t.coefficient) (share_small D (slice_index_or lines t.var no_line) small)) s
+
+-- a coefficient is small, and so is its opposite
+pub coefficient_light : (D : ℕ) (lines : List Line) (ts : List Term) (index : ℕ) (d : Term) (sum : ℤ) → index < length ts →
+    IsFactorPart D lines ts index sum → nat_abs (get_or ts index d).coefficient ≤ 2 ^ 16
+coefficient_light D lines ts index d sum index_in s =
+    let room = part_room (factor_at D lines) (room_by (2 ^ 30)) (2 ^ 46) ts index d sum index_in s in
+    omega (arith, room)
+
+pub coefficient_turns : (c : ℤ) → nat_abs c ≤ 2 ^ 16 → FitsSigned w64 (neg_ℤ (read c))
+coefficient_turns c small =
+    subst (λ (z : ℤ). FitsSigned w64 (neg_ℤ z)) (sym (read_number c (omega (arith, small))))
+    (fits_signed_from_abs w64 (neg_ℤ c) (omega (arith, negated_size c, small)))
+
+-- what code computes at a term: nothing is too wide, and the sum is one factor further
+pub factors_step : (D : ℕ) (lines : List Line) (ts : List Term) (index : ℕ) (d : Term) (sum a s : ℤ) → D ≤ 2 ^ 30 → index < length ts →
+    a ≡ pos (nat_abs (read (get_or ts index d).coefficient)) →
+    s ≡ pos (share_of D (slice_index_or lines (get_or ts index d).var no_line)) → IsFactorPart D lines ts index sum →
+    FitsSigned w64 (read a *ℤ read s) × FitsSigned w64 (sum +ℤ read (read a *ℤ read s))
+    × IsFactorPart D lines ts (index + 1) (read (sum +ℤ read (read a *ℤ read s)))
+factors_step D lines ts index d sum a s small index_in a_is s_is part =
+    let t = get_or ts index d in
+    let c = t.coefficient in
+    let n = share_of D (slice_index_or lines t.var no_line) in
+    let light = coefficient_light D lines ts index d sum index_in part in
+    let share = share_small D (slice_index_or lines t.var no_line) small in
+    let a_same : read a ≡ pos (nat_abs c) =
+    ap read (a_is ∙ ap (λ (z : ℤ). pos (nat_abs z)) (read_number c (omega (arith, light)))) ∙ read_number (pos (nat_abs c)) (omega (arith, light)) in
+    let s_same : read s ≡ pos n = ap read s_is ∙ read_number (pos n) (omega (arith, share)) in
+    let product : (read a *ℤ read s) ≡ pos (nat_abs c * n) = ap (λ (z : ℤ). z *ℤ read s) a_same ∙ ap (λ (z : ℤ). pos (nat_abs c) *ℤ z) s_same in
+    let size : nat_abs c * n ≤ 2 ^ 16 * 2 ^ 30 = mul-le-mul light share in
+    let part_is : read (read a *ℤ read s) ≡ pos (nat_abs c * n) = ap read product ∙ read_number (pos (nat_abs c * n)) (omega (arith, size)) in
+    let whole : (sum +ℤ read (read a *ℤ read s)) ≡ (sum +ℤ pos (nat_abs c * n)) = ap (λ (z : ℤ). sum +ℤ z) part_is in
+    let more = factors_more D lines ts index d sum small index_in part in
+    let within : nat_abs (sum +ℤ pos (nat_abs c * n)) < 2 ^ 63 = omega (arith, more.size) in (
+      subst (FitsSigned w64) (sym product) (fits_signed_from_abs w64 (pos (nat_abs c * n)) (omega (arith, size))),
+      subst (FitsSigned w64) (sym whole) (fits_signed_from_abs w64 (sum +ℤ pos (nat_abs c * n)) within),
+      subst (IsFactorPart D lines ts (index + 1)) (sym (ap read whole ∙ read_number (sum +ℤ pos (nat_abs c * n)) within)) more,
+    )
+
+pub factors_size : (z : ℤ) → nat_abs z ≤ 2 ^ 46 → z ≤ℤ pos (2 ^ 46)
+factors_size (pos n) small = omega (arith, ints, small)
+factors_size (negsuc n) small = omega (arith, ints)
 
 pub factors_all : (D : ℕ) (lines : List Line) (ts : List Term) (index : ℕ) (sum : ℤ) (cs : List ℤ) → length ts ≤ index →
     ts ≡ terms_from 0 cs → length cs ≤ length lines → IsFactorPart D lines ts index sum →

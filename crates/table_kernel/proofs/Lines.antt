@@ -1,11 +1,11 @@
 -- The line of a place's form, by what the kernel holds.
-use Rattle.std.proofs.Common.{◌≡◌, ℕ, zero, suc, ◌+◌, ◌*◌, ◌/◌, ◌^◌, ◌<◌, ◌≤◌, refl, sym, subst, ◌∙◌, ap, List, [], ◌∷◌, map, length, arith, w64, to_z, of_z}
+use Rattle.std.proofs.Common.{◌≡◌, ℕ, zero, suc, ◌+◌, ◌*◌, ◌/◌, ◌^◌, ◌<◌, ◌≤◌, refl, sym, subst, ◌∙◌, ap, List, [], ◌∷◌, map, length, arith, FitsSigned, w64, to_z, of_z}
 use Rattle.std.specs.Prelude.{ℤ, pos, negsuc, ◌-ℤ◌, ◌*ℤ◌, ◌<ℤ◌, ◌≤ℤ◌, neg_ℤ, nat_abs, slice_index, slice_index_or}
 use Rattle.std.specs.Int.Signed.{quot_z}
 use Prim.Native.Nat.{◌∣◌}
 use native.Mathlib.Nat.{div-mul_cancel}
 use Rattle.std.proofs.Math.Nat.{div-le_self, mul-le-mul_left, mul_comm}
-use Rattle.std.proofs.lemmas.Int.{ints, unsigned_abs-mul}
+use Rattle.std.proofs.lemmas.Int.{fits_signed_from_abs, ints, unsigned_abs-mul}
 use Rattle.std.proofs.lemmas.List.{get_or_default}
 use Rattle.whole_numbers.proofs.Divisors.{quotient_positive}
 use Rattle.whole_numbers.proofs.Ring.{var, num, neg, ◌⊖◌, ◌⊗◌, ring}
@@ -28,6 +28,7 @@ use Rattle.table_kernel.specs.Lines.{IsEntering, IsLineTooLarge, KeepsNumbers, S
 use Rattle.table_kernel.specs.Numbers.{number_at_column, share_of}
 use Rattle.table_kernel.specs.Turns.{line_of}
 use Rattle.table_kernel.proofs.Columns.{column_at, column_long, common_small, high_number_in, line_small, low_number_in}
+use Rattle.table_kernel.proofs.LineSums.{product_small}
 use Rattle.table_kernel.proofs.PlaceConstants.{high_place_constant, low_place}
 use Rattle.table_kernel.proofs.Restated.{line_number}
 use Rattle.table_kernel.proofs.SameButRoom.{rebuilt}
@@ -120,6 +121,14 @@ reach_read line l = read_number line.reach (within line.reach l.reach_positive l
     within (pos n) high low = omega (arith, ints)
     within (negsuc n) high low = absurd (omega (arith, ints))
 
+-- and a share
+pub share_size : (z : ℤ) → pos 1 ≤ℤ z → z ≤ℤ pos (2 ^ 30) → nat_abs z ≤ 2 ^ 30
+share_size (pos n) high low = omega (arith, ints)
+share_size (negsuc n) high low = absurd (omega (arith, ints))
+
+pub read_share : (z : ℤ) → pos 1 ≤ℤ z → z ≤ℤ pos (2 ^ 30) → read z ≡ z
+read_share z high low = read_number z (omega (arith, share_size z high low))
+
 -- a variable's line, as code reads it
 pub record IsLineRead (k : Kernel) (v : ℕ) (line : Line) : Type 0 where
   pub is : line ≡ line_of k v
@@ -149,6 +158,34 @@ constant_small k s b v v_in =
     let c = nat_abs (line_of k v).constant in
     let least : c * 1 ≤ c * share_of (nat_abs k.common) (line_of k v) = mul-le-mul_left c some in
     omega (arith, low, least)
+
+-- a range times a denominator, less a constant, as code reads them
+module _ (r d : ℤ) (r_small : nat_abs r < 2 ^ 27) (d_small : nat_abs d ≤ 2 ^ 30) where
+  product_is : (read r *ℤ read d) ≡ (r *ℤ d)
+  product_is =
+      ap (λ (z : ℤ). z *ℤ read d) (read_number r (omega (arith, r_small)))
+      ∙ ap (λ (z : ℤ). r *ℤ z) (read_number d (omega (arith, d_small)))
+
+  product_size : nat_abs (r *ℤ d) ≤ 2 ^ 57
+  product_size = omega (arith, product_small (2 ^ 27) (2 ^ 30) r d (omega (arith, r_small)) d_small)
+
+  pub high_product : FitsSigned w64 (read r *ℤ read d)
+  high_product = subst (FitsSigned w64) (sym product_is) (fits_signed_from_abs w64 (r *ℤ d) (omega (arith, product_size)))
+
+  module _ (k : ℤ) (k_small : nat_abs k ≤ 2 ^ 44) where
+    difference_is : (read (read r *ℤ read d) -ℤ read k) ≡ ((r *ℤ d) -ℤ k)
+    difference_is =
+        ap (λ (z : ℤ). z -ℤ read k) (ap read product_is ∙ read_number (r *ℤ d) (omega (arith, product_size)))
+        ∙ ap (λ (z : ℤ). (r *ℤ d) -ℤ z) (read_number k (omega (arith, k_small)))
+
+    difference_size : nat_abs ((r *ℤ d) -ℤ k) < 2 ^ 63
+    difference_size = omega (arith, ints, product_size, k_small)
+
+    pub high_fits : FitsSigned w64 (read (read r *ℤ read d) -ℤ read k)
+    high_fits = subst (FitsSigned w64) (sym difference_is) (fits_signed_from_abs w64 ((r *ℤ d) -ℤ k) difference_size)
+
+    pub high_difference : read (read (read r *ℤ read d) -ℤ read k) ≡ ((r *ℤ d) -ℤ k)
+    high_difference = ap read difference_is ∙ read_number ((r *ℤ d) -ℤ k) difference_size
 
 -- a line with another sign
 pub signed_line : (old new : Line) (sign : ℤ) → IsLine old → nat_abs sign ≡ 1 → length new.numbers ≡ length old.numbers →

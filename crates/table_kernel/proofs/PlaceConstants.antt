@@ -65,12 +65,12 @@ high_place_constant k m place v bound place_in v_in bound_is is =
     ∙ ring (pos D ∷ range ∷ constant_of_line k v ∷ []) (var 0 ⊗ var 1 ⊕ neg (var 2)) (var 0 ⊗ var 1 ⊖ var 2) refl
 
 -- which kind of form a member names, and its number
-kind_of : Member → ℕ
+abbrev kind_of : Member → ℕ
 kind_of (Low v bound) = 0
 kind_of (High v bound) = 1
 kind_of (Row row) = 2
 
-number_of : Member → ℕ
+abbrev number_of : Member → ℕ
 number_of (Low v bound) = v
 number_of (High v bound) = v
 number_of (Row row) = row
@@ -82,12 +82,13 @@ row_is_at k s place row place_in is =
     let n = width_of k in
     let many = length k.table.rows.items in
     elim (cases_lt place n) [
-      | inl low ↦ absurd (omega (arith, ap kind_of (sym (members_begin k.table.costs many place (Low 0 0) low) ∙ is)))
+      | inl low ↦ (let e : 0 ≡ 2 = ap kind_of (sym (members_begin k.table.costs many place (Low 0 0) low) ∙ is) in absurd (omega (arith, e)))
       | inr past ↦ elim (cases_lt place (n + n)) [
         | inl high ↦
             let there : n + (place - n) ≡ place = omega (arith, past) in
-            absurd (omega (arith, ap kind_of (sym (high_place k.table.costs many (place - n) (Low 0 0) (omega (arith, past, high)))
-            ∙ ap (λ (p : ℕ). slice_index_or (members_of_box k.table.costs many) p (Low 0 0)) there ∙ is)))
+            let e : 1 ≡ 2 = ap kind_of (sym (high_place k.table.costs many (place - n) (Low 0 0) (omega (arith, past, high)))
+            ∙ ap (λ (p : ℕ). slice_index_or (members_of_box k.table.costs many) p (Low 0 0)) there ∙ is) in
+            absurd (omega (arith, e))
         | inr late ↦
             let there : n + n + (place - (n + n)) ≡ place = omega (arith, late) in
             let inside : place - (n + n) < many = omega (arith, late, place_in, s.constants, members_long k.table.costs many) in
