@@ -242,3 +242,33 @@ put_all D lines ts index sums cs past terms counted put c c_in =
 pub put_within : (D : ℕ) (lines : List Line) (ts : List Term) (index : ℕ) (sums : List ℤ) → ArePutTo D lines ts index sums → AllWithin (2 ^ 62) sums
 put_within D lines ts index sums put c e c_in =
     subst (λ (sum : ℤ). nat_abs sum ≤ 2 ^ 62) (get_or_default sums c (pos 0) e c_in) (omega (arith, (put c c_in).size))
+
+-- a term's factor as code computes it
+pub record IsFactorRead (D : ℕ) (lines : List Line) (t : Term) (line : Line) (share : ℤ) : Type 0 where
+  pub fits : FitsSigned w64 (read t.coefficient *ℤ read share)
+  pub value : read (read t.coefficient *ℤ read share) ≡ (t.coefficient *ℤ pos (share_of D line))
+  pub size : nat_abs (read (read t.coefficient *ℤ read share)) ≡ factor_of D lines t
+  pub small : factor_of D lines t ≤ 2 ^ 32
+
+pub factor_read : (D : ℕ) (lines : List Line) (t : Term) (line : Line) (share : ℤ) → D ≤ 2 ^ 30 → 1 ≤ share_of D line →
+    line ≡ slice_index_or lines t.var no_line → share ≡ pos (share_of D line) → factor_of D lines t ≤ 2 ^ 32 →
+    IsFactorRead D lines t line share
+factor_read D lines t line share small some line_is share_is light =
+    let c = t.coefficient in
+    let n = share_of D line in
+    let size : nat_abs (c *ℤ pos n) ≡ factor_of D lines t =
+    factor_size c n ∙ ap (λ (l : Line). nat_abs c * share_of D l) line_is in
+    let least : nat_abs c * 1 ≤ nat_abs c * n = mul-le-mul_left (nat_abs c) some in
+    let c_small : nat_abs c ≤ 2 ^ 32 = omega (arith, least, factor_size c n, size, light) in
+    let n_small = share_small D line small in
+    let product : (read c *ℤ read share) ≡ (c *ℤ pos n) =
+    ap (λ (z : ℤ). z *ℤ read share) (read_number c (omega (arith, c_small)))
+    ∙ ap (λ (z : ℤ). c *ℤ z) (ap read share_is ∙ read_number (pos n) (omega (arith, n_small))) in
+    let within : nat_abs (c *ℤ pos n) < 2 ^ 63 = omega (arith, size, light) in
+    let value : read (read c *ℤ read share) ≡ (c *ℤ pos n) = ap read product ∙ read_number (c *ℤ pos n) within in
+    record {
+      fits = subst (FitsSigned w64) (sym product) (fits_signed_from_abs w64 (c *ℤ pos n) within);
+      value = value;
+      size = ap nat_abs value ∙ size;
+      small = light;
+    }

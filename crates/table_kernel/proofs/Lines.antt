@@ -1,6 +1,6 @@
 -- The line of a place's form, by what the kernel holds.
 use Rattle.std.proofs.Common.{◌≡◌, ℕ, zero, suc, ◌+◌, ◌*◌, ◌/◌, ◌^◌, ◌<◌, ◌≤◌, refl, sym, subst, ◌∙◌, ap, List, [], ◌∷◌, map, length, arith, FitsSigned, w64, to_z, of_z}
-use Rattle.std.specs.Prelude.{ℤ, pos, negsuc, ◌-ℤ◌, ◌*ℤ◌, ◌<ℤ◌, ◌≤ℤ◌, neg_ℤ, nat_abs, slice_index, slice_index_or}
+use Rattle.std.specs.Prelude.{ℤ, pos, negsuc, ◌-ℤ◌, ◌*ℤ◌, ◌<ℤ◌, ◌≤ℤ◌, neg_ℤ, nat_abs, slice_index, slice_index_or, All}
 use Rattle.std.specs.Int.Signed.{quot_z}
 use Prim.Native.Nat.{◌∣◌}
 use native.Mathlib.Nat.{div-mul_cancel}
@@ -147,6 +147,31 @@ line_read k s b v line v_in is =
       divides = subst (λ (l : Line). nat_abs l.denominator ∣ nat_abs k.common) (sym same) (b.divides v no_line there);
       long = subst (λ (l : Line). length l.numbers ≡ width_of k) (sym same) (s.each v no_line there);
     }
+
+-- a line of several, as code reads it
+pub record IsTermLine (lines : List Line) (common : ℤ) (many v : ℕ) (line : Line) : Type 0 where
+  pub inside : v < length lines
+  pub is : line ≡ slice_index_or lines v no_line
+  pub small : IsLine line
+  pub divides : nat_abs line.denominator ∣ nat_abs common
+  pub long : length line.numbers ≡ many
+
+pub term_line : (lines : List Line) (common : ℤ) (many v : ℕ) (line d : Line) → v < length lines → line ≡ slice_index_or lines v d →
+    All IsLine lines → All (λ l. nat_abs l.denominator ∣ nat_abs common) lines → All (λ l. length l.numbers ≡ many) lines →
+    IsTermLine lines common many v line
+term_line lines common many v line d inside line_is small divides long =
+    let is : line ≡ slice_index_or lines v no_line = line_is ∙ get_or_default lines v d no_line inside in
+    record {
+      inside = inside;
+      is = is;
+      small = subst IsLine (sym is) (small v no_line inside);
+      divides = subst (λ (l : Line). nat_abs l.denominator ∣ nat_abs common) (sym is) (divides v no_line inside);
+      long = subst (λ (l : Line). length l.numbers ≡ many) (sym is) (long v no_line inside);
+    }
+
+-- a common denominator as it is read
+pub read_common : (z : ℤ) → (pos 0 <ℤ z) × (z ≤ℤ pos (2 ^ 30)) → read z ≡ z
+read_common z within = read_number z (omega (arith, size_most z (2 ^ 30) within.0 within.1))
 
 -- its constant is within 2^44
 pub constant_small : (k : Kernel) → IsShaped k → IsBounded k → (v : ℕ) → v < width_of k → nat_abs (line_of k v).constant ≤ 2 ^ 44
