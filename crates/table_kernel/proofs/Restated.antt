@@ -10,7 +10,7 @@ use Rattle.whole_numbers.specs.Lists.{number_at}
 use Rattle.design_problem.specs.declared.form.Form.{Form}
 use Rattle.design_problem.specs.declared.tree.Member.{Member}
 use Rattle.design_problem.specs.declared.tree.Member.TheVariants.{Low}
-use Rattle.design_problem.specs.Basis.{entry, member_form}
+use Rattle.design_problem.specs.Basis.{IsFormOf, entry, member_form}
 use Rattle.fraction_rows.specs.TableRows.{blank_row, nothing}
 use Rattle.fraction_rows.proofs.BlankRows.{blank_size}
 use Rattle.fraction_table.specs.Pivots.{member_at}
@@ -150,6 +150,17 @@ kernel_line old new place line k lines long m =
     (subst (All (λ row. length row ≡ suc (width_of old))) (sym lines)
     (All-set (λ row. length row ≡ suc (width_of old)) old.table.lines.items place line long m.shaped.wide)) m
 
+-- what is written twice at a place is the last
+pub set_twice : {X : Type 0} (xs : List X) (i : ℕ) (x y : X) → slice_set (slice_set xs i x) i y ≡ slice_set xs i y
+set_twice [] i x y = refl
+set_twice (z ∷ zs) zero x y = refl
+set_twice (z ∷ zs) (suc i) x y = ap (λ ys. z ∷ ys) (set_twice zs i x y)
+
+-- a member stays a form of the box or of the rows
+pub form_kept : (old new : Kernel) → KeepsAllButLinesOf old new → (member : Member) → IsFormOf old.table.costs old.table.rows.items member →
+    IsFormOf new.table.costs new.table.rows.items member
+form_kept old new k member form = rw (k.table.costs, k.table.rows) form
+
 -- the number of a place's form at a column
 pub line_number : (k : Kernel) (place column : ℕ) → column < width_of k →
     number_at (numbers_of_place k place) column ≡ number_at_column (form_of_place k place) (column_of k column)
@@ -229,11 +240,6 @@ filled_next old mid new place column member place_in column_in member_is f keeps
           ∙ set_twice old.table.lines.items place (line_to old place column) (line_to old place (column + 1));
       keeps = keeps_both old mid new f.keeps keeps;
     }
-  where
-    set_twice : {X : Type 0} (xs : List X) (i : ℕ) (x y : X) → slice_set (slice_set xs i x) i y ≡ slice_set xs i y
-    set_twice [] i x y = refl
-    set_twice (z ∷ zs) zero x y = refl
-    set_twice (z ∷ zs) (suc i) x y = ap (λ ys. z ∷ ys) (set_twice zs i x y)
 
 pub filled_all : (old new : Kernel) (place column : ℕ) → IsKernel old → place < length old.constants.items →
     column ≡ width_of old → IsFilledTo old new place column →
