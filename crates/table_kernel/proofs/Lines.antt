@@ -1,11 +1,12 @@
 -- The line of a place's form, by what the kernel holds.
-use Rattle.std.proofs.Common.{◌≡◌, ℕ, zero, suc, ◌+◌, ◌*◌, ◌/◌, ◌^◌, ◌<◌, ◌≤◌, refl, sym, subst, ◌∙◌, ap, List, [], ◌∷◌, map, length, arith, FitsSigned, w64, to_z, of_z}
+use Rattle.std.proofs.Common.{◌≡◌, ℕ, zero, suc, ◌+◌, ◌*◌, ◌/◌, ◌^◌, ◌<◌, ◌≤◌, refl, sym, subst, ◌∙◌, ap, List, [], ◌∷◌, map, length, arith, FitsSigned, w64, to_z, of_z, true, false}
 use Rattle.std.specs.Prelude.{ℤ, pos, negsuc, ◌-ℤ◌, ◌*ℤ◌, ◌<ℤ◌, ◌≤ℤ◌, neg_ℤ, nat_abs, slice_index, slice_index_or, All}
-use Rattle.std.specs.Int.Signed.{quot_z}
+use Rattle.std.specs.Int.Signed.{lt_z, mag, quot_z}
+use Rattle.std.proofs.lemmas.Bool.{ltb-false, ltb-true}
 use Prim.Native.Nat.{◌∣◌}
 use native.Mathlib.Nat.{div-mul_cancel}
 use Rattle.std.proofs.Math.Nat.{div-le_self, mul-le-mul_left, mul_comm}
-use Rattle.std.proofs.lemmas.Int.{fits_signed_from_abs, ints, unsigned_abs-mul}
+use Rattle.std.proofs.lemmas.Int.{fits_signed_from_abs, ints, to_z-of_z, unsigned_abs-mul}
 use Rattle.std.proofs.lemmas.List.{get_or_default}
 use Rattle.whole_numbers.proofs.Divisors.{quotient_positive}
 use Rattle.whole_numbers.proofs.Ring.{var, num, neg, ◌⊖◌, ◌⊗◌, ring}
@@ -17,6 +18,7 @@ use Rattle.design_problem.specs.declared.tree.Member.TheVariants.{Low, High, Row
 use Rattle.design_problem.specs.Forms.{no_form}
 use Rattle.design_problem.specs.Basis.{IsFormOf, member_form}
 use Rattle.fraction_table.specs.Pivots.{member_at}
+use Rattle.fraction_table.proofs.Pivots.{row_place}
 use Rattle.integer_pivots.specs.declared.line.Line.{Line}
 use Rattle.integer_pivots.specs.Lines.{IsInLowestTerms, IsLine, IsReduced, no_line}
 use Rattle.integer_pivots.specs.Numbers.{AllWithin}
@@ -361,3 +363,51 @@ module _ (k : Kernel) (place part : ℕ) (old new : Line) (r : IsReduced old new
         reach = small;
         numbers = within;
       }
+
+-- a result that 64 bits hold is read as it is
+pub read_held : (z : ℤ) → mag z < 2 ^ 63 → read z ≡ z
+read_held z small = to_z-of_z w64 z (record { sfits = small })
+
+-- a test of what is read
+pub limit_passed : (m : ℕ) (z : ℤ) → pos 0 ≤ℤ z → nat_abs z < 2 ^ 63 → lt_z (pos m) (read z) ≡ true → m < nat_abs z
+limit_passed m (pos n) high small test = ltb-true m n (sym (ap (lt_z (pos m)) (read_number (pos n) small)) ∙ test)
+limit_passed m (negsuc n) high small test = absurd (omega (arith, ints))
+
+pub limit_kept : (m : ℕ) (z : ℤ) → pos 0 ≤ℤ z → nat_abs z < 2 ^ 63 → lt_z (pos m) (read z) ≡ false → z ≤ℤ pos m
+limit_kept m (pos n) high small test =
+    let most = ltb-false m n (sym (ap (lt_z (pos m)) (read_number (pos n) small)) ∙ test) in
+    omega (arith, ints, most)
+limit_kept m (negsuc n) high small test = absurd (omega (arith, ints))
+
+pub size_at_most : (z : ℤ) (n : ℕ) → pos 0 ≤ℤ z → z ≤ℤ pos n → nat_abs z ≤ n
+size_at_most (pos m) n high low = omega (arith, ints)
+size_at_most (negsuc m) n high low = absurd (omega (arith, ints))
+
+-- the sum of a row's factors is read as it is
+pub sum_within : (z : ℤ) (n : ℕ) → z ≡ pos n → z ≤ℤ pos (2 ^ 46) → (pos 0 ≤ℤ z) × (nat_abs z < 2 ^ 63) × (nat_abs z ≡ n)
+sum_within z n is small =
+    let most : n ≤ 2 ^ 46 = (let e : pos n ≤ℤ pos (2 ^ 46) = subst (λ (y : ℤ). y ≤ℤ pos (2 ^ 46)) is small in omega (arith, ints, e)) in
+    (omega (arith, ints, is), omega (arith, ap nat_abs is, most), ap nat_abs is)
+
+-- the form of a row's place
+pub row_form_is : (k : Kernel) (place row : ℕ) → row < length k.table.rows.items → place ≡ width_of k + width_of k + row →
+    form_of_place k place ≡ slice_index_or k.table.rows.items row no_form
+row_form_is k place row row_in place_is =
+    ap (λ (p : ℕ). member_form (width_of k) k.table.rows.items (member_at k.table p)) place_is
+    ∙ ap (member_form (width_of k) k.table.rows.items) (row_place k.table.costs (length k.table.rows.items) row (Low 0 0) row_in)
+
+-- the kernel with a line in place of its entering one keeps its numbers
+pub keeps_entering : (old mid : Kernel) (line : Line) → KeepsNumbers old mid → length line.numbers ≡ length mid.entering.numbers →
+    KeepsNumbers old (record mid { entering = line })
+keeps_entering old mid line keeps long = record {
+  table = keeps.table;
+  common = keeps.common;
+  lows = keeps.lows;
+  leads = keeps.leads;
+  constants = keeps.constants;
+  left = keeps.left;
+  entering = long ∙ keeps.entering;
+}
+
+pub keeps_self : (k : Kernel) → KeepsNumbers k k
+keeps_self k = record { table = refl; common = refl; lows = refl; leads = refl; constants = refl; left = omega arith; entering = refl }
