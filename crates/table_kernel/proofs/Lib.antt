@@ -12,6 +12,9 @@ pub mod StatedLines
 pub mod Columns
 pub mod Distances
 pub mod LineSums
+pub mod Factors
+pub mod WideNumbers
+pub mod PlaceConstants
 pub mod RowSums
 pub mod MoreRows
 pub mod Corners

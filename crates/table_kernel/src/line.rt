@@ -1,5 +1,6 @@
 //! The line of a form at the kernel's basis, and its numbers over the common denominator.
-ghost use Rattle.std.specs.Prelude.{◌≡◌, ℕ, ◌*◌, ◌^◌, ◌+◌, ◌<◌, ◌≤◌, pos, ◌*ℤ◌, ◌-ℤ◌, ◌≤ℤ◌, nat_abs, length, slice_index, slice_index_or, OnErr, OnOk};
+ghost use Rattle.std.specs.Prelude.{◌≡◌, ℕ, suc, ◌*◌, ◌/◌, ◌^◌, ◌+◌, ◌<◌, ◌≤◌, pos, ◌*ℤ◌, ◌-ℤ◌, ◌<ℤ◌, ◌≤ℤ◌, nat_abs, map, length, slice_index, slice_index_or, All, OnErr, OnOk};
+ghost use Prim.Native.Nat.{◌∣◌};
 ghost use Rattle.whole_numbers.specs.Lists.{number_at};
 ghost use Rattle.design_problem.specs.Basis.{IsFormOf, member_form};
 ghost use Rattle.design_problem.specs.Forms.{no_form};
@@ -7,15 +8,82 @@ ghost use Rattle.integer_pivots.specs.Lines.{IsLine};
 ghost use Rattle.integer_pivots.specs.Numbers.{AllWithin};
 ghost use Rattle.table_kernel.specs.Kernels.{IsKernel, IsMoving, width_of};
 ghost use Rattle.table_kernel.specs.Lines.{IsEntering, IsLineTooLarge, KeepsNumbers, column_of, factors_of};
-ghost use Rattle.table_kernel.specs.Numbers.{number_at_column, share_of};
+ghost use Rattle.table_kernel.specs.Numbers.{number_at_column, scaled_line, share_of};
 ghost use Rattle.table_kernel.specs.Rows.{IsCovered};
 ghost use Rattle.table_kernel.specs.Turns.{line_of};
 
 use crate::Kernel;
 use crate::kernel::OutOfRange;
+use cost_base::Listed;
 use design_problem::{Form, Member};
 use fraction_table::range_of;
-use integer_pivots::{ENTRY_LIMIT, FACTOR_LIMIT, clear, put_multiple};
+use integer_pivots::{ENTRY_LIMIT, FACTOR_LIMIT, Line, clear, put_multiple};
+
+/// How often a denominator goes into a common multiple.
+fn share_in(common: i64, denominator: i64) -> i64
+    requires common { (pos 0 <ℤ common) × (common ≤ℤ pos (2 ^ 30)) }
+    requires denominator { pos 0 <ℤ denominator }
+    requires divides { nat_abs denominator ∣ nat_abs common }
+    ensures share { result ≡ pos (nat_abs common / nat_abs denominator) }
+    ensures times { (result *ℤ denominator) ≡ common }
+    ensures positive { pos 1 ≤ℤ result }
+    ensures size { result ≤ℤ pos (2 ^ 30) }
+{
+    if common == 1 {
+        return 1;
+    }
+    common / denominator
+}
+
+/// A term's factor times a number, both of which are small.
+fn product_of(factor: i64, number: i128) -> i128
+    requires factor { nat_abs factor ≤ 2 ^ 30 }
+    requires number { nat_abs number ≤ 2 ^ 60 }
+    ensures { result ≡ (factor *ℤ number) }
+{
+    i128::from(factor) * number
+}
+
+/// Puts a line in place of another, with another sign and another constant.
+fn put_signed_line(into: &mut Line, line: &Line, sign: i64, constant: i64)
+    requires line { IsLine line.now }
+    requires count { length into.old.numbers ≡ length line.now.numbers }
+    requires sign { nat_abs sign ≡ 1 }
+    ensures count { length into.new.numbers ≡ length line.now.numbers }
+    ensures numbers { (c : ℕ) → c < length line.now.numbers → number_at into.new.numbers c ≡ (sign *ℤ number_at line.now.numbers c) }
+    ensures denominator { into.new.denominator ≡ line.now.denominator }
+    ensures constant { into.new.constant ≡ constant }
+    ensures reach { into.new.reach ≡ line.now.reach }
+{
+    into.denominator = line.denominator;
+    into.constant = constant;
+    into.reach = line.reach;
+    let numbers = line.numbers.as_slice();
+    for column in 0..numbers.len() {
+        into.numbers.set(column, sign * numbers[column]);
+    }
+}
+
+/// Puts a form's numbers over a common denominator in place of numbers: the sum of its coefficients, each times its
+/// variable's line.
+fn put_sums(sums: &mut Listed<i64>, form: &Form, lows: &[Line], common: i64)
+    requires count { length form.now.coefficients ≤ length lows.now }
+    requires common { (pos 0 <ℤ common) × (common ≤ℤ pos (2 ^ 30)) }
+    requires lines { All IsLine lows.now × All (λ line. nat_abs line.denominator ∣ nat_abs common) lows.now }
+    requires long { All (λ line. length line.numbers ≡ length sums.old) lows.now }
+    requires factors { factors_of (nat_abs common) form.now.coefficients lows.now ≤ 2 ^ 32 }
+    ensures count { length sums.new ≡ length sums.old }
+    ensures numbers { (c : ℕ) → c < length sums.old →
+        number_at sums.new c ≡ number_at_column form.now (map (λ row. number_at row (suc c)) (map (scaled_line (nat_abs common)) lows.now)) }
+    ensures sizes { AllWithin (2 ^ 62) sums.new }
+{
+    clear(sums);
+    for term in form.terms() {
+        let line = &lows[term.var as usize];
+        let factor = term.coefficient * share_in(common, line.denominator);
+        put_multiple(sums, factor, line.numbers.as_slice());
+    }
+}
 
 impl Kernel {
     /// How often the denominator of a variable's line goes into the common one.
@@ -27,10 +95,7 @@ impl Kernel {
         ensures positive { pos 1 ≤ℤ result }
         ensures size { result ≤ℤ pos (2 ^ 30) }
     {
-        if self.common == 1 {
-            return 1;
-        }
-        self.common / self.lows[var].denominator
+        share_in(self.common, self.lows[var].denominator)
     }
 
     /// A variable's number of x - low at a column, over the common denominator.
@@ -55,7 +120,10 @@ impl Kernel {
     {
         let mut sum = 0;
         for term in form.terms() {
-            sum += i128::from(term.coefficient) * self.low_entry(term.var as usize, column);
+            sum += product_of(
+                term.coefficient,
+                self.low_entry(term.var as usize, column),
+            );
         }
         sum
     }
@@ -87,13 +155,7 @@ impl Kernel {
         ensures line { IsLine self.new.entering }
         ensures keeps { KeepsNumbers self.old self.new }
     {
-        self.entering.denominator = self.lows[var].denominator;
-        self.entering.constant = constant;
-        self.entering.reach = self.lows[var].reach;
-        for column in 0..self.lows[var].numbers.as_slice().len() {
-            let number = self.lows[var].numbers.as_slice()[column];
-            self.entering.numbers.set(column, sign * number);
-        }
+        put_signed_line(&mut self.entering, &self.lows[var], sign, constant);
     }
 
     /// The constant of high - x for a variable, over its line's denominator.
@@ -133,16 +195,12 @@ impl Kernel {
         ensures sizes { AllWithin (2 ^ 62) self.new.entering.numbers }
         ensures keeps { KeepsNumbers self.old self.new }
     {
-        clear(&mut self.entering.numbers);
-        for term in self.table.rows[row].terms() {
-            let var = term.var as usize;
-            let factor = term.coefficient * (self.common / self.lows[var].denominator);
-            put_multiple(
-                &mut self.entering.numbers,
-                factor,
-                self.lows[var].numbers.as_slice(),
-            );
-        }
+        put_sums(
+            &mut self.entering.numbers,
+            &self.table.rows[row],
+            self.lows.as_slice(),
+            self.common,
+        );
     }
 
     /// Puts a row's line in place of the entering one.

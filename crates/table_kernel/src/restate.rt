@@ -1,14 +1,18 @@
 //! The table in fractions at the kernel's basis.
-ghost use Rattle.std.specs.Prelude.{◌≡◌, ◌<◌, ◌≤◌, [], pos, ◌<ℤ◌, nat_abs, length, slice_index_or, slice_set};
-ghost use Rattle.fraction_rows.specs.TableRows.{IsTableNumber};
+ghost use Rattle.std.specs.Prelude.{◌≡◌, ℕ, suc, ◌<◌, ◌≤◌, [], pos, ◌<ℤ◌, nat_abs, length, slice_index_or, slice_set};
+ghost use Rattle.whole_numbers.specs.Lists.{number_at};
+ghost use Rattle.design_problem.specs.Basis.{IsFormOf, entry, member_form};
+ghost use Rattle.fraction_rows.specs.TableRows.{IsTableNumber, blank_row, nothing};
 ghost use Rattle.fraction_table.specs.Pivots.{KeepsBoxAndRows};
 ghost use Rattle.fraction_table.specs.RowLines.{HasPlace};
 ghost use Rattle.fraction_table.specs.ValidTables.{HasRoom, IsTableau};
-ghost use Rattle.table_kernel.specs.Kernels.{IsKernel, kernel_lines};
-ghost use Rattle.table_kernel.specs.Numbers.{over_common};
+ghost use Rattle.table_kernel.specs.Kernels.{IsKernel, kernel_lines, width_of};
+ghost use Rattle.table_kernel.specs.Lines.{column_of};
+ghost use Rattle.table_kernel.specs.Numbers.{number_at_column, over_common};
 ghost use Rattle.table_kernel.specs.Restated.{KeepsAllButLinesOf};
 
 use crate::Kernel;
+use design_problem::Member;
 use wide_fraction::{Frac, Top};
 
 /// A number over the denominator, in lowest terms.
@@ -26,6 +30,39 @@ pub fn fraction_over(number: i128, common: i64, top: Top) -> Frac
 }
 
 impl Kernel {
+    /// Puts the constant of a place's form into its line in the table, with 0 at the columns.
+    fn restate_constant(&mut self, place: usize)
+        requires kernel { IsKernel self.old }
+        requires place { place < length self.old.constants.items }
+        ensures lines { self.new.table.lines.items ≡ slice_set self.old.table.lines.items place
+            (slice_set (blank_row (width_of self.old)) 0 (over_common (nat_abs self.old.common) (number_at self.old.constants.items place))) }
+        ensures keeps { KeepsAllButLinesOf self.old self.new }
+    {
+        let constant = fraction_over(
+            i128::from(self.constants[place]),
+            self.common,
+            self.table.top,
+        );
+        self.table.lines[place].clear();
+        self.table.lines[place].set_constant(constant);
+    }
+
+    /// Puts a member's number at a column into a line in the table that is 0 from there on.
+    fn restate_entry(&mut self, place: usize, member: Member, column: usize)
+        requires kernel { IsKernel self.old }
+        requires place { place < length self.old.constants.items }
+        requires member { IsFormOf self.old.table.costs self.old.table.rows.items member }
+        requires column { column < width_of self.old }
+        requires zeros { (later : ℕ) → column ≤ later → entry (slice_index_or self.old.table.lines.items place []) (suc later) ≡ nothing }
+        ensures lines { self.new.table.lines.items ≡ slice_set self.old.table.lines.items place
+            (slice_set (slice_index_or self.old.table.lines.items place []) (suc column)
+            (over_common (nat_abs self.old.common) (number_at_column (member_form (width_of self.old) self.old.table.rows.items member) (column_of self.old column)))) }
+        ensures keeps { KeepsAllButLinesOf self.old self.new }
+    {
+        let number = fraction_over(self.entry(member, column), self.common, self.table.top);
+        self.table.lines[place].push(column as u32, number);
+    }
+
     /// Puts the line of one place's form into the table.
     fn restate_line(&mut self, place: usize)
         requires kernel { IsKernel self.old }
@@ -34,13 +71,9 @@ impl Kernel {
         ensures keeps { KeepsAllButLinesOf self.old self.new }
     {
         let member = self.table.member_at(place);
-        let top = self.table.top;
-        let constant = fraction_over(i128::from(self.constants[place]), self.common, top);
-        self.table.lines[place].clear();
-        self.table.lines[place].set_constant(constant);
+        self.restate_constant(place);
         for column in 0..self.width() {
-            let entry = fraction_over(self.entry(member, column), self.common, top);
-            self.table.lines[place].push(column as u32, entry);
+            self.restate_entry(place, member, column);
         }
     }
 
