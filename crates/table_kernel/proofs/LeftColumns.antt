@@ -110,7 +110,7 @@ module _ (rows : List (List ℤ)) (line : List ℤ) (c d : ℕ) (c_is : IsPositi
       (subst (λ z. z <ℤ (there count d *ℤ pos own)) (sym (others_read count))
       (subst (λ z. crosswise (slice_index_or rows count []) line c d <ℤ z) (sym (own_read count)) less)))))
 
-times_positive : (a b : ℤ) → pos 0 <ℤ a → pos 0 <ℤ b → pos 0 <ℤ (a *ℤ b)
+pub times_positive : (a b : ℤ) → pos 0 <ℤ a → pos 0 <ℤ b → pos 0 <ℤ (a *ℤ b)
 times_positive (pos a) (pos b) a_is b_is =
     let more : 0 < a * b = product_positive a b (omega (arith, ints)) (omega (arith, ints)) in
     omega (arith, ints, more)
