@@ -130,9 +130,9 @@ next_read entering column lines i first last common new i_in left divides is =
     let same : read new ≡ new = read_number new (omega (arith, small)) in
     let b = denominator_after entering column (slice_index_or lines i no_line) in (
       ap (λ (z : ℤ). common_after entering column (drop (i + 1) lines) (nat_abs z)) same
-      ∙ ap (common_after entering column (drop (i + 1) lines)) is.1
-      ∙ sym (common_step entering column lines i (nat_abs common) i_in)
-      ∙ left,
+          ∙ ap (common_after entering column (drop (i + 1) lines)) is.1
+          ∙ sym (common_step entering column lines i (nat_abs common) i_in)
+          ∙ left,
       subst (λ (z : ℤ). (pos 0 <ℤ z) × (z ≤ℤ pos (2 ^ 30))) (sym same) (is.0, is.2),
       subst (λ (z : ℤ). first ∣ nat_abs z) (sym same)
           (subst (λ (n : ℕ). first ∣ n) (sym is.1) (dvd_trans first divides (left_divides_lcm (nat_abs common) b))),
@@ -140,4 +140,4 @@ next_read entering column lines i first last common new i_in left divides is =
 
 -- an answer that is none
 pub match_none : {X Fact : Type 0} (o : Option X) (P : X → Type 0) → o ≡ None → Fact → MatchOption o Fact P
-match_none o P none fact = subst (λ m. MatchOption m _ P) (sym none) fact
+match_none {X} {Fact} o P none fact = subst (λ (m : Option X). MatchOption m Fact P) (sym none) fact

@@ -98,8 +98,7 @@ pub constant_told : (k : Kernel) (column v C : ℕ) (answer : Bool) (z : ℤ) (s
 constant_told k column v C answer z share z_is share_is told =
     let same : nat_abs z * share ≡ constant_size k column C v =
     ap (λ (y : ℤ). nat_abs y * share) z_is
-    ∙ ap (λ (s : ℕ). nat_abs (turned_number (turn_of_line k column v) (line_of k v).constant k.entering.constant) * s) share_is in
-    (
+    ∙ ap (λ (s : ℕ). nat_abs (turned_number (turn_of_line k column v) (line_of k v).constant k.entering.constant) * s) share_is in (
       λ holds. subst (λ (n : ℕ). n ≤ 2 ^ 44) same (told.0 holds),
       λ small. told.1 (subst (λ (n : ℕ). n ≤ 2 ^ 44) (sym same) small),
     )

@@ -112,3 +112,9 @@ after_read k column v line turn r line_is turn_is small =
     ∙ ap (λ (z : ℤ). nat_abs z * nat_abs (read turn.multiplier)) (read_number (line_of k v).denominator (omega (arith, d_small)))
     ∙ ap (λ (z : ℤ). nat_abs (line_of k v).denominator * nat_abs z) (read_number turn.multiplier (omega (arith, m_small)))
     ∙ ap (λ (t : Turn). nat_abs (line_of k v).denominator * nat_abs t.multiplier) turn_is
+
+-- a common denominator is read as it is
+pub common_read : (common : ℤ) → (pos 0 <ℤ common) × (common ≤ℤ pos (2 ^ 30)) → read common ≡ common
+common_read common range =
+    let small : nat_abs common ≤ 2 ^ 30 = size_most common (2 ^ 30) range.0 range.1 in
+    read_number common (omega (arith, small))

@@ -3,9 +3,10 @@ use Rattle.std.specs.declared.alloc.Global.{Global}
 use Prim.Native.Nat.{◌∣◌}
 use native.Mathlib.Nat.{dvd-mul_right}
 use Rattle.std.proofs.Common.{Vec, ◌≡◌, ℕ, ◌+◌, ◌*◌, ◌/◌, ◌^◌, ◌<◌, ◌≤◌, refl, sym, ◌∙◌, ap, subst, List, length, arith, inl, inr, get_or-set_same, get_or-set_other}
-use Rattle.std.specs.Prelude.{ℤ, pos, ◌<ℤ◌, ◌≤ℤ◌, nat_abs, slice_index_or, slice_set, All}
+use Rattle.std.specs.Prelude.{ℤ, pos, ◌<ℤ◌, ◌≤ℤ◌, nat_abs, slice_index_or, slice_set, All, Option, Some, MatchOption}
+use Rattle.std.specs.Vec.{with_items}
 use Rattle.std.proofs.lemmas.Bool.{cases_eq}
-use Rattle.std.proofs.lemmas.List.{get_or_default, length-set}
+use Rattle.std.proofs.lemmas.List.{get_or_default, length-set, with_items_is}
 use Rattle.std.proofs.lemmas.List.Elements.{All-weaker}
 use Rattle.std.proofs.lemmas.Nat.Gcd.{dvd_trans, le_of_dvd}
 use Rattle.whole_numbers.proofs.Divisors.{quotient_positive}
@@ -18,7 +19,7 @@ use Rattle.integer_pivots.specs.Leads.{AreLeads}
 use Rattle.integer_pivots.specs.Lines.{IsLine, no_line, rows_of}
 use Rattle.integer_pivots.specs.Numbers.{AllWithin}
 use Rattle.integer_pivots.specs.Turns.{AreTurnedLines, IsTurnedLine, StaysSmall, denominator_after, turn_at, turned_number}
-use Rattle.integer_pivots.proofs.Sizes.{size_most}
+use Rattle.integer_pivots.proofs.Sizes.{read, size_most}
 use Rattle.table_kernel.specs.declared.kernel.Kernel.{Kernel}
 use Rattle.table_kernel.specs.Constants.{AreConstantsPut, KeepsAllButConstants}
 use Rattle.table_kernel.specs.Kernels.{IsBounded, IsShaped, width_of}
@@ -26,7 +27,7 @@ use Rattle.table_kernel.specs.Numbers.{share_of}
 use Rattle.table_kernel.specs.Turns.{AreLinesTurned, ConstantsStaySmall, HasTurned, IsLineReady, IsLineTurned, IsReadyToTurn, KeepsAllButLows, LinesStaySmall, MayLineTurn, MayTurn, line_of, next_common, turn_of_line}
 use Rattle.table_kernel.proofs.CommonSteps.{after_some, common_grows, each_goes_in}
 use Rattle.table_kernel.proofs.StayingWithin.{constant_same, stays, within_share}
-use Rattle.table_kernel.proofs.TurnArgs.{line_ready}
+use Rattle.table_kernel.proofs.TurnArgs.{common_read, line_ready}
 
 -- the denominators after the pivot are positive, and so is their common multiple
 pub afters_some : (k : Kernel) (column : ℕ) → IsReadyToTurn k column → All (λ (line : Line). 0 < denominator_after k.entering column line) k.lows.items
@@ -167,6 +168,15 @@ but_lows k h leads z o = rw (sym o.table, sym o.constants, sym o.left, sym o.ent
 but_constants : (m n : Kernel) → KeepsAllButConstants m n → n ≡ record m { constants = n.constants }
 but_constants m n o = rw (sym o.table, sym o.common, sym o.lows, sym o.leads, sym o.left, sym o.entering) refl
 
+-- a number that is the common denominator after the pivot, and small
+abbrev pub IsNext : Kernel → ℕ → ℤ → Type 0
+IsNext k column common = (pos 0 <ℤ common) × (nat_abs common ≡ next_common k column) × (common ≤ℤ pos (2 ^ 30))
+
+pub next_told : (k : Kernel) (column : ℕ) (found : Option ℤ) (common : ℤ) → found ≡ Some common →
+    MatchOption found (2 ^ 30 < next_common k column) (IsNext k column) → IsNext k column common
+next_told k column found common is told =
+    subst (λ (m : Option ℤ). MatchOption m (2 ^ 30 < next_common k column) (IsNext k column)) is told
+
 -- what is known once the lines of a kernel have turned
 pub record IsTurnTested (k h : Kernel) (column : ℕ) (z : ℤ) : Type 0 where
   pub ready : IsReadyToTurn k column
@@ -176,6 +186,28 @@ pub record IsTurnTested (k h : Kernel) (column : ℕ) (z : ℤ) : Type 0 where
   pub next : nat_abs z ≡ next_common k column
   pub small : z ≤ℤ pos (2 ^ 30)
   pub constants : ConstantsStaySmall k column (nat_abs z)
+
+pub tested : (k h : Kernel) (column : ℕ) (common : ℤ) → IsReadyToTurn k column → KeepsAllButLows k h → AreLinesTurned k h column →
+    IsNext k column common →
+    ConstantsStaySmall k column (nat_abs (read common)) → IsTurnTested k h column (read common)
+tested k h column common r o turned is constants =
+    let same = common_read common (is.0, is.2) in
+    record {
+      ready = r;
+      keeps = o;
+      turned = turned;
+      positive = subst (λ (z : ℤ). pos 0 <ℤ z) (sym same) is.0;
+      next = ap nat_abs same ∙ is.1;
+      small = subst (λ (z : ℤ). z ≤ℤ pos (2 ^ 30)) (sym same) is.2;
+      constants = constants;
+    }
+
+-- the lines are as long as before
+pub lines_long : (k h : Kernel) (column : ℕ) → IsReadyToTurn k column → AreLinesTurned k h column → All (λ (line : Line). length line.numbers ≡ width_of k) h.lows.items
+lines_long k h column r turned v d v_in =
+    let v_old : v < length k.lows.items = omega (arith, v_in, turned.turned.count) in
+    subst (λ (l : Line). length l.numbers ≡ width_of k) (get_or_default h.lows.items v no_line d v_in)
+    ((turned.turned.each v v_old).count ∙ r.each v no_line v_old)
 
 module _ (k h : Kernel) (column : ℕ) (leads : Vec ℕ Global) (z : ℤ) (t : IsTurnTested k h column z) where
   goes_in : (v : ℕ) → v < length k.lows.items → denominator_after k.entering column (line_of k v) ∣ nat_abs z
@@ -200,15 +232,6 @@ module _ (k h : Kernel) (column : ℕ) (leads : Vec ℕ Global) (z : ℤ) (t : I
       subst (λ (l : Line). nat_abs l.constant * share_of (nat_abs z) l ≤ 2 ^ 44) (get_or_default h.lows.items v no_line d v_in)
       (limit_at v (omega (arith, v_in, t.turned.turned.count)))
 
-  all_long : All (λ (line : Line). length line.numbers ≡ width_of k) h.lows.items
-  all_long v d v_in =
-      let v_old : v < length k.lows.items = omega (arith, v_in, t.turned.turned.count) in
-      subst (λ (l : Line). length l.numbers ≡ width_of k) (get_or_default h.lows.items v no_line d v_in)
-      ((t.turned.turned.each v v_old).count ∙ t.ready.each v no_line v_old)
-
-  pub all_long_as_entering : All (λ (line : Line). length line.numbers ≡ length k.entering.numbers) h.lows.items
-  all_long_as_entering v d v_in = all_long v d v_in ∙ sym t.ready.long
-
   -- the kernel is as long as before
   pub shaped_after : IsShaped k → length leads.items ≡ length k.leads.items → AreLeads (rows_of h.lows.items) leads.items → IsShaped (with_leads h leads z)
   shaped_after s counted lead =
@@ -216,7 +239,7 @@ module _ (k h : Kernel) (column : ℕ) (leads : Vec ℕ Global) (z : ℤ) (t : I
       (record {
         room = s.room;
         lows = t.turned.turned.count ∙ s.lows;
-        each = all_long;
+        each = lines_long k h column t.ready t.turned;
         leads = counted ∙ s.leads;
         lead = lead;
         constants = s.constants;
@@ -288,14 +311,37 @@ leads_after k h column befores afters lows o r turned befores_are lows_are moves
     (All-weaker IsLine (λ (line : Line). pos 0 <ℤ line.denominator) (λ line l. l.positive) k.lows.items r.lines)
     (subst (AreLeads (rows_of k.lows.items)) (sym (befores_are ∙ ap (λ (vs : Vec ℕ Global). vs.items) o.leads)) lead))
 
+-- and are put
+pub leads_put : (k h : Kernel) (column : ℕ) (befores afters : List ℕ) (lows : List Line) → KeepsAllButLows k h → IsReadyToTurn k column →
+    AreLinesTurned k h column → befores ≡ h.leads.items → lows ≡ h.lows.items → length afters ≡ length befores →
+    ((olds : List Line) → AreTurnedLines h.entering column olds lows → All (λ (line : Line). pos 0 <ℤ line.denominator) olds →
+    AreLeads (rows_of olds) befores → AreLeads (rows_of lows) afters) →
+    (length (with_items h.leads afters).items ≡ length k.leads.items)
+    × (AreLeads (rows_of k.lows.items) k.leads.items → AreLeads (rows_of h.lows.items) (with_items h.leads afters).items)
+leads_put k h column befores afters lows o r turned befores_are lows_are counted moves =
+    let long : length afters ≡ length h.leads.items = counted ∙ ap length befores_are in
+    let are : (with_items h.leads afters).items ≡ afters = with_items_is h.leads afters (omega (arith, long, h.leads.ok.0)) in (
+      ap length are ∙ long ∙ ap (λ (vs : Vec ℕ Global). length vs.items) o.leads,
+      λ lead. subst (AreLeads (rows_of h.lows.items)) (sym are)
+          (leads_after k h column befores afters lows o r turned befores_are lows_are moves lead),
+    )
+
 -- the tests tell that the kernel may turn
-pub may_turn : (k : Kernel) (column : ℕ) (z : ℤ) → LinesStaySmall k column → nat_abs z ≡ next_common k column → pos 0 <ℤ z → z ≤ℤ pos (2 ^ 30) →
-    ConstantsStaySmall k column (nat_abs z) → MayTurn k column
-may_turn k column z lines next positive small constants = record {
+pub may_turn : (k : Kernel) (column : ℕ) (common : ℤ) → LinesStaySmall k column →
+    IsNext k column common →
+    ConstantsStaySmall k column (nat_abs (read common)) → MayTurn k column
+may_turn k column common lines is constants = record {
   lines = lines;
-  common = subst (λ (n : ℕ). n ≤ 2 ^ 30) next (size_most z (2 ^ 30) positive small);
-  constants = subst (ConstantsStaySmall k column) next constants;
+  common = subst (λ (n : ℕ). n ≤ 2 ^ 30) is.1 (size_most common (2 ^ 30) is.0 is.2);
+  constants = subst (ConstantsStaySmall k column) (ap nat_abs (common_read common (is.0, is.2)) ∙ is.1) constants;
 }
+
+-- and where it may, its constants stay small
+pub may_constants : (k : Kernel) (column : ℕ) (common : ℤ) →
+    IsNext k column common → MayTurn k column →
+    ConstantsStaySmall k column (nat_abs (read common))
+may_constants k column common is may =
+    subst (ConstantsStaySmall k column) (sym (ap nat_abs (common_read common (is.0, is.2)) ∙ is.1)) may.constants
 
 -- a line that is put in its place has turned
 pub line_put : (k h : Kernel) (column v : ℕ) (line new : Line) (turn : Turn) → v < length k.lows.items → h.lows.items ≡ slice_set k.lows.items v new →

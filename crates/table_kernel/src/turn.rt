@@ -95,7 +95,10 @@ impl Kernel {
         if multiplier == 1 {
             return Some(common);
         }
-        common_multiple(common, denominator_times(self.lows[var].denominator, multiplier))
+        common_multiple(
+            common,
+            denominator_times(self.lows[var].denominator, multiplier),
+        )
     }
 
     /// The common denominator after a turn at a column, where it is at most 2^30.

@@ -1,0 +1,101 @@
+-- The lines have turned, then the leads and the constants.
+use Rattle.std.specs.declared.alloc.Global.{Global}
+use Rattle.std.proofs.Common.{Vec, ◌≡◌, ◌<◌, ◌∙◌, ℕ, List, sym, ap, subst, length, arith}
+use Rattle.std.specs.Prelude.{ℤ, pos, ◌<ℤ◌, All}
+use Rattle.std.specs.Vec.{with_items}
+use Rattle.whole_numbers.specs.Lists.{number_at}
+use Rattle.fraction_table.specs.declared.table.Table.{Table}
+use Rattle.fraction_table.specs.Tableaus.{FitsBox}
+use Rattle.integer_pivots.specs.declared.line.Line.{Line}
+use Rattle.integer_pivots.proofs.FailedTests.{failed}
+use Rattle.integer_pivots.proofs.Sizes.{read}
+use Rattle.table_kernel.proofs.TurnedRows.{bounded_after, has_turned, leads_put, lines_long, may_constants, may_turn, next_told, shaped_after, tested}
+use Rattle.table_kernel.proofs.kernel.Kernel.turn_numbers.Goals as goal
+
+pub turn_lines-requires-clause-may : goal.turn_lines-requires-clause-may
+turn_lines-requires-clause-may c =
+    may_turn c.args.self.now c.args.column c.in-Some.common (c.lines_stay_small.ensures.0 c.if-not-lines_stay_small.false)
+    (next_told c.args.self.now c.args.column c.common_after.result c.in-Some.common c.in-Some.is c.common_after.ensures)
+    (c.constants_stay_small.ensures.0 c.if-not-constants_stay_small.false)
+
+pub returns-then-not-lines_stay_small-clause-refused : goal.returns-then-not-lines_stay_small-clause-refused
+returns-then-not-lines_stay_small-clause-refused c may =
+    failed c.lines_stay_small.result c.if-not-lines_stay_small.true c.lines_stay_small.ensures may.lines
+
+pub returns-then-not-constants_stay_small-clause-refused : goal.returns-then-not-constants_stay_small-clause-refused
+returns-then-not-constants_stay_small-clause-refused c may =
+    failed c.constants_stay_small.result c.if-not-constants_stay_small.true c.constants_stay_small.ensures
+    (may_constants c.args.self.now c.args.column c.in-Some.common
+    (next_told c.args.self.now c.args.column c.common_after.result c.in-Some.common c.in-Some.is c.common_after.ensures) may)
+
+pub turn_leads-requires-clause-leads : goal.turn_leads-requires-clause-leads
+turn_leads-requires-clause-leads c =
+    let keeps = c.turn_lines.ensures.keeps in
+    ap length c.as_mut_slice.ensures.value
+    ∙ ap (λ (vs : Vec ℕ Global). length vs.items) keeps.leads
+    ∙ c.requires.kernel.shaped.leads
+    ∙ sym c.requires.ready.long
+    ∙ ap (λ (line : Line). length line.numbers) (sym keeps.entering)
+
+pub turn_leads-requires-clause-each : goal.turn_leads-requires-clause-each
+turn_leads-requires-clause-each c =
+    let k = c.args.self.now in
+    let h = c.turn_lines.new.self in
+    let long = lines_long k h c.args.column c.requires.ready c.turn_lines.ensures.turned in
+    let width = sym c.requires.ready.long ∙ ap (λ (line : Line). length line.numbers) (sym c.turn_lines.ensures.keeps.entering) in
+    subst (All (λ (line : Line). length line.numbers ≡ length h.entering.numbers)) (sym c.as_slice.ensures.value)
+    (subst (λ (n : ℕ). All (λ (line : Line). length line.numbers ≡ n) h.lows.items) width long)
+
+pub turn_leads-requires-clause-column : goal.turn_leads-requires-clause-column
+turn_leads-requires-clause-column c =
+    subst (λ (line : Line). c.args.column < length line.numbers) (sym c.turn_lines.ensures.keeps.entering)
+    (omega (arith, c.requires.ready.inside, c.requires.ready.long))
+
+pub turn_leads-requires-clause-pivot : goal.turn_leads-requires-clause-pivot
+turn_leads-requires-clause-pivot c =
+    subst (λ (line : Line). pos 0 <ℤ number_at line.numbers c.args.column) (sym c.turn_lines.ensures.keeps.entering) c.requires.ready.pivot
+
+pub turn_leads-requires-clause-denominator : goal.turn_leads-requires-clause-denominator
+turn_leads-requires-clause-denominator c =
+    subst (λ (line : Line). pos 0 <ℤ line.denominator) (sym c.turn_lines.ensures.keeps.entering) c.requires.ready.entering.positive
+
+pub put_constants-requires-clause-shaped : goal.put_constants-requires-clause-shaped
+put_constants-requires-clause-shaped c =
+    let k = c.args.self.now in
+    let h = c.turn_lines.new.self in
+    let e = c.turn_lines.ensures in
+    let t = tested k h c.args.column c.in-Some.common c.requires.ready e.keeps e.turned
+    (next_told c.args.self.now c.args.column c.common_after.result c.in-Some.common c.in-Some.is c.common_after.ensures)
+    (c.constants_stay_small.ensures.0 c.if-not-constants_stay_small.false) in
+    let leads = leads_put k h c.args.column c.as_mut_slice.result.now c.turn_leads.new.leads c.as_slice.result.now e.keeps c.requires.ready
+    e.turned c.as_mut_slice.ensures.value c.as_slice.ensures.value c.turn_leads.ensures.count c.turn_leads.ensures.leads in
+    shaped_after k h c.args.column (with_items h.leads c.turn_leads.new.leads) (read c.in-Some.common) t c.requires.kernel.shaped leads.0
+    (leads.1 c.requires.kernel.shaped.lead)
+
+pub put_constants-requires-clause-bounded : goal.put_constants-requires-clause-bounded
+put_constants-requires-clause-bounded c =
+    let k = c.args.self.now in
+    let h = c.turn_lines.new.self in
+    let e = c.turn_lines.ensures in
+    let t = tested k h c.args.column c.in-Some.common c.requires.ready e.keeps e.turned
+    (next_told c.args.self.now c.args.column c.common_after.result c.in-Some.common c.in-Some.is c.common_after.ensures)
+    (c.constants_stay_small.ensures.0 c.if-not-constants_stay_small.false) in
+    bounded_after k h c.args.column (with_items h.leads c.turn_leads.new.leads) (read c.in-Some.common) t c.requires.kernel.bounded
+
+pub put_constants-requires-clause-fit : goal.put_constants-requires-clause-fit
+put_constants-requires-clause-fit c =
+    subst (λ (t : Table). All (FitsBox t.costs) t.rows.items) (sym c.turn_lines.ensures.keeps.table) c.requires.kernel.whole.fit
+
+pub returns-clause-turned : goal.returns-clause-turned
+returns-clause-turned c =
+    let k = c.args.self.now in
+    let h = c.turn_lines.new.self in
+    let e = c.turn_lines.ensures in
+    let p = c.put_constants.ensures in
+    let t = tested k h c.args.column c.in-Some.common c.requires.ready e.keeps e.turned
+    (next_told c.args.self.now c.args.column c.common_after.result c.in-Some.common c.in-Some.is c.common_after.ensures)
+    (c.constants_stay_small.ensures.0 c.if-not-constants_stay_small.false) in
+    let leads = leads_put k h c.args.column c.as_mut_slice.result.now c.turn_leads.new.leads c.as_slice.result.now e.keeps c.requires.ready
+    e.turned c.as_mut_slice.ensures.value c.as_slice.ensures.value c.turn_leads.ensures.count c.turn_leads.ensures.leads in
+    has_turned k h c.args.column (with_items h.leads c.turn_leads.new.leads) (read c.in-Some.common) t c.put_constants.new.self leads.0
+    leads.1 p.keeps p.constants p.small
