@@ -26,8 +26,8 @@ use Rattle.whole_numbers.proofs.Divisors.{quotient_positive}
 use Rattle.whole_numbers.proofs.Sizes.{positive_is, size_positive}
 use Rattle.table_kernel.specs.Choices.{AreColumnsLeft, ComesFirst}
 use Rattle.table_kernel.specs.declared.kernel.Kernel.{Kernel}
-use Rattle.table_kernel.specs.Kernels.{IsBounded, IsKernel, IsShaped, lows_of, width_of}
-use Rattle.table_kernel.specs.Lines.{IsBestColumn, IsNotAfterInKernel, column_of}
+use Rattle.table_kernel.specs.Kernels.{IsBounded, IsKernel, IsShaped, width_of}
+use Rattle.table_kernel.specs.Lines.{IsBestColumn, IsNotAfterInKernel}
 use Rattle.table_kernel.specs.Numbers.{scaled_line, share_of}
 use Rattle.table_kernel.proofs.Columns.{scaled_number}
 
@@ -202,18 +202,18 @@ share_some D line some l divides = quotient_positive D (nat_abs line.denominator
 pub shares_some : (k : Kernel) → IsBounded k → All (λ (line : Line). 0 < share_of (nat_abs k.common) line) k.lows.items
 shares_some k b v d v_in = share_some (nat_abs k.common) (slice_index_or k.lows.items v d) (size_positive k.common b.positive) (b.lines v d v_in) (b.divides v d v_in)
 
-scaled_up : (z : ℤ) (g : ℕ) (zs ms : List ℤ) → 0 < g → (LeadsNoNegative zs → LeadsNoNegative ms) → LeadsNoNegative (z ∷ zs) → LeadsNoNegative ((z *ℤ pos g) ∷ ms)
-scaled_up (pos zero) (suc g) zs ms some rest leads =
+lead_scaled : (z : ℤ) (g : ℕ) (zs ms : List ℤ) → 0 < g → (LeadsNoNegative zs → LeadsNoNegative ms) → LeadsNoNegative (z ∷ zs) → LeadsNoNegative ((z *ℤ pos g) ∷ ms)
+lead_scaled (pos zero) (suc g) zs ms some rest leads =
     subst (λ (m : ℕ). LeadsNoNegative (pos m ∷ ms)) (sym (zero-mul (suc g))) (rest leads)
-scaled_up (pos (suc n)) (suc g) zs ms some rest leads =
+lead_scaled (pos (suc n)) (suc g) zs ms some rest leads =
     let product : 0 < suc n * suc g = grind arith in
     more (suc n * suc g) product
   where
     more : (m : ℕ) → 0 < m → LeadsNoNegative (pos m ∷ ms)
     more zero m_positive = absurd (omega arith)
     more (suc m) m_positive = tt
-scaled_up (negsuc n) g zs ms some rest leads = absurd leads
-scaled_up z zero zs ms some rest leads = absurd (omega arith)
+lead_scaled (negsuc n) g zs ms some rest leads = absurd leads
+lead_scaled z zero zs ms some rest leads = absurd (omega arith)
 
 -- what leads in the numbers of lines leads in the scaled ones
 pub leads_scaled : (D own c d : ℕ) (others : ℤ) (lines : List Line) → All (λ (line : Line). 0 < share_of D line) lines →
@@ -230,29 +230,29 @@ leads_scaled D own c d others (line ∷ lines) shares leads =
     ∙ ap (λ z. (pos own *ℤ (x *ℤ pos g)) -ℤ (others *ℤ z)) (scaled_number D line (suc c))
     ∙ ring (pos own ∷ x ∷ others ∷ y ∷ pos g ∷ []) ((var 0 ⊗ (var 1 ⊗ var 4)) ⊖ (var 2 ⊗ (var 3 ⊗ var 4))) (((var 0 ⊗ var 1) ⊖ (var 2 ⊗ var 3)) ⊗ var 4) refl in
     subst (λ (z : ℤ). LeadsNoNegative (z ∷ news)) (sym same)
-    (scaled_up ((pos own *ℤ x) -ℤ (others *ℤ y)) g (turned_column own (numbers_in_column d (rows_of lines)) others (numbers_in_column c (rows_of lines))) news
+    (lead_scaled ((pos own *ℤ x) -ℤ (others *ℤ y)) g (turned_column own (numbers_in_column d (rows_of lines)) others (numbers_in_column c (rows_of lines))) news
     (shares 0 no_line (omega arith))
     (leads_scaled D own c d others lines (All-tail (λ (l : Line). 0 < share_of D l) line lines shares)) leads)
 
-scaled_down : (z : ℤ) (g : ℕ) (zs ms : List ℤ) → 0 < g → (LeadsPositive zs → LeadsPositive ms) → LeadsPositive ((z *ℤ pos g) ∷ zs) → LeadsPositive (z ∷ ms)
-scaled_down (pos zero) (suc g) zs ms some rest leads =
+lead_unscaled : (z : ℤ) (g : ℕ) (zs ms : List ℤ) → 0 < g → (LeadsPositive zs → LeadsPositive ms) → LeadsPositive ((z *ℤ pos g) ∷ zs) → LeadsPositive (z ∷ ms)
+lead_unscaled (pos zero) (suc g) zs ms some rest leads =
     rest (subst (λ (m : ℕ). LeadsPositive (pos m ∷ zs)) (zero-mul (suc g)) leads)
-scaled_down (pos (suc n)) (suc g) zs ms some rest leads = tt
-scaled_down (negsuc n) (suc g) zs ms some rest leads =
+lead_unscaled (pos (suc n)) (suc g) zs ms some rest leads = tt
+lead_unscaled (negsuc n) (suc g) zs ms some rest leads =
     let product : 0 < suc n * suc g = grind arith in
     less (suc n * suc g) product leads
   where
     less : (m : ℕ) → 0 < m → LeadsPositive (neg_ℤ (pos m) ∷ zs) → ⊥
     less zero m_positive given = absurd (omega arith)
     less (suc m) m_positive given = given
-scaled_down z zero zs ms some rest leads = absurd (omega arith)
+lead_unscaled z zero zs ms some rest leads = absurd (omega arith)
 
 -- and the other way round
 pub leads_raw : (D c : ℕ) (lines : List Line) → All (λ (line : Line). 0 < share_of D line) lines →
     LeadsPositive (numbers_in_column (suc c) (map (scaled_line D) lines)) → LeadsPositive (numbers_in_column c (rows_of lines))
 leads_raw D c [] shares leads = leads
 leads_raw D c (line ∷ lines) shares leads =
-    scaled_down (number_at line.numbers c) (share_of D line) (numbers_in_column (suc c) (map (scaled_line D) lines)) (numbers_in_column c (rows_of lines))
+    lead_unscaled (number_at line.numbers c) (share_of D line) (numbers_in_column (suc c) (map (scaled_line D) lines)) (numbers_in_column c (rows_of lines))
     (shares 0 no_line (omega arith))
     (leads_raw D c lines (All-tail (λ (l : Line). 0 < share_of D l) line lines shares))
     (subst (λ (z : ℤ). LeadsPositive (z ∷ numbers_in_column (suc c) (map (scaled_line D) lines))) (scaled_number D line (suc c)) leads)

@@ -1,5 +1,5 @@
 -- What the constants and a line of a kernel show of the table that it stands for.
-use Rattle.std.proofs.Common.{◌≡◌, ℕ, zero, suc, ◌+◌, ◌<◌, ◌≤◌, sym, ◌∙◌, ap, subst, List, length, arith}
+use Rattle.std.proofs.Common.{◌≡◌, ℕ, zero, suc, ◌+◌, ◌<◌, ◌≤◌, sym, ◌∙◌, ap, subst, length, arith}
 use Rattle.std.specs.Prelude.{ℤ, None, pos, ◌*ℤ◌, ◌<ℤ◌, ◌≤ℤ◌, nat_abs, All}
 use Rattle.cost_base.proofs.ListLemmas.{get_or-map-numbers_from}
 use Rattle.whole_numbers.specs.Fractions.{StandsFor}
@@ -7,7 +7,6 @@ use Rattle.whole_numbers.specs.Lists.{number_at}
 use Rattle.whole_numbers.proofs.Sizes.{positive_is, size_positive}
 use Rattle.design_problem.specs.Basis.{entry}
 use Rattle.design_problem.specs.Steps.{IsStuck}
-use Rattle.fraction_table.specs.declared.table.Table.{Table}
 use Rattle.fraction_table.specs.PivotForms.{NoneNegative, sign_at}
 use Rattle.fraction_table.specs.Pivots.{line_at}
 use Rattle.fraction_table.specs.ValidTables.{number_of_form}

@@ -1,9 +1,9 @@
 -- Constants that stay within the limit after a turn, and lines that stay as they are.
 use Prim.Native.Nat.{◌∣◌}
 use native.Mathlib.Nat.{div-mul_cancel}
-use Rattle.std.proofs.Common.{◌≡◌, Bool, ◌↔◌, ℕ, ◌*◌, ◌/◌, ◌^◌, ◌<◌, ◌≤◌, ap, subst, List, [], ◌∷◌, arith, refl, sym, ◌∙◌, length}
-use Rattle.std.specs.Prelude.{ℤ, pos, negsuc, ◌-ℤ◌, ◌*ℤ◌, ◌<ℤ◌, nat_abs, IsTrue}
-use Rattle.std.proofs.lemmas.Int.{ints, unsigned_abs-mul}
+use Rattle.std.proofs.Common.{◌≡◌, Bool, ◌↔◌, ℕ, ◌*◌, ◌/◌, ◌^◌, ◌<◌, ◌≤◌, ap, subst, [], ◌∷◌, arith, refl, sym, ◌∙◌}
+use Rattle.std.specs.Prelude.{ℤ, pos, negsuc, ◌*ℤ◌, nat_abs, IsTrue}
+use Rattle.std.proofs.lemmas.Int.{unsigned_abs-mul}
 use Rattle.std.proofs.Math.Nat.{mul-le-mul_left}
 use Rattle.whole_numbers.specs.Fractions.{exact_quotient, gcd}
 use Rattle.whole_numbers.specs.Lists.{number_at}
@@ -14,7 +14,7 @@ use Rattle.whole_numbers.proofs.Sizes.{size_positive}
 use Rattle.integer_pivots.specs.declared.line.Line.{Line}
 use Rattle.integer_pivots.specs.declared.turn.Turn.{Turn}
 use Rattle.integer_pivots.specs.Lines.{IsLine}
-use Rattle.integer_pivots.specs.Turns.{IsTurnedLine, denominator_after, turn_at, turn_by, turned_number}
+use Rattle.integer_pivots.specs.Turns.{IsTurnedLine, denominator_after, turn_at, turned_number}
 use Rattle.table_kernel.specs.declared.kernel.Kernel.{Kernel}
 use Rattle.table_kernel.specs.Turns.{constant_size, line_of, turn_of_line}
 

@@ -1,21 +1,20 @@
 -- What the turn of a line is given, as it is read.
 use Prim.Native.Nat.{◌∣◌}
 use lib.Signed.{quot_z}
-use Rattle.std.proofs.Common.{◌≡◌, ℕ, ◌*◌, ◌/◌, ◌^◌, ◌<◌, ◌≤◌, sym, ◌∙◌, ap, subst, List, length, arith, w64, to_z, of_z}
+use Rattle.std.proofs.Common.{◌≡◌, ℕ, ◌*◌, ◌/◌, ◌^◌, ◌<◌, ◌≤◌, sym, ◌∙◌, ap, subst, length, arith, w64, to_z, of_z}
 use Rattle.std.specs.Prelude.{ℤ, pos, negsuc, ◌*ℤ◌, nat_abs, ◌<ℤ◌, ◌≤ℤ◌, slice_index_or}
 use Rattle.std.proofs.Math.Nat.{div-le_self, mul-le-mul}
 use Rattle.std.proofs.lemmas.Int.{ints, unsigned_abs-mul}
 use Rattle.std.proofs.lemmas.List.{get_or_default}
-use Rattle.whole_numbers.specs.Lists.{number_at}
 use Rattle.whole_numbers.proofs.Divisors.{quotient_positive}
 use Rattle.integer_pivots.specs.declared.line.Line.{Line}
 use Rattle.integer_pivots.specs.declared.turn.Turn.{Turn}
 use Rattle.integer_pivots.specs.Turns.{denominator_after}
-use Rattle.integer_pivots.specs.Lines.{IsLine, no_line}
-use Rattle.integer_pivots.proofs.Sizes.{number_within, read, read_number, size_most}
+use Rattle.integer_pivots.specs.Lines.{no_line}
+use Rattle.integer_pivots.proofs.Sizes.{read, read_number, size_most}
 use Rattle.table_kernel.specs.declared.kernel.Kernel.{Kernel}
 use Rattle.table_kernel.specs.Turns.{IsLineReady, IsReadyToTurn, line_of, turn_of_line}
-use Rattle.table_kernel.proofs.LeftColumns.{numbers_small, times_positive}
+use Rattle.table_kernel.proofs.LeftColumns.{times_positive}
 
 -- each line of a kernel is ready where all numbers are
 pub line_ready : (k : Kernel) (column v : ℕ) → IsReadyToTurn k column → v < length k.lows.items → IsLineReady k column v
@@ -29,37 +28,9 @@ line_ready k column v r v_in = record {
   pivot = r.pivot;
 }
 
--- a line of a kernel, and a number of a line, as they are read
+-- a line of a kernel, as it is read
 pub line_read : (k : Kernel) (v : ℕ) (line : Line) → v < length k.lows.items → line ≡ slice_index_or k.lows.items v line → line ≡ line_of k v
 line_read k v line v_in is = is ∙ get_or_default k.lows.items v line no_line v_in
-
-pub number_read : (zs : List ℤ) (i : ℕ) (z : ℤ) → i < length zs → z ≡ slice_index_or zs i z → z ≡ number_at zs i
-number_read zs i z i_in is = is ∙ get_or_default zs i z (pos 0) i_in
-
--- a number of a line of a kernel
-pub turned_read : (k : Kernel) (column v : ℕ) (line : Line) (numbers : List ℤ) (z : ℤ) → IsLineReady k column v →
-    line ≡ slice_index_or k.lows.items v line → numbers ≡ line.numbers → z ≡ slice_index_or numbers column z →
-    z ≡ number_at (line_of k v).numbers column
-turned_read k column v line numbers z r line_is numbers_are is =
-    let same : numbers ≡ (line_of k v).numbers = numbers_are ∙ ap (λ (l : Line). l.numbers) (line_read k v line r.among line_is) in
-    number_read numbers column z (omega (arith, ap length same, r.count, r.inside)) is ∙ ap (λ (zs : List ℤ). number_at zs column) same
-
--- and of the entering one
-pub pivot_read : (k : Kernel) (column v : ℕ) (numbers : List ℤ) (z : ℤ) → IsLineReady k column v →
-    numbers ≡ k.entering.numbers → z ≡ slice_index_or numbers column z → z ≡ number_at k.entering.numbers column
-pivot_read k column v numbers z r numbers_are is =
-    number_read numbers column z (omega (arith, ap length numbers_are, r.long, r.inside)) is ∙ ap (λ (zs : List ℤ). number_at zs column) numbers_are
-
--- both are small
-pub number_small : (line : Line) (column : ℕ) → IsLine line → nat_abs (number_at line.numbers column) ≤ 2 ^ 30
-number_small line column l = number_within (2 ^ 30) line.numbers column (numbers_small line l)
-
-pub pivot_small : (k : Kernel) (column v : ℕ) → IsLineReady k column v →
-    (pos 0 <ℤ number_at k.entering.numbers column) × (number_at k.entering.numbers column ≤ℤ pos (2 ^ 30))
-pivot_small k column v r = (r.pivot, most (number_at k.entering.numbers column) (number_small k.entering column r.entering))
-  where
-    most : (z : ℤ) → nat_abs z ≤ 2 ^ 30 → z ≤ℤ pos (2 ^ 30)
-    most z small = omega (arith, ints)
 
 -- a product of positive numbers of at most 2^30, as 64 bits hold it
 pub product_read : (d m : ℤ) → (pos 0 <ℤ d) × (d ≤ℤ pos (2 ^ 30)) → (pos 0 <ℤ m) × (m ≤ℤ pos (2 ^ 30)) →

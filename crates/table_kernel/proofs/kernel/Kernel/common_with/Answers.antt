@@ -1,6 +1,6 @@
 -- Where the multiplier is 1 the common denominator is a multiple as it is.
-use Rattle.std.proofs.Common.{◌*◌, ◌^◌, ◌≤◌, sym, ap, ◌∙◌, subst, arith}
-use Rattle.std.specs.Prelude.{nat_abs, pos, ◌<ℤ◌, ◌≤ℤ◌}
+use Rattle.std.proofs.Common.{◌^◌, ◌≤◌, sym, ap, ◌∙◌, arith}
+use Rattle.std.specs.Prelude.{nat_abs}
 use Rattle.integer_pivots.specs.declared.turn.Turn.{Turn}
 use Rattle.integer_pivots.proofs.Sizes.{size_most}
 use Rattle.table_kernel.specs.Turns.{line_of, turn_of_line}

@@ -1,6 +1,6 @@
 -- The constant is that of the turn, and the share that of the denominator after it.
 use Prim.Native.Nat.{◌∣◌}
-use Rattle.std.proofs.Common.{ap, sym, subst, ◌∙◌, ◌*◌, ◌/◌, ◌≡◌, ℕ, nat_abs, ℤ, w64, to_z, of_z}
+use Rattle.std.proofs.Common.{ap, sym, subst, ◌∙◌, ◌/◌, ◌≡◌, ℕ, nat_abs, ℤ, w64, to_z, of_z}
 use Rattle.std.specs.Int.{w128}
 use Rattle.std.proofs.lemmas.Int.{to_z-of_z}
 use Rattle.integer_pivots.specs.declared.line.Line.{Line}

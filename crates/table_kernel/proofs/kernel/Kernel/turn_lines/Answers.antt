@@ -1,7 +1,16 @@
 -- One line more has turned.
-use Rattle.std.proofs.Common.{ℕ, ◌<◌, ◌≡◌, length, subst, arith}
-use Rattle.table_kernel.proofs.TurnedRows.{AreTurnedBefore, all_turned, may_between, one_more_turned}
+use Rattle.std.proofs.Common.{◌<◌, ◌≡◌, length, subst, arith}
+use Rattle.table_kernel.proofs.TurnedRows.{AreTurnedBefore, all_turned, may_between, none_turned, one_more_turned, ready_between}
 use Rattle.table_kernel.proofs.kernel.Kernel.turn_lines.Goals as goal
+
+pub loop-var-init : goal.loop-var-init
+loop-var-init c = none_turned c.args.self.now c.args.column
+
+pub turn_line-requires-clause-ready : goal.turn_line-requires-clause-ready
+turn_line-requires-clause-ready c =
+    let k = c.args.self.now in
+    let v_in : c.loop-var.var < length k.lows.items = omega (arith, c.loop-var-test.true, c.len-var-end.ensures, k.lows.ok.0) in
+    ready_between k c.loop-var.self c.args.column c.loop-var.var c.requires.ready c.loop-var.invariant v_in
 
 pub turn_line-requires-clause-may : goal.turn_line-requires-clause-may
 turn_line-requires-clause-may c =
