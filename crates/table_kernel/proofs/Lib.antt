@@ -22,6 +22,7 @@ pub mod Lines
 pub mod SameKernels
 pub mod Turning
 pub mod TurnArgs
+pub mod CommonSteps
 pub mod Pivoting
 pub mod Refusals
 pub mod TurnKernels

@@ -70,6 +70,22 @@ pub record IsReadyToTurn (k : Kernel) (column : ℕ) : Type 0 where
   pub long : length k.entering.numbers ≡ width_of k
   pub pivot : pos 0 <ℤ number_at k.entering.numbers column
 
+-- what the turn of one variable's line at a column needs
+pub record IsLineReady (k : Kernel) (column var : ℕ) : Type 0 where
+  pub inside : column < width_of k
+  pub among : var < length k.lows.items
+  pub line : IsLine (line_of k var)
+  pub count : length (line_of k var).numbers ≡ width_of k
+  pub entering : IsLine k.entering
+  pub long : length k.entering.numbers ≡ width_of k
+  pub pivot : pos 0 <ℤ number_at k.entering.numbers column
+
+-- the line's numbers, its constant and its denominator stay small in that turn
+pub record MayLineTurn (k : Kernel) (column var : ℕ) : Type 0 where
+  pub small : StaysSmall (turn_of_line k column var) (line_of k var) k.entering
+  pub constant : nat_abs (turned_number (turn_of_line k column var) (line_of k var).constant k.entering.constant) ≤ 2 ^ 62
+  pub denominator : denominator_after k.entering column (line_of k var) ≤ 2 ^ 30
+
 -- what a turn of lines leaves as it is
 pub record KeepsAllButLows (old new : Kernel) : Type 0 where
   pub table : new.table ≡ old.table

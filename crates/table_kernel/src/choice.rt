@@ -56,7 +56,11 @@ impl Kernel {
         ensures entering { self.new.entering ≡ self.old.entering }
         ensures keeps { KeepsNumbers self.old self.new }
     {
-        let latest = put_latest(&mut self.left, self.entering.numbers.as_slice(), self.leads.as_slice());
+        let latest = put_latest(
+            &mut self.left,
+            self.entering.numbers.as_slice(),
+            self.leads.as_slice(),
+        );
         if self.left.is_empty() {
             return None;
         }

@@ -1,22 +1,56 @@
 //! A pivot of the kernel.
-ghost use Rattle.std.specs.Prelude.{◌≡◌, ℕ, ◌^◌, ◌<◌, ◌≤◌, ◌↔◌, pos, ◌<ℤ◌, ◌≤ℤ◌, nat_abs, length, Some, MatchOption, OnErr, OnOk, IsTrue};
+ghost use Rattle.std.specs.Prelude.{◌≡◌, ◌*◌, ◌/◌, ◌^◌, ◌<◌, ◌≤◌, ◌↔◌, pos, ◌<ℤ◌, ◌≤ℤ◌, nat_abs, length, Some, MatchOption, OnErr, OnOk, IsTrue};
+ghost use Prim.Native.Nat.{◌∣◌};
+ghost use Rattle.whole_numbers.specs.Fractions.{lcm};
 ghost use Rattle.whole_numbers.specs.Lists.{number_at};
 ghost use Rattle.fraction_table.specs.Pivots.{KeepsBoxAndRows};
 ghost use Rattle.fraction_table.specs.Ranks.{rank};
-ghost use Rattle.integer_pivots.specs.Turns.{AreNonZeros};
+ghost use Rattle.integer_pivots.specs.Turns.{AreNonZeros, StaysSmall, denominator_after};
 ghost use Rattle.table_kernel.specs.Kernels.{IsKernel, stated, width_of};
 ghost use Rattle.table_kernel.specs.Lines.{IsBestColumn, IsEntering, KeepsNumbers};
-ghost use Rattle.table_kernel.specs.Turns.{AreLinesTurned, ConstantsStaySmall, HasTurned, IsLineTurned, IsReadyToTurn, KeepsAllButLows, LinesStaySmall, MayTurn, constant_size, next_common, turn_of_line};
+ghost use Rattle.table_kernel.specs.Turns.{AreLinesTurned, ConstantsStaySmall, HasTurned, IsLineReady, IsLineTurned, IsReadyToTurn, KeepsAllButLows, LinesStaySmall, MayLineTurn, MayTurn, constant_size, line_of, next_common, turn_of_line};
 
 use crate::Kernel;
 use crate::kernel::OutOfRange;
 use integer_pivots::{CONSTANT_LIMIT, Turn, common_multiple, put_touched, turn_leads, turn_of};
 
+/// A denominator times a multiplier.
+fn denominator_times(denominator: i64, multiplier: i64) -> i64
+    requires denominator { (pos 0 <ℤ denominator) × (denominator ≤ℤ pos (2 ^ 30)) }
+    requires multiplier { (pos 0 <ℤ multiplier) × (multiplier ≤ℤ pos (2 ^ 30)) }
+    ensures product { nat_abs result ≡ nat_abs denominator * nat_abs multiplier }
+    ensures range { (pos 0 <ℤ result) × (result ≤ℤ pos (2 ^ 60)) }
+{
+    denominator * multiplier
+}
+
+/// How often a denominator goes into a multiple of it.
+fn share_in(common: i64, denominator: i64) -> i64
+    requires common { (pos 0 <ℤ common) × (common ≤ℤ pos (2 ^ 30)) }
+    requires denominator { (pos 0 <ℤ denominator) × (denominator ≤ℤ pos (2 ^ 60)) }
+    requires divides { nat_abs denominator ∣ nat_abs common }
+    ensures share { nat_abs result ≡ nat_abs common / nat_abs denominator }
+    ensures range { (pos 0 <ℤ result) × (result ≤ℤ pos (2 ^ 30)) }
+{
+    common / denominator
+}
+
+/// Whether a constant, times how often its denominator goes into the common one, is within the limit.
+fn stays_within(constant: i128, share: i64) -> bool
+    requires share { (pos 0 <ℤ share) × (share ≤ℤ pos (2 ^ 30)) }
+    ensures { IsTrue result ↔ (nat_abs constant * nat_abs share ≤ 2 ^ 44) }
+{
+    let size = constant.unsigned_abs();
+    if size > CONSTANT_LIMIT as u128 {
+        return false;
+    }
+    size * u128::from(share.unsigned_abs()) <= CONSTANT_LIMIT as u128
+}
+
 impl Kernel {
     /// How a variable's line turns at a column.
     fn turn_at(&self, var: usize, column: usize) -> Turn
-        requires ready { IsReadyToTurn self.now column }
-        requires var { var < width_of self.now }
+        requires ready { IsLineReady self.now column var }
         ensures turn { result ≡ turn_of_line self.now column var }
         ensures multiplier { (pos 0 <ℤ result.multiplier) × (result.multiplier ≤ℤ pos (2 ^ 30)) }
         ensures factor { nat_abs result.factor ≤ 2 ^ 30 }
@@ -27,17 +61,44 @@ impl Kernel {
         )
     }
 
+    /// Whether a variable's line stays small in a turn at a column.
+    fn line_stays_small(&self, var: usize, column: usize) -> bool
+        requires ready { IsLineReady self.now column var }
+        ensures { IsTrue result ↔ StaysSmall (turn_of_line self.now column var) (line_of self.now var) self.now.entering }
+    {
+        self.lows[var].stays_small(self.turn_at(var, column), &self.entering)
+    }
+
     /// Whether all lines of x - low stay small in a turn at a column.
     fn lines_stay_small(&self, column: usize) -> bool
         requires ready { IsReadyToTurn self.now column }
         ensures { IsTrue result ↔ LinesStaySmall self.now column }
     {
         for var in 0..self.lows.len() {
-            if !self.lows[var].stays_small(self.turn_at(var, column), &self.entering) {
+            if !self.line_stays_small(var, column) {
                 return false;
             }
         }
         true
+    }
+
+    /// The least common multiple of a common denominator and of a line's after a turn at a column, where it is at most
+    /// 2^30.
+    fn common_with(&self, var: usize, column: usize, common: i64) -> Option<i64>
+        requires ready { IsLineReady self.now column var }
+        requires common { (pos 0 <ℤ common) × (common ≤ℤ pos (2 ^ 30)) }
+        requires divides { nat_abs (line_of self.now var).denominator ∣ nat_abs common }
+        ensures { MatchOption result (2 ^ 30 < lcm (nat_abs common) (denominator_after self.now.entering column (line_of self.now var))) (λ new.
+            (pos 0 <ℤ new) × (nat_abs new ≡ lcm (nat_abs common) (denominator_after self.now.entering column (line_of self.now var))) × (new ≤ℤ pos (2 ^ 30))) }
+    {
+        let multiplier = self.turn_at(var, column).multiplier;
+        if multiplier == 1 {
+            return Some(common);
+        }
+        common_multiple(
+            common,
+            denominator_times(self.lows[var].denominator, multiplier),
+        )
     }
 
     /// The common denominator after a turn at a column, where it is at most 2^30.
@@ -48,31 +109,31 @@ impl Kernel {
     {
         let mut common = self.common;
         for var in 0..self.lows.len() {
-            let multiplier = self.turn_at(var, column).multiplier;
-            if multiplier != 1 {
-                common = common_multiple(common, self.lows[var].denominator * multiplier)?;
-            }
+            common = self.common_with(var, column, common)?;
         }
         Some(common)
     }
 
     /// Whether a variable's constant stays small in a turn at a column, over the common denominator after it.
     fn constant_stays_small(&self, var: usize, column: usize, common: i64) -> bool
-        requires ready { IsReadyToTurn self.now column }
-        requires var { var < width_of self.now }
+        requires ready { IsLineReady self.now column var }
         requires common { (pos 0 <ℤ common) × (common ≤ℤ pos (2 ^ 30)) }
+        requires divides { denominator_after self.now.entering column (line_of self.now var) ∣ nat_abs common }
         ensures { IsTrue result ↔ (constant_size self.now column (nat_abs common) var ≤ 2 ^ 44) }
     {
         let turn = self.turn_at(var, column);
-        let share = common / (self.lows[var].denominator * turn.multiplier);
-        let constant = self.lows[var].constant_after(turn, &self.entering);
-        (constant * i128::from(share)).unsigned_abs() <= CONSTANT_LIMIT as u128
+        let denominator = denominator_times(self.lows[var].denominator, turn.multiplier);
+        stays_within(
+            self.lows[var].constant_after(turn, &self.entering),
+            share_in(common, denominator),
+        )
     }
 
     /// Whether all constants of x - low stay small in a turn at a column, over the common denominator after it.
     fn constants_stay_small(&self, column: usize, common: i64) -> bool
         requires ready { IsReadyToTurn self.now column }
         requires common { (pos 0 <ℤ common) × (common ≤ℤ pos (2 ^ 30)) }
+        requires next { nat_abs common ≡ next_common self.now column }
         ensures { IsTrue result ↔ ConstantsStaySmall self.now column (nat_abs common) }
     {
         for var in 0..self.lows.len() {
@@ -85,10 +146,9 @@ impl Kernel {
 
     /// Turns a variable's line, where its number at the column isn't 0.
     fn turn_line(&mut self, var: usize, column: usize)
-        requires ready { IsReadyToTurn self.old column }
-        requires var { var < width_of self.old }
+        requires ready { IsLineReady self.old column var }
         requires touched { AreNonZeros self.old.entering.numbers (width_of self.old) self.old.left.items }
-        requires may { MayTurn self.old column }
+        requires may { MayLineTurn self.old column var }
         ensures turned { IsLineTurned self.old self.new column var }
         ensures keeps { KeepsAllButLows self.old self.new }
     {
