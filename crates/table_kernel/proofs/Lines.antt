@@ -35,6 +35,11 @@ use Rattle.table_kernel.proofs.PlaceConstants.{high_place_constant, low_place}
 use Rattle.table_kernel.proofs.Restated.{line_number}
 use Rattle.table_kernel.proofs.SameButRoom.{rebuilt}
 
+-- a number that isn't negative is no greater in size
+pub size_at_most : (z : ℤ) (n : ℕ) → pos 0 ≤ℤ z → z ≤ℤ pos n → nat_abs z ≤ n
+size_at_most (pos m) n high low = omega (arith, ints)
+size_at_most (negsuc m) n high low = absurd (omega (arith, ints))
+
 -- a quotient of positive numbers
 quotient_is : (a b : ℤ) → pos 0 <ℤ a → pos 0 <ℤ b → quot_z a b ≡ pos (nat_abs a / nat_abs b)
 quotient_is (pos a) (pos b) a_high b_high = refl
@@ -58,6 +63,7 @@ divisor_least d n some divides =
   where
     times_one : (m : ℕ) → m * 1 ≡ m
     times_one m = omega arith
+
     swap : (a b : ℕ) → a * b ≡ b * a
     swap a b = mul_comm a b
 
@@ -110,23 +116,14 @@ denominator_read line l =
 
 -- as are numbers
 pub numbers_small : (line : Line) → IsLine line → AllWithin (2 ^ 30) line.numbers
-numbers_small line l = wider (nat_abs line.reach) (2 ^ 30) line.numbers (reach_small line.reach l.reach_positive l.reach) l.numbers
-  where
-    reach_small : (z : ℤ) → pos 0 ≤ℤ z → z ≤ℤ pos (2 ^ 30) → nat_abs z ≤ 2 ^ 30
-    reach_small (pos n) high low = omega (arith, ints)
-    reach_small (negsuc n) high low = absurd (omega (arith, ints))
+numbers_small line l = wider (nat_abs line.reach) (2 ^ 30) line.numbers (size_at_most line.reach (2 ^ 30) l.reach_positive l.reach) l.numbers
 
 pub reach_read : (line : Line) → IsLine line → read line.reach ≡ line.reach
-reach_read line l = read_number line.reach (within line.reach l.reach_positive l.reach)
-  where
-    within : (z : ℤ) → pos 0 ≤ℤ z → z ≤ℤ pos (2 ^ 30) → nat_abs z < 2 ^ 63
-    within (pos n) high low = omega (arith, ints)
-    within (negsuc n) high low = absurd (omega (arith, ints))
+reach_read line l = read_number line.reach (omega (arith, size_at_most line.reach (2 ^ 30) l.reach_positive l.reach))
 
 -- and a share
 pub share_size : (z : ℤ) → pos 1 ≤ℤ z → z ≤ℤ pos (2 ^ 30) → nat_abs z ≤ 2 ^ 30
-share_size (pos n) high low = omega (arith, ints)
-share_size (negsuc n) high low = absurd (omega (arith, ints))
+share_size z high low = size_at_most z (2 ^ 30) (omega (arith, ints, high)) low
 
 pub read_share : (z : ℤ) → pos 1 ≤ℤ z → z ≤ℤ pos (2 ^ 30) → read z ≡ z
 read_share z high low = read_number z (omega (arith, share_size z high low))
@@ -285,10 +282,10 @@ module _ (k : Kernel) (m : IsKernel k) (place v bound : ℕ) (place_in : place <
             ap (λ (z : ℤ). z *ℤ k.common) (put c c_in ∙ ring (number_at old.numbers c ∷ []) (num (pos 1) ⊗ var 0) (var 0) refl)
             ∙ scaled_stands (number_at old.numbers c) share old.denominator k.common (times known.0)
             ∙ ap (λ (z : ℤ). z *ℤ old.denominator) (sym (
-              line_number k place c c_in
-              ∙ ap (λ (x : Member). number_at_column (member_form (width_of k) k.table.rows.items x) (column_of k c)) member
-              ∙ low_number_in (width_of k) k.table.rows.items v bound (column_of k c) known.0 (sym (column_long k m.shaped c))
-              ∙ column_at k m.shaped c v known.0))
+            line_number k place c c_in
+            ∙ ap (λ (x : Member). number_at_column (member_form (width_of k) k.table.rows.items x) (column_of k c)) member
+            ∙ low_number_in (width_of k) k.table.rows.items v bound (column_of k c) known.0 (sym (column_long k m.shaped c))
+            ∙ column_at k m.shaped c v known.0))
             ∙ ap (λ (z : ℤ). number_at (numbers_of_place k place) c *ℤ z) (sym denominator);
       }
 
@@ -310,7 +307,7 @@ module _ (k : Kernel) (m : IsKernel k) (place v bound : ℕ) (place_in : place <
             ap (λ (z : ℤ). z *ℤ k.common) constant
             ∙ ap (λ (z : ℤ). ((range *ℤ old.denominator) -ℤ old.constant) *ℤ z) (sym (times known.0))
             ∙ ring (range ∷ old.denominator ∷ old.constant ∷ share ∷ [])
-              ((var 0 ⊗ var 1 ⊖ var 2) ⊗ (var 3 ⊗ var 1)) (((var 3 ⊗ var 1) ⊗ var 0 ⊖ var 2 ⊗ var 3) ⊗ var 1) refl
+            ((var 0 ⊗ var 1 ⊖ var 2) ⊗ (var 3 ⊗ var 1)) (((var 3 ⊗ var 1) ⊗ var 0 ⊖ var 2 ⊗ var 3) ⊗ var 1) refl
             ∙ ap (λ (z : ℤ). ((z *ℤ range) -ℤ (old.constant *ℤ share)) *ℤ old.denominator) (sym D)
             ∙ ap (λ (z : ℤ). z *ℤ old.denominator) (sym (high_place_constant k m place v bound place_in known.0 known.1 member))
             ∙ ap (λ (z : ℤ). number_at k.constants.items place *ℤ z) (sym denominator);
@@ -318,11 +315,11 @@ module _ (k : Kernel) (m : IsKernel k) (place v bound : ℕ) (place_in : place <
             ap (λ (z : ℤ). z *ℤ k.common) (put c c_in ∙ ring (number_at old.numbers c ∷ []) (num (negsuc 0) ⊗ var 0) (neg (var 0)) refl)
             ∙ scaled_stands (neg_ℤ (number_at old.numbers c)) share old.denominator k.common (times known.0)
             ∙ ap (λ (z : ℤ). z *ℤ old.denominator) (
-              ring (number_at old.numbers c ∷ share ∷ []) (neg (var 0) ⊗ var 1) (neg (var 0 ⊗ var 1)) refl
-              ∙ sym (line_number k place c c_in
-              ∙ ap (λ (x : Member). number_at_column (member_form (width_of k) k.table.rows.items x) (column_of k c)) member
-              ∙ high_number_in (width_of k) k.table.rows.items v bound (column_of k c) known.0 (sym (column_long k m.shaped c))
-              ∙ ap neg_ℤ (column_at k m.shaped c v known.0)))
+            ring (number_at old.numbers c ∷ share ∷ []) (neg (var 0) ⊗ var 1) (neg (var 0 ⊗ var 1)) refl
+            ∙ sym (line_number k place c c_in
+            ∙ ap (λ (x : Member). number_at_column (member_form (width_of k) k.table.rows.items x) (column_of k c)) member
+            ∙ high_number_in (width_of k) k.table.rows.items v bound (column_of k c) known.0 (sym (column_long k m.shaped c))
+            ∙ ap neg_ℤ (column_at k m.shaped c v known.0)))
             ∙ ap (λ (z : ℤ). number_at (numbers_of_place k place) c *ℤ z) (sym denominator);
       }
 
@@ -378,10 +375,6 @@ limit_kept m (pos n) high small test =
     let most = ltb-false m n (sym (ap (lt_z (pos m)) (read_number (pos n) small)) ∙ test) in
     omega (arith, ints, most)
 limit_kept m (negsuc n) high small test = absurd (omega (arith, ints))
-
-pub size_at_most : (z : ℤ) (n : ℕ) → pos 0 ≤ℤ z → z ≤ℤ pos n → nat_abs z ≤ n
-size_at_most (pos m) n high low = omega (arith, ints)
-size_at_most (negsuc m) n high low = absurd (omega (arith, ints))
 
 -- the sum of a row's factors is read as it is
 pub sum_within : (z : ℤ) (n : ℕ) → z ≡ pos n → z ≤ℤ pos (2 ^ 46) → (pos 0 ≤ℤ z) × (nat_abs z < 2 ^ 63) × (nat_abs z ≡ n)

@@ -120,10 +120,7 @@ impl Kernel {
     {
         let mut sum = 0;
         for term in form.terms() {
-            sum += product_of(
-                term.coefficient,
-                self.low_entry(term.var as usize, column),
-            );
+            sum += product_of(term.coefficient, self.low_entry(term.var as usize, column));
         }
         sum
     }
@@ -148,7 +145,6 @@ impl Kernel {
         requires kernel { IsKernel self.old }
         requires var { var < width_of self.old }
         requires sign { nat_abs sign ≡ 1 }
-        ensures count { length self.new.entering.numbers ≡ width_of self.old }
         ensures numbers { (c : ℕ) → c < width_of self.old → number_at self.new.entering.numbers c ≡ (sign *ℤ number_at (line_of self.old var).numbers c) }
         ensures denominator { self.new.entering.denominator ≡ (line_of self.old var).denominator }
         ensures constant { self.new.entering.constant ≡ constant }

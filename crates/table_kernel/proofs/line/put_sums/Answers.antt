@@ -79,7 +79,6 @@ made c =
     (omega (arith, size, ap nat_abs same)) (quotient_positive D (nat_abs line.denominator) some divides) l.is
     (c.share_in.ensures.share ∙ ap (λ (z : ℤ). pos (D / nat_abs z)) (denominator_read line l.small).1) light
 
-
 pub overflow_mul-factor : goal.overflow_mul-factor
 overflow_mul-factor c = (made (goal.at.overflow_mul-factor c).After-share_in).fits
 

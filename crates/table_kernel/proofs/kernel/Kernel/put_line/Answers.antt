@@ -63,7 +63,7 @@ returns-in-Low-clause-line c =
     let small = constant_small k m.shaped m.bounded v known.0 in
     entering_is k c.put_signed.new.self c.args.place p.keeps
     (low_stands k m c.args.place v c.in-Low.field-1 c.requires.place c.put_signed.new.self.entering known (sym c.in-Low.ensures)
-    p.count p.numbers p.denominator
+    (p.keeps.entering ∙ m.shaped.entering) p.numbers p.denominator
     (p.constant ∙ read_number c.index.result.now.constant (omega (arith, ap nat_abs same, small)) ∙ same))
     p.line
 
@@ -76,6 +76,6 @@ returns-in-High-clause-line c =
     let known = subst (IsFormOf k.table.costs k.table.rows.items) (sym c.in-High.ensures) (place_is k m.shaped c.args.place c.requires.place) in
     entering_is k c.put_signed-in-High.new.self c.args.place p.keeps
     (high_stands k m c.args.place v c.in-High.field-1 c.requires.place c.put_signed-in-High.new.self.entering known (sym c.in-High.ensures)
-    p.count p.numbers p.denominator
+    (p.keeps.entering ∙ m.shaped.entering) p.numbers p.denominator
     (p.constant ∙ read_held c.high_constant-constant.result c.high_constant-constant.type_inv ∙ c.high_constant-constant.ensures))
     p.line

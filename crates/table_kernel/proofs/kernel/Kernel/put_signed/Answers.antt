@@ -24,9 +24,6 @@ pub put_signed_line-requires-clause-count : goal.put_signed_line-requires-clause
 put_signed_line-requires-clause-count c =
     c.requires.kernel.shaped.entering ∙ sym (line (goal.at.put_signed_line-requires-clause-count c).After-index).long
 
-pub returns-clause-count : goal.returns-clause-count
-returns-clause-count c = c.put_signed_line.ensures.count ∙ (line (goal.at.returns-clause-count c).After-index).long
-
 pub returns-clause-numbers : goal.returns-clause-numbers
 returns-clause-numbers c k k_in =
     let l = line (goal.at.returns-clause-numbers c).After-index in

@@ -52,14 +52,14 @@ returns-clause-lines c =
     let long : length c.index_mut.result.now ≡ suc (width_of k) = ap length c.index_mut.ensures.value ∙ s.wide c.args.place _ place_in in
     set_twice lines c.args.place c.clear.new.self c.set_constant.new.self
     ∙ ap (slice_set lines c.args.place) (
-      c.set_constant.ensures
-      ∙ ap (λ (line : List Fraction). slice_set line 0 q) (
-        c.index_mut-2.ensures.value
-        ∙ get_or-set_same lines c.args.place c.clear.new.self _ place_in
-        ∙ c.clear.ensures
-        ∙ ap blank_row (let e : length c.index_mut.result.now - 1 ≡ width_of k = omega (arith, long) in e))
-      ∙ ap (λ (p : Fraction). slice_set (blank_row (width_of k)) 0 p) (c.fraction_over-constant.ensures.value
-      ∙ over_as _ _ _ _ (ap nat_abs (common_read k c.requires.kernel.bounded)) (number_is (goal.at.returns-clause-lines c).After-from).0))
+    c.set_constant.ensures
+    ∙ ap (λ (line : List Fraction). slice_set line 0 q) (
+    c.index_mut-2.ensures.value
+    ∙ get_or-set_same lines c.args.place c.clear.new.self _ place_in
+    ∙ c.clear.ensures
+    ∙ ap blank_row (let e : length c.index_mut.result.now - 1 ≡ width_of k = omega (arith, long) in e))
+    ∙ ap (λ (p : Fraction). slice_set (blank_row (width_of k)) 0 p) (c.fraction_over-constant.ensures.value
+    ∙ over_as _ _ _ _ (ap nat_abs (common_read k c.requires.kernel.bounded)) (number_is (goal.at.returns-clause-lines c).After-from).0))
 
 pub returns-clause-keeps : goal.returns-clause-keeps
 returns-clause-keeps c = record {

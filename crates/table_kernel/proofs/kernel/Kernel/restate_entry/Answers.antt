@@ -41,12 +41,12 @@ returns-clause-lines c =
     let lines = k.table.lines.items in
     let small = c.entry.ensures.size in
     ap (slice_set lines c.args.place) (
-      c.push.ensures
-      ∙ ap (λ (line : List Fraction). slice_set line (suc c.args.column) c.fraction_over-number.result)
-        (c.index_mut.ensures.value ∙ get_or_default lines c.args.place _ [] (omega (arith, c.requires.place, s.lines)))
-      ∙ ap (slice_set (slice_index_or lines c.args.place []) (suc c.args.column)) (c.fraction_over-number.ensures.value
-      ∙ over_as _ _ _ _ (ap nat_abs (common_read k c.requires.kernel.bounded))
-        (read_wide c.entry.result (omega (arith, small)) ∙ c.entry.ensures.number)))
+    c.push.ensures
+    ∙ ap (λ (line : List Fraction). slice_set line (suc c.args.column) c.fraction_over-number.result)
+    (c.index_mut.ensures.value ∙ get_or_default lines c.args.place _ [] (omega (arith, c.requires.place, s.lines)))
+    ∙ ap (slice_set (slice_index_or lines c.args.place []) (suc c.args.column)) (c.fraction_over-number.ensures.value
+    ∙ over_as _ _ _ _ (ap nat_abs (common_read k c.requires.kernel.bounded))
+    (read_wide c.entry.result (omega (arith, small)) ∙ c.entry.ensures.number)))
 
 pub returns-clause-keeps : goal.returns-clause-keeps
 returns-clause-keeps c = record {
