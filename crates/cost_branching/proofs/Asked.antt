@@ -1,6 +1,6 @@
 -- Requests that are asked one after another.
 use Rattle.std.proofs.Common.{◌≡◌, ℕ, ◌+◌, ◌<◌, ◌≤◌, refl, sym, ◌∙◌, ap, subst, inl, inr, get_or, List, [], ◌∷◌, ◌++◌, length, arith, append_assoc, append-nil}
-use Rattle.std.specs.Prelude.{pos, ◌<ℤ◌, ◌≤ℤ◌, ◌⊎◌, All, Bool, MatchBool, Option, Some, false, slice_get, true}
+use Rattle.std.specs.Prelude.{pos, ◌<ℤ◌, ◌≤ℤ◌, ◌⊎◌, All, Bool, None, Option, Some, false, slice_get, true}
 use Rattle.std.specs.Int.Signed.{clash_ℤ}
 use Rattle.std.proofs.lemmas.Bool.{cases_lt}
 use Rattle.std.proofs.lemmas.List.{get_or-map, length-map, map-append}
@@ -8,7 +8,6 @@ use Rattle.std.proofs.lemmas.Option.{slice_get-get_or}
 use Rattle.std.proofs.lemmas.List.Elements.{All-from_get_or, All-push, All-weaker}
 use Rattle.std.proofs.lemmas.List.Quantifiers.{all_pairs_push}
 use Rattle.area_graph.specs.declared.Point.{Point}
-use Rattle.area_graph.specs.Area.{Area}
 use Rattle.area_graph.specs.Costs.{LeadsBy, cost}
 use Rattle.design_problem.specs.declared.form.Row.{Row}
 use Rattle.design_problem.specs.declared.problem.Request.{Request}
@@ -16,7 +15,7 @@ use Rattle.design_problem.specs.Forms.{Form, AreMet}
 use Rattle.design_problem.specs.Forms.{no_form, value_at}
 use Rattle.design_problem.specs.Problems.{DesignProblem, IsProblem, request_ends, no_request, request_at}
 use Rattle.design_problem.specs.Rows.{IsRivalOf, IsRow, LeadsEach, form_of_row, forms_of_rows, path_edges}
-use Rattle.rival_separation.specs.Askers.{RequestLeads}
+use Rattle.rival_separation.specs.Askers.{AreCheapestRivals, IsCheapestIfAny}
 use Rattle.rival_separation.specs.Rivals.{IsCheapestRival}
 use Rattle.form_search.specs.Sources.{Grows, IsSourceAnswer}
 use Rattle.form_search.specs.declared.source.Asked.{Asked}
@@ -102,25 +101,19 @@ too_cheap_of p point k es known cheapest =
       cheap = subst (λ (r : Option Request). cost p.graph point es < cost p.graph point (path_edges r) + point.scale) (sym here) cheapest.cheap;
     }
 
-either_too_cheap : (p : DesignProblem) (point : Point) (k : ℕ) (es : List ℕ) (beaten : Bool) → k < length p.paths →
-    MatchBool beaten (IsCheapestRival p.graph point (request_ends (request_at p.paths k)) (request_at p.paths k).path.edges es)
-    (LeadsAt p point k) → MatchBool beaten (IsRivalTooCheap p point k es) (LeadsAt p point k)
-either_too_cheap p point k es true known cheapest = too_cheap_of p point k es known cheapest
-either_too_cheap p point k es false known leads = leads
+-- what is told of a request: that rival is too cheap, or the path leads
+pub told_cheap : (p : DesignProblem) (point : Point) (k : ℕ) (rivals : List (Option (List ℕ))) (rival : Option (List ℕ))
+    (es : List ℕ) → AreCheapestRivals p.graph point p.paths rivals → k < length p.paths → rival ≡ get_or rivals k None →
+    rival ≡ Some es → IsRivalTooCheap p point k es
+told_cheap p point k rivals rival es are known told is =
+    too_cheap_of p point k es known
+    (subst (IsCheapestIfAny p.graph point (request_at p.paths k)) (sym told ∙ is) (are.each k known))
 
--- so it is with the graph and the paths under other names
-pub too_cheap_or_leads : (p : DesignProblem) (g : Area) (paths : List Request) (point : Point) (k : ℕ) (es : List ℕ)
-    (beaten : Bool) → g ≡ p.graph → paths ≡ p.paths → k < length p.paths →
-    MatchBool beaten (IsCheapestRival g point (request_ends (request_at paths k)) (request_at paths k).path.edges es)
-    (RequestLeads g point (request_at paths k)) → MatchBool beaten (IsRivalTooCheap p point k es) (LeadsAt p point k)
-too_cheap_or_leads p g paths point k es beaten same_graph same_paths known is =
-    let by_graph = subst (λ (h : Area).
-    MatchBool beaten (IsCheapestRival h point (request_ends (request_at paths k)) (request_at paths k).path.edges es)
-    (RequestLeads h point (request_at paths k))) same_graph is in
-    let by_paths = subst (λ (rs : List Request).
-    MatchBool beaten (IsCheapestRival p.graph point (request_ends (request_at rs k)) (request_at rs k).path.edges es)
-    (RequestLeads p.graph point (request_at rs k))) same_paths by_graph in
-    either_too_cheap p point k es beaten known by_paths
+pub told_leads : (p : DesignProblem) (point : Point) (k : ℕ) (rivals : List (Option (List ℕ))) (rival : Option (List ℕ)) →
+    AreCheapestRivals p.graph point p.paths rivals → k < length p.paths → rival ≡ get_or rivals k None → rival ≡ None →
+    LeadsAt p point k
+told_leads p point k rivals rival are known told is =
+    subst (IsCheapestIfAny p.graph point (request_at p.paths k)) (sym told ∙ is) (are.each k known)
 
 -- the rows still begin with those
 pub begun_more : (first : List Row) (point : Point) (request : ℕ) (old : KnownRows) (forms : List Form)

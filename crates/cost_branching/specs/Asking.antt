@@ -1,21 +1,16 @@
 -- What one request's answer does to the rows and to the pool of forms, and what the answers of some requests do.
-use Rattle.std.specs.Prelude.{◌≡◌, ℕ, ◌<◌, List, [], ◌∷◌, ◌++◌, pos, ◌≤ℤ◌, ◌⊎◌, All, Bool, length, true, false}
+use Rattle.std.specs.Prelude.{◌≡◌, ℕ, ◌<◌, List, [], ◌∷◌, ◌++◌, pos, ◌≤ℤ◌, ◌⊎◌, All, Bool, true, false}
 use Rattle.area_graph.specs.declared.Point.{Point}
 use Rattle.design_problem.specs.Forms.{Form}
 use Rattle.design_problem.specs.Forms.{value_at}
 use Rattle.design_problem.specs.declared.form.Row.{Row}
 use Rattle.design_problem.specs.Problems.{DesignProblem}
 use Rattle.design_problem.specs.Rows.{LeadsEach, form_of_row, forms_of_rows}
-use Rattle.rival_separation.specs.Askers.{IsMarkTrue}
 use Rattle.form_search.specs.Sources.{Grows, HasNewRival, IsSourceAnswer}
 use Rattle.form_search.specs.declared.source.Asked.{Asked}
 use Rattle.form_search.specs.declared.source.Asked.TheVariants.{Nothing, Added}
 use Rattle.cost_branching.specs.Pools.{ArePoolRows, IsRowPool}
 use Rattle.cost_branching.specs.Rivals.{IsProblemOnGraph, IsRivalTooCheap, IsTrueRowForm, KnownRows, LeadsAt}
-
--- the marks tell at a point which requests' paths don't lead
-abbrev pub AreMarkedAt : DesignProblem → Point → List Bool → Type 0
-AreMarkedAt p point marks = (k : ℕ) → k < length p.paths → IsMarkTrue p.graph point p.paths marks k
 
 -- the path of the request leads, and nothing came
 pub record NoRivalRow (point : Point) (request : ℕ) (old : KnownRows) (old_forms : List Form) (new : KnownRows) (new_forms : List Form) : Type 0 where

@@ -1,12 +1,13 @@
 //! The rivals of a problem's wanted paths, as the source of a search.
-ghost use Rattle.std.specs.Prelude.{◌≡◌, ◌<◌, ◌++◌, ◌∷◌, [], length, IfOk, IsTrue, MatchBool, OnErr, OnOk, ◌↔◌};
+ghost use Rattle.std.specs.Prelude.{◌≡◌, ◌<◌, ◌++◌, ◌∷◌, [], length, slice_index_or, IfOk, IsTrue, None, OnErr, OnOk, ◌↔◌};
 ghost use Rattle.design_problem.specs.Rows.{IsRow, LeadsEach, form_of_row, forms_of_rows};
 ghost use Rattle.design_problem.specs.Forms.{AreMet};
-ghost use Rattle.rival_separation.specs.Askers.{IsAskerFor};
+ghost use Rattle.rival_separation.specs.Askers.{AreCheapestRivals, IsAskerFor};
 ghost use Rattle.form_search.specs.Sources.{Grows, IsCostPoint};
 ghost use Rattle.cost_branching.specs.Pools.{ArePoolRows};
-ghost use Rattle.cost_branching.specs.Rivals.{BeginWith, IsProblemOnGraph, IsRivalTooCheap, IsTrueRowForm, LeadsAt};
-ghost use Rattle.cost_branching.specs.Asking.{AreAllRequestsAsked, AreMarkedAt, IsRequestAsked};
+ghost use Rattle.cost_branching.specs.Rivals.{BeginWith, IsProblemOnGraph, IsTrueRowForm};
+ghost use Rattle.cost_branching.specs.Asking.{AreAllRequestsAsked, IsRequestAsked};
+ghost use Rattle.area_graph.specs.declared.Point.{Point};
 
 use area_graph::{Path, Point};
 use cost_base::{Listed, OutOfMemory};
@@ -102,15 +103,20 @@ pub fn row_of(alloc: Global, request: u32, edges: &[u32]) -> Result<Row, OutOfMe
     })
 }
 
-/// Marks the requests whose paths don't lead at the point by the scale.
-fn mark_beaten(problem: &Problem, asker: &mut Asker, point: &Point)
+/// The cheapest rival of each request, None where its path leads at the point by the scale.
+fn cheapest_rivals(
+    alloc: Global,
+    problem: &Problem,
+    asker: &mut Asker,
+    point: &Point,
+) -> Result<Vec<Option<Listed<u32>>>, OutOfMemory>
     requires asker { IsAskerFor problem.now.graph problem.now.paths asker.old }
     requires point { IsCostPoint (length problem.now.low) point.now }
     ensures asker { IsAskerFor problem.now.graph problem.now.paths asker.new }
-    ensures marks { AreMarkedAt problem.now point.now asker.new.marks }
+    ensures rivals { IfOk result (λ rivals. AreCheapestRivals problem.now.graph point.now problem.now.paths rivals.items) }
 {
     keeps_conditions(problem);
-    asker.mark_beaten(&problem.graph, problem.paths.as_slice(), point);
+    asker.cheapest_rivals(alloc, &problem.graph, problem.paths.as_slice(), point)
 }
 
 /// Whether each wanted path leads at the point by the scale.
@@ -124,18 +130,12 @@ fn all_lead(problem: &Problem, asker: &mut Asker, point: &Point) -> bool
     asker.each_leads(&problem.graph, problem.paths.as_slice(), point)
 }
 
-/// Whether a request has a rival that costs less than its path and the scale. Then the asker's room keeps the edges of the
-/// cheapest.
-fn is_beaten(problem: &Problem, asker: &mut Asker, request: u32, point: &Point) -> bool
-    requires asker { IsAskerFor problem.now.graph problem.now.paths asker.old }
-    requires point { IsCostPoint (length problem.now.low) point.now }
-    requires request { request < length problem.now.paths }
-    ensures asker { IsAskerFor problem.now.graph problem.now.paths asker.new }
-    ensures marks { asker.new.marks ≡ asker.old.marks }
-    ensures rival { MatchBool result (IsRivalTooCheap problem.now point.now request asker.new.room.path) (LeadsAt problem.now point.now request) }
+/// What is told of the request of that number: the edges of its cheapest rival, or None.
+fn told_of(rivals: &[Option<Listed<u32>>], request: u32) -> &Option<Listed<u32>>
+    requires { request < length rivals.now }
+    ensures { result.now ≡ slice_index_or rivals.now request None }
 {
-    keeps_conditions(problem);
-    asker.find_rival(&problem.graph, problem.paths.as_slice(), request, point)
+    &rivals[request as usize]
 }
 
 /// Puts a row at the end, and its form at the end of the pool. Where memory is wanting both are as before.
@@ -161,42 +161,37 @@ fn push_row(
     Ok(())
 }
 
-/// Asks for the cheapest rival of one request, where it is marked. Where that costs less than the path and the scale it
-/// becomes a row.
+/// Makes the cheapest rival of one request a row, where it has one that costs less than its path and the scale.
 fn ask_one(
     alloc: Global,
     problem: &Problem,
-    asker: &mut Asker,
+    rivals: &[Option<Listed<u32>>],
     request: u32,
-    point: &Point,
     rows: &mut Vec<Row>,
     pool: &mut FormPool,
 ) -> Result<bool, OutOfMemory>
-    requires asker { IsAskerFor problem.now.graph problem.now.paths asker.old }
-    requires point { IsCostPoint (length problem.now.low) point.now }
     requires request { request < length problem.now.paths }
-    requires marks { AreMarkedAt problem.now point.now asker.old.marks }
-    ensures asker { IsAskerFor problem.now.graph problem.now.paths asker.new }
-    ensures marks { AreMarkedAt problem.now point.now asker.new.marks }
-    ensures one { IfOk result (IsRequestAsked point.now request (record { problem = problem.now; rows = rows.old.items }) pool.old
-        (record { problem = problem.now; rows = rows.new.items }) pool.new) }
+    requires known { (point : Point) × AreCheapestRivals problem.now.graph point problem.now.paths rivals.now }
+    ensures one { IfOk result (λ asked. (point : Point) → AreCheapestRivals problem.now.graph point problem.now.paths rivals.now →
+        IsRequestAsked point request (record { problem = problem.now; rows = rows.old.items }) pool.old
+        (record { problem = problem.now; rows = rows.new.items }) pool.new asked) }
     ensures same_rows { OnErr result (rows.new.items ≡ rows.old.items) }
     ensures same_forms { OnErr result (pool.new ≡ pool.old) }
 {
     keeps_conditions(problem);
-    if !asker.is_marked(request) {
-        return Ok(false);
+    match told_of(rivals, request) {
+        Some(edges) => {
+            let row = row_of(alloc, request, edges.as_slice())?;
+            push_row(alloc, problem, row, rows, pool)?;
+            Ok(true)
+        }
+        None => Ok(false),
     }
-    if !is_beaten(problem, asker, request, point) {
-        return Ok(false);
-    }
-    let row = row_of(alloc, request, asker.path())?;
-    push_row(alloc, problem, row, rows, pool)?;
-    Ok(true)
 }
 
-/// Asks for the cheapest rival of each request that is marked, in the requests' order; a path of another one leads.
-fn ask_marked(
+/// Looks for the cheapest rival of each request, and makes those that cost less than path and scale rows, in the requests'
+/// order.
+fn ask_each(
     alloc: Global,
     problem: &Problem,
     asker: &mut Asker,
@@ -205,7 +200,6 @@ fn ask_marked(
     pool: &mut FormPool,
 ) -> Result<Asked, OutOfMemory>
     requires asker { IsAskerFor problem.now.graph problem.now.paths asker.old }
-    requires marks { AreMarkedAt problem.now point.now asker.old.marks }
     requires rows { ArePoolRows problem.now rows.old.items }
     requires point { IsCostPoint (length problem.now.low) point.now }
     requires met { AreMet (forms_of_rows problem.now rows.old.items) point.now }
@@ -215,10 +209,12 @@ fn ask_marked(
     ensures more { BeginWith rows.old.items rows.new.items }
     ensures grows { Grows (IsTrueRowForm problem.now) pool.old pool.new }
 {
+    let rivals = cheapest_rivals(alloc, problem, asker, point)?;
+    let told = rivals.as_slice();
     let count = path_count(problem);
     let mut asked = Asked::Nothing;
     for request in 0..count {
-        if ask_one(alloc, problem, asker, request, point, rows, pool)? {
+        if ask_one(alloc, problem, told, request, rows, pool)? {
             asked = Asked::Added;
         }
     }
@@ -300,8 +296,7 @@ impl<'a, B: Begun> Rivals<'a, B> {
         ensures grows { Grows (IsTrueRowForm self.old.problem) pool.old pool.new }
     {
         let problem = self.problem;
-        mark_beaten(problem, &mut self.asker, point);
-        ask_marked(alloc, problem, &mut self.asker, point, &mut self.rows, pool)
+        ask_each(alloc, problem, &mut self.asker, point, &mut self.rows, pool)
     }
 }
 

@@ -228,7 +228,8 @@ form_by_terms n constant ts cs count terms =
 pub terms_kept : (n : ℕ) (constant : ℤ) (ts : List Term) (cs : List ℤ) → n ≡ length cs → ts ≡ terms_from 0 cs → ts ≡ terms_of (form_by n constant ts)
 terms_kept n constant ts cs count terms = terms ∙ sym (ap terms_of (form_by_terms n constant ts cs count terms))
 
-alone : (v : ℕ) (c : ℤ) → c ≢ pos 0 → term_of v c ≡ (let t : Term = record { var = v; coefficient = c } in t) ∷ []
+-- a coefficient that isn't 0 has one term
+pub alone : (v : ℕ) (c : ℤ) → c ≢ pos 0 → term_of v c ≡ (let t : Term = record { var = v; coefficient = c } in t) ∷ []
 alone v (pos zero) some = absurd (some refl)
 alone v (pos (suc n)) some = refl
 alone v (negsuc n) some = refl

@@ -14,7 +14,7 @@ pub mod Laws
 pub mod ProblemLaws
 pub mod Text
 pub mod Bounds
-pub mod Differences
+pub mod Payments
 pub mod OpenPlaces
 pub mod Renumbering
 pub mod Builders

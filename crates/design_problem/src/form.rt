@@ -55,7 +55,11 @@ impl Model for Form {
 }
 
 /// Puts the term of a coefficient at the end, unless it is 0.
-fn push_term(terms: &mut Vec<Term>, var: u32, coefficient: i64) -> Result<(), OutOfMemory>
+pub(crate) fn push_term(
+    terms: &mut Vec<Term>,
+    var: u32,
+    coefficient: i64,
+) -> Result<(), OutOfMemory>
     ensures { OnOk result (terms.new.items ≡ terms.old.items ++ term_of var coefficient) }
 {
     if coefficient == 0 {

@@ -1,26 +1,35 @@
 //! The form of a row.
-ghost use Rattle.std.specs.Prelude.{◌≡◌, ℕ, pos, ◌-ℤ◌, ◌^◌, ◌<◌, ◌≤◌, length, All, IfOk};
+ghost use Rattle.std.specs.Prelude.{◌≡◌, pos, ◌-ℤ◌, ◌++◌, ◌^◌, ◌<◌, ◌≤◌, false, length, true, All, IfOk};
+ghost use Rattle.std.specs.List.Sorted.{IsNonDecreasingBy, IsPermutation};
 ghost use Rattle.area_graph.specs.Costs.{IsPriced};
-ghost use Rattle.design_problem.specs.Differences.{IsDifference};
 ghost use Rattle.design_problem.specs.Forms.{IsSmallForm};
+ghost use Rattle.design_problem.specs.Payments.{payments_of};
 ghost use Rattle.design_problem.specs.Rows.{HasRoute, fixed_cost, form_between, form_of_row};
 
-use crate::tally::{counts_of, fixed_sum};
+use crate::balance::terms_of_payments;
+use crate::tally::{Payment, fixed_sum, note_path};
 use crate::{Form, Problem, Row};
 use area_graph::Graph;
 use cost_base::OutOfMemory;
 use std::alloc::Global;
 
-/// How much more often each variable is paid than saved.
-fn differences(alloc: Global, paid: &[u32], saved: &[u32]) -> Result<Vec<i64>, OutOfMemory>
-    requires { length paid.now ≡ length saved.now }
-    ensures { IfOk result (λ more. IsDifference more.items paid.now saved.now) }
+/// The payments of a rival and of the wanted path, in the order of their variables.
+fn sorted_payments(
+    alloc: Global,
+    graph: &Graph,
+    wanted: &[u32],
+    rival: &[u32],
+) -> Result<Vec<Payment>, OutOfMemory>
+    requires wanted { All (λ e. e < length graph.now.edges) wanted.now }
+    requires rival { All (λ e. e < length graph.now.edges) rival.now }
+    ensures same { IfOk result (λ sorted. IsPermutation (payments_of graph.now true rival.now ++ payments_of graph.now false wanted.now) sorted.items) }
+    ensures rising { IfOk result (λ sorted. IsNonDecreasingBy (λ p. p.var) sorted.items) }
 {
-    let mut more = Vec::new(alloc);
-    for (v, paid) in paid.iter().enumerate() {
-        more.push(i64::from(*paid) - i64::from(saved[v]))?;
-    }
-    Ok(more)
+    let mut payments = Vec::new(alloc);
+    note_path(&mut payments, graph, rival, true)?;
+    note_path(&mut payments, graph, wanted, false)?;
+    payments.sort_unstable_by_key(|payment| payment.var);
+    Ok(payments)
 }
 
 /// What the rival pays in fixed prices, less what the wanted path pays, less 1.
@@ -51,14 +60,13 @@ fn form_of_paths(
     ensures { IfOk result (λ form. form ≡ form_between graph.now variables wanted.now rival.now) }
 {
     let constant = constant_of(graph, wanted, rival);
-    let paid = counts_of(alloc, graph, variables, rival)?;
-    let saved = counts_of(alloc, graph, variables, wanted)?;
-    let coefficients = differences(alloc, &paid, &saved)?;
-    Form::from_coefficients(alloc, constant, &coefficients)
+    let payments = sorted_payments(alloc, graph, wanted, rival)?;
+    let terms = terms_of_payments(alloc, variables, payments.as_slice())?;
+    Ok(Form::from_terms(variables, constant, terms))
 }
 
-/// The form of a row: cost(rival) - cost(wanted path) - 1, in time in proportion to the two paths and the variables.
-/// The row's request is one of the problem's, and its rival's edges are a simple path of that request.
+/// The form of a row: cost(rival) - cost(wanted path) - 1, in time in proportion to the two paths times the logarithm of
+/// their length. The row's request is one of the problem's, and its rival's edges are a simple path of that request.
 ///
 /// # Errors
 ///

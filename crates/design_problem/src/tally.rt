@@ -1,12 +1,10 @@
-//! What a path pays: its fixed prices, and how often it pays each variable.
-ghost use Rattle.std.specs.Prelude.{◌≡◌, ℕ, pos, ◌<ℤ◌, ◌+◌, ◌*◌, ◌^◌, ◌<◌, ◌≤◌, length, map, replicate, slice_index, All, IfOk, if◌then◌else◌};
-ghost use Rattle.cost_base.specs.Lists.{numbers_from};
-ghost use Rattle.area_graph.specs.Costs.{IsPriced};
-ghost use Rattle.design_problem.specs.Rows.{is_var, fixed_price, fixed_cost, uses};
+//! What a path pays: its fixed prices, and its variables.
+ghost use Rattle.std.specs.Prelude.{◌≡◌, pos, ◌<ℤ◌, ◌++◌, ◌^◌, ◌<◌, length, All, OnOk};
+ghost use Rattle.design_problem.specs.Rows.{fixed_price, fixed_cost};
+ghost use Rattle.design_problem.specs.Payments.{payment_of, payments_of};
 
 use area_graph::{Graph, Price};
 use cost_base::OutOfMemory;
-use std::alloc::Global;
 
 /// A fixed price, and 0 for any other.
 fn fixed_part(price: Price) -> u64
@@ -35,40 +33,36 @@ pub(crate) fn fixed_sum(graph: &Graph, path: &[u32]) -> i64
     sum as i64
 }
 
-/// Counts a price for its variable.
-fn count_price(price: Price, counts: &mut [u32])
-    requires known { IsPriced (length counts.old) price }
-    requires room { All (λ n. n + 1 < 2 ^ 32) counts.old }
-    ensures { (v : ℕ) → v < length counts.old → slice_index counts.new v ≡ slice_index counts.old v + (if is_var v price then 1 else 0) }
+/// A variable that one of two paths pays: the rival, or the wanted path.
+#[derive(Clone, Copy)]
+pub(crate) struct Payment {
+    pub(crate) var: u32,
+    pub(crate) by_rival: bool,
+}
+
+/// Puts the payment of a price at the end, where the price is a variable's.
+fn note_price(payments: &mut Vec<Payment>, price: Price, by_rival: bool) -> Result<(), OutOfMemory>
+    ensures { OnOk result (payments.new.items ≡ payments.old.items ++ payment_of by_rival price) }
 {
-    if let Price::Var(v) = price {
-        counts[v as usize] += 1;
+    if let Price::Var(var) = price {
+        payments.push(Payment { var, by_rival })?;
     }
+    Ok(())
 }
 
-/// So many zeros.
-fn zeros(alloc: Global, count: usize) -> Result<Vec<u32>, OutOfMemory>
-    ensures { IfOk result (λ counts. counts.items ≡ replicate count 0) }
-{
-    Ok(vec![in alloc; 0u32; count]?)
-}
-
-/// How often a path pays each of the variables.
-pub(crate) fn counts_of(
-    alloc: Global,
+/// Puts the payments of a path at the end: one for each of its edges whose price is a variable's.
+pub(crate) fn note_path(
+    payments: &mut Vec<Payment>,
     graph: &Graph,
-    variables: usize,
     path: &[u32],
-) -> Result<Vec<u32>, OutOfMemory>
-    requires known { All (λ e. e < length graph.now.edges) path.now }
-    requires short { length path.now < 2 ^ 32 }
-    requires priced { All (λ edge. IsPriced variables edge.price) graph.now.edges }
-    ensures { IfOk result (λ counts. counts.items ≡ map (λ v. uses graph.now path.now v) (numbers_from 0 variables)) }
+    by_rival: bool,
+) -> Result<(), OutOfMemory>
+    requires { All (λ e. e < length graph.now.edges) path.now }
+    ensures { OnOk result (payments.new.items ≡ payments.old.items ++ payments_of graph.now by_rival path.now) }
 {
-    let mut counts = zeros(alloc, variables)?;
     let edges = graph.edges();
     for e in path {
-        count_price(edges[*e as usize].price, &mut counts);
+        note_price(payments, edges[*e as usize].price, by_rival)?;
     }
-    Ok(counts)
+    Ok(())
 }

@@ -25,6 +25,17 @@ pub(crate) struct Watch {
     /// The ranges as they were when they were compared last.
     low: Vec<u16>,
     high: Vec<u16>,
+    /// How many entries of the tree were looked at.
+    looked: usize,
+    /// The ranges that these changed on the way to the box at work, the last one at the end.
+    changed: Vec<Changed>,
+}
+
+/// A variable whose range an entry changed, and whether that was a cut, of which a second part waits.
+#[derive(Clone, Copy)]
+struct Changed {
+    var: u32,
+    is_cut: bool,
 }
 
 /// Puts a thing at the end.
@@ -100,6 +111,8 @@ impl Watch {
             barred: Vec::new(alloc),
             low,
             high,
+            looked: 0,
+            changed: Vec::new(alloc),
         })
     }
 
@@ -133,7 +146,8 @@ impl Watch {
 
     /// Makes the forms of a variable such as may say something.
     fn wake_forms_of(&mut self, var: usize) -> Result<(), OutOfMemory>
-        ensures { (n : ℕ) → IsWatch n self.old → IsWatch n self.new }
+        ensures watch { (n : ℕ) → IsWatch n self.old → IsWatch n self.new }
+        ensures changed { self.new.changed ≡ self.old.changed }
     {
         match self.forms_of.get(var) {
             Some(forms) => wake_all(&mut self.pending, &mut self.waiting, forms.as_slice()),
@@ -145,7 +159,8 @@ impl Watch {
     fn look_at(&mut self, costs: &CostBox, var: usize) -> Result<(), OutOfMemory>
         requires high { length costs.now.high ≡ length costs.now.low }
         requires watch { IsWatch (length costs.now.low) self.old }
-        ensures { IsWatch (length costs.now.low) self.new }
+        ensures watch { IsWatch (length costs.now.low) self.new }
+        ensures changed { self.new.changed ≡ self.old.changed }
     {
         let low = costs.low.as_slice();
         let high = costs.high.as_slice();
@@ -160,20 +175,49 @@ impl Watch {
         self.wake_forms_of(var)
     }
 
-    /// Compares all ranges.
-    fn look_at_all(&mut self, costs: &CostBox) -> Result<(), OutOfMemory>
+    /// Looks at the range that an entry changed.
+    fn look_on(&mut self, costs: &CostBox, var: u32, is_cut: bool) -> Result<(), OutOfMemory>
         requires high { length costs.now.high ≡ length costs.now.low }
         requires watch { IsWatch (length costs.now.low) self.old }
         ensures { IsWatch (length costs.now.low) self.new }
     {
-        for var in 0..costs.low.as_slice().len() {
-            self.look_at(costs, var)?;
+        push(&mut self.changed, Changed { var, is_cut })?;
+        self.look_at(costs, var as usize)
+    }
+
+    /// Looks at the ranges that changed where an entry ended a box: those that were changed since the last cut are as they
+    /// were at it, and the second part of the cut comes next.
+    fn look_back(&mut self, costs: &CostBox) -> Result<(), OutOfMemory>
+        requires high { length costs.now.high ≡ length costs.now.low }
+        requires watch { IsWatch (length costs.now.low) self.old }
+        ensures { IsWatch (length costs.now.low) self.new }
+    {
+        while let Some(last) = self.changed.pop() {
+            if last.is_cut {
+                return self.look_on(costs, last.var, false);
+            }
+            self.look_at(costs, last.var as usize)?;
         }
         Ok(())
     }
 
+    /// Looks at the ranges that changed at one entry.
+    fn look_after(&mut self, costs: &CostBox, entry: &Entry) -> Result<(), OutOfMemory>
+        requires high { length costs.now.high ≡ length costs.now.low }
+        requires watch { IsWatch (length costs.now.low) self.old }
+        ensures { IsWatch (length costs.now.low) self.new }
+    {
+        match entry {
+            Entry::Tighten { var, .. } => self.look_on(costs, *var, false),
+            Entry::Split { var, .. } => self.look_on(costs, *var, true),
+            Entry::Halve { var, .. } => self.look_on(costs, *var, true),
+            Entry::Refute { .. } | Entry::Undone => self.look_back(costs),
+        }
+    }
+
     /// Compares the ranges that may have changed with those of the open box, and wakes the forms of each variable whose range
-    /// did: an entry that leaves the box or a part of it changes one range; behind another one any range may have changed.
+    /// did: an entry that leaves the box or a part of it changes one range, and one that ends it those that were changed since
+    /// the last cut. Each entry of the tree is looked at once.
     pub(crate) fn look(&mut self, tree: &TreeBuilder) -> Result<(), OutOfMemory>
         requires open { 0 < length tree.now.places }
         requires high { length (first_place tree.now.places).box.high ≡ length (first_place tree.now.places).box.low }
@@ -181,12 +225,12 @@ impl Watch {
         ensures { IsWatch (length (first_place tree.now.places).box.low) self.new }
     {
         let costs = tree.costs();
-        match tree.entries().last() {
-            Some(Entry::Tighten { var, .. }) => self.look_at(costs, *var as usize),
-            Some(Entry::Split { var, .. }) => self.look_at(costs, *var as usize),
-            Some(Entry::Halve { var, .. }) => self.look_at(costs, *var as usize),
-            _ => self.look_at_all(costs),
+        let entries = tree.entries();
+        for place in self.looked..entries.len() {
+            self.look_after(costs, &entries[place])?;
         }
+        self.looked = entries.len();
+        Ok(())
     }
 
     /// Wakes the forms whose step was barred: nothing bars them at a new box.

@@ -1,14 +1,17 @@
 -- What an asker keeps while it looks at one request after another.
-use Rattle.std.proofs.Common.{◌≡◌, ℕ, ◌+◌, ◌<◌, ◌≤◌, sym, ◌∙◌, subst, inl, inr, List, [], ◌∷◌, ◌++◌, All, length, get_or, arith}
+use Rattle.std.proofs.Common.{◌≡◌, ℕ, ◌≢◌, ◌+◌, ◌<◌, ◌≤◌, sym, ◌∙◌, subst, inl, inr, List, [], ◌∷◌, ◌++◌, All, length, get_or, set, arith}
 use Rattle.std.specs.Prelude.{Contains}
-use Rattle.std.proofs.lemmas.Bool.{cases_lt}
-use Rattle.std.proofs.lemmas.List.{get_or_default}
+use Rattle.std.proofs.lemmas.Bool.{cases_eq, cases_lt}
+use Rattle.std.proofs.lemmas.List.{get_or-set_other, get_or-set_same, get_or_default}
 use Rattle.std.proofs.lemmas.List.Elements.{All-push, Contains-append_left, Contains-push}
 use Rattle.area_graph.specs.declared.Point.{Point}
 use Rattle.area_graph.specs.Area.{Area}
 use Rattle.design_problem.specs.declared.problem.Request.{Request}
-use Rattle.design_problem.specs.Problems.{no_request, request_at}
-use Rattle.rival_separation.specs.Askers.{RequestLeads}
+use Rattle.design_problem.specs.Problems.{no_request, request_at, request_ends}
+use Rattle.spf_ties.specs.Distances.{Findings}
+use Rattle.rival_separation.specs.Askers.{Asking, IsAskerFor, IsShared, RequestLeads}
+use Rattle.rival_separation.specs.declared.asker.Shared.{Shared}
+use Rattle.rival_separation.proofs.RivalLemmas.{found_kept}
 
 -- the numbers below n, and n
 pub one_more : (n count : ℕ) (order new : List ℕ) → All (λ k. k < count) order → ((k : ℕ) → k < n → Contains order k) →
@@ -28,6 +31,29 @@ order_reaches order count place each past P holds k k_in =
     let has = each k k_in in
     let near = has.1 in
     subst P (get_or_default order has.0 0 k has.1 ∙ has.2) (holds has.0 (omega arith))
+
+-- with another one at one place, what holds there and elsewhere holds at each place
+pub told_there : {X : Type 0} (Holds : ℕ → X → Type 0) (xs : List X) (place : ℕ) (x none : X) → place < length xs →
+    Holds place x → (k : ℕ) → (k ≢ place → Holds k (get_or xs k none)) → Holds k (get_or (set xs place x) k none)
+told_there Holds xs place x none within here k elsewhere = elim (cases_eq k place) [
+  | inl same ↦ subst (λ (i : ℕ). Holds i (get_or (set xs place x) i none)) (sym same)
+      (subst (Holds place) (sym (get_or-set_same xs place x none within)) here)
+  | inr other ↦ subst (Holds k) (sym (get_or-set_other xs place k x none other)) (elsewhere other)
+]
+
+-- an asker of whose room the path alone changed
+pub asker_kept : (g : Area) (requests : List Request) (old new : Asking) →
+    new ≡ record old { room = record old.room { path = new.room.path } } → IsAskerFor g requests old → IsAskerFor g requests new
+asker_kept g requests old new same is = subst (IsAskerFor g requests) (sym same)
+    (record { room = record { vertices = is.room.vertices; edges = is.room.edges }; known = is.known; each = is.each })
+
+-- a room of which the path alone changed still has the distances
+pub shared_kept : (g : Area) (p : Point) (requests : List Request) (old new : Findings) (shared : Shared) →
+    new ≡ record old { path = new.path } → IsShared g p requests old shared → IsShared g p requests new shared
+shared_kept g p requests old new shared same is = record {
+  known = is.known;
+  found = found_kept g p (request_ends (request_at requests shared.request)) shared.limit old new.path new same is.found;
+}
 
 -- so each path leads where that of each number in the order does
 pub order_leads : (g : Area) (p : Point) (requests : List Request) (order : List ℕ) (place : ℕ) →

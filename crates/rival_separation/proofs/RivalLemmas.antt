@@ -427,6 +427,13 @@ found_kept g p ends limit room kept new same found = subst (HasDistancesBelow g 
   );
 })
 
+-- a room of which the path alone changes, and then changes again
+pub other_path : (old now new : Findings) (path : List ℕ) → now ≡ record old { path = now.path } →
+    new ≡ record now { path = path } → new ≡ record old { path = new.path }
+other_path old now new path first second =
+    second ∙ ap (λ (r : Findings). let other : Findings = record r { path = path } in other) first
+    ∙ ap (λ (es : List ℕ). let other : Findings = record old { path = es } in other) (sym (ap (λ (r : Findings). r.path) second))
+
 pub completes_kept : (g : Area) (p : Point) (ends : Ends) (room : Findings) (Holds : List ℕ → Type 0)
     (walk kept : List ℕ) (v : ℕ) → Completes g p ends room Holds walk v →
     Completes g p ends (record room { path = kept }) Holds walk v

@@ -1,5 +1,5 @@
 -- What asks for the rivals of several requests.
-use Rattle.std.specs.Prelude.{◌≡◌, ℕ, ◌+◌, ◌<◌, ◌≤◌, List, length, slice_index_or, All, Bool, Contains, MatchBool, Option, None, Some, true}
+use Rattle.std.specs.Prelude.{◌≡◌, ℕ, ◌+◌, ◌<◌, ◌≤◌, List, length, slice_index_or, All, Contains, Option, None, Some}
 use Rattle.area_graph.specs.declared.Point.{Point}
 use Rattle.area_graph.specs.Area.{Area}
 use Rattle.area_graph.specs.Costs.{LeadsBy, cost}
@@ -8,20 +8,18 @@ use Rattle.design_problem.specs.declared.problem.Request.{Request}
 use Rattle.design_problem.specs.Problems.{request_ends, request_at}
 use Rattle.spf_ties.specs.Distances.{Findings, IsRoomFor}
 use Rattle.rival_separation.specs.declared.asker.Shared.{Shared}
-use Rattle.rival_separation.specs.Rivals.{HasDistancesBelow}
+use Rattle.rival_separation.specs.Rivals.{HasDistancesBelow, IsCheapestRival}
 
--- what an asker shows: its room, the requests' numbers in the order in which they are looked at, and a mark for each request
+-- what an asker shows: its room, and the requests' numbers in the order in which they are looked at
 pub record Asking : Type 0 where
   pub room : Findings
   pub order : List ℕ
-  pub marks : List Bool
 
 -- an asker for a graph and so many requests: the number of each stands in the order in which they are looked at
 pub record IsAskerFor (g : Area) (requests : List Request) (asker : Asking) : Type 0 where
   pub room : IsRoomFor g asker.room
   pub known : All (λ k. k < length requests) asker.order
   pub each : (k : ℕ) → k < length requests → Contains asker.order k
-  pub marks : length asker.marks ≡ length requests
 
 -- the path of each request is a simple path of it
 abbrev pub ArePathsOf : Area → List Request → Type 0
@@ -35,11 +33,15 @@ RequestLeads g p r = LeadsBy p.scale g p (request_ends r) r.path.edges
 abbrev pub lead_at : Area → Point → Request → ℕ
 lead_at g p r = cost g p r.path.edges + p.scale
 
--- the request of that number has a rival that costs less than its path and the scale where it is marked, and else leads
-abbrev pub IsMarkTrue : Area → Point → List Request → List Bool → ℕ → Type 0
-IsMarkTrue g p requests marks k =
-    MatchBool (slice_index_or marks k true) (RequestLeads g p (request_at requests k) → ⊥)
-    (RequestLeads g p (request_at requests k))
+-- a request's cheapest rival, or None where its path leads
+abbrev pub IsCheapestIfAny : Area → Point → Request → Option (List ℕ) → Type 0
+IsCheapestIfAny g p r None = RequestLeads g p r
+IsCheapestIfAny g p r (Some es) = IsCheapestRival g p (request_ends r) r.path.edges es
+
+-- each request's cheapest rival, in the requests' order, None where its path leads
+pub record AreCheapestRivals (g : Area) (p : Point) (requests : List Request) (rivals : List (Option (List ℕ))) : Type 0 where
+  pub count : length rivals ≡ length requests
+  pub each : (k : ℕ) → k < length requests → IsCheapestIfAny g p (request_at requests k) (slice_index_or rivals k None)
 
 -- the room has the distances to the end of a request without the edges that it takes away, those below a limit
 pub record IsShared (g : Area) (p : Point) (requests : List Request) (room : Findings) (shared : Shared) : Type 0 where

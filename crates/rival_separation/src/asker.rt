@@ -1,15 +1,15 @@
 //! What asks for the rivals of several requests at one point.
 
-ghost use Rattle.std.specs.Prelude.{◌≡◌, ◌↔◌, ◌<◌, ◌≤◌, ℕ, All, Contains, IfOk, IsTrue, MatchBool, Some, length, slice_index, slice_index_or, true};
+ghost use Rattle.std.specs.Prelude.{◌≡◌, ◌↔◌, ◌<◌, ◌≤◌, ℕ, All, Contains, IfOk, IsTrue, MatchBool, Some, length, slice_index, slice_set};
 ghost use Rattle.area_graph.specs.Costs.{FitsPoint};
 ghost use Rattle.area_graph.specs.Paths.{IsPathOf};
 ghost use Rattle.design_problem.specs.Problems.{request_ends, request_at};
-ghost use Rattle.rival_separation.specs.Askers.{ArePathsOf, IsAskerFor, IsMarkTrue, IsReadyToCompare, IsShared, MayShare, RequestLeads, lead_at};
-ghost use Rattle.rival_separation.specs.Rivals.{IsCheapestRival, HasDistancesTo};
+ghost use Rattle.rival_separation.specs.Askers.{AreCheapestRivals, ArePathsOf, IsAskerFor, IsCheapestIfAny, IsReadyToCompare, IsShared, MayShare, RequestLeads, lead_at};
+ghost use Rattle.rival_separation.specs.Rivals.{HasDistancesTo};
 
-use crate::rival::{cheap_deviation, find_rival, least_lead};
+use crate::rival::{cheap_deviation, find_rival_at_hand, least_lead};
 use area_graph::{Graph, Point};
-use cost_base::OutOfMemory;
+use cost_base::{Listed, OutOfMemory};
 use design_problem::Request;
 use spf_ties::Room;
 use std::alloc::Global;
@@ -23,12 +23,11 @@ struct Shared {
 }
 
 /// What asks for the rivals of several requests at one point, again and again. Requests with one end that take away the
-/// same edges share their distances. Contracts see its room, the order in which it looks at the requests, and their marks.
+/// same edges share their distances. Contracts see its room, and the order in which it looks at the requests.
 #[derive(Drop)]
 pub struct Asker {
     room: Room,
     order: Vec<u32>,
-    beaten: Vec<bool>,
 }
 
 impl Model for Asker {
@@ -36,7 +35,7 @@ impl Model for Asker {
 
     ghost Value = { Asking };
 
-    ghost view = { λ a. record { room = a.room; order = a.order.items; marks = a.beaten.items } };
+    ghost view = { λ a. record { room = a.room; order = a.order.items } };
 }
 
 /// What requests that share distances have in common: their end, and how many edges they take away and the first of them.
@@ -80,6 +79,26 @@ fn share(first: &Request, other: &Request) -> bool
     first.end == other.end && first.excluded.as_slice() == other.excluded.as_slice()
 }
 
+/// So many places, and nothing told at any of them.
+fn nothing_told(alloc: Global, count: usize) -> Result<Vec<Option<Listed<u32>>>, OutOfMemory>
+    ensures { IfOk result (λ rivals. length rivals.items ≡ count) }
+{
+    let mut rivals = Vec::new(alloc);
+    for place in 0..count {
+        let _ = place;
+        rivals.push(None)?;
+    }
+    Ok(rivals)
+}
+
+/// Puts what is told of the request of that number to its place.
+fn tell(rivals: &mut Vec<Option<Listed<u32>>>, number: u32, rival: Option<Listed<u32>>)
+    requires { number < length rivals.old.items }
+    ensures { rivals.new.items ≡ slice_set rivals.old.items number rival }
+{
+    rivals[number as usize] = rival;
+}
+
 /// Whether a request has a rival that costs less than its path and the scale. The room has the distances below that.
 fn is_beaten(graph: &Graph, request: &Request, point: &Point, room: &Room) -> bool
     requires fits { FitsPoint graph.now point.now }
@@ -95,7 +114,7 @@ fn is_beaten(graph: &Graph, request: &Request, point: &Point, room: &Room) -> bo
 }
 
 impl Asker {
-    /// An asker for a graph and at most 10,000 requests. No later call takes memory.
+    /// An asker for a graph and at most 10,000 requests.
     ///
     /// # Errors
     ///
@@ -106,12 +125,7 @@ impl Asker {
     {
         let room = Room::new(alloc, graph)?;
         let order = by_target(alloc, requests)?;
-        let beaten = vec![in alloc; false; requests.len()]?;
-        Ok(Asker {
-            room,
-            order,
-            beaten,
-        })
+        Ok(Asker { room, order })
     }
 
     /// How many places the order has.
@@ -254,42 +268,66 @@ impl Asker {
         is_beaten(graph, self.request_at(requests, place), point, &self.room)
     }
 
-    /// Marks the request at a place of the order, or takes its mark away; the room has the distances that serve it.
-    fn mark_at(&mut self, graph: &Graph, requests: &[Request], point: &Point, place: usize)
+    /// The cheapest rival of the request at a place of the order, None where its path leads. The room has the distances that
+    /// serve it, and keeps them.
+    fn rival_at(
+        &mut self,
+        alloc: Global,
+        graph: &Graph,
+        requests: &[Request],
+        point: &Point,
+        place: usize,
+    ) -> Result<Option<Listed<u32>>, OutOfMemory>
         requires asker { IsAskerFor graph.now requests.now self.old }
         requires fits { FitsPoint graph.now point.now }
         requires paths { ArePathsOf graph.now requests.now }
         requires place { place < length self.old.order }
         requires found { HasDistancesTo graph.now point.now (request_ends (request_at requests.now (slice_index self.old.order place)))
             (lead_at graph.now point.now (request_at requests.now (slice_index self.old.order place))) self.old.room }
-        ensures asker { IsAskerFor graph.now requests.now self.new }
-        ensures same { self.new ≡ record self.old { marks = self.new.marks } }
-        ensures here { IsMarkTrue graph.now point.now requests.now self.new.marks (slice_index self.old.order place) }
-        ensures kept { (k : ℕ) → IsMarkTrue graph.now point.now requests.now self.old.marks k → IsMarkTrue graph.now point.now requests.now self.new.marks k }
+        ensures same { self.new ≡ record self.old { room = record self.old.room { path = self.new.room.path } } }
+        ensures rival { IfOk result (IsCheapestIfAny graph.now point.now (request_at requests.now (slice_index self.old.order place))) }
     {
-        let beaten = self.is_beaten_at(graph, requests, point, place);
-        let number = self.number_at(place);
-        self.beaten[number as usize] = beaten;
+        let request = self.request_at(requests, place);
+        if !find_rival_at_hand(graph, request, point, &mut self.room) {
+            return Ok(None);
+        }
+        let edges = Listed::from_slice(alloc, self.room.path())?;
+        Ok(Some(edges))
     }
 
-    /// Marks each request that has a rival which costs less at a point than its path and the scale, and no other. The
-    /// distances to an end are looked for once, and serve each request with that end that takes away the same edges.
-    pub fn mark_beaten(&mut self, graph: &Graph, requests: &[Request], point: &Point)
+    /// The cheapest rival of each request, in the requests' order: None where every rival costs at least the path and the
+    /// scale at the point. The distances to an end are looked for once, and serve each request with that end that takes away
+    /// the same edges; its rival is laid out while they are there.
+    ///
+    /// # Errors
+    ///
+    /// `OutOfMemory`.
+    pub fn cheapest_rivals(
+        &mut self,
+        alloc: Global,
+        graph: &Graph,
+        requests: &[Request],
+        point: &Point,
+    ) -> Result<Vec<Option<Listed<u32>>>, OutOfMemory>
         requires asker { IsAskerFor graph.now requests.now self.old }
         requires fits { FitsPoint graph.now point.now }
         requires paths { ArePathsOf graph.now requests.now }
         ensures asker { IsAskerFor graph.now requests.now self.new }
-        ensures marks { (k : ℕ) → k < length requests.now → IsMarkTrue graph.now point.now requests.now self.new.marks k }
+        ensures rivals { IfOk result (λ rivals. AreCheapestRivals graph.now point.now requests.now rivals.items) }
     {
+        let mut rivals = nothing_told(alloc, requests.len())?;
         let mut shared = None;
         for place in 0..self.places() {
             let ready = self.prepare(graph, requests, point, place, shared);
-            self.mark_at(graph, requests, point, place);
+            let rival = self.rival_at(alloc, graph, requests, point, place)?;
+            tell(&mut rivals, self.number_at(place), rival);
             shared = Some(ready);
         }
+        Ok(rivals)
     }
 
-    /// Whether the path of each request leads at a point by the scale. It ends at the first that doesn't, in the order.
+    /// Whether the path of each request leads at a point by the scale. It ends at the first that doesn't, in the
+    /// order, and takes no memory.
     pub fn each_leads(&mut self, graph: &Graph, requests: &[Request], point: &Point) -> bool
         requires asker { IsAskerFor graph.now requests.now self.old }
         requires fits { FitsPoint graph.now point.now }
@@ -306,41 +344,5 @@ impl Asker {
             shared = Some(ready);
         }
         true
-    }
-
-    /// Whether the last `mark_beaten` marked a request.
-    pub fn is_marked(&self, request: u32) -> bool
-        requires { request < length self.now.marks }
-        ensures { result ≡ slice_index_or self.now.marks request true }
-    {
-        self.beaten[request as usize]
-    }
-
-    /// Looks for the cheapest rival of a request's path, as `find_rival` in the asker's room. The marks stay.
-    pub fn find_rival(
-        &mut self,
-        graph: &Graph,
-        requests: &[Request],
-        request: u32,
-        point: &Point,
-    ) -> bool
-        requires asker { IsAskerFor graph.now requests.now self.old }
-        requires fits { FitsPoint graph.now point.now }
-        requires paths { ArePathsOf graph.now requests.now }
-        requires request { request < length requests.now }
-        ensures asker { IsAskerFor graph.now requests.now self.new }
-        ensures marks { self.new.marks ≡ self.old.marks }
-        ensures rival { MatchBool result
-            (IsCheapestRival graph.now point.now (request_ends (request_at requests.now request)) (request_at requests.now request).path.edges self.new.room.path)
-            (RequestLeads graph.now point.now (request_at requests.now request)) }
-    {
-        find_rival(graph, request_of(requests, request), point, &mut self.room)
-    }
-
-    /// The edges of the path that the asker's room keeps.
-    pub fn path(&self) -> &[u32]
-        ensures { result.now ≡ self.now.room.path }
-    {
-        self.room.path()
     }
 }

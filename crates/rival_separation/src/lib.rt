@@ -7,4 +7,4 @@ mod rival;
 
 pub use asker::Asker;
 pub use deviation::{Deviation, better_by, onward};
-pub use rival::{Rival, cheapest_rival, find_rival, leave_by, put_front};
+pub use rival::{Rival, cheapest_rival, find_rival, find_rival_at_hand, leave_by, put_front};

@@ -72,6 +72,7 @@ fn follow(graph: &Graph, request: &Request, point: &Point, start: u32, room: &mu
     requires way { HasWay graph.now point.now (request_ends request.now) room.old start }
     ensures room { IsRoomFor graph.now room.new }
     ensures followed { IsFollowedByLeast graph.now point.now (request_ends request.now) room.old start room.new.path }
+    ensures same { room.new ≡ record room.old { path = room.new.path } }
 {
     graph.keeps_conditions();
     let mut at = start;
@@ -95,6 +96,7 @@ pub fn leave_by(graph: &Graph, request: &Request, point: &Point, edge: u32, room
     requires way { HasWay graph.now point.now (request_ends request.now) (with_edge room.old edge) (edge_at graph.now edge).to }
     ensures room { IsRoomFor graph.now room.new }
     ensures followed { IsFollowedByLeast graph.now point.now (request_ends request.now) (with_edge room.old edge) (edge_at graph.now edge).to room.new.path }
+    ensures same { room.new ≡ record room.old { path = room.new.path } }
 {
     graph.keeps_conditions();
     room.add_to_path(edge);
@@ -160,6 +162,22 @@ pub fn find_rival(graph: &Graph, request: &Request, point: &Point, room: &mut Ro
         request.excluded.as_slice(),
         limit,
     );
+    find_rival_at_hand(graph, request, point, room)
+}
+
+/// Looks for the cheapest rival of a request's path as `find_rival` does, by the distances that the room has: those to the
+/// request's end without the edges that it takes away, which are below what the path and the scale cost. It finds the same
+/// rival, and the room has the same distances afterwards.
+pub fn find_rival_at_hand(graph: &Graph, request: &Request, point: &Point, room: &mut Room) -> bool
+    requires fits { FitsPoint graph.now point.now }
+    requires found { HasDistancesTo graph.now point.now (request_ends request.now) (cost graph.now point.now request.now.path.edges + point.now.scale) room.old }
+    requires path { IsPathOf graph.now (request_ends request.now) request.now.path.edges }
+    ensures room { IsRoomFor graph.now room.new }
+    ensures same { room.new ≡ record room.old { path = room.new.path } }
+    ensures rival { MatchBool result
+        (IsCheapestRival graph.now point.now (request_ends request.now) request.now.path.edges room.new.path)
+        (LeadsBy point.now.scale graph.now point.now (request_ends request.now) request.now.path.edges) }
+{
     match cheap_deviation(graph, request, point, room) {
         Some(best) => {
             lay_out(graph, request, point, best, room);
@@ -178,6 +196,7 @@ fn lay_out(graph: &Graph, request: &Request, point: &Point, best: Deviation, roo
     requires cheap { best.cost < cost graph.now point.now request.now.path.edges + point.now.scale }
     ensures room { IsRoomFor graph.now room.new }
     ensures cheapest { IsCheapestRival graph.now point.now (request_ends request.now) request.now.path.edges room.new.path }
+    ensures same { room.new ≡ record room.old { path = room.new.path } }
 {
     graph.keeps_conditions();
     put_front(room, &request.path.edges.as_slice()[..best.place]);

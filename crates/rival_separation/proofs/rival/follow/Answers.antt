@@ -1,10 +1,10 @@
-use Rattle.std.proofs.Common.{rules, ◌∷◌, [], ◌++◌, ◌<◌, ◌∙◌, ap, sym, subst, arith, ℕ, List, length, length-append}
+use Rattle.std.proofs.Common.{rules, ◌∷◌, [], ◌++◌, ◌<◌, ◌∙◌, ap, refl, sym, subst, arith, ℕ, List, length, length-append}
 use Rattle.design_problem.specs.Problems.{request_ends}
 use Rattle.spf_ties.specs.Distances.{Findings}
 use Rattle.area_graph.specs.Area.{edge_at}
 use Rattle.area_graph.specs.declared.Edge.{Edge}
 use Rattle.rival_separation.specs.Rivals.{Completes}
-use Rattle.rival_separation.proofs.RivalLemmas.{IsWay, completed, completes_kept, completes_more, found_kept, short_walk, some_next, way_completes}
+use Rattle.rival_separation.proofs.RivalLemmas.{IsWay, completed, completes_kept, completes_more, found_kept, other_path, short_walk, some_next, way_completes}
 use Rattle.rival_separation.proofs.rival.follow.Goals.{After-next_edge}
 use Rattle.rival_separation.proofs.rival.follow.Goals as goal
 
@@ -12,6 +12,7 @@ pub loop-at-init : goal.loop-at-init
 loop-at-init c = record {
   found = c.requires.found;
   so_far = way_completes c.args.graph.now c.args.point.now (request_ends c.args.request.now) c.args.room.now c.args.start c.requires.way;
+  same = refl;
 }
 
 -- what was gone so far is shorter than the vertices are many
@@ -58,6 +59,7 @@ loop-at-preserved c =
       so_far = subst (λ (e : Edge). Completes g p ends c.add_to_path.new.self Holds c.add_to_path.new.self.path e.to) (sym c.edge_of-at.ensures)
           (subst (λ (r : Findings). Completes g p ends r Holds r.path (edge_at g edge).to) (sym c.add_to_path.ensures)
           (completes_kept g p ends room Holds longer longer (edge_at g edge).to more));
+      same = other_path c.args.room.now room c.add_to_path.new.self longer c.loop-at.invariant.same c.add_to_path.ensures;
     }
 
 pub returns-clause-followed : goal.returns-clause-followed

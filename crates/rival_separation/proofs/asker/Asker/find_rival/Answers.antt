@@ -1,8 +1,0 @@
-use Rattle.std.proofs.Common.{sym, subst}
-use Rattle.rival_separation.specs.Askers.{Asking, IsAskerFor}
-use Rattle.rival_separation.proofs.asker.Asker.find_rival.Goals as goal
-
-pub returns-clause-asker : goal.returns-clause-asker
-returns-clause-asker c =
-    let old = subst (λ (a : Asking). IsAskerFor c.args.graph.now c.args.requests.now a) (sym c.self.view_is) c.requires.asker in
-    record { room = c.find_rival.ensures.room; known = old.known; each = old.each; marks = old.marks }
