@@ -20,7 +20,7 @@ use Rattle.spf_ties.specs.Distances.{Findings, distance_at}
 use Rattle.design_problem.proofs.PathBounds.{simple-short}
 use Rattle.rival_separation.specs.Rivals.{HasWay, IsFollowedByLeast, HasDistancesBelow, ends_from}
 use Rattle.rival_separation.proofs.OfferLemmas.{OffersOnce}
-use Rattle.rival_separation.proofs.RivalLemmas.{some_least}
+use Rattle.rival_separation.proofs.RivalLemmas.{is_least, some_least}
 use Rattle.set_separation.specs.declared.prefix_tree.Step.{Step}
 use Rattle.set_separation.specs.Outsiders.{CostAtLeast, IsCheapestOutsider, IsOutsider}
 use Rattle.set_separation.specs.PrefixTrees.{BeginsOneOf, HasStep, IsTreeOf, no_step, prefix_of_place, step_at}
@@ -309,6 +309,17 @@ module _ (g : Area) (p : Point) (ends : Ends) (limit : ℕ) (room : Findings) (w
           cheap = omega (arith, whole, cheap);
           none_less = λ others outsider. (let above = outsiders_above total within best others outsider in omega (arith, whole, above));
         }
+
+    -- so not every outsider costs as much as the wanted paths and the scale
+    pub undercut_by : CostAtLeast g p ends wanted (most + p.scale) → ⊥
+    undercut_by above =
+        let edge : FitsEdge g (edge_at g e) = graph.edges e no_edge departs.known in
+        let least = is_least g p (ends_from ends (edge_at g e).to) limit (distance_at room (edge_at g e).to) departs.onward.rest
+        (found.least (edge_at g e).to edge.to) departs.onward.distance in
+        let whole = cheapest_by least.path least.is_path least.costs in
+        let no_less = above (place_prefix place ++ e ∷ least.path) whole.outsider in
+        let below = whole.cheap in
+        omega arith
 
     -- so there is a way on from the departure's edge, behind the place's prefix and that edge
     pub way_on : HasWay g p ends (record room { path = place_prefix place ++ e ∷ [] }) (edge_at g e).to

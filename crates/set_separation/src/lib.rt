@@ -6,5 +6,5 @@ mod departure;
 mod outsider;
 mod prefix_tree;
 
-pub use outsider::find_outsider;
+pub use outsider::{find_outsider, is_undercut};
 pub use prefix_tree::{PrefixTree, Step};

@@ -1,6 +1,6 @@
 //! The cheapest outsider of several wanted paths.
 
-ghost use Rattle.std.specs.Prelude.{◌≡◌, ℕ, ◌+◌, ◌<◌, ◌≤◌, List, MatchBool, Some, length};
+ghost use Rattle.std.specs.Prelude.{◌≡◌, ℕ, ◌+◌, ◌<◌, ◌≤◌, List, MatchBool, MatchOption, Some, length};
 ghost use Rattle.area_graph.specs.Costs.{FitsPoint, cost};
 ghost use Rattle.area_graph.specs.Paths.{IsPathOf};
 ghost use Rattle.design_problem.specs.Problems.{request_ends};
@@ -36,6 +36,45 @@ fn put_prefix(graph: &Graph, request: &Request, tree: &PrefixTree, place: usize,
         at = step.place;
     }
     room.reverse_path();
+}
+
+/// The departure of least cost, where it costs less than the wanted paths and the scale; `costs` then has what the places
+/// cost. The room has the distances to the request's end that are below that.
+fn cheap_departure(
+    graph: &Graph,
+    request: &Request,
+    point: &Point,
+    tree: &PrefixTree,
+    costs: &mut [u128],
+    room: &Room,
+) -> Option<Deviation>
+    requires fits { FitsPoint graph.now point.now }
+    requires path { IsPathOf graph.now (request_ends request.now) request.now.path.edges }
+    requires found { HasDistancesTo graph.now point.now (request_ends request.now)
+        (cost graph.now point.now request.now.path.edges + point.now.scale) room.now }
+    requires tree { (wanted : List (List ℕ)) ×
+        IsTiedTree graph.now point.now (request_ends request.now) (cost graph.now point.now request.now.path.edges) wanted tree.now }
+    requires enough { length tree.now + 1 ≤ length costs.old }
+    ensures costs { ArePlaceCosts graph.now point.now tree.now (length tree.now) costs.new }
+    ensures count { length costs.new ≡ length costs.old }
+    ensures best { MatchOption result
+        ((wanted : List (List ℕ)) →
+        IsTiedTree graph.now point.now (request_ends request.now) (cost graph.now point.now request.now.path.edges) wanted tree.now →
+        CostAtLeast graph.now point.now (request_ends request.now) wanted (cost graph.now point.now request.now.path.edges + point.now.scale))
+        (λ best. IsBestOffer (Departs graph.now point.now (request_ends request.now) room.now tree.now costs.new)
+        (λ place e. place ≤ length tree.now) (Some best) × (best.cost < cost graph.now point.now request.now.path.edges + point.now.scale)) }
+{
+    graph.keeps_conditions();
+    put_place_costs(graph, request, point, tree, costs);
+    let best = match least_departure(graph, request, point, room, tree, costs) {
+        Some(best) => best,
+        None => return None,
+    };
+    let limit = path_cost(graph, &request.path, point) + point.scale;
+    if limit <= best.cost {
+        return None;
+    }
+    Some(best)
 }
 
 /// Makes the path that the room keeps the cheapest outsider: up to the place of the best departure it is that place's prefix.
@@ -105,14 +144,43 @@ pub fn find_outsider(
         request.excluded.as_slice(),
         limit,
     );
-    put_place_costs(graph, request, point, tree, costs);
-    let best = match least_departure(graph, request, point, room, tree, costs) {
-        Some(best) => best,
-        None => return false,
-    };
-    if limit <= best.cost {
-        return false;
+    match cheap_departure(graph, request, point, tree, costs, room) {
+        Some(best) => {
+            lay_out(graph, request, point, tree, costs, best, room);
+            true
+        }
+        None => false,
     }
-    lay_out(graph, request, point, tree, costs, best, room);
-    true
+}
+
+/// Whether some wanted paths, which cost the same at a point, have an outsider that costs less than they and the scale. The
+/// request, the tree and `costs` are as in `find_outsider`; the room has the distances to the request's end that are below
+/// that, or more of them, as another request with that end and the same taken edges may have left them. Takes no memory.
+pub fn is_undercut(
+    graph: &Graph,
+    request: &Request,
+    point: &Point,
+    tree: &PrefixTree,
+    costs: &mut [u128],
+    room: &Room,
+) -> bool
+    requires fits { FitsPoint graph.now point.now }
+    requires path { IsPathOf graph.now (request_ends request.now) request.now.path.edges }
+    requires found { HasDistancesTo graph.now point.now (request_ends request.now)
+        (cost graph.now point.now request.now.path.edges + point.now.scale) room.now }
+    requires tree { (wanted : List (List ℕ)) ×
+        IsTiedTree graph.now point.now (request_ends request.now) (cost graph.now point.now request.now.path.edges) wanted tree.now }
+    requires enough { length tree.now + 1 ≤ length costs.old }
+    ensures count { length costs.new ≡ length costs.old }
+    ensures outsider { (wanted : List (List ℕ)) →
+        IsTiedTree graph.now point.now (request_ends request.now) (cost graph.now point.now request.now.path.edges) wanted tree.now →
+        MatchBool result
+        (CostAtLeast graph.now point.now (request_ends request.now) wanted (cost graph.now point.now request.now.path.edges + point.now.scale) → ⊥)
+        (CostAtLeast graph.now point.now (request_ends request.now) wanted (cost graph.now point.now request.now.path.edges + point.now.scale)) }
+{
+    graph.keeps_conditions();
+    match cheap_departure(graph, request, point, tree, costs, room) {
+        Some(_) => true,
+        None => false,
+    }
 }

@@ -188,15 +188,6 @@ all_asked point count old old_forms new new_forms asked all are = record { in_st
     by_answer Nothing answer = (All-from_get_or (Shares old.problem point) old.sets [] (λ k k_in. answer.1 k (omega arith)), answer.0)
     by_answer Added answer = answer
 
--- where each set shares, they share together
-pub all_share : (p : DesignProblem) (sets : List (List ℕ)) (point : Point) (count : ℕ) → length sets ≤ count →
-    ((k : ℕ) → k < count → Shares p point (set_at sets k)) → SharesEach p sets point
-all_share p sets point count all shares = All-from_get_or (Shares p point) sets [] (λ k k_in. shares k (omega arith))
-
-pub not_all_share : (p : DesignProblem) (sets : List (List ℕ)) (point : Point) (k : ℕ) → k < length sets →
-    (Shares p point (set_at sets k) → ⊥) → SharesEach p sets point → ⊥
-not_all_share p sets point k inside not each = not (each k [] inside)
-
 -- What no call changes.
 
 abbrev IsSameFor : (DesignProblem → List (List ℕ) → Type 0) → KnownSets → KnownSets → Type 0

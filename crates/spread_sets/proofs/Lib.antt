@@ -7,5 +7,6 @@ pub mod MadeSets
 pub mod LineNumbers
 pub mod TieForms
 pub mod Separations
+pub mod SetAskerLaws
 pub mod DistinctRows
 pub mod Findings

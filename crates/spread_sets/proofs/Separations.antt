@@ -18,12 +18,11 @@ use Rattle.set_separation.specs.Outsiders.{CostAtLeast, IsCheapestOutsider}
 use Rattle.spread_sets.specs.declared.member_sets.MemberSet.{MemberSet}
 use Rattle.spread_sets.specs.declared.spread.SetRow.{SetRow}
 use Rattle.spread_sets.specs.declared.spread.SetRow.TheVariants.{Rival}
-use Rattle.spread_sets.specs.Spreads.{AreTied, Shares, cost_of_set, edges_of, ends_in, name_of_set, form_of_set_row, paths_of}
+use Rattle.spread_sets.specs.Spreads.{AreTied, cost_of_set, edges_of, ends_in, name_of_set, form_of_set_row, paths_of}
 use Rattle.spread_sets.specs.MemberSets.{AreMemberSets, HasTree, IsMemberSet, HasTreeWithin, sets_in}
 use Rattle.spread_sets.specs.Sources.{OutsidersAreDearer, IsOutsiderTooCheap, KnownSets, set_at}
 use Rattle.spread_sets.specs.SourceLaws.{first_listed, member_known, member_path}
 use Rattle.spread_sets.proofs.SetLaws.{listed_at}
-use Rattle.spread_sets.proofs.AskedSets.{too_cheap_not}
 use Rattle.spread_sets.proofs.PrintedSets.{route_is}
 
 -- the first member is a wanted path, and its path is one of its request
@@ -128,23 +127,6 @@ ready_all p places count sets same trees most k d k_in =
       has_tree = trees k d k_in;
       fits = subst (λ (n : ℕ). length (get_or sets k d).tree + 1 ≤ n) (sym same) (most k d k_in);
     }
-
--- a set shares where its members tie and every other path is dearer
-pub shares_there : (p q : DesignProblem) (point : Point) (set members : List ℕ) → q ≡ p → members ≡ set →
-    AreTied q point members → OutsidersAreDearer q point members → Shares p point set
-shares_there p q point set members same_problem same_set tied dearer =
-    subst (λ (r : DesignProblem). Shares r point set) same_problem (subst (Shares q point) same_set (record { tied = tied; dearer = dearer }))
-
-pub beaten_there : (p q : DesignProblem) (point : Point) (set members es : List ℕ) → q ≡ p → members ≡ set →
-    IsOutsiderTooCheap q point members es → Shares p point set → ⊥
-beaten_there p q point set members es same_problem same_set cheap shares =
-    too_cheap_not p point set es (cheap_as p q set members es es point same_problem same_set refl cheap) shares
-
-pub untied_there : (p q : DesignProblem) (point : Point) (set members : List ℕ) → q ≡ p → members ≡ set →
-    (AreTied q point members → ⊥) → Shares p point set → ⊥
-untied_there p q point set members same_problem same_set untied shares =
-    untied (subst (λ (r : DesignProblem). AreTied r point members) (sym same_problem)
-    (subst (AreTied p point) (sym same_set) shares.tied))
 
 -- the set that code has read at a place
 pub indexed : (sets : List MemberSet) (place : ℕ) (m : MemberSet) → place < length (sets_in sets) →

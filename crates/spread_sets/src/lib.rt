@@ -10,6 +10,7 @@ pub mod laws;
 mod line_numbers;
 mod member_sets;
 mod row_forms;
+mod set_asker;
 mod source;
 mod spread;
 

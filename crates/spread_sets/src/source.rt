@@ -1,27 +1,24 @@
 //! The rivals and the ties of a problem's sets, as the source of a search.
-ghost use Rattle.std.specs.Prelude.{◌≡◌, ◌<◌, ◌++◌, ◌∷◌, [], ◌↔◌, length, slice_index, All, Contains};
-ghost use Rattle.std.specs.Prelude.{IfOk, IsTrue, MatchBool, OnErr, OnOk};
-ghost use Rattle.area_graph.specs.Costs.{cost};
+ghost use Rattle.std.specs.Prelude.{◌≡◌, ◌<◌, ◌++◌, ◌∷◌, [], ◌↔◌, ℕ, length, slice_index, slice_index_or, All, Contains};
+ghost use Rattle.std.specs.Prelude.{IfOk, IsTrue, OnErr, OnOk, false, true};
 ghost use Rattle.design_problem.specs.Forms.{AreMet};
-ghost use Rattle.spf_ties.specs.Distances.{IsRoomFor};
 ghost use Rattle.form_search.specs.Sources.{Grows, IsCostPoint};
 ghost use Rattle.spread_sets.specs.declared.spread.SetRow.TheVariants.{Same};
-ghost use Rattle.spread_sets.specs.Spreads.{AreTied, Shares, SharesEach, edges_of, name_of_set, form_of_set_row, forms_of_set_rows};
+ghost use Rattle.spread_sets.specs.Spreads.{AreTied, Shares, SharesEach, name_of_set, form_of_set_row, forms_of_set_rows};
 ghost use Rattle.cost_branching.specs.Rivals.{IsProblemOnGraph};
-ghost use Rattle.spread_sets.specs.MemberSets.{AreMemberSets, HasTree, HasTreeWithin, sets_in};
-ghost use Rattle.spread_sets.specs.Sources.{IsPoolOfSets, OutsidersAreDearer, IsOutsiderTooCheap, IsTrueOfSets, both_ways, set_at, tie_rows, ties_in};
+ghost use Rattle.spread_sets.specs.MemberSets.{AreMemberSets, HasTree, sets_in};
+ghost use Rattle.spread_sets.specs.Sources.{IsPoolOfSets, IsTrueOfSets, both_ways, set_at, tie_rows, ties_in};
 ghost use Rattle.spread_sets.specs.Asking.{AreAllSetsAsked, IsSetAsked};
 
-use crate::member_sets::{MemberSet, first_of, most_places, request_of};
+use crate::member_sets::{MemberSet, first_of};
 use crate::row_forms::form_of_tie;
+use crate::set_asker::SetAsker;
 use crate::spread::SetRow;
-use area_graph::{Point, path_cost};
+use area_graph::Point;
 use cost_base::OutOfMemory;
 use cost_branching::{keeps_conditions, row_of, variable_count};
 use design_problem::{Form, Problem, form_of};
 use form_search::{Asked, FormPool, RowSource};
-use set_separation::find_outsider;
-use spf_ties::Room;
 use std::alloc::Global;
 use std::marker::{Brand, Model, PhantomData};
 
@@ -48,22 +45,20 @@ impl Begun for Brand {
 /// their request costs at least the scale more. Its true forms are those of the rows of the sets. Contracts see the
 /// problem, the sets and the rows that are known.
 ///
-/// It keeps room for distances, a cost for each place of the largest tree, and the rows of the pool's forms, in the same
-/// order.
+/// It keeps what asks for the sets' outsiders, and the rows of the pool's forms, in the same order.
 #[derive(Drop)]
 pub(crate) struct Spreads<'a, B: Begun> {
     problem: &'a Problem,
     sets: Vec<MemberSet>,
-    room: Room,
-    costs: Vec<u128>,
+    asker: SetAsker,
     rows: Vec<SetRow>,
     begun: PhantomData<B>,
 }
 
 impl<'a, B: Begun> Model for Spreads<'a, B> {
-    ghost use Rattle.std.specs.Prelude.{◌≡◌, length, All};
-    ghost use Rattle.spf_ties.specs.Distances.{IsRoomFor};
-    ghost use Rattle.spread_sets.specs.MemberSets.{HasTreeWithin, sets_in};
+    ghost use Rattle.std.specs.Prelude.{◌≡◌};
+    ghost use Rattle.spread_sets.specs.MemberSets.{sets_in};
+    ghost use Rattle.spread_sets.specs.SetAskers.{IsAskerOfSets};
     ghost use Rattle.spread_sets.specs.Sources.{KnownSets};
 
     ghost Value = { KnownSets };
@@ -73,64 +68,8 @@ impl<'a, B: Begun> Model for Spreads<'a, B> {
     ghost invariant = { λ s. record {
       problem : s.problem.now ≡ B.problem;
       sets : sets_in s.sets.items ≡ B.sets;
-      room : IsRoomFor s.problem.now.graph s.room;
-      ready : All (HasTreeWithin s.problem.now (length s.costs.items)) s.sets.items;
+      asker : IsAskerOfSets s.problem.now s.sets.items s.asker;
     } };
-}
-
-/// What a wanted path costs at a point.
-fn cost_of(problem: &Problem, path: u32, point: &Point) -> u128
-    requires point { IsCostPoint (length problem.now.low) point.now }
-    requires path { path < length problem.now.paths }
-    ensures { result ≡ cost problem.now.graph point.now (edges_of problem.now path) }
-{
-    keeps_conditions(problem);
-    path_cost(&problem.graph, &request_of(problem, path).path, point)
-}
-
-/// Whether the members of a set cost the same at a point.
-fn cost_the_same(problem: &Problem, members: &[u32], point: &Point) -> bool
-    requires point { IsCostPoint (length problem.now.low) point.now }
-    requires some { 0 < length members.now }
-    requires members { All (λ path. path < length problem.now.paths) members.now }
-    ensures { MatchBool result (AreTied problem.now point.now members.now) (AreTied problem.now point.now members.now → ⊥) }
-{
-    let first = cost_of(problem, first_of(members), point);
-    for member in members {
-        if cost_of(problem, *member, point) != first {
-            return false;
-        }
-    }
-    true
-}
-
-/// Whether a set whose members tie has a rival that costs less than they and the scale. Then the room keeps the edges of
-/// the cheapest.
-fn is_beaten(
-    problem: &Problem,
-    set: &MemberSet,
-    point: &Point,
-    costs: &mut Vec<u128>,
-    room: &mut Room,
-) -> bool
-    requires room { IsRoomFor problem.now.graph room.old }
-    requires point { IsCostPoint (length problem.now.low) point.now }
-    requires ready { HasTreeWithin problem.now (length costs.old.items) set.now }
-    requires tied { AreTied problem.now point.now set.now.members }
-    ensures room { IsRoomFor problem.now.graph room.new }
-    ensures count { length costs.new.items ≡ length costs.old.items }
-    ensures rival { MatchBool result (IsOutsiderTooCheap problem.now point.now set.now.members room.new.path) (OutsidersAreDearer problem.now point.now set.now.members) }
-{
-    keeps_conditions(problem);
-    let first = first_of(set.members.as_slice());
-    find_outsider(
-        &problem.graph,
-        request_of(problem, first),
-        point,
-        &set.tree,
-        costs.as_mut_slice(),
-        room,
-    )
 }
 
 impl<'a, B: Begun> Spreads<'a, B> {
@@ -145,14 +84,11 @@ impl<'a, B: Begun> Spreads<'a, B> {
         requires trees { All (HasTree problem.now) sets.items }
         ensures { IfOk result (λ source. source ≡ record { problem = problem.now; sets = sets_in sets.items; rows = [] }) }
     {
-        let room = Room::new(alloc, &problem.graph)?;
-        let places = most_places(sets.as_slice());
-        let costs = vec![in alloc; 0; places]?;
+        let asker = SetAsker::new(alloc, problem, &sets)?;
         Ok(Spreads {
             problem,
             sets,
-            room,
-            costs,
+            asker,
             rows: Vec::new(alloc),
             begun: PhantomData,
         })
@@ -167,8 +103,7 @@ impl<'a, B: Begun> Spreads<'a, B> {
         let Spreads {
             problem: _,
             sets: _,
-            room: _,
-            costs: _,
+            asker: _,
             rows,
             begun: _,
         } = self;
@@ -324,35 +259,54 @@ impl<'a, B: Begun> Spreads<'a, B> {
     {
         self.keeps();
         let set = &self.sets[place];
-        if !is_beaten(self.problem, set, point, &mut self.costs, &mut self.room) {
+        if !self.asker.find_outsider(self.problem, set, point) {
             return Ok(false);
         }
         let name = first_of(set.members.as_slice());
-        let row = row_of(alloc, name, self.room.path())?;
+        let row = row_of(alloc, name, self.asker.path())?;
         let form = form_of(alloc, self.problem, &row)?;
         self.push_row(SetRow::Rival(row.request, row.rival), form, pool)?;
         Ok(true)
     }
 
-    /// Whether the members of the set at a place tie, and every other path is dearer by the scale.
-    fn shares(&mut self, place: usize, point: &Point) -> bool
+    /// A mark for each set, where the members of each tie. Each set that isn't marked shares.
+    fn undercut_sets(&mut self, alloc: Global, point: &Point) -> Result<Vec<bool>, OutOfMemory>
         requires point { IsCostPoint (length self.old.problem.low) point.now }
-        requires place { place < length self.old.sets }
+        requires tied { All (AreTied self.old.problem point.now) self.old.sets }
         ensures same { self.new ≡ self.old }
-        ensures answer { MatchBool result (Shares self.old.problem point.now (set_at self.old.sets place))
-            (Shares self.old.problem point.now (set_at self.old.sets place) → ⊥) }
+        ensures count { IfOk result (λ marks. length marks.items ≡ length self.old.sets) }
+        ensures marks { IfOk result (λ marks. (k : ℕ) → k < length self.old.sets → slice_index_or marks.items k true ≡ false →
+            Shares self.old.problem point.now (set_at self.old.sets k)) }
     {
-        let set = &self.sets[place];
-        if !cost_the_same(self.problem, set.members.as_slice(), point) {
-            return false;
-        }
-        if is_beaten(self.problem, set, point, &mut self.costs, &mut self.room) {
-            return false;
-        }
-        true
+        self.asker
+            .undercut_sets(alloc, self.problem, &self.sets, point)
     }
 
-    /// Asks each set in order for its cheapest rival. Each that costs less than the members and the scale becomes a row.
+    /// Asks for the cheapest rival of the set at a place, whose members tie, where it is marked; else it shares.
+    fn ask_marked(
+        &mut self,
+        alloc: Global,
+        place: usize,
+        marked: bool,
+        point: &Point,
+        pool: &mut FormPool,
+    ) -> Result<bool, OutOfMemory>
+        requires point { IsCostPoint (length self.old.problem.low) point.now }
+        requires place { place < length self.old.sets }
+        requires tied { AreTied self.old.problem point.now (set_at self.old.sets place) }
+        requires marked { marked ≡ false → Shares self.old.problem point.now (set_at self.old.sets place) }
+        ensures one { IfOk result (IsSetAsked point.now place self.old pool.old self.new pool.new) }
+        ensures same_rows { OnErr result (self.new ≡ self.old) }
+        ensures same_forms { OnErr result (pool.new ≡ pool.old) }
+    {
+        if !marked {
+            return Ok(false);
+        }
+        self.ask_one(alloc, place, point, pool)
+    }
+
+    /// Asks each set in order for its cheapest rival. Each that costs less than the members and the scale becomes a row. Sets
+    /// whose requests have one end and take away the same edges share the distances that tell which have such a rival.
     fn ask_each(
         &mut self,
         alloc: Global,
@@ -368,9 +322,10 @@ impl<'a, B: Begun> Spreads<'a, B> {
         ensures sets { self.new.sets ≡ self.old.sets }
     {
         self.keeps();
+        let undercut = self.undercut_sets(alloc, point)?;
         let mut asked = Asked::Nothing;
         for place in 0..self.count() {
-            if self.ask_one(alloc, place, point, pool)? {
+            if self.ask_marked(alloc, place, undercut[place], point, pool)? {
                 asked = Asked::Added;
             }
         }
@@ -383,12 +338,7 @@ impl<'a, B: Begun> Spreads<'a, B> {
         ensures same { self.new ≡ self.old }
         ensures answer { IsTrue result ↔ SharesEach self.old.problem self.old.sets point.now }
     {
-        for place in 0..self.count() {
-            if !self.shares(place, point) {
-                return false;
-            }
-        }
-        true
+        self.asker.each_shares(self.problem, &self.sets, point)
     }
 }
 

@@ -1,4 +1,4 @@
-use Rattle.std.proofs.Common.{subst, length}
+use Rattle.std.proofs.Common.{subst}
 use Rattle.spread_sets.specs.MemberSets.{AreMemberSets}
 use Rattle.spread_sets.specs.Sources.{KnownSets}
 use Rattle.spread_sets.proofs.Separations.{sets_kept}
@@ -6,5 +6,5 @@ use Rattle.spread_sets.proofs.source.Spreads.keeps.Goals as goal
 
 pub returns-clause-sets : goal.returns-clause-sets
 returns-clause-sets g c = subst (λ (s : KnownSets). AreMemberSets s.problem s.sets) c.self.view_is
-    (sets_kept c.self.inside.problem.now (length c.self.inside.costs.items) c.self.inside.sets.items
-    c.self.invariant.ready)
+    (sets_kept c.self.inside.problem.now c.self.inside.asker.places c.self.inside.sets.items
+    c.self.invariant.asker.trees)

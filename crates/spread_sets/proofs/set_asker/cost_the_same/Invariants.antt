@@ -1,7 +1,7 @@
 use Rattle.std.proofs.Common.{◌≡◌, ◌<◌, ℕ, get_or}
 use Rattle.area_graph.specs.Costs.{cost}
 use Rattle.spread_sets.specs.Spreads.{edges_of}
-use Rattle.spread_sets.proofs.source.cost_the_same.Given as goal
+use Rattle.spread_sets.proofs.set_asker.cost_the_same.Given as goal
 
 -- the first members cost the same
 abbrev pub invariant-loop-member : goal.invariant-loop-member

@@ -2,7 +2,7 @@ use Rattle.std.proofs.Common.{◌≡◌, ◌∙◌, ap, ℕ}
 use Rattle.area_graph.specs.Costs.{cost}
 use Rattle.spread_sets.specs.Spreads.{cost_of_set, edges_of}
 use Rattle.spread_sets.proofs.Separations.{all_tied, not_tied}
-use Rattle.spread_sets.proofs.source.cost_the_same.Goals as goal
+use Rattle.spread_sets.proofs.set_asker.cost_the_same.Goals as goal
 
 pub returns-then-cost_of-first : goal.returns-then-cost_of-first
 returns-then-cost_of-first c =

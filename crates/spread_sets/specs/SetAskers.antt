@@ -1,0 +1,51 @@
+-- What asks for the outsiders of several sets. No public clause cites it.
+use Rattle.std.specs.Prelude.{◌≡◌, ℕ, ◌+◌, ◌<◌, ◌≤◌, List, [], length, slice_index_or, All, Contains, Option, None, Some}
+use Rattle.area_graph.specs.declared.Point.{Point}
+use Rattle.design_problem.specs.Problems.{DesignProblem}
+use Rattle.spf_ties.specs.Distances.{Findings, IsRoomFor}
+use Rattle.rival_separation.specs.Rivals.{HasDistancesBelow}
+use Rattle.spread_sets.specs.declared.member_sets.MemberSet.{MemberSet}
+use Rattle.spread_sets.specs.declared.set_asker.Reach.{Reach}
+use Rattle.spread_sets.specs.MemberSets.{HasTreeWithin}
+use Rattle.spread_sets.specs.Spreads.{cost_of_set, ends_in}
+
+-- what stands for a set past the end
+abbrev pub no_member_set : MemberSet
+no_member_set = record { members = []; tree = [] }
+
+-- the set of a number
+abbrev pub member_set_at : List MemberSet → ℕ → MemberSet
+member_set_at sets k = slice_index_or sets k no_member_set
+
+-- what an outsider of a set costs at least where its members share
+abbrev pub dearer_from : DesignProblem → Point → List ℕ → ℕ
+dearer_from p point set = cost_of_set p point set + point.scale
+
+-- what an asker shows: its room, for how many places of a tree it has room, and the sets' numbers in the order in which they are looked at
+pub record SetAsking : Type 0 where
+  pub room : Findings
+  pub places : ℕ
+  pub order : List ℕ
+
+-- an asker for a problem's sets: it has room for the graph and for each tree, and the number of each set stands in its order
+pub record IsAskerOfSets (p : DesignProblem) (sets : List MemberSet) (asker : SetAsking) : Type 0 where
+  pub room : IsRoomFor p.graph asker.room
+  pub trees : All (HasTreeWithin p asker.places) sets
+  pub known : All (λ k. k < length sets) asker.order
+  pub each : (k : ℕ) → k < length sets → Contains asker.order k
+
+-- the room has the distances to the end of a set's request without the edges that it takes away, those below a limit
+pub record ReachesSet (p : DesignProblem) (point : Point) (sets : List MemberSet) (room : Findings) (reach : Reach) : Type 0 where
+  pub known : reach.set < length sets
+  pub found : HasDistancesBelow p.graph point (ends_in p (member_set_at sets reach.set).members) reach.limit room
+
+-- nothing is known of what the room has, or such distances
+abbrev pub MayReach : DesignProblem → Point → List MemberSet → Findings → Option Reach → Type 0
+MayReach p point sets room None = Unit {0}
+MayReach p point sets room (Some reach) = ReachesSet p point sets room reach
+
+-- the room has the distances up to what the outsiders of a set are compared with
+pub record IsReadyForSet (p : DesignProblem) (point : Point) (sets : List MemberSet) (room : Findings) (k : ℕ) (reach : Reach) : Type 0 where
+  pub of_set : reach.set ≡ k
+  pub reaches : ReachesSet p point sets room reach
+  pub above : dearer_from p point (member_set_at sets k).members ≤ reach.limit
