@@ -1,4 +1,4 @@
-ghost use Rattle.std.specs.Prelude.{◌≡◌, ◌<◌, ◌≤◌, ◌++◌, List, [], ◌∷◌, None, length, map, count_by, not, slice_get, IsTrue, MatchResult, IfOk};
+ghost use Rattle.std.specs.Prelude.{◌≡◌, ◌<◌, ◌≤◌, ◌++◌, List, [], ◌∷◌, None, length, map, count_by, not, slice_get, IsTrue, MatchResult, IfSome, IfOk, IfErr};
 ghost use Rattle.std.specs.List.{list_any};
 ghost use Rattle.cost_base.specs.Lists.{same_bytes};
 ghost use Rattle.lsdb_build.specs.Neighbours.{Port, shares_subnet};
@@ -198,6 +198,7 @@ pub fn refuse_undesignated(
 pub fn refuse_many_configs(configs: &[RouterConfig]) -> Result<(), TopologyStop>
     ensures fault { let fault = at_config TooMany (past 1000 (length configs.now)) in
         MatchResult result (λ _. fault ≡ None) (Tells fault) }
+    ensures refused { IfErr result (λ stop. stop ≡ TopologyStop.Refused TooMany 1000 0) }
     ensures few { MatchResult result (λ _. length configs.now ≤ 1000) (λ _. 1000 < length configs.now) }
 {
     if configs.len() > MOST_ROUTERS {
@@ -214,6 +215,8 @@ pub fn refuse_many_configs(configs: &[RouterConfig]) -> Result<(), TopologyStop>
 pub fn refuse_many_ports(ports: &[Port]) -> Result<(), TopologyStop>
     ensures fault { let fault = at_port TooMany (slice_get ports.now 4000) in
         MatchResult result (λ _. fault ≡ None) (Tells fault) }
+    ensures refused { IfErr result (λ stop. IfSome (slice_get ports.now 4000)
+        (λ port. stop ≡ TopologyStop.Refused TooMany port.router port.interface.line)) }
     ensures few { MatchResult result (λ _. length ports.now ≤ 4000) (λ _. 4000 < length ports.now) }
 {
     match ports.get(MOST_INTERFACES) {

@@ -41,6 +41,17 @@ fn link_edges(
     Ok(edges)
 }
 
+/// The edge from a subnet to a router on it, at price 0 (RFC 2328, 16.1).
+fn member_edge(subnet: u32, router: u32) -> Edge
+    ensures { result ≡ record { from = subnet; to = router; price = Zero } }
+{
+    Edge {
+        from: subnet,
+        to: router,
+        price: Price::Zero,
+    }
+}
+
 /// Appends the edges from a subnet to its members' routers, at price 0.
 fn push_members(
     edges: &mut Vec<Edge>,
@@ -52,12 +63,7 @@ fn push_members(
     ensures { OnOk result (edges.new.items ≡ edges.old.items ++ map (λ l. record { from = vertex; to = router_of links.now l; price = Zero }) members.now) }
 {
     for member in members {
-        let edge = Edge {
-            from: vertex,
-            to: links[*member as usize].router,
-            price: Price::Zero,
-        };
-        edges.push(edge)?;
+        edges.push(member_edge(vertex, links[*member as usize].router))?;
     }
     Ok(())
 }
