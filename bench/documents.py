@@ -224,13 +224,13 @@ def check_numbers(claims, path="docs/operators.md"):
         claims.claim(number in code, f"{path}:{line}", f"no refusal of the code has the number {number}")
 
 
-MEANING = re.compile(r"^ +(\d+) => at\(?$|^ +(\d+) => at\(", re.M)
+MEANING = re.compile(r'^ +(\d+) => "', re.M)
 
 
-def check_meanings(claims, path="crates/refusal_sentences/src/meanings.rt", page="docs/operators.md"):
+def check_meanings(claims, path="crates/refusal_sentences/src/sayings.rt", page="docs/operators.md"):
     """Each number of the code has a sentence, and a faulty line with its mended form, and no other number has one."""
     code = numbers_of_code()
-    meant = {int(one or other) for one, other in MEANING.findall(text_of(path))}
+    meant = {int(number) for number in MEANING.findall(text_of(path))}
     mended = {int(it) for it in re.findall(r"^\| (\d+) \|", text_of(page).partition("## Faulty lines, mended")[2].partition("\n## ")[0], re.M)}
     for place, told in ((path, meant), (page, mended)):
         for number in sorted(code ^ told):

@@ -61,7 +61,10 @@ fn tell_refusal(rt: &HostRuntime, status: Status, line: &[u8]) {
     {
         return;
     }
-    if let Ok(Some(sentence)) = sentence_of(rt.alloc(), line) {
+    let Ok(Some(sentence)) = sentence_of(rt.alloc(), line) else {
+        return;
+    };
+    if let Ok(sentence) = str::from_utf8(sentence.as_bytes()) {
         let _written = eprintln!(rt; "{sentence}");
     }
 }

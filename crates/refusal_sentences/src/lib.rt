@@ -2,7 +2,10 @@
 #![tactic(auto)]
 
 mod first_piece;
-mod meanings;
+mod line;
+mod meaning;
+mod place;
+mod sayings;
 mod sentence;
 
 pub use first_piece::FirstPiece;

@@ -4,15 +4,19 @@
 #![tactic(auto)]
 
 use refusal_sentences::sentence_of;
-use std::io;
+use std::io::{self, ErrorKind};
 
 fn main(rt: HostRuntime) -> io::Result<()> {
     let alloc = rt.alloc();
     for line in rt.lines(alloc) {
         let line = line?;
-        match sentence_of(alloc, line.as_bytes())? {
-            Some(sentence) => println!(rt; "{line} = {sentence}")?,
-            None => println!(rt; "{line}")?,
+        let told = sentence_of(alloc, line.as_bytes()).map_err(|_| ErrorKind::OutOfMemory)?;
+        match told
+            .as_ref()
+            .map(|sentence| str::from_utf8(sentence.as_bytes()))
+        {
+            Some(Ok(sentence)) => println!(rt; "{line} = {sentence}")?,
+            _ => println!(rt; "{line}")?,
         }
     }
     Ok(())
