@@ -1,5 +1,5 @@
 -- The line of a place's form, by what the kernel holds.
-use Rattle.std.proofs.Common.{◌≡◌, ℕ, zero, suc, ◌+◌, ◌*◌, ◌/◌, ◌^◌, ◌<◌, ◌≤◌, refl, sym, subst, ◌∙◌, ap, List, [], ◌∷◌, map, length, arith, FitsSigned, w64, to_z, of_z, true, false}
+use Rattle.std.proofs.Common.{◌≡◌, ℕ, ◌+◌, ◌*◌, ◌/◌, ◌^◌, ◌<◌, ◌≤◌, refl, sym, subst, ◌∙◌, ap, List, [], ◌∷◌, length, arith, FitsSigned, w64, to_z, of_z, true, false}
 use Rattle.std.specs.Prelude.{ℤ, pos, negsuc, ◌-ℤ◌, ◌*ℤ◌, ◌<ℤ◌, ◌≤ℤ◌, neg_ℤ, nat_abs, slice_index, slice_index_or, All}
 use Rattle.std.specs.Int.Signed.{lt_z, mag, quot_z}
 use Rattle.std.proofs.lemmas.Bool.{ltb-false, ltb-true}
@@ -12,9 +12,8 @@ use Rattle.whole_numbers.proofs.Divisors.{quotient_positive}
 use Rattle.whole_numbers.proofs.Ring.{var, num, neg, ◌⊖◌, ◌⊗◌, ring}
 use Rattle.whole_numbers.proofs.Sizes.{positive_is, size_positive}
 use Rattle.whole_numbers.specs.Lists.{number_at}
-use Rattle.design_problem.specs.declared.form.Form.{Form}
 use Rattle.design_problem.specs.declared.tree.Member.{Member}
-use Rattle.design_problem.specs.declared.tree.Member.TheVariants.{Low, High, Row}
+use Rattle.design_problem.specs.declared.tree.Member.TheVariants.{Low, High}
 use Rattle.design_problem.specs.Forms.{no_form}
 use Rattle.design_problem.specs.Basis.{IsFormOf, member_form}
 use Rattle.fraction_table.specs.Pivots.{member_at}
@@ -24,7 +23,6 @@ use Rattle.integer_pivots.specs.Lines.{IsInLowestTerms, IsLine, IsReduced, no_li
 use Rattle.integer_pivots.specs.Numbers.{AllWithin}
 use Rattle.integer_pivots.proofs.Sizes.{number_within, read, read_number, size_most, wider}
 use Rattle.table_kernel.specs.declared.kernel.Kernel.{Kernel}
-use Rattle.table_kernel.specs.Constants.{constant_of_line}
 use Rattle.table_kernel.specs.Kernels.{IsBounded, IsKernel, IsShaped, width_of}
 use Rattle.table_kernel.specs.Lines.{IsEntering, IsLineTooLarge, KeepsNumbers, StandsForPlace, column_of, factors as factors_pass, factors_of, form_of_place, numbers as numbers_pass, numbers_of_place}
 use Rattle.table_kernel.specs.Numbers.{number_at_column, share_of}
