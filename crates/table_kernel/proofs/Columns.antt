@@ -20,7 +20,7 @@ use Rattle.fraction_table.proofs.Pivots.{members_long}
 use Rattle.fraction_table.proofs.StartingTables.{members_are}
 use Rattle.fraction_table.proofs.theory.Units.{unit_from_lows}
 use Rattle.integer_pivots.specs.Numbers.{AllWithin, product_sum, weight_of}
-use Rattle.integer_pivots.proofs.Sizes.{number_within, size_most}
+use Rattle.integer_pivots.proofs.Sizes.{number_within, size_most, size_of, wider}
 use Rattle.table_kernel.specs.declared.kernel.Kernel.{Kernel}
 use Rattle.integer_pivots.specs.declared.line.Line.{Line}
 use Rattle.integer_pivots.specs.Lines.{IsLine, no_line}
@@ -135,19 +135,12 @@ share_small D line small = omega (arith, small, div-le_self D (nat_abs line.deno
 pub common_small : (k : Kernel) → IsBounded k → nat_abs k.common ≤ 2 ^ 30
 common_small k b = size_most k.common (2 ^ 30) b.positive b.common
 
--- a number of a small line
-pub number_small : (line : Line) → IsLine line → (c : ℕ) → nat_abs (number_at line.numbers c) ≤ 2 ^ 30
-number_small line l c =
-    let most : nat_abs line.reach ≤ 2 ^ 30 = size_at_most line.reach (2 ^ 30) l.reach_positive l.reach in
-    omega (arith, most, number_within (nat_abs line.reach) line.numbers c l.numbers)
-  where
-    size_at_most : (z : ℤ) (n : ℕ) → pos 0 ≤ℤ z → z ≤ℤ pos n → nat_abs z ≤ n
-    size_at_most (pos m) n high low = omega (arith, ints)
-    size_at_most (negsuc m) n high low = absurd (omega (arith, ints))
+-- the numbers of a small line
+pub numbers_small : (line : Line) → IsLine line → AllWithin (2 ^ 30) line.numbers
+numbers_small line l = wider (nat_abs line.reach) (2 ^ 30) line.numbers (size_of line.reach (2 ^ 30) (l.reach_positive, l.reach)) l.numbers
 
-pub reach_small : (line : Line) → IsLine line → AllWithin (2 ^ 30) line.numbers
-reach_small line l c d c_in =
-    subst (λ (z : ℤ). nat_abs z ≤ 2 ^ 30) (get_or_default line.numbers c (pos 0) d c_in) (number_small line l c)
+pub number_small : (line : Line) → IsLine line → (c : ℕ) → nat_abs (number_at line.numbers c) ≤ 2 ^ 30
+number_small line l c = number_within (2 ^ 30) line.numbers c (numbers_small line l)
 
 -- the number of a small line over the common denominator
 pub scaled_within : (D : ℕ) (line : Line) (c : ℕ) → IsLine line → D ≤ 2 ^ 30 → nat_abs (number_at (scaled_line D line) (suc c)) ≤ 2 ^ 60

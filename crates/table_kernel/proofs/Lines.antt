@@ -22,7 +22,7 @@ use Rattle.fraction_table.proofs.Pivots.{row_place}
 use Rattle.integer_pivots.specs.declared.line.Line.{Line}
 use Rattle.integer_pivots.specs.Lines.{IsInLowestTerms, IsLine, IsReduced, no_line}
 use Rattle.integer_pivots.specs.Numbers.{AllWithin}
-use Rattle.integer_pivots.proofs.Sizes.{number_within, read, read_number, size_most, wider}
+use Rattle.integer_pivots.proofs.Sizes.{number_within, product_small, read, read_number, size_most, size_of}
 use Rattle.table_kernel.specs.declared.kernel.Kernel.{Kernel}
 use Rattle.table_kernel.specs.Constants.{constant_of_line}
 use Rattle.table_kernel.specs.Kernels.{IsBounded, IsKernel, IsShaped, width_of}
@@ -30,15 +30,10 @@ use Rattle.table_kernel.specs.Lines.{IsEntering, IsLineTooLarge, KeepsNumbers, S
 use Rattle.table_kernel.specs.Numbers.{number_at_column, share_of}
 use Rattle.table_kernel.specs.Turns.{line_of}
 use Rattle.table_kernel.proofs.Columns.{column_at, column_long, common_small, high_number_in, line_small, low_number_in}
-use Rattle.table_kernel.proofs.LineSums.{product_small}
 use Rattle.table_kernel.proofs.PlaceConstants.{high_place_constant, low_place}
 use Rattle.table_kernel.proofs.Restated.{line_number}
 use Rattle.table_kernel.proofs.SameButRoom.{rebuilt}
-
--- a number that isn't negative is no greater in size
-pub size_at_most : (z : ℤ) (n : ℕ) → pos 0 ≤ℤ z → z ≤ℤ pos n → nat_abs z ≤ n
-size_at_most (pos m) n high low = omega (arith, ints)
-size_at_most (negsuc m) n high low = absurd (omega (arith, ints))
+use Rattle.table_kernel.proofs.Shares.{constants_short, share_exact}
 
 -- a quotient of positive numbers
 quotient_is : (a b : ℤ) → pos 0 <ℤ a → pos 0 <ℤ b → quot_z a b ≡ pos (nat_abs a / nat_abs b)
@@ -50,9 +45,7 @@ quotient_is (negsuc a) b a_high b_high = absurd (omega (arith, ints))
 pub share_times : (common denominator : ℤ) → pos 0 <ℤ common → pos 0 <ℤ denominator →
     nat_abs denominator ∣ nat_abs common → (pos (nat_abs common / nat_abs denominator) *ℤ denominator) ≡ common
 share_times common denominator high positive divides =
-    ap (λ (z : ℤ). pos (nat_abs common / nat_abs denominator) *ℤ z) (positive_is denominator positive)
-    ∙ ap pos (div-mul_cancel (nat_abs denominator) divides)
-    ∙ sym (positive_is common high)
+    share_exact (nat_abs common) denominator positive divides ∙ sym (positive_is common high)
 
 -- no divisor is greater
 pub divisor_least : (d n : ℕ) → 0 < n → d ∣ n → d ≤ n
@@ -114,16 +107,13 @@ denominator_read line l =
     let small : nat_abs line.denominator ≤ 2 ^ 30 = size_most line.denominator (2 ^ 30) l.positive l.denominator in
     (small, read_number line.denominator (omega (arith, small)))
 
--- as are numbers
-pub numbers_small : (line : Line) → IsLine line → AllWithin (2 ^ 30) line.numbers
-numbers_small line l = wider (nat_abs line.reach) (2 ^ 30) line.numbers (size_at_most line.reach (2 ^ 30) l.reach_positive l.reach) l.numbers
-
+-- as is its reach
 pub reach_read : (line : Line) → IsLine line → read line.reach ≡ line.reach
-reach_read line l = read_number line.reach (omega (arith, size_at_most line.reach (2 ^ 30) l.reach_positive l.reach))
+reach_read line l = read_number line.reach (omega (arith, size_of line.reach (2 ^ 30) (l.reach_positive, l.reach)))
 
 -- and a share
 pub share_size : (z : ℤ) → pos 1 ≤ℤ z → z ≤ℤ pos (2 ^ 30) → nat_abs z ≤ 2 ^ 30
-share_size z high low = size_at_most z (2 ^ 30) (omega (arith, ints, high)) low
+share_size z high low = size_of z (2 ^ 30) (omega (arith, ints, high), low)
 
 pub read_share : (z : ℤ) → pos 1 ≤ℤ z → z ≤ℤ pos (2 ^ 30) → read z ≡ z
 read_share z high low = read_number z (omega (arith, share_size z high low))
@@ -174,14 +164,7 @@ read_common z within = read_number z (omega (arith, size_most z (2 ^ 30) within.
 
 -- its constant is within 2^44
 pub constant_small : (k : Kernel) → IsShaped k → IsBounded k → (v : ℕ) → v < width_of k → nat_abs (line_of k v).constant ≤ 2 ^ 44
-constant_small k s b v v_in =
-    let there : v < length k.lows.items = omega (arith, v_in, s.lows) in
-    let low = b.low v no_line there in
-    let some : 1 ≤ share_of (nat_abs k.common) (line_of k v) =
-    quotient_positive (nat_abs k.common) (nat_abs (line_of k v).denominator) (size_positive k.common b.positive) (b.divides v no_line there) in
-    let c = nat_abs (line_of k v).constant in
-    let least : c * 1 ≤ c * share_of (nat_abs k.common) (line_of k v) = mul-le-mul_left c some in
-    omega (arith, low, least)
+constant_small k s b v v_in = constants_short k b v no_line (omega (arith, v_in, s.lows))
 
 -- a range times a denominator, less a constant, as code reads them
 module _ (r d : ℤ) (r_small : nat_abs r < 2 ^ 27) (d_small : nat_abs d ≤ 2 ^ 30) where
@@ -360,10 +343,6 @@ module _ (k : Kernel) (place part : ℕ) (old new : Line) (r : IsReduced old new
         reach = small;
         numbers = within;
       }
-
--- a result that 64 bits hold is read as it is
-pub read_held : (z : ℤ) → mag z < 2 ^ 63 → read z ≡ z
-read_held z small = to_z-of_z w64 z (record { sfits = small })
 
 -- a test of what is read
 pub limit_passed : (m : ℕ) (z : ℤ) → pos 0 ≤ℤ z → nat_abs z < 2 ^ 63 → lt_z (pos m) (read z) ≡ true → m < nat_abs z

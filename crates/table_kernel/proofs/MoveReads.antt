@@ -1,15 +1,8 @@
 -- The constants of lines that move, as code reads them.
 use Rattle.std.proofs.Common.{◌≡◌, ℕ, ◌+◌, ◌*◌, ◌^◌, ◌<◌, ◌≤◌, ◌∙◌, ap, subst, sym, arith, w64, FitsSigned}
 use Rattle.std.specs.Prelude.{ℤ, ◌+ℤ◌, ◌-ℤ◌, ◌*ℤ◌, nat_abs}
-use Rattle.std.proofs.lemmas.Int.{fits_signed_from_abs, ints}
-use Rattle.integer_pivots.proofs.Sizes.{read, read_number}
-use Rattle.table_kernel.proofs.TermSums.{product_small}
-
-sum_small : (m n : ℕ) (x y : ℤ) → nat_abs x ≤ m → nat_abs y ≤ n → nat_abs (x +ℤ y) ≤ m + n
-sum_small m n x y x_small y_small = omega (arith, ints, x_small, y_small)
-
-difference_small : (m n : ℕ) (x y : ℤ) → nat_abs x ≤ m → nat_abs y ≤ n → nat_abs (x -ℤ y) ≤ m + n
-difference_small m n x y x_small y_small = omega (arith, ints, x_small, y_small)
+use Rattle.std.proofs.lemmas.Int.{fits_signed_from_abs}
+use Rattle.integer_pivots.proofs.Sizes.{difference_small, product_small, read, read_number, sum_small}
 
 -- a product with a fall
 product_read : (a b : ℤ) → nat_abs a ≤ 2 ^ 30 → nat_abs b ≤ 2 ^ 30 → (read a *ℤ read b) ≡ (a *ℤ b)

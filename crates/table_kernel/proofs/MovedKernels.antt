@@ -35,7 +35,7 @@ use Rattle.table_kernel.proofs.Columns.{column_at, column_long, column_number, c
 use Rattle.table_kernel.proofs.MovedBases.{IsBasisMove, basis_moved, high_move, low_move, members_put}
 use Rattle.table_kernel.proofs.MovedLines.{AreLinesMoved, all_moved, high_lines_moved, high_lows, limit_after, line_moved, low_lines_moved, low_lows, room_after, rows_kept}
 use Rattle.table_kernel.proofs.Places.{low_total}
-use Rattle.table_kernel.proofs.Shares.{share_whole}
+use Rattle.table_kernel.proofs.Shares.{share_exact}
 use Rattle.table_kernel.proofs.UnboxedBases.{large_top, unboxed_any}
 
 -- the kernel after the move: it differs in its box, its basis and the constants of its lines
@@ -231,7 +231,8 @@ low_moves k s m v bound now v_in keeps costs_same sh now_is may =
       lines = subst (AreLinesMoved (nat_abs fall) k.lows.items) (sym sh.lines) (low_lines_moved (nat_abs fall) v k.lows.items sh.column fall there refl);
     })
     (ap (map (scaled_line D)) sh.lines
-    ∙ low_lows D v k.lows.items sh.column fall there (share_whole k m v v_in)
+    ∙ low_lows D v k.lows.items sh.column fall there (share_exact D (line_of k v).denominator
+    (m.bounded.lines v no_line there).positive (m.bounded.divides v no_line there))
     (λ j column_is. own_line k m v j v_in (subst (IsColumnOf k.table.basis.items (Low v (slice_index costs.low v))) column_is sh.basis.found)))
     may
 

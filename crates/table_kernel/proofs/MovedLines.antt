@@ -173,12 +173,12 @@ raised_all D column fall (line ∷ lines) =
     ∙ ap (λ (rows : List (List ℤ)). raised column fall (scaled_line D line) ∷ rows) (raised_all D column fall lines)
 
 -- one whose own form falls
-lowered_scaled : (D : ℕ) (fall : ℤ) (line : Line) → (line.denominator *ℤ pos (share_of D line)) ≡ pos D →
+lowered_scaled : (D : ℕ) (fall : ℤ) (line : Line) → (pos (share_of D line) *ℤ line.denominator) ≡ pos D →
     scaled_line D (with_constant line (line.constant -ℤ (line.denominator *ℤ fall))) ≡ lowered (pos D *ℤ fall) (scaled_line D line)
 lowered_scaled D fall line whole =
     let s = pos (share_of D line) in
     ap (λ (z : ℤ). z ∷ map (λ z. z *ℤ s) line.numbers)
-    (ring (line.constant ∷ line.denominator ∷ fall ∷ s ∷ []) ((var 0 ⊖ var 1 ⊗ var 2) ⊗ var 3) (var 0 ⊗ var 3 ⊖ (var 1 ⊗ var 3) ⊗ var 2) refl
+    (ring (line.constant ∷ line.denominator ∷ fall ∷ s ∷ []) ((var 0 ⊖ var 1 ⊗ var 2) ⊗ var 3) (var 0 ⊗ var 3 ⊖ (var 3 ⊗ var 1) ⊗ var 2) refl
     ∙ ap (λ (z : ℤ). (line.constant *ℤ s) -ℤ (z *ℤ fall)) whole)
 
 -- one of the basis: its constant is 0, and its number in its own column the denominator
@@ -198,7 +198,7 @@ row_there D v lines v_in = get_or-map (scaled_line D) lines v no_line [] v_in
 
 -- what the lines of x - low are over the common denominator after a lower bound moved
 pub low_lows : (D v : ℕ) (lines : List Line) (column : Option ℕ) (fall : ℤ) → v < length lines →
-    ((slice_index_or lines v no_line).denominator *ℤ pos (share_of D (slice_index_or lines v no_line))) ≡ pos D →
+    (pos (share_of D (slice_index_or lines v no_line)) *ℤ (slice_index_or lines v no_line).denominator) ≡ pos D →
     ((j : ℕ) → column ≡ Some j → (((slice_index_or lines v no_line).constant *ℤ pos (share_of D (slice_index_or lines v no_line))) ≡ pos 0)
     × ((number_at (slice_index_or lines v no_line).numbers j *ℤ pos (share_of D (slice_index_or lines v no_line))) ≡ pos D)) →
     map (scaled_line D) (lines_after_low lines column v fall) ≡ lowered_rows v (pos D *ℤ fall) (raised_rows column fall (map (scaled_line D) lines))

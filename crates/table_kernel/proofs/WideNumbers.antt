@@ -7,7 +7,8 @@ use Rattle.whole_numbers.proofs.Ring.{var, num, neg, ◌⊖◌, ring}
 use Rattle.std.proofs.Common.{[], ◌∷◌, refl}
 use Rattle.whole_numbers.specs.Lists.{number_at}
 use Rattle.design_problem.specs.declared.form.Term.{Term}
-use Rattle.table_kernel.proofs.LineSums.{IsPartSum, product_small, summed_more}
+use Rattle.integer_pivots.proofs.Sizes.{product_small}
+use Rattle.table_kernel.proofs.LineSums.{IsPartSum, summed_more}
 
 -- what is read of 128 bits into which the number is put
 abbrev pub read_of : ℤ → ℤ

@@ -36,7 +36,7 @@ module _ (c : After-share) where
 
   constant_is : c.from.result ≡ nat_abs (line_of c.args.self.now c.args.var).constant
   constant_is =
-      let short = constants_short c.args.self.now (kernel_moves c.args.self.now c.requires.kernel) c.args.var no_line (omega (arith, c.requires.var, c.requires.kernel.shaped.lows)) in
+      let short = constants_short c.args.self.now c.requires.kernel.bounded c.args.var no_line (omega (arith, c.requires.var, c.requires.kernel.shaped.lows)) in
       c.from.ensures
       ∙ c.unsigned_abs.ensures.value
       ∙ ap nat_abs (ap (λ (line : Line). read line.constant) line_is ∙ read_number (line_of c.args.self.now c.args.var).constant (omega (arith, short)))
@@ -52,7 +52,7 @@ module _ (c : After-share) where
 
   whole_small : (c.from.result + nat_abs (read c.args.far) * nat_abs (read c.step.result)) * nat_abs (read c.share.result) < 2 ^ 127
   whole_small =
-      let short = constants_short c.args.self.now (kernel_moves c.args.self.now c.requires.kernel) c.args.var no_line (omega (arith, c.requires.var, c.requires.kernel.shaped.lows)) in
+      let short = constants_short c.args.self.now c.requires.kernel.bounded c.args.var no_line (omega (arith, c.requires.var, c.requires.kernel.shaped.lows)) in
       let far_small : nat_abs (read c.args.far) ≤ 2 ^ 61 = omega (arith, ints, far_is, c.requires.far.0, c.requires.far.1) in
       let step_small : nat_abs (read c.step.result) ≤ 2 ^ 30 =
       omega (arith, ints, ap nat_abs (read_number c.step.result (omega (arith, ints, c.step.ensures.size.0, c.step.ensures.size.1))), c.step.ensures.size.0, c.step.ensures.size.1) in
