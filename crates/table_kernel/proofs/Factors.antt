@@ -9,10 +9,10 @@ use Rattle.std.proofs.lemmas.List.Sums.{sum_by-cons}
 use Rattle.whole_numbers.specs.Lists.{number_at}
 use Rattle.whole_numbers.proofs.Ring.{var, ◌⊗◌, ring}
 use Rattle.design_problem.specs.declared.form.Term.{Term}
-use Rattle.design_problem.specs.Forms.{terms_from, no_term}
+use Rattle.design_problem.specs.Forms.{terms_from}
 use Rattle.design_problem.proofs.TermLaws.{total, total_from, total_is}
 use Rattle.integer_pivots.specs.declared.line.Line.{Line}
-use Rattle.integer_pivots.specs.Lines.{IsLine, no_line}
+use Rattle.integer_pivots.specs.Lines.{no_line}
 use Rattle.integer_pivots.specs.Numbers.{AllWithin, more_sums, product_sum}
 use Rattle.integer_pivots.proofs.PartSums.{more_at, more_long}
 use Rattle.whole_numbers.proofs.Sizes.{negated_size}

@@ -1,5 +1,4 @@
 -- The columns that are left, as variable by variable is looked at; and the one that is chosen.
-use Prim.Native.Nat.{◌∣◌}
 use native.Mathlib.Nat.{zero-mul}
 use Rattle.std.proofs.Common.{◌≡◌, ℕ, zero, suc, ◌+◌, ◌*◌, ◌^◌, ◌<◌, ◌≤◌, refl, sym, ◌∙◌, ap, subst, List, [], ◌∷◌, map, length, arith, inl, inr, ◌⊎◌}
 use Rattle.std.specs.Prelude.{ℤ, None, Some, pos, negsuc, ◌-ℤ◌, ◌*ℤ◌, ◌<ℤ◌, ◌≤ℤ◌, neg_ℤ, nat_abs, slice_index, slice_index_or, All}
@@ -20,8 +19,8 @@ use Rattle.integer_pivots.specs.Leads.{AreLeads, IsLead}
 use Rattle.integer_pivots.specs.Numbers.{AllWithin}
 use Rattle.integer_pivots.proofs.Narrowing.{has_at}
 use Rattle.integer_pivots.specs.declared.line.Line.{Line}
-use Rattle.integer_pivots.specs.Lines.{IsLine, no_line, rows_of}
-use Rattle.whole_numbers.proofs.Sizes.{positive_is, size_positive}
+use Rattle.integer_pivots.specs.Lines.{no_line, rows_of}
+use Rattle.whole_numbers.proofs.Sizes.{positive_is}
 use Rattle.table_kernel.specs.Choices.{AreColumnsLeft, ComesFirst}
 use Rattle.table_kernel.specs.declared.kernel.Kernel.{Kernel}
 use Rattle.table_kernel.specs.Kernels.{IsBounded, IsKernel, IsShaped, width_of}

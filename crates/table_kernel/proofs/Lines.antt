@@ -1,20 +1,19 @@
 -- The line of a place's form, by what the kernel holds.
-use Rattle.std.proofs.Common.{◌≡◌, ℕ, zero, suc, ◌+◌, ◌*◌, ◌/◌, ◌^◌, ◌<◌, ◌≤◌, refl, sym, subst, ◌∙◌, ap, List, [], ◌∷◌, map, length, arith, FitsSigned, w64, to_z, of_z, true, false}
+use Rattle.std.proofs.Common.{◌≡◌, ℕ, ◌+◌, ◌*◌, ◌/◌, ◌^◌, ◌<◌, ◌≤◌, refl, sym, subst, ◌∙◌, ap, List, [], ◌∷◌, length, arith, FitsSigned, w64, to_z, of_z, true, false}
 use Rattle.std.specs.Prelude.{ℤ, pos, negsuc, ◌-ℤ◌, ◌*ℤ◌, ◌<ℤ◌, ◌≤ℤ◌, neg_ℤ, nat_abs, slice_index, slice_index_or, All}
-use Rattle.std.specs.Int.Signed.{lt_z, mag, quot_z}
+use Rattle.std.specs.Int.Signed.{lt_z, quot_z}
 use Rattle.std.proofs.lemmas.Bool.{ltb-false, ltb-true}
 use Prim.Native.Nat.{◌∣◌}
 use native.Mathlib.Nat.{div-mul_cancel}
 use Rattle.std.proofs.Math.Nat.{div-le_self, mul-le-mul_left, mul_comm}
-use Rattle.std.proofs.lemmas.Int.{fits_signed_from_abs, ints, to_z-of_z, unsigned_abs-mul}
+use Rattle.std.proofs.lemmas.Int.{fits_signed_from_abs, ints, unsigned_abs-mul}
 use Rattle.std.proofs.lemmas.List.{get_or_default}
 use Rattle.whole_numbers.proofs.Divisors.{quotient_positive}
 use Rattle.whole_numbers.proofs.Ring.{var, num, neg, ◌⊖◌, ◌⊗◌, ring}
 use Rattle.whole_numbers.proofs.Sizes.{positive_is, size_positive}
 use Rattle.whole_numbers.specs.Lists.{number_at}
-use Rattle.design_problem.specs.declared.form.Form.{Form}
 use Rattle.design_problem.specs.declared.tree.Member.{Member}
-use Rattle.design_problem.specs.declared.tree.Member.TheVariants.{Low, High, Row}
+use Rattle.design_problem.specs.declared.tree.Member.TheVariants.{Low, High}
 use Rattle.design_problem.specs.Forms.{no_form}
 use Rattle.design_problem.specs.Basis.{IsFormOf, member_form}
 use Rattle.fraction_table.specs.Pivots.{member_at}
@@ -24,7 +23,6 @@ use Rattle.integer_pivots.specs.Lines.{IsInLowestTerms, IsLine, IsReduced, no_li
 use Rattle.integer_pivots.specs.Numbers.{AllWithin}
 use Rattle.integer_pivots.proofs.Sizes.{number_within, product_small, read, read_number, size_most, size_of}
 use Rattle.table_kernel.specs.declared.kernel.Kernel.{Kernel}
-use Rattle.table_kernel.specs.Constants.{constant_of_line}
 use Rattle.table_kernel.specs.Kernels.{IsBounded, IsKernel, IsShaped, width_of}
 use Rattle.table_kernel.specs.Lines.{IsEntering, IsLineTooLarge, KeepsNumbers, StandsForPlace, column_of, factors as factors_pass, factors_of, form_of_place, numbers as numbers_pass, numbers_of_place}
 use Rattle.table_kernel.specs.Numbers.{number_at_column, share_of}

@@ -1,13 +1,12 @@
 -- A kernel after one bound moved.
 use Prim.Native.Nat.{◌∣◌}
 use Rattle.std.specs.declared.alloc.Global.{Global}
-use Rattle.std.proofs.Common.{Vec, ◌≡◌, ℕ, suc, ◌+◌, ◌*◌, ◌^◌, ◌<◌, ◌≤◌, refl, sym, ◌∙◌, ap, subst, List, [], ◌∷◌, map, length, arith}
-use Rattle.std.specs.Prelude.{ℤ, pos, ◌+ℤ◌, ◌-ℤ◌, ◌*ℤ◌, ◌<ℤ◌, ◌≤ℤ◌, Option, Some, nat_abs, slice_index, slice_index_or, slice_set, All}
+use Rattle.std.proofs.Common.{Vec, ◌≡◌, ℕ, suc, ◌+◌, ◌*◌, ◌^◌, ◌<◌, ◌≤◌, refl, sym, ◌∙◌, ap, subst, List, map, length, arith}
+use Rattle.std.specs.Prelude.{ℤ, pos, ◌-ℤ◌, ◌*ℤ◌, ◌<ℤ◌, ◌≤ℤ◌, Option, Some, nat_abs, slice_index, slice_set, All}
 use Rattle.std.proofs.lemmas.Int.{ints}
 use Rattle.std.proofs.lemmas.List.{get_or_default, length-map}
 use Rattle.whole_numbers.specs.Fractions.{Fraction}
 use Rattle.whole_numbers.specs.Lists.{number_at}
-use Rattle.whole_numbers.proofs.Sizes.{positive_is}
 use Rattle.design_problem.specs.declared.form.Form.{Form}
 use Rattle.design_problem.specs.declared.form.CostBox.{CostBox}
 use Rattle.design_problem.specs.declared.tree.Member.{Member}
@@ -16,10 +15,8 @@ use Rattle.design_problem.specs.Basis.{member_form}
 use Rattle.design_problem.specs.Boxes.{with_high, with_low}
 use Rattle.fraction_table.specs.Moves.{IsColumnOf, IsMoved, put_at}
 use Rattle.fraction_table.specs.Tableaus.{moved_basis}
-use Rattle.fraction_table.proofs.MovedTables.{raised_rows}
 use Rattle.fraction_table.proofs.MovedWholes.{column_own}
 use Rattle.fraction_table.proofs.Pivots.{members_long}
-use Rattle.fraction_table.proofs.theory.MovedNumbers.{lowered_rows}
 use Rattle.integer_pivots.specs.declared.line.Line.{Line}
 use Rattle.integer_pivots.specs.Leads.{AreLeads}
 use Rattle.integer_pivots.specs.Lines.{IsLine, no_line, rows_of}

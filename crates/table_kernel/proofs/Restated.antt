@@ -7,7 +7,6 @@ use Rattle.cost_base.specs.Lists.{numbers_from}
 use Rattle.cost_base.proofs.ListLemmas.{get_or-map-numbers_from, length-map-numbers_from, map-numbers_from-agree}
 use Rattle.whole_numbers.specs.Fractions.{Fraction}
 use Rattle.whole_numbers.specs.Lists.{number_at}
-use Rattle.design_problem.specs.declared.form.Form.{Form}
 use Rattle.design_problem.specs.declared.tree.Member.{Member}
 use Rattle.design_problem.specs.declared.tree.Member.TheVariants.{Low}
 use Rattle.design_problem.specs.Basis.{IsFormOf, entry, member_form}

@@ -4,7 +4,6 @@ use native.Mathlib.Nat.{div-mul_cancel}
 use Rattle.std.proofs.Common.{◌≡◌, Bool, ◌↔◌, ℕ, ◌*◌, ◌/◌, ◌^◌, ◌<◌, ◌≤◌, ap, subst, [], ◌∷◌, arith, refl, sym, ◌∙◌}
 use Rattle.std.specs.Prelude.{ℤ, pos, negsuc, ◌*ℤ◌, nat_abs, IsTrue}
 use Rattle.std.proofs.lemmas.Int.{unsigned_abs-mul}
-use Rattle.std.proofs.Math.Nat.{mul-le-mul_left}
 use Rattle.whole_numbers.specs.Fractions.{exact_quotient, gcd}
 use Rattle.whole_numbers.specs.Lists.{number_at}
 use Rattle.whole_numbers.proofs.Divisors.{gcd_is}

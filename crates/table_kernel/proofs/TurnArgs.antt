@@ -1,12 +1,9 @@
 -- What the turn of a line is given, as it is read.
-use Prim.Native.Nat.{◌∣◌}
-use lib.Signed.{quot_z}
-use Rattle.std.proofs.Common.{◌≡◌, ℕ, ◌*◌, ◌/◌, ◌^◌, ◌<◌, ◌≤◌, sym, ◌∙◌, ap, subst, length, arith, w64, to_z, of_z}
-use Rattle.std.specs.Prelude.{ℤ, pos, negsuc, ◌*ℤ◌, nat_abs, ◌<ℤ◌, ◌≤ℤ◌, slice_index_or}
-use Rattle.std.proofs.Math.Nat.{div-le_self, mul-le-mul}
+use Rattle.std.proofs.Common.{◌≡◌, ℕ, ◌*◌, ◌^◌, ◌<◌, ◌≤◌, sym, ◌∙◌, ap, subst, length, arith, w64, to_z, of_z}
+use Rattle.std.specs.Prelude.{ℤ, pos, ◌*ℤ◌, nat_abs, ◌<ℤ◌, ◌≤ℤ◌, slice_index_or}
+use Rattle.std.proofs.Math.Nat.{mul-le-mul}
 use Rattle.std.proofs.lemmas.Int.{ints, unsigned_abs-mul}
 use Rattle.std.proofs.lemmas.List.{get_or_default}
-use Rattle.whole_numbers.proofs.Divisors.{quotient_positive}
 use Rattle.integer_pivots.specs.declared.line.Line.{Line}
 use Rattle.integer_pivots.specs.declared.turn.Turn.{Turn}
 use Rattle.integer_pivots.specs.Turns.{denominator_after}

@@ -1,6 +1,5 @@
 -- The product fits 128 bits.
-use Rattle.std.proofs.Common.{◌^◌, ◌≤◌, ◌∙◌, refl, arith}
-use Rattle.std.specs.Prelude.{nat_abs}
+use Rattle.std.proofs.Common.{◌∙◌, refl, arith}
 use Rattle.integer_pivots.proofs.Sizes.{read_number}
 use Rattle.table_kernel.proofs.WideNumbers.{wide_product_fits, wide_product_is}
 use Rattle.table_kernel.proofs.line.product_of.Goals as goal

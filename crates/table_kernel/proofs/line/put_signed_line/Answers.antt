@@ -1,5 +1,5 @@
 -- One more number is put.
-use Rattle.std.proofs.Common.{◌≡◌, ℕ, ◌+◌, ◌*◌, ◌^◌, ◌<◌, ◌≤◌, ◌∙◌, refl, sym, ap, subst, List, length, arith, FitsSigned, w64}
+use Rattle.std.proofs.Common.{◌≡◌, ℕ, ◌*◌, ◌^◌, ◌<◌, ◌≤◌, ◌∙◌, refl, sym, ap, subst, List, length, arith, FitsSigned, w64}
 use Rattle.std.specs.Prelude.{ℤ, pos, ◌*ℤ◌, nat_abs}
 use Rattle.std.proofs.lemmas.Int.{fits_signed_from_abs, to_z-of_z, unsigned_abs-mul}
 use Rattle.std.proofs.lemmas.List.{length-set}

@@ -1,10 +1,9 @@
 -- One more term's line is added.
-use Rattle.std.proofs.Common.{◌≡◌, ◌+◌, ◌*◌, ◌/◌, ◌^◌, ◌<◌, ◌≤◌, ◌∙◌, sym, ap, subst, List, length, get_or, arith}
+use Rattle.std.proofs.Common.{◌+◌, ◌*◌, ◌/◌, ◌^◌, ◌<◌, ◌≤◌, ◌∙◌, sym, ap, subst, length, get_or, arith}
 use Rattle.std.specs.Prelude.{ℕ, ℤ, pos, ◌*ℤ◌, ◌<ℤ◌, nat_abs, All}
 use Prim.Native.Nat.{◌∣◌}
 use Rattle.whole_numbers.proofs.Divisors.{quotient_positive}
 use Rattle.whole_numbers.proofs.Sizes.{size_positive}
-use Rattle.whole_numbers.specs.Lists.{number_at}
 use Rattle.design_problem.specs.Forms.{no_term}
 use Rattle.integer_pivots.specs.Numbers.{AllWithin, more_sums, product_sum}
 use Rattle.integer_pivots.proofs.PartSums.{more_long}

@@ -1,6 +1,6 @@
 -- The greater of the greatest number and the denominator.
-use Rattle.std.proofs.Common.{◌≡◌, ◌≤◌, ◌<◌, ◌^◌, ◌∙◌, ap, subst, sym, arith}
-use Rattle.std.specs.Prelude.{ℤ, pos, ◌<ℤ◌, nat_abs}
+use Rattle.std.proofs.Common.{◌≡◌, ◌≤◌, ◌^◌, ◌∙◌, ap, subst, sym, arith}
+use Rattle.std.specs.Prelude.{pos, nat_abs}
 use Rattle.std.proofs.Math.Nat.{max-eq_left, max-eq_right}
 use Rattle.std.proofs.lemmas.Int.{ints}
 use Rattle.whole_numbers.proofs.Sizes.{positive_is}

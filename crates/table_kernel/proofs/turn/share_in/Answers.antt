@@ -1,6 +1,6 @@
 -- A quotient of positive numbers.
-use Rattle.std.proofs.Common.{◌^◌, ◌/◌, arith, subst, sym}
-use Rattle.std.specs.Prelude.{ℤ, pos, nat_abs, ◌<ℤ◌, ◌≤ℤ◌}
+use Rattle.std.proofs.Common.{◌^◌, arith, subst, sym}
+use Rattle.std.specs.Prelude.{ℤ, pos, ◌<ℤ◌, ◌≤ℤ◌}
 use Rattle.std.proofs.lemmas.Int.{ints}
 use Rattle.table_kernel.proofs.Lines.{share_most, share_positive, share_read}
 use Rattle.table_kernel.proofs.turn.share_in.Goals as goal

@@ -1,7 +1,6 @@
 -- The entry of x - low is read, that of high - x is its negative, and that of a row is a sum.
 use Rattle.std.proofs.Common.{◌≡◌, ◌^◌, ◌<◌, ◌≤◌, length, ap, sym, subst, ◌∙◌, arith}
-use Rattle.std.specs.Prelude.{ℤ, nat_abs, neg_ℤ, slice_index_or}
-use Rattle.std.proofs.lemmas.Int.{ints}
+use Rattle.std.specs.Prelude.{nat_abs, neg_ℤ}
 use Rattle.std.proofs.lemmas.List.{get_or_default}
 use Rattle.whole_numbers.proofs.Sizes.{negated_size}
 use Rattle.design_problem.specs.declared.form.Form.{Form}

@@ -1,5 +1,5 @@
 -- One more factor is added.
-use Rattle.std.proofs.Common.{◌+◌, ◌^◌, ◌<◌, ◌≤◌, get_or, arith, FitsSigned, w64, to_z}
+use Rattle.std.proofs.Common.{◌+◌, get_or, arith, FitsSigned, w64, to_z}
 use Rattle.std.specs.Prelude.{◌+ℤ◌, ◌*ℤ◌, nat_abs}
 use Rattle.design_problem.specs.Forms.{no_term}
 use Rattle.integer_pivots.proofs.Sizes.{read}

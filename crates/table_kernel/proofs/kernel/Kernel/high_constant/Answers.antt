@@ -1,9 +1,8 @@
 -- No step is too wide.
-use Rattle.std.proofs.Common.{◌≡◌, ℕ, ◌^◌, ◌<◌, ◌≤◌, ◌∙◌, sym, ap, subst, length, arith}
+use Rattle.std.proofs.Common.{◌≡◌, ℕ, ◌^◌, ◌≤◌, ◌∙◌, sym, ap, subst, length, arith}
 use mathlib.Core.Path.{ap₂}
 use Rattle.std.specs.Prelude.{ℤ, pos, ◌-ℤ◌, ◌*ℤ◌, List, nat_abs, slice_index}
 use Rattle.integer_pivots.specs.declared.line.Line.{Line}
-use Rattle.table_kernel.specs.Kernels.{width_of}
 use Rattle.table_kernel.specs.Turns.{line_of}
 use Rattle.table_kernel.proofs.AtBasis.{kernel_basis}
 use Rattle.table_kernel.proofs.Lines.{IsLineRead, constant_small, denominator_read, high_difference, high_fits, high_product, line_read}

@@ -1,6 +1,6 @@
 -- The limit is tested as it is.
 use Rattle.std.proofs.Common.{◌≡◌, ℕ, ◌+◌, ◌*◌, ◌≤◌, ◌<◌, ◌^◌, ◌∙◌, ap, subst, sym, arith}
-use Rattle.std.specs.Prelude.{ℤ, pos, nat_abs}
+use Rattle.std.specs.Prelude.{nat_abs}
 use Rattle.std.proofs.lemmas.Bool.{le-leb, leb-true}
 use Rattle.std.proofs.lemmas.Int.{ints}
 use Rattle.std.proofs.lemmas.List.{get_or_default}
@@ -11,7 +11,6 @@ use Rattle.integer_pivots.proofs.Sizes.{read, read_number}
 use Rattle.table_kernel.specs.Moves.{step_of}
 use Rattle.table_kernel.specs.Numbers.{share_of}
 use Rattle.table_kernel.specs.Turns.{line_of}
-use Rattle.table_kernel.proofs.AtBasis.{kernel_moves}
 use Rattle.table_kernel.proofs.Shares.{constants_short}
 use Rattle.table_kernel.proofs.kernel.Kernel.line_may_move.Goals.{After-share}
 use Rattle.table_kernel.proofs.kernel.Kernel.line_may_move.Goals as goal

@@ -1,10 +1,9 @@
 -- The number times the share fits 128 bits.
-use Rattle.std.proofs.Common.{◌≡◌, ◌^◌, ◌<◌, ◌≤◌, ◌∙◌, sym, ap, subst, List, length, arith}
-use Rattle.std.specs.Prelude.{ℤ, pos, ◌*ℤ◌, nat_abs}
+use Rattle.std.proofs.Common.{◌≡◌, ◌^◌, ◌≤◌, ◌∙◌, sym, ap, subst, List, length, arith}
+use Rattle.std.specs.Prelude.{ℤ, ◌*ℤ◌, nat_abs}
 use Rattle.whole_numbers.specs.Lists.{number_at}
 use Rattle.integer_pivots.specs.declared.line.Line.{Line}
-use Rattle.integer_pivots.proofs.Sizes.{number_within, read, read_number}
-use Rattle.table_kernel.specs.Kernels.{width_of}
+use Rattle.integer_pivots.proofs.Sizes.{number_within, read_number}
 use Rattle.table_kernel.specs.Lines.{column_of}
 use Rattle.table_kernel.specs.Turns.{line_of}
 use Rattle.table_kernel.proofs.AtBasis.{kernel_moves}

@@ -1,10 +1,9 @@
 -- A place's form is that of a bound or of a row.
-use Rattle.std.proofs.Common.{◌≡◌, ◌^◌, ◌<◌, ◌≤◌, ◌∙◌, sym, ap, subst, length, arith}
-use Rattle.std.specs.Prelude.{ℤ, nat_abs}
+use Rattle.std.proofs.Common.{◌≡◌, ◌<◌, ◌∙◌, sym, ap, subst, length, arith}
+use Rattle.std.specs.Prelude.{nat_abs}
 use Rattle.design_problem.specs.Basis.{IsFormOf}
 use Rattle.integer_pivots.specs.declared.line.Line.{Line}
 use Rattle.integer_pivots.proofs.Sizes.{read_known, read_number}
-use Rattle.table_kernel.specs.Kernels.{width_of}
 use Rattle.table_kernel.specs.Turns.{line_of}
 use Rattle.table_kernel.proofs.AtBasis.{kernel_basis}
 use Rattle.table_kernel.proofs.Columns.{place_is}

@@ -1,6 +1,6 @@
 -- The row's numbers are sums of lines.
-use Rattle.std.proofs.Common.{◌≡◌, ◌^◌, ◌<◌, ◌≤◌, ◌∙◌, refl, sym, ap, subst, List, length, map, arith}
-use Rattle.std.specs.Prelude.{ℤ, pos, ◌<ℤ◌, ◌≤ℤ◌, nat_abs, slice_index_or, All, suc}
+use Rattle.std.proofs.Common.{◌≡◌, ◌^◌, ◌≤◌, ◌∙◌, refl, sym, ap, subst, List, length, map, arith}
+use Rattle.std.specs.Prelude.{ℤ, pos, ◌<ℤ◌, ◌≤ℤ◌, nat_abs, All, suc}
 use Prim.Native.Nat.{◌∣◌}
 use Rattle.std.proofs.lemmas.List.{get_or_default}
 use Rattle.whole_numbers.specs.Lists.{number_at}

@@ -1,5 +1,5 @@
 -- The variable's line is put with the sign.
-use Rattle.std.proofs.Common.{◌≡◌, ℕ, ◌<◌, ◌∙◌, refl, sym, ap, subst, length, arith, w64}
+use Rattle.std.proofs.Common.{◌∙◌, refl, sym, ap, arith, w64}
 use Rattle.std.specs.Prelude.{ℤ, ◌*ℤ◌, nat_abs}
 use Rattle.std.proofs.lemmas.Int.{to_z-of_z}
 use Rattle.whole_numbers.specs.Lists.{number_at}

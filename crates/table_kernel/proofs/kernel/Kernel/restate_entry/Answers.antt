@@ -1,5 +1,5 @@
 -- One more number is put.
-use Rattle.std.proofs.Common.{◌≡◌, suc, ◌^◌, ◌<◌, ◌≤◌, ◌∙◌, refl, sym, ap, List, [], length, arith, nat_abs}
+use Rattle.std.proofs.Common.{suc, ◌∙◌, refl, ap, List, [], length, arith, nat_abs}
 use Rattle.std.specs.Prelude.{slice_index_or, slice_set}
 use Rattle.std.proofs.lemmas.List.{get_or_default}
 use Rattle.whole_numbers.specs.Fractions.{Fraction}

@@ -1,5 +1,5 @@
 -- The line has the numbers of the place's form.
-use Rattle.std.proofs.Common.{◌<◌, ap, sym, subst, arith, length}
+use Rattle.std.proofs.Common.{ap, sym, subst, arith, length}
 use Rattle.design_problem.specs.declared.form.CostBox.{CostBox}
 use Rattle.design_problem.specs.Basis.{IsFormOf}
 use Rattle.table_kernel.proofs.Columns.{place_is}

@@ -1,12 +1,11 @@
 -- One more term is added.
-use Rattle.std.proofs.Common.{◌≡◌, ◌+◌, ◌^◌, ◌<◌, ◌≤◌, ◌∙◌, ap, subst, length, get_or, arith, FitsSigned, to_z}
+use Rattle.std.proofs.Common.{◌+◌, ◌^◌, ◌≤◌, ◌∙◌, ap, subst, get_or, arith, FitsSigned, to_z}
 use mathlib.Core.Path.{ap₂}
 use Rattle.std.specs.Int.{w128}
 use Rattle.std.specs.Prelude.{ℤ, ◌+ℤ◌, ◌*ℤ◌, nat_abs}
 use Rattle.std.proofs.Math.Nat.{mul-le-mul_right}
 use Rattle.design_problem.specs.Forms.{no_term}
 use Rattle.integer_pivots.proofs.Sizes.{read_number}
-use Rattle.table_kernel.specs.Kernels.{width_of}
 use Rattle.table_kernel.specs.Lines.{column_of}
 use Rattle.table_kernel.proofs.Columns.{column_long}
 use Rattle.table_kernel.proofs.LineSums.{IsPartSum, summed_all, summed_first, term_part}

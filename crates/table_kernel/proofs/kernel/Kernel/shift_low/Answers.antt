@@ -1,6 +1,6 @@
 -- The constant of the variable's own line falls, or those of all others rise.
 use Rattle.std.proofs.Common.{◌≡◌, ℕ, ◌<◌, ◌≤◌, ◌^◌, ◌∙◌, ap, refl, List, length, subst, sym, arith}
-use Rattle.std.specs.Prelude.{ℤ, ◌-ℤ◌, ◌*ℤ◌, Option, None, nat_abs, slice_index_or, slice_set, All}
+use Rattle.std.specs.Prelude.{ℤ, ◌-ℤ◌, ◌*ℤ◌, Option, None, nat_abs, slice_set, All}
 use Rattle.std.proofs.lemmas.List.{get_or_default}
 use Rattle.design_problem.specs.declared.tree.Member.{Member}
 use Rattle.fraction_table.specs.Moves.{IsColumnOf}
