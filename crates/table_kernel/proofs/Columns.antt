@@ -16,7 +16,6 @@ use Rattle.design_problem.specs.Forms.{no_form, value_for_costs}
 use Rattle.design_problem.specs.Basis.{IsFormOf, member_form, unit}
 use Rattle.fraction_table.specs.Pivots.{member_at}
 use Rattle.fraction_table.specs.ValidTables.{from_lows, number_of_form}
-use Rattle.fraction_table.proofs.Pivots.{members_long}
 use Rattle.fraction_table.proofs.StartingTables.{members_are}
 use Rattle.fraction_table.proofs.theory.Units.{unit_from_lows}
 use Rattle.integer_pivots.specs.Numbers.{AllWithin, product_sum, weight_of}
@@ -40,10 +39,7 @@ from_lows_at (x ∷ cs) (ts ∷ lows) place = ap (λ s. (x *ℤ number_at ts pla
 abbrev pub low_constants : Kernel → List ℤ
 low_constants k = map (λ ts. number_at ts 0) (lows_of k)
 
--- a kernel holds a constant for each variable
-pub lows_few : (k : Kernel) → IsShaped k → length k.lows.items ≤ length k.constants.items
-lows_few k s = omega (arith, s.lows, s.constants, members_long k.table.costs (length k.table.rows.items))
-
+-- the numbers of a form, by those of x - low
 pub column_number : (k : Kernel) (D : ℕ) (low : List ℕ) (f : Form) (c : ℕ) → number_of_form D low (lows_of k) f (suc c) ≡ number_at_column f (column_of k c)
 column_number k D low f c = from_lows_at f.coefficients (lows_of k) (suc c)
 

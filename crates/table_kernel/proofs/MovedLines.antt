@@ -3,7 +3,7 @@ use Rattle.std.proofs.Common.{◌≡◌, ℕ, zero, suc, ◌+◌, ◌*◌, ◌^�
 use Rattle.std.specs.Prelude.{ℤ, pos, ◌+ℤ◌, ◌-ℤ◌, ◌*ℤ◌, Option, None, Some, nat_abs, slice_index_or, slice_set, All}
 use Rattle.std.proofs.Math.Nat.{le-max_left, le-max_right, mul-le-mul_left, mul-le-mul_right}
 use Rattle.std.proofs.lemmas.Bool.{cases_eq}
-use Rattle.std.proofs.lemmas.Int.{ints, unsigned_abs-mul}
+use Rattle.std.proofs.lemmas.Int.{unsigned_abs-mul}
 use Rattle.std.proofs.lemmas.List.{get_or-map, get_or_default, length-map, length-set, map-set}
 use Rattle.whole_numbers.proofs.Ring.{var, num, ◌⊕◌, ◌⊖◌, ◌⊗◌, ring}
 use Rattle.whole_numbers.specs.Lists.{number_at}
@@ -12,6 +12,7 @@ use Rattle.fraction_table.proofs.theory.MovedNumbers.{lowered, lowered_rows, rai
 use Rattle.integer_pivots.specs.declared.line.Line.{Line}
 use Rattle.integer_pivots.specs.Lines.{IsLine, no_line, rows_of}
 use Rattle.integer_pivots.specs.Numbers.{greatest_of}
+use Rattle.integer_pivots.proofs.Sizes.{difference_small, sum_small}
 use Rattle.table_kernel.specs.Moves.{LineMayMove, lines_after_high, lines_after_low, raised_line, step_of, with_constant}
 use Rattle.table_kernel.specs.Numbers.{scaled_line, share_of}
 use Rattle.table_kernel.proofs.Columns.{scaled_at}
@@ -38,12 +39,6 @@ number_step line c =
     let more = le-max_left (greatest_of line.numbers) (nat_abs line.denominator) in
     omega (arith, one, more)
 
-sum_within : (x y : ℤ) (m : ℕ) → nat_abs y ≤ m → nat_abs (x +ℤ y) ≤ nat_abs x + m
-sum_within x y m small = omega (arith, ints, small)
-
-difference_within : (x y : ℤ) (m : ℕ) → nat_abs y ≤ m → nat_abs (x -ℤ y) ≤ nat_abs x + m
-difference_within x y m small = omega (arith, ints, small)
-
 raised_line_moved : (column far : ℕ) (fall : ℤ) (line : Line) → nat_abs fall ≡ far → IsLineMoved far line (raised_line column fall line)
 raised_line_moved column far fall line far_is =
     let times : nat_abs (fall *ℤ number_at line.numbers column) ≡ nat_abs fall * nat_abs (number_at line.numbers column) =
@@ -52,7 +47,7 @@ raised_line_moved column far fall line far_is =
     let is : nat_abs fall * step_of line ≡ far * step_of line = ap (λ (m : ℕ). m * step_of line) far_is in
     record {
       same = refl;
-      size = sum_within line.constant (fall *ℤ number_at line.numbers column) (far * step_of line) (omega (arith, times, most, is));
+      size = sum_small (nat_abs line.constant) (far * step_of line) line.constant (fall *ℤ number_at line.numbers column) (omega arith) (omega (arith, times, most, is));
     }
 
 lowered_line_moved : (far : ℕ) (fall : ℤ) (line : Line) → nat_abs fall ≡ far →
@@ -64,7 +59,7 @@ lowered_line_moved far fall line far_is =
     let is : step_of line * nat_abs fall ≡ far * step_of line = grind (arith, far_is) in
     record {
       same = refl;
-      size = difference_within line.constant (line.denominator *ℤ fall) (far * step_of line) (omega (arith, times, most, is));
+      size = difference_small (nat_abs line.constant) (far * step_of line) line.constant (line.denominator *ℤ fall) (omega arith) (omega (arith, times, most, is));
     }
 
 zero_line_moved : (far : ℕ) (line : Line) → IsLineMoved far line (with_constant line (pos 0))

@@ -1,5 +1,5 @@
 -- The basis after a pivot of a kernel: the turned lines over the new common denominator, each from its own one.
-use Rattle.std.proofs.Common.{◌≡◌, ◌≢◌, ℕ, zero, suc, ◌*◌, ◌/◌, ◌<◌, refl, sym, ◌∙◌, ap, subst, List, [], ◌∷◌, map, length, arith, inl, inr}
+use Rattle.std.proofs.Common.{◌≡◌, ◌≢◌, ℕ, zero, suc, ◌*◌, ◌<◌, refl, sym, ◌∙◌, ap, subst, List, [], ◌∷◌, map, length, arith, inl, inr}
 use Rattle.std.specs.Prelude.{ℤ, pos, negsuc, ◌+ℤ◌, ◌-ℤ◌, ◌*ℤ◌, ◌<ℤ◌, nat_abs, slice_index_or, slice_set}
 use Prim.Native.Nat.{◌∣◌}
 use native.Mathlib.Nat.{div-mul_cancel, zero-mul}
@@ -10,7 +10,7 @@ use Rattle.std.proofs.lemmas.List.{ext_get_or, get_or-map, length-map, length-se
 use Rattle.std.proofs.lemmas.List.Elements.{All-set}
 use Rattle.whole_numbers.specs.Fractions.{exact_quotient, gcd}
 use Rattle.whole_numbers.specs.Lists.{number_at}
-use Rattle.whole_numbers.proofs.Divisors.{gcd_is, quotient_positive}
+use Rattle.whole_numbers.proofs.Divisors.{gcd_is}
 use Rattle.whole_numbers.proofs.FractionLaws.{cancel, over-mul}
 use Rattle.whole_numbers.proofs.Ring.{var, num, neg, ◌⊕◌, ◌⊖◌, ◌⊗◌, ring, ring_by, using, nothing}
 use Rattle.design_problem.specs.declared.form.Form.{Form}
@@ -35,6 +35,7 @@ use Rattle.table_kernel.specs.Bases.{AreAtBasis}
 use Rattle.table_kernel.specs.Numbers.{scaled_line, share_of}
 use Rattle.table_kernel.proofs.AtBasis.{number_scaled, scaled_by}
 use Rattle.table_kernel.proofs.Columns.{line_number, scaled_number}
+use Rattle.table_kernel.proofs.CommonSteps.{turn_positive}
 use Rattle.table_kernel.proofs.Shares.{share_exact}
 
 -- What a pivot needs: the form of a member enters at a column in which it has a positive number, and which is the least
@@ -107,13 +108,6 @@ turn_even y u =
     ap (λ z. m *ℤ z) (sym (over-mul y g (div-mul_cancel g divides.0)))
     ∙ ring (m ∷ q ∷ pos g ∷ []) (var 0 ⊗ (var 1 ⊗ var 2)) (var 1 ⊗ (var 0 ⊗ var 2)) refl
     ∙ ap (λ z. q *ℤ z) (over-mul u g (div-mul_cancel g divides.1))
-
-turn_positive : (y u : ℤ) → pos 0 <ℤ u → pos 0 <ℤ (turn_by y u).multiplier
-turn_positive y (pos n) high =
-    let quotient : 0 < n / gcd (nat_abs y) n =
-    quotient_positive n (gcd (nat_abs y) n) (omega (arith, ints, high)) (gcd_is (nat_abs y) n).1 in
-    omega (arith, ints, quotient)
-turn_positive y (negsuc n) high = absurd (omega (arith, ints, high))
 
 -- A line's number x over d, and y at the pivot's column; the entering line's t and u over f; s and r are how often d and
 -- the new line's e go into D and L. The number after the turn over L is that of the turned row over D and A.
