@@ -1,5 +1,6 @@
 pub mod Numbers
 pub mod Leads
-pub mod Lines
+pub mod Uses
+pub mod Reciprocals
 pub mod Turns
 pub mod Choices

@@ -12,7 +12,8 @@ use Rattle.design_problem.specs.declared.form.Term.{Term}
 use Rattle.design_problem.specs.Forms.{terms_from}
 use Rattle.integer_pivots.proofs.Terms.{term_size, terms_weight}
 use Rattle.integer_pivots.proofs.Sizes.{read_number}
-use Rattle.table_kernel.proofs.LineSums.{IsPartSum, product_small, summed_more, term_part}
+use Rattle.integer_pivots.proofs.Crossings.{product_small}
+use Rattle.table_kernel.proofs.LineSums.{IsPartSum, summed_more, term_part}
 
 -- a product that 64 bits hold is read as it is
 pub read_product : (a b : ℤ) (m n : ℕ) → nat_abs a ≤ m → nat_abs b ≤ n → m < 2 ^ 63 → n < 2 ^ 63 → m * n < 2 ^ 63 →
@@ -50,29 +51,29 @@ weighed_all ts index sum cs past terms w =
     let weight : sum_by term_size ts ≡ sum_by nat_abs cs = ap (sum_by term_size) terms ∙ terms_weight 0 cs in
     omega (arith, ints, w.so_far, none, weight)
 
--- the sum of a row's constants has 60 bits where each is within 44
+-- the sum of a row's constants has 61 bits where each is within 39
 abbrev pub IsGathered : List ℤ → List Term → ℕ → ℤ → Type 0
-IsGathered zs ts index sum = IsPartSum (2 ^ 44) (2 ^ 60) zs ts index sum
+IsGathered zs ts index sum = IsPartSum (2 ^ 39) (2 ^ 61) zs ts index sum
 
 -- one more term, as code reads it
 pub gathered_read : (zs : List ℤ) (ts : List Term) (index : ℕ) (d : Term) (sum added : ℤ) → index < length ts →
-    nat_abs (number_at zs (get_or ts index d).var) ≤ 2 ^ 44 → IsGathered zs ts index sum →
+    nat_abs (number_at zs (get_or ts index d).var) ≤ 2 ^ 39 → IsGathered zs ts index sum →
     added ≡ (to_z w64 (of_z w64 (get_or ts index d).coefficient) *ℤ to_z w64
     (of_z w64 (number_at zs (get_or ts index d).var))) → (nat_abs (sum +ℤ to_z w64 (of_z w64 added)) < 2 ^ 63)
     × IsGathered zs ts (index + 1) (to_z w64 (of_z w64 (sum +ℤ to_z w64 (of_z w64 added))))
 gathered_read zs ts index d sum added index_in small g added_is =
     let c = (get_or ts index d).coefficient in
     let z = number_at zs (get_or ts index d).var in
-    let c_small : nat_abs c ≤ 2 ^ 16 = let part = term_part (2 ^ 44) (2 ^ 60) zs ts index d sum index_in g in omega (arith, part) in
+    let c_small : nat_abs c ≤ 2 ^ 22 = let part = term_part (2 ^ 39) (2 ^ 61) zs ts index d sum index_in g in omega (arith, part) in
     let read : added ≡ (c *ℤ z) =
     added_is
     ∙ ap (λ (x : ℤ). x *ℤ to_z w64 (of_z w64 z)) (read_number c (omega (arith, c_small)))
     ∙ ap (λ (x : ℤ). c *ℤ x) (read_number z (omega (arith, small))) in
-    let size = product_small (2 ^ 16) (2 ^ 44) c z c_small small in
+    let size = product_small (2 ^ 22) (2 ^ 39) c z c_small small in
     let term : to_z w64 (of_z w64 added) ≡ (c *ℤ z) = ap (λ (x : ℤ). to_z w64 (of_z w64 x)) read ∙ read_number (c *ℤ z) (omega (arith, size)) in
-    let more = summed_more (2 ^ 44) (2 ^ 60) zs ts index d sum index_in small g in
+    let more = summed_more (2 ^ 39) (2 ^ 61) zs ts index d sum index_in small g in
     let whole : (sum +ℤ to_z w64 (of_z w64 added)) ≡ (sum +ℤ (c *ℤ z)) = ap (λ (x : ℤ). sum +ℤ x) term in
-    let within : nat_abs (sum +ℤ (c *ℤ z)) ≤ 2 ^ 60 = omega (arith, more.size) in (
+    let within : nat_abs (sum +ℤ (c *ℤ z)) ≤ 2 ^ 61 = omega (arith, more.size) in (
       subst (λ (x : ℤ). nat_abs x < 2 ^ 63) (sym whole) (omega (arith, within)),
       subst (IsGathered zs ts (index + 1)) (sym (ap (λ (x : ℤ). to_z w64 (of_z w64 x)) whole ∙ read_number (sum +ℤ (c *ℤ z)) (omega (arith, within)))) more,
     )

@@ -1,0 +1,17 @@
+use Rattle.integer_pivots.proofs.Reciprocals.{divided_high, divided_low, quotient_fits}
+use Rattle.integer_pivots.proofs.reciprocal.Divisor.divided.Goals as goal
+
+pub overflow_cast-times : goal.overflow_cast-times
+overflow_cast-times c =
+    quotient_fits c.quotient-times.result c.unsigned_abs.result c.args.number c.args.self.number c.requires.whole.0
+    c.requires.reciprocal.positive c.quotient-times.ensures.times c.requires.size c.unsigned_abs.ensures.value c.requires.whole.1
+
+pub returns-then-number-lt0 : goal.returns-then-number-lt0
+returns-then-number-lt0 c =
+    divided_low c.quotient-times.result c.unsigned_abs.result c.args.number c.args.self.number c.requires.whole.0
+    c.requires.reciprocal.positive c.quotient-times.ensures.times c.requires.size c.unsigned_abs.ensures.value c.requires.whole.1 c.if-number-lt0.true
+
+pub returns-else-number-lt0 : goal.returns-else-number-lt0
+returns-else-number-lt0 c =
+    divided_high c.quotient-times.result c.unsigned_abs.result c.args.number c.args.self.number c.requires.whole.0
+    c.requires.reciprocal.positive c.quotient-times.ensures.times c.requires.size c.unsigned_abs.ensures.value c.requires.whole.1 c.if-number-lt0.false
