@@ -53,23 +53,28 @@ module _ (turn : Turn) (column : ℕ) (own : ℤ) (olds line mids aways news : L
       (m.multiplied k k_in ∙ ap (λ (z : ℤ). z *ℤ number_at olds k) (read_number turn.multiplier (let e = m.multiplier in omega (arith, e))))
       (read_number turn.factor (let e = m.factor in omega (arith, e)))
 
-  -- and they are small
-  pub made_within : nat_abs turn.multiplier * greatest_of olds + nat_abs turn.factor * greatest_of line ≤ 2 ^ 30 →
-      nat_abs turn.factor * nat_abs own ≤ 2 ^ 30 → AllWithin (2 ^ 30) news
-  made_within small own_kept i e i_in =
-      subst (λ (z : ℤ). nat_abs z ≤ 2 ^ 30) (sym (get_or_default news i e (pos 0) i_in))
+  -- and they are small where the numbers before are
+  pub made_small : (bound most entering : ℕ) → AllWithin most olds → AllWithin entering line →
+      nat_abs turn.multiplier * most + nat_abs turn.factor * entering ≤ bound →
+      nat_abs turn.factor * nat_abs own ≤ bound → AllWithin bound news
+  made_small bound most entering olds_within line_within small own_kept i e i_in =
+      subst (λ (z : ℤ). nat_abs z ≤ bound) (sym (get_or_default news i e (pos 0) i_in))
       (elim (cases_eq i column) [
         | inl same ↦ omega (arith, ap nat_abs (ap (number_at news) same ∙ made_own), unsigned_abs-mul turn.factor own, own_kept)
         | inr other ↦ omega (
           arith,
           ap nat_abs (made_others i (omega (arith, i_in, made_count)) other),
-          difference_small (nat_abs turn.multiplier * greatest_of olds) (nat_abs turn.factor * greatest_of line)
+          difference_small (nat_abs turn.multiplier * most) (nat_abs turn.factor * entering)
               (turn.multiplier *ℤ number_at olds i) (turn.factor *ℤ number_at line i)
-              (product_size turn.multiplier (number_at olds i) (greatest_of olds) (number_within (greatest_of olds) olds i (greatest_within olds)))
-              (product_size turn.factor (number_at line i) (greatest_of line) (number_within (greatest_of line) line i (greatest_within line))),
+              (product_size turn.multiplier (number_at olds i) most (number_within most olds i olds_within))
+              (product_size turn.factor (number_at line i) entering (number_within entering line i line_within)),
           small,
         )
       ])
+
+  pub made_within : nat_abs turn.multiplier * greatest_of olds + nat_abs turn.factor * greatest_of line ≤ 2 ^ 30 →
+      nat_abs turn.factor * nat_abs own ≤ 2 ^ 30 → AllWithin (2 ^ 30) news
+  made_within = made_small (2 ^ 30) (greatest_of olds) (greatest_of line) (greatest_within olds) (greatest_within line)
 
 -- multiplied numbers are within 2^61
 pub multiplied_within : (m : ℤ) (olds mids : List ℤ) → nat_abs m ≤ 2 ^ 30 → AllWithin (2 ^ 30) olds → length mids ≡ length olds →

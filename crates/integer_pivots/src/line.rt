@@ -6,7 +6,7 @@ ghost use Rattle.whole_numbers.specs.Lists.{number_at};
 ghost use Rattle.integer_pivots.specs.Lines.{IsInLowestTerms, IsReduced};
 ghost use Rattle.integer_pivots.specs.Numbers.{AllWithin};
 
-use crate::bounds::greatest;
+use crate::bounds::{ENTRY_LIMIT, greatest};
 use cost_base::Listed;
 use whole_numbers::greatest_common_divisor;
 
@@ -126,5 +126,28 @@ impl Line {
         let part = self.common_part();
         self.put_over(part);
         self.reach = greatest(self.numbers.as_slice());
+    }
+
+    /// Brings a line into lowest terms, no number of which passes a size. Over 1 it is so as it stands, and its reach is that
+    /// size, unless that is too large.
+    pub(crate) fn lower(&mut self, most: i64)
+        requires positive { pos 0 <ℤ self.old.denominator }
+        requires denominator { nat_abs self.old.denominator ≤ 2 ^ 62 }
+        requires constant { nat_abs self.old.constant ≤ 2 ^ 62 }
+        requires sizes { AllWithin (2 ^ 30) self.old.numbers }
+        requires from_zero { pos 0 ≤ℤ most }
+        requires most { AllWithin (nat_abs most) self.old.numbers }
+        ensures reduced { (part : ℕ) × IsReduced self.old self.new part }
+        ensures positive { pos 0 <ℤ self.new.denominator }
+        ensures lowest { IsInLowestTerms self.new }
+        ensures reach_positive { pos 0 ≤ℤ self.new.reach }
+        ensures reach { nat_abs self.new.reach ≤ 2 ^ 30 }
+        ensures within { AllWithin (nat_abs self.new.reach) self.new.numbers }
+    {
+        if self.denominator == 1 && most <= ENTRY_LIMIT {
+            self.reach = most;
+            return;
+        }
+        self.reduce();
     }
 }

@@ -7,7 +7,7 @@ ghost use Rattle.integer_pivots.specs.Lines.{IsInLowestTerms, IsLine};
 ghost use Rattle.integer_pivots.specs.Numbers.{AllWithin};
 ghost use Rattle.integer_pivots.specs.Turns.{AreNonZeros, IsTurnedLine, StaysSmall, turn_at, turn_by, turned_number};
 
-use crate::bounds::{ENTRY_LIMIT, greatest};
+use crate::bounds::{ENTRY_LIMIT, greater_size, greatest};
 use crate::line::{Line, common_with, over};
 use cost_base::Listed;
 
@@ -118,6 +118,22 @@ impl Turn {
         self.multiplier * most + self.factor.abs() * entering <= ENTRY_LIMIT
     }
 
+    /// A size that no number passes in a turn, where those of the line and of the entering one don't pass these, nor the
+    /// entering line's denominator this one.
+    fn most_after(self, most: i64, entering: i64, denominator: i64) -> i64
+        requires multiplier { nat_abs self.multiplier ≤ 2 ^ 30 }
+        requires factor { nat_abs self.factor ≤ 2 ^ 30 }
+        requires most { nat_abs most ≤ 2 ^ 30 }
+        requires entering { nat_abs entering ≤ 2 ^ 30 }
+        requires denominator { nat_abs denominator ≤ 2 ^ 30 }
+        ensures from_zero { pos 0 ≤ℤ result }
+        ensures numbers { nat_abs self.multiplier * nat_abs most + nat_abs self.factor * nat_abs entering ≤ nat_abs result }
+        ensures own { nat_abs self.factor * nat_abs denominator ≤ nat_abs result }
+    {
+        let numbers = (self.multiplier * most).abs() + (self.factor * entering).abs();
+        greater_size(numbers, self.factor * denominator)
+    }
+
     /// A number that has turned, by the entering line's number there.
     fn turned(self, number: i64, entering: i64) -> i128
         requires multiplier { nat_abs self.multiplier ≤ 2 ^ 30 }
@@ -176,6 +192,7 @@ impl Line {
         ensures divides { nat_abs self.new.denominator ∣ (nat_abs self.old.denominator * nat_abs turn.multiplier) }
         ensures lowest { IsInLowestTerms self.new }
     {
+        let most = turn.most_after(self.reach, entering.reach, entering.denominator);
         self.constant = self.constant_after(turn, entering) as i64;
         self.denominator *= turn.multiplier;
         multiply(&mut self.numbers, turn.multiplier);
@@ -186,6 +203,6 @@ impl Line {
             touched,
         );
         self.numbers.set(column, turn.factor * entering.denominator);
-        self.reduce();
+        self.lower(most);
     }
 }

@@ -13,9 +13,9 @@ use Rattle.integer_pivots.specs.Numbers.{AllWithin}
 use Rattle.integer_pivots.specs.Turns.{turned_number}
 use Rattle.integer_pivots.proofs.Sizes.{number_within, positive_size, product_read, read, read_number, size_of, wider}
 use Rattle.integer_pivots.proofs.TurnLaws.{turn_positive, turn_small, wide, wide_number}
-use Rattle.integer_pivots.proofs.TurnedLines.{AreMade, made_count, made_others, made_own, made_within, multiplied_within, product_high, scaled}
+use Rattle.integer_pivots.proofs.TurnedLines.{AreMade, made_count, made_others, made_own, made_small, made_within, multiplied_within, product_high, scaled}
 use Rattle.integer_pivots.proofs.line.Line.turn.Goals as goal
-use Rattle.integer_pivots.proofs.line.Line.turn.Goals.{Start, After-set, After-reduce}
+use Rattle.integer_pivots.proofs.line.Line.turn.Goals.{Start, After-set, After-lower}
 
 reach_small : (c : Start) → (nat_abs c.args.self.now.reach ≤ 2 ^ 30) × (nat_abs c.args.entering.now.reach ≤ 2 ^ 30)
 reach_small c = (
@@ -76,51 +76,59 @@ take_away-requires-clause-factor c =
     let small = (sizes (goal.at.take_away-requires-clause-factor c).Start).1 in
     omega (arith, small, ap nat_abs (read_number c.args.turn.factor (omega (arith, small))))
 
-pub reduce-requires-clause-positive : goal.reduce-requires-clause-positive
-reduce-requires-clause-positive c =
-    let start = (goal.at.reduce-requires-clause-positive c).Start in
+pub lower-requires-clause-positive : goal.lower-requires-clause-positive
+lower-requires-clause-positive c =
+    let start = (goal.at.lower-requires-clause-positive c).Start in
     subst (λ (z : ℤ). pos 0 <ℤ z) (sym (denominator_is start))
     (product_high c.args.self.now.denominator c.args.turn.multiplier c.requires.line.positive (multiplier_positive start))
 
-pub reduce-requires-clause-denominator : goal.reduce-requires-clause-denominator
-reduce-requires-clause-denominator c =
-    let start = (goal.at.reduce-requires-clause-denominator c).Start in
+pub lower-requires-clause-denominator : goal.lower-requires-clause-denominator
+lower-requires-clause-denominator c =
+    let start = (goal.at.lower-requires-clause-denominator c).Start in
     omega (arith, ap nat_abs (denominator_is start), unsigned_abs-mul c.args.self.now.denominator c.args.turn.multiplier, c.requires.denominator)
 
-pub reduce-requires-clause-sizes : goal.reduce-requires-clause-sizes
-reduce-requires-clause-sizes c =
-    let p = goal.at.reduce-requires-clause-sizes c in
-    wider (2 ^ 30) (2 ^ 62) c.set.new.self (omega arith) (within p.After-set (sizes p.Start))
+pub lower-requires-clause-sizes : goal.lower-requires-clause-sizes
+lower-requires-clause-sizes c =
+    let p = goal.at.lower-requires-clause-sizes c in
+    within p.After-set (sizes p.Start)
 
-divides : (c : After-reduce) →
+pub lower-requires-clause-most : goal.lower-requires-clause-most
+lower-requires-clause-most c =
+    let p = goal.at.lower-requires-clause-most c in
+    let most = c.most_after-most.ensures in
+    made_small c.args.turn c.args.column c.args.entering.now.denominator c.args.self.now.numbers c.args.entering.now.numbers
+    c.multiply.new.numbers c.take_away.new.numbers c.set.new.self (made p.After-set (sizes p.Start)) _
+    (nat_abs c.args.self.now.reach) (nat_abs c.args.entering.now.reach) c.requires.line.numbers c.requires.entering.numbers most.numbers most.own
+
+divides : (c : After-lower) →
     read (read c.args.self.now.denominator *ℤ read c.args.turn.multiplier) ≡ (c.args.self.now.denominator *ℤ c.args.turn.multiplier) →
-    nat_abs c.reduce.new.self.denominator ∣ (nat_abs c.args.self.now.denominator * nat_abs c.args.turn.multiplier)
+    nat_abs c.lower.new.self.denominator ∣ (nat_abs c.args.self.now.denominator * nat_abs c.args.turn.multiplier)
 divides c is =
-    let r = c.reduce.ensures.reduced in
-    subst (λ (n : ℕ). nat_abs c.reduce.new.self.denominator ∣ n)
-    (sym (unsigned_abs-mul c.reduce.new.self.denominator (pos r.0))
+    let r = c.lower.ensures.reduced in
+    subst (λ (n : ℕ). nat_abs c.lower.new.self.denominator ∣ n)
+    (sym (unsigned_abs-mul c.lower.new.self.denominator (pos r.0))
     ∙ ap nat_abs (sym r.1.denominator ∙ is)
     ∙ unsigned_abs-mul c.args.self.now.denominator c.args.turn.multiplier)
-    (dvd-mul_right (nat_abs c.reduce.new.self.denominator) r.0)
+    (dvd-mul_right (nat_abs c.lower.new.self.denominator) r.0)
 
 pub returns-clause-divides : goal.returns-clause-divides
 returns-clause-divides c =
     let p = goal.at.returns-clause-divides c in
-    divides p.After-reduce (denominator_is p.Start)
+    divides p.After-lower (denominator_is p.Start)
 
 pub returns-clause-line : goal.returns-clause-line
 returns-clause-line c =
     let p = goal.at.returns-clause-line c in
     let some = product_positive (nat_abs c.args.self.now.denominator) (nat_abs c.args.turn.multiplier)
     (size_positive c.args.self.now.denominator c.requires.line.positive) (size_positive c.args.turn.multiplier (multiplier_positive p.Start)) in
-    let most = le_of_dvd some (divides p.After-reduce (denominator_is p.Start)) in
-    let least = c.reduce.ensures.least (2 ^ 30) (within p.After-set (sizes p.Start)) in
+    let most = le_of_dvd some (divides p.After-lower (denominator_is p.Start)) in
+    let least = c.lower.ensures.reach in
     record {
-      positive = c.reduce.ensures.positive;
-      denominator = omega (arith, ints, most, c.requires.denominator, c.reduce.ensures.positive);
-      reach_positive = c.reduce.ensures.reach_positive;
-      reach = omega (arith, ints, least, c.reduce.ensures.reach_positive);
-      numbers = c.reduce.ensures.within;
+      positive = c.lower.ensures.positive;
+      denominator = omega (arith, ints, most, c.requires.denominator, c.lower.ensures.positive);
+      reach_positive = c.lower.ensures.reach_positive;
+      reach = omega (arith, ints, least, c.lower.ensures.reach_positive);
+      numbers = c.lower.ensures.within;
     }
 
 pub returns-clause-turned : goal.returns-clause-turned
@@ -130,13 +138,13 @@ returns-clause-turned c =
     let t = c.args.turn in
     let old = c.args.self.now in
     let entering = c.args.entering.now in
-    let new = c.reduce.new.self in
-    let part = c.reduce.ensures.reduced.0 in
-    let r = c.reduce.ensures.reduced.1 in
+    let new = c.lower.new.self in
+    let part = c.lower.ensures.reduced.0 in
+    let r = c.lower.ensures.reduced.1 in
     let counted = made_count t c.args.column entering.denominator old.numbers entering.numbers c.multiply.new.numbers c.take_away.new.numbers c.set.new.self m in
     let D_is : (old.denominator *ℤ t.multiplier) ≡ (new.denominator *ℤ pos part) = sym (denominator_is p.Start) ∙ r.denominator in
     record {
-      positive = c.reduce.ensures.positive;
+      positive = c.lower.ensures.positive;
       count = r.count ∙ counted;
       constant = scaled new.constant (turned_number t old.constant entering.constant) (old.denominator *ℤ t.multiplier) new.denominator (pos part) D_is
           (sym (ap (λ (z : ℤ). read (wide z)) c.constant_after.ensures
