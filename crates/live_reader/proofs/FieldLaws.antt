@@ -7,7 +7,7 @@ use Rattle.std.proofs.lemmas.List.{drop_more}
 use Rattle.json.specs.Token.{Token}
 use Rattle.json.specs.Json.{Json, null, boolean, number, string, array, object, Members, no_members, member}
 use Rattle.json.specs.Tree.{json_tokens, members_tokens}
-use Rattle.live_reader.specs.Places.{Stands, Member, members_at, members_of, last_where, member_named}
+use Rattle.live_reader.specs.Places.{Stands, Member, members_at, object_members, last_where, member_named}
 use Rattle.live_reader.specs.Fields.{hex_digit, hex_behind}
 use Rattle.std.specs.List.{list_all}
 use Rattle.live_reader.specs.Walks.{StandsIf}
@@ -37,7 +37,7 @@ last_stands all test start (member name j ms) more e =
     (member_value all start name j ms more e)
 
 pub named_stands : (all : List Token) (test : Member → Bool) (place : ℕ) (j : Json) → Stands all place j →
-    IfThere all (option_and_then (last_where test) (members_of place j))
+    IfThere all (option_and_then (last_where test) (object_members place j))
 named_stands all test place null stands = tt
 named_stands all test place (boolean b) stands = tt
 named_stands all test place (number s) stands = tt
@@ -65,11 +65,11 @@ over f g (Some ms) = refl
 
 -- what is read of the value of a name is what the name says
 pub read_named : {X : Type 0} → (all : List Token) (name : List ℕ) (place at : ℕ) (j : Json) (result : Option X) (read : ℕ → Json → Option X) → Stands all place j →
-    Some at ≡ option_map (λ m. m.place) (option_and_then (member_named name) (members_of place j)) → ((v : Json) → Stands all at v → result ≡ read at v) →
-    result ≡ option_and_then (λ ms. option_and_then (λ m. read m.place m.value) (member_named name ms)) (members_of place j)
+    Some at ≡ option_map (λ m. m.place) (option_and_then (member_named name) (object_members place j)) → ((v : Json) → Stands all at v → result ≡ read at v) →
+    result ≡ option_and_then (λ ms. option_and_then (λ m. read m.place m.value) (member_named name ms)) (object_members place j)
 read_named all name place at j result read stands e says =
-    pick all at result read (option_and_then (member_named name) (members_of place j)) (named_stands all _ place j stands) e says
-    ∙ over (member_named name) (λ m. read m.place m.value) (members_of place j)
+    pick all at result read (option_and_then (member_named name) (object_members place j)) (named_stands all _ place j stands) e says
+    ∙ over (member_named name) (λ m. read m.place m.value) (object_members place j)
 
 some_is : {X : Type 0} (a b : X) → Some a ≡ Some b → a ≡ b
 some_is {X} a b e = ap (or_else a) e
@@ -81,7 +81,7 @@ some_is {X} a b e = ap (or_else a) e
 -- ---- objects inside
 
 pub first_inner : (name : List ℕ) (o : Option (List Member)) →
-    option_and_then (λ ms. option_and_then (λ m. option_map (λ inside. m.place) (members_of m.place m.value)) (member_named name ms)) o
+    option_and_then (λ ms. option_and_then (λ m. option_map (λ inside. m.place) (object_members m.place m.value)) (member_named name ms)) o
     ≡ option_map (λ (found : ℕ × List Member). found.0) (option_and_then (inner name) o)
 first_inner name None = refl
 first_inner name (Some ms) = by_name (member_named name ms)
@@ -90,10 +90,10 @@ first_inner name (Some ms) = by_name (member_named name ms)
     by_value place None = refl
     by_value place (Some inside) = refl
 
-    by_name : (o : Option Member) → option_and_then (λ m. option_map (λ inside. m.place) (members_of m.place m.value)) o
-        ≡ option_map (λ (found : ℕ × List Member). found.0) (option_and_then (λ m. option_map (λ inside. (m.place, inside)) (members_of m.place m.value)) o)
+    by_name : (o : Option Member) → option_and_then (λ m. option_map (λ inside. m.place) (object_members m.place m.value)) o
+        ≡ option_map (λ (found : ℕ × List Member). found.0) (option_and_then (λ m. option_map (λ inside. (m.place, inside)) (object_members m.place m.value)) o)
     by_name None = refl
-    by_name (Some m) = by_value m.place (members_of m.place m.value)
+    by_name (Some m) = by_value m.place (object_members m.place m.value)
 
 -- an object inside is there
 pub record IsInner (all : List Token) (place : ℕ) (found : Option (ℕ × List Member)) : Type 0 where
@@ -102,14 +102,14 @@ pub record IsInner (all : List Token) (place : ℕ) (found : Option (ℕ × List
   pub is : found ≡ Some (place, members_at (place + 1) members)
 
 pub inner_there : (all : List Token) (name : List ℕ) (place at : ℕ) (j : Json) → Stands all place j →
-    Some at ≡ option_map (λ (found : ℕ × List Member). found.0) (option_and_then (inner name) (members_of place j)) → IsInner all at (option_and_then (inner name) (members_of place j))
+    Some at ≡ option_map (λ (found : ℕ × List Member). found.0) (option_and_then (inner name) (object_members place j)) → IsInner all at (option_and_then (inner name) (object_members place j))
 inner_there all name place at j stands e =
-    subst (IsInner all at) (over (member_named name) (λ m. option_map (λ inside. (m.place, inside)) (members_of m.place m.value)) (members_of place j))
-    (by_member (option_and_then (member_named name) (members_of place j)) (named_stands all _ place j stands)
-    (e ∙ sym (ap (option_map (λ (found : ℕ × List Member). found.0)) (over (member_named name) (λ m. option_map (λ inside. (m.place, inside)) (members_of m.place m.value)) (members_of place j)))))
+    subst (IsInner all at) (over (member_named name) (λ m. option_map (λ inside. (m.place, inside)) (object_members m.place m.value)) (object_members place j))
+    (by_member (option_and_then (member_named name) (object_members place j)) (named_stands all _ place j stands)
+    (e ∙ sym (ap (option_map (λ (found : ℕ × List Member). found.0)) (over (member_named name) (λ m. option_map (λ inside. (m.place, inside)) (object_members m.place m.value)) (object_members place j)))))
   where
-    by_value : (m : Member) (v : Json) → Stands all m.place v → Some at ≡ option_map (λ (found : ℕ × List Member). found.0) (option_map (λ inside. (m.place, inside)) (members_of m.place v)) →
-        IsInner all at (option_map (λ inside. (m.place, inside)) (members_of m.place v))
+    by_value : (m : Member) (v : Json) → Stands all m.place v → Some at ≡ option_map (λ (found : ℕ × List Member). found.0) (option_map (λ inside. (m.place, inside)) (object_members m.place v)) →
+        IsInner all at (option_map (λ inside. (m.place, inside)) (object_members m.place v))
     by_value m null s f = absurd (subst IsThere f tt)
     by_value m (boolean b) s f = absurd (subst IsThere f tt)
     by_value m (number t) s f = absurd (subst IsThere f tt)
@@ -124,8 +124,8 @@ inner_there all name place at j stands e =
         }
 
     by_member : (o : Option Member) → IfThere all o →
-        Some at ≡ option_map (λ (found : ℕ × List Member). found.0) (option_and_then (λ m. option_map (λ inside. (m.place, inside)) (members_of m.place m.value)) o) →
-        IsInner all at (option_and_then (λ m. option_map (λ inside. (m.place, inside)) (members_of m.place m.value)) o)
+        Some at ≡ option_map (λ (found : ℕ × List Member). found.0) (option_and_then (λ m. option_map (λ inside. (m.place, inside)) (object_members m.place m.value)) o) →
+        IsInner all at (option_and_then (λ m. option_map (λ inside. (m.place, inside)) (object_members m.place m.value)) o)
     by_member None there f = absurd (subst IsThere f tt)
     by_member (Some m) there f = by_value m m.value there f
 

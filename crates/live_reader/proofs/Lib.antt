@@ -3,6 +3,7 @@ pub mod WalkLaws
 pub mod MemberLaws
 pub mod FieldLaws
 pub mod PlaceLaws
+pub mod EachLaws
 pub mod LsaLaws
 pub mod TextLaws
 pub mod SizeLaws

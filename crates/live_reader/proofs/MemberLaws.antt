@@ -3,7 +3,7 @@ use Rattle.std.proofs.Common.{◌≡◌, ℕ, ◌+◌, List, [], ◌∷◌, ◌+
 use Rattle.std.specs.Prelude.{option_map, T}
 use Rattle.std.specs.Option.{option_or}
 use Rattle.json.specs.Json.{Json, null, boolean, number, string, array, object, Items, Members}
-use Rattle.live_reader.specs.Places.{Member, last_where, members_of, items_of, members_at, items_at}
+use Rattle.live_reader.specs.Places.{Member, last_where, object_members, items_of, members_at, items_at}
 use Rattle.live_reader.specs.Walks.{first_token, opens_object, opens_array}
 
 either : (b : Bool) (m : Member) (found first : Option Member) → option_or (cond b (Some m) found) first ≡ cond b (Some m) (option_or found first)
@@ -33,7 +33,7 @@ some_or d None = d
 some_or d (Some n) = n
 
 -- where a first member is found, an object stands
-pub object_there : (place n : ℕ) (j : Json) → Some n ≡ option_map (λ ms. place + 1) (members_of place j) → (ms : Members) × (j ≡ object ms) × (n ≡ place + 1)
+pub object_there : (place n : ℕ) (j : Json) → Some n ≡ option_map (λ ms. place + 1) (object_members place j) → (ms : Members) × (j ≡ object ms) × (n ≡ place + 1)
 object_there place n null e = absurd (subst IsThere e tt)
 object_there place n (boolean b) e = absurd (subst IsThere e tt)
 object_there place n (number s) e = absurd (subst IsThere e tt)
@@ -54,8 +54,8 @@ none_mapped f None e = refl
 none_mapped f (Some x) e = absurd (subst IsThere (sym e) tt)
 
 -- where none is found, none stands
-pub no_members : (place : ℕ) (j : Json) → None ≡ option_map (λ ms. place + 1) (members_of place j) → members_of place j ≡ None
-no_members place j e = none_mapped _ (members_of place j) e
+pub no_members : (place : ℕ) (j : Json) → None ≡ option_map (λ ms. place + 1) (object_members place j) → object_members place j ≡ None
+no_members place j e = none_mapped _ (object_members place j) e
 
 pub no_items : (place : ℕ) (j : Json) → None ≡ option_map (λ js. place + 1) (items_of place j) → items_of place j ≡ None
 no_items place j e = none_mapped _ (items_of place j) e
@@ -65,7 +65,7 @@ pub never_none : (n : ℕ) → None ≡ Some n → ⊥
 never_none n e = subst IsThere (sym e) tt
 
 -- where an object opens
-pub opened_object : (place : ℕ) (j : Json) → opens_object (first_token j) ≡ true → (ms : Members) × (j ≡ object ms) × (members_of place j ≡ Some (members_at (place + 1) ms))
+pub opened_object : (place : ℕ) (j : Json) → opens_object (first_token j) ≡ true → (ms : Members) × (j ≡ object ms) × (object_members place j ≡ Some (members_at (place + 1) ms))
 opened_object place null e = absurd (subst T (sym e) tt)
 opened_object place (boolean b) e = absurd (subst T (sym e) tt)
 opened_object place (number s) e = absurd (subst T (sym e) tt)
@@ -74,7 +74,7 @@ opened_object place (array js) e = absurd (subst T (sym e) tt)
 opened_object place (object ms) e = (ms, refl, refl)
 
 -- where none does
-pub unopened_object : (place : ℕ) (j : Json) → opens_object (first_token j) ≡ false → members_of place j ≡ None
+pub unopened_object : (place : ℕ) (j : Json) → opens_object (first_token j) ≡ false → object_members place j ≡ None
 unopened_object place null e = refl
 unopened_object place (boolean b) e = refl
 unopened_object place (number s) e = refl

@@ -14,8 +14,8 @@ use Rattle.live_reader.specs.declared.tree.Step.{Step}
 use Rattle.live_reader.specs.declared.stop.ReadStop.{ReadStop}
 use Rattle.live_reader.specs.declared.stop.ReadStop.TheVariants.{Lacks, OutOfMemory}
 use Rattle.live_reader.specs.Stops.{TellsLack}
-use Rattle.live_reader.specs.Places.{Stands, Placed, Member, members_of, members_at, last_where, those_last, member_values}
-use Rattle.live_reader.specs.Walks.{IsStep, HaveSeen, StepOver, StandAt, last_steps}
+use Rattle.live_reader.specs.Places.{Stands, Placed, Member, object_members, members_at, last_where, those_last, member_values}
+use Rattle.live_reader.specs.Walks.{IsStep, HaveSeen, StepOver, StandAt, last_places}
 use Rattle.live_reader.specs.JsonLinks.{link_read, links_behind, links_in}
 use Rattle.live_reader.specs.JsonLsas.{is_quad, names_area, area_member}
 
@@ -44,12 +44,12 @@ stand_if all true place m places more same stands rest = rest
 stand_if all false place m places more same stands rest = (same, stands, rest)
 
 -- the places of those that are the last of their names
-pub last_stand : (all : List Token) (steps : List Step) (members : List Member) → StepOver all steps members → StandAt all (last_steps steps) (member_values (those_last members))
+pub last_stand : (all : List Token) (steps : List Step) (members : List Member) → StepOver all steps members → StandAt all (last_places steps) (member_values (those_last members))
 last_stand all [] [] over = tt
 last_stand all (s ∷ steps) (m ∷ members) over =
-    subst (λ b. StandAt all (cond b (last_steps steps) (s.place ∷ last_steps steps)) (member_values (those_last (m ∷ members))))
+    subst (λ b. StandAt all (cond b (last_places steps) (s.place ∷ last_places steps)) (member_values (those_last (m ∷ members))))
     (sym (ap (λ n. list_any (λ (later : Step). same_bytes n later.name.now) steps) over.0 ∙ same_names all m.name steps members over.3))
-    (stand_if all (list_any (λ (later : Member). same_bytes m.name later.name) members) s.place m (last_steps steps) (those_last members) over.1 over.2
+    (stand_if all (list_any (λ (later : Member). same_bytes m.name later.name) members) s.place m (last_places steps) (those_last members) over.1 over.2
     (last_stand all steps members over.3))
 last_stand all [] (m ∷ members) over = absurd over
 last_stand all (s ∷ steps) [] over = absurd over
@@ -60,7 +60,7 @@ last_stand all (s ∷ steps) [] over = absurd over
 pub record AreGathered (steps : List Step) (left : ℕ) (names : List (List ℕ)) (places : List ℕ) : Type 0 where
   pub within : left ≤ length steps
   pub names_are : (name : List ℕ) → list_any (same_bytes name) names ≡ list_any (λ (later : Step). same_bytes name later.name.now) (drop left steps)
-  pub places_are : places ≡ reverse (last_steps (drop left steps))
+  pub places_are : places ≡ reverse (last_places (drop left steps))
 
 pub none_gathered : (steps : List Step) (names : List (List ℕ)) (places : List ℕ) → names ≡ [] → places ≡ [] → AreGathered steps (length steps) names places
 none_gathered steps names places no_names no_places =
@@ -68,7 +68,7 @@ none_gathered steps names places no_names no_places =
     record {
       within = omega arith;
       names_are = λ name. ap (list_any (same_bytes name)) no_names ∙ sym (ap (list_any (λ (later : Step). same_bytes name later.name.now)) over);
-      places_are = no_places ∙ sym (ap (λ l. reverse (last_steps l)) over);
+      places_are = no_places ∙ sym (ap (λ l. reverse (last_places l)) over);
     }
 
 in_front : (x : ℕ) (xs : List ℕ) → reverse (x ∷ xs) ≡ reverse xs ++ x ∷ []
@@ -102,7 +102,7 @@ left_out steps left step names places some are is there =
     record {
       within = omega (arith, are.within);
       names_are = λ name. are.names_are name ∙ known name here ∙ sym (ap (list_any (λ (later : Step). same_bytes name later.name.now)) front);
-      places_are = are.places_are ∙ sym (ap (λ l. reverse (last_steps l)) front ∙ ap (λ b. reverse (cond b (last_steps (drop left steps)) (step.place ∷ last_steps (drop left steps)))) here);
+      places_are = are.places_are ∙ sym (ap (λ l. reverse (last_places l)) front ∙ ap (λ b. reverse (cond b (last_places (drop left steps)) (step.place ∷ last_places (drop left steps)))) here);
     }
   where
     known : (name : List ℕ) → list_any (λ (later : Step). same_bytes step.name.now later.name.now) (drop left steps) ≡ true →
@@ -130,8 +130,8 @@ kept steps left step names more places some are is new added =
       names_are = λ name. ap (list_any (same_bytes name)) added ∙ any_more (same_bytes name) names step.name.now
           ∙ ap (λ b. same_bytes name step.name.now || b) (are.names_are name)
           ∙ sym (ap (list_any (λ (later : Step). same_bytes name later.name.now)) front);
-      places_are = ap (λ l. l ++ step.place ∷ []) are.places_are ∙ sym (in_front step.place (last_steps (drop left steps)))
-          ∙ sym (ap (λ l. reverse (last_steps l)) front ∙ ap (λ b. reverse (cond b (last_steps (drop left steps)) (step.place ∷ last_steps (drop left steps)))) here);
+      places_are = ap (λ l. l ++ step.place ∷ []) are.places_are ∙ sym (in_front step.place (last_places (drop left steps)))
+          ∙ sym (ap (λ l. reverse (last_places l)) front ∙ ap (λ b. reverse (cond b (last_places (drop left steps)) (step.place ∷ last_places (drop left steps)))) here);
     }
 
 pub emptied : (n : ℕ) → (n ≤ 0) → n ≡ 0
@@ -145,70 +145,6 @@ stand_more all [] [] place j at stands = (refl, stands, tt)
 stand_more all (p ∷ places) (s ∷ seen) place j at stands = (at.0, at.1, stand_more all places seen place j at.2 stands)
 stand_more all [] (s ∷ seen) place j at stands = absurd at
 stand_more all (p ∷ places) [] place j at stands = absurd at
-
--- links in front of what others come to
-abbrev pub links_before : List LsaLink → Result (List LsaLink) ℕ → Result (List LsaLink) ℕ
-links_before links (Err place) = Err place
-links_before links (Ok more) = Ok (links ++ more)
-
--- of the links of values some are read, and the others stand at these places
-pub record AreLinksLeft (all : List Token) (around : ℕ) (places : List ℕ) (links : List LsaLink) (said : List Placed) : Type 0 where
-  pub rest : List Placed
-  pub stand : StandAt all places rest
-  pub told : links_in around said ≡ links_before links (links_in around rest)
-
-no_links_before : (r : Result (List LsaLink) ℕ) → r ≡ links_before [] r
-no_links_before (Ok links) = refl
-no_links_before (Err place) = refl
-
-pub links_begin : (all : List Token) (around : ℕ) (places : List ℕ) (links : List LsaLink) (said : List Placed) → links ≡ [] → StandAt all places said →
-    AreLinksLeft all around places links said
-links_begin all around places links said none stand = record {
-  rest = said;
-  stand = stand;
-  told = no_links_before (links_in around said) ∙ sym (ap (λ l. links_before l (links_in around said)) none);
-}
-
-one_before : (links : List LsaLink) (link : Option LsaLink) (r : Result (List LsaLink) ℕ) →
-    links_before links (links_behind (Ok link) r) ≡ links_before (links ++ option_to_list link) r
-one_before links link (Ok more) = ap Ok (sym (append_assoc links (option_to_list link) more))
-one_before links link (Err place) = refl
-
-pub links_go_on : (all : List Token) (around place : ℕ) (places : List ℕ) (links more : List LsaLink) (link : Option LsaLink) (said : List Placed) →
-    AreLinksLeft all around (place ∷ places) links said → ((j : Json) → Stands all place j → link_read around place (members_of place j) ≡ Ok link) →
-    more ≡ links ++ option_to_list link → AreLinksLeft all around places more said
-links_go_on all around place places links more link said left reads is = by_rest left.rest left.stand left.told
-  where
-    by_rest : (rest : List Placed) → StandAt all (place ∷ places) rest → links_in around said ≡ links_before links (links_in around rest) → AreLinksLeft all around places more said
-    by_rest [] stand told = absurd stand
-    by_rest (p ∷ rest) stand told =
-        let here : link_read around p.place (members_of p.place p.value) ≡ Ok link =
-        subst (λ n. link_read around n (members_of n p.value) ≡ Ok link) stand.0 (reads p.value (subst (λ n. Stands all n p.value) (sym stand.0) stand.1)) in
-        record {
-          rest = rest;
-          stand = stand.2;
-          told = told ∙ ap (λ r. links_before links (links_behind r (links_in around rest))) here ∙ one_before links link (links_in around rest)
-              ∙ ap (λ l. links_before l (links_in around rest)) (sym is);
-        }
-
-pub links_end : (all : List Token) (around : ℕ) (links : List LsaLink) (said : List Placed) → AreLinksLeft all around [] links said → links_in around said ≡ Ok links
-links_end all around links said left = by_rest left.rest left.stand left.told
-  where
-    by_rest : (rest : List Placed) → StandAt all [] rest → links_in around said ≡ links_before links (links_in around rest) → links_in around said ≡ Ok links
-    by_rest [] stand told = told ∙ ap Ok (append-nil links)
-    by_rest (p ∷ rest) stand told = absurd stand
-
-pub links_fail : (all : List Token) (around place lacking : ℕ) (places : List ℕ) (links : List LsaLink) (said : List Placed) →
-    AreLinksLeft all around (place ∷ places) links said → ((j : Json) → Stands all place j → link_read around place (members_of place j) ≡ Err lacking) →
-    links_in around said ≡ Err lacking
-links_fail all around place lacking places links said left reads = by_rest left.rest left.stand left.told
-  where
-    by_rest : (rest : List Placed) → StandAt all (place ∷ places) rest → links_in around said ≡ links_before links (links_in around rest) → links_in around said ≡ Err lacking
-    by_rest [] stand told = absurd stand
-    by_rest (p ∷ rest) stand told =
-        let here : link_read around p.place (members_of p.place p.value) ≡ Err lacking =
-        subst (λ n. link_read around n (members_of n p.value) ≡ Err lacking) stand.0 (reads p.value (subst (λ n. Stands all n p.value) (sym stand.0) stand.1)) in
-        told ∙ ap (λ r. links_before links (links_behind r (links_in around rest))) here
 
 -- ---- the areas
 
@@ -236,19 +172,6 @@ no_area area members seen rest m whole e =
 
 pub some_area : (area : ℕ) (members : List Member) → list_all is_quad members ≡ true → area_member area members ≡ Some (last_where (names_area area) members)
 some_area area members e = ap (λ b. cond b (Some (last_where (names_area area) members)) None) e
-
--- ---- what a stop tells of links
-
-pub links_tell : (all : List Token) (around place : ℕ) (places : List ℕ) (links : List LsaLink) (said : List Placed) (stop : ReadStop) →
-    AreLinksLeft all around (place ∷ places) links said → ((j : Json) → Stands all place j → TellsLack (link_read around place (members_of place j)) stop) →
-    TellsLack (links_in around said) stop
-links_tell all around place places links said (Lacks lacking) left tells = links_fail all around place lacking places links said left tells
-links_tell all around place places links said OutOfMemory left tells = tt
-
--- the places that are left begin with this one
-pub at_place : (all : List Token) (around i d : ℕ) (places : List ℕ) (links : List LsaLink) (said : List Placed) → i < length places →
-    AreLinksLeft all around (drop i places) links said → AreLinksLeft all around (get_or places i d ∷ drop (i + 1) places) links said
-at_place all around i d places links said within left = subst (λ ps. AreLinksLeft all around ps links said) (drop_more places i d within) left
 
 some_is_none : {X P : Type 0} (x : X) → Some x ≡ None → P
 some_is_none {X} x e = absurd (subst {A = Option X} There e tt)

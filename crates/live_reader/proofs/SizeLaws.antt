@@ -16,10 +16,11 @@ use Rattle.lsa_bytes.specs.Grammar.{is_link_type}
 use Rattle.lsa_bytes.specs.Databases.{has_link_types, size_of_lsa}
 use Rattle.lsa_bytes.specs.Instances.{lsas_of}
 use Rattle.live_reader.specs.declared.heads.Head.{Head}
-use Rattle.live_reader.specs.Places.{Placed, Member, members_at, items_at, members_of, items_of, member_named, last_where, those_last, member_values}
+use Rattle.live_reader.specs.Places.{Placed, Member, members_at, items_at, object_members, items_of, member_named, last_where, those_last, member_values}
 use Rattle.live_reader.specs.Fields.{text_of_name}
-use Rattle.live_reader.specs.JsonLinks.{link_kind_of, link_made, link_of_kind, link_said, link_read, links_behind, links_in}
-use Rattle.live_reader.specs.JsonLsas.{head_of, inner, with_links, lsa_with, lsa_read, instances_behind, instances_of_values, items_read, found_read, area_lsas_read, areas_read, states_read, live_lsas, area_member, names_area, is_quad}
+use Rattle.live_reader.specs.EachRead.{said_before}
+use Rattle.live_reader.specs.JsonLinks.{link_kind_of, link_made, link_of_kind, link_said, link_read, links_in}
+use Rattle.live_reader.specs.JsonLsas.{head_of, inner, with_links, lsa_with, lsa_read, instances_of_values, items_read, found_read, area_lsas_read, areas_read, states_read, live_lsas, area_member, names_area, is_quad}
 
 abbrev IsOkay : {X : Type 0} → Result X ℕ → Type 0
 IsOkay (Ok x) = Unit {0}
@@ -94,7 +95,7 @@ link_more n (Some l) links all kind few is = record {
 }
 
 behind_few : (n : ℕ) (r : Result (Option LsaLink) ℕ) (m : Result (List LsaLink) ℕ) (links : List LsaLink) →
-    ((l : LsaLink) → r ≡ Ok (Some l) → is_link_type l.kind ≡ true) → ((ls : List LsaLink) → m ≡ Ok ls → AreFewLinks n ls) → links_behind r m ≡ Ok links → AreFewLinks (suc n) links
+    ((l : LsaLink) → r ≡ Ok (Some l) → is_link_type l.kind ≡ true) → ((ls : List LsaLink) → m ≡ Ok ls → AreFewLinks n ls) → said_before option_to_list r m ≡ Ok links → AreFewLinks (suc n) links
 behind_few n (Err e) m links kind few is = never e links is
 behind_few n (Ok link) (Err e) links kind few is = never e links is
 behind_few n (Ok link) (Ok ls) links kind few is = link_more n link ls links (λ l e. kind l (ap Ok e)) (few ls refl) (okay _ links is)
@@ -102,8 +103,8 @@ behind_few n (Ok link) (Ok ls) links kind few is = link_more n link ls links (λ
 pub links_few : (around : ℕ) (ps : List Placed) (links : List LsaLink) → links_in around ps ≡ Ok links → AreFewLinks (length ps) links
 links_few around [] links is = record { few = omega (arith, ap length (okay _ links is)); types = ap (list_all (λ (l : LsaLink). is_link_type l.kind)) (sym (okay _ links is)) }
 links_few around (p ∷ ps) links is =
-    behind_few (length ps) (link_read around p.place (members_of p.place p.value)) (links_in around ps) links
-    (λ l e. link_kind around p.place (members_of p.place p.value) l e) (λ ls e. links_few around ps ls e) is
+    behind_few (length ps) (link_read around p.place (object_members p.place p.value)) (links_in around ps) links
+    (λ l e. link_kind around p.place (object_members p.place p.value) l e) (λ ls e. links_few around ps ls e) is
 
 -- ---- members
 
@@ -147,7 +148,7 @@ pub record IsSmallInside (n : ℕ) (found : ℕ × List Member) : Type 0 where
   pub is : found.1 ≡ members_at (found.0 + 1) inside
   pub smaller : length (members_tokens inside) < n
 
-small_value : (n place : ℕ) (j : Json) (found : ℕ × List Member) → length (json_tokens j) < n → option_map (λ inside. (place, inside)) (members_of place j) ≡ Some found → IsSmallInside n found
+small_value : (n place : ℕ) (j : Json) (found : ℕ × List Member) → length (json_tokens j) < n → option_map (λ inside. (place, inside)) (object_members place j) ≡ Some found → IsSmallInside n found
 small_value n place null found less is = absurd (subst IsThere (sym is) tt)
 small_value n place (boolean b) found less is = absurd (subst IsThere (sym is) tt)
 small_value n place (number s) found less is = absurd (subst IsThere (sym is) tt)
@@ -156,7 +157,7 @@ small_value n place (array js) found less is = absurd (subst IsThere (sym is) tt
 small_value n place (object ms) found less is =
     subst (IsSmallInside n) (there _ found is) (record { inside = ms; is = refl; smaller = omega (arith, less) })
 
-small_member : (n : ℕ) (o : Option Member) (found : ℕ × List Member) → IsSmaller n o → option_and_then (λ m. option_map (λ inside. (m.place, inside)) (members_of m.place m.value)) o ≡ Some found → IsSmallInside n found
+small_member : (n : ℕ) (o : Option Member) (found : ℕ × List Member) → IsSmaller n o → option_and_then (λ m. option_map (λ inside. (m.place, inside)) (object_members m.place m.value)) o ≡ Some found → IsSmallInside n found
 small_member n None found less is = absurd (subst IsThere (sym is) tt)
 small_member n (Some m) found less is = small_value n m.place m.value found less is
 
@@ -191,7 +192,7 @@ small_with n place None (Some found) lsa small is = never place lsa is
 small_with n place (Some head) None lsa small is = never place lsa is
 small_with n place (Some head) (Some found) lsa small is = small_links n place head found lsa (small found refl) is
 
-lsa_small : (around place : ℕ) (j : Json) (lsa : Instance) → lsa_read around place (members_of place j) ≡ Ok lsa → IsSmallLsa (length (json_tokens j)) lsa.lsa
+lsa_small : (around place : ℕ) (j : Json) (lsa : Instance) → lsa_read around place (object_members place j) ≡ Ok lsa → IsSmallLsa (length (json_tokens j)) lsa.lsa
 lsa_small around place null lsa is = never around lsa is
 lsa_small around place (boolean b) lsa is = never around lsa is
 lsa_small around place (number s) lsa is = never around lsa is
@@ -210,7 +211,7 @@ none_small : (n : ℕ) (lsas : List Instance) → [] ≡ lsas → AreSmallLsas n
 none_small n lsas is = subst (AreSmallLsas n) is (record { types = tt; sizes = omega arith })
 
 one_more : (n k : ℕ) (r : Result Instance ℕ) (m : Result (List Instance) ℕ) (lsas : List Instance) → ((lsa : Instance) → r ≡ Ok lsa → IsSmallLsa n lsa.lsa) →
-    ((ls : List Instance) → m ≡ Ok ls → AreSmallLsas k ls) → instances_behind r m ≡ Ok lsas → AreSmallLsas (n + k) lsas
+    ((ls : List Instance) → m ≡ Ok ls → AreSmallLsas k ls) → said_before (λ lsa. lsa ∷ []) r m ≡ Ok lsas → AreSmallLsas (n + k) lsas
 one_more n k (Err e) m lsas one more is = never e lsas is
 one_more n k (Ok lsa) (Err e) lsas one more is = never e lsas is
 one_more n k (Ok lsa) (Ok ls) lsas one more is =
@@ -222,7 +223,7 @@ lsas_small : (around start : ℕ) (js : Items) (lsas : List Instance) → instan
 lsas_small around start no_items lsas is = none_small 1 lsas (okay _ lsas is)
 lsas_small around start (item j js) lsas is =
     subst (λ n. AreSmallLsas n lsas) (sym (length-append (json_tokens j) (items_tokens js)))
-    (one_more (length (json_tokens j)) (length (items_tokens js)) (lsa_read around start (members_of start j)) (instances_of_values around (items_at (start + length (json_tokens j)) js)) lsas
+    (one_more (length (json_tokens j)) (length (items_tokens js)) (lsa_read around start (object_members start j)) (instances_of_values around (items_at (start + length (json_tokens j)) js)) lsas
     (λ lsa e. lsa_small around start j lsa e) (λ ls e. lsas_small around (start + length (json_tokens j)) js ls e) is)
 
 weaker : (n k : ℕ) (lsas : List Instance) → n ≤ k → AreSmallLsas n lsas → AreSmallLsas k lsas

@@ -11,7 +11,7 @@ use Rattle.json.specs.Tree.{json_tokens, items_tokens, members_tokens}
 use Rattle.json.specs.declared.tape.Node.{Node}
 use Rattle.json.specs.declared.tape.Node.TheVariants.{Object, EndObject, Array, EndArray, Key, String, Number, Bool, Null}
 use Rattle.live_reader.specs.declared.tree.Step.{Step}
-use Rattle.live_reader.specs.Places.{Stands, Placed, Member, members_at, items_at, members_of, items_of}
+use Rattle.live_reader.specs.Places.{Stands, Placed, Member, members_at, items_at, object_members, items_of}
 use Rattle.json.specs.Find.{as_str, as_number}
 use Rattle.live_reader.specs.Walks.{IsStep, IsItemStep, HaveSeen, HaveSeenItems, first_token, opens_object, opens_array}
 use Rattle.live_reader.proofs.TapeLaws.{token_at, within_nodes}
@@ -350,7 +350,7 @@ array_inside all place js stands = (stands.0, behind all place (Token.begin_arra
 
 -- ---- what opens a value
 
-pub is_object : (place : ℕ) (j : Json) → opens_object (first_token j) ≡ true → option_map (λ ms. place + 1) (members_of place j) ≡ Some (place + 1)
+pub is_object : (place : ℕ) (j : Json) → opens_object (first_token j) ≡ true → option_map (λ ms. place + 1) (object_members place j) ≡ Some (place + 1)
 is_object place null e = absurd (subst T (sym e) tt)
 is_object place (boolean b) e = absurd (subst T (sym e) tt)
 is_object place (number s) e = absurd (subst T (sym e) tt)
@@ -358,7 +358,7 @@ is_object place (string s) e = absurd (subst T (sym e) tt)
 is_object place (array js) e = absurd (subst T (sym e) tt)
 is_object place (object ms) e = refl
 
-pub no_object : {X : Type 0} (f : List Member → X) (place : ℕ) (j : Json) → opens_object (first_token j) ≡ false → option_map f (members_of place j) ≡ None
+pub no_object : {X : Type 0} (f : List Member → X) (place : ℕ) (j : Json) → opens_object (first_token j) ≡ false → option_map f (object_members place j) ≡ None
 no_object f place null e = refl
 no_object f place (boolean b) e = refl
 no_object f place (number s) e = refl

@@ -3,7 +3,8 @@ use Rattle.std.specs.Prelude.{ℕ, ◌==◌, List, [], ◌++◌, ◌∷◌, code
 use Rattle.std.specs.Option.{option_and_then}
 use Rattle.cost_base.specs.Lists.{same_bytes}
 use Rattle.lsa_bytes.specs.declared.LsaLink.{LsaLink}
-use Rattle.live_reader.specs.Places.{Member, Placed, members_of}
+use Rattle.live_reader.specs.Places.{Member, Placed}
+use Rattle.live_reader.specs.EachRead.{each_read}
 use Rattle.live_reader.specs.Fields.{text_of_name, quad_named, number_named}
 
 -- the link type of RFC 2328, A.4.2, that a text names; 0 where it is none that counts here
@@ -41,13 +42,6 @@ abbrev pub link_read : ℕ → ℕ → Option (List Member) → Result (Option L
 link_read around place None = Err around
 link_read around place (Some members) = ok_or (link_said members) place
 
--- the links that come behind one
-abbrev pub links_behind : Result (Option LsaLink) ℕ → Result (List LsaLink) ℕ → Result (List LsaLink) ℕ
-links_behind (Err place) more = Err place
-links_behind (Ok link) (Err place) = Err place
-links_behind (Ok link) (Ok links) = Ok (option_to_list link ++ links)
-
 -- the links of values, or the place of the first object that lacks something
 abbrev pub links_in : ℕ → List Placed → Result (List LsaLink) ℕ
-links_in around [] = Ok []
-links_in around (p ∷ more) = links_behind (link_read around p.place (members_of p.place p.value)) (links_in around more)
+links_in around values = each_read option_to_list (link_read around) values

@@ -8,8 +8,9 @@ use Rattle.lsa_bytes.specs.declared.LsaLink.{LsaLink}
 use Rattle.lsa_bytes.specs.declared.Body.TheVariants.{Links}
 use Rattle.lsa_bytes.specs.declared.instances.Instance.{Instance}
 use Rattle.live_reader.specs.declared.heads.Head.{Head}
-use Rattle.live_reader.specs.Places.{Placed, Member, members_of, items_of, member_named, last_where, those_last, member_values}
+use Rattle.live_reader.specs.Places.{Placed, Member, object_members, items_of, member_named, last_where, those_last, member_values}
 use Rattle.live_reader.specs.Fields.{quad_named, number_named, hex_named}
+use Rattle.live_reader.specs.EachRead.{each_read}
 use Rattle.live_reader.specs.JsonLinks.{links_in}
 
 -- what names an LSA and how new it is, where all of it is there
@@ -33,7 +34,7 @@ instance_of place head links = record {
 
 -- the place and the members of the object that is the last member of a name
 abbrev pub inner : List ℕ → List Member → Option (ℕ × List Member)
-inner name members = option_and_then (λ m. option_map (λ inside. (m.place, inside)) (members_of m.place m.value)) (member_named name members)
+inner name members = option_and_then (λ m. option_map (λ inside. (m.place, inside)) (object_members m.place m.value)) (member_named name members)
 
 -- an instance with its links
 abbrev pub with_links : ℕ → Head → Result (List LsaLink) ℕ → Result Instance ℕ
@@ -50,16 +51,9 @@ abbrev pub lsa_read : ℕ → ℕ → Option (List Member) → Result Instance �
 lsa_read around place None = Err around
 lsa_read around place (Some members) = lsa_with place (head_of members) (inner (codes "routerLinks") members)
 
--- the router-LSAs that come behind one
-abbrev pub instances_behind : Result Instance ℕ → Result (List Instance) ℕ → Result (List Instance) ℕ
-instances_behind (Err place) more = Err place
-instances_behind (Ok lsa) (Err place) = Err place
-instances_behind (Ok lsa) (Ok lsas) = Ok (lsa ∷ lsas)
-
 -- the router-LSAs of items, or the place of the first object that lacks something
 abbrev pub instances_of_values : ℕ → List Placed → Result (List Instance) ℕ
-instances_of_values around [] = Ok []
-instances_of_values around (p ∷ more) = instances_behind (lsa_read around p.place (members_of p.place p.value)) (instances_of_values around more)
+instances_of_values around values = each_read (λ lsa. lsa ∷ []) (lsa_read around) values
 
 -- whether a name is a dotted quad, and whether it is that of an area
 abbrev pub is_quad : Member → Bool
@@ -100,4 +94,4 @@ states_read area (Some states) = areas_read area states.0 (inner (codes "areas")
 -- the router-LSAs of an area that a value says, in order; or the place of the first object that lacks a member that is
 -- read here, or has it off its form
 abbrev pub live_lsas : ℕ → Json → Result (List Instance) ℕ
-live_lsas area value = states_read area (option_and_then (inner (codes "routerLinkStates")) (members_of 0 value))
+live_lsas area value = states_read area (option_and_then (inner (codes "routerLinkStates")) (object_members 0 value))

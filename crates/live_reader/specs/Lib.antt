@@ -1,6 +1,7 @@
 pub mod Places
 pub mod Walks
 pub mod Fields
+pub mod EachRead
 pub mod JsonLinks
 pub mod JsonLsas
 pub mod FaultNumbers

@@ -30,13 +30,13 @@ items_at place no_items = []
 items_at place (item value more) = record { place = place; value = value } ∷ items_at (place + length (json_tokens value)) more
 
 -- the members of a value that begins at a place, where it is an object
-abbrev pub members_of : ℕ → Json → Option (List Member)
-members_of place null = None
-members_of place (boolean b) = None
-members_of place (number s) = None
-members_of place (string s) = None
-members_of place (array _) = None
-members_of place (object members) = Some (members_at (place + 1) members)
+abbrev pub object_members : ℕ → Json → Option (List Member)
+object_members place null = None
+object_members place (boolean b) = None
+object_members place (number s) = None
+object_members place (string s) = None
+object_members place (array _) = None
+object_members place (object members) = Some (members_at (place + 1) members)
 
 -- the items of a value that begins at a place, where it is an array
 abbrev pub items_of : ℕ → Json → Option (List Placed)

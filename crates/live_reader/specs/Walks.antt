@@ -76,7 +76,7 @@ StandsIf all (Some place) (Some m) = (place ≡ m.place) × Stands all m.place m
 StandsIf all _ _ = ⊥
 
 -- the places of steps, without those of whose name a later one comes
-abbrev pub last_steps : List Step → List ℕ
-last_steps [] = []
-last_steps (step ∷ more) =
-    if list_any (λ later. same_bytes step.name.now later.name.now) more then last_steps more else step.place ∷ last_steps more
+abbrev pub last_places : List Step → List ℕ
+last_places [] = []
+last_places (step ∷ more) =
+    if list_any (λ later. same_bytes step.name.now later.name.now) more then last_places more else step.place ∷ last_places more

@@ -2,7 +2,7 @@
 ghost use Rattle.std.specs.Prelude.{◌≡◌};
 ghost use Rattle.std.specs.Option.{option_and_then};
 ghost use Rattle.json.specs.Json.{Json};
-ghost use Rattle.live_reader.specs.Places.{Stands, members_of};
+ghost use Rattle.live_reader.specs.Places.{Stands, object_members};
 ghost use Rattle.live_reader.specs.JsonLsas.{head_of, instance_of};
 
 use crate::fields::{hex_named, number_named, quad_named, short_hex_named};
@@ -22,7 +22,7 @@ pub struct Head {
 
 /// What the object at a place says of its LSA.
 pub fn head_at(tape: &Tape<'_>, place: usize) -> Option<Head>
-    ensures { (j : Json) → Stands tape.now place j → result ≡ option_and_then head_of (members_of place j) }
+    ensures { (j : Json) → Stands tape.now place j → result ≡ option_and_then head_of (object_members place j) }
 {
     let id = quad_named(tape, place, b"linkStateId")?;
     let router = quad_named(tape, place, b"advertisingRouter")?;

@@ -2,7 +2,7 @@
 ghost use Rattle.std.specs.Prelude.{◌≡◌, ◌+◌, ◌++◌, List, Ok, MatchResult, OnOk, option_to_list};
 ghost use Rattle.std.specs.Option.{option_and_then};
 ghost use Rattle.json.specs.Json.{Json, object, Members as SpecMembers};
-ghost use Rattle.live_reader.specs.Places.{Placed, Stands, members_at, members_of, those_last, member_values};
+ghost use Rattle.live_reader.specs.Places.{Placed, Stands, members_at, object_members, those_last, member_values};
 ghost use Rattle.live_reader.specs.Walks.{StandAt};
 ghost use Rattle.live_reader.specs.JsonLinks as definition;
 ghost use Rattle.live_reader.specs.JsonLinks.{link_read, links_in};
@@ -49,7 +49,7 @@ fn far_name(kind: u8) -> &'static [u8]
 
 /// The link of a kind that the object at a place says.
 fn link_with(tape: &Tape<'_>, place: usize, kind: u8) -> Option<LsaLink>
-    ensures { (j : Json) → Stands tape.now place j → result ≡ option_and_then (definition.link_with kind) (members_of place j) }
+    ensures { (j : Json) → Stands tape.now place j → result ≡ option_and_then (definition.link_with kind) (object_members place j) }
 {
     let id = quad_named(tape, place, far_name(kind))?;
     let address = quad_named(tape, place, b"routerInterfaceAddress")?;
@@ -85,8 +85,8 @@ fn link_said(tape: &Tape<'_>, place: usize) -> Option<Option<LsaLink>>
 
 /// The link at a place, in an object.
 fn link_at(tape: &Tape<'_>, around: usize, place: usize) -> Result<Option<LsaLink>, ReadStop>
-    ensures { MatchResult result (λ link. (j : Json) → Stands tape.now place j → link_read around place (members_of place j) ≡ Ok link)
-        (λ stop. (j : Json) → Stands tape.now place j → TellsLack (link_read around place (members_of place j)) stop) }
+    ensures { MatchResult result (λ link. (j : Json) → Stands tape.now place j → link_read around place (object_members place j) ≡ Ok link)
+        (λ stop. (j : Json) → Stands tape.now place j → TellsLack (link_read around place (object_members place j)) stop) }
 {
     if !opens_object(tape, place) {
         return Err(ReadStop::Lacks(around));

@@ -2,7 +2,7 @@
 ghost use Rattle.std.specs.Prelude.{List, Option, ◌≡◌, ◌<◌, ◌^◌, codes, length, Ok, MatchResult, option_map};
 ghost use Rattle.std.specs.Option.{option_and_then};
 ghost use Rattle.json.specs.Json.{Json};
-ghost use Rattle.live_reader.specs.Places.{Member, Placed, Stands, items_of, members_of};
+ghost use Rattle.live_reader.specs.Places.{Member, Placed, Stands, items_of, object_members};
 ghost use Rattle.live_reader.specs.JsonLsas.{areas_read, found_read, inner, items_read, live_lsas, lsa_read, instances_of_values};
 ghost use Rattle.live_reader.specs.Walks.{StandAt, StandsIf};
 ghost use Rattle.live_reader.specs.Stops.{TellsLack};
@@ -18,7 +18,7 @@ use std::alloc::Global;
 
 /// The place of the object that is the last member of a name of the object at a place.
 fn inner_place(tape: &Tape<'_>, place: usize, name: &[u8]) -> Option<usize>
-    ensures { (j : Json) → Stands tape.now place j → result ≡ option_map (λ found. found.0) (option_and_then (inner name.now) (members_of place j)) }
+    ensures { (j : Json) → Stands tape.now place j → result ≡ option_map (λ found. found.0) (option_and_then (inner name.now) (object_members place j)) }
 {
     let member = place_named(tape, place, name)?;
     if opens_object(tape, member) {
@@ -30,8 +30,8 @@ fn inner_place(tape: &Tape<'_>, place: usize, name: &[u8]) -> Option<usize>
 
 /// The router-LSA of the object at a place, in what stands around it.
 fn lsa_at(alloc: Global, tape: &Tape<'_>, around: usize, place: u32) -> Result<Instance, ReadStop>
-    ensures { MatchResult result (λ lsa. (j : Json) → Stands tape.now place j → lsa_read around place (members_of place j) ≡ Ok lsa)
-        (λ stop. (j : Json) → Stands tape.now place j → TellsLack (lsa_read around place (members_of place j)) stop) }
+    ensures { MatchResult result (λ lsa. (j : Json) → Stands tape.now place j → lsa_read around place (object_members place j) ≡ Ok lsa)
+        (λ stop. (j : Json) → Stands tape.now place j → TellsLack (lsa_read around place (object_members place j)) stop) }
 {
     let object = place as usize;
     if !opens_object(tape, object) {
@@ -109,8 +109,8 @@ fn area_lsas(
     around: usize,
 ) -> Result<Vec<Instance>, ReadStop>
     requires { length tape.now < 2 ^ 32 }
-    ensures { MatchResult result (λ lsas. (j : Json) → Stands tape.now around j → areas_read area around (option_and_then (inner (codes "areas")) (members_of around j)) ≡ Ok lsas.items)
-        (λ stop. (j : Json) → Stands tape.now around j → TellsLack (areas_read area around (option_and_then (inner (codes "areas")) (members_of around j))) stop) }
+    ensures { MatchResult result (λ lsas. (j : Json) → Stands tape.now around j → areas_read area around (option_and_then (inner (codes "areas")) (object_members around j)) ≡ Ok lsas.items)
+        (λ stop. (j : Json) → Stands tape.now around j → TellsLack (areas_read area around (option_and_then (inner (codes "areas")) (object_members around j))) stop) }
 {
     let Some(areas) = inner_place(tape, around, b"areas") else {
         return Err(ReadStop::Lacks(around));

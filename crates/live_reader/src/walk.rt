@@ -2,9 +2,9 @@
 ghost use Rattle.std.specs.Prelude.{◌≡◌, ◌+◌, ◌^◌, ◌<◌, length, option_map, slice_index_or, IfOk};
 ghost use Rattle.std.specs.Option.{option_and_then};
 ghost use Rattle.json.specs.Json.{Json, array, object, Items as SpecItems, Members as SpecMembers};
-ghost use Rattle.live_reader.specs.Places.{Stands, items_at, items_of, members_at, members_of, member_named, those_last, member_values};
+ghost use Rattle.live_reader.specs.Places.{Stands, items_at, items_of, members_at, object_members, member_named, those_last, member_values};
 ghost use Rattle.live_reader.specs.JsonLsas.{area_member};
-ghost use Rattle.live_reader.specs.Walks.{StandAt, StepOver, last_steps};
+ghost use Rattle.live_reader.specs.Walks.{StandAt, StepOver, last_places};
 
 use crate::tree::{Step, item_end, opens_array, opens_object, step_at};
 use config_reader::Names;
@@ -15,7 +15,7 @@ use text_lines::quad;
 
 /// Where the first member of the object at a place begins; None where no object begins there.
 fn first_member(tape: &Tape<'_>, place: usize) -> Option<usize>
-    ensures { (j : Json) → Stands tape.now place j → result ≡ option_map (λ ms. place + 1) (members_of place j) }
+    ensures { (j : Json) → Stands tape.now place j → result ≡ option_map (λ ms. place + 1) (object_members place j) }
 {
     if tape.len() <= place {
         return None;
@@ -43,7 +43,7 @@ fn first_item(tape: &Tape<'_>, place: usize) -> Option<usize>
 
 /// The place of the last member of a name of the object at a place.
 pub fn place_named(tape: &Tape<'_>, place: usize, name: &[u8]) -> Option<usize>
-    ensures { (j : Json) → Stands tape.now place j → result ≡ option_map (λ m. m.place) (option_and_then (member_named name.now) (members_of place j)) }
+    ensures { (j : Json) → Stands tape.now place j → result ≡ option_map (λ m. m.place) (option_and_then (member_named name.now) (object_members place j)) }
 {
     let mut next = first_member(tape, place)?;
     let mut last = None;
@@ -82,7 +82,7 @@ fn step_in<'a>(steps: &[Step<'a>], number: usize) -> Step<'a>
 
 /// The places of members, without those of whose name a later one comes, in order.
 fn places_of_last(alloc: Global, steps: &[Step<'_>]) -> Result<Vec<usize>, OutOfMemory>
-    ensures { IfOk result (λ places. places.items ≡ last_steps steps.now) }
+    ensures { IfOk result (λ places. places.items ≡ last_places steps.now) }
 {
     let mut names = Names::new(alloc);
     let mut places = Vec::new(alloc);

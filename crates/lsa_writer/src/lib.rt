@@ -9,4 +9,5 @@ mod said;
 mod writing;
 
 pub use ends::{LinkEnd, ends_of};
+pub use said::CostedLinks;
 pub use writing::lsas_of;

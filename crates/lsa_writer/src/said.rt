@@ -17,6 +17,17 @@ pub struct OwnedLink {
     pub link: LsaLink,
 }
 
+/// Linked interfaces in order, with the end and the cost of each.
+#[derive(Clone, Copy)]
+pub struct CostedLinks<'a> {
+    /// The linked interfaces.
+    pub links: &'a [Linked],
+    /// Their own ends of their links.
+    pub ends: &'a [LinkEnd],
+    /// Their costs.
+    pub costs: &'a [u16],
+}
+
 /// What a link from an end says at a cost.
 fn lsa_link(
     configs: &[RouterConfig],
@@ -48,21 +59,19 @@ pub fn said_links(
     alloc: Global,
     configs: &[RouterConfig],
     designated: &[LinkEnd],
-    ends: &[LinkEnd],
-    links: &[Linked],
-    costs: &[u16],
+    of: CostedLinks<'_>,
 ) -> Result<Vec<OwnedLink>, OutOfMemory>
-    requires ends { ends.now ≡ link_ends configs.now links.now }
-    requires one_each { length costs.now ≡ length links.now }
-    requires few { length links.now ≤ 4000 }
-    ensures { IfOk result (λ said. said.items ≡ said_links configs.now designated.now links.now costs.now) }
+    requires ends { of.ends.now ≡ link_ends configs.now of.links.now }
+    requires one_each { length of.costs.now ≡ length of.links.now }
+    requires few { length of.links.now ≤ 4000 }
+    ensures { IfOk result (λ said. said.items ≡ said_links configs.now designated.now of.entry.links.now of.entry.costs.now) }
 {
     let mut said = Vec::new(alloc);
-    for (i, link) in links.iter().enumerate() {
-        let own = end_at(ends, i as u32);
+    for (i, link) in of.links.iter().enumerate() {
+        let own = end_at(of.ends, i as u32);
         said.push(OwnedLink {
             router: link.router,
-            link: lsa_link(configs, designated, own, link.to, costs[i]),
+            link: lsa_link(configs, designated, own, link.to, of.costs[i]),
         })?;
     }
     Ok(said)

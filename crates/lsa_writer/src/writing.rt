@@ -13,7 +13,7 @@ use crate::designation::designated_ends;
 use crate::ends::{LinkEnd, end_at, ends_of, id_of};
 use crate::pieces::{push_network_lsa, push_router_lsa};
 use crate::ranges::{keeps_configs, keeps_ends, keeps_said};
-use crate::said::{OwnedLink, said_links};
+use crate::said::{CostedLinks, OwnedLink, said_links};
 use cost_base::{Listed, OutOfMemory};
 use interface_model::RouterConfig;
 use lsdb_build::Lsdb;
@@ -99,7 +99,12 @@ pub fn lsas_of(
     let subnets = lsdb.subnets.as_slice();
     let ends = ends_of(alloc, configs, links)?;
     let designated = designated_ends(alloc, &ends, subnets)?;
-    let said = said_links(alloc, configs, &designated, &ends, links, costs)?;
+    let costed = CostedLinks {
+        links,
+        ends: &ends,
+        costs,
+    };
+    let said = said_links(alloc, configs, &designated, costed)?;
     keeps_ends(&ends);
     keeps_said(&said);
     let mut bytes = Vec::new(alloc);

@@ -4,7 +4,7 @@ use Rattle.std.specs.List.{filter_map, list_any, concat, AllZip}
 use Rattle.std.specs.List.Sorted.{IsStrictlyIncreasing}
 use Rattle.cost_base.specs.Lists.{first_of, same_bytes}
 use Rattle.text_lines.specs.Lines.{lines}
-use Rattle.text_lines.specs.LineFaults.{FaultyLine, fault_at, line_faults}
+use Rattle.text_lines.specs.LineFaults.{FaultyLine, fault_at, faults_by_line}
 use Rattle.design_problem.specs.declared.problem.Request.{Request}
 use Rattle.design_problem.specs.Problems.{DesignProblem, request_at}
 use Rattle.set_reader.specs.declared.stop.SetFault.{SetFault}
@@ -13,7 +13,7 @@ use Rattle.set_reader.specs.declared.stop.SetStop.{SetStop}
 use Rattle.set_reader.specs.declared.stop.SetStop.TheVariants.{Refused, OutOfMemory}
 use Rattle.set_reader.specs.declared.reading.statement.Statement.{Statement}
 use Rattle.set_reader.specs.declared.reading.statement.Statement.TheVariants.{Passed, Header, Numbers, Off}
-use Rattle.set_reader.specs.SetLines.{said_by, speaks, numbers_of_set}
+use Rattle.set_reader.specs.SetLines.{said_by_set_line, set_line_speaks, numbers_of_set}
 
 -- the number is among these
 abbrev pub stands_in : ℕ → List ℕ → Bool
@@ -59,15 +59,15 @@ abbrev pub is_wrong_set : List Request → List ℕ → List ℕ → Bool
 is_wrong_set requests earlier numbers = is_wrong_from requests earlier [] numbers
 
 -- what some lines say together: whether one of them is neither blank nor a comment, and the numbers of each `set` line
-pub record Told : Type 0 where
+pub record SetsTold : Type 0 where
   pub spoken : Bool
   pub sets : List (List ℕ)
 
 -- what these lines say together
-abbrev pub told_by : List (List ℕ) → Told
-told_by file = record {
-  spoken = list_any (λ line. speaks (said_by line)) file;
-  sets = filter_map (λ line. numbers_of_set (said_by line)) file;
+abbrev pub sets_told_by : List (List ℕ) → SetsTold
+sets_told_by file = record {
+  spoken = list_any (λ line. set_line_speaks (said_by_set_line line)) file;
+  sets = filter_map (λ line. numbers_of_set (said_by_set_line line)) file;
 }
 
 -- fault 72, where a set is wrong
@@ -75,33 +75,33 @@ abbrev pub wrong_if : Bool → Option SetFault
 wrong_if wrong = if wrong then Some WrongSet else None
 
 -- the fault of a line behind a header
-abbrev pub fault_behind_header : List Request → Told → Statement → Option SetFault
-fault_behind_header requests told (Numbers numbers) = wrong_if (is_wrong_set requests (concat told.sets) numbers)
-fault_behind_header requests told Header = Some BadSetLine
-fault_behind_header requests told Off = Some BadSetLine
-fault_behind_header requests told Passed = None
+abbrev pub set_fault_behind_header : List Request → SetsTold → Statement → Option SetFault
+set_fault_behind_header requests told (Numbers numbers) = wrong_if (is_wrong_set requests (concat told.sets) numbers)
+set_fault_behind_header requests told Header = Some BadSetLine
+set_fault_behind_header requests told Off = Some BadSetLine
+set_fault_behind_header requests told Passed = None
 
 -- the fault of a line behind lines that say these things: the first that isn't passed has to be the header
-abbrev pub fault_said : List Request → Told → Statement → Option SetFault
-fault_said requests told Passed = None
-fault_said requests told Header = if told.spoken then Some BadSetLine else None
-fault_said requests told statement = if told.spoken then fault_behind_header requests told statement else Some BadSetLine
+abbrev pub set_fault_said : List Request → SetsTold → Statement → Option SetFault
+set_fault_said requests told Passed = None
+set_fault_said requests told Header = if told.spoken then Some BadSetLine else None
+set_fault_said requests told statement = if told.spoken then set_fault_behind_header requests told statement else Some BadSetLine
 
 -- the fault of a line of any length
-abbrev pub fault_of : List Request → Told → List ℕ → Option SetFault
-fault_of requests told line = if nat_le (length line) 65536 then fault_said requests told (said_by line) else Some BadSetLine
+abbrev pub fault_of_set_line : List Request → SetsTold → List ℕ → Option SetFault
+fault_of_set_line requests told line = if nat_le (length line) 65536 then set_fault_said requests told (said_by_set_line line) else Some BadSetLine
 
 -- the fault of a line behind these lines
-abbrev pub fault_behind : List Request → List (List ℕ) → List ℕ → Option SetFault
-fault_behind requests before line = fault_of requests (told_by before) line
+abbrev pub set_fault_behind : List Request → List (List ℕ) → List ℕ → Option SetFault
+set_fault_behind requests before line = fault_of_set_line requests (sets_told_by before) line
 
 -- the fault of a text without a header: it stands behind the last line
-abbrev pub end_faults : List (List ℕ) → List (FaultyLine SetFault)
-end_faults file = if (told_by file).spoken then [] else fault_at (length file + 1) BadSetLine ∷ []
+abbrev pub end_faults_of_sets : List (List ℕ) → List (FaultyLine SetFault)
+end_faults_of_sets file = if (sets_told_by file).spoken then [] else fault_at (length file + 1) BadSetLine ∷ []
 
 -- the faults of a file of sets, in the order of its lines
 abbrev pub set_faults : List Request → List (List ℕ) → List (FaultyLine SetFault)
-set_faults requests file = line_faults (fault_behind requests) [] file ++ end_faults file
+set_faults requests file = faults_by_line (set_fault_behind requests) [] file ++ end_faults_of_sets file
 
 -- the fault for which a file of sets is refused
 abbrev pub set_fault : DesignProblem → List ℕ → Option (FaultyLine SetFault)
@@ -109,7 +109,7 @@ set_fault p bytes = first_of (set_faults p.paths (lines bytes))
 
 -- the numbers of each `set` line of a file, in the order of the lines
 abbrev pub numbers_said : List ℕ → List (List ℕ)
-numbers_said bytes = (told_by (lines bytes)).sets
+numbers_said bytes = (sets_told_by (lines bytes)).sets
 
 -- the numbers of a line, in rising order
 pub record IsInOrder (numbers set : List ℕ) : Type 0 where

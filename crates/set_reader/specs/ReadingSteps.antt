@@ -6,9 +6,9 @@ use Rattle.design_problem.specs.declared.problem.Request.{Request}
 use Rattle.design_problem.specs.Problems.{DesignProblem, request_at}
 use Rattle.set_reader.specs.declared.reading.statement.Statement.{Statement}
 use Rattle.set_reader.specs.declared.reading.statement.Statement.TheVariants.{Numbers}
-use Rattle.set_reader.specs.SetLines.{speaks, numbers_of_set}
+use Rattle.set_reader.specs.SetLines.{set_line_speaks, numbers_of_set}
 use Rattle.set_reader.specs.SpreadSets.{AreSetsOf}
-use Rattle.set_reader.specs.Reading.{Told, IsInOrder, takes_away, has_other_ends}
+use Rattle.set_reader.specs.Reading.{SetsTold, IsInOrder, takes_away, has_other_ends}
 
 -- what was read so far: whether a line spoke, and the sets, in rising order each
 pub record SoFar : Type 0 where
@@ -17,7 +17,7 @@ pub record SoFar : Type 0 where
   pub sets : List (List ℕ)
 
 -- what the reader has read so far, as the definitions of faults see it
-abbrev pub told_of : SoFar → Told
+abbrev pub told_of : SoFar → SetsTold
 told_of so_far = record { spoken = so_far.spoken; sets = so_far.sets }
 
 -- lawful sets, and marks of the requests that stand in them
@@ -39,7 +39,7 @@ AddsSet (Some numbers) sets after = (set : List ℕ) × IsInOrder numbers set ×
 -- what was read after one line more, with no fault
 pub record TakesLine (before : SoFar) (said : Statement) (after : SoFar) : Type 0 where
   pub problem : after.problem ≡ before.problem
-  pub spoken : after.spoken ≡ (before.spoken || speaks said)
+  pub spoken : after.spoken ≡ (before.spoken || set_line_speaks said)
   pub sets : AddsSet (numbers_of_set said) before.sets after.sets
 
 -- A number may not stand behind these members, whatever their edges: it is no path's, it is marked, its request takes an edge

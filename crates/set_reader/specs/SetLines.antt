@@ -8,9 +8,9 @@ use Rattle.set_reader.specs.declared.reading.statement.Statement.{Statement}
 use Rattle.set_reader.specs.declared.reading.statement.Statement.TheVariants.{Passed, Header, Numbers, Off}
 
 -- `ospfcost spread 1`
-abbrev pub header_line : List (List ℕ) → Statement
-header_line (spread ∷ version ∷ []) = if same_bytes spread (codes "spread") && same_bytes version (codes "1") then Header else Off
-header_line _ = Off
+abbrev pub set_header_line : List (List ℕ) → Statement
+set_header_line (spread ∷ version ∷ []) = if same_bytes spread (codes "spread") && same_bytes version (codes "1") then Header else Off
+set_header_line _ = Off
 
 -- words that are all numbers, of at most ten digits each
 abbrev pub numbers_by_words : List (List ℕ) → Option (List ℕ)
@@ -26,25 +26,25 @@ abbrev pub set_line : List (List ℕ) → Statement
 set_line words = several (numbers_by_words words)
 
 -- what the words behind the first one say
-abbrev pub line_of : List ℕ → List (List ℕ) → Statement
-line_of word words =
+abbrev pub set_statement_by : List ℕ → List (List ℕ) → Statement
+set_statement_by word words =
     if same_bytes word (codes "set") then set_line words
-    else if same_bytes word (codes "ospfcost") then header_line words
+    else if same_bytes word (codes "ospfcost") then set_header_line words
     else Off
 
 -- what a line with these words says: nothing where it is blank or a comment
-abbrev pub statement_of : List (List ℕ) → Statement
-statement_of [] = Passed
-statement_of (word ∷ words) = if starts_comment word then Passed else line_of word words
+abbrev pub set_statement_of : List (List ℕ) → Statement
+set_statement_of [] = Passed
+set_statement_of (word ∷ words) = if starts_comment word then Passed else set_statement_by word words
 
 -- what a line says
-abbrev pub said_by : List ℕ → Statement
-said_by line = statement_of (words line)
+abbrev pub said_by_set_line : List ℕ → Statement
+said_by_set_line line = set_statement_of (words line)
 
 -- the line is neither blank nor a comment
-abbrev pub speaks : Statement → Bool
-speaks Passed = false
-speaks _ = true
+abbrev pub set_line_speaks : Statement → Bool
+set_line_speaks Passed = false
+set_line_speaks _ = true
 
 -- the numbers of a `set` line
 abbrev pub numbers_of_set : Statement → Option (List ℕ)

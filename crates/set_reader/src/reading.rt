@@ -2,8 +2,8 @@
 ghost use Rattle.std.specs.Prelude.{◌≡◌, ◌+◌, ◌-◌, ◌^◌, ◌<◌, None, Some, length, IfOk, IfErr, OnOk};
 ghost use Rattle.text_lines.specs.LineFaults.{fault_at, fault_in_line};
 ghost use Rattle.set_reader.specs.SpreadSets.{AreSetsOf};
-ghost use Rattle.set_reader.specs.SetLines.{said_by};
-ghost use Rattle.set_reader.specs.Reading.{fault_said, set_fault, AreSaid, TellsReading};
+ghost use Rattle.set_reader.specs.SetLines.{said_by_set_line};
+ghost use Rattle.set_reader.specs.Reading.{set_fault_said, set_fault, AreSaid, TellsReading};
 ghost use Rattle.set_reader.specs.ReadingSteps.{told_of, TakesLine};
 
 mod line;
@@ -55,9 +55,9 @@ fn read_line(
     number: u32,
     text: &[u8],
 ) -> Result<(), SetStop>
-    ensures taken { OnOk result (fault_said reader.old.problem.paths (told_of reader.old) (said_by text.now) ≡ None) }
-    ensures told { OnOk result (TakesLine reader.old (said_by text.now) reader.new) }
-    ensures refused { IfErr result (TellsReading (fault_in_line number (fault_said reader.old.problem.paths (told_of reader.old) (said_by text.now)))) }
+    ensures taken { OnOk result (set_fault_said reader.old.problem.paths (told_of reader.old) (said_by_set_line text.now) ≡ None) }
+    ensures told { OnOk result (TakesLine reader.old (said_by_set_line text.now) reader.new) }
+    ensures refused { IfErr result (TellsReading (fault_in_line number (set_fault_said reader.old.problem.paths (told_of reader.old) (said_by_set_line text.now)))) }
 {
     let said = statement_of(alloc, text)?;
     reader.take(alloc, number, said)

@@ -25,7 +25,7 @@ const GREATEST: u64 = 9_999_999_999;
 
 /// What a line says.
 pub(crate) fn statement_of(alloc: Global, line: &[u8]) -> Result<Statement, OutOfMemory>
-    ensures said { IfOk result (λ said. said ≡ definition.statement_of (words line.now)) }
+    ensures said { IfOk result (λ said. said ≡ definition.set_statement_of (words line.now)) }
     ensures several { IfOk result HasSeveral }
 {
     match first_word(line) {
@@ -37,7 +37,7 @@ pub(crate) fn statement_of(alloc: Global, line: &[u8]) -> Result<Statement, OutO
 
 /// What the words behind the first one say.
 fn line_of(alloc: Global, word: &[u8], rest: &[u8]) -> Result<Statement, OutOfMemory>
-    ensures said { IfOk result (λ said. said ≡ definition.line_of word.now (words rest.now)) }
+    ensures said { IfOk result (λ said. said ≡ definition.set_statement_by word.now (words rest.now)) }
     ensures several { IfOk result HasSeveral }
 {
     if word == SET {
@@ -51,7 +51,7 @@ fn line_of(alloc: Global, word: &[u8], rest: &[u8]) -> Result<Statement, OutOfMe
 
 /// `ospfcost spread 1`, without its first word.
 fn header_line(rest: &[u8]) -> Statement
-    ensures said { result ≡ definition.header_line (words rest.now) }
+    ensures said { result ≡ definition.set_header_line (words rest.now) }
     ensures several { HasSeveral result }
 {
     let Some((spread, more)) = first_word(rest) else {

@@ -2,7 +2,7 @@
 ghost use Rattle.std.specs.Prelude.{◌≡◌, ◌+◌, ◌-◌, ◌^◌, ◌<◌, ◌≤◌, ◌∷◌, [], Some, None, true, false, length, IfOk, IfErr, OnOk};
 ghost use Rattle.text_lines.specs.LineFaults.{fault_at, fault_in_line};
 ghost use Rattle.set_reader.specs.SpreadSets.{AreSetsOf};
-ghost use Rattle.set_reader.specs.Reading.{fault_said, fault_behind_header, TellsReading};
+ghost use Rattle.set_reader.specs.Reading.{set_fault_said, set_fault_behind_header, TellsReading};
 ghost use Rattle.set_reader.specs.ReadingSteps.{told_of, HasSeveral, TakesLine};
 ghost use Rattle.set_reader.specs.declared.stop.SetFault.TheVariants.{BadSetLine};
 ghost use Rattle.set_reader.specs.declared.reading.statement.Statement.TheVariants.{Numbers as NumbersSaid};
@@ -53,9 +53,9 @@ impl<'a> Reader<'a> {
     /// Takes what the line of this number says, unless that is a fault behind what was said before.
     pub(crate) fn take(&mut self, alloc: Global, line: u32, said: Statement) -> Result<(), SetStop>
         requires { HasSeveral said }
-        ensures taken { OnOk result (fault_said self.old.problem.paths (told_of self.old) said ≡ None) }
+        ensures taken { OnOk result (set_fault_said self.old.problem.paths (told_of self.old) said ≡ None) }
         ensures told { OnOk result (TakesLine self.old said self.new) }
-        ensures refused { IfErr result (TellsReading (fault_in_line line (fault_said self.old.problem.paths (told_of self.old) said))) }
+        ensures refused { IfErr result (TellsReading (fault_in_line line (set_fault_said self.old.problem.paths (told_of self.old) said))) }
     {
         match (self.spoken, said) {
             (_, Statement::Passed) => Ok(()),
@@ -72,10 +72,10 @@ impl<'a> Reader<'a> {
     fn take_set(&mut self, alloc: Global, line: u32, numbers: &[u64]) -> Result<(), SetStop>
         requires several { 2 ≤ length numbers.now }
         requires spoken { self.old.spoken ≡ true }
-        ensures taken { OnOk result (fault_behind_header self.old.problem.paths (told_of self.old) (NumbersSaid numbers.now) ≡ None) }
+        ensures taken { OnOk result (set_fault_behind_header self.old.problem.paths (told_of self.old) (NumbersSaid numbers.now) ≡ None) }
         ensures told { OnOk result (TakesLine self.old (NumbersSaid numbers.now) self.new) }
         ensures refused { IfErr result (TellsReading
-            (fault_in_line line (fault_behind_header self.old.problem.paths (told_of self.old) (NumbersSaid numbers.now)))) }
+            (fault_in_line line (set_fault_behind_header self.old.problem.paths (told_of self.old) (NumbersSaid numbers.now)))) }
     {
         let problem = self.problem;
         let requests = problem.paths.as_slice();

@@ -3,7 +3,7 @@ use Rattle.std.specs.Prelude.{option_map}
 use Rattle.std.specs.Option.{option_and_then}
 use Rattle.cost_base.specs.Lists.{same_bytes}
 use Rattle.json.specs.Json.{object}
-use Rattle.live_reader.specs.Places.{Stands, members_of, member_named}
+use Rattle.live_reader.specs.Places.{Stands, object_members, member_named}
 use Rattle.live_reader.proofs.WalkLaws.{walk_begins, walk_goes_on, walk_ends, object_inside}
 use Rattle.live_reader.proofs.MemberLaws.{last_place-here, last_place-before, object_there, no_members}
 use Rattle.live_reader.proofs.walk.place_named.Goals as goal
@@ -35,4 +35,4 @@ returns c j stands =
     let there = object_there c.args.place c.in_ok-next.next j (c.in_ok-next.ensures j stands) in
     walk_ends c.args.tape.now (c.args.place + 1) c.loop-step.next there.0 _
     (c.loop-step.invariant there.0 (subst (Stands c.args.tape.now c.args.place) there.1 stands)) c.in_default.ensures.member
-    ∙ sym (ap (λ x. option_map (λ m. m.place) (option_and_then (member_named c.args.name.now) (members_of c.args.place x))) there.1)
+    ∙ sym (ap (λ x. option_map (λ m. m.place) (option_and_then (member_named c.args.name.now) (object_members c.args.place x))) there.1)

@@ -3,7 +3,7 @@ use Rattle.std.specs.Prelude.{reverse}
 use Rattle.std.specs.List.{list_any}
 use Rattle.std.proofs.lemmas.Bool.{not-true, not-false}
 use Rattle.cost_base.specs.Lists.{same_bytes}
-use Rattle.live_reader.specs.Walks.{last_steps}
+use Rattle.live_reader.specs.Walks.{last_places}
 use Rattle.live_reader.proofs.PlaceLaws.{AreGathered, none_gathered, left_out, kept, twice_reversed, emptied}
 use Rattle.live_reader.proofs.walk.places_of_last.Goals as goal
 
@@ -39,4 +39,4 @@ loop-left-preserved c =
 pub returns : goal.returns
 returns c =
     c.reverse.ensures.items ∙ ap reverse c.loop-left.invariant.places_are ∙ twice_reversed _
-    ∙ ap (λ n. last_steps (drop n c.args.steps.now)) (emptied c.loop-left.left c.loop-left-test.false)
+    ∙ ap (λ n. last_places (drop n c.args.steps.now)) (emptied c.loop-left.left c.loop-left-test.false)

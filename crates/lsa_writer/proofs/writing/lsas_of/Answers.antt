@@ -31,9 +31,9 @@ said c =
     let configs = c.args.configs.now in
     let d = c.args.lsdb.now in
     said_is configs d c.as_slice-links.result.now c.as_slice-subnets.result.now c.args.costs.now c.in_ok-ends.ends.items
-    c.deref-2.result.now c.deref-6.result.now
+    c.deref-3.result.now c.deref-6.result.now
     (links_are c) (subnets_are c) c.in_ok-ends.ensures
-    (c.deref-2.ensures.value ∙ c.in_ok-designated.ensures
+    (c.deref-3.ensures.value ∙ c.in_ok-designated.ensures
     ∙ ap (λ (es : List LinkEnd). designated_ends es c.as_slice-subnets.result.now) c.deref.ensures.value)
     (c.deref-6.ensures.value ∙ c.in_ok-said.ensures)
 
