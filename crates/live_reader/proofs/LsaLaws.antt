@@ -1,20 +1,16 @@
 -- What a router-LSA in JSON says, and what a stop tells of it.
-use Rattle.std.proofs.Common.{◌≡◌, ℕ, ◌+◌, ◌<◌, List, [], ◌∷◌, ◌++◌, length, drop, get_or, Some, None, refl, sym, ap, ◌∙◌, subst, append_assoc, append-nil}
-use Rattle.std.specs.Prelude.{codes, Result, Ok, Err}
+use Rattle.std.proofs.Common.{◌≡◌, ℕ, List, Some, None, sym, ap, ◌∙◌, subst}
+use Rattle.std.specs.Prelude.{codes, Result, Err}
 use Rattle.std.specs.Option.{option_and_then}
-use Rattle.std.proofs.lemmas.List.{drop_more}
-use Rattle.json.specs.Token.{Token}
 use Rattle.json.specs.Json.{Json}
 use Rattle.lsa_bytes.specs.declared.LsaLink.{LsaLink}
-use Rattle.lsa_bytes.specs.declared.instances.Instance.{Instance}
 use Rattle.live_reader.specs.declared.heads.Head.{Head}
 use Rattle.live_reader.specs.declared.stop.ReadStop.{ReadStop}
 use Rattle.live_reader.specs.declared.stop.ReadStop.TheVariants.{Lacks, OutOfMemory}
 use Rattle.live_reader.specs.Stops.{TellsLack}
-use Rattle.live_reader.specs.Places.{Stands, Placed, Member, object_members, those_last, member_values}
-use Rattle.live_reader.specs.Walks.{StandAt}
+use Rattle.live_reader.specs.Places.{Member, object_members, those_last, member_values}
 use Rattle.live_reader.specs.JsonLinks.{links_in}
-use Rattle.live_reader.specs.JsonLsas.{head_of, inner, with_links, lsa_with, lsa_read, instances_behind, instances_of_values}
+use Rattle.live_reader.specs.JsonLsas.{head_of, inner, with_links, lsa_with, lsa_read}
 
 -- an LSA of an object whose head and links are there
 pub lsa_reads : (around place at : ℕ) (j : Json) (head : Head) (members inside : List Member) → object_members place j ≡ Some members →

@@ -1,6 +1,6 @@
 -- Places that are gathered one after another.
-use Rattle.std.proofs.Common.{◌≡◌, ℕ, ◌+◌, ◌-◌, ◌<◌, ◌≤◌, List, [], ◌∷◌, ◌++◌, Bool, true, false, cond, length, drop, get_or, Option, Some, None, refl, sym, ap, ◌∙◌, subst, arith, append_assoc, append-nil, ◌||◌, ◌&&◌}
-use Rattle.std.specs.Prelude.{reverse, option_to_list, Result, Ok, Err, is_some}
+use Rattle.std.proofs.Common.{◌≡◌, ℕ, ◌+◌, ◌-◌, ◌<◌, ◌≤◌, List, [], ◌∷◌, ◌++◌, Bool, true, false, cond, length, drop, get_or, Option, Some, None, refl, sym, ap, ◌∙◌, subst, arith, ◌||◌, ◌&&◌}
+use Rattle.std.specs.Prelude.{reverse, is_some}
 use Rattle.std.specs.List.{list_any, list_all}
 use Rattle.std.proofs.lemmas.List.{drop_more, reverse-append, drop_all}
 use Rattle.cost_base.specs.Lists.{same_bytes}
@@ -9,14 +9,9 @@ use Rattle.text_lines.specs.Numbers.{quad}
 use Rattle.json.specs.Token.{Token}
 use Rattle.json.specs.Json.{Json, Members, no_members, member}
 use Rattle.json.specs.Tree.{json_tokens, members_tokens}
-use Rattle.lsa_bytes.specs.declared.LsaLink.{LsaLink}
 use Rattle.live_reader.specs.declared.tree.Step.{Step}
-use Rattle.live_reader.specs.declared.stop.ReadStop.{ReadStop}
-use Rattle.live_reader.specs.declared.stop.ReadStop.TheVariants.{Lacks, OutOfMemory}
-use Rattle.live_reader.specs.Stops.{TellsLack}
-use Rattle.live_reader.specs.Places.{Stands, Placed, Member, object_members, members_at, last_where, those_last, member_values}
+use Rattle.live_reader.specs.Places.{Stands, Placed, Member, members_at, last_where, those_last, member_values}
 use Rattle.live_reader.specs.Walks.{IsStep, HaveSeen, StepOver, StandAt, last_places}
-use Rattle.live_reader.specs.JsonLinks.{link_read, links_behind, links_in}
 use Rattle.live_reader.specs.JsonLsas.{is_quad, names_area, area_member}
 
 -- ---- what steps go over

@@ -1,5 +1,5 @@
 -- The links of a router-LSA, as FRRouting prints them in JSON.
-use Rattle.std.specs.Prelude.{ℕ, ◌==◌, List, [], ◌++◌, ◌∷◌, codes, Option, Some, None, Result, Ok, Err, option_map, option_to_list, ok_or, if◌then◌else◌}
+use Rattle.std.specs.Prelude.{ℕ, ◌==◌, List, codes, Option, Some, None, Result, Err, option_map, option_to_list, ok_or, if◌then◌else◌}
 use Rattle.std.specs.Option.{option_and_then}
 use Rattle.cost_base.specs.Lists.{same_bytes}
 use Rattle.lsa_bytes.specs.declared.LsaLink.{LsaLink}
