@@ -1,5 +1,5 @@
 -- A basis with the numbers of x - low over one denominator, apart from any lines; and a kernel that is made of them.
-use Rattle.std.proofs.Common.{◌≡◌, ◌≢◌, ℕ, zero, suc, ◌*◌, ◌^◌, ◌<◌, ◌≤◌, refl, sym, ◌∙◌, ap, subst, List, [], ◌∷◌, map, length, arith}
+use Rattle.std.proofs.Common.{◌≡◌, ℕ, zero, suc, ◌*◌, ◌^◌, ◌<◌, ◌≤◌, refl, sym, ◌∙◌, ap, subst, List, [], ◌∷◌, map, length, arith}
 use native.Mathlib.Nat.{zero-mul}
 use Rattle.std.specs.Prelude.{ℤ, pos, negsuc, ◌+ℤ◌, ◌*ℤ◌, neg_ℤ, nat_abs, slice_index_or, All}
 use Rattle.std.specs.List.{AllZip}
@@ -15,7 +15,7 @@ use Rattle.design_problem.specs.declared.form.Form.{Form}
 use Rattle.design_problem.specs.declared.form.CostBox.{CostBox}
 use Rattle.design_problem.specs.declared.tree.Member.{Member}
 use Rattle.design_problem.specs.declared.tree.Member.TheVariants.{Low}
-use Rattle.design_problem.specs.Basis.{IsFormOf, LeadsPositive, coordinate, forms_of, mixture, one_form}
+use Rattle.design_problem.specs.Basis.{LeadsPositive, coordinate, forms_of, mixture, one_form}
 use Rattle.design_problem.specs.Boxes.{IsBox}
 use Rattle.design_problem.specs.Forms.{no_form, value_for_costs}
 use Rattle.fraction_table.specs.Pivots.{member_at}

@@ -1,5 +1,5 @@
 -- A kernel whose bounds move to those of another box, one after another.
-use Rattle.std.proofs.Common.{◌≡◌, ℕ, suc, ◌+◌, ◌*◌, ◌<◌, sym, ◌∙◌, ap, subst, List, length, arith}
+use Rattle.std.proofs.Common.{◌≡◌, ℕ, suc, ◌+◌, ◌<◌, sym, ◌∙◌, ap, subst, List, length, arith}
 use Rattle.std.specs.Prelude.{pos, ◌-ℤ◌, nat_abs, slice_index, All}
 use Rattle.std.proofs.lemmas.Int.{ints}
 use Rattle.design_problem.specs.declared.form.Form.{Form}

@@ -1,9 +1,9 @@
 -- A form's numbers at the columns and its constant, as sums over the numbers that a kernel holds; and their sizes.
 use Rattle.std.proofs.Common.{◌≡◌, ℕ, zero, suc, ◌*◌, ◌^◌, ◌<◌, ◌≤◌, refl, sym, subst, ◌∙◌, ap, List, [], ◌∷◌, map, length, arith}
-use Rattle.std.specs.Prelude.{ℤ, pos, negsuc, ◌+ℤ◌, ◌*ℤ◌, ◌≤ℤ◌, neg_ℤ, nat_abs, slice_index_or, sum_by}
+use Rattle.std.specs.Prelude.{ℤ, pos, negsuc, ◌+ℤ◌, ◌*ℤ◌, neg_ℤ, nat_abs, slice_index_or, sum_by}
 use Rattle.std.proofs.Math.Nat.{div-le_self, mul-le-mul_left, mul-le-mul_right}
 use Rattle.std.proofs.lemmas.Int.{ints, unsigned_abs-mul}
-use Rattle.std.proofs.lemmas.List.{get_or-map, get_or_default, length-map}
+use Rattle.std.proofs.lemmas.List.{get_or-map, length-map}
 use Rattle.std.proofs.lemmas.List.Elements.{All-tail, All-map, All-weaker}
 use Rattle.std.proofs.lemmas.List.Sums.{sum_by-cons}
 use Rattle.whole_numbers.proofs.Ring.{var, num, neg, ◌⊗◌, ring}
@@ -16,11 +16,10 @@ use Rattle.design_problem.specs.Forms.{no_form, value_for_costs}
 use Rattle.design_problem.specs.Basis.{IsFormOf, member_form, unit}
 use Rattle.fraction_table.specs.Pivots.{member_at}
 use Rattle.fraction_table.specs.ValidTables.{from_lows, number_of_form}
-use Rattle.fraction_table.proofs.Pivots.{members_long}
 use Rattle.fraction_table.proofs.StartingTables.{members_are}
 use Rattle.fraction_table.proofs.theory.Units.{unit_from_lows}
 use Rattle.integer_pivots.specs.Numbers.{AllWithin, product_sum, weight_of}
-use Rattle.integer_pivots.proofs.Sizes.{number_within, size_most}
+use Rattle.integer_pivots.proofs.Sizes.{number_within, size_most, size_of, wider}
 use Rattle.table_kernel.specs.declared.kernel.Kernel.{Kernel}
 use Rattle.integer_pivots.specs.declared.line.Line.{Line}
 use Rattle.integer_pivots.specs.Lines.{IsLine, no_line}
@@ -40,10 +39,7 @@ from_lows_at (x ∷ cs) (ts ∷ lows) place = ap (λ s. (x *ℤ number_at ts pla
 abbrev pub low_constants : Kernel → List ℤ
 low_constants k = map (λ ts. number_at ts 0) (lows_of k)
 
--- a kernel holds a constant for each variable
-pub lows_few : (k : Kernel) → IsShaped k → length k.lows.items ≤ length k.constants.items
-lows_few k s = omega (arith, s.lows, s.constants, members_long k.table.costs (length k.table.rows.items))
-
+-- the numbers of a form, by those of x - low
 pub column_number : (k : Kernel) (D : ℕ) (low : List ℕ) (f : Form) (c : ℕ) → number_of_form D low (lows_of k) f (suc c) ≡ number_at_column f (column_of k c)
 column_number k D low f c = from_lows_at f.coefficients (lows_of k) (suc c)
 
@@ -135,19 +131,12 @@ share_small D line small = omega (arith, small, div-le_self D (nat_abs line.deno
 pub common_small : (k : Kernel) → IsBounded k → nat_abs k.common ≤ 2 ^ 30
 common_small k b = size_most k.common (2 ^ 30) b.positive b.common
 
--- a number of a small line
-pub number_small : (line : Line) → IsLine line → (c : ℕ) → nat_abs (number_at line.numbers c) ≤ 2 ^ 30
-number_small line l c =
-    let most : nat_abs line.reach ≤ 2 ^ 30 = size_at_most line.reach (2 ^ 30) l.reach_positive l.reach in
-    omega (arith, most, number_within (nat_abs line.reach) line.numbers c l.numbers)
-  where
-    size_at_most : (z : ℤ) (n : ℕ) → pos 0 ≤ℤ z → z ≤ℤ pos n → nat_abs z ≤ n
-    size_at_most (pos m) n high low = omega (arith, ints)
-    size_at_most (negsuc m) n high low = absurd (omega (arith, ints))
+-- the numbers of a small line
+pub numbers_small : (line : Line) → IsLine line → AllWithin (2 ^ 30) line.numbers
+numbers_small line l = wider (nat_abs line.reach) (2 ^ 30) line.numbers (size_of line.reach (2 ^ 30) (l.reach_positive, l.reach)) l.numbers
 
-pub reach_small : (line : Line) → IsLine line → AllWithin (2 ^ 30) line.numbers
-reach_small line l c d c_in =
-    subst (λ (z : ℤ). nat_abs z ≤ 2 ^ 30) (get_or_default line.numbers c (pos 0) d c_in) (number_small line l c)
+pub number_small : (line : Line) → IsLine line → (c : ℕ) → nat_abs (number_at line.numbers c) ≤ 2 ^ 30
+number_small line l c = number_within (2 ^ 30) line.numbers c (numbers_small line l)
 
 -- the number of a small line over the common denominator
 pub scaled_within : (D : ℕ) (line : Line) (c : ℕ) → IsLine line → D ≤ 2 ^ 30 → nat_abs (number_at (scaled_line D line) (suc c)) ≤ 2 ^ 60

@@ -18,10 +18,15 @@ use Rattle.integer_pivots.specs.Turns.{common_after, denominator_after, turn_by}
 use Rattle.integer_pivots.proofs.Sizes.{read, read_number, size_most}
 
 -- a multiplier is positive
+pub turn_positive : (number pivot : ℤ) → pos 0 <ℤ pivot → pos 0 <ℤ (turn_by number pivot).multiplier
+turn_positive number (pos n) positive =
+    let quotient : 0 < n / gcd (nat_abs number) n =
+    quotient_positive n (gcd (nat_abs number) n) (omega (arith, ints, positive)) (gcd_is (nat_abs number) n).1 in
+    omega (arith, ints, quotient)
+turn_positive number (negsuc n) positive = absurd (omega (arith, ints, positive))
+
 pub multiplier_some : (number pivot : ℤ) → pos 0 <ℤ pivot → 0 < nat_abs (turn_by number pivot).multiplier
-multiplier_some number (pos n) positive =
-    quotient_positive n (gcd (nat_abs number) n) (omega (arith, ints, positive)) (gcd_is (nat_abs number) n).1
-multiplier_some number (negsuc n) positive = absurd (omega (arith, ints, positive))
+multiplier_some number pivot positive = size_positive (turn_by number pivot).multiplier (turn_positive number pivot positive)
 
 -- and so is a denominator after the pivot
 pub after_some : (entering line : Line) (column : ℕ) → IsLine line → pos 0 <ℤ number_at entering.numbers column → 0 < denominator_after entering column line

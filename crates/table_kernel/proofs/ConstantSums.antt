@@ -1,13 +1,12 @@
 -- The constant of a row, as a sum over its terms, as code reads it.
 use Rattle.std.proofs.Common.{◌≡◌, ℕ, suc, ◌+◌, ◌*◌, ◌^◌, ◌<◌, ◌≤◌, refl, sym, subst, ◌∙◌, ap, List, [], ◌∷◌, length, get_or, arith, w64, to_z, of_z}
-use Rattle.std.specs.Prelude.{ℤ, pos, ◌+ℤ◌, ◌-ℤ◌, ◌*ℤ◌, nat_abs}
-use Rattle.std.proofs.lemmas.Int.{ints}
+use Rattle.std.specs.Prelude.{ℤ, ◌+ℤ◌, ◌-ℤ◌, ◌*ℤ◌, nat_abs}
 use Rattle.whole_numbers.specs.Lists.{number_at}
 use Rattle.whole_numbers.proofs.Sizes.{sum_size}
 use Rattle.design_problem.specs.declared.form.Term.{Term}
 use Rattle.integer_pivots.specs.Numbers.{product_sum}
-use Rattle.integer_pivots.proofs.Sizes.{read_number}
-use Rattle.table_kernel.proofs.TermSums.{IsPartSum, product_small, summed_more, term_part}
+use Rattle.integer_pivots.proofs.Sizes.{difference_small, product_small, read_number}
+use Rattle.table_kernel.proofs.LineSums.{IsPartSum, summed_more, term_part}
 
 -- a product that 64 bits hold is read as it is
 pub read_product : (a b : ℤ) (m n : ℕ) → nat_abs a ≤ m → nat_abs b ≤ n → m < 2 ^ 63 → n < 2 ^ 63 → m * n < 2 ^ 63 →
@@ -56,9 +55,6 @@ read_sum a b x y a_is b_is a_small b_small =
     ∙ read_number (a +ℤ b) (omega (arith, sum_size a b, a_small, b_small))
     ∙ ap (λ (z : ℤ). z +ℤ b) a_is
     ∙ ap (λ (z : ℤ). x +ℤ z) b_is
-
-difference_small : (m n : ℕ) (x y : ℤ) → nat_abs x ≤ m → nat_abs y ≤ n → nat_abs (x -ℤ y) ≤ m + n
-difference_small m n x y x_small y_small = omega (arith, ints, x_small, y_small)
 
 -- the constant of high - x, as code reads it
 pub high_read : (common range constant x : ℤ) → range ≡ x → nat_abs common ≤ 2 ^ 30 → nat_abs range ≤ 2 ^ 27 → nat_abs constant ≤ 2 ^ 44 →

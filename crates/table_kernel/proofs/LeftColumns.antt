@@ -1,5 +1,4 @@
 -- The columns that are left, as variable by variable is looked at; and the one that is chosen.
-use Prim.Native.Nat.{◌∣◌}
 use native.Mathlib.Nat.{zero-mul}
 use Rattle.std.proofs.Common.{◌≡◌, ℕ, zero, suc, ◌+◌, ◌*◌, ◌^◌, ◌<◌, ◌≤◌, refl, sym, ◌∙◌, ap, subst, List, [], ◌∷◌, map, length, arith, inl, inr, ◌⊎◌}
 use Rattle.std.specs.Prelude.{ℤ, None, Some, pos, negsuc, ◌-ℤ◌, ◌*ℤ◌, ◌<ℤ◌, ◌≤ℤ◌, neg_ℤ, nat_abs, slice_index, slice_index_or, All}
@@ -19,17 +18,16 @@ use Rattle.integer_pivots.specs.Choices.{AreLatest, AreLeast, IsPositiveAt, cros
 use Rattle.integer_pivots.specs.Leads.{AreLeads, IsLead}
 use Rattle.integer_pivots.specs.Numbers.{AllWithin}
 use Rattle.integer_pivots.proofs.Narrowing.{has_at}
-use Rattle.integer_pivots.proofs.Sizes.{wider}
 use Rattle.integer_pivots.specs.declared.line.Line.{Line}
-use Rattle.integer_pivots.specs.Lines.{IsLine, no_line, rows_of}
-use Rattle.whole_numbers.proofs.Divisors.{quotient_positive}
-use Rattle.whole_numbers.proofs.Sizes.{positive_is, size_positive}
+use Rattle.integer_pivots.specs.Lines.{no_line, rows_of}
+use Rattle.whole_numbers.proofs.Sizes.{positive_is}
 use Rattle.table_kernel.specs.Choices.{AreColumnsLeft, ComesFirst}
 use Rattle.table_kernel.specs.declared.kernel.Kernel.{Kernel}
 use Rattle.table_kernel.specs.Kernels.{IsBounded, IsKernel, IsShaped, width_of}
 use Rattle.table_kernel.specs.Lines.{IsBestColumn, IsNotAfterInKernel}
 use Rattle.table_kernel.specs.Numbers.{scaled_line, share_of}
-use Rattle.table_kernel.proofs.Columns.{scaled_number}
+use Rattle.table_kernel.proofs.Columns.{numbers_small, scaled_number}
+use Rattle.table_kernel.proofs.Shares.{shares_some}
 
 -- a column that leads positive is positive at its lead
 lead_sign : (z : ℤ) (zs : List ℤ) → LeadsPositive (z ∷ zs) → ((z ≡ pos 0) × LeadsPositive zs) ⊎ (pos 0 <ℤ z)
@@ -195,13 +193,6 @@ left_first rows line left c d are has d_is =
       | inr after ↦ after c has
     ]
 
--- a line's denominator goes into a common multiple at least once
-pub share_some : (D : ℕ) (line : Line) → 0 < D → IsLine line → nat_abs line.denominator ∣ D → 0 < share_of D line
-share_some D line some l divides = quotient_positive D (nat_abs line.denominator) some divides
-
-pub shares_some : (k : Kernel) → IsBounded k → All (λ (line : Line). 0 < share_of (nat_abs k.common) line) k.lows.items
-shares_some k b v d v_in = share_some (nat_abs k.common) (slice_index_or k.lows.items v d) (size_positive k.common b.positive) (b.lines v d v_in) (b.divides v d v_in)
-
 lead_scaled : (z : ℤ) (g : ℕ) (zs ms : List ℤ) → 0 < g → (LeadsNoNegative zs → LeadsNoNegative ms) → LeadsNoNegative (z ∷ zs) → LeadsNoNegative ((z *ℤ pos g) ∷ ms)
 lead_scaled (pos zero) (suc g) zs ms some rest leads =
     subst (λ (m : ℕ). LeadsNoNegative (pos m ∷ ms)) (sym (zero-mul (suc g))) (rest leads)
@@ -269,12 +260,6 @@ row_is k v v_in = get_or-map (λ (l : Line). l.numbers) k.lows.items v no_line [
 
 pub row_long : (k : Kernel) (v : ℕ) → IsShaped k → v < length k.lows.items → length k.entering.numbers ≤ length (slice_index_or (rows_of k.lows.items) v [])
 row_long k v s v_in = omega (arith, s.entering, s.each v no_line v_in, ap length (row_is k v v_in))
-
-pub numbers_small : (line : Line) → IsLine line → AllWithin (2 ^ 30) line.numbers
-numbers_small line l = wider (nat_abs line.reach) (2 ^ 30) line.numbers (size line.reach l.reach_positive l.reach) l.numbers
-  where
-    size : (z : ℤ) → pos 0 ≤ℤ z → z ≤ℤ pos (2 ^ 30) → nat_abs z ≤ 2 ^ 30
-    size z low high = omega (arith, ints)
 
 pub row_small : (k : Kernel) (v : ℕ) → IsBounded k → v < length k.lows.items → AllWithin (2 ^ 30) (slice_index_or (rows_of k.lows.items) v [])
 row_small k v b v_in = subst (AllWithin (2 ^ 30)) (sym (row_is k v v_in))

@@ -15,7 +15,6 @@ pub mod LineSums
 pub mod Factors
 pub mod WideNumbers
 pub mod PlaceConstants
-pub mod RowSums
 pub mod MoreRows
 pub mod Corners
 pub mod Lines
@@ -28,7 +27,6 @@ pub mod Refusals
 pub mod TurnKernels
 pub mod StayingWithin
 pub mod TurnedRows
-pub mod TermSums
 pub mod RowWeights
 pub mod ConstantSums
 pub mod Places

@@ -2,8 +2,8 @@
 use Rattle.std.proofs.Common.{◌≡◌, ℕ, suc, ◌+◌, ◌*◌, ◌<◌, ◌≤◌, refl, sym, subst, ◌∙◌, ap, List, [], ◌∷◌, length, get_or, drop, arith, add-one, drop-cons}
 use Rattle.std.specs.Prelude.{ℤ, pos, ◌+ℤ◌, ◌*ℤ◌, nat_abs, sum_by}
 use native.Mathlib.Nat.{zero-mul}
-use Rattle.std.proofs.Math.Nat.{add-mul, mul-le-mul}
-use Rattle.std.proofs.lemmas.Int.{ints, unsigned_abs-mul}
+use Rattle.std.proofs.Math.Nat.{add-mul}
+use Rattle.std.proofs.lemmas.Int.{ints}
 use Rattle.std.proofs.lemmas.List.{at_drop_all}
 use Rattle.std.proofs.lemmas.List.Sums.{sum_by-cons}
 use Rattle.whole_numbers.specs.Lists.{number_at}
@@ -12,6 +12,7 @@ use Rattle.design_problem.specs.declared.form.Term.{Term}
 use Rattle.design_problem.specs.Forms.{terms_from}
 use Rattle.design_problem.proofs.TermLaws.{total, total_from, total_is, total_more}
 use Rattle.integer_pivots.specs.Numbers.{product_sum}
+use Rattle.integer_pivots.proofs.Sizes.{product_small}
 use Rattle.integer_pivots.proofs.Terms.{term_size, terms_weight}
 
 -- With the rest of the terms the sum is the whole one, and below the most there is room for the rest.
@@ -82,9 +83,6 @@ none_adds z = omega (arith, ints)
 pub sum_by_terms : (cs zs : List ℤ) → length cs ≤ length zs → total (product_at zs) (terms_from 0 cs) ≡ product_sum cs zs
 sum_by_terms cs zs counted = total_is (product_at zs) (λ v. none_adds (number_at zs v)) 0 cs ∙ sums_from 0 cs zs (omega arith)
 
-pub product_small : (m n : ℕ) (a b : ℤ) → nat_abs a ≤ m → nat_abs b ≤ n → nat_abs (a *ℤ b) ≤ m * n
-product_small m n a b a_small b_small = omega (arith, unsigned_abs-mul a b, mul-le-mul a_small b_small)
-
 -- a sum of products of which a part is added
 abbrev pub IsPartSum : ℕ → ℕ → List ℤ → List Term → ℕ → ℤ → Type 0
 IsPartSum factor most zs ts index sum = IsPart (product_at zs) (room_by factor) most ts index sum
@@ -112,13 +110,3 @@ summed_all factor most zs ts index sum cs past terms counted s =
     part_all (product_at zs) (room_by factor) most ts index sum past s
     ∙ ap (total (product_at zs)) terms
     ∙ sum_by_terms cs zs counted
-
--- sums over the same numbers are the same
-pub sums_agree : (cs zs ys : List ℤ) → length cs ≤ length zs → length cs ≤ length ys →
-    ((v : ℕ) → v < length cs → number_at zs v ≡ number_at ys v) → product_sum cs zs ≡ product_sum cs ys
-sums_agree [] zs ys z_in y_in same = refl
-sums_agree (c ∷ cs) [] ys z_in y_in same = absurd (omega arith)
-sums_agree (c ∷ cs) (z ∷ zs) [] z_in y_in same = absurd (omega arith)
-sums_agree (c ∷ cs) (z ∷ zs) (y ∷ ys) z_in y_in same =
-    ap (λ x. (c *ℤ x) +ℤ product_sum cs zs) (same 0 (omega arith))
-    ∙ ap (λ s. (c *ℤ y) +ℤ s) (sums_agree cs zs ys (omega arith) (omega arith) (λ v v_in. same (suc v) (omega arith)))

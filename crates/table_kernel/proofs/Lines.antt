@@ -1,13 +1,13 @@
 -- The line of a place's form, by what the kernel holds.
 use Rattle.std.proofs.Common.{◌≡◌, ℕ, ◌+◌, ◌*◌, ◌/◌, ◌^◌, ◌<◌, ◌≤◌, refl, sym, subst, ◌∙◌, ap, List, [], ◌∷◌, length, arith, FitsSigned, w64, to_z, of_z, true, false}
 use Rattle.std.specs.Prelude.{ℤ, pos, negsuc, ◌-ℤ◌, ◌*ℤ◌, ◌<ℤ◌, ◌≤ℤ◌, neg_ℤ, nat_abs, slice_index, slice_index_or, All}
-use Rattle.std.specs.Int.Signed.{lt_z, mag, quot_z}
+use Rattle.std.specs.Int.Signed.{lt_z, quot_z}
 use Rattle.std.proofs.lemmas.Bool.{ltb-false, ltb-true}
 use Prim.Native.Nat.{◌∣◌}
-use native.Mathlib.Nat.{div-mul_cancel}
-use Rattle.std.proofs.Math.Nat.{div-le_self, mul-le-mul_left, mul_comm}
-use Rattle.std.proofs.lemmas.Int.{fits_signed_from_abs, ints, to_z-of_z, unsigned_abs-mul}
+use Rattle.std.proofs.Math.Nat.{div-le_self, mul-le-mul_left}
+use Rattle.std.proofs.lemmas.Int.{fits_signed_from_abs, ints, unsigned_abs-mul}
 use Rattle.std.proofs.lemmas.List.{get_or_default}
+use Rattle.std.proofs.lemmas.Nat.Gcd.{le_of_dvd}
 use Rattle.whole_numbers.proofs.Divisors.{quotient_positive}
 use Rattle.whole_numbers.proofs.Ring.{var, num, neg, ◌⊖◌, ◌⊗◌, ring}
 use Rattle.whole_numbers.proofs.Sizes.{positive_is, size_positive}
@@ -21,22 +21,18 @@ use Rattle.fraction_table.proofs.Pivots.{row_place}
 use Rattle.integer_pivots.specs.declared.line.Line.{Line}
 use Rattle.integer_pivots.specs.Lines.{IsInLowestTerms, IsLine, IsReduced, no_line}
 use Rattle.integer_pivots.specs.Numbers.{AllWithin}
-use Rattle.integer_pivots.proofs.Sizes.{number_within, read, read_number, size_most, wider}
+use Rattle.integer_pivots.proofs.Sizes.{number_within, product_small, read, read_number, size_most, size_of}
 use Rattle.table_kernel.specs.declared.kernel.Kernel.{Kernel}
 use Rattle.table_kernel.specs.Kernels.{IsBounded, IsKernel, IsShaped, width_of}
-use Rattle.table_kernel.specs.Lines.{IsEntering, IsLineTooLarge, KeepsNumbers, StandsForPlace, column_of, factors as factors_pass, factors_of, form_of_place, numbers as numbers_pass, numbers_of_place}
+use Rattle.table_kernel.specs.Lines.{IsEntering, IsLineTooLarge, KeepsNumbers, StandsForPlace, column_of, form_of_place, numbers as numbers_pass, numbers_of_place}
 use Rattle.table_kernel.specs.Numbers.{number_at_column, share_of}
 use Rattle.table_kernel.specs.Turns.{line_of}
 use Rattle.table_kernel.proofs.Columns.{column_at, column_long, common_small, high_number_in, line_small, low_number_in}
-use Rattle.table_kernel.proofs.LineSums.{product_small}
+use Rattle.table_kernel.proofs.MoveReads.{read_factors}
 use Rattle.table_kernel.proofs.PlaceConstants.{high_place_constant, low_place}
 use Rattle.table_kernel.proofs.Restated.{line_number}
 use Rattle.table_kernel.proofs.SameButRoom.{rebuilt}
-
--- a number that isn't negative is no greater in size
-pub size_at_most : (z : ℤ) (n : ℕ) → pos 0 ≤ℤ z → z ≤ℤ pos n → nat_abs z ≤ n
-size_at_most (pos m) n high low = omega (arith, ints)
-size_at_most (negsuc m) n high low = absurd (omega (arith, ints))
+use Rattle.table_kernel.proofs.Shares.{constants_short, share_exact}
 
 -- a quotient of positive numbers
 quotient_is : (a b : ℤ) → pos 0 <ℤ a → pos 0 <ℤ b → quot_z a b ≡ pos (nat_abs a / nat_abs b)
@@ -48,22 +44,7 @@ quotient_is (negsuc a) b a_high b_high = absurd (omega (arith, ints))
 pub share_times : (common denominator : ℤ) → pos 0 <ℤ common → pos 0 <ℤ denominator →
     nat_abs denominator ∣ nat_abs common → (pos (nat_abs common / nat_abs denominator) *ℤ denominator) ≡ common
 share_times common denominator high positive divides =
-    ap (λ (z : ℤ). pos (nat_abs common / nat_abs denominator) *ℤ z) (positive_is denominator positive)
-    ∙ ap pos (div-mul_cancel (nat_abs denominator) divides)
-    ∙ sym (positive_is common high)
-
--- no divisor is greater
-pub divisor_least : (d n : ℕ) → 0 < n → d ∣ n → d ≤ n
-divisor_least d n some divides =
-    let whole : (n / d) * d ≡ n = div-mul_cancel d divides in
-    let more : 1 ≤ n / d = quotient_positive n d some divides in
-    omega (arith, whole, mul-le-mul_left d more, times_one d, swap (n / d) d)
-  where
-    times_one : (m : ℕ) → m * 1 ≡ m
-    times_one m = omega arith
-
-    swap : (a b : ℕ) → a * b ≡ b * a
-    swap a b = mul_comm a b
+    share_exact (nat_abs common) denominator positive divides ∙ sym (positive_is common high)
 
 -- as code computes it
 pub share_read : (common denominator : ℤ) → pos 0 <ℤ common → common ≤ℤ pos (2 ^ 30) → pos 0 <ℤ denominator →
@@ -71,7 +52,7 @@ pub share_read : (common denominator : ℤ) → pos 0 <ℤ common → common ≤
     to_z w64 (of_z w64 (quot_z (to_z w64 (of_z w64 common)) (to_z w64 (of_z w64 denominator)))) ≡ pos (nat_abs common / nat_abs denominator)
 share_read common denominator high small positive divides =
     let most : nat_abs common ≤ 2 ^ 30 = size_most common (2 ^ 30) high small in
-    let part = divisor_least (nat_abs denominator) (nat_abs common) (size_positive common high) divides in
+    let part : nat_abs denominator ≤ nat_abs common = le_of_dvd (size_positive common high) divides in
     let quotient = div-le_self (nat_abs common) (nat_abs denominator) in
     let is : quot_z (to_z w64 (of_z w64 common)) (to_z w64 (of_z w64 denominator)) ≡ pos (nat_abs common / nat_abs denominator) =
     ap (λ (z : ℤ). quot_z z (to_z w64 (of_z w64 denominator))) (read_number common (omega (arith, most)))
@@ -95,7 +76,7 @@ pub share_one : (common denominator : ℤ) → common ≡ pos 1 → pos 0 <ℤ d
     pos 1 ≡ pos (nat_abs common / nat_abs denominator)
 share_one common denominator one positive divides =
     let size : nat_abs common ≡ 1 = ap nat_abs one in
-    let least = divisor_least (nat_abs denominator) (nat_abs common) (omega (arith, size)) divides in
+    let least : nat_abs denominator ≤ nat_abs common = le_of_dvd (omega (arith, size)) divides in
     let is : nat_abs denominator ≡ 1 = omega (arith, least, size, size_positive denominator positive) in
     ap (λ (n : ℕ). pos (1 / n)) (sym is) ∙ ap (λ (n : ℕ). pos (n / nat_abs denominator)) (sym size)
 
@@ -112,16 +93,13 @@ denominator_read line l =
     let small : nat_abs line.denominator ≤ 2 ^ 30 = size_most line.denominator (2 ^ 30) l.positive l.denominator in
     (small, read_number line.denominator (omega (arith, small)))
 
--- as are numbers
-pub numbers_small : (line : Line) → IsLine line → AllWithin (2 ^ 30) line.numbers
-numbers_small line l = wider (nat_abs line.reach) (2 ^ 30) line.numbers (size_at_most line.reach (2 ^ 30) l.reach_positive l.reach) l.numbers
-
+-- as is its reach
 pub reach_read : (line : Line) → IsLine line → read line.reach ≡ line.reach
-reach_read line l = read_number line.reach (omega (arith, size_at_most line.reach (2 ^ 30) l.reach_positive l.reach))
+reach_read line l = read_number line.reach (omega (arith, size_of line.reach (2 ^ 30) (l.reach_positive, l.reach)))
 
 -- and a share
 pub share_size : (z : ℤ) → pos 1 ≤ℤ z → z ≤ℤ pos (2 ^ 30) → nat_abs z ≤ 2 ^ 30
-share_size z high low = size_at_most z (2 ^ 30) (omega (arith, ints, high)) low
+share_size z high low = size_of z (2 ^ 30) (omega (arith, ints, high), low)
 
 pub read_share : (z : ℤ) → pos 1 ≤ℤ z → z ≤ℤ pos (2 ^ 30) → read z ≡ z
 read_share z high low = read_number z (omega (arith, share_size z high low))
@@ -172,21 +150,12 @@ read_common z within = read_number z (omega (arith, size_most z (2 ^ 30) within.
 
 -- its constant is within 2^44
 pub constant_small : (k : Kernel) → IsShaped k → IsBounded k → (v : ℕ) → v < width_of k → nat_abs (line_of k v).constant ≤ 2 ^ 44
-constant_small k s b v v_in =
-    let there : v < length k.lows.items = omega (arith, v_in, s.lows) in
-    let low = b.low v no_line there in
-    let some : 1 ≤ share_of (nat_abs k.common) (line_of k v) =
-    quotient_positive (nat_abs k.common) (nat_abs (line_of k v).denominator) (size_positive k.common b.positive) (b.divides v no_line there) in
-    let c = nat_abs (line_of k v).constant in
-    let least : c * 1 ≤ c * share_of (nat_abs k.common) (line_of k v) = mul-le-mul_left c some in
-    omega (arith, low, least)
+constant_small k s b v v_in = constants_short k b v no_line (omega (arith, v_in, s.lows))
 
 -- a range times a denominator, less a constant, as code reads them
 module _ (r d : ℤ) (r_small : nat_abs r < 2 ^ 27) (d_small : nat_abs d ≤ 2 ^ 30) where
   product_is : (read r *ℤ read d) ≡ (r *ℤ d)
-  product_is =
-      ap (λ (z : ℤ). z *ℤ read d) (read_number r (omega (arith, r_small)))
-      ∙ ap (λ (z : ℤ). r *ℤ z) (read_number d (omega (arith, d_small)))
+  product_is = read_factors r d (omega (arith, r_small)) d_small
 
   product_size : nat_abs (r *ℤ d) ≤ 2 ^ 57
   product_size = omega (arith, product_small (2 ^ 27) (2 ^ 30) r d (omega (arith, r_small)) d_small)
@@ -242,10 +211,6 @@ stands_kept old new place line keeps s =
 
 pub entering_is : (old new : Kernel) (place : ℕ) → KeepsNumbers old new → StandsForPlace old place new.entering → IsLine new.entering → IsEntering new place
 entering_is old new place keeps stands line = record { stands = stands_kept old new place new.entering keeps stands; line = line }
-
-pub factors_large : (old new : Kernel) (place : ℕ) → KeepsNumbers old new →
-    2 ^ 32 < factors_of (nat_abs old.common) (form_of_place old place).coefficients old.lows.items → IsLineTooLarge new place
-factors_large old new place keeps large = factors_pass (rw (keeps.table, keeps.common, keeps.lows) large)
 
 pub numbers_large : (old new : Kernel) (place : ℕ) (line : Line) → KeepsNumbers old new → StandsForPlace old place line →
     IsInLowestTerms line → (AllWithin (2 ^ 30) line.numbers → ⊥) → IsLineTooLarge new place
@@ -359,10 +324,6 @@ module _ (k : Kernel) (place part : ℕ) (old new : Line) (r : IsReduced old new
         numbers = within;
       }
 
--- a result that 64 bits hold is read as it is
-pub read_held : (z : ℤ) → mag z < 2 ^ 63 → read z ≡ z
-read_held z small = to_z-of_z w64 z (record { sfits = small })
-
 -- a test of what is read
 pub limit_passed : (m : ℕ) (z : ℤ) → pos 0 ≤ℤ z → nat_abs z < 2 ^ 63 → lt_z (pos m) (read z) ≡ true → m < nat_abs z
 limit_passed m (pos n) high small test = ltb-true m n (sym (ap (lt_z (pos m)) (read_number (pos n) small)) ∙ test)
@@ -375,8 +336,8 @@ limit_kept m (pos n) high small test =
 limit_kept m (negsuc n) high small test = absurd (omega (arith, ints))
 
 -- the sum of a row's factors is read as it is
-pub sum_within : (z : ℤ) (n : ℕ) → z ≡ pos n → z ≤ℤ pos (2 ^ 46) → (pos 0 ≤ℤ z) × (nat_abs z < 2 ^ 63) × (nat_abs z ≡ n)
-sum_within z n is small =
+pub factors_told : (z : ℤ) (n : ℕ) → z ≡ pos n → z ≤ℤ pos (2 ^ 46) → (pos 0 ≤ℤ z) × (nat_abs z < 2 ^ 63) × (nat_abs z ≡ n)
+factors_told z n is small =
     let most : n ≤ 2 ^ 46 = (let e : pos n ≤ℤ pos (2 ^ 46) = subst (λ (y : ℤ). y ≤ℤ pos (2 ^ 46)) is small in omega (arith, ints, e)) in
     (omega (arith, ints, is), omega (arith, ap nat_abs is, most), ap nat_abs is)
 

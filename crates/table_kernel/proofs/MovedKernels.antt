@@ -1,13 +1,12 @@
 -- A kernel after one bound moved.
 use Prim.Native.Nat.{◌∣◌}
 use Rattle.std.specs.declared.alloc.Global.{Global}
-use Rattle.std.proofs.Common.{Vec, ◌≡◌, ℕ, suc, ◌+◌, ◌*◌, ◌^◌, ◌<◌, ◌≤◌, refl, sym, ◌∙◌, ap, subst, List, [], ◌∷◌, map, length, arith}
-use Rattle.std.specs.Prelude.{ℤ, pos, ◌+ℤ◌, ◌-ℤ◌, ◌*ℤ◌, ◌<ℤ◌, ◌≤ℤ◌, Option, Some, nat_abs, slice_index, slice_index_or, slice_set, All}
+use Rattle.std.proofs.Common.{Vec, ◌≡◌, ℕ, suc, ◌+◌, ◌*◌, ◌^◌, ◌<◌, ◌≤◌, refl, sym, ◌∙◌, ap, subst, List, map, length, arith}
+use Rattle.std.specs.Prelude.{ℤ, pos, ◌-ℤ◌, ◌*ℤ◌, ◌<ℤ◌, ◌≤ℤ◌, Option, Some, nat_abs, slice_index, slice_set, All}
 use Rattle.std.proofs.lemmas.Int.{ints}
 use Rattle.std.proofs.lemmas.List.{get_or_default, length-map}
 use Rattle.whole_numbers.specs.Fractions.{Fraction}
 use Rattle.whole_numbers.specs.Lists.{number_at}
-use Rattle.whole_numbers.proofs.Sizes.{positive_is}
 use Rattle.design_problem.specs.declared.form.Form.{Form}
 use Rattle.design_problem.specs.declared.form.CostBox.{CostBox}
 use Rattle.design_problem.specs.declared.tree.Member.{Member}
@@ -16,10 +15,8 @@ use Rattle.design_problem.specs.Basis.{member_form}
 use Rattle.design_problem.specs.Boxes.{with_high, with_low}
 use Rattle.fraction_table.specs.Moves.{IsColumnOf, IsMoved, put_at}
 use Rattle.fraction_table.specs.Tableaus.{moved_basis}
-use Rattle.fraction_table.proofs.MovedTables.{raised_rows}
 use Rattle.fraction_table.proofs.MovedWholes.{column_own}
 use Rattle.fraction_table.proofs.Pivots.{members_long}
-use Rattle.fraction_table.proofs.theory.MovedNumbers.{lowered_rows}
 use Rattle.integer_pivots.specs.declared.line.Line.{Line}
 use Rattle.integer_pivots.specs.Leads.{AreLeads}
 use Rattle.integer_pivots.specs.Lines.{IsLine, no_line, rows_of}
@@ -35,7 +32,7 @@ use Rattle.table_kernel.proofs.Columns.{column_at, column_long, column_number, c
 use Rattle.table_kernel.proofs.MovedBases.{IsBasisMove, basis_moved, high_move, low_move, members_put}
 use Rattle.table_kernel.proofs.MovedLines.{AreLinesMoved, all_moved, high_lines_moved, high_lows, limit_after, line_moved, low_lines_moved, low_lows, room_after, rows_kept}
 use Rattle.table_kernel.proofs.Places.{low_total}
-use Rattle.table_kernel.proofs.Shares.{share_whole}
+use Rattle.table_kernel.proofs.Shares.{share_exact}
 use Rattle.table_kernel.proofs.UnboxedBases.{large_top, unboxed_any}
 
 -- the kernel after the move: it differs in its box, its basis and the constants of its lines
@@ -231,7 +228,8 @@ low_moves k s m v bound now v_in keeps costs_same sh now_is may =
       lines = subst (AreLinesMoved (nat_abs fall) k.lows.items) (sym sh.lines) (low_lines_moved (nat_abs fall) v k.lows.items sh.column fall there refl);
     })
     (ap (map (scaled_line D)) sh.lines
-    ∙ low_lows D v k.lows.items sh.column fall there (share_whole k m v v_in)
+    ∙ low_lows D v k.lows.items sh.column fall there (share_exact D (line_of k v).denominator
+    (m.bounded.lines v no_line there).positive (m.bounded.divides v no_line there))
     (λ j column_is. own_line k m v j v_in (subst (IsColumnOf k.table.basis.items (Low v (slice_index costs.low v))) column_is sh.basis.found)))
     may
 

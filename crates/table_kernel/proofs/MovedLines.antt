@@ -1,10 +1,9 @@
 -- Lines of which the constants moved: how far, and the numbers over the common denominator.
-use Prim.Native.Nat.{◌∣◌}
-use Rattle.std.proofs.Common.{◌≡◌, ◌≢◌, ℕ, zero, suc, ◌+◌, ◌*◌, ◌^◌, ◌<◌, ◌≤◌, refl, sym, ◌∙◌, ap, subst, List, [], ◌∷◌, map, length, arith, inl, inr, get_or-set_same, get_or-set_other}
-use Rattle.std.specs.Prelude.{ℤ, pos, ◌+ℤ◌, ◌-ℤ◌, ◌*ℤ◌, ◌<ℤ◌, ◌≤ℤ◌, Option, None, Some, max, nat_abs, slice_index_or, slice_set, All}
+use Rattle.std.proofs.Common.{◌≡◌, ℕ, zero, suc, ◌+◌, ◌*◌, ◌^◌, ◌<◌, ◌≤◌, refl, sym, ◌∙◌, ap, subst, List, [], ◌∷◌, map, length, arith, inl, inr, get_or-set_same, get_or-set_other}
+use Rattle.std.specs.Prelude.{ℤ, pos, ◌+ℤ◌, ◌-ℤ◌, ◌*ℤ◌, Option, None, Some, nat_abs, slice_index_or, slice_set, All}
 use Rattle.std.proofs.Math.Nat.{le-max_left, le-max_right, mul-le-mul_left, mul-le-mul_right}
 use Rattle.std.proofs.lemmas.Bool.{cases_eq}
-use Rattle.std.proofs.lemmas.Int.{ints, unsigned_abs-mul}
+use Rattle.std.proofs.lemmas.Int.{unsigned_abs-mul}
 use Rattle.std.proofs.lemmas.List.{get_or-map, get_or_default, length-map, length-set, map-set}
 use Rattle.whole_numbers.proofs.Ring.{var, num, ◌⊕◌, ◌⊖◌, ◌⊗◌, ring}
 use Rattle.whole_numbers.specs.Lists.{number_at}
@@ -13,6 +12,7 @@ use Rattle.fraction_table.proofs.theory.MovedNumbers.{lowered, lowered_rows, rai
 use Rattle.integer_pivots.specs.declared.line.Line.{Line}
 use Rattle.integer_pivots.specs.Lines.{IsLine, no_line, rows_of}
 use Rattle.integer_pivots.specs.Numbers.{greatest_of}
+use Rattle.integer_pivots.proofs.Sizes.{difference_small, sum_small}
 use Rattle.table_kernel.specs.Moves.{LineMayMove, lines_after_high, lines_after_low, raised_line, step_of, with_constant}
 use Rattle.table_kernel.specs.Numbers.{scaled_line, share_of}
 use Rattle.table_kernel.proofs.Columns.{scaled_at}
@@ -39,12 +39,6 @@ number_step line c =
     let more = le-max_left (greatest_of line.numbers) (nat_abs line.denominator) in
     omega (arith, one, more)
 
-sum_within : (x y : ℤ) (m : ℕ) → nat_abs y ≤ m → nat_abs (x +ℤ y) ≤ nat_abs x + m
-sum_within x y m small = omega (arith, ints, small)
-
-difference_within : (x y : ℤ) (m : ℕ) → nat_abs y ≤ m → nat_abs (x -ℤ y) ≤ nat_abs x + m
-difference_within x y m small = omega (arith, ints, small)
-
 raised_line_moved : (column far : ℕ) (fall : ℤ) (line : Line) → nat_abs fall ≡ far → IsLineMoved far line (raised_line column fall line)
 raised_line_moved column far fall line far_is =
     let times : nat_abs (fall *ℤ number_at line.numbers column) ≡ nat_abs fall * nat_abs (number_at line.numbers column) =
@@ -53,7 +47,7 @@ raised_line_moved column far fall line far_is =
     let is : nat_abs fall * step_of line ≡ far * step_of line = ap (λ (m : ℕ). m * step_of line) far_is in
     record {
       same = refl;
-      size = sum_within line.constant (fall *ℤ number_at line.numbers column) (far * step_of line) (omega (arith, times, most, is));
+      size = sum_small (nat_abs line.constant) (far * step_of line) line.constant (fall *ℤ number_at line.numbers column) (omega arith) (omega (arith, times, most, is));
     }
 
 lowered_line_moved : (far : ℕ) (fall : ℤ) (line : Line) → nat_abs fall ≡ far →
@@ -65,7 +59,7 @@ lowered_line_moved far fall line far_is =
     let is : step_of line * nat_abs fall ≡ far * step_of line = grind (arith, far_is) in
     record {
       same = refl;
-      size = difference_within line.constant (line.denominator *ℤ fall) (far * step_of line) (omega (arith, times, most, is));
+      size = difference_small (nat_abs line.constant) (far * step_of line) line.constant (line.denominator *ℤ fall) (omega arith) (omega (arith, times, most, is));
     }
 
 zero_line_moved : (far : ℕ) (line : Line) → IsLineMoved far line (with_constant line (pos 0))
@@ -173,12 +167,12 @@ raised_all D column fall (line ∷ lines) =
     ∙ ap (λ (rows : List (List ℤ)). raised column fall (scaled_line D line) ∷ rows) (raised_all D column fall lines)
 
 -- one whose own form falls
-lowered_scaled : (D : ℕ) (fall : ℤ) (line : Line) → (line.denominator *ℤ pos (share_of D line)) ≡ pos D →
+lowered_scaled : (D : ℕ) (fall : ℤ) (line : Line) → (pos (share_of D line) *ℤ line.denominator) ≡ pos D →
     scaled_line D (with_constant line (line.constant -ℤ (line.denominator *ℤ fall))) ≡ lowered (pos D *ℤ fall) (scaled_line D line)
 lowered_scaled D fall line whole =
     let s = pos (share_of D line) in
     ap (λ (z : ℤ). z ∷ map (λ z. z *ℤ s) line.numbers)
-    (ring (line.constant ∷ line.denominator ∷ fall ∷ s ∷ []) ((var 0 ⊖ var 1 ⊗ var 2) ⊗ var 3) (var 0 ⊗ var 3 ⊖ (var 1 ⊗ var 3) ⊗ var 2) refl
+    (ring (line.constant ∷ line.denominator ∷ fall ∷ s ∷ []) ((var 0 ⊖ var 1 ⊗ var 2) ⊗ var 3) (var 0 ⊗ var 3 ⊖ (var 3 ⊗ var 1) ⊗ var 2) refl
     ∙ ap (λ (z : ℤ). (line.constant *ℤ s) -ℤ (z *ℤ fall)) whole)
 
 -- one of the basis: its constant is 0, and its number in its own column the denominator
@@ -198,7 +192,7 @@ row_there D v lines v_in = get_or-map (scaled_line D) lines v no_line [] v_in
 
 -- what the lines of x - low are over the common denominator after a lower bound moved
 pub low_lows : (D v : ℕ) (lines : List Line) (column : Option ℕ) (fall : ℤ) → v < length lines →
-    ((slice_index_or lines v no_line).denominator *ℤ pos (share_of D (slice_index_or lines v no_line))) ≡ pos D →
+    (pos (share_of D (slice_index_or lines v no_line)) *ℤ (slice_index_or lines v no_line).denominator) ≡ pos D →
     ((j : ℕ) → column ≡ Some j → (((slice_index_or lines v no_line).constant *ℤ pos (share_of D (slice_index_or lines v no_line))) ≡ pos 0)
     × ((number_at (slice_index_or lines v no_line).numbers j *ℤ pos (share_of D (slice_index_or lines v no_line))) ≡ pos D)) →
     map (scaled_line D) (lines_after_low lines column v fall) ≡ lowered_rows v (pos D *ℤ fall) (raised_rows column fall (map (scaled_line D) lines))

@@ -1,5 +1,5 @@
 -- The constants of all forms of a box and of rows, told by their places.
-use Rattle.std.proofs.Common.{◌≡◌, ◌≢◌, ℕ, ◌+◌, ◌-◌, ◌<◌, ◌≤◌, [], ◌∷◌, map, refl, inl, inr, sym, ◌∙◌, ap, subst, List, length, arith, get_or-set_same, get_or-set_other}
+use Rattle.std.proofs.Common.{◌≡◌, ℕ, ◌+◌, ◌-◌, ◌<◌, [], ◌∷◌, map, refl, inl, inr, sym, ◌∙◌, ap, subst, List, length, arith, get_or-set_same, get_or-set_other}
 use Rattle.std.specs.Prelude.{◌⊎◌, ℤ, pos, negsuc, ◌+ℤ◌, ◌-ℤ◌, ◌*ℤ◌, slice_index, slice_index_or, slice_set}
 use Rattle.std.proofs.lemmas.Bool.{cases_eq, cases_lt}
 use Rattle.whole_numbers.proofs.Ring.{var, num, ◌⊕◌, ◌⊖◌, ◌⊗◌, ring}
@@ -43,7 +43,7 @@ module _ (costs : CostBox) (rows : List Form) (D : ℕ) (lows : List (List ℤ))
       ∙ ap (λ z. (pos D *ℤ pos 0) +ℤ z) (unit_sum (length costs.low) v (pos 1) zs v_in (sym zs_long))
       ∙ ring (pos D ∷ number_at zs v ∷ []) ((var 0 ⊗ num (pos 0)) ⊕ num (pos 1) ⊗ var 1) (var 1) refl
 
-  high_total : (v : ℕ) → v < length costs.low → number_of_form D costs.low lows (member_form (length costs.low) rows (High v (slice_index costs.high v))) 0
+  pub high_total : (v : ℕ) → v < length costs.low → number_of_form D costs.low lows (member_form (length costs.low) rows (High v (slice_index costs.high v))) 0
       ≡ ((pos D *ℤ (pos (slice_index costs.high v) -ℤ pos (slice_index costs.low v))) -ℤ number_at zs v)
   high_total v v_in =
       total_is (member_form (length costs.low) rows (High v (slice_index costs.high v)))

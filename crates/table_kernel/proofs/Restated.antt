@@ -28,10 +28,10 @@ use Rattle.table_kernel.proofs.Columns.{column_number}
 use Rattle.table_kernel.proofs.LineFills.{fill_behind, fill_done, fill_first, fill_long, fill_next, filled_to}
 
 -- the numbers of a place's form are its constant and those at the columns
-pub place_numbers : (k : Kernel) → ConstantsAre k → (place : ℕ) → place < length k.constants.items →
+pub numbers_told : (k : Kernel) → ConstantsAre k → (place : ℕ) → place < length k.constants.items →
     numbers_of_form (width_of k) (nat_abs k.common) k.table.costs.low (lows_of k) (form_of_place k place)
     ≡ number_at k.constants.items place ∷ numbers_of_place k place
-place_numbers k c place place_in =
+numbers_told k c place place_in =
     let number = number_of_form (nat_abs k.common) k.table.costs.low (lows_of k) (form_of_place k place) in
     ap (λ (z : ℤ). z ∷ map number (numbers_from 1 (width_of k))) (sym (c place place_in))
     ∙ ap (λ (zs : List ℤ). number_at k.constants.items place ∷ zs)
@@ -48,7 +48,7 @@ line_of_place k m place place_in line line_is =
     let basis = kernel_basis k m in
     let members = members_of_box k.table.costs (length k.table.rows.items) in
     line_is
-    ∙ ap (map (over_common (nat_abs k.common))) (sym (place_numbers k basis.1 place place_in))
+    ∙ ap (map (over_common (nat_abs k.common))) (sym (numbers_told k basis.1 place place_in))
     ∙ sym (get_or-map (fraction_line (nat_abs k.common) k.table.costs k.table.rows.items (lows_of k)) members place
     (Low 0 0) [] (subst (λ (n : ℕ). place < n) m.shaped.constants place_in))
 

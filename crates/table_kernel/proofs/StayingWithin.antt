@@ -4,7 +4,6 @@ use native.Mathlib.Nat.{div-mul_cancel}
 use Rattle.std.proofs.Common.{◌≡◌, Bool, ◌↔◌, ℕ, ◌*◌, ◌/◌, ◌^◌, ◌<◌, ◌≤◌, ap, subst, [], ◌∷◌, arith, refl, sym, ◌∙◌}
 use Rattle.std.specs.Prelude.{ℤ, pos, negsuc, ◌*ℤ◌, nat_abs, IsTrue}
 use Rattle.std.proofs.lemmas.Int.{unsigned_abs-mul}
-use Rattle.std.proofs.Math.Nat.{mul-le-mul_left}
 use Rattle.whole_numbers.specs.Fractions.{exact_quotient, gcd}
 use Rattle.whole_numbers.specs.Lists.{number_at}
 use Rattle.whole_numbers.proofs.Divisors.{gcd_is}
@@ -17,6 +16,7 @@ use Rattle.integer_pivots.specs.Lines.{IsLine}
 use Rattle.integer_pivots.specs.Turns.{IsTurnedLine, denominator_after, turn_at, turned_number}
 use Rattle.table_kernel.specs.declared.kernel.Kernel.{Kernel}
 use Rattle.table_kernel.specs.Turns.{constant_size, line_of, turn_of_line}
+use Rattle.table_kernel.proofs.Shares.{factor_within}
 
 pos_same : (a b : ℕ) → pos a ≡ pos b → a ≡ b
 pos_same a b same = ap nat_abs same
@@ -51,8 +51,8 @@ constant_same turn column entering old new C t some first second =
 -- a number that stays within the limit with a share that is positive is within it itself
 pub within_share : (n share : ℕ) → 0 < share → n * share ≤ 2 ^ 44 → n ≤ 2 ^ 62
 within_share n share some product =
-    let more : n * 1 ≤ n * share = mul-le-mul_left n (let e : 1 ≤ share = omega (arith, some) in e) in
-    omega (arith, more, product)
+    let small = factor_within n share (2 ^ 44) (omega (arith, some)) product in
+    omega (arith, small)
 
 -- a number without a factor is 0, and then the multiplier is 1
 no_number : (z : ℤ) (g : ℕ) → g ∣ nat_abs z → exact_quotient z g ≡ pos 0 → z ≡ pos 0

@@ -27,7 +27,8 @@ use Rattle.table_kernel.specs.Numbers.{share_of}
 use Rattle.table_kernel.specs.Turns.{AreLinesTurned, ConstantsStaySmall, HasTurned, IsLineReady, IsLineTurned, IsReadyToTurn, KeepsAllButLows, LinesStaySmall, MayLineTurn, MayTurn, line_of, next_common, turn_of_line}
 use Rattle.table_kernel.proofs.CommonSteps.{after_some, common_grows, each_goes_in}
 use Rattle.table_kernel.proofs.StayingWithin.{constant_same, stays, within_share}
-use Rattle.table_kernel.proofs.TurnArgs.{common_read, line_ready}
+use Rattle.table_kernel.proofs.Lines.{read_common}
+use Rattle.table_kernel.proofs.TurnArgs.{line_ready}
 
 -- the denominators after the pivot are positive, and so is their common multiple
 pub afters_some : (k : Kernel) (column : ℕ) → IsReadyToTurn k column → All (λ (line : Line). 0 < denominator_after k.entering column line) k.lows.items
@@ -191,7 +192,7 @@ pub tested : (k h : Kernel) (column : ℕ) (common : ℤ) → IsReadyToTurn k co
     IsNext k column common →
     ConstantsStaySmall k column (nat_abs (read common)) → IsTurnTested k h column (read common)
 tested k h column common r o turned is constants =
-    let same = common_read common (is.0, is.2) in
+    let same = read_common common (is.0, is.2) in
     record {
       ready = r;
       keeps = o;
@@ -333,7 +334,7 @@ pub may_turn : (k : Kernel) (column : ℕ) (common : ℤ) → LinesStaySmall k c
 may_turn k column common lines is constants = record {
   lines = lines;
   common = subst (λ (n : ℕ). n ≤ 2 ^ 30) is.1 (size_most common (2 ^ 30) is.0 is.2);
-  constants = subst (ConstantsStaySmall k column) (ap nat_abs (common_read common (is.0, is.2)) ∙ is.1) constants;
+  constants = subst (ConstantsStaySmall k column) (ap nat_abs (read_common common (is.0, is.2)) ∙ is.1) constants;
 }
 
 -- and where it may, its constants stay small
@@ -341,7 +342,7 @@ pub may_constants : (k : Kernel) (column : ℕ) (common : ℤ) →
     IsNext k column common → MayTurn k column →
     ConstantsStaySmall k column (nat_abs (read common))
 may_constants k column common is may =
-    subst (ConstantsStaySmall k column) (sym (ap nat_abs (common_read common (is.0, is.2)) ∙ is.1)) may.constants
+    subst (ConstantsStaySmall k column) (sym (ap nat_abs (read_common common (is.0, is.2)) ∙ is.1)) may.constants
 
 -- a line that is put in its place has turned
 pub line_put : (k h : Kernel) (column v : ℕ) (line new : Line) (turn : Turn) → v < length k.lows.items → h.lows.items ≡ slice_set k.lows.items v new →

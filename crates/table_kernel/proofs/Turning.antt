@@ -1,5 +1,5 @@
 -- The basis after a pivot of a kernel: the turned lines over the new common denominator, each from its own one.
-use Rattle.std.proofs.Common.{◌≡◌, ◌≢◌, ℕ, zero, suc, ◌*◌, ◌/◌, ◌<◌, refl, sym, ◌∙◌, ap, subst, List, [], ◌∷◌, map, length, arith, inl, inr}
+use Rattle.std.proofs.Common.{◌≡◌, ◌≢◌, ℕ, zero, suc, ◌*◌, ◌<◌, refl, sym, ◌∙◌, ap, subst, List, [], ◌∷◌, map, length, arith, inl, inr}
 use Rattle.std.specs.Prelude.{ℤ, pos, negsuc, ◌+ℤ◌, ◌-ℤ◌, ◌*ℤ◌, ◌<ℤ◌, nat_abs, slice_index_or, slice_set}
 use Prim.Native.Nat.{◌∣◌}
 use native.Mathlib.Nat.{div-mul_cancel, zero-mul}
@@ -10,10 +10,9 @@ use Rattle.std.proofs.lemmas.List.{ext_get_or, get_or-map, length-map, length-se
 use Rattle.std.proofs.lemmas.List.Elements.{All-set}
 use Rattle.whole_numbers.specs.Fractions.{exact_quotient, gcd}
 use Rattle.whole_numbers.specs.Lists.{number_at}
-use Rattle.whole_numbers.proofs.Divisors.{gcd_is, quotient_positive}
+use Rattle.whole_numbers.proofs.Divisors.{gcd_is}
 use Rattle.whole_numbers.proofs.FractionLaws.{cancel, over-mul}
 use Rattle.whole_numbers.proofs.Ring.{var, num, neg, ◌⊕◌, ◌⊖◌, ◌⊗◌, ring, ring_by, using, nothing}
-use Rattle.whole_numbers.proofs.Sizes.{positive_is}
 use Rattle.design_problem.specs.declared.form.Form.{Form}
 use Rattle.design_problem.specs.declared.form.CostBox.{CostBox}
 use Rattle.design_problem.specs.declared.tree.Member.{Member}
@@ -36,6 +35,8 @@ use Rattle.table_kernel.specs.Bases.{AreAtBasis}
 use Rattle.table_kernel.specs.Numbers.{scaled_line, share_of}
 use Rattle.table_kernel.proofs.AtBasis.{number_scaled, scaled_by}
 use Rattle.table_kernel.proofs.Columns.{line_number, scaled_number}
+use Rattle.table_kernel.proofs.CommonSteps.{turn_positive}
+use Rattle.table_kernel.proofs.Shares.{share_exact}
 
 -- What a pivot needs: the form of a member enters at a column in which it has a positive number, and which is the least
 -- of those.
@@ -108,13 +109,6 @@ turn_even y u =
     ∙ ring (m ∷ q ∷ pos g ∷ []) (var 0 ⊗ (var 1 ⊗ var 2)) (var 1 ⊗ (var 0 ⊗ var 2)) refl
     ∙ ap (λ z. q *ℤ z) (over-mul u g (div-mul_cancel g divides.1))
 
-turn_positive : (y u : ℤ) → pos 0 <ℤ u → pos 0 <ℤ (turn_by y u).multiplier
-turn_positive y (pos n) high =
-    let quotient : 0 < n / gcd (nat_abs y) n =
-    quotient_positive n (gcd (nat_abs y) n) (omega (arith, ints, high)) (gcd_is (nat_abs y) n).1 in
-    omega (arith, ints, quotient)
-turn_positive y (negsuc n) high = absurd (omega (arith, ints, high))
-
 -- A line's number x over d, and y at the pivot's column; the entering line's t and u over f; s and r are how often d and
 -- the new line's e go into D and L. The number after the turn over L is that of the turned row over D and A.
 number_crossed : (d m f s r e x y t u T A q new : ℤ) → pos 0 <ℤ d → pos 0 <ℤ m → pos 0 <ℤ f →
@@ -176,12 +170,6 @@ pub record IsTurnedOver (D L j : ℕ) (entering old new : Line) : Type 0 where
 scaled_long : (D : ℕ) (line : Line) → length (scaled_line D line) ≡ suc (length line.numbers)
 scaled_long D line = length-map (line.constant ∷ line.numbers) (λ z. z *ℤ pos (share_of D line))
 
--- how often a denominator goes into its multiple, times it
-share_exact : (D : ℕ) (line : Line) → pos 0 <ℤ line.denominator → nat_abs line.denominator ∣ D →
-    (pos (share_of D line) *ℤ line.denominator) ≡ pos D
-share_exact D line positive divides =
-    ap (λ z. pos (share_of D line) *ℤ z) (positive_is line.denominator positive) ∙ ap pos (div-mul_cancel (nat_abs line.denominator) divides)
-
 -- a turned line's number at a place but the column's
 line_turned : (j : ℕ) (entering old new : Line) → length old.numbers ≡ length entering.numbers →
     IsTurnedLine (turn_at entering j old) j entering old new → (place : ℕ) → place < suc (length entering.numbers) →
@@ -205,8 +193,8 @@ place_crossed D L a j ts entering old new e o place place_in =
     let m = (turn_at entering j old).multiplier in
     let q = (turn_at entering j old).factor in
     let long : length xs ≡ length ts = scaled_long D old ∙ ap suc o.long ∙ sym e.count in
-    let exact : (s *ℤ old.denominator) ≡ pos D = share_exact D old o.positive o.before in
-    let exact_after : (r *ℤ new.denominator) ≡ pos L = share_exact L new o.turned.positive o.after in
+    let exact : (s *ℤ old.denominator) ≡ pos D = share_exact D old.denominator o.positive o.before in
+    let exact_after : (r *ℤ new.denominator) ≡ pos L = share_exact L new.denominator o.turned.positive o.after in
     let m_positive : pos 0 <ℤ m = turn_positive y u e.pivot in
     let even : (m *ℤ y) ≡ (q *ℤ u) = turn_even y u in
     let column_in : suc j < length ts = omega (arith, e.count, e.j_in) in

@@ -1,12 +1,14 @@
 -- Whole numbers that 128 bits hold: products, and sums over the terms of a form.
-use Rattle.std.proofs.Common.{◌≡◌, ℕ, ◌+◌, ◌^◌, ◌<◌, ◌≤◌, sym, subst, ◌∙◌, ap, List, length, get_or, arith, FitsSigned, to_z, of_z, [], ◌∷◌, refl}
+use Rattle.std.proofs.Common.{◌≡◌, ℕ, ◌+◌, ◌^◌, ◌<◌, ◌≤◌, sym, subst, ◌∙◌, ap, List, length, get_or, arith, FitsSigned, to_z, of_z}
 use Rattle.std.specs.Prelude.{ℤ, pos, ◌+ℤ◌, ◌-ℤ◌, ◌*ℤ◌, neg_ℤ, nat_abs}
 use Rattle.std.specs.Int.{w128}
 use Rattle.std.proofs.lemmas.Int.{fits_signed_from_abs, ints, to_z-of_z}
 use Rattle.whole_numbers.proofs.Ring.{var, num, neg, ◌⊖◌, ring}
+use Rattle.std.proofs.Common.{[], ◌∷◌, refl}
 use Rattle.whole_numbers.specs.Lists.{number_at}
 use Rattle.design_problem.specs.declared.form.Term.{Term}
-use Rattle.table_kernel.proofs.LineSums.{IsPartSum, product_small, summed_more}
+use Rattle.integer_pivots.proofs.Sizes.{product_small}
+use Rattle.table_kernel.proofs.LineSums.{IsPartSum, summed_more}
 
 -- what is read of 128 bits into which the number is put
 abbrev pub read_of : ℤ → ℤ

@@ -1,5 +1,5 @@
 -- Numbers of forms at the columns of a basis over one denominator, by those of x - low for each variable.
-use Rattle.std.specs.Prelude.{ℕ, ◌/◌, List, [], ◌∷◌, ℤ, pos, ◌*ℤ◌, nat_abs, map, length}
+use Rattle.std.specs.Prelude.{ℕ, ◌/◌, List, ◌∷◌, ℤ, pos, ◌*ℤ◌, nat_abs, map, length}
 use Rattle.whole_numbers.specs.Fractions.{Fraction, reduced}
 use Rattle.design_problem.specs.declared.form.Form.{Form}
 use Rattle.design_problem.specs.declared.form.CostBox.{CostBox}

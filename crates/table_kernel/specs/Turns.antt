@@ -1,5 +1,5 @@
 -- When a kernel may turn at a pivot, and what is left where it may not.
-use Rattle.std.specs.Prelude.{◌≡◌, ◌≢◌, ℕ, ◌*◌, ◌/◌, ◌^◌, ◌<◌, ◌≤◌, ◌⊎◌, ℤ, pos, ◌<ℤ◌, ◌≤ℤ◌, nat_abs, Some, length, slice_index_or, All}
+use Rattle.std.specs.Prelude.{◌≡◌, ◌≢◌, ℕ, ◌*◌, ◌/◌, ◌^◌, ◌<◌, ◌≤◌, ◌⊎◌, pos, ◌<ℤ◌, ◌≤ℤ◌, nat_abs, Some, length, slice_index_or, All}
 use Prim.Native.Nat.{◌∣◌}
 use Rattle.whole_numbers.specs.Lists.{number_at}
 use Rattle.integer_pivots.specs.declared.line.Line.{Line}

@@ -1,7 +1,7 @@
 -- The product is read as it is.
 use Rattle.std.proofs.Common.{◌^◌, ◌≤◌, arith, subst, sym}
 use Rattle.std.specs.Prelude.{ℤ, nat_abs}
-use Rattle.table_kernel.proofs.TermSums.{product_small}
+use Rattle.integer_pivots.proofs.Sizes.{product_small}
 use Rattle.table_kernel.proofs.ConstantSums.{read_product}
 use Rattle.table_kernel.proofs.constants.common_value.Goals as goal
 

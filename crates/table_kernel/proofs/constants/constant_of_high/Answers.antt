@@ -1,5 +1,5 @@
 -- The difference is read as it is.
-use Rattle.std.proofs.Common.{◌<◌, ◌≤◌, ◌^◌, arith, subst, sym}
+use Rattle.std.proofs.Common.{◌≤◌, ◌^◌, arith, subst, sym}
 use Rattle.std.specs.Prelude.{ℤ, pos, ◌-ℤ◌, nat_abs}
 use Rattle.integer_pivots.proofs.Sizes.{size_most}
 use Rattle.table_kernel.proofs.ConstantSums.{high_read}

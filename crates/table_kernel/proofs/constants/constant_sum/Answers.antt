@@ -2,7 +2,7 @@
 use Rattle.std.proofs.Common.{◌^◌, get_or, w64, arith}
 use Rattle.std.proofs.lemmas.Int.{fits_signed_from_abs}
 use Rattle.design_problem.specs.Forms.{no_term}
-use Rattle.table_kernel.proofs.TermSums.{summed_all, summed_first}
+use Rattle.table_kernel.proofs.LineSums.{summed_all, summed_first}
 use Rattle.table_kernel.proofs.ConstantSums.{gathered_read}
 use Rattle.table_kernel.proofs.constants.constant_sum.Goals as goal
 

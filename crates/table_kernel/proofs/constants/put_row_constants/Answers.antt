@@ -1,12 +1,10 @@
 -- One more row's constant is put.
-use Rattle.std.proofs.Common.{◌≡◌, ℕ, ◌+◌, ◌<◌, ◌≤◌, ◌^◌, ◌∙◌, arith, length, subst, sym, ap, List, w64, to_z, of_z, get_or-set_other}
+use Rattle.std.proofs.Common.{◌≡◌, ◌+◌, ◌<◌, ◌≤◌, ◌^◌, ◌∙◌, arith, length, subst, sym, ap, w64, to_z, of_z, get_or-set_other}
 use Rattle.std.specs.Prelude.{ℤ, nat_abs, pos, ◌+ℤ◌, ◌*ℤ◌, slice_index_or}
 use Rattle.std.proofs.lemmas.List.{get_or_default, length-set}
 use Rattle.std.proofs.lemmas.List.Elements.{All-set}
-use Rattle.design_problem.specs.declared.form.Form.{Form}
 use Rattle.design_problem.specs.Forms.{no_form, value_for_costs}
-use Rattle.integer_pivots.proofs.Sizes.{read_number, size_most}
-use Rattle.integer_pivots.specs.Numbers.{product_sum}
+use Rattle.integer_pivots.proofs.Sizes.{read_number}
 use Rattle.table_kernel.specs.Rows.{row_constant_of}
 use Rattle.table_kernel.proofs.Places.{behind_more}
 use Rattle.table_kernel.proofs.ConstantSums.{sums_alike}

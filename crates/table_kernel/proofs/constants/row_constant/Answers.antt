@@ -1,5 +1,5 @@
 -- The two parts of the constant.
-use Rattle.std.proofs.Common.{◌≡◌, ◌<◌, ◌^◌, ◌∙◌, arith, subst, sym, ap, w64, to_z, of_z}
+use Rattle.std.proofs.Common.{◌<◌, ◌^◌, ◌∙◌, arith, subst, sym, ap, w64, to_z, of_z}
 use Rattle.std.specs.Prelude.{ℤ, ◌*ℤ◌, nat_abs}
 use Rattle.integer_pivots.proofs.Sizes.{read_number, size_most}
 use Rattle.table_kernel.proofs.ConstantSums.{read_sum}

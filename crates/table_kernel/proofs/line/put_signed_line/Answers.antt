@@ -6,7 +6,8 @@ use Rattle.std.proofs.lemmas.List.{length-set}
 use Rattle.whole_numbers.specs.Lists.{number_at}
 use Rattle.integer_pivots.proofs.Sizes.{number_within, read, read_number}
 use Rattle.integer_pivots.proofs.WrittenPlaces.{written_more}
-use Rattle.table_kernel.proofs.Lines.{denominator_read, numbers_small, reach_read}
+use Rattle.table_kernel.proofs.Columns.{numbers_small}
+use Rattle.table_kernel.proofs.Lines.{denominator_read, reach_read}
 use Rattle.table_kernel.proofs.line.put_signed_line.Goals as goal
 use Rattle.table_kernel.proofs.line.put_signed_line.Goals.{In-loop-column}
 

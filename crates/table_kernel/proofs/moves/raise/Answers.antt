@@ -1,11 +1,11 @@
 -- One more line has risen.
-use Rattle.std.proofs.Common.{◌≡◌, ℕ, ◌+◌, ◌<◌, ◌≤◌, ◌^◌, ◌∙◌, ap, subst, sym, List, map, length, arith, w64, to_z, of_z}
-use Rattle.std.specs.Prelude.{ℤ, pos, ◌+ℤ◌, ◌*ℤ◌, nat_abs, slice_index_or}
+use Rattle.std.proofs.Common.{◌≡◌, ◌<◌, ◌∙◌, ap, subst, sym, List, map, length, arith}
+use Rattle.std.specs.Prelude.{ℤ, pos, ◌+ℤ◌, ◌*ℤ◌, slice_index_or}
 use Rattle.std.proofs.lemmas.List.{ext_get_or, get_or-map, get_or_default, length-map, length-set}
 use Rattle.whole_numbers.specs.Lists.{number_at}
 use Rattle.integer_pivots.specs.declared.line.Line.{Line}
-use Rattle.integer_pivots.specs.Lines.{IsLine, no_line}
-use Rattle.integer_pivots.proofs.Sizes.{number_within, read, read_number}
+use Rattle.integer_pivots.specs.Lines.{no_line}
+use Rattle.integer_pivots.proofs.Sizes.{read, read_number}
 use Rattle.integer_pivots.proofs.WrittenPlaces.{rest_more, written_more}
 use Rattle.table_kernel.specs.Moves.{raised_line, with_constant}
 use Rattle.table_kernel.proofs.Columns.{number_small}

@@ -1,6 +1,6 @@
 -- The greater of the greatest number and the denominator.
-use Rattle.std.proofs.Common.{◌≡◌, ◌≤◌, ◌<◌, ◌^◌, ◌∙◌, ap, subst, sym, arith}
-use Rattle.std.specs.Prelude.{ℤ, pos, ◌<ℤ◌, nat_abs}
+use Rattle.std.proofs.Common.{◌≡◌, ◌≤◌, ◌^◌, ◌∙◌, ap, subst, sym, arith}
+use Rattle.std.specs.Prelude.{pos, nat_abs}
 use Rattle.std.proofs.Math.Nat.{max-eq_left, max-eq_right}
 use Rattle.std.proofs.lemmas.Int.{ints}
 use Rattle.whole_numbers.proofs.Sizes.{positive_is}
@@ -8,7 +8,7 @@ use Rattle.integer_pivots.specs.Numbers.{AllWithin, greatest_of}
 use Rattle.integer_pivots.proofs.Sizes.{read, read_number, size_most}
 use Rattle.integer_pivots.proofs.TurnLaws.{greatest_is}
 use Rattle.table_kernel.proofs.OverCommon.{pos_size}
-use Rattle.table_kernel.proofs.Columns.{reach_small}
+use Rattle.table_kernel.proofs.Columns.{numbers_small}
 use Rattle.table_kernel.proofs.moves.step.Goals.{After-greatest-most}
 use Rattle.table_kernel.proofs.moves.step.Goals as goal
 
@@ -22,7 +22,7 @@ module _ (c : After-greatest-most) where
   most_small : nat_abs c.greatest-most.result ≤ 2 ^ 30
   most_small =
       c.greatest-most.ensures.least (2 ^ 30)
-      (subst (AllWithin (2 ^ 30)) (sym c.as_slice.ensures) (reach_small c.args.line.now c.requires.line))
+      (subst (AllWithin (2 ^ 30)) (sym c.as_slice.ensures) (numbers_small c.args.line.now c.requires.line))
 
   most_read : read c.greatest-most.result ≡ pos (greatest_of c.args.line.now.numbers)
   most_read =

@@ -9,7 +9,8 @@ use Rattle.integer_pivots.specs.Turns.{denominator_after, turned_number}
 use Rattle.integer_pivots.proofs.Sizes.{read}
 use Rattle.table_kernel.specs.Turns.{line_of}
 use Rattle.table_kernel.proofs.StayingWithin.{constant_told}
-use Rattle.table_kernel.proofs.TurnArgs.{after_read, common_read, line_read}
+use Rattle.table_kernel.proofs.Lines.{read_common}
+use Rattle.table_kernel.proofs.TurnArgs.{after_read, line_read}
 use Rattle.table_kernel.proofs.kernel.Kernel.constant_stays_small.Goals as goal
 
 pub share_in-requires-clause-divides : goal.share_in-requires-clause-divides
@@ -24,7 +25,7 @@ share_in-requires-clause-divides c =
     ∙ after_read k c.args.column v c.index.result.now c.turn_at-turn.result c.requires.ready
     (line_read k v c.index.result.now c.requires.ready.among c.index.ensures) c.turn_at-turn.ensures.turn c.turn_at-turn.ensures.multiplier in
     subst (λ (n : ℕ). n ∣ nat_abs (read c.args.common)) (sym after_is)
-    (subst (λ (z : ℤ). after ∣ nat_abs z) (sym (common_read c.args.common c.requires.common)) c.requires.divides)
+    (subst (λ (z : ℤ). after ∣ nat_abs z) (sym (read_common c.args.common c.requires.common)) c.requires.divides)
 
 pub returns : goal.returns
 returns c =
@@ -45,6 +46,6 @@ returns c =
     ∙ ap (λ (m : Turn). turned_number m (line_of k v).constant k.entering.constant) turn_is)
     (ap nat_abs (to_z-of_z w64 c.share_in.result (record { sfits = c.share_in.type_inv }))
     ∙ c.share_in.ensures.share
-    ∙ ap (λ (z : ℤ). nat_abs z / nat_abs (read denominator)) (common_read c.args.common c.requires.common)
+    ∙ ap (λ (z : ℤ). nat_abs z / nat_abs (read denominator)) (read_common c.args.common c.requires.common)
     ∙ ap (λ (n : ℕ). nat_abs c.args.common / n) after_is)
     c.stays_within.ensures

@@ -1,6 +1,6 @@
 -- The limit is tested as it is.
 use Rattle.std.proofs.Common.{◌≡◌, ℕ, ◌+◌, ◌*◌, ◌≤◌, ◌<◌, ◌^◌, ◌∙◌, ap, subst, sym, arith}
-use Rattle.std.specs.Prelude.{ℤ, pos, nat_abs}
+use Rattle.std.specs.Prelude.{nat_abs}
 use Rattle.std.proofs.lemmas.Bool.{le-leb, leb-true}
 use Rattle.std.proofs.lemmas.Int.{ints}
 use Rattle.std.proofs.lemmas.List.{get_or_default}
@@ -11,7 +11,6 @@ use Rattle.integer_pivots.proofs.Sizes.{read, read_number}
 use Rattle.table_kernel.specs.Moves.{step_of}
 use Rattle.table_kernel.specs.Numbers.{share_of}
 use Rattle.table_kernel.specs.Turns.{line_of}
-use Rattle.table_kernel.proofs.AtBasis.{kernel_moves}
 use Rattle.table_kernel.proofs.Shares.{constants_short}
 use Rattle.table_kernel.proofs.kernel.Kernel.line_may_move.Goals.{After-share}
 use Rattle.table_kernel.proofs.kernel.Kernel.line_may_move.Goals as goal
@@ -36,7 +35,7 @@ module _ (c : After-share) where
 
   constant_is : c.from.result ≡ nat_abs (line_of c.args.self.now c.args.var).constant
   constant_is =
-      let short = constants_short c.args.self.now (kernel_moves c.args.self.now c.requires.kernel) c.args.var no_line (omega (arith, c.requires.var, c.requires.kernel.shaped.lows)) in
+      let short = constants_short c.args.self.now c.requires.kernel.bounded c.args.var no_line (omega (arith, c.requires.var, c.requires.kernel.shaped.lows)) in
       c.from.ensures
       ∙ c.unsigned_abs.ensures.value
       ∙ ap nat_abs (ap (λ (line : Line). read line.constant) line_is ∙ read_number (line_of c.args.self.now c.args.var).constant (omega (arith, short)))
@@ -52,7 +51,7 @@ module _ (c : After-share) where
 
   whole_small : (c.from.result + nat_abs (read c.args.far) * nat_abs (read c.step.result)) * nat_abs (read c.share.result) < 2 ^ 127
   whole_small =
-      let short = constants_short c.args.self.now (kernel_moves c.args.self.now c.requires.kernel) c.args.var no_line (omega (arith, c.requires.var, c.requires.kernel.shaped.lows)) in
+      let short = constants_short c.args.self.now c.requires.kernel.bounded c.args.var no_line (omega (arith, c.requires.var, c.requires.kernel.shaped.lows)) in
       let far_small : nat_abs (read c.args.far) ≤ 2 ^ 61 = omega (arith, ints, far_is, c.requires.far.0, c.requires.far.1) in
       let step_small : nat_abs (read c.step.result) ≤ 2 ^ 30 =
       omega (arith, ints, ap nat_abs (read_number c.step.result (omega (arith, ints, c.step.ensures.size.0, c.step.ensures.size.1))), c.step.ensures.size.0, c.step.ensures.size.1) in

@@ -1,12 +1,11 @@
 -- A lower bound moves.
-use Rattle.std.proofs.Common.{rules, ◌≡◌, ◌∙◌, ◌+◌, ◌<◌, ◌^◌, ap, subst, sym, arith, w16, w64, to_z, of_z, Fits}
+use Rattle.std.proofs.Common.{rules, ◌≡◌, ◌∙◌, ◌<◌, ◌^◌, ap, subst, arith, w16, Fits}
 use Rattle.std.specs.Prelude.{ℤ, ℕ, nat_abs, pos, ◌-ℤ◌, slice_index}
 use Rattle.design_problem.specs.declared.tree.Member.TheVariants.{Low}
 use Rattle.design_problem.specs.Boxes.{with_low}
 use Rattle.fraction_table.specs.Moves.{IsMoved}
 use Rattle.integer_pivots.proofs.Sizes.{read, read_number}
 use Rattle.table_kernel.specs.Kernels.{IsMoving, stated}
-use Rattle.table_kernel.specs.Moves.{MayMove}
 use Rattle.table_kernel.proofs.MovedBases.{low_same}
 use Rattle.table_kernel.proofs.MovedKernels.{IsLowShift, low_moves, low_shift_moved, moved_room, put_lows, small_fall}
 use Rattle.table_kernel.proofs.kernel.Kernel.move_low.Goals.{After-range_of-fall, After-set}

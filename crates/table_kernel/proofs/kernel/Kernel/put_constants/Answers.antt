@@ -1,5 +1,5 @@
 -- The constants of the box's forms are put, and then those of the rows.
-use Rattle.std.proofs.Common.{◌≡◌, ℕ, ◌+◌, ◌*◌, ◌<◌, ◌≤◌, ◌^◌, ◌∙◌, ◌++◌, refl, arith, length, take, drop, subst, sym, ap, List, map, w64, to_z, of_z}
+use Rattle.std.proofs.Common.{◌≡◌, ℕ, ◌+◌, ◌<◌, ◌≤◌, ◌^◌, ◌∙◌, ◌++◌, refl, arith, length, take, drop, subst, sym, ap, List, w64, to_z, of_z}
 use Rattle.std.specs.Prelude.{ℤ, nat_abs, pos, ◌+ℤ◌, ◌-ℤ◌, ◌*ℤ◌, slice_index, slice_index_or}
 use Rattle.whole_numbers.specs.Lists.{number_at}
 use Rattle.whole_numbers.proofs.Sizes.{positive_is}
@@ -8,10 +8,10 @@ use Rattle.design_problem.specs.Forms.{no_form, value_for_costs}
 use Rattle.fraction_table.proofs.Pivots.{members_long}
 use Rattle.integer_pivots.specs.declared.line.Line.{Line}
 use Rattle.integer_pivots.specs.Lines.{no_line}
-use Rattle.integer_pivots.specs.Numbers.{AllWithin, product_sum}
-use Rattle.integer_pivots.proofs.Sizes.{number_within, read_number, size_most}
+use Rattle.integer_pivots.specs.Numbers.{product_sum}
+use Rattle.integer_pivots.proofs.Sizes.{number_within, read_number}
 use Rattle.integer_pivots.proofs.WrittenPlaces.{written}
-use Rattle.table_kernel.specs.Constants.{AreConstants, AreConstantsPut, IsShortConstant, line_constant}
+use Rattle.table_kernel.specs.Constants.{AreConstantsPut, IsShortConstant, line_constant}
 use Rattle.table_kernel.specs.Kernels.{width_of}
 use Rattle.table_kernel.proofs.Columns.{common_small, constants_long, constants_within, low_constant_at, low_constants}
 use Rattle.table_kernel.proofs.ConstantSums.{sums_alike}

@@ -3,11 +3,11 @@ use Rattle.std.proofs.Common.{◌≡◌, ◌<◌, ◌∙◌, sym, ap, subst, len
 use Rattle.std.specs.Prelude.{nat_abs}
 use Rattle.design_problem.specs.Basis.{IsFormOf}
 use Rattle.integer_pivots.specs.declared.line.Line.{Line}
-use Rattle.integer_pivots.proofs.Sizes.{read_number}
+use Rattle.integer_pivots.proofs.Sizes.{read_known, read_number}
 use Rattle.table_kernel.specs.Turns.{line_of}
 use Rattle.table_kernel.proofs.AtBasis.{kernel_basis}
 use Rattle.table_kernel.proofs.Columns.{place_is}
-use Rattle.table_kernel.proofs.Lines.{constant_small, entering_is, high_stands, line_read, low_stands, read_held}
+use Rattle.table_kernel.proofs.Lines.{constant_small, entering_is, high_stands, line_read, low_stands}
 use Rattle.table_kernel.proofs.PlaceConstants.{row_is_at}
 use Rattle.table_kernel.proofs.kernel.Kernel.put_line.Goals as goal
 
@@ -76,5 +76,5 @@ returns-in-High-clause-line c =
     entering_is k c.put_signed-in-High.new.self c.args.place p.keeps
     (high_stands k m c.args.place v c.in-High.field-1 c.requires.place c.put_signed-in-High.new.self.entering known (sym c.in-High.ensures)
     (p.keeps.entering ∙ m.shaped.entering) p.numbers p.denominator
-    (p.constant ∙ read_held c.high_constant-constant.result c.high_constant-constant.type_inv ∙ c.high_constant-constant.ensures))
+    (p.constant ∙ read_known c.high_constant-constant.result c.high_constant-constant.type_inv ∙ c.high_constant-constant.ensures))
     p.line

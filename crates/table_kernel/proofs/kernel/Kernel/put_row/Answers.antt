@@ -1,5 +1,5 @@
 -- The kernel with one more row.
-use Rattle.std.proofs.Common.{◌≡◌, ◌<◌, ◌≤◌, ◌^◌, [], ◌∷◌, ◌++◌, ◌∙◌, arith, length, subst, sym, ap, refl, List, w64, to_z, of_z}
+use Rattle.std.proofs.Common.{◌≡◌, ◌≤◌, ◌^◌, ◌∙◌, arith, length, subst, sym, ap, refl, List, w64, to_z, of_z}
 use Rattle.std.specs.Prelude.{ℤ, pos, ◌<ℤ◌, ◌≤ℤ◌, ◌*ℤ◌, ◌+ℤ◌, nat_abs}
 use Rattle.whole_numbers.specs.Lists.{number_at}
 use Rattle.design_problem.specs.Forms.{value_for_costs}

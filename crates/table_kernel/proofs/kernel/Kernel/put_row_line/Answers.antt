@@ -7,13 +7,13 @@ use Rattle.design_problem.specs.declared.form.Form.{Form}
 use Rattle.design_problem.specs.Forms.{no_form}
 use Rattle.fraction_table.proofs.Pivots.{members_long}
 use Rattle.integer_pivots.specs.Numbers.{weight_of}
-use Rattle.integer_pivots.proofs.Sizes.{read, read_number}
+use Rattle.integer_pivots.proofs.Sizes.{read, read_number, size_of}
 use Rattle.table_kernel.specs.Kernels.{width_of}
 use Rattle.table_kernel.specs.Lines.{StandsForPlace, column_of, factors as factors_pass, factors_of}
 use Rattle.table_kernel.specs.Numbers.{number_at_column}
 use Rattle.table_kernel.proofs.AtBasis.{kernel_basis}
 use Rattle.table_kernel.proofs.Columns.{common_small}
-use Rattle.table_kernel.proofs.Lines.{common_read, entering_is, keeps_entering, keeps_self, limit_kept, limit_passed, numbers_large, reduced_line, reduced_stands, row_form_is, size_at_most, sum_within}
+use Rattle.table_kernel.proofs.Lines.{common_read, entering_is, factors_told, keeps_entering, keeps_self, limit_kept, limit_passed, numbers_large, reduced_line, reduced_stands, row_form_is}
 use Rattle.table_kernel.proofs.kernel.Kernel.put_row_line.Goals as goal
 use Rattle.table_kernel.proofs.kernel.Kernel.put_row_line.Goals.{After-factor_sum, After-index-2, After-reduce}
 
@@ -35,16 +35,16 @@ sum_is : (c : After-factor_sum) →
     ≡ factors_of (nat_abs c.args.self.now.common) (slice_index_or c.args.self.now.table.rows.items c.args.row no_form).coefficients c.args.self.now.lows.items
 sum_is c =
     let k = c.args.self.now in
-    (sum_within c.factor_sum.result _ c.factor_sum.ensures.sum c.factor_sum.ensures.size).2
+    (factors_told c.factor_sum.result _ c.factor_sum.ensures.sum c.factor_sum.ensures.size).2
     ∙ ap (λ (f : Form). factors_of (nat_abs k.common) f.coefficients k.lows.items)
     (c.index.ensures ∙ get_or_default k.table.rows.items c.args.row c.index.result.now no_form c.requires.row)
 
 pub put_row_numbers-requires-clause-factors : goal.put_row_numbers-requires-clause-factors
 put_row_numbers-requires-clause-factors c =
-    let w = sum_within c.factor_sum.result _ c.factor_sum.ensures.sum c.factor_sum.ensures.size in
+    let w = factors_told c.factor_sum.result _ c.factor_sum.ensures.sum c.factor_sum.ensures.size in
     let most = limit_kept (2 ^ 32) c.factor_sum.result w.0 w.1 c.if-factor_sum-gt-FACTOR_LIMIT.false in
     subst (λ (n : ℕ). n ≤ 2 ^ 32) (sum_is (goal.at.put_row_numbers-requires-clause-factors c).After-factor_sum)
-    (size_at_most c.factor_sum.result (2 ^ 32) w.0 most)
+    (size_of c.factor_sum.result (2 ^ 32) (w.0, most))
 
 pub index-requires-2 : goal.index-requires-2
 index-requires-2 c =
@@ -127,7 +127,7 @@ returns-clause-keeps c =
 pub returns-then-factor_sum-gt-FACTOR_LIMIT-clause-large : goal.returns-then-factor_sum-gt-FACTOR_LIMIT-clause-large
 returns-then-factor_sum-gt-FACTOR_LIMIT-clause-large c =
     let k = c.args.self.now in
-    let w = sum_within c.factor_sum.result _ c.factor_sum.ensures.sum c.factor_sum.ensures.size in
+    let w = factors_told c.factor_sum.result _ c.factor_sum.ensures.sum c.factor_sum.ensures.size in
     let large = limit_passed (2 ^ 32) c.factor_sum.result w.0 w.1 c.if-factor_sum-gt-FACTOR_LIMIT.true in
     factors_pass (subst (λ (n : ℕ). 2 ^ 32 < n) (sum_is (goal.at.returns-then-factor_sum-gt-FACTOR_LIMIT-clause-large c).After-factor_sum
     ∙ ap (λ (f : Form). factors_of (nat_abs k.common) f.coefficients k.lows.items)

@@ -1,6 +1,6 @@
 -- The constant of the variable's own line falls, or those of all others rise.
 use Rattle.std.proofs.Common.{◌≡◌, ℕ, ◌<◌, ◌≤◌, ◌^◌, ◌∙◌, ap, refl, List, length, subst, sym, arith}
-use Rattle.std.specs.Prelude.{ℤ, ◌-ℤ◌, ◌*ℤ◌, Option, None, nat_abs, slice_index_or, slice_set, All}
+use Rattle.std.specs.Prelude.{ℤ, ◌-ℤ◌, ◌*ℤ◌, Option, None, nat_abs, slice_set, All}
 use Rattle.std.proofs.lemmas.List.{get_or_default}
 use Rattle.design_problem.specs.declared.tree.Member.{Member}
 use Rattle.fraction_table.specs.Moves.{IsColumnOf}
@@ -34,7 +34,7 @@ module _ (c : After-index) where
       (subst (λ (x : Line). IsReadRight (read old.denominator *ℤ read c.args.fall) (read x.constant -ℤ read (read old.denominator *ℤ read c.args.fall))
       (old.constant -ℤ (old.denominator *ℤ c.args.fall))) (sym line_is)
       (lowered_read old.denominator c.args.fall old.constant (size_most old.denominator (2 ^ 30) l.positive l.denominator) c.requires.fall
-      (constants_short k c.requires.kernel c.args.var no_line inside)))
+      (constants_short k c.requires.kernel.bounded c.args.var no_line inside)))
 
 -- what is written to
 line_is : (c : After-index_mut) → c.index_mut.result.now ≡ line_of c.args.self.now c.args.var
@@ -51,7 +51,7 @@ overflow_sub-index_mut c =
 pub raise-requires-clause-constants : goal.raise-requires-clause-constants
 raise-requires-clause-constants c =
     subst (λ (lines : List Line). All (λ (line : Line). nat_abs line.constant ≤ 2 ^ 44) lines) (sym c.as_mut_slice.ensures.value)
-    (constants_short c.args.self.now c.requires.kernel)
+    (constants_short c.args.self.now c.requires.kernel.bounded)
 
 pub returns-in-None-clause-shifted : goal.returns-in-None-clause-shifted
 returns-in-None-clause-shifted c =

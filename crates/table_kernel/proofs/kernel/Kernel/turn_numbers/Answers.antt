@@ -1,7 +1,7 @@
 -- The lines have turned, then the leads and the constants.
 use Rattle.std.specs.declared.alloc.Global.{Global}
 use Rattle.std.proofs.Common.{Vec, ◌≡◌, ◌<◌, ◌∙◌, ℕ, sym, ap, subst, length, arith}
-use Rattle.std.specs.Prelude.{ℤ, pos, ◌<ℤ◌, All}
+use Rattle.std.specs.Prelude.{pos, ◌<ℤ◌, All}
 use Rattle.std.specs.Vec.{with_items}
 use Rattle.whole_numbers.specs.Lists.{number_at}
 use Rattle.fraction_table.specs.declared.table.Table.{Table}
