@@ -10,3 +10,6 @@ pub mod Quotients
 pub mod LineLaws
 pub mod TurnLaws
 pub mod TurnedLines
+pub mod UseLaws
+pub mod UsePushes
+pub mod UseSums

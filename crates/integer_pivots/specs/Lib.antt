@@ -3,3 +3,4 @@ pub mod Leads
 pub mod Lines
 pub mod Turns
 pub mod Choices
+pub mod Uses

@@ -14,7 +14,7 @@ use crate::constants::row_constant;
 use cost_base::OutOfMemory;
 use design_problem::Form;
 use fraction_table::BlankRow;
-use integer_pivots::{WEIGHT_LIMIT, within};
+use integer_pivots::{WEIGHT_LIMIT, push_uses, reserve_uses, within};
 use std::alloc::Global;
 
 /// The sum of the sizes of a form's coefficients.
@@ -48,6 +48,7 @@ impl Kernel {
         if self.constants.reserve(1).is_err() {
             return Err(OutOfMemory);
         }
+        reserve_uses(self.uses.as_mut_slice())?;
         self.table.make_room(alloc, form)
     }
 
@@ -84,6 +85,8 @@ impl Kernel {
             self.constants.as_slice(),
         );
         self.constants.push_reserved(constant);
+        let count = self.table.rows.len();
+        push_uses(self.uses.as_mut_slice(), &row.form, count);
         self.table.put_blank(row);
     }
 }

@@ -2,7 +2,7 @@
 ghost use Rattle.std.specs.Prelude.{◌≡◌, length};
 
 use fraction_table::Table;
-use integer_pivots::Line;
+use integer_pivots::{Line, Use};
 
 /// A step might leave the kernel's bounds.
 #[derive(Clone, Copy, Debug, PartialEq, Eq)]
@@ -23,6 +23,10 @@ pub struct Kernel {
     pub leads: Vec<usize>,
     /// The constants of all forms: x - low and high - x for each variable, and the rows.
     pub constants: Vec<i64>,
+    /// For each variable, the rows in which its coefficient isn't 0, in their order.
+    pub uses: Vec<Vec<Use>>,
+    /// Room for variables: for those whose numbers at a column aren't 0.
+    pub crossing: Vec<usize>,
     /// Room for columns: for those of which one is chosen, and then for those in which a turn may change a number.
     pub left: Vec<usize>,
     /// Room for the line of the form that enters the basis.

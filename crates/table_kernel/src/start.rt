@@ -13,7 +13,7 @@ use crate::Kernel;
 use cost_base::{Listed, OutOfMemory};
 use design_problem::CostBox;
 use fraction_table::{range_of, starting_table};
-use integer_pivots::Line;
+use integer_pivots::{Line, empty_uses};
 use std::alloc::Global;
 use wide_fraction::Top;
 
@@ -122,6 +122,8 @@ pub fn starting_kernel(alloc: Global, costs: &CostBox, top: Top) -> Result<Kerne
         lows: unit_lines(alloc, width)?,
         leads: unit_leads(alloc, width)?,
         constants: bound_constants(alloc, costs)?,
+        uses: empty_uses(alloc, width)?,
+        crossing: room_of(alloc, width)?,
         left: room_of(alloc, width)?,
         entering: zero_line(alloc, width)?,
     })

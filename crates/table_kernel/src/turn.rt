@@ -12,7 +12,7 @@ ghost use Rattle.table_kernel.specs.Turns.{AreLinesTurned, ConstantsStaySmall, H
 
 use crate::Kernel;
 use crate::kernel::OutOfRange;
-use integer_pivots::{CONSTANT_LIMIT, Turn, common_multiple, put_touched, turn_leads, turn_of};
+use integer_pivots::{CONSTANT_LIMIT, Turn, common_multiple, put_touched, put_uses, turn_leads, turn_of};
 
 /// A denominator times a multiplier.
 fn denominator_times(denominator: i64, multiplier: i64) -> i64
@@ -74,8 +74,8 @@ impl Kernel {
         requires ready { IsReadyToTurn self.now column }
         ensures { IsTrue result ↔ LinesStaySmall self.now column }
     {
-        for var in 0..self.lows.len() {
-            if !self.line_stays_small(var, column) {
+        for index in 0..self.crossing.len() {
+            if !self.line_stays_small(self.crossing[index], column) {
                 return false;
             }
         }
@@ -108,8 +108,8 @@ impl Kernel {
             (pos 0 <ℤ common) × (nat_abs common ≡ next_common self.now column) × (common ≤ℤ pos (2 ^ 30))) }
     {
         let mut common = self.common;
-        for var in 0..self.lows.len() {
-            common = self.common_with(var, column, common)?;
+        for index in 0..self.crossing.len() {
+            common = self.common_with(self.crossing[index], column, common)?;
         }
         Some(common)
     }
@@ -136,6 +136,14 @@ impl Kernel {
         requires next { nat_abs common ≡ next_common self.now column }
         ensures { IsTrue result ↔ ConstantsStaySmall self.now column (nat_abs common) }
     {
+        if common == self.common {
+            for index in 0..self.crossing.len() {
+                if !self.constant_stays_small(self.crossing[index], column, common) {
+                    return false;
+                }
+            }
+            return true;
+        }
         for var in 0..self.lows.len() {
             if !self.constant_stays_small(var, column, common) {
                 return false;
@@ -166,8 +174,16 @@ impl Kernel {
         ensures turned { AreLinesTurned self.old self.new column }
         ensures keeps { KeepsAllButLows self.old self.new }
     {
-        for var in 0..self.lows.len() {
+        let width = self.width();
+        for index in 0..self.crossing.len() {
+            let var = self.crossing[index];
             self.turn_line(var, column);
+            let line = &self.lows[var];
+            let after = line.constant * share_in(self.common, line.denominator);
+            let change = after - self.constants[var];
+            self.constants[var] = after;
+            self.constants[width + var] -= change;
+            put_uses(self.constants.as_mut_slice(), &self.uses[var], change, width + width);
         }
     }
 
@@ -193,6 +209,13 @@ impl Kernel {
         if !self.constants_stay_small(column, common) {
             return Err(OutOfRange);
         }
+        if common != self.common {
+            let ratio = common / self.common;
+            for place in 0..self.constants.len() {
+                self.constants[place] *= ratio;
+            }
+            self.common = common;
+        }
         self.turn_lines(column);
         turn_leads(
             self.leads.as_mut_slice(),
@@ -200,8 +223,6 @@ impl Kernel {
             &self.entering,
             column,
         );
-        self.common = common;
-        self.put_constants();
         Ok(())
     }
 
@@ -213,6 +234,16 @@ impl Kernel {
         ensures keeps { KeepsNumbers self.old self.new }
     {
         put_touched(&mut self.left, self.entering.numbers.as_slice());
+    }
+
+    /// Puts the variables whose numbers at a column aren't 0 into `crossing`.
+    fn put_crossing(&mut self, column: usize) {
+        self.crossing.clear();
+        for var in 0..self.lows.len() {
+            if self.lows[var].numbers.as_slice()[column] != 0 {
+                self.crossing.push_reserved(var);
+            }
+        }
     }
 
     /// Turns the kernel at a place's form and a column: the form takes the place of the column's form in the basis. The
@@ -236,6 +267,7 @@ impl Kernel {
     {
         let member = self.table.member_at(place);
         self.put_touched();
+        self.put_crossing(column);
         self.turn_numbers(column)?;
         self.table.basis[column] = member;
         Ok(())
