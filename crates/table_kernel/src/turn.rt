@@ -203,6 +203,9 @@ impl Kernel {
         if !self.lines_stay_small(column) {
             return Err(OutOfRange);
         }
+        if self.common > 1 << 16 {
+            self.lower_common();
+        }
         let Some(common) = self.common_after(column) else {
             return Err(OutOfRange);
         };
@@ -234,6 +237,24 @@ impl Kernel {
         ensures keeps { KeepsNumbers self.old self.new }
     {
         put_touched(&mut self.left, self.entering.numbers.as_slice());
+    }
+
+    /// Makes the common denominator the least common multiple of those of the lines; the constants follow.
+    fn lower_common(&mut self) {
+        let mut common = 1;
+        for var in 0..self.lows.len() {
+            let denominator = self.lows[var].denominator;
+            if denominator != 1 {
+                common = match common_multiple(common, denominator) {
+                    Some(common) => common,
+                    None => return,
+                };
+            }
+        }
+        if common != self.common {
+            self.common = common;
+            self.put_constants();
+        }
     }
 
     /// Puts the variables whose numbers at a column aren't 0 into `crossing`.
