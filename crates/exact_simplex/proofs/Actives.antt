@@ -28,9 +28,9 @@ use Rattle.fraction_table.proofs.Bases.{whole_basis}
 use Rattle.table_kernel.specs.declared.kernel.Kernel.{Kernel}
 use Rattle.table_kernel.specs.Kernels.{IsKernel, kernel_lines, stated}
 use Rattle.table_kernel.specs.declared.kernel.OutOfRange.{OutOfRange}
-use Rattle.table_kernel.specs.Turnings.{IsHeldUp}
-use Rattle.table_kernel.specs.Turns.{HoldsNumbers}
-use Rattle.table_kernel.proofs.AtBasis.{kernel_moves, stated_lines}
+use Rattle.table_kernel.specs.Rows.{HoldsNumbers}
+use Rattle.table_kernel.specs.Turns.{IsHeldUp}
+use Rattle.table_kernel.proofs.AtBasis.{stated_lines}
 use Rattle.table_kernel.proofs.StatedLines.{stated_many}
 use Rattle.table_kernel.proofs.SameKernels.{kernel_same, lines_same}
 use Rattle.fraction_table.specs.RowLines.{HoldsSame}
@@ -47,9 +47,6 @@ started true k s kernel =
     record { active = λ going. record { whole = (kernel refl).whole; kernel = λ is. kernel refl; room = s.room }; shown = tt; basis = s.basis; room = s.room }
 started false k s kernel =
     record { active = λ going. record { whole = s.whole going; kernel = λ is. absurd (clash is); room = s.room }; shown = tt; basis = s.basis; room = s.room }
-
-pub wide_enough : (top : ℕ) → 2 ^ 126 ≤ top → 2 ^ 39 ≤ top
-wide_enough top wide = omega (arith, wide)
 
 -- the table in fractions shows its answer where it is worked on
 pub shown_beside : (b : Bool) (k : Kernel) (found : Result Solved Wide) → b ≡ false →
@@ -82,7 +79,7 @@ pub kernel_high : (b : Bool) (k : Kernel) → b ≡ true → IsKernel k → AreH
 kernel_high true k is kernel high place d place_in =
     let t = stated k in
     let w = kernel.whole in
-    let line_in : place < length t.lines.items = omega (arith, stated_many k (kernel_moves k kernel), place_in) in
+    let line_in : place < length t.lines.items = omega (arith, stated_many k kernel, place_in) in
     let l = whole_line t w place line_in in
     let first = number_there t.top (line_at t place) 0 l.numbers (omega (arith, line_long t w place line_in)) in
     let stands = stand_at w.unboxed.common (line_at t place) (numbers_of_line t w place) 0 l.stand
@@ -99,7 +96,7 @@ kernel_high false k is kernel high place d place_in = absurd (clash is)
 
 -- how many lines there are
 pub kernel_many : (b : Bool) (k : Kernel) (line : ℕ) → b ≡ true → IsKernel k → line < length (table_in b k).lines.items → line < length k.constants.items
-kernel_many true k line is kernel line_in = omega (arith, stated_many k (kernel_moves k kernel), line_in)
+kernel_many true k line is kernel line_in = omega (arith, stated_many k kernel, line_in)
 kernel_many false k line is kernel line_in = absurd (clash is)
 
 -- an active table has a basis, in either representation

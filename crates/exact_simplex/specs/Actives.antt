@@ -8,7 +8,7 @@ use Rattle.fraction_table.specs.Tableaus.{IsGoing}
 use Rattle.fraction_table.specs.ValidTables.{HasRoom, IsShown, IsTableau}
 use Rattle.table_kernel.specs.declared.kernel.Kernel.{Kernel}
 use Rattle.table_kernel.specs.Kernels.{IsKernel, stated}
-use Rattle.table_kernel.specs.Turnings.{IsHeldUp}
+use Rattle.table_kernel.specs.Turns.{IsHeldUp}
 use Rattle.exact_simplex.specs.declared.active.ActiveTable.{ActiveTable}
 
 -- the table in fractions that a kernel stands for, or the one beside it

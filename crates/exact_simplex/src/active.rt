@@ -13,7 +13,8 @@ ghost use Rattle.fraction_table.specs.Pivots.{AreHigh, KeepsBoxAndRows, line_at}
 ghost use Rattle.fraction_table.specs.RowLines.{HasPlace};
 ghost use Rattle.fraction_table.specs.Tableaus.{FitsBox, IsRebased, starting, wide_at};
 ghost use Rattle.fraction_table.specs.ValidTables.{HasRoom, IsShown, held_of};
-ghost use Rattle.table_kernel.specs.Turns.{HasRowPlace, IsCovered, MayMove, box_distance};
+ghost use Rattle.table_kernel.specs.Moves.{MayMove, box_distance};
+ghost use Rattle.table_kernel.specs.Rows.{HasRowPlace, IsCovered};
 ghost use Rattle.exact_simplex.specs.Actives.{IsActive, IsSoundActive, WasHeldUp, table_of};
 
 use area_graph::Point;
@@ -24,7 +25,7 @@ use std::alloc::Global;
 use table_kernel::{Kernel, starting_kernel};
 use wide_fraction::{Top, Wide};
 
-/// A table in one of two representations: whole numbers over one denominator, or fractions.
+/// A table in one of two representations: lines of whole numbers, each over its own denominator, or fractions.
 #[derive(Drop)]
 pub struct ActiveTable {
     pub kernel: Kernel,
@@ -109,7 +110,7 @@ impl ActiveTable {
           stage = Open;
         } }
         ensures active { OnOk result (IsActive self.new) }
-        ensures stays { self.old.in_kernel ≡ true → IsCovered self.old.kernel row.form → self.new.in_kernel ≡ true }
+        ensures stays { self.old.in_kernel ≡ true → IsCovered row.form → self.new.in_kernel ≡ true }
         ensures room { HasRoom self.new.kernel.table }
         ensures wide { IfErr result (λ wide.
             IsStepTooWide self.new.kernel.table.top self.new.kernel.table.costs self.new.kernel.table.rows.items (wide_at wide self.new.kernel.table.basis.items)) }

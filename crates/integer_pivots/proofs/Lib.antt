@@ -5,12 +5,11 @@ pub mod Terms
 pub mod PartSums
 pub mod Narrowing
 pub mod ColumnLeads
+pub mod TouchedColumns
+pub mod Quotients
+pub mod LineLaws
+pub mod TurnLaws
+pub mod TurnedLines
 pub mod UseLaws
 pub mod UsePushes
 pub mod UseSums
-pub mod Crossings
-pub mod CrossedOver
-pub mod Reciprocals
-pub mod SharedDivisors
-pub mod SizesAfter
-pub mod TouchedColumns

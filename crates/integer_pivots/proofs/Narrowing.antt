@@ -16,27 +16,27 @@ use Rattle.integer_pivots.specs.Numbers.{AllWithin}
 use Rattle.integer_pivots.specs.Choices.{AreLatest, AreLeast, IsPositiveAt, crosswise}
 
 -- products of small numbers fit
-small_product : (xs ys : List ℤ) (i j : ℕ) → AllWithin (2 ^ 22) xs → AllWithin (2 ^ 22) ys → i < length xs →
+small_product : (xs ys : List ℤ) (i j : ℕ) → AllWithin (2 ^ 30) xs → AllWithin (2 ^ 30) ys → i < length xs →
     j < length ys → FitsSigned w64 (number_at xs i *ℤ number_at ys j)
 small_product xs ys i j small other i_in j_in =
-    fits_signed_mul w64 (number_at xs i) (number_at ys j) (2 ^ 22) (2 ^ 22) (small i (pos 0) i_in) (other j (pos 0) j_in) (omega arith)
+    fits_signed_mul w64 (number_at xs i) (number_at ys j) (2 ^ 30) (2 ^ 30) (small i (pos 0) i_in) (other j (pos 0) j_in) (omega arith)
 
 -- a small number is read as it is
-small_read : (xs : List ℤ) (i : ℕ) → AllWithin (2 ^ 22) xs → i < length xs → to_z w64 (of_z w64 (number_at xs i)) ≡ number_at xs i
+small_read : (xs : List ℤ) (i : ℕ) → AllWithin (2 ^ 30) xs → i < length xs → to_z w64 (of_z w64 (number_at xs i)) ≡ number_at xs i
 small_read xs i small i_in = to_z-of_z w64 (number_at xs i) (fits_signed_from_abs w64 (number_at xs i) (omega (arith, small i (pos 0) i_in)))
 
 -- and so is a product of two of them
-pub read_product : (xs ys : List ℤ) (i j : ℕ) → AllWithin (2 ^ 22) xs → AllWithin (2 ^ 22) ys → i < length xs →
+pub read_product : (xs ys : List ℤ) (i j : ℕ) → AllWithin (2 ^ 30) xs → AllWithin (2 ^ 30) ys → i < length xs →
     j < length ys → (to_z w64 (of_z w64 (number_at xs i)) *ℤ to_z w64 (of_z w64 (number_at ys j)))
     ≡ (number_at xs i *ℤ number_at ys j)
 read_product xs ys i j small other i_in j_in = ap₂ (λ y z. y *ℤ z) (small_read xs i small i_in) (small_read ys j other j_in)
 
-pub product_fits : (xs ys : List ℤ) (i j : ℕ) → AllWithin (2 ^ 22) xs → AllWithin (2 ^ 22) ys → i < length xs →
+pub product_fits : (xs ys : List ℤ) (i j : ℕ) → AllWithin (2 ^ 30) xs → AllWithin (2 ^ 30) ys → i < length xs →
     j < length ys → FitsSigned w64 (to_z w64 (of_z w64 (number_at xs i)) *ℤ to_z w64 (of_z w64 (number_at ys j)))
 product_fits xs ys i j small other i_in j_in =
     subst (FitsSigned w64) (sym (read_product xs ys i j small other i_in j_in)) (small_product xs ys i j small other i_in j_in)
 
-pub product_read : (xs ys : List ℤ) (i j : ℕ) → AllWithin (2 ^ 22) xs → AllWithin (2 ^ 22) ys → i < length xs →
+pub product_read : (xs ys : List ℤ) (i j : ℕ) → AllWithin (2 ^ 30) xs → AllWithin (2 ^ 30) ys → i < length xs →
     j < length ys → to_z w64 (of_z w64 (to_z w64 (of_z w64 (number_at xs i)) *ℤ to_z w64 (of_z w64 (number_at ys j))))
     ≡ (number_at xs i *ℤ number_at ys j)
 product_read xs ys i j small other i_in j_in =
@@ -51,7 +51,7 @@ zero_scaled z over (pos k) positive =
     scaled_cmp z (pos 0) k (omega (arith, ints)) ∙ ap (λ (y : ℤ). int_cmp (z *ℤ pos k) y) (zero-*ℤ (pos k) ∙ sym (zero-*ℤ over))
 zero_scaled z over (negsuc k) positive = absurd (omega (arith, ints))
 
-pub sign_tells : (numbers line : List ℤ) (column other : ℕ) → AllWithin (2 ^ 22) numbers → column < length numbers →
+pub sign_tells : (numbers line : List ℤ) (column other : ℕ) → AllWithin (2 ^ 30) numbers → column < length numbers →
     other < length numbers → pos 0 <ℤ number_at line other → of_z w64 (number_at numbers other) ≡ 0 →
     int_cmp (to_z w64 (of_z w64 (number_at numbers column))) (pos 0) ≡ int_cmp (crosswise numbers line column other)
     (crosswise numbers line other column)

@@ -1,12 +1,11 @@
 -- Sums to which a multiple is put place by place.
-use Rattle.std.proofs.Common.{◌≡◌, ℕ, zero, suc, ◌+◌, ◌^◌, ◌<◌, ◌≤◌, refl, sym, ◌∙◌, ap, List, [], ◌∷◌, length, set, subst, arith, FitsSigned, w64, below_more}
-use Rattle.std.specs.Prelude.{◌≢◌, ℤ, pos, ◌+ℤ◌, ◌*ℤ◌, nat_abs}
+use Rattle.std.proofs.Common.{◌≡◌, ℕ, zero, suc, ◌+◌, ◌*◌, ◌^◌, ◌<◌, ◌≤◌, refl, sym, ◌∙◌, ap, List, [], ◌∷◌, length, set, subst, arith, FitsSigned, w64}
+use Rattle.std.specs.Prelude.{ℤ, ◌+ℤ◌, ◌*ℤ◌, nat_abs}
 use Rattle.std.proofs.lemmas.Int.{fits_signed_from_abs}
-use Rattle.std.proofs.lemmas.List.{get_or-set_other, get_or-set_same}
 use Rattle.whole_numbers.specs.Lists.{number_at}
 use Rattle.whole_numbers.proofs.Sizes.{sum_size}
 use Rattle.integer_pivots.specs.Numbers.{more_sums}
-use Rattle.integer_pivots.proofs.Sizes.{product_size, read, read_number}
+use Rattle.integer_pivots.proofs.Sizes.{product_size, product_small, read, read_number}
 
 -- the multiple is put at the places before the first number
 abbrev pub partly : ℕ → List ℤ → ℤ → List ℤ → List ℤ
@@ -54,27 +53,37 @@ more_at (sum ∷ sums) factor [] k k_in z_in = absurd (omega arith)
 more_at (sum ∷ sums) factor (z ∷ zs) zero k_in z_in = refl
 more_at (sum ∷ sums) factor (z ∷ zs) (suc k) k_in z_in = more_at sums factor zs k (omega arith) (omega arith)
 
+pub partly_long : (i : ℕ) (sums : List ℤ) (factor : ℤ) (zs : List ℤ) → length (partly i sums factor zs) ≡ length sums
+partly_long zero sums factor zs = refl
+partly_long (suc i) [] factor zs = refl
+partly_long (suc i) (sum ∷ sums) factor [] = refl
+partly_long (suc i) (sum ∷ sums) factor (z ∷ zs) = ap suc (partly_long i sums factor zs)
+
+-- a multiple of a small number fits
+pub multiple_fits : (f z : ℤ) → nat_abs f ≤ 2 ^ 32 → nat_abs z ≤ 2 ^ 30 → FitsSigned w64 (read f *ℤ read z)
+multiple_fits f z f_small z_small =
+    rw (read_number f (omega (arith, f_small)), read_number z (omega (arith, z_small)))
+    (fits_signed_from_abs w64 (f *ℤ z) (omega (arith, product_small (2 ^ 32) (2 ^ 30) f z f_small z_small)))
+
 -- what code puts at a place: it isn't too wide, and the sums are one place further
 pub put_step : (sums : List ℤ) (f g : ℤ) (zs : List ℤ) (i : ℕ) (now : List ℤ) → i < length sums → i < length zs →
-    nat_abs f ≤ 2 ^ 22 → g ≡ f → nat_abs (number_at zs i) ≤ 2 ^ 22 → nat_abs (number_at sums i) ≤ 2 ^ 44 →
+    nat_abs f ≤ 2 ^ 32 → g ≡ f → nat_abs (number_at zs i) ≤ 2 ^ 30 → nat_abs (number_at sums i) + nat_abs f * 2 ^ 30 ≤ 2 ^ 62 →
     now ≡ partly i sums g zs → FitsSigned w64 (read (number_at now i) +ℤ read (read f *ℤ read (number_at zs i)))
     × (set now i (read (read (number_at now i) +ℤ read (read f *ℤ read (number_at zs i)))) ≡ partly (i + 1) sums g zs)
 put_step sums f g zs i now i_in z_in f_small same z_small sum_small done =
     let z = number_at zs i in
     let sum = number_at sums i in
     let there : number_at now i ≡ sum = ap (λ (ys : List ℤ). number_at ys i) done ∙ partly_at i sums g zs in
-    let now_small : nat_abs (number_at now i) ≤ 2 ^ 44 = subst (λ (y : ℤ). nat_abs y ≤ 2 ^ 44) (sym there) sum_small in
-    let factors : (read f *ℤ read z) ≡ (f *ℤ z) =
-    ap (λ (y : ℤ). y *ℤ read z) (read_number f (let e : nat_abs f < 2 ^ 63 = omega (arith, f_small) in e))
-    ∙ ap (λ (y : ℤ). f *ℤ y) (read_number z (let e : nat_abs z < 2 ^ 63 = omega (arith, z_small) in e)) in
-    let wide : nat_abs (f *ℤ z) ≤ 2 ^ 44 = omega (arith, product_size f z z_small, f_small) in
-    let product : nat_abs (read f *ℤ read z) ≤ 2 ^ 44 = subst (λ (y : ℤ). nat_abs y ≤ 2 ^ 44) (sym factors) wide in
+    let product_most : nat_abs (f *ℤ z) ≤ nat_abs f * 2 ^ 30 = product_size f z (2 ^ 30) z_small in
+    let wide : nat_abs (f *ℤ z) ≤ 2 ^ 62 = omega (arith, product_most, f_small) in
+    let factors : read (read f *ℤ read z) ≡ (f *ℤ z) =
+    ap (λ (y : ℤ). read (y *ℤ read z)) (read_number f (omega (arith, f_small)))
+    ∙ ap (λ (y : ℤ). read (f *ℤ y)) (read_number z (omega (arith, z_small)))
+    ∙ read_number (f *ℤ z) (omega (arith, wide)) in
+    let now_read : read (number_at now i) ≡ sum = ap read there ∙ read_number sum (omega (arith, sum_small)) in
     let whole : (read (number_at now i) +ℤ read (read f *ℤ read z)) ≡ (sum +ℤ (f *ℤ z)) =
-    ap (λ (y : ℤ). y +ℤ read (read f *ℤ read z))
-    (read_number (number_at now i) (let e : nat_abs (number_at now i) < 2 ^ 63 = omega (arith, now_small) in
-    e) ∙ there)
-    ∙ ap (λ (y : ℤ). sum +ℤ y) (read_number (read f *ℤ read z) (let e : nat_abs (read f *ℤ read z) < 2 ^ 63 = omega (arith, product) in e) ∙ factors) in
-    let both : nat_abs (sum +ℤ (f *ℤ z)) ≤ 2 ^ 45 = omega (arith, sum_size sum (f *ℤ z), sum_small, wide) in
+    ap (λ (y : ℤ). y +ℤ read (read f *ℤ read z)) now_read ∙ ap (λ (y : ℤ). sum +ℤ y) factors in
+    let both : nat_abs (sum +ℤ (f *ℤ z)) ≤ 2 ^ 62 = omega (arith, sum_size sum (f *ℤ z), sum_small, product_most) in
     let all : nat_abs (read (number_at now i) +ℤ read (read f *ℤ read z)) < 2 ^ 63 =
     subst (λ (y : ℤ). nat_abs y < 2 ^ 63) (sym whole) (omega (arith, both)) in (
       fits_signed_from_abs w64 (read (number_at now i) +ℤ read (read f *ℤ read z)) all,
@@ -82,19 +91,3 @@ put_step sums f g zs i now i_in z_in f_small same z_small sum_small done =
           ∙ ap (λ (ys : List ℤ). set ys i (sum +ℤ (g *ℤ z))) done
           ∙ partly_more i sums g zs i_in z_in,
     )
-
--- the same where a multiple takes the place of a number
-pub scale_step : (line zs : List ℤ) (f g : ℤ) (i : ℕ) → i < length line → nat_abs f ≤ 2 ^ 22 → g ≡ f →
-    nat_abs (number_at zs i) ≤ 2 ^ 22 → ((k : ℕ) → k < i → number_at line k ≡ (g *ℤ number_at zs k)) → (k : ℕ) →
-    k < i + 1 → number_at (set line i (read (read f *ℤ read (number_at zs i)))) k ≡ (g *ℤ number_at zs k)
-scale_step line zs f g i i_in f_small same z_small done =
-    let z = number_at zs i in
-    let factors : (read f *ℤ read z) ≡ (f *ℤ z) =
-    ap (λ (y : ℤ). y *ℤ read z) (read_number f (let e : nat_abs f < 2 ^ 63 = omega (arith, f_small) in e))
-    ∙ ap (λ (y : ℤ). f *ℤ y) (read_number z (let e : nat_abs z < 2 ^ 63 = omega (arith, z_small) in e)) in
-    let wide : nat_abs (f *ℤ z) ≤ 2 ^ 44 = omega (arith, product_size f z z_small, f_small) in
-    let all : nat_abs (read f *ℤ read z) < 2 ^ 63 = subst (λ (y : ℤ). nat_abs y < 2 ^ 63) (sym factors) (omega (arith, wide)) in
-    let new = read (read f *ℤ read z) in
-    below_more (λ (k : ℕ). number_at (set line i new) k ≡ (g *ℤ number_at zs k)) i
-    (λ k k_in. get_or-set_other line i k new (pos 0) (let e : k ≢ i = omega (arith, k_in) in e) ∙ done k k_in)
-    (get_or-set_same line i new (pos 0) i_in ∙ read_number (read f *ℤ read z) all ∙ factors ∙ ap (λ (y : ℤ). y *ℤ z) (sym same))

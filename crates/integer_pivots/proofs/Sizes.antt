@@ -1,11 +1,11 @@
 -- Whole numbers that 64 bits hold, and the greatest size among some.
 use Rattle.std.proofs.Common.{◌≡◌, ℕ, ◌+◌, ◌^◌, ◌<◌, ◌≤◌, ◌↔◌, sym, ◌∙◌, ap, List, arith, get_or, take, w64, to_z, of_z, zero, suc, ◌*◌, [], ◌∷◌, length}
-use Rattle.std.specs.Prelude.{ℤ, pos, nat_abs, IsTrue, leb, negsuc, ◌*ℤ◌, ◌<ℤ◌, ◌≤ℤ◌}
-use Rattle.std.specs.Int.Signed.{le_z}
+use Rattle.std.specs.Prelude.{ℤ, pos, nat_abs, IsTrue, leb, negsuc, ◌+ℤ◌, ◌-ℤ◌, ◌*ℤ◌, ◌<ℤ◌, ◌≤ℤ◌}
+use Rattle.std.specs.Int.Signed.{le_z, mag}
 use Rattle.std.proofs.lemmas.Bool.{le-leb, leb-true}
 use Rattle.std.proofs.lemmas.Int.{fits_signed_from_abs, to_z-of_z, ints, unsigned_abs-mul}
 use Rattle.std.proofs.lemmas.List.Elements.{All-more, All-weaker, All-tail}
-use Rattle.std.proofs.Math.Nat.{mul-le-mul_left}
+use Rattle.std.proofs.Math.Nat.{mul-le-mul, mul-le-mul_left}
 use Rattle.whole_numbers.specs.Lists.{number_at}
 use Rattle.integer_pivots.specs.Numbers.{AllWithin}
 
@@ -31,10 +31,34 @@ test_natural a b m n a_is b_is =
     let same : le_z a b ≡ leb m n = ap (λ z. le_z z b) a_is ∙ ap (λ z. le_z (pos m) z) b_is in
     (λ holds. leb-true m n (sym same ∙ holds), λ less. same ∙ le-leb m n less)
 
-pub product_size : (c z : ℤ) → nat_abs z ≤ 2 ^ 22 → nat_abs (c *ℤ z) ≤ nat_abs c * 2 ^ 22
-product_size c z small =
-    let times : nat_abs (c *ℤ z) ≡ nat_abs c * nat_abs z = unsigned_abs-mul c z in
-    omega (arith, times, mul-le-mul_left (nat_abs c) small)
+pub read_known : (z : ℤ) → mag z < 2 ^ 63 → read z ≡ z
+read_known z small = to_z-of_z w64 z (record { sfits = small })
+
+-- the sizes of products, sums and differences
+pub product_size : (c z : ℤ) (most : ℕ) → nat_abs z ≤ most → nat_abs (c *ℤ z) ≤ nat_abs c * most
+product_size c z most small = omega (arith, unsigned_abs-mul c z, mul-le-mul_left (nat_abs c) small)
+
+pub product_small : (m n : ℕ) (a b : ℤ) → nat_abs a ≤ m → nat_abs b ≤ n → nat_abs (a *ℤ b) ≤ m * n
+product_small m n a b a_small b_small = omega (arith, unsigned_abs-mul a b, mul-le-mul a_small b_small)
+
+pub sum_small : (m n : ℕ) (x y : ℤ) → nat_abs x ≤ m → nat_abs y ≤ n → nat_abs (x +ℤ y) ≤ m + n
+sum_small m n x y x_small y_small = omega (arith, ints, x_small, y_small)
+
+pub difference_small : (m n : ℕ) (x y : ℤ) → nat_abs x ≤ m → nat_abs y ≤ n → nat_abs (x -ℤ y) ≤ m + n
+difference_small m n x y x_small y_small = omega (arith, ints, x_small, y_small)
+
+-- the product of two numbers of at most 2^30 in size
+pub product_read : (a b : ℤ) → nat_abs a ≤ 2 ^ 30 → nat_abs b ≤ 2 ^ 30 → read (read a *ℤ read b) ≡ (a *ℤ b)
+product_read a b a_small b_small =
+    ap (λ x. read (x *ℤ read b)) (read_number a (omega (arith, a_small)))
+    ∙ ap (λ y. read (a *ℤ y)) (read_number b (omega (arith, b_small)))
+    ∙ read_number (a *ℤ b) (omega (arith, product_small (2 ^ 30) (2 ^ 30) a b a_small b_small))
+
+pub size_of : (z : ℤ) (n : ℕ) → (pos 0 ≤ℤ z) × (z ≤ℤ pos n) → nat_abs z ≤ n
+size_of z n within = omega (arith, ints, within.0, within.1)
+
+pub positive_size : (z : ℤ) (n : ℕ) → (pos 0 <ℤ z) × (z ≤ℤ pos n) → nat_abs z ≤ n
+positive_size z n within = omega (arith, ints, within.0, within.1)
 
 pub size_most : (z : ℤ) (n : ℕ) → pos 0 <ℤ z → z ≤ℤ pos n → nat_abs z ≤ n
 size_most (pos m) n high low = omega (arith, ints)

@@ -1,8 +1,8 @@
 -- Lists of which one place more is written.
-use Rattle.std.proofs.Common.{◌≡◌, ◌≢◌, ℕ, ◌+◌, ◌<◌, ◌≤◌, sym, ◌∙◌, subst, List, length, arith, inl, inr, get_or-set_same, get_or-set_other, ap, ◌++◌, take, drop}
+use Rattle.std.proofs.Common.{◌≡◌, ◌≢◌, ℕ, ◌+◌, ◌<◌, ◌≤◌, sym, ◌∙◌, subst, refl, List, length, arith, inl, inr, get_or-set_same, get_or-set_other, ap, ◌++◌, take, drop}
 use Rattle.std.specs.Prelude.{slice_index_or, slice_set}
 use Rattle.std.proofs.lemmas.Bool.{cases_eq}
-use Rattle.std.proofs.lemmas.List.{drop_all, append-nil, take_all}
+use Rattle.std.proofs.lemmas.List.{drop_all, append-nil, length-set, take_all}
 
 -- what holds of all numbers before one and of it
 pub all_more : (P : ℕ → Type 0) (i : ℕ) → ((c : ℕ) → c < i → P c) → P i → (c : ℕ) → c < i + 1 → P c
@@ -38,3 +38,20 @@ written n news olds long counted =
     ap (λ ys. take n (news ++ ys)) (drop_all (length news) olds (omega (arith, long)))
     ∙ ap (take n) (append-nil news)
     ∙ take_all n news (omega (arith, long, counted))
+
+-- The places before one are written as they should be, and the others are as before.
+pub record AreWritten {X : Type 0} (P : ℕ → X → Type 0) (d : X) (olds : List X) (i : ℕ) (news : List X) : Type 0 where
+  pub count : length news ≡ length olds
+  pub done : (c : ℕ) → c < i → P c (slice_index_or news c d)
+  pub rest : (c : ℕ) → i ≤ c → slice_index_or news c d ≡ slice_index_or olds c d
+
+pub none_written : {X : Type 0} (P : ℕ → X → Type 0) (d : X) (xs : List X) → AreWritten P d xs 0 xs
+none_written P d xs = record { count = refl; done = λ c c_in. absurd (omega (arith, c_in)); rest = λ c from. refl }
+
+pub one_written : {X : Type 0} (P : ℕ → X → Type 0) (d : X) (olds : List X) (i : ℕ) (news : List X) (x : X) →
+    AreWritten P d olds i news → i < length olds → P i x → AreWritten P d olds (i + 1) (slice_set news i x)
+one_written P d olds i news x are i_in here = record {
+  count = length-set news i x ∙ are.count;
+  done = written_more P d news i x (omega (arith, are.count, i_in)) are.done here;
+  rest = rest_more d olds news i x are.rest;
+}

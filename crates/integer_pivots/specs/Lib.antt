@@ -1,6 +1,6 @@
 pub mod Numbers
 pub mod Leads
-pub mod Uses
-pub mod Reciprocals
+pub mod Lines
 pub mod Turns
 pub mod Choices
+pub mod Uses

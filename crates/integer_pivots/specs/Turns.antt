@@ -1,86 +1,59 @@
--- How a number turns at a pivot, and the numbers of a row; and how large they are then.
-use Rattle.std.specs.Prelude.{◌≡◌, ◌≢◌, ℕ, ◌+◌, ◌*◌, ◌^◌, ◌<◌, ◌≤◌, List, [], ℤ, pos, ◌-ℤ◌, ◌*ℤ◌, ◌<ℤ◌, ◌≤ℤ◌, nat_abs, length, slice_index_or, ◌/◌, ◌⊎◌}
+-- How a line turns at a pivot: it is multiplied, and so many times the entering form's line is taken away.
+use Rattle.std.specs.Prelude.{◌≡◌, ◌≢◌, ℕ, ◌+◌, ◌*◌, ◌^◌, ◌<◌, ◌≤◌, ◌⊎◌, List, [], ◌∷◌, ℤ, pos, ◌-ℤ◌, ◌*ℤ◌, ◌<ℤ◌, nat_abs, length, slice_index_or}
+use Rattle.whole_numbers.specs.Fractions.{exact_quotient, gcd, lcm}
 use Rattle.whole_numbers.specs.Lists.{number_at}
+use Rattle.integer_pivots.specs.declared.line.Line.{Line}
 use Rattle.integer_pivots.specs.declared.turn.Turn.{Turn}
-use Rattle.integer_pivots.specs.Numbers.{AllWithin}
+use Rattle.integer_pivots.specs.Lines.{no_line}
+use Rattle.integer_pivots.specs.Numbers.{greatest_of}
 
--- the pivot's number times a number, less what stands along with it times what stands across
-abbrev pub crossed : Turn → ℤ → ℤ → ℤ
-crossed turn number along = (turn.pivot *ℤ number) -ℤ (along *ℤ turn.across)
+-- The turn of a line with this number at the pivot's column, where the entering form's line has the pivot there: the
+-- pivot times the line, less the number times the entering line, both over what the two numbers have in common.
+abbrev pub turn_by : ℤ → ℤ → Turn
+turn_by number pivot =
+    let common = gcd (nat_abs number) (nat_abs pivot) in
+    record { multiplier = exact_quotient pivot common; factor = exact_quotient number common }
 
--- the number after the pivot: the crossed product over the old denominator
-abbrev pub IsNumberTurned : Turn → ℤ → ℤ → ℤ → Type 0
-IsNumberTurned turn number along new = (new *ℤ turn.common) ≡ crossed turn number along
+-- the multiple of a number, less that many times another
+abbrev pub turned_number : Turn → ℤ → ℤ → ℤ
+turned_number turn number entering = (turn.multiplier *ℤ number) -ℤ (turn.factor *ℤ entering)
 
--- no step of a turn is wide
-pub record IsSmallTurn (turn : Turn) : Type 0 where
-  pub pivot : (pos 0 <ℤ turn.pivot) × (turn.pivot ≤ℤ pos (2 ^ 22))
-  pub across : nat_abs turn.across ≤ 2 ^ 39
-  pub common : (pos 0 <ℤ turn.common) × (turn.common ≤ℤ pos (2 ^ 22))
+-- no number of the line passes 2^30 on the way, by the greatest number of the line and that of the entering one
+pub record StaysSmall (turn : Turn) (line entering : Line) : Type 0 where
+  pub numbers : nat_abs turn.multiplier * greatest_of line.numbers + nat_abs turn.factor * greatest_of entering.numbers ≤ 2 ^ 30
+  pub own : nat_abs turn.factor * nat_abs entering.denominator ≤ 2 ^ 30
 
--- what turns a number with this one across
-abbrev pub turn_of : ℤ → ℤ → ℤ → Turn
-turn_of pivot common across = record { pivot = pivot; across = across; common = common }
+-- The line after the pivot stands for the turned numbers over the denominator times the multiplier; at the pivot's
+-- column for the factor times the entering line's denominator.
+pub record IsTurnedLine (turn : Turn) (column : ℕ) (entering old new : Line) : Type 0 where
+  pub positive : pos 0 <ℤ new.denominator
+  pub count : length new.numbers ≡ length old.numbers
+  pub constant : (new.constant *ℤ (old.denominator *ℤ turn.multiplier)) ≡ (turned_number turn old.constant entering.constant *ℤ new.denominator)
+  pub others : (c : ℕ) → c < length old.numbers → c ≢ column →
+      (number_at new.numbers c *ℤ (old.denominator *ℤ turn.multiplier)) ≡ (turned_number turn (number_at old.numbers c) (number_at entering.numbers c) *ℤ new.denominator)
+  pub own : (number_at new.numbers column *ℤ (old.denominator *ℤ turn.multiplier)) ≡ ((turn.factor *ℤ entering.denominator) *ℤ new.denominator)
 
--- the number turns into a whole one
-abbrev pub IsIntegralTurn : Turn → ℤ → ℤ → Type 0
-IsIntegralTurn turn number along = (new : ℤ) × IsNumberTurned turn number along new
+-- the turn of a line at a pivot's column
+abbrev pub turn_at : Line → ℕ → Line → Turn
+turn_at entering column line = turn_by (number_at line.numbers column) (number_at entering.numbers column)
 
--- the numbers turn into whole ones, each with its own number across
-abbrev pub AreIntegralTurns : ℤ → ℤ → ℤ → List ℤ → List ℤ → Type 0
-AreIntegralTurns pivot common along across numbers =
-    (column : ℕ) → column < length across → IsIntegralTurn (turn_of pivot common (number_at across column)) (number_at numbers column) along
+-- the denominator of a line times its multiplier
+abbrev pub denominator_after : Line → ℕ → Line → ℕ
+denominator_after entering column line = nat_abs line.denominator * nat_abs (turn_at entering column line).multiplier
 
--- the numbers have turned at the pivot, each with its own number across
-abbrev pub AreTurned : ℤ → ℤ → ℤ → List ℤ → List ℤ → List ℤ → Type 0
-AreTurned pivot common along across olds news =
-    (column : ℕ) → column < length across → IsNumberTurned (turn_of pivot common (number_at across column)) (number_at olds column) along (number_at news column)
+-- a common multiple of a number and of the denominators of lines, each times its multiplier
+abbrev pub common_after : Line → ℕ → List Line → ℕ → ℕ
+common_after entering column [] common = common
+common_after entering column (line ∷ lines) common = common_after entering column lines (lcm common (denominator_after entering column line))
 
--- no number that the turn of these makes is greater in size
-abbrev pub AreTurnedWithin : ℤ → ℤ → ℤ → List ℤ → List ℤ → ℕ → Type 0
-AreTurnedWithin pivot common along across numbers most =
-    (column : ℕ) → column < length across → (new : ℤ) →
-    IsNumberTurned (turn_of pivot common (number_at across column)) (number_at numbers column) along new →
-    nat_abs new ≤ most
-
--- the turn leaves every number as it is, whatever stands along with it
-abbrev pub LeavesAll : Turn → Type 0
-LeavesAll turn = (number along : ℤ) → IsNumberTurned turn number along number
-
--- the column is one of these
-abbrev pub IsAmongColumns : ℕ → List ℕ → Type 0
-IsAmongColumns column columns = (place : ℕ) × (place < length columns) × (slice_index_or columns place 0 ≡ column)
-
--- columns before a bound, in rising order: the turn leaves all numbers of each other one before it as they are
-pub record AreTouched (pivot common : ℤ) (line : List ℤ) (bound : ℕ) (columns : List ℕ) : Type 0 where
-  pub before : (place : ℕ) → place < length columns → slice_index_or columns place 0 < bound
-  pub rises : (first second : ℕ) → first < second → second < length columns → slice_index_or columns first 0 < slice_index_or columns second 0
-  pub others : (column : ℕ) → column < bound → IsAmongColumns column columns ⊎ LeavesAll (turn_of pivot common (number_at line column))
-
--- the numbers of a variable have turned, and at the pivot's column is the one that stood along
-pub record IsTurnedRow (pivot common along : ℤ) (own : ℕ) (across olds news : List ℤ) : Type 0 where
-  pub count : length news ≡ length olds
-  pub at_own : number_at news own ≡ along
-  pub others : (column : ℕ) → column < length across → column ≢ own →
-      IsNumberTurned (turn_of pivot common (number_at across column)) (number_at olds column) along (number_at news column)
-
--- the rows have turned at a pivot with a column
-pub record AreTurnedRows (pivot common : ℤ) (column : ℕ) (line : List ℤ) (olds news : List (List ℤ)) : Type 0 where
-  pub positive : (pos 0 <ℤ pivot) × (pos 0 <ℤ common)
+-- all lines have turned at a pivot's column
+pub record AreTurnedLines (entering : Line) (column : ℕ) (olds news : List Line) : Type 0 where
   pub count : length news ≡ length olds
   pub each : (v : ℕ) → v < length olds →
-      IsTurnedRow pivot common (number_at (slice_index_or olds v []) column) column line (slice_index_or olds v [])
-      (slice_index_or news v [])
+      IsTurnedLine (turn_at entering column (slice_index_or olds v no_line)) column entering (slice_index_or olds v no_line) (slice_index_or news v no_line)
 
--- no step of a row's turn is wide
-pub record AreSmallTurns (pivot common along : ℤ) (across numbers : List ℤ) : Type 0 where
-  pub count : length numbers ≡ length across
-  pub pivot_small : (pos 0 <ℤ pivot) × (pivot ≤ℤ pos (2 ^ 22))
-  pub common_small : (pos 0 <ℤ common) × (common ≤ℤ pos (2 ^ 22))
-  pub along_small : nat_abs along ≤ 2 ^ 22
-  pub across_small : AllWithin (2 ^ 22) across
-  pub numbers_small : AllWithin (2 ^ 39) numbers
-
--- how large a whole number can be after a turn where the one before it, the one along and the one across have these sizes
-abbrev pub size_after : ℤ → ℤ → ℕ → ℕ → ℕ → ℕ
-size_after pivot common number along across = (nat_abs pivot * number + along * across) / nat_abs common
+-- the columns before a bound in which a line isn't 0, in rising order
+pub record AreNonZeros (line : List ℤ) (bound : ℕ) (columns : List ℕ) : Type 0 where
+  pub before : (place : ℕ) → place < length columns → slice_index_or columns place 0 < bound
+  pub rises : (first second : ℕ) → first < second → second < length columns → slice_index_or columns first 0 < slice_index_or columns second 0
+  pub others : (c : ℕ) → c < bound → ((place : ℕ) × ((place < length columns) × (slice_index_or columns place 0 ≡ c))) ⊎ (number_at line c ≡ pos 0)

@@ -1,16 +1,22 @@
 //! The bounds within which whole numbers turn, the greater of two sizes, and the greatest of some.
-ghost use Rattle.std.specs.Prelude.{◌≡◌, ℕ, ◌^◌, ◌≤◌, ◌↔◌, ◌⊎◌, pos, ◌≤ℤ◌, nat_abs, IsTrue, ◌/◌};
+ghost use Rattle.std.specs.Prelude.{◌≡◌, ℕ, ◌^◌, ◌≤◌, ◌↔◌, ◌⊎◌, pos, ◌≤ℤ◌, nat_abs, IsTrue};
 ghost use Rattle.integer_pivots.specs.Numbers.{AllWithin};
 
-/// The greatest size of a form's number at a column, and of the denominator: 2^22.
-pub const ENTRY_LIMIT: i64 = 1 << 22;
+/// The greatest size of a number of a line at a column, and of a denominator: 2^30.
+pub const ENTRY_LIMIT: i64 = 1 << 30;
 
-/// The greatest size of a constant: 2^39.
-pub const CONSTANT_LIMIT: i64 = 1 << 39;
+/// The greatest size of the constant of a form x - low over the common denominator: 2^44.
+pub const CONSTANT_LIMIT: i64 = 1 << 44;
+
+/// The greatest sum of the sizes of a row's coefficients: 2^16.
+pub const WEIGHT_LIMIT: i64 = 1 << 16;
+
+/// The greatest sum of the sizes of the factors of which the line of a row is made: 2^32.
+pub const FACTOR_LIMIT: i64 = 1 << 32;
 
 /// The greater of a size and a number's size.
 pub fn greater_size(most: i64, number: i64) -> i64
-    requires most { pos 0 ≤ℤ most }
+    requires from_zero { pos 0 ≤ℤ most }
     requires number { nat_abs number ≤ 2 ^ 62 }
     ensures from_zero { pos 0 ≤ℤ result }
     ensures most { nat_abs most ≤ nat_abs result }
@@ -41,26 +47,4 @@ pub fn within(number: i64, limit: i64) -> bool
     ensures { IsTrue result ↔ (nat_abs number ≤ nat_abs limit) }
 {
     number.unsigned_abs() <= limit as u64
-}
-
-/// The greatest size of the numbers of x - low that keeps those of all forms within the limit.
-pub fn entry_limit(weight: i64) -> i64
-    requires { pos 1 ≤ℤ weight }
-    ensures from_zero { pos 0 ≤ℤ result }
-    ensures most { result ≤ℤ pos (2 ^ 22) }
-    ensures exact { nat_abs result ≡ 2 ^ 22 / nat_abs weight }
-{
-    ENTRY_LIMIT / weight
-}
-
-/// The greater of two numbers.
-pub fn greater(first: i64, second: i64) -> i64
-    requires first { pos 1 ≤ℤ first }
-    requires second { pos 0 ≤ℤ second }
-    ensures positive { pos 1 ≤ℤ result }
-    ensures first { nat_abs first ≤ nat_abs result }
-    ensures second { nat_abs second ≤ nat_abs result }
-    ensures either { (result ≡ first) ⊎ (result ≡ second) }
-{
-    if first < second { second } else { first }
 }

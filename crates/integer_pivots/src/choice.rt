@@ -55,8 +55,8 @@ pub fn put_latest(left: &mut Vec<usize>, line: &[i64], leads: &[usize]) -> usize
 /// How a variable's numbers in two columns stand to each other, each over the line's there, which is positive.
 fn column_order(numbers: &[i64], line: &[i64], column: usize, other: usize) -> Ordering
     requires long { length line.now ≤ length numbers.now }
-    requires small { AllWithin (2 ^ 22) numbers.now }
-    requires line { AllWithin (2 ^ 22) line.now }
+    requires small { AllWithin (2 ^ 30) numbers.now }
+    requires line { AllWithin (2 ^ 30) line.now }
     requires column { column < length line.now }
     requires other { other < length line.now }
     requires positive { pos 0 <ℤ number_at line.now other }
@@ -78,8 +78,8 @@ fn put_least(left: &mut [usize], numbers: &[i64], line: &[i64]) -> usize
     requires some { 0 < length left.old }
     requires positive { (c : ℕ) → Has left.old c → IsPositiveAt line.now c }
     requires long { length line.now ≤ length numbers.now }
-    requires small { AllWithin (2 ^ 22) numbers.now }
-    requires line { AllWithin (2 ^ 22) line.now }
+    requires small { AllWithin (2 ^ 30) numbers.now }
+    requires line { AllWithin (2 ^ 30) line.now }
     ensures some { (0 < result) × (result ≤ length left.old) }
     ensures least { AreLeast numbers.now line.now left.old (take result left.new) }
 {
@@ -106,8 +106,8 @@ pub fn keep_least(left: &mut Vec<usize>, numbers: &[i64], line: &[i64])
     requires some { 0 < vec_len left.old }
     requires positive { (c : ℕ) → Has left.old.items c → IsPositiveAt line.now c }
     requires long { length line.now ≤ length numbers.now }
-    requires small { AllWithin (2 ^ 22) numbers.now }
-    requires line { AllWithin (2 ^ 22) line.now }
+    requires small { AllWithin (2 ^ 30) numbers.now }
+    requires line { AllWithin (2 ^ 30) line.now }
     ensures some { 0 < vec_len left.new }
     ensures least { AreLeast numbers.now line.now left.old.items left.new.items }
     ensures room { vec_capacity left.new ≡ vec_capacity left.old }

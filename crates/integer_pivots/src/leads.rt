@@ -1,30 +1,33 @@
 //! The first variable with a number in each column.
-ghost use Rattle.std.specs.Prelude.{◌≡◌, ◌≢◌, ℤ, ◌<◌, List, pos, length, All};
+ghost use Rattle.std.specs.Prelude.{◌≡◌, ◌≢◌, ◌<◌, List, pos, ◌<ℤ◌, length, All};
+ghost use Rattle.whole_numbers.specs.Lists.{number_at};
+ghost use Rattle.integer_pivots.specs.declared.line.Line.{Line};
 ghost use Rattle.integer_pivots.specs.Leads.{AreLeads, AreZeros, IsLead};
-ghost use Rattle.integer_pivots.specs.Turns.{AreTurnedRows};
+ghost use Rattle.integer_pivots.specs.Lines.{rows_of};
+ghost use Rattle.integer_pivots.specs.Turns.{AreTurnedLines};
 
-use cost_base::Listed;
+use crate::line::Line;
 
 /// The first variable from one on whose number at a column isn't 0; how many variables there are, where there is none.
-fn lead_from(lows: &[Listed<i64>], column: usize, first: usize) -> usize
-    requires long { All (λ row. column < length row) lows.now }
-    ensures { AreZeros lows.now column first → IsLead lows.now column result }
+fn lead_from(lines: &[Line], column: usize, first: usize) -> usize
+    requires long { All (λ line. column < length line.numbers) lines.now }
+    ensures { AreZeros (rows_of lines.now) column first → IsLead (rows_of lines.now) column result }
 {
-    for var in first..lows.len() {
-        if lows[var].as_slice()[column] != 0 {
+    for var in first..lines.len() {
+        if lines[var].numbers.as_slice()[column] != 0 {
             return var;
         }
     }
-    lows.len()
+    lines.len()
 }
 
 /// The lead of a column after a pivot, by the number across, its lead before it, and that of the pivot's column.
-fn turned_lead(lows: &[Listed<i64>], column: usize, across: i64, own: usize, pivots: usize) -> usize
-    requires long { All (λ row. column < length row) lows.now }
+fn turned_lead(lines: &[Line], column: usize, across: i64, own: usize, pivots: usize) -> usize
+    requires long { All (λ line. column < length line.numbers) lines.now }
     ensures same { across ≡ pos 0 → result ≡ own }
     ensures earlier { own < pivots → result ≡ own }
     ensures later { across ≢ pos 0 → pivots < own → result ≡ pivots }
-    ensures level { across ≢ pos 0 → own ≡ pivots → AreZeros lows.now column own → IsLead lows.now column result }
+    ensures level { across ≢ pos 0 → own ≡ pivots → AreZeros (rows_of lines.now) column own → IsLead (rows_of lines.now) column result }
 {
     if across == 0 || own < pivots {
         return own;
@@ -32,20 +35,23 @@ fn turned_lead(lows: &[Listed<i64>], column: usize, across: i64, own: usize, piv
     if pivots < own {
         return pivots;
     }
-    lead_from(lows, column, own)
+    lead_from(lines, column, own)
 }
 
-/// The leads after a pivot, once the numbers have turned.
-pub fn turn_leads(leads: &mut [usize], lows: &[Listed<i64>], line: &[i64], column: usize)
-    requires leads { length leads.old ≡ length line.now }
-    requires each { All (λ row. length row ≡ length line.now) lows.now }
-    requires column { column < length line.now }
+/// The leads after a pivot, once the lines have turned.
+pub fn turn_leads(leads: &mut [usize], lines: &[Line], entering: &Line, column: usize)
+    requires leads { length leads.old ≡ length entering.now.numbers }
+    requires each { All (λ line. length line.numbers ≡ length entering.now.numbers) lines.now }
+    requires column { column < length entering.now.numbers }
+    requires pivot { pos 0 <ℤ number_at entering.now.numbers column }
+    requires denominator { pos 0 <ℤ entering.now.denominator }
     ensures count { length leads.new ≡ length leads.old }
-    ensures leads { (olds : List (List ℤ)) (pivot common : ℤ) → AreTurnedRows pivot common column line.now olds lows.now →
-        AreLeads olds leads.old → AreLeads lows.now leads.new }
+    ensures leads { (olds : List Line) → AreTurnedLines entering.now column olds lines.now →
+        All (λ line. pos 0 <ℤ line.denominator) olds → AreLeads (rows_of olds) leads.old → AreLeads (rows_of lines.now) leads.new }
 {
     let pivots = leads[column];
-    for other in 0..line.len() {
-        leads[other] = turned_lead(lows, other, line[other], leads[other], pivots);
+    let across = entering.numbers.as_slice();
+    for other in 0..across.len() {
+        leads[other] = turned_lead(lines, other, across[other], leads[other], pivots);
     }
 }

@@ -1,20 +1,22 @@
-//! What a pivot in whole numbers turns: 64-bit numbers over one denominator, and lists of them.
+//! What a pivot in whole numbers turns: lines of 64-bit numbers, each over its own denominator.
 //!
-//! The numbers are small, so that no step is too wide. What a list stands for, the crates above say.
+//! The numbers are small, so that no step is too wide. What a line stands for, the crates above say.
 #![tactic(auto)]
 
 mod bounds;
 mod choice;
 mod leads;
+mod line;
 mod multiples;
-mod reciprocal;
 mod turn;
 mod uses;
 
-pub use bounds::{CONSTANT_LIMIT, ENTRY_LIMIT, entry_limit, greater, greatest, within};
+pub use bounds::{
+    CONSTANT_LIMIT, ENTRY_LIMIT, FACTOR_LIMIT, WEIGHT_LIMIT, greater_size, greatest, within,
+};
 pub use choice::{keep_least, put_latest};
 pub use leads::turn_leads;
-pub use multiples::{clear, put_multiple, put_scaled};
-pub use reciprocal::{Divisor, share_of};
-pub use turn::{Turn, put_touched, turn_low, turns_whole};
+pub use line::Line;
+pub use multiples::{clear, put_multiple};
 pub use uses::{Use, empty_uses, push_uses, put_uses, reserve_uses};
+pub use turn::{Turn, common_multiple, put_touched, turn_of};

@@ -1,204 +1,208 @@
-//! How a pivot turns one number, and the numbers of a row.
-ghost use Rattle.std.specs.Prelude.{◌≡◌, ℤ, ℕ, ◌^◌, ◌+◌, ◌*◌, ◌<◌, ◌≤◌, ◌↔◌, pos, nat_abs, ◌<ℤ◌, ◌≤ℤ◌, length, IsTrue, vec_capacity};
+//! How a pivot turns one line.
+ghost use Rattle.std.specs.Prelude.{◌≡◌, ℕ, ◌^◌, ◌*◌, ◌+◌, ◌<◌, ◌≤◌, ◌↔◌, pos, ◌-ℤ◌, ◌*ℤ◌, ◌<ℤ◌, ◌≤ℤ◌, nat_abs, length, IsTrue, MatchOption, vec_capacity};
+ghost use Prim.Native.Nat.{◌∣◌};
+ghost use Rattle.whole_numbers.specs.Fractions.{lcm};
 ghost use Rattle.whole_numbers.specs.Lists.{number_at};
+ghost use Rattle.integer_pivots.specs.Lines.{IsInLowestTerms, IsLine};
 ghost use Rattle.integer_pivots.specs.Numbers.{AllWithin};
-ghost use Rattle.integer_pivots.specs.Reciprocals.{IsDivisorOf};
-ghost use Rattle.integer_pivots.specs.Turns.{AreSmallTurns, AreTouched, AreTurnedWithin, AreIntegralTurns, IsSmallTurn};
-ghost use Rattle.integer_pivots.specs.Turns.{IsNumberTurned, IsTurnedRow, IsIntegralTurn, LeavesAll, crossed, size_after};
+ghost use Rattle.integer_pivots.specs.Turns.{AreNonZeros, IsTurnedLine, StaysSmall, turn_at, turn_by, turned_number};
 
-use crate::bounds::greater_size;
-use crate::reciprocal::Divisor;
+use crate::bounds::{ENTRY_LIMIT, greater_size, greatest};
+use crate::line::{Line, common_with, over};
 use cost_base::Listed;
 
-/// What turns a number: the pivot's number, the number of the pivot's form at the number's place, and the old
-/// denominator.
+/// How a line turns: what it is multiplied by, and how many times the entering form's line is taken away then.
 #[derive(Clone, Copy)]
 pub struct Turn {
-    pub pivot: i64,
-    pub across: i64,
-    pub common: i64,
+    /// What the line and its denominator are multiplied by; it is positive.
+    pub multiplier: i64,
+    /// How many times the entering line's numbers are taken away.
+    pub factor: i64,
 }
 
-impl Turn {
-    /// The same turn with another number across.
-    fn over(self, across: i64) -> Turn
-        ensures { result ≡ record self { across = across } }
-    {
-        Turn {
-            pivot: self.pivot,
-            across,
-            common: self.common,
-        }
+/// The turn of a line with this number at the pivot's column.
+pub fn turn_of(number: i64, pivot: i64) -> Turn
+    requires number { nat_abs number ≤ 2 ^ 30 }
+    requires pivot { (pos 0 <ℤ pivot) × (pivot ≤ℤ pos (2 ^ 30)) }
+    ensures turn { result ≡ turn_by number pivot }
+    ensures multiplier { (pos 0 <ℤ result.multiplier) × (result.multiplier ≤ℤ pivot) }
+    ensures factor { nat_abs result.factor ≤ nat_abs number }
+    ensures level { (result.multiplier *ℤ number) ≡ (result.factor *ℤ pivot) }
+{
+    if pivot == 1 || number == 0 {
+        return Turn {
+            multiplier: 1,
+            factor: number,
+        };
     }
-
-    /// The pivot's number times the number, less what stands along with it times what stands across.
-    fn crossed(self, number: i64, along: i64) -> i64
-        requires small { IsSmallTurn self }
-        requires number { nat_abs number ≤ 2 ^ 39 }
-        requires along { nat_abs along ≤ 2 ^ 22 }
-        ensures { result ≡ crossed self number along }
-    {
-        self.pivot * number - along * self.across
-    }
-
-    /// Whether a number with this one along with it stays as it is.
-    pub fn stays(self, along: i64) -> bool
-        requires small { (pos 0 <ℤ self.pivot) × (self.pivot ≤ℤ pos (2 ^ 22)) × (pos 0 <ℤ self.common) × (self.common ≤ℤ pos (2 ^ 22)) }
-        ensures { IsTrue result → (along ≡ pos 0) × (self.pivot ≡ self.common) }
-    {
-        along == 0 && self.pivot == self.common
-    }
-
-    /// Whether every number with this one along with it stays as it is: the pivot's number is the denominator, and
-    /// nothing stands along or across.
-    fn leaves(self, along: i64) -> bool
-        ensures { IsTrue result → (number : ℤ) → IsNumberTurned self number along number }
-    {
-        self.pivot == self.common && (along == 0 || self.across == 0)
-    }
-
-    /// Whether every number stays as it is, whatever stands along with it: the pivot's number is the denominator, and
-    /// nothing stands across.
-    fn leaves_all(self) -> bool
-        ensures { IsTrue result → LeavesAll self }
-    {
-        self.pivot == self.common && self.across == 0
-    }
-
-    /// Whether the number turns into a whole one.
-    pub fn is_whole(self, number: i64, along: i64, divisor: Divisor) -> bool
-        requires small { IsSmallTurn self }
-        requires divisor { IsDivisorOf self.common divisor }
-        requires number { nat_abs number ≤ 2 ^ 39 }
-        requires along { nat_abs along ≤ 2 ^ 22 }
-        ensures { IsTrue result ↔ IsIntegralTurn self number along }
-    {
-        if self.leaves(along) {
-            return true;
-        }
-        divisor.divides(self.crossed(number, along))
-    }
-
-    /// The number after the pivot.
-    pub fn turned(self, number: i64, along: i64, divisor: Divisor) -> i64
-        requires small { IsSmallTurn self }
-        requires divisor { IsDivisorOf self.common divisor }
-        requires number { nat_abs number ≤ 2 ^ 39 }
-        requires along { nat_abs along ≤ 2 ^ 22 }
-        requires whole { IsIntegralTurn self number along }
-        ensures { IsNumberTurned self number along result }
-    {
-        if self.leaves(along) {
-            return number;
-        }
-        let crossed = self.crossed(number, along);
-        if self.common == 1 {
-            crossed
-        } else {
-            divisor.divided(crossed)
-        }
-    }
-
-    /// How large the number before it is divided can be, of a number of at most the one size, with one of at most the
-    /// other size along with it.
-    fn most_crossed(self, most: i64, along: i64) -> i64
-        requires small { IsSmallTurn self }
-        requires most { (pos 0 ≤ℤ most) × (most ≤ℤ pos (2 ^ 39)) }
-        requires along { (pos 0 ≤ℤ along) × (along ≤ℤ pos (2 ^ 22)) }
-        ensures { result ≡ pos (nat_abs self.pivot * nat_abs most + nat_abs along * nat_abs self.across) }
-    {
-        self.pivot * most + along * self.across.abs()
-    }
-
-    /// Whether a number of at most the one size, with one of at most the other size along with it, stays within the
-    /// limit.
-    pub fn keeps(self, most: i64, along: i64, limit: i64) -> bool
-        requires small { IsSmallTurn self }
-        requires most { (pos 0 ≤ℤ most) × (most ≤ℤ pos (2 ^ 39)) }
-        requires along { (pos 0 ≤ℤ along) × (along ≤ℤ pos (2 ^ 22)) }
-        requires limit { (pos 0 ≤ℤ limit) × (limit ≤ℤ pos (2 ^ 39)) }
-        ensures { IsTrue result ↔ (size_after self.pivot self.common (nat_abs most) (nat_abs along) (nat_abs self.across) ≤ nat_abs limit) }
-    {
-        self.most_crossed(most, along) / self.common <= limit
+    let common = common_with(number, pivot);
+    Turn {
+        multiplier: over(pivot, common),
+        factor: over(number, common),
     }
 }
 
-/// Puts the columns in which a turn may change a number into `touched`, in rising order: where the pivot's number is the
-/// denominator those in which the line has a number, else all.
-pub fn put_touched(touched: &mut Vec<usize>, line: &[i64], pivot: i64, common: i64)
+/// The least common multiple of two denominators, where it is at most 2^30.
+pub fn common_multiple(first: i64, second: i64) -> Option<i64>
+    requires first { (pos 0 <ℤ first) × (first ≤ℤ pos (2 ^ 30)) }
+    requires second { (pos 0 <ℤ second) × (second ≤ℤ pos (2 ^ 60)) }
+    ensures { MatchOption result (2 ^ 30 < lcm (nat_abs first) (nat_abs second)) (λ common.
+        (pos 0 <ℤ common) × (nat_abs common ≡ lcm (nat_abs first) (nat_abs second)) × (common ≤ℤ pos (2 ^ 30))) }
+{
+    if ENTRY_LIMIT < second {
+        return None;
+    }
+    let common = over(first, common_with(first, second)) * second;
+    if ENTRY_LIMIT < common {
+        return None;
+    }
+    Some(common)
+}
+
+/// Puts the columns in which a line isn't 0 into `touched`, in rising order.
+pub fn put_touched(touched: &mut Vec<usize>, line: &[i64])
     requires room { length line.now ≤ vec_capacity touched.old }
-    ensures touched { AreTouched pivot common line.now (length line.now) touched.new.items }
+    ensures touched { AreNonZeros line.now (length line.now) touched.new.items }
     ensures room { vec_capacity touched.new ≡ vec_capacity touched.old }
 {
     touched.clear();
     for column in 0..line.len() {
-        let turn = Turn {
-            pivot,
-            across: line[column],
-            common,
-        };
-        if !turn.leaves_all() {
+        if line[column] != 0 {
             touched.push_reserved(column);
         }
     }
 }
 
-/// Turns the numbers of a variable, each with its own number across; at the pivot's own column stays the one that
-/// stands along. Gives the greatest size of those that have turned.
-pub fn turn_low(
-    numbers: &mut Listed<i64>,
-    own: usize,
-    along: i64,
-    across: &[i64],
-    touched: &[usize],
-    turn: Turn,
-    divisor: Divisor,
-) -> i64
-    requires divisor { IsDivisorOf turn.common divisor }
-    requires small { AreSmallTurns turn.pivot turn.common along across.now numbers.old }
-    requires whole { AreIntegralTurns turn.pivot turn.common along across.now numbers.old }
-    requires touched { AreTouched turn.pivot turn.common across.now (length across.now) touched.now }
-    requires own { own < length across.now }
-    requires stands { number_at numbers.old own ≡ along }
-    ensures turned { IsTurnedRow turn.pivot turn.common along own across.now numbers.old numbers.new }
-    ensures from_zero { pos 0 ≤ℤ result }
-    ensures size { (most : ℕ) → AllWithin most numbers.old → nat_abs result ≤ most → AllWithin most numbers.new }
-    ensures least { (most : ℕ) → AreTurnedWithin turn.pivot turn.common along across.now numbers.old most → nat_abs result ≤ most }
+/// Multiplies all numbers.
+fn multiply(numbers: &mut Listed<i64>, multiplier: i64)
+    requires sizes { AllWithin (2 ^ 30) numbers.old }
+    requires multiplier { nat_abs multiplier ≤ 2 ^ 30 }
+    ensures count { length numbers.new ≡ length numbers.old }
+    ensures each { (c : ℕ) → c < length numbers.old → number_at numbers.new c ≡ (multiplier *ℤ number_at numbers.old c) }
 {
-    let mut most = 0;
+    if multiplier == 1 {
+        return;
+    }
+    for column in 0..numbers.as_slice().len() {
+        let number = numbers.as_slice()[column];
+        numbers.set(column, multiplier * number);
+    }
+}
+
+/// Takes a multiple of a line's numbers away, at the columns in which it isn't 0.
+fn take_away(numbers: &mut Listed<i64>, factor: i64, line: &[i64], touched: &[usize])
+    requires long { length numbers.old ≡ length line.now }
+    requires sizes { AllWithin (2 ^ 61) numbers.old }
+    requires factor { nat_abs factor ≤ 2 ^ 30 }
+    requires line { AllWithin (2 ^ 30) line.now }
+    requires touched { AreNonZeros line.now (length line.now) touched.now }
+    ensures count { length numbers.new ≡ length numbers.old }
+    ensures each { (c : ℕ) → c < length numbers.old → number_at numbers.new c ≡ (number_at numbers.old c -ℤ (factor *ℤ number_at line.now c)) }
+{
     for index in 0..touched.len() {
         let column = touched[index];
         let number = numbers.as_slice()[column];
-        let turned = turn.over(across[column]).turned(number, along, divisor);
-        most = greater_size(most, turned);
-        numbers.set(column, turned);
+        numbers.set(column, number - factor * line[column]);
     }
-    numbers.set(own, along);
-    most
 }
 
-/// Whether the numbers of a variable turn into whole ones.
-pub fn turns_whole(
-    numbers: &[i64],
-    along: i64,
-    across: &[i64],
-    touched: &[usize],
-    turn: Turn,
-    divisor: Divisor,
-) -> bool
-    requires divisor { IsDivisorOf turn.common divisor }
-    requires small { AreSmallTurns turn.pivot turn.common along across.now numbers.now }
-    requires touched { AreTouched turn.pivot turn.common across.now (length across.now) touched.now }
-    ensures { IsTrue result ↔ AreIntegralTurns turn.pivot turn.common along across.now numbers.now }
-{
-    for index in 0..touched.len() {
-        let column = touched[index];
-        if !turn
-            .over(across[column])
-            .is_whole(numbers[column], along, divisor)
-        {
+impl Turn {
+    /// Whether numbers of at most one size, in a line that is turned, and of another, in the entering one, stay small.
+    fn keeps(self, most: i64, entering: i64) -> bool
+        requires multiplier { (pos 0 <ℤ self.multiplier) × (self.multiplier ≤ℤ pos (2 ^ 30)) }
+        requires factor { nat_abs self.factor ≤ 2 ^ 30 }
+        requires most { (pos 0 ≤ℤ most) × (most ≤ℤ pos (2 ^ 30)) }
+        requires entering { (pos 0 ≤ℤ entering) × (entering ≤ℤ pos (2 ^ 30)) }
+        ensures { IsTrue result ↔ (nat_abs self.multiplier * nat_abs most + nat_abs self.factor * nat_abs entering ≤ 2 ^ 30) }
+    {
+        self.multiplier * most + self.factor.abs() * entering <= ENTRY_LIMIT
+    }
+
+    /// A size that no number passes in a turn, where those of the line and of the entering one don't pass these, nor the
+    /// entering line's denominator this one.
+    fn most_after(self, most: i64, entering: i64, denominator: i64) -> i64
+        requires multiplier { nat_abs self.multiplier ≤ 2 ^ 30 }
+        requires factor { nat_abs self.factor ≤ 2 ^ 30 }
+        requires most { nat_abs most ≤ 2 ^ 30 }
+        requires entering { nat_abs entering ≤ 2 ^ 30 }
+        requires denominator { nat_abs denominator ≤ 2 ^ 30 }
+        ensures from_zero { pos 0 ≤ℤ result }
+        ensures numbers { nat_abs self.multiplier * nat_abs most + nat_abs self.factor * nat_abs entering ≤ nat_abs result }
+        ensures own { nat_abs self.factor * nat_abs denominator ≤ nat_abs result }
+    {
+        let numbers = (self.multiplier * most).abs() + (self.factor * entering).abs();
+        greater_size(numbers, self.factor * denominator)
+    }
+
+    /// A number that has turned, by the entering line's number there.
+    fn turned(self, number: i64, entering: i64) -> i128
+        requires multiplier { nat_abs self.multiplier ≤ 2 ^ 30 }
+        requires factor { nat_abs self.factor ≤ 2 ^ 30 }
+        ensures { result ≡ turned_number self number entering }
+    {
+        i128::from(self.multiplier) * i128::from(number)
+            - i128::from(self.factor) * i128::from(entering)
+    }
+}
+
+impl Line {
+    /// Whether the numbers of a line stay small in a turn.
+    pub fn stays_small(&self, turn: Turn, entering: &Line) -> bool
+        requires line { IsLine self.now }
+        requires entering { IsLine entering.now }
+        requires multiplier { (pos 0 <ℤ turn.multiplier) × (turn.multiplier ≤ℤ pos (2 ^ 30)) }
+        requires factor { nat_abs turn.factor ≤ 2 ^ 30 }
+        ensures { IsTrue result ↔ StaysSmall turn self.now entering.now }
+    {
+        if !turn.keeps(0, entering.denominator) {
             return false;
         }
+        if turn.keeps(self.reach, entering.reach) {
+            return true;
+        }
+        turn.keeps(
+            greatest(self.numbers.as_slice()),
+            greatest(entering.numbers.as_slice()),
+        )
     }
-    true
+
+    /// The constant of a line that has turned, over the denominator times the multiplier.
+    pub fn constant_after(&self, turn: Turn, entering: &Line) -> i128
+        requires multiplier { nat_abs turn.multiplier ≤ 2 ^ 30 }
+        requires factor { nat_abs turn.factor ≤ 2 ^ 30 }
+        ensures { result ≡ turned_number turn self.now.constant entering.now.constant }
+    {
+        turn.turned(self.constant, entering.constant)
+    }
+
+    /// Turns a line at a pivot's column, and brings it into lowest terms.
+    pub fn turn(&mut self, entering: &Line, column: usize, touched: &[usize], turn: Turn)
+        requires line { IsLine self.old }
+        requires entering { IsLine entering.now }
+        requires long { length self.old.numbers ≡ length entering.now.numbers }
+        requires column { column < length self.old.numbers }
+        requires touched { AreNonZeros entering.now.numbers (length entering.now.numbers) touched.now }
+        requires pivot { pos 0 <ℤ number_at entering.now.numbers column }
+        requires turn { turn ≡ turn_at entering.now column self.old }
+        requires small { StaysSmall turn self.old entering.now }
+        requires constant { nat_abs (turned_number turn self.old.constant entering.now.constant) ≤ 2 ^ 62 }
+        requires denominator { nat_abs self.old.denominator * nat_abs turn.multiplier ≤ 2 ^ 30 }
+        ensures line { IsLine self.new }
+        ensures turned { IsTurnedLine turn column entering.now self.old self.new }
+        ensures divides { nat_abs self.new.denominator ∣ (nat_abs self.old.denominator * nat_abs turn.multiplier) }
+        ensures lowest { IsInLowestTerms self.new }
+    {
+        let most = turn.most_after(self.reach, entering.reach, entering.denominator);
+        self.constant = self.constant_after(turn, entering) as i64;
+        self.denominator *= turn.multiplier;
+        multiply(&mut self.numbers, turn.multiplier);
+        take_away(
+            &mut self.numbers,
+            turn.factor,
+            entering.numbers.as_slice(),
+            touched,
+        );
+        self.numbers.set(column, turn.factor * entering.denominator);
+        self.lower(most);
+    }
 }

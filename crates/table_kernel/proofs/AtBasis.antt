@@ -1,9 +1,10 @@
 -- A basis with the numbers of x - low over one denominator, apart from any lines; and a kernel that is made of them.
-use Rattle.std.proofs.Common.{◌≡◌, ◌≢◌, ℕ, zero, suc, ◌*◌, ◌^◌, ◌<◌, ◌≤◌, refl, sym, ◌∙◌, ap, subst, List, [], ◌∷◌, map, length, arith}
+use Rattle.std.proofs.Common.{◌≡◌, ℕ, zero, suc, ◌*◌, ◌^◌, ◌<◌, ◌≤◌, refl, sym, ◌∙◌, ap, subst, List, [], ◌∷◌, map, length, arith}
 use native.Mathlib.Nat.{zero-mul}
 use Rattle.std.specs.Prelude.{ℤ, pos, negsuc, ◌+ℤ◌, ◌*ℤ◌, neg_ℤ, nat_abs, slice_index_or, All}
 use Rattle.std.specs.List.{AllZip}
 use Rattle.std.proofs.lemmas.Int.{ints}
+use Rattle.std.proofs.Math.Nat.{mul_comm}
 use Rattle.std.proofs.lemmas.List.{get_or-map, length-map, with_items_is}
 use Rattle.cost_base.specs.Lists.{numbers_from}
 use Rattle.whole_numbers.specs.Fractions.{Fraction}
@@ -14,7 +15,7 @@ use Rattle.design_problem.specs.declared.form.Form.{Form}
 use Rattle.design_problem.specs.declared.form.CostBox.{CostBox}
 use Rattle.design_problem.specs.declared.tree.Member.{Member}
 use Rattle.design_problem.specs.declared.tree.Member.TheVariants.{Low}
-use Rattle.design_problem.specs.Basis.{IsFormOf, LeadsPositive, coordinate, forms_of, mixture, one_form}
+use Rattle.design_problem.specs.Basis.{LeadsPositive, coordinate, forms_of, mixture, one_form}
 use Rattle.design_problem.specs.Boxes.{IsBox}
 use Rattle.design_problem.specs.Forms.{no_form, value_for_costs}
 use Rattle.fraction_table.specs.Pivots.{member_at}
@@ -24,25 +25,13 @@ use Rattle.fraction_table.proofs.theory.Zips.{zip_from}
 use Rattle.whole_numbers.proofs.Sizes.{size_positive}
 use Rattle.integer_pivots.proofs.Sizes.{number_within, size_most}
 use Rattle.table_kernel.specs.declared.kernel.Kernel.{Kernel}
+use Rattle.table_kernel.specs.Bases.{AreAtBasis}
+use Rattle.table_kernel.specs.Constants.{AreConstants}
 use Rattle.table_kernel.specs.Kernels.{IsBounded, IsKernel, IsMoving, IsShaped, kernel_lines, lows_of, stated, width_of}
 use Rattle.table_kernel.specs.Numbers.{fraction_line}
-use Rattle.table_kernel.specs.Turns.{form_of_place}
+use Rattle.table_kernel.specs.Lines.{form_of_place}
 use Rattle.table_kernel.proofs.Columns.{column_number, place_number_within}
 use Rattle.table_kernel.proofs.OverCommon.{over_numbers, over_stand, pos_size}
-
--- what a table keeps at a basis, but for its lines
-pub record AreAtBasis (costs : CostBox) (rows : List Form) (basis : List Member) (D : ℕ) (lows : List (List ℤ)) : Type 0 where
-  pub high_count : length costs.high ≡ length costs.low
-  pub counts : All (λ f. length f.coefficients ≡ length costs.low) rows
-  pub count : length basis ≡ length costs.low
-  pub members : All (IsFormOf costs rows) basis
-  pub positive : 0 < D
-  pub long : AllLong (suc (length costs.low)) lows
-  pub mixtures : AreMixtures D (forms_of costs rows basis) (low_forms (length costs.low) 0 costs.low) lows
-  pub own : (k : ℕ) → k < length costs.low → number_of_form D costs.low lows (slice_index_or (forms_of costs rows basis) k no_form) (suc k) ≡ pos D
-  pub elsewhere : (k place : ℕ) → k < length costs.low → place ≤ length costs.low → place ≢ suc k →
-      number_of_form D costs.low lows (slice_index_or (forms_of costs rows basis) k no_form) place ≡ pos 0
-  pub lead : (k : ℕ) → k < length costs.low → LeadsPositive (map (λ ts. number_at ts (suc k)) lows)
 
 pub at_basis : (top : ℕ) (costs : CostBox) (rows : List Form) (basis : List Member) (table : List (List Fraction))
     (u : IsUnboxed top costs rows basis table) → AreAtBasis costs rows basis u.common u.lows
@@ -87,7 +76,7 @@ long_down : (n g : ℕ) (lows : List (List ℤ)) → AllLong n (map (scaled_by g
 long_down n g [] long = tt
 long_down n g (ts ∷ lows) long = (sym (length-map ts (λ z. z *ℤ pos g)) ∙ long.0, long_down n g lows long.1)
 
-number_scaled : (g : ℕ) (ts : List ℤ) (place : ℕ) → number_at (scaled_by g ts) place ≡ (number_at ts place *ℤ pos g)
+pub number_scaled : (g : ℕ) (ts : List ℤ) (place : ℕ) → number_at (scaled_by g ts) place ≡ (number_at ts place *ℤ pos g)
 number_scaled g [] place = ring (pos g ∷ []) (num (pos 0)) (num (pos 0) ⊗ var 0) refl
 number_scaled g (t ∷ ts) zero = refl
 number_scaled g (t ∷ ts) (suc place) = number_scaled g ts place
@@ -171,6 +160,70 @@ scaled_down costs rows basis D g lows D_positive g_positive b = record {
     none : (n : ℕ) → pos 0 ≡ (pos 0 *ℤ pos n)
     none n = ring (pos n ∷ []) (num (pos 0)) (num (pos 0) ⊗ var 0) refl
 
+long_up : (n g : ℕ) (lows : List (List ℤ)) → AllLong n lows → AllLong n (map (scaled_by g) lows)
+long_up n g [] long = tt
+long_up n g (ts ∷ lows) long = (length-map ts (λ z. z *ℤ pos g) ∙ long.0, long_up n g lows long.1)
+
+mixtures_up : (D g : ℕ) (bs gs : List Form) (lows : List (List ℤ)) → AreMixtures D bs gs lows → AreMixtures (D * g) bs gs (map (scaled_by g) lows)
+mixtures_up D g bs [] [] are = tt
+mixtures_up D g bs [] (ts ∷ lows) are = absurd are
+mixtures_up D g bs (f ∷ gs) [] are = absurd are
+mixtures_up D g bs (f ∷ gs) (ts ∷ lows) are = (
+  λ i.
+      ring (pos D ∷ coordinate f i ∷ pos g ∷ []) ((var 0 ⊗ var 2) ⊗ var 1) ((var 0 ⊗ var 1) ⊗ var 2) refl
+      ∙ ap (λ z. z *ℤ pos g) (are.0 i)
+      ∙ sym (mixture_up g ts (one_form ∷ bs) i),
+  mixtures_up D g bs gs lows are.1,
+)
+
+positive_leads : (m : ℕ) (zs : List ℤ) → 0 < m → LeadsPositive (pos m ∷ zs)
+positive_leads zero zs m_positive = absurd (omega arith)
+positive_leads (suc m) zs m_positive = tt
+
+lead_more : (g : ℕ) (z : ℤ) (zs ms : List ℤ) → 0 < g → (LeadsPositive zs → LeadsPositive ms) → LeadsPositive (z ∷ zs) → LeadsPositive ((z *ℤ pos g) ∷ ms)
+lead_more (suc g) (pos zero) zs ms g_positive rest leads =
+    subst (λ (m : ℕ). LeadsPositive (pos m ∷ ms)) (sym (zero-mul (suc g))) (rest leads)
+lead_more (suc g) (pos (suc n)) zs ms g_positive rest leads =
+    let product : 0 < suc n * suc g = grind arith in positive_leads (suc n * suc g) ms product
+lead_more (suc g) (negsuc n) zs ms g_positive rest leads = absurd leads
+lead_more zero z zs ms g_positive rest leads = absurd (omega arith)
+
+lead_up : (g place : ℕ) (lows : List (List ℤ)) → 0 < g →
+    LeadsPositive (map (λ ts. number_at ts place) lows) →
+    LeadsPositive (map (λ ts. number_at ts place) (map (scaled_by g) lows))
+lead_up g place [] g_positive leads = leads
+lead_up g place (ts ∷ lows) g_positive leads =
+    subst (λ (z : ℤ). LeadsPositive (z ∷ map (λ us. number_at us place) (map (scaled_by g) lows))) (sym (number_scaled g ts place))
+    (lead_more g (number_at ts place) (map (λ us. number_at us place) lows)
+    (map (λ us. number_at us place) (map (scaled_by g) lows)) g_positive (lead_up g place lows g_positive) leads)
+
+-- numbers and denominator times a common factor
+pub scaled_up : (costs : CostBox) (rows : List Form) (basis : List Member) (D g : ℕ) (lows : List (List ℤ)) →
+    0 < g → AreAtBasis costs rows basis D lows → AreAtBasis costs rows basis (D * g) (map (scaled_by g) lows)
+scaled_up costs rows basis D g lows g_positive b = record {
+  high_count = b.high_count;
+  counts = b.counts;
+  count = b.count;
+  members = b.members;
+  positive = grind (arith, b.positive, g_positive);
+  long = long_up (suc (length costs.low)) g lows b.long;
+  mixtures = mixtures_up D g (forms_of costs rows basis) (low_forms (length costs.low) 0 costs.low) lows b.mixtures;
+  own = λ k k_in. number_up D g costs.low lows (slice_index_or (forms_of costs rows basis) k no_form) (suc k) ∙ ap (λ z. z *ℤ pos g) (b.own k k_in);
+  elsewhere = λ k place k_in place_in other.
+      number_up D g costs.low lows (slice_index_or (forms_of costs rows basis) k no_form) place
+      ∙ ap (λ z. z *ℤ pos g) (b.elsewhere k place k_in place_in other)
+      ∙ ring (pos g ∷ []) (num (pos 0) ⊗ var 0) (num (pos 0)) refl;
+  lead = λ k k_in. lead_up g (suc k) lows g_positive (b.lead k k_in);
+}
+
+-- the numbers over another denominator that stand for the same
+pub crossed_basis : (costs : CostBox) (rows : List Form) (basis : List Member) (D E : ℕ) (lows news : List (List ℤ)) →
+    0 < E → map (scaled_by D) news ≡ map (scaled_by E) lows → AreAtBasis costs rows basis D lows → AreAtBasis costs rows basis E news
+crossed_basis costs rows basis D E lows news E_positive same b =
+    scaled_down costs rows basis E D news E_positive b.positive
+    (subst (λ (m : ℕ). AreAtBasis costs rows basis m (map (scaled_by D) news)) (mul_comm D E)
+    (subst (AreAtBasis costs rows basis (D * E)) (sym same) (scaled_up costs rows basis D E lows E_positive b)))
+
 -- the lines of a table that is stated are those of the kernel
 pub stated_lines : (k : Kernel) → IsShaped k → (stated k).lines.items ≡ kernel_lines k
 stated_lines k s =
@@ -182,13 +235,12 @@ stated_lines k s =
 
 -- the constants that a kernel holds are those of its forms
 abbrev pub ConstantsAre : Kernel → Type 0
-ConstantsAre k = (place : ℕ) → place < length k.constants.items →
-    number_at k.constants.items place ≡ number_of_form (nat_abs k.common) k.table.costs.low (lows_of k) (form_of_place k place) 0
+ConstantsAre k = AreConstants k.table.costs k.table.rows.items (nat_abs k.common) (lows_of k) k.constants.items
 
 -- the basis of a kernel, and a kernel of a basis
-pub moving_basis : (k : Kernel) → IsMoving k → AreAtBasis k.table.costs k.table.rows.items k.table.basis.items (nat_abs k.common) (lows_of k) × ConstantsAre k
-moving_basis k m =
-    let u = m.unboxed in
+pub kernel_basis : (k : Kernel) → IsKernel k → AreAtBasis k.table.costs k.table.rows.items k.table.basis.items (nat_abs k.common) (lows_of k) × ConstantsAre k
+kernel_basis k m =
+    let u = m.whole.unboxed in
     let common : u.common ≡ nat_abs k.common = ap nat_abs m.numbers.common in
     let a = at_basis k.table.top k.table.costs k.table.rows.items k.table.basis.items (stated k).lines.items u in
     let b = subst (λ (D : ℕ). AreAtBasis k.table.costs k.table.rows.items k.table.basis.items D u.lows) common a in (
@@ -199,25 +251,20 @@ moving_basis k m =
           ∙ ap (λ lows. number_of_form (nat_abs k.common) k.table.costs.low lows (form_of_place k place) 0) m.numbers.lows,
     )
 
--- a kernel whose bounds moved is one again, where the ranges are a box that the rows fit
+-- a kernel may move
 pub kernel_moves : (k : Kernel) → IsKernel k → IsMoving k
-kernel_moves k m = record { shaped = m.shaped; bounded = m.bounded; unboxed = m.whole.unboxed; numbers = m.numbers }
+kernel_moves k m = record { shaped = m.shaped; bounded = m.bounded; basis = (kernel_basis k m).0 }
 
-pub moved_kernel : (k : Kernel) → IsMoving k → IsBox (width_of k) k.table.costs → All (FitsBox k.table.costs) k.table.rows.items → IsKernel k
-moved_kernel k m box fit = record { shaped = m.shaped; bounded = m.bounded; whole = record { box = box; fit = fit; unboxed = m.unboxed }; numbers = m.numbers }
-
-pub kernel_basis : (k : Kernel) → IsKernel k → AreAtBasis k.table.costs k.table.rows.items k.table.basis.items (nat_abs k.common) (lows_of k) × ConstantsAre k
-kernel_basis k m = moving_basis k (kernel_moves k m)
-
--- no number of a place's form is greater than the limit of constants
+-- no number of a place's form is greater than 2^76
 number_small : (k : Kernel) (s : IsShaped k) (b : IsBounded k) (c : ConstantsAre k) (line : ℕ) →
     line < length k.constants.items → (place : ℕ) →
-    nat_abs (number_of_form (nat_abs k.common) k.table.costs.low (lows_of k) (form_of_place k line) place) ≤ 2 ^ 39
+    nat_abs (number_of_form (nat_abs k.common) k.table.costs.low (lows_of k) (form_of_place k line) place) ≤ 2 ^ 76
 number_small k s b c line line_in zero =
-    subst (λ (z : ℤ). nat_abs z ≤ 2 ^ 39) (c line line_in) (number_within (2 ^ 39) k.constants.items line b.constants)
+    let small : nat_abs (number_at k.constants.items line) ≤ 2 ^ 62 = number_within (2 ^ 62) k.constants.items line b.constants in
+    subst (λ (z : ℤ). nat_abs z ≤ 2 ^ 76) (c line line_in) (omega (arith, small))
 number_small k s b c line line_in (suc column) =
     let small = place_number_within k s b line line_in column in
-    subst (λ (z : ℤ). nat_abs z ≤ 2 ^ 39) (sym (column_number k s (nat_abs k.common) k.table.costs.low (form_of_place k line) column)) (omega (arith, small))
+    subst (λ (z : ℤ). nat_abs z ≤ 2 ^ 76) (sym (column_number k (nat_abs k.common) k.table.costs.low (form_of_place k line) column)) small
 
 -- the line of a place
 pub line_is : (k : Kernel) → IsShaped k → IsBounded k → ConstantsAre k → (line : ℕ) → line < length k.constants.items →
@@ -226,7 +273,7 @@ pub line_is : (k : Kernel) → IsShaped k → IsBounded k → ConstantsAre k →
 line_is k s b c line line_in =
     let D = nat_abs k.common in
     let positive : 0 < D = size_positive k.common b.positive in
-    let small : D ≤ 2 ^ 22 = size_most k.common (2 ^ 22) b.positive b.common in
+    let small : D ≤ 2 ^ 30 = size_most k.common (2 ^ 30) b.positive b.common in
     let number = number_of_form D k.table.costs.low (lows_of k) (form_of_place k line) in
     let most : (place : ℕ) → nat_abs (number place) ≤ k.table.top = λ place. let n = number_small k s b c line line_in place in omega (arith, n, b.top) in
     record {
@@ -246,22 +293,21 @@ lines_are k s b c =
     (member_at k.table line)) (sym (get_or-map line_of members line (Low 0 0) [] line_in))
     (line_is k s b c line (subst (λ (n : ℕ). line < n) (sym s.constants) line_in)))
 
-pub basis_moving : (k : Kernel) → IsShaped k → IsBounded k →
+pub basis_kernel : (k : Kernel) → IsShaped k → IsBounded k → IsBox (width_of k) k.table.costs →
+    All (FitsBox k.table.costs) k.table.rows.items →
     AreAtBasis k.table.costs k.table.rows.items k.table.basis.items (nat_abs k.common) (lows_of k) →
-    ConstantsAre k → IsMoving k
-basis_moving k s b a c =
+    ConstantsAre k → IsKernel k
+basis_kernel k s b box fit a c =
     let D = nat_abs k.common in
     let lines = subst (AllZip (IsTableLine k.table.top D k.table.costs k.table.rows.items (lows_of k))
     (members_of_box k.table.costs (length k.table.rows.items))) (sym (stated_lines k s)) (lines_are k s b c) in
     record {
       shaped = s;
       bounded = b;
-      unboxed = unboxed_of k.table.top D k.table.costs k.table.rows.items k.table.basis.items (lows_of k) (stated k).lines.items a lines;
+      whole = record {
+        box = box;
+        fit = fit;
+        unboxed = unboxed_of k.table.top D k.table.costs k.table.rows.items k.table.basis.items (lows_of k) (stated k).lines.items a lines;
+      };
       numbers = record { common = pos_size k.common (omega (arith, ints, b.positive)); lows = refl; constants = c };
     }
-
-pub basis_kernel : (k : Kernel) → IsShaped k → IsBounded k → IsBox (width_of k) k.table.costs →
-    All (FitsBox k.table.costs) k.table.rows.items →
-    AreAtBasis k.table.costs k.table.rows.items k.table.basis.items (nat_abs k.common) (lows_of k) →
-    ConstantsAre k → IsKernel k
-basis_kernel k s b box fit a c = moved_kernel k (basis_moving k s b a c) box fit

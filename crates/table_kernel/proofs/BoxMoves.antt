@@ -1,5 +1,5 @@
 -- A kernel whose bounds move to those of another box, one after another.
-use Rattle.std.proofs.Common.{◌≡◌, ℕ, suc, ◌+◌, ◌*◌, ◌<◌, sym, ◌∙◌, ap, subst, List, length, arith}
+use Rattle.std.proofs.Common.{◌≡◌, ℕ, suc, ◌+◌, ◌<◌, sym, ◌∙◌, ap, subst, List, length, arith}
 use Rattle.std.specs.Prelude.{pos, ◌-ℤ◌, nat_abs, slice_index, All}
 use Rattle.std.proofs.lemmas.Int.{ints}
 use Rattle.design_problem.specs.declared.form.Form.{Form}
@@ -8,16 +8,15 @@ use Rattle.design_problem.specs.Boxes.{IsBox}
 use Rattle.fraction_table.specs.Tableaus.{FitsBox, between}
 use Rattle.fraction_table.proofs.BetweenBoxes.{AreAlike, at_between}
 use Rattle.table_kernel.specs.declared.kernel.Kernel.{Kernel}
-use Rattle.table_kernel.specs.Kernels.{IsKernel, IsMoving, width_of}
-use Rattle.table_kernel.specs.Turns.{KeepsNumberBounds, MayMove, step_of}
-use Rattle.table_kernel.proofs.AtBasis.{moved_kernel}
+use Rattle.table_kernel.specs.Kernels.{width_of}
+use Rattle.table_kernel.specs.Moves.{KeepsOfBox, MayMove}
+use Rattle.table_kernel.specs.Turns.{line_of}
+use Rattle.table_kernel.proofs.MovedLines.{room_less}
 use Rattle.table_kernel.proofs.Distances.{left_of, left_step}
 
 -- less room is wanted
 may_less : (k : Kernel) (far more : ℕ) → MayMove k (far + more) → MayMove k far
-may_less k far more may =
-    let all : (far + more) * step_of k ≡ far * step_of k + more * step_of k = omega arith in
-    (may.0, (may.1.0, omega (arith, all, may.1.1)))
+may_less k far more may v v_in = room_less (nat_abs k.common) far more (line_of k v) (may v v_in)
 
 may_as : (k : Kernel) (far other : ℕ) → far ≡ other → MayMove k far → MayMove k other
 may_as k far other same may = subst (λ (d : ℕ). MayMove k d) same may
@@ -81,23 +80,24 @@ high_may old t costs v bound alike v_in bound_is costs_are may =
     (high_room old t costs v bound alike v_in bound_is costs_are may)
 
 -- what two moves in a row keep
-pub both_keep : (old t s : Kernel) → KeepsNumberBounds old t → KeepsNumberBounds t s → KeepsNumberBounds old s
+pub both_keep : (old t s : Kernel) → KeepsOfBox old t → KeepsOfBox t s → KeepsOfBox old s
 both_keep old t s first second =
     record {
       top = second.top ∙ first.top;
       rows = second.rows ∙ first.rows;
       width = second.width ∙ first.width;
       common = second.common ∙ first.common;
-      reach = second.reach ∙ first.reach;
-      weight = second.weight
-          ∙ first.weight;
+      lows = second.lows ∙ first.lows;
     }
 
--- in the box that it moved to it is a kernel
-pub settled : (old s : Kernel) (costs : CostBox) → IsMoving s → KeepsNumberBounds old s → s.table.costs ≡ costs →
-    IsBox (width_of old) costs → All (FitsBox costs) old.table.rows.items → IsKernel s
-settled old s costs m keeps costs_are box fit =
-    moved_kernel s m
-    (subst (λ (n : ℕ). IsBox n s.table.costs) (sym keeps.width) (subst (λ (c : CostBox). IsBox (width_of old) c) (sym costs_are) box))
-    (subst (λ (c : CostBox). All (FitsBox c) s.table.rows.items) (sym costs_are)
-    (subst (λ (rows : List Form). All (FitsBox costs) rows) (sym (ap (λ rows. rows.items) keeps.rows)) fit))
+-- the box that it moved to, and that its rows fit it
+pub settled_box : (old s : Kernel) (costs : CostBox) → KeepsOfBox old s → s.table.costs ≡ costs → IsBox (width_of old) costs →
+    IsBox (width_of s) s.table.costs
+settled_box old s costs keeps costs_are box =
+    subst (λ (n : ℕ). IsBox n s.table.costs) (sym keeps.width) (subst (λ (c : CostBox). IsBox (width_of old) c) (sym costs_are) box)
+
+pub settled_fit : (old s : Kernel) (costs : CostBox) → KeepsOfBox old s → s.table.costs ≡ costs →
+    All (FitsBox costs) old.table.rows.items → All (FitsBox s.table.costs) s.table.rows.items
+settled_fit old s costs keeps costs_are fit =
+    subst (λ (c : CostBox). All (FitsBox c) s.table.rows.items) (sym costs_are)
+    (subst (λ (rows : List Form). All (FitsBox costs) rows) (sym (ap (λ rows. rows.items) keeps.rows)) fit)

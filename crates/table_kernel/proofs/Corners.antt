@@ -1,22 +1,24 @@
 -- The corner of a kernel: its scale, the values over it, and that it is the least point.
-use Rattle.std.proofs.Common.{◌≡◌, ◌≢◌, ℕ, zero, suc, ◌+◌, ◌*◌, ◌/◌, ◌^◌, ◌<◌, ◌≤◌, inl, inr, refl, sym, ◌∙◌, ap, subst, List, [], ◌∷◌, length, arith, mul-one, w64, to_z, of_z}
+use Rattle.std.proofs.Common.{◌≡◌, ◌≢◌, ℕ, ◌+◌, ◌*◌, ◌/◌, ◌^◌, ◌<◌, ◌≤◌, inl, inr, refl, sym, ◌∙◌, ap, subst, List, [], ◌∷◌, length, arith, mul-one, w64, to_z, of_z}
 use Rattle.std.specs.Prelude.{ℤ, pos, ◌≤ℤ◌, nat_abs, slice_index, slice_index_or, slice_set, All}
 use Prim.Native.Nat.{◌∣◌}
 use native.Mathlib.Nat.{div-mul_cancel, one-mul}
 use Rattle.std.proofs.lemmas.Bool.{cases_eq, cases_lt}
-use Rattle.std.proofs.lemmas.Int.{ints}
-use Rattle.std.proofs.lemmas.List.{get_or_default, get_or-set_other, get_or-set_same}
+use Rattle.std.proofs.lemmas.List.{get_or_default, get_or-map, get_or-set_other, get_or-set_same, length-map}
 use Rattle.std.proofs.lemmas.Nat.Gcd.{dvd_refl, dvd_trans}
 use Rattle.whole_numbers.specs.Fractions.{Fraction, gcd}
 use Rattle.whole_numbers.proofs.Divisors.{gcd_is, quotient_positive}
 use Rattle.whole_numbers.proofs.Ring.{var, ◌⊗◌, ring}
+use Rattle.whole_numbers.proofs.Sizes.{size_positive}
 use Rattle.area_graph.specs.declared.Point.{Point}
 use Rattle.whole_numbers.specs.Lists.{number_at}
+use Rattle.design_problem.specs.declared.tree.Member.TheVariants.{Low}
 use Rattle.design_problem.specs.Basis.{entry, member_form}
 use Rattle.design_problem.specs.Earnest.{IsLeastPoint}
 use Rattle.design_problem.specs.Forms.{AreMet}
 use Rattle.fraction_rows.proofs.RowLaws.{number_at as number_there}
 use Rattle.fraction_table.specs.Pivots.{AreHigh, line_at, numbers_of_line, member_at}
+use Rattle.fraction_table.proofs.Bases.{members_begin}
 use Rattle.fraction_table.proofs.CornerLeast.{corner_is_least}
 use Rattle.fraction_table.proofs.CornerPoints.{same_point}
 use Rattle.fraction_table.proofs.CornerScales.{corner_at, same_sum}
@@ -27,30 +29,44 @@ use Rattle.fraction_table.proofs.theory.TurnedNumbers.{numbers_at, numbers_long}
 use Rattle.fraction_table.proofs.theory.Zips.{zip_from}
 use Rattle.integer_pivots.proofs.Sizes.{number_within, read_number}
 use Rattle.table_kernel.specs.declared.kernel.Kernel.{Kernel}
-use Rattle.table_kernel.specs.Kernels.{IsKernel, stated, width_of}
-use Rattle.table_kernel.specs.Numbers.{lows_by}
+use Rattle.table_kernel.specs.Kernels.{IsKernel, lows_of, stated, width_of}
+use Rattle.table_kernel.specs.Numbers.{scaled_line}
+use Rattle.table_kernel.proofs.Columns.{common_small, constants_within, low_constant_at, low_constants}
+use Rattle.table_kernel.proofs.PlaceConstants.{low_place}
 
--- the size of a constant, as code reads it
 -- each variable has a constant
 pub constant_in : (k : Kernel) → IsKernel k → (v : ℕ) → v < width_of k → v < length k.constants.items
 constant_in k m v v_in = omega (arith, v_in, m.shaped.constants, members_long k.table.costs (length k.table.rows.items))
 
+-- which is the one that its line has
+pub low_constant_is : (k : Kernel) → IsKernel k → (v : ℕ) → v < width_of k → number_at k.constants.items v ≡ number_at (low_constants k) v
+low_constant_is k m v v_in =
+    low_place k m v v (slice_index k.table.costs.low v) (constant_in k m v v_in) v_in refl
+    (members_begin k.table.costs (length k.table.rows.items) v (Low 0 0) v_in)
+    ∙ sym (low_constant_at k m.shaped v v_in)
+
+-- and is within 2^44
+pub low_constant_small : (k : Kernel) → IsKernel k → (v : ℕ) → v < width_of k → nat_abs (number_at k.constants.items v) ≤ 2 ^ 44
+low_constant_small k m v v_in =
+    subst (λ (z : ℤ). nat_abs z ≤ 2 ^ 44) (sym (low_constant_is k m v v_in)) (number_within (2 ^ 44) (low_constants k) v (constants_within k m.bounded))
+
+-- the size of a constant, as code reads it
 pub constant_read : (k : Kernel) → IsKernel k → (v size : ℕ) (z : ℤ) → v < width_of k →
     z ≡ slice_index_or k.constants.items v z → size ≡ nat_abs (to_z w64 (of_z w64 z)) →
-    (size ≡ nat_abs (number_at k.constants.items v)) × (size ≤ 2 ^ 39)
+    (size ≡ nat_abs (number_at k.constants.items v)) × (size ≤ 2 ^ 44)
 constant_read k m v size z v_in z_is size_is =
     let place_in = constant_in k m v v_in in
     let same : z ≡ number_at k.constants.items v = z_is ∙ get_or_default k.constants.items v z (pos 0) place_in in
-    let small = number_within (2 ^ 39) k.constants.items v m.bounded.constants in
+    let small = low_constant_small k m v v_in in
     let is : size ≡ nat_abs (number_at k.constants.items v) =
     size_is ∙ ap (λ (y : ℤ). nat_abs (to_z w64 (of_z w64 y))) same ∙ ap nat_abs (read_number (number_at k.constants.items v) (omega (arith, small))) in
     (is, omega (arith, is, small))
 
 pub common_read : (k : Kernel) → IsKernel k → (size : ℕ) → size ≡ nat_abs (to_z w64 (of_z w64 k.common)) →
-    (size ≡ nat_abs k.common) × (size ≤ 2 ^ 22) × (0 < size)
+    (size ≡ nat_abs k.common) × (size ≤ 2 ^ 30) × (0 < size)
 common_read k m size size_is =
-    let small : nat_abs k.common ≤ 2 ^ 22 = omega (arith, ints, m.bounded.positive, m.bounded.common) in
-    let some : 0 < nat_abs k.common = omega (arith, ints, m.bounded.positive) in
+    let small : nat_abs k.common ≤ 2 ^ 30 = common_small k m.bounded in
+    let some : 0 < nat_abs k.common = size_positive k.common m.bounded.positive in
     let is : size ≡ nat_abs k.common = size_is ∙ ap nat_abs (read_number k.common (omega (arith, small))) in
     (is, omega (arith, is, small), omega (arith, is, some))
 
@@ -131,13 +147,6 @@ stated_high : (k : Kernel) (m : IsKernel k) → All (λ z. pos 0 ≤ℤ z) k.con
 stated_high k m high line d line_in =
     subst (λ (row : List Fraction). pos 0 ≤ℤ (entry row 0).numerator) (get_or_default (stated k).lines.items line [] d line_in) (high_at k m high line line_in)
 
-lows_first : (constants : List ℤ) (rows : List (List ℤ)) (v : ℕ) → v < length rows → v < length constants →
-    number_at (slice_index_or (lows_by constants rows) v []) 0 ≡ number_at constants v
-lows_first constants [] v v_in z_in = absurd (omega (arith, v_in))
-lows_first [] (row ∷ rows) v v_in z_in = absurd (omega (arith, z_in))
-lows_first (z ∷ constants) (row ∷ rows) zero v_in z_in = refl
-lows_first (z ∷ constants) (row ∷ rows) (suc v) v_in z_in = lows_first constants rows v (omega (arith, v_in)) (omega (arith, z_in))
-
 swapped : (a b c : ℕ) → a * (b * c) ≡ (a * c) * b
 swapped a b c = ap nat_abs (ring (pos a ∷ pos b ∷ pos c ∷ []) (var 0 ⊗ (var 1 ⊗ var 2)) ((var 0 ⊗ var 2) ⊗ var 1) refl)
 
@@ -176,10 +185,11 @@ corner_least k m high divisor p d scale_is counted values =
         let low = slice_index k.table.costs.low v in
         let z = number_at k.constants.items v in
         let common : m.whole.unboxed.common ≡ D = ap nat_abs m.numbers.common in
-        let place_in : v < length k.constants.items = omega (arith, v_in, m.shaped.constants, members_long k.table.costs (length k.table.rows.items)) in
         let number : number_at (slice_index_or m.whole.unboxed.lows v []) 0 ≡ z =
         ap (λ (rows : List (List ℤ)). number_at (slice_index_or rows v []) 0) m.numbers.lows
-        ∙ lows_first k.constants.items k.lows.items v (omega (arith, v_in, m.shaped.lows)) place_in in
+        ∙ sym (get_or-map (λ (ts : List ℤ). number_at ts 0) (lows_of k) v [] (pos 0)
+        (omega (arith, v_in, m.shaped.lows, length-map k.lows.items (scaled_line D))))
+        ∙ sym (low_constant_is k m v v_in) in
         let there : slice_index (corner_of m.whole.unboxed.common k.table.costs.low m.whole.unboxed.lows) v ≡ low * D + nat_abs z =
         corner_at m.whole.unboxed.common k.table.costs.low m.whole.unboxed.lows v v_in (counted_lows (stated k) m.whole)
         ∙ ap (λ (x : ℕ). low * x + nat_abs (number_at (slice_index_or m.whole.unboxed.lows v []) 0)) common

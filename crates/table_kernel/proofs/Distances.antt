@@ -2,7 +2,7 @@
 use Rattle.std.proofs.Common.{◌≡◌, ℕ, zero, suc, ◌+◌, ◌<◌, refl, sym, ◌∙◌, ap, List, [], ◌∷◌, drop, length, arith}
 use Rattle.std.specs.Prelude.{ℤ, pos, ◌+ℤ◌, ◌-ℤ◌, nat_abs, slice_index}
 use Rattle.std.proofs.lemmas.Int.{ints}
-use Rattle.table_kernel.specs.Turns.{distance_of}
+use Rattle.table_kernel.specs.Moves.{distance_of}
 
 -- how far they are from a place on
 abbrev pub left_of : List ℕ → List ℕ → ℕ → ℕ

@@ -1,8 +1,11 @@
 -- The columns that are left, as variable by variable is looked at; and the one that is chosen.
-use Rattle.std.proofs.Common.{◌≡◌, ℕ, zero, suc, ◌+◌, ◌*◌, ◌^◌, ◌<◌, ◌≤◌, refl, sym, ◌∙◌, ap, subst, List, [], ◌∷◌, length, arith, inl, inr, ◌⊎◌}
-use Rattle.std.specs.Prelude.{ℤ, None, Some, pos, negsuc, ◌*ℤ◌, ◌<ℤ◌, ◌≤ℤ◌, nat_abs, slice_index, slice_index_or}
+use native.Mathlib.Nat.{zero-mul}
+use Rattle.std.proofs.Common.{◌≡◌, ℕ, zero, suc, ◌+◌, ◌*◌, ◌^◌, ◌<◌, ◌≤◌, refl, sym, ◌∙◌, ap, subst, List, [], ◌∷◌, map, length, arith, inl, inr, ◌⊎◌}
+use Rattle.std.specs.Prelude.{ℤ, None, Some, pos, negsuc, ◌-ℤ◌, ◌*ℤ◌, ◌<ℤ◌, ◌≤ℤ◌, neg_ℤ, nat_abs, slice_index, slice_index_or, All}
 use Rattle.std.proofs.lemmas.Int.{ints}
-use Rattle.std.proofs.lemmas.List.{get_or_default}
+use Rattle.std.proofs.lemmas.List.{get_or-map, get_or_default, length-map}
+use Rattle.std.proofs.lemmas.List.Elements.{All-tail}
+use Rattle.whole_numbers.proofs.Ring.{var, ◌⊖◌, ◌⊗◌, ring}
 use Rattle.std.proofs.lemmas.Bool.{cases_eq}
 use Rattle.cost_base.specs.Lists.{Has}
 use lib.IntN.{zero-*ℤ}
@@ -15,21 +18,25 @@ use Rattle.integer_pivots.specs.Choices.{AreLatest, AreLeast, IsPositiveAt, cros
 use Rattle.integer_pivots.specs.Leads.{AreLeads, IsLead}
 use Rattle.integer_pivots.specs.Numbers.{AllWithin}
 use Rattle.integer_pivots.proofs.Narrowing.{has_at}
+use Rattle.integer_pivots.specs.declared.line.Line.{Line}
+use Rattle.integer_pivots.specs.Lines.{no_line, rows_of}
 use Rattle.whole_numbers.proofs.Sizes.{positive_is}
-use Rattle.integer_pivots.proofs.Sizes.{wider}
-use Rattle.integer_pivots.proofs.ColumnLeads.{positive_some}
 use Rattle.table_kernel.specs.Choices.{AreColumnsLeft, ComesFirst}
 use Rattle.table_kernel.specs.declared.kernel.Kernel.{Kernel}
 use Rattle.table_kernel.specs.Kernels.{IsBounded, IsKernel, IsShaped, width_of}
-use Rattle.table_kernel.specs.Turns.{IsBestColumn}
-use Rattle.table_kernel.proofs.Columns.{lows_few, reach_within}
-use Rattle.table_kernel.proofs.Pivoting.{columns_by}
+use Rattle.table_kernel.specs.Lines.{IsBestColumn, IsNotAfterInKernel}
+use Rattle.table_kernel.specs.Numbers.{scaled_line, share_of}
+use Rattle.table_kernel.proofs.Columns.{numbers_small, scaled_number}
+use Rattle.table_kernel.proofs.Shares.{shares_some}
 
 -- a column that leads positive is positive at its lead
 lead_sign : (z : ℤ) (zs : List ℤ) → LeadsPositive (z ∷ zs) → ((z ≡ pos 0) × LeadsPositive zs) ⊎ (pos 0 <ℤ z)
 lead_sign (pos zero) zs leads = inl (refl, leads)
 lead_sign (pos (suc n)) zs leads = inr (omega (arith, ints))
 lead_sign (negsuc n) zs leads = absurd leads
+
+no_zero : (z : ℤ) → pos 0 <ℤ z → z ≡ pos 0 → ⊥
+no_zero z positive none = omega (arith, ints)
 
 pub lead_positive : (rows : List (List ℤ)) (c lead : ℕ) → LeadsPositive (numbers_in_column c rows) → IsLead rows c lead →
     (lead < length rows) × (pos 0 <ℤ number_at (slice_index_or rows lead []) c)
@@ -48,7 +55,7 @@ lead_positive (row ∷ rows) c (suc lead) leads is = elim (lead_sign (number_at 
       } in
       let found = lead_positive rows c lead none.1 rest in
       (omega (arith, found.0), found.1)
-  | inr positive ↦ absurd (positive_some (number_at row c) positive (is.before 0 (omega arith)))
+  | inr positive ↦ absurd (no_zero (number_at row c) positive (is.before 0 (omega arith)))
 ]
 
 -- two columns that are level, and where the first difference shows the first one less
@@ -101,7 +108,7 @@ module _ (rows : List (List ℤ)) (line : List ℤ) (c d : ℕ) (c_is : IsPositi
       (subst (λ z. z <ℤ (there count d *ℤ pos own)) (sym (others_read count))
       (subst (λ z. crosswise (slice_index_or rows count []) line c d <ℤ z) (sym (own_read count)) less)))))
 
-times_positive : (a b : ℤ) → pos 0 <ℤ a → pos 0 <ℤ b → pos 0 <ℤ (a *ℤ b)
+pub times_positive : (a b : ℤ) → pos 0 <ℤ a → pos 0 <ℤ b → pos 0 <ℤ (a *ℤ b)
 times_positive (pos a) (pos b) a_is b_is =
     let more : 0 < a * b = product_positive a b (omega (arith, ints)) (omega (arith, ints)) in
     omega (arith, ints, more)
@@ -186,55 +193,124 @@ left_first rows line left c d are has d_is =
       | inr after ↦ after c has
     ]
 
+lead_scaled : (z : ℤ) (g : ℕ) (zs ms : List ℤ) → 0 < g → (LeadsNoNegative zs → LeadsNoNegative ms) → LeadsNoNegative (z ∷ zs) → LeadsNoNegative ((z *ℤ pos g) ∷ ms)
+lead_scaled (pos zero) (suc g) zs ms some rest leads =
+    subst (λ (m : ℕ). LeadsNoNegative (pos m ∷ ms)) (sym (zero-mul (suc g))) (rest leads)
+lead_scaled (pos (suc n)) (suc g) zs ms some rest leads =
+    let product : 0 < suc n * suc g = grind arith in
+    more (suc n * suc g) product
+  where
+    more : (m : ℕ) → 0 < m → LeadsNoNegative (pos m ∷ ms)
+    more zero m_positive = absurd (omega arith)
+    more (suc m) m_positive = tt
+lead_scaled (negsuc n) g zs ms some rest leads = absurd leads
+lead_scaled z zero zs ms some rest leads = absurd (omega arith)
+
+-- what leads in the numbers of lines leads in the scaled ones
+pub leads_scaled : (D own c d : ℕ) (others : ℤ) (lines : List Line) → All (λ (line : Line). 0 < share_of D line) lines →
+    LeadsNoNegative (turned_column own (numbers_in_column d (rows_of lines)) others (numbers_in_column c (rows_of lines))) →
+    LeadsNoNegative (turned_column own (numbers_in_column (suc d) (map (scaled_line D) lines)) others (numbers_in_column (suc c) (map (scaled_line D) lines)))
+leads_scaled D own c d others [] shares leads = tt
+leads_scaled D own c d others (line ∷ lines) shares leads =
+    let g = share_of D line in
+    let x = number_at line.numbers d in
+    let y = number_at line.numbers c in
+    let news = turned_column own (numbers_in_column (suc d) (map (scaled_line D) lines)) others (numbers_in_column (suc c) (map (scaled_line D) lines)) in
+    let same : ((pos own *ℤ number_at (scaled_line D line) (suc d)) -ℤ (others *ℤ number_at (scaled_line D line) (suc c))) ≡ (((pos own *ℤ x) -ℤ (others *ℤ y)) *ℤ pos g) =
+    ap (λ z. (pos own *ℤ z) -ℤ (others *ℤ number_at (scaled_line D line) (suc c))) (scaled_number D line (suc d))
+    ∙ ap (λ z. (pos own *ℤ (x *ℤ pos g)) -ℤ (others *ℤ z)) (scaled_number D line (suc c))
+    ∙ ring (pos own ∷ x ∷ others ∷ y ∷ pos g ∷ []) ((var 0 ⊗ (var 1 ⊗ var 4)) ⊖ (var 2 ⊗ (var 3 ⊗ var 4))) (((var 0 ⊗ var 1) ⊖ (var 2 ⊗ var 3)) ⊗ var 4) refl in
+    subst (λ (z : ℤ). LeadsNoNegative (z ∷ news)) (sym same)
+    (lead_scaled ((pos own *ℤ x) -ℤ (others *ℤ y)) g (turned_column own (numbers_in_column d (rows_of lines)) others (numbers_in_column c (rows_of lines))) news
+    (shares 0 no_line (omega arith))
+    (leads_scaled D own c d others lines (All-tail (λ (l : Line). 0 < share_of D l) line lines shares)) leads)
+
+lead_unscaled : (z : ℤ) (g : ℕ) (zs ms : List ℤ) → 0 < g → (LeadsPositive zs → LeadsPositive ms) → LeadsPositive ((z *ℤ pos g) ∷ zs) → LeadsPositive (z ∷ ms)
+lead_unscaled (pos zero) (suc g) zs ms some rest leads =
+    rest (subst (λ (m : ℕ). LeadsPositive (pos m ∷ zs)) (zero-mul (suc g)) leads)
+lead_unscaled (pos (suc n)) (suc g) zs ms some rest leads = tt
+lead_unscaled (negsuc n) (suc g) zs ms some rest leads =
+    let product : 0 < suc n * suc g = grind arith in
+    less (suc n * suc g) product leads
+  where
+    less : (m : ℕ) → 0 < m → LeadsPositive (neg_ℤ (pos m) ∷ zs) → ⊥
+    less zero m_positive given = absurd (omega arith)
+    less (suc m) m_positive given = given
+lead_unscaled z zero zs ms some rest leads = absurd (omega arith)
+
+-- and the other way round
+pub leads_raw : (D c : ℕ) (lines : List Line) → All (λ (line : Line). 0 < share_of D line) lines →
+    LeadsPositive (numbers_in_column (suc c) (map (scaled_line D) lines)) → LeadsPositive (numbers_in_column c (rows_of lines))
+leads_raw D c [] shares leads = leads
+leads_raw D c (line ∷ lines) shares leads =
+    lead_unscaled (number_at line.numbers c) (share_of D line) (numbers_in_column (suc c) (map (scaled_line D) lines)) (numbers_in_column c (rows_of lines))
+    (shares 0 no_line (omega arith))
+    (leads_raw D c lines (All-tail (λ (l : Line). 0 < share_of D l) line lines shares))
+    (subst (λ (z : ℤ). LeadsPositive (z ∷ numbers_in_column (suc c) (map (scaled_line D) lines))) (scaled_number D line (suc c)) leads)
+
 -- a variable's numbers, as they are read
-pub row_read : (k : Kernel) (var : ℕ) (row numbers : List ℤ) → var < length k.lows.items →
-    row ≡ slice_index_or k.lows.items var row → numbers ≡ row → numbers ≡ slice_index_or k.lows.items var []
-row_read k var row numbers var_in row_is is = is ∙ row_is ∙ get_or_default k.lows.items var row [] var_in
+pub row_read : (k : Kernel) (v : ℕ) (line : Line) (numbers : List ℤ) → v < length k.lows.items →
+    line ≡ slice_index_or k.lows.items v line → numbers ≡ line.numbers → numbers ≡ slice_index_or (rows_of k.lows.items) v []
+row_read k v line numbers v_in line_is is =
+    is ∙ ap (λ (l : Line). l.numbers) (line_is ∙ get_or_default k.lows.items v line no_line v_in)
+    ∙ sym (get_or-map (λ (l : Line). l.numbers) k.lows.items v no_line [] v_in)
 
-pub row_long : (k : Kernel) (var : ℕ) → IsShaped k → var < length k.lows.items → length k.line.items ≤ length (slice_index_or k.lows.items var [])
-row_long k var s var_in = omega (arith, s.line, s.each var [] var_in)
+pub row_is : (k : Kernel) (v : ℕ) → v < length k.lows.items → slice_index_or (rows_of k.lows.items) v [] ≡ (slice_index_or k.lows.items v no_line).numbers
+row_is k v v_in = get_or-map (λ (l : Line). l.numbers) k.lows.items v no_line [] v_in
 
-pub row_small : (k : Kernel) (var : ℕ) → IsBounded k → var < length k.lows.items → AllWithin (2 ^ 22) (slice_index_or k.lows.items var [])
-row_small k var b var_in = wider (nat_abs k.reach) (2 ^ 22) (slice_index_or k.lows.items var [])
-    (reach_within k.reach k.weight b.weight b.product) (b.lows var [] var_in)
+pub row_long : (k : Kernel) (v : ℕ) → IsShaped k → v < length k.lows.items → length k.entering.numbers ≤ length (slice_index_or (rows_of k.lows.items) v [])
+row_long k v s v_in = omega (arith, s.entering, s.each v no_line v_in, ap length (row_is k v v_in))
+
+pub row_small : (k : Kernel) (v : ℕ) → IsBounded k → v < length k.lows.items → AllWithin (2 ^ 30) (slice_index_or (rows_of k.lows.items) v [])
+row_small k v b v_in = subst (AllWithin (2 ^ 30)) (sym (row_is k v v_in))
+    (numbers_small (slice_index_or k.lows.items v no_line) (b.lines v no_line v_in))
 
 -- those that lead latest in a kernel, as they are read
-pub latest_read : (k : Kernel) (line : List ℤ) (leads : List ℕ) (latest : ℕ) (left : List ℕ) → line ≡ k.line.items →
+pub latest_read : (k : Kernel) (line : List ℤ) (leads : List ℕ) (latest : ℕ) (left : List ℕ) → line ≡ k.entering.numbers →
     leads ≡ k.leads.items → AreLatest line leads (length line) latest left →
-    AreLatest k.line.items k.leads.items (length k.line.items) latest left
+    AreLatest k.entering.numbers k.leads.items (length k.entering.numbers) latest left
 latest_read k line leads latest left line_is leads_are are =
     subst (λ (zs : List ℤ). AreLatest zs k.leads.items (length zs) latest left) line_is
     (subst (λ (vs : List ℕ). AreLatest line vs (length line) latest left) leads_are are)
 
 pub left_of : (k : Kernel) (latest : ℕ) (left : List ℕ) → IsKernel k →
-    AreLatest k.line.items k.leads.items (length k.line.items) latest left →
-    AreColumnsLeft k.lows.items k.line.items latest left
+    AreLatest k.entering.numbers k.leads.items (length k.entering.numbers) latest left →
+    AreColumnsLeft (rows_of k.lows.items) k.entering.numbers latest left
 left_of k latest left m are =
-    latest_left k.lows.items k.line.items k.leads.items latest left (m.shaped.leads ∙ sym m.shaped.line) m.shaped.lead
-    (λ c c_in. (let inside : c < width_of k = omega (arith, c_in, m.shaped.line) in
-    subst LeadsPositive (columns_by k.constants.items k.lows.items c (lows_few k m.shaped))
+    latest_left (rows_of k.lows.items) k.entering.numbers k.leads.items latest left (m.shaped.leads ∙ sym m.shaped.entering) m.shaped.lead
+    (λ c c_in. (let inside : c < width_of k = omega (arith, c_in, m.shaped.entering) in
+    leads_raw (nat_abs k.common) c k.lows.items (shares_some k m.bounded)
     (subst (λ (rows : List (List ℤ)). LeadsPositive (numbers_in_column (suc c) rows)) m.numbers.lows
     (m.whole.unboxed.lead c inside))))
     are
 
+-- a column that comes first among the lines' own numbers comes first over the common denominator
+pub first_in_kernel : (k : Kernel) (c d : ℕ) → IsBounded k → ComesFirst (rows_of k.lows.items) k.entering.numbers c d → IsNotAfterInKernel k c d
+first_in_kernel k c d b first =
+    leads_scaled (nat_abs k.common) (nat_abs (number_at k.entering.numbers c)) c d (number_at k.entering.numbers d) k.lows.items (shares_some k b) first
+
 -- the choice among those that are left at last
-pub chosen_best : (k : Kernel) (left : List ℕ) (best : ℕ) → IsShaped k →
-    AreColumnsLeft k.lows.items k.line.items (length k.lows.items) left → 0 < length left → best ≡ slice_index_or left 0 best →
+pub chosen_best : (k : Kernel) (left : List ℕ) (best : ℕ) → IsShaped k → IsBounded k →
+    AreColumnsLeft (rows_of k.lows.items) k.entering.numbers (length k.lows.items) left → 0 < length left → best ≡ slice_index_or left 0 best →
     IsBestColumn k (Some best)
-chosen_best k left best s are some is =
+chosen_best k left best s b are some is =
     let has : Has left best = subst (Has left) (sym (is ∙ get_or_default left 0 best 0 some)) (has_at left 0 some) in
-    let best_is = are.each best has in (
-      omega (arith, best_is.0, s.line),
+    let best_is = are.each best has in
+    let counted : length (rows_of k.lows.items) ≡ length k.lows.items = length-map k.lows.items (λ (l : Line). l.numbers) in
+    let all = subst (λ (n : ℕ). AreColumnsLeft (rows_of k.lows.items) k.entering.numbers n left) (sym counted) are in (
+      omega (arith, best_is.0, s.entering),
       best_is.1,
-      λ c c_in other positive. left_first k.lows.items k.line.items left best c are has (omega (arith, c_in, s.line), positive),
+      λ c c_in other positive.
+          first_in_kernel k best c b
+          (left_first (rows_of k.lows.items) k.entering.numbers left best c all has (omega (arith, c_in, s.entering), positive)),
     )
 
 -- and where there is none
 pub none_best : (k : Kernel) (latest : ℕ) (left : List ℕ) → IsShaped k →
-    AreLatest k.line.items k.leads.items (length k.line.items) latest left → length left ≡ 0 → IsBestColumn k None
+    AreLatest k.entering.numbers k.leads.items (length k.entering.numbers) latest left → length left ≡ 0 → IsBestColumn k None
 none_best k latest left s are none c c_in =
-    by_sign (number_at k.line.items c)
-    (λ positive. (let inside : c < length k.line.items = omega (arith, c_in, s.line) in
+    by_sign (number_at k.entering.numbers c)
+    (λ positive. (let inside : c < length k.entering.numbers = omega (arith, c_in, s.entering) in
     none_left (elim (are.all c inside (inside, positive))
     [ inl has ↦ has_some left c has | inr earlier ↦ are.some (omega (arith, earlier)) ])))
   where
@@ -249,3 +325,7 @@ none_best k latest left s are none c c_in =
 
     none_left : 0 < length left → ⊥
     none_left some = omega (arith, none, some)
+
+-- a row for each line
+pub rows_counted : (k : Kernel) (v : ℕ) → v < length k.lows.items → v < length (rows_of k.lows.items)
+rows_counted k v v_in = omega (arith, v_in, length-map k.lows.items (λ (l : Line). l.numbers))

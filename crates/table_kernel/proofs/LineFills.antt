@@ -1,19 +1,15 @@
 -- A line of zeros is filled with numbers over a common denominator, from the left.
-use Rattle.std.proofs.Common.{◌≡◌, ℕ, suc, ◌+◌, ◌-◌, ◌^◌, ◌<◌, ◌≤◌, sym, ◌∙◌, ap, subst, List, ◌∷◌, ◌++◌, map, take, drop, length, arith}
-use Rattle.std.specs.Prelude.{ℤ, pos, ◌<ℤ◌, nat_abs, slice_set}
+use Rattle.std.proofs.Common.{◌≡◌, ℕ, suc, ◌+◌, ◌-◌, ◌<◌, ◌≤◌, sym, ◌∙◌, ap, List, ◌∷◌, ◌++◌, map, take, drop, length, arith}
+use Rattle.std.specs.Prelude.{ℤ, pos, slice_set}
 use Rattle.std.proofs.lemmas.List.{get_or-map, length-map}
 use Rattle.cost_base.specs.Lists.{numbers_from}
 use Rattle.whole_numbers.specs.Fractions.{Fraction}
 use Rattle.whole_numbers.specs.Lists.{number_at}
 use Rattle.design_problem.specs.Basis.{entry}
-use Rattle.fraction_rows.specs.TableRows.{AreTableNumbers, blank_row, nothing}
+use Rattle.fraction_rows.specs.TableRows.{blank_row, nothing}
 use Rattle.fraction_rows.proofs.BlankRows.{blank_entry, blank_size, cleared_set}
 use Rattle.fraction_table.proofs.BetweenBoxes.{all_written, length-written, unwritten, written_next}
-use Rattle.integer_pivots.specs.Numbers.{AllWithin}
-use Rattle.whole_numbers.proofs.Sizes.{size_positive}
-use Rattle.integer_pivots.proofs.Sizes.{wider}
 use Rattle.table_kernel.specs.Numbers.{over_common}
-use Rattle.table_kernel.proofs.OverCommon.{over_all, over_number}
 
 -- the constant and the first numbers stand in the line
 abbrev pub filled_to : ℕ → ℤ → List ℤ → ℕ → List Fraction
@@ -65,19 +61,3 @@ fill_done D z zs column line all line_is =
     line_is
     ∙ all_written xs ys (suc column) (blank_size (length zs) ∙ ap suc (sym all))
     (length-map (z ∷ zs) (over_common D) ∙ ap suc (sym all))
-
-pub filled_as : (D E : ℕ) (y z : ℤ) (zs : List ℤ) → D ≡ E → y ≡ z → map (over_common D) (y ∷ zs) ≡ map (over_common E) (z ∷ zs)
-filled_as D E y z zs D_is y_is =
-    ap (λ (n : ℕ). map (over_common n) (y ∷ zs)) D_is ∙ ap (λ (x : ℤ). map (over_common E) (x ∷ zs)) y_is
-
--- its fractions are numbers of the table
-pub filled_numbers : (top : ℕ) (common z : ℤ) (zs : List ℤ) (line : List Fraction) → 2 ^ 39 ≤ top → pos 0 <ℤ common →
-    nat_abs common ≤ 2 ^ 22 → nat_abs z ≤ 2 ^ 39 → AllWithin (2 ^ 22) zs → line ≡ map (over_common (nat_abs common)) (z ∷ zs) →
-    AreTableNumbers top line
-filled_numbers top common z zs line wide high small constant numbers line_is =
-    let positive = size_positive common high in
-    let within : nat_abs common ≤ top = omega (arith, wide, small) in
-    subst (AreTableNumbers top) (sym line_is) (
-      over_number top (nat_abs common) z positive within (omega (arith, wide, constant)),
-      over_all top (nat_abs common) zs positive within (wider (2 ^ 22) top zs (omega (arith, wide)) numbers),
-    )

@@ -1,220 +1,365 @@
--- The numbers of a form at all columns, and of all forms at a column, place by place.
-use Rattle.std.proofs.Common.{◌≡◌, ℕ, ◌+◌, ◌-◌, ◌^◌, ◌<◌, ◌≤◌, refl, sym, subst, ◌∙◌, ap, List, [], ◌∷◌, map, length, get_or, arith, inl, inr, FitsSigned, w64}
-use Rattle.std.specs.Prelude.{◌⊎◌, ℤ, pos, negsuc, ◌-ℤ◌, ◌*ℤ◌, neg_ℤ, nat_abs, All, slice_index, slice_index_or}
-use Rattle.std.proofs.lemmas.Bool.{cases_lt}
-use Rattle.std.proofs.lemmas.Int.{fits_signed_from_abs, ints}
-use Rattle.std.proofs.lemmas.List.{ext_get_or, get_or-map, length-map}
-use Rattle.std.proofs.lemmas.List.Elements.{All-map, All-weaker}
-use Rattle.cost_base.specs.Lists.{numbers_from}
-use Rattle.cost_base.proofs.ListLemmas.{get_or-map-numbers_from, length-map-numbers_from}
+-- The line of a place's form, by what the kernel holds.
+use Rattle.std.proofs.Common.{◌≡◌, ℕ, ◌+◌, ◌*◌, ◌/◌, ◌^◌, ◌<◌, ◌≤◌, refl, sym, subst, ◌∙◌, ap, List, [], ◌∷◌, length, arith, FitsSigned, w64, to_z, of_z, true, false}
+use Rattle.std.specs.Prelude.{ℤ, pos, negsuc, ◌-ℤ◌, ◌*ℤ◌, ◌<ℤ◌, ◌≤ℤ◌, neg_ℤ, nat_abs, slice_index, slice_index_or, All}
+use Rattle.std.specs.Int.Signed.{lt_z, quot_z}
+use Rattle.std.proofs.lemmas.Bool.{ltb-false, ltb-true}
+use Prim.Native.Nat.{◌∣◌}
+use Rattle.std.proofs.Math.Nat.{div-le_self, mul-le-mul_left}
+use Rattle.std.proofs.lemmas.Int.{fits_signed_from_abs, ints, unsigned_abs-mul}
+use Rattle.std.proofs.lemmas.List.{get_or_default}
+use Rattle.std.proofs.lemmas.Nat.Gcd.{le_of_dvd}
+use Rattle.whole_numbers.proofs.Divisors.{quotient_positive}
 use Rattle.whole_numbers.proofs.Ring.{var, num, neg, ◌⊖◌, ◌⊗◌, ring}
-use Rattle.whole_numbers.proofs.Sizes.{factor_most}
+use Rattle.whole_numbers.proofs.Sizes.{positive_is, size_positive}
 use Rattle.whole_numbers.specs.Lists.{number_at}
-use Rattle.design_problem.specs.declared.form.Form.{Form}
 use Rattle.design_problem.specs.declared.tree.Member.{Member}
-use Rattle.design_problem.specs.declared.tree.Member.TheVariants.{Low, High, Row}
+use Rattle.design_problem.specs.declared.tree.Member.TheVariants.{Low, High}
 use Rattle.design_problem.specs.Forms.{no_form}
-use Rattle.design_problem.specs.Basis.{member_form}
+use Rattle.design_problem.specs.Basis.{IsFormOf, member_form}
 use Rattle.fraction_table.specs.Pivots.{member_at}
-use Rattle.fraction_table.specs.ValidTables.{members_of_box}
-use Rattle.fraction_table.proofs.Bases.{members_begin}
-use Rattle.fraction_table.proofs.Pivots.{high_place, members_long, row_place}
-use Rattle.fraction_table.proofs.StartingTables.{members_are}
-use Rattle.integer_pivots.specs.Numbers.{AllWithin, weight_of}
-use Rattle.integer_pivots.proofs.Sizes.{number_within, read, read_number, wider}
+use Rattle.fraction_table.proofs.Pivots.{row_place}
+use Rattle.integer_pivots.specs.declared.line.Line.{Line}
+use Rattle.integer_pivots.specs.Lines.{IsInLowestTerms, IsLine, IsReduced, no_line}
+use Rattle.integer_pivots.specs.Numbers.{AllWithin}
+use Rattle.integer_pivots.proofs.Sizes.{number_within, product_small, read, read_number, size_most, size_of}
 use Rattle.table_kernel.specs.declared.kernel.Kernel.{Kernel}
-use Rattle.table_kernel.specs.Kernels.{IsBounded, IsShaped, width_of}
-use Rattle.table_kernel.specs.Numbers.{number_at_column}
-use Rattle.table_kernel.specs.Turns.{along_numbers, column_of, form_of_place, numbers_of_place}
-use Rattle.table_kernel.proofs.Columns.{column_at, column_long, form_number_within, high_number_in, low_number_in, place_number_within, reach_within}
-use Rattle.table_kernel.proofs.LineSums.{sums_agree}
+use Rattle.table_kernel.specs.Kernels.{IsBounded, IsKernel, IsShaped, width_of}
+use Rattle.table_kernel.specs.Lines.{IsEntering, IsLineTooLarge, KeepsNumbers, StandsForPlace, column_of, form_of_place, numbers as numbers_pass, numbers_of_place}
+use Rattle.table_kernel.specs.Numbers.{number_at_column, share_of}
+use Rattle.table_kernel.specs.Turns.{line_of}
+use Rattle.table_kernel.proofs.Columns.{column_at, column_long, common_small, high_number_in, line_small, low_number_in}
+use Rattle.table_kernel.proofs.MoveReads.{read_factors}
+use Rattle.table_kernel.proofs.PlaceConstants.{high_place_constant, low_place}
+use Rattle.table_kernel.proofs.Restated.{line_number}
+use Rattle.table_kernel.proofs.SameButRoom.{rebuilt}
+use Rattle.table_kernel.proofs.Shares.{constants_short, share_exact}
 
--- what bounds a kernel bounds each number by the limit
-pub lows_small : (k : Kernel) → IsBounded k → All (AllWithin (2 ^ 22)) k.lows.items
-lows_small k b =
-    All-weaker (AllWithin (nat_abs k.reach)) (AllWithin (2 ^ 22))
-    (λ row within. wider (nat_abs k.reach) (2 ^ 22) row (reach_within k.reach k.weight b.weight b.product) within) k.lows.items b.lows
+-- a quotient of positive numbers
+quotient_is : (a b : ℤ) → pos 0 <ℤ a → pos 0 <ℤ b → quot_z a b ≡ pos (nat_abs a / nat_abs b)
+quotient_is (pos a) (pos b) a_high b_high = refl
+quotient_is (pos a) (negsuc b) a_high b_high = absurd (omega (arith, ints))
+quotient_is (negsuc a) b a_high b_high = absurd (omega (arith, ints))
 
-pub rows_light : (k : Kernel) → IsBounded k → All (λ f. weight_of f ≤ 2 ^ 22) k.table.rows.items
-rows_light k b =
-    All-weaker (λ (f : Form). weight_of f ≤ nat_abs k.weight) (λ (f : Form). weight_of f ≤ 2 ^ 22)
-    (λ f light. omega (arith, light, factor_most k.reach k.weight (2 ^ 22) b.reach b.product)) k.table.rows.items b.rows
+-- how often a denominator goes into a common one, times the denominator
+pub share_times : (common denominator : ℤ) → pos 0 <ℤ common → pos 0 <ℤ denominator →
+    nat_abs denominator ∣ nat_abs common → (pos (nat_abs common / nat_abs denominator) *ℤ denominator) ≡ common
+share_times common denominator high positive divides =
+    share_exact (nat_abs common) denominator positive divides ∙ sym (positive_is common high)
 
--- a variable's number at a column, as code reads it
-pub bound_entry : (k : Kernel) → IsShaped k → IsBounded k → (v column : ℕ) (row d : List ℤ) → v < width_of k →
-    row ≡ get_or k.lows.items v d → (number_at row column ≡ number_at (column_of k column) v)
-    × (nat_abs (number_at row column) ≤ 2 ^ 22)
-bound_entry k s b v column row d v_in is =
-    let within : AllWithin (2 ^ 22) row = subst (AllWithin (2 ^ 22)) (sym is) (lows_small k b v d (omega (arith, s.lows, v_in))) in
-    (ap (λ (r : List ℤ). number_at r column) is ∙ sym (column_at k s column v d v_in), number_within (2 ^ 22) row column within)
+-- as code computes it
+pub share_read : (common denominator : ℤ) → pos 0 <ℤ common → common ≤ℤ pos (2 ^ 30) → pos 0 <ℤ denominator →
+    nat_abs denominator ∣ nat_abs common →
+    to_z w64 (of_z w64 (quot_z (to_z w64 (of_z w64 common)) (to_z w64 (of_z w64 denominator)))) ≡ pos (nat_abs common / nat_abs denominator)
+share_read common denominator high small positive divides =
+    let most : nat_abs common ≤ 2 ^ 30 = size_most common (2 ^ 30) high small in
+    let part : nat_abs denominator ≤ nat_abs common = le_of_dvd (size_positive common high) divides in
+    let quotient = div-le_self (nat_abs common) (nat_abs denominator) in
+    let is : quot_z (to_z w64 (of_z w64 common)) (to_z w64 (of_z w64 denominator)) ≡ pos (nat_abs common / nat_abs denominator) =
+    ap (λ (z : ℤ). quot_z z (to_z w64 (of_z w64 denominator))) (read_number common (omega (arith, most)))
+    ∙ ap (quot_z common) (read_number denominator (omega (arith, most, part)))
+    ∙ quotient_is common denominator high positive in
+    ap (λ (z : ℤ). to_z w64 (of_z w64 z)) is ∙ read_number (pos (nat_abs common / nat_abs denominator)) (omega (arith, most, quotient))
 
-pub negated : (z : ℤ) → nat_abs z ≤ 2 ^ 22 → FitsSigned w64 (pos 0 -ℤ read z) × (read (pos 0 -ℤ read z) ≡ neg_ℤ z)
-negated z small =
-    let same = read_number z (let e : nat_abs z < 2 ^ 63 = omega (arith, small) in e) in
-    let opposite : (pos 0 -ℤ read z) ≡ neg_ℤ z = ap (λ (y : ℤ). pos 0 -ℤ y) same ∙ ring (z ∷ []) (num (pos 0) ⊖ var 0) (neg (var 0)) refl in
-    let size : nat_abs (neg_ℤ z) < 2 ^ 63 = omega (arith, ints, small) in
-    let fits : nat_abs (pos 0 -ℤ read z) < 2 ^ 63 = subst (λ (y : ℤ). nat_abs y < 2 ^ 63) (sym opposite) size in
-    (fits_signed_from_abs w64 (pos 0 -ℤ read z) fits, read_number (pos 0 -ℤ read z) fits ∙ opposite)
+-- it is positive, and at most 2^30
+pub share_positive : (common denominator : ℤ) → pos 0 <ℤ common → nat_abs denominator ∣ nat_abs common →
+    pos 1 ≤ℤ pos (nat_abs common / nat_abs denominator)
+share_positive common denominator high divides =
+    let some = quotient_positive (nat_abs common) (nat_abs denominator) (size_positive common high) divides in
+    omega (arith, ints, some)
 
--- a line is told by its columns
-pub line_is : (k : Kernel) (place : ℕ) (new : List ℤ) → length new ≡ width_of k →
-    ((column : ℕ) → column < width_of k → number_at new column ≡ number_at_column (form_of_place k place) (column_of k column)) →
-    new ≡ numbers_of_place k place
-line_is k place new long each =
-    let number = λ (column : ℕ). number_at_column (form_of_place k place) (column_of k column) in
-    ext_get_or (pos 0) new (numbers_of_place k place) (omega (arith, long, length-map-numbers_from number 0 (width_of k)))
-    (λ column column_in.
-    let inside : column < width_of k = omega (arith, column_in, long) in
-    each column inside ∙ sym (get_or-map-numbers_from number 0 (width_of k) column (pos 0) inside ∙ ap number (let e : 0 + column ≡ column = omega arith in e)))
+pub share_most : (common denominator : ℤ) → pos 0 <ℤ common → common ≤ℤ pos (2 ^ 30) → pos (nat_abs common / nat_abs denominator) ≤ℤ pos (2 ^ 30)
+share_most common denominator high small =
+    omega (arith, ints, size_most common (2 ^ 30) high small, div-le_self (nat_abs common) (nat_abs denominator))
 
-pub line_small : (k : Kernel) → IsShaped k → IsBounded k → (place : ℕ) → place < length k.constants.items → AllWithin (2 ^ 22) (numbers_of_place k place)
-line_small k s b place place_in =
-    All-map (λ (z : ℤ). nat_abs z ≤ 2 ^ 22) (λ (column : ℕ). number_at_column (form_of_place k place) (column_of k column)) (numbers_from 0 (width_of k))
-    (λ i d i_in. place_number_within k s b place place_in (get_or (numbers_from 0 (width_of k)) i d))
+-- 1 goes into 1 once
+pub share_one : (common denominator : ℤ) → common ≡ pos 1 → pos 0 <ℤ denominator → nat_abs denominator ∣ nat_abs common →
+    pos 1 ≡ pos (nat_abs common / nat_abs denominator)
+share_one common denominator one positive divides =
+    let size : nat_abs common ≡ 1 = ap nat_abs one in
+    let least : nat_abs denominator ≤ nat_abs common = le_of_dvd (omega (arith, size)) divides in
+    let is : nat_abs denominator ≡ 1 = omega (arith, least, size, size_positive denominator positive) in
+    ap (λ (n : ℕ). pos (1 / n)) (sym is) ∙ ap (λ (n : ℕ). pos (n / nat_abs denominator)) (sym size)
 
-module _ (k : Kernel) (s : IsShaped k) (place v bound : ℕ) (row d new : List ℤ) (v_in : v < width_of k) (is : row ≡ get_or k.lows.items v d) where
-  row_long : length row ≡ width_of k
-  row_long = ap length is ∙ s.each v d (omega (arith, s.lows, v_in))
+-- the kernel's lines go into its common denominator
+pub line_divides : (k : Kernel) → IsBounded k → (v : ℕ) → v < length k.lows.items → nat_abs (line_of k v).denominator ∣ nat_abs k.common
+line_divides k b v v_in = b.divides v no_line v_in
 
-  at_column : (column : ℕ) → number_at row column ≡ number_at (column_of k column) v
-  at_column column = ap (λ (r : List ℤ). number_at r column) is ∙ sym (column_at k s column v d v_in)
+pub common_read : (k : Kernel) → IsBounded k → read k.common ≡ k.common
+common_read k b = read_number k.common (omega (arith, common_small k b))
 
-  pub low_line : Low v bound ≡ member_at k.table place → new ≡ map (λ z. pos 1 *ℤ z) row → new ≡ numbers_of_place k place
-  low_line member put =
-      line_is k place new (ap length put ∙ length-map row (λ (z : ℤ). pos 1 *ℤ z) ∙ row_long)
-      (λ column column_in.
-      ap (λ (ys : List ℤ). number_at ys column) put
-      ∙ get_or-map (λ (z : ℤ). pos 1 *ℤ z) row column (pos 0) (pos 0) (omega (arith, row_long, column_in))
-      ∙ ring (number_at row column ∷ []) (num (pos 1) ⊗ var 0) (var 0) refl
-      ∙ at_column column
-      ∙ sym (low_number_in (width_of k) k.table.rows.items v bound (column_of k column) v_in (sym (column_long k s column)))
-      ∙ ap (λ (m : Member). number_at_column (member_form (width_of k) k.table.rows.items m) (column_of k column)) member)
+-- a denominator is small
+pub denominator_read : (line : Line) → IsLine line → (nat_abs line.denominator ≤ 2 ^ 30) × (read line.denominator ≡ line.denominator)
+denominator_read line l =
+    let small : nat_abs line.denominator ≤ 2 ^ 30 = size_most line.denominator (2 ^ 30) l.positive l.denominator in
+    (small, read_number line.denominator (omega (arith, small)))
 
-  pub high_line : High v bound ≡ member_at k.table place → new ≡ map (λ z. negsuc 0 *ℤ z) row → new ≡ numbers_of_place k place
-  high_line member put =
-      line_is k place new (ap length put ∙ length-map row (λ (z : ℤ). negsuc 0 *ℤ z) ∙ row_long)
-      (λ column column_in.
-      ap (λ (ys : List ℤ). number_at ys column) put
-      ∙ get_or-map (λ (z : ℤ). negsuc 0 *ℤ z) row column (pos 0) (pos 0) (omega (arith, row_long, column_in))
-      ∙ ring (number_at row column ∷ []) (num (negsuc 0) ⊗ var 0) (neg (var 0)) refl
-      ∙ ap neg_ℤ (at_column column)
-      ∙ sym (high_number_in (width_of k) k.table.rows.items v bound (column_of k column) v_in (sym (column_long k s column)))
-      ∙ ap (λ (m : Member). number_at_column (member_form (width_of k) k.table.rows.items m) (column_of k column)) member)
+-- as is its reach
+pub reach_read : (line : Line) → IsLine line → read line.reach ≡ line.reach
+reach_read line l = read_number line.reach (omega (arith, size_of line.reach (2 ^ 30) (l.reach_positive, l.reach)))
 
-pub row_line : (k : Kernel) (place row : ℕ) (f : Form) (new : List ℤ) → Row row ≡ member_at k.table place →
-    f ≡ slice_index_or k.table.rows.items row no_form → length new ≡ width_of k →
-    ((column : ℕ) → column < width_of k → number_at new column ≡ number_at_column f (column_of k column)) →
-    new ≡ numbers_of_place k place
-row_line k place row f new member is long each =
-    line_is k place new long
-    (λ column column_in.
-    each column column_in
-    ∙ ap (λ (g : Form). number_at_column g (column_of k column)) is
-    ∙ ap (λ (m : Member). number_at_column (member_form (width_of k) k.table.rows.items m) (column_of k column)) member)
+-- and a share
+pub share_size : (z : ℤ) → pos 1 ≤ℤ z → z ≤ℤ pos (2 ^ 30) → nat_abs z ≤ 2 ^ 30
+share_size z high low = size_of z (2 ^ 30) (omega (arith, ints, high), low)
 
--- places are those of x - low, of high - x, or of rows
-place_cases : (n r i : ℕ) → i < n + n + r → (i < n) ⊎ ((j : ℕ) × (j < n) × (n + j ≡ i)) ⊎ ((j : ℕ) × (j < r) × (n + n + j ≡ i))
-place_cases n r i i_in =
-    elim (cases_lt i n) [
-      | inl low ↦ inl low
-      | inr past ↦ elim (cases_lt i (n + n)) [
-        | inl high ↦ inr (inl (i - n, omega (arith, past, high), omega (arith, past)))
-        | inr late ↦ inr (inr (i - (n + n), omega (arith, past, late, i_in), omega (arith, late)))
-      ]
-    ]
+pub read_share : (z : ℤ) → pos 1 ≤ℤ z → z ≤ℤ pos (2 ^ 30) → read z ≡ z
+read_share z high low = read_number z (omega (arith, share_size z high low))
 
--- the numbers of all forms are told by the places of the box and of the rows
-pub along_is : (k : Kernel) → IsShaped k → (column : ℕ) (new : List ℤ) → length new ≡ length k.constants.items →
-    ((v : ℕ) → v < width_of k → number_at new v ≡ number_at (column_of k column) v) →
-    ((v : ℕ) → v < width_of k → number_at new (width_of k + v) ≡ neg_ℤ (number_at (column_of k column) v)) →
-    ((row : ℕ) → row < length k.table.rows.items →
-    number_at new (width_of k + width_of k + row) ≡ number_at_column (slice_index_or k.table.rows.items row no_form)
-    (column_of k column)) → new ≡ along_numbers k column
-along_is k s column new long lows highs rows =
-    let n = width_of k in
-    let many = length k.table.rows.items in
-    let members = members_of_box k.table.costs many in
-    let here = column_of k column in
-    let number = λ (member : Member). number_at_column (member_form n k.table.rows.items member) here in
-    let counted : length new ≡ length members = long ∙ s.constants in
-    ext_get_or (pos 0) new (along_numbers k column) (counted ∙ sym (length-map members number))
-    (λ i i_in.
-    let inside : i < length members = omega (arith, i_in, counted) in
-    let read : number_at (along_numbers k column) i ≡ number (slice_index_or members i (Low 0 0)) = get_or-map number members i (Low 0 0) (pos 0) inside in
-    elim (place_cases n many i (omega (arith, inside, members_long k.table.costs many))) [
-      | inl low ↦
-          lows i low ∙ sym (low_number_in n k.table.rows.items i (slice_index k.table.costs.low i) here low
-          (sym (column_long k s column)))
-          ∙ sym (read ∙ ap number (members_begin k.table.costs many i (Low 0 0) low))
-      | inr (inl high) ↦
-          ap (number_at new) (sym high.2)
-          ∙ highs high.0 high.1
-          ∙ sym (high_number_in n k.table.rows.items high.0 (slice_index k.table.costs.high high.0) here high.1 (sym (column_long k s column)))
-          ∙ ap number (sym (high_place k.table.costs many high.0 (Low 0 0) high.1))
-          ∙ ap (λ (p : ℕ). number (slice_index_or members p (Low 0 0))) high.2
-          ∙ sym read
-      | inr (inr row) ↦
-          ap (number_at new) (sym row.2)
-          ∙ rows row.0 row.1
-          ∙ ap number (sym (row_place k.table.costs many row.0 (Low 0 0) row.1))
-          ∙ ap (λ (p : ℕ). number (slice_index_or members p (Low 0 0))) row.2
-          ∙ sym read
-    ])
+-- a variable's line, as code reads it
+pub record IsLineRead (k : Kernel) (v : ℕ) (line : Line) : Type 0 where
+  pub is : line ≡ line_of k v
+  pub small : IsLine line
+  pub divides : nat_abs line.denominator ∣ nat_abs k.common
+  pub long : length line.numbers ≡ width_of k
 
-pub along_small : (k : Kernel) → IsShaped k → IsBounded k → (column : ℕ) → AllWithin (2 ^ 22) (along_numbers k column)
-along_small k s b column =
-    let members = members_of_box k.table.costs (length k.table.rows.items) in
-    All-map (λ (z : ℤ). nat_abs z ≤ 2 ^ 22) (λ (member : Member). number_at_column (member_form (width_of k) k.table.rows.items member) (column_of k column)) members
-    (λ i d i_in. form_number_within k s b (get_or members i d) (members_are k.table.costs k.table.rows.items i d i_in) column)
+pub line_read : (k : Kernel) → IsShaped k → IsBounded k → (v : ℕ) (line : Line) → v < width_of k →
+    line ≡ slice_index_or k.lows.items v line → IsLineRead k v line
+line_read k s b v line v_in is =
+    let there : v < length k.lows.items = omega (arith, v_in, s.lows) in
+    let same : line ≡ line_of k v = is ∙ get_or_default k.lows.items v line no_line there in
+    record {
+      is = same;
+      small = subst IsLine (sym same) (b.lines v no_line there);
+      divides = subst (λ (l : Line). nat_abs l.denominator ∣ nat_abs k.common) (sym same) (b.divides v no_line there);
+      long = subst (λ (l : Line). length l.numbers ≡ width_of k) (sym same) (s.each v no_line there);
+    }
 
--- what stands in front of the rows is small where the numbers of x - low are
-pub bounds_small : (lows : List (List ℤ)) (along : List ℤ) (column : ℕ) → All (AllWithin (2 ^ 22)) lows →
-    ((v : ℕ) → v < length lows → number_at along v ≡ number_at (slice_index_or lows v []) column) →
-    ((v : ℕ) → v < length lows →
-    number_at along (length lows + v) ≡ neg_ℤ (number_at (slice_index_or lows v []) column)) → (v : ℕ) →
-    v < length lows + length lows → nat_abs (number_at along v) ≤ 2 ^ 22
-bounds_small lows along column small low high v v_in =
-    elim (cases_lt v (length lows)) [
-      | inl before ↦ subst (λ (z : ℤ). nat_abs z ≤ 2 ^ 22) (sym (low v before)) (number_within (2 ^ 22) (slice_index_or lows v []) column (small v [] before))
-      | inr past ↦
-          let w = v - length lows in
-          let w_in : w < length lows = omega (arith, past, v_in) in
-          let there : length lows + w ≡ v = omega (arith, past) in
-          let size : nat_abs (neg_ℤ (number_at (slice_index_or lows w []) column)) ≤ 2 ^ 22 =
-          omega (arith, ints, number_within (2 ^ 22) (slice_index_or lows w []) column (small w [] w_in)) in
-          subst (λ (z : ℤ). nat_abs z ≤ 2 ^ 22) (sym (ap (number_at along) (sym there) ∙ high w w_in)) size
-    ]
+-- a line of several, as code reads it
+pub record IsTermLine (lines : List Line) (common : ℤ) (many v : ℕ) (line : Line) : Type 0 where
+  pub inside : v < length lines
+  pub is : line ≡ slice_index_or lines v no_line
+  pub small : IsLine line
+  pub divides : nat_abs line.denominator ∣ nat_abs common
+  pub long : length line.numbers ≡ many
 
--- a row's number by what stands first is that by the column
-pub by_column : (lows : List (List ℤ)) (along : List ℤ) (column : ℕ) (f : Form) → length f.coefficients ≤ length lows →
-    length lows ≤ length along →
-    ((v : ℕ) → v < length lows → number_at along v ≡ number_at (slice_index_or lows v []) column) →
-    number_at_column f along ≡ number_at_column f (map (λ row. number_at row column) lows)
-by_column lows along column f few room low =
-    sums_agree f.coefficients along (map (λ row. number_at row column) lows) (omega (arith, few, room))
-    (omega (arith, few, length-map lows (λ (row : List ℤ). number_at row column)))
-    (λ v v_in.
-    let inside : v < length lows = omega (arith, v_in, few) in
-    low v inside ∙ sym (get_or-map (λ (row : List ℤ). number_at row column) lows v [] (pos 0) inside))
+pub term_line : (lines : List Line) (common : ℤ) (many v : ℕ) (line d : Line) → v < length lines → line ≡ slice_index_or lines v d →
+    All IsLine lines → All (λ l. nat_abs l.denominator ∣ nat_abs common) lines → All (λ l. length l.numbers ≡ many) lines →
+    IsTermLine lines common many v line
+term_line lines common many v line d inside line_is small divides long =
+    let is : line ≡ slice_index_or lines v no_line = line_is ∙ get_or_default lines v d no_line inside in
+    record {
+      inside = inside;
+      is = is;
+      small = subst IsLine (sym is) (small v no_line inside);
+      divides = subst (λ (l : Line). nat_abs l.denominator ∣ nat_abs common) (sym is) (divides v no_line inside);
+      long = subst (λ (l : Line). length l.numbers ≡ many) (sym is) (long v no_line inside);
+    }
 
--- what code puts, by the lists that it reads
-pub put_all : (k : Kernel) → IsShaped k → (column : ℕ) (new : List ℤ) (lows : List (List ℤ)) (rows : List Form) →
-    length new ≡ length k.constants.items → lows ≡ k.lows.items → rows ≡ k.table.rows.items →
-    ((v : ℕ) → v < length lows → number_at new v ≡ number_at (slice_index_or lows v []) column) →
-    ((v : ℕ) → v < length lows →
-    number_at new (length lows + v) ≡ neg_ℤ (number_at (slice_index_or lows v []) column)) →
-    ((row : ℕ) → row < length rows →
-    number_at new (length lows + length lows + row) ≡ number_at_column (slice_index_or rows row no_form)
-    (map (λ r. number_at r column) lows)) → new ≡ along_numbers k column
-put_all k s column new lows rows long lows_are rows_are low high each =
-    let n_is : length lows ≡ width_of k = ap length lows_are ∙ s.lows in
-    let here : (v : ℕ) → v < width_of k → number_at (slice_index_or lows v []) column ≡ number_at (column_of k column) v = λ v v_in.
-    ap (λ (rs : List (List ℤ)). number_at (slice_index_or rs v []) column) lows_are ∙ sym (column_at k s column v [] v_in) in
-    along_is k s column new long
-    (λ v v_in. low v (omega (arith, v_in, n_is)) ∙ here v v_in)
-    (λ v v_in. ap (λ (n : ℕ). number_at new (n + v)) (sym n_is) ∙ high v (omega (arith, v_in, n_is)) ∙ ap neg_ℤ (here v v_in))
-    (λ row row_in.
-    ap (λ (n : ℕ). number_at new (n + n + row)) (sym n_is)
-    ∙ each row (omega (arith, row_in, ap length rows_are))
-    ∙ ap (λ (fs : List Form). number_at_column (slice_index_or fs row no_form) (map (λ r. number_at r column) lows)) rows_are
-    ∙ ap (λ (rs : List (List ℤ)). number_at_column (slice_index_or k.table.rows.items row no_form) (map (λ r. number_at r column) rs)) lows_are)
+-- a common denominator as it is read
+pub read_common : (z : ℤ) → (pos 0 <ℤ z) × (z ≤ℤ pos (2 ^ 30)) → read z ≡ z
+read_common z within = read_number z (omega (arith, size_most z (2 ^ 30) within.0 within.1))
+
+-- its constant is within 2^44
+pub constant_small : (k : Kernel) → IsShaped k → IsBounded k → (v : ℕ) → v < width_of k → nat_abs (line_of k v).constant ≤ 2 ^ 44
+constant_small k s b v v_in = constants_short k b v no_line (omega (arith, v_in, s.lows))
+
+-- a range times a denominator, less a constant, as code reads them
+module _ (r d : ℤ) (r_small : nat_abs r < 2 ^ 27) (d_small : nat_abs d ≤ 2 ^ 30) where
+  product_is : (read r *ℤ read d) ≡ (r *ℤ d)
+  product_is = read_factors r d (omega (arith, r_small)) d_small
+
+  product_size : nat_abs (r *ℤ d) ≤ 2 ^ 57
+  product_size = omega (arith, product_small (2 ^ 27) (2 ^ 30) r d (omega (arith, r_small)) d_small)
+
+  pub high_product : FitsSigned w64 (read r *ℤ read d)
+  high_product = subst (FitsSigned w64) (sym product_is) (fits_signed_from_abs w64 (r *ℤ d) (omega (arith, product_size)))
+
+  module _ (k : ℤ) (k_small : nat_abs k ≤ 2 ^ 44) where
+    difference_is : (read (read r *ℤ read d) -ℤ read k) ≡ ((r *ℤ d) -ℤ k)
+    difference_is =
+        ap (λ (z : ℤ). z -ℤ read k) (ap read product_is ∙ read_number (r *ℤ d) (omega (arith, product_size)))
+        ∙ ap (λ (z : ℤ). (r *ℤ d) -ℤ z) (read_number k (omega (arith, k_small)))
+
+    difference_size : nat_abs ((r *ℤ d) -ℤ k) < 2 ^ 63
+    difference_size = omega (arith, ints, product_size, k_small)
+
+    pub high_fits : FitsSigned w64 (read (read r *ℤ read d) -ℤ read k)
+    high_fits = subst (FitsSigned w64) (sym difference_is) (fits_signed_from_abs w64 ((r *ℤ d) -ℤ k) difference_size)
+
+    pub high_difference : read (read (read r *ℤ read d) -ℤ read k) ≡ ((r *ℤ d) -ℤ k)
+    high_difference = ap read difference_is ∙ read_number ((r *ℤ d) -ℤ k) difference_size
+
+-- a line with another sign
+pub signed_line : (old new : Line) (sign : ℤ) → IsLine old → nat_abs sign ≡ 1 → length new.numbers ≡ length old.numbers →
+    ((c : ℕ) → c < length old.numbers → number_at new.numbers c ≡ (sign *ℤ number_at old.numbers c)) →
+    new.denominator ≡ old.denominator → new.reach ≡ old.reach → IsLine new
+signed_line old new sign l one count put denominator reach =
+    record {
+      positive = subst (λ (z : ℤ). pos 0 <ℤ z) (sym denominator) l.positive;
+      denominator = subst (λ (z : ℤ). z ≤ℤ pos (2 ^ 30)) (sym denominator) l.denominator;
+      reach_positive = subst (λ (z : ℤ). pos 0 ≤ℤ z) (sym reach) l.reach_positive;
+      reach = subst (λ (z : ℤ). z ≤ℤ pos (2 ^ 30)) (sym reach) l.reach;
+      numbers = λ c d c_in. subst (λ (z : ℤ). nat_abs z ≤ nat_abs new.reach) (get_or_default new.numbers c (pos 0) d c_in) (here c (omega (arith, c_in, count)));
+    }
+  where
+    here : (c : ℕ) → c < length old.numbers → nat_abs (number_at new.numbers c) ≤ nat_abs new.reach
+    here c c_in =
+        let z = number_at old.numbers c in
+        let within = number_within (nat_abs old.reach) old.numbers c l.numbers in
+        let size : nat_abs (sign *ℤ z) ≡ nat_abs sign * nat_abs z = unsigned_abs-mul sign z in
+        let once : nat_abs sign * nat_abs z ≡ 1 * nat_abs z = ap (λ (n : ℕ). n * nat_abs z) one in
+        omega (arith, ap nat_abs (put c c_in), size, once, within, ap nat_abs reach)
+
+-- a number over a denominator that goes into a common one
+scaled_stands : (z s d common : ℤ) → (s *ℤ d) ≡ common → (z *ℤ common) ≡ ((z *ℤ s) *ℤ d)
+scaled_stands z s d common is = ap (λ (c : ℤ). z *ℤ c) (sym is) ∙ ring (z ∷ s ∷ d ∷ []) (var 0 ⊗ (var 1 ⊗ var 2)) ((var 0 ⊗ var 1) ⊗ var 2) refl
+
+-- what doesn't depend on the room
+pub stands_kept : (old new : Kernel) (place : ℕ) (line : Line) → KeepsNumbers old new → StandsForPlace old place line → StandsForPlace new place line
+stands_kept old new place line keeps s =
+    subst (λ (k : Kernel). StandsForPlace k place line) (sym (rebuilt old new keeps))
+    (record { count = s.count; positive = s.positive; constant = s.constant; numbers = s.numbers })
+
+pub entering_is : (old new : Kernel) (place : ℕ) → KeepsNumbers old new → StandsForPlace old place new.entering → IsLine new.entering → IsEntering new place
+entering_is old new place keeps stands line = record { stands = stands_kept old new place new.entering keeps stands; line = line }
+
+pub numbers_large : (old new : Kernel) (place : ℕ) (line : Line) → KeepsNumbers old new → StandsForPlace old place line →
+    IsInLowestTerms line → (AllWithin (2 ^ 30) line.numbers → ⊥) → IsLineTooLarge new place
+numbers_large old new place line keeps stands lowest large = numbers_pass line (stands_kept old new place line keeps stands) lowest large
+
+-- the line of x - low for a variable
+module _ (k : Kernel) (m : IsKernel k) (place v bound : ℕ) (place_in : place < length k.constants.items) where
+  abbrev share : ℤ
+  share = pos (share_of (nat_abs k.common) (line_of k v))
+
+  times : v < width_of k → (share *ℤ (line_of k v).denominator) ≡ k.common
+  times v_in =
+      let there : v < length k.lows.items = omega (arith, v_in, m.shaped.lows) in
+      share_times k.common (line_of k v).denominator m.bounded.positive (line_small k m.bounded v there).positive (line_divides k m.bounded v there)
+
+  pub low_stands : (new : Line) → IsFormOf k.table.costs k.table.rows.items (Low v bound) → member_at k.table place ≡ Low v bound →
+      length new.numbers ≡ width_of k →
+      ((c : ℕ) → c < width_of k → number_at new.numbers c ≡ (pos 1 *ℤ number_at (line_of k v).numbers c)) →
+      new.denominator ≡ (line_of k v).denominator → new.constant ≡ (line_of k v).constant → StandsForPlace k place new
+  low_stands new known member count put denominator constant =
+      let old = line_of k v in
+      let there : v < length k.lows.items = omega (arith, known.0, m.shaped.lows) in
+      record {
+        count = count;
+        positive = subst (λ (z : ℤ). pos 0 <ℤ z) (sym denominator) (line_small k m.bounded v there).positive;
+        constant =
+            ap (λ (z : ℤ). z *ℤ k.common) constant
+            ∙ scaled_stands old.constant share old.denominator k.common (times known.0)
+            ∙ ap (λ (z : ℤ). z *ℤ old.denominator) (sym (low_place k m place v bound place_in known.0 known.1 member))
+            ∙ ap (λ (z : ℤ). number_at k.constants.items place *ℤ z) (sym denominator);
+        numbers = λ c c_in.
+            ap (λ (z : ℤ). z *ℤ k.common) (put c c_in ∙ ring (number_at old.numbers c ∷ []) (num (pos 1) ⊗ var 0) (var 0) refl)
+            ∙ scaled_stands (number_at old.numbers c) share old.denominator k.common (times known.0)
+            ∙ ap (λ (z : ℤ). z *ℤ old.denominator) (sym (
+            line_number k place c c_in
+            ∙ ap (λ (x : Member). number_at_column (member_form (width_of k) k.table.rows.items x) (column_of k c)) member
+            ∙ low_number_in (width_of k) k.table.rows.items v bound (column_of k c) known.0 (sym (column_long k m.shaped c))
+            ∙ column_at k m.shaped c v known.0))
+            ∙ ap (λ (z : ℤ). number_at (numbers_of_place k place) c *ℤ z) (sym denominator);
+      }
+
+  pub high_stands : (new : Line) → IsFormOf k.table.costs k.table.rows.items (High v bound) → member_at k.table place ≡ High v bound →
+      length new.numbers ≡ width_of k →
+      ((c : ℕ) → c < width_of k → number_at new.numbers c ≡ (negsuc 0 *ℤ number_at (line_of k v).numbers c)) →
+      new.denominator ≡ (line_of k v).denominator →
+      new.constant ≡ (((pos (slice_index k.table.costs.high v) -ℤ pos (slice_index k.table.costs.low v)) *ℤ (line_of k v).denominator) -ℤ (line_of k v).constant) →
+      StandsForPlace k place new
+  high_stands new known member count put denominator constant =
+      let old = line_of k v in
+      let there : v < length k.lows.items = omega (arith, known.0, m.shaped.lows) in
+      let range = pos (slice_index k.table.costs.high v) -ℤ pos (slice_index k.table.costs.low v) in
+      let D : pos (nat_abs k.common) ≡ (share *ℤ old.denominator) = sym (positive_is k.common m.bounded.positive) ∙ sym (times known.0) in
+      record {
+        count = count;
+        positive = subst (λ (z : ℤ). pos 0 <ℤ z) (sym denominator) (line_small k m.bounded v there).positive;
+        constant =
+            ap (λ (z : ℤ). z *ℤ k.common) constant
+            ∙ ap (λ (z : ℤ). ((range *ℤ old.denominator) -ℤ old.constant) *ℤ z) (sym (times known.0))
+            ∙ ring (range ∷ old.denominator ∷ old.constant ∷ share ∷ [])
+            ((var 0 ⊗ var 1 ⊖ var 2) ⊗ (var 3 ⊗ var 1)) (((var 3 ⊗ var 1) ⊗ var 0 ⊖ var 2 ⊗ var 3) ⊗ var 1) refl
+            ∙ ap (λ (z : ℤ). ((z *ℤ range) -ℤ (old.constant *ℤ share)) *ℤ old.denominator) (sym D)
+            ∙ ap (λ (z : ℤ). z *ℤ old.denominator) (sym (high_place_constant k m place v bound place_in known.0 known.1 member))
+            ∙ ap (λ (z : ℤ). number_at k.constants.items place *ℤ z) (sym denominator);
+        numbers = λ c c_in.
+            ap (λ (z : ℤ). z *ℤ k.common) (put c c_in ∙ ring (number_at old.numbers c ∷ []) (num (negsuc 0) ⊗ var 0) (neg (var 0)) refl)
+            ∙ scaled_stands (neg_ℤ (number_at old.numbers c)) share old.denominator k.common (times known.0)
+            ∙ ap (λ (z : ℤ). z *ℤ old.denominator) (
+            ring (number_at old.numbers c ∷ share ∷ []) (neg (var 0) ⊗ var 1) (neg (var 0 ⊗ var 1)) refl
+            ∙ sym (line_number k place c c_in
+            ∙ ap (λ (x : Member). number_at_column (member_form (width_of k) k.table.rows.items x) (column_of k c)) member
+            ∙ high_number_in (width_of k) k.table.rows.items v bound (column_of k c) known.0 (sym (column_long k m.shaped c))
+            ∙ ap neg_ℤ (column_at k m.shaped c v known.0)))
+            ∙ ap (λ (z : ℤ). number_at (numbers_of_place k place) c *ℤ z) (sym denominator);
+      }
+
+-- a line over the common denominator, in lower terms
+module _ (k : Kernel) (place part : ℕ) (old new : Line) (r : IsReduced old new part) (denominator : old.denominator ≡ k.common) where
+  common_is : (new.denominator *ℤ pos part) ≡ k.common
+  common_is = sym r.denominator ∙ denominator
+
+  over : (x z : ℤ) → z ≡ (x *ℤ pos part) → (x *ℤ k.common) ≡ (z *ℤ new.denominator)
+  over x z is =
+      ap (λ (c : ℤ). x *ℤ c) (sym common_is)
+      ∙ ring (x ∷ new.denominator ∷ pos part ∷ []) (var 0 ⊗ (var 1 ⊗ var 2)) ((var 0 ⊗ var 2) ⊗ var 1) refl
+      ∙ ap (λ (y : ℤ). y *ℤ new.denominator) (sym is)
+
+  pub reduced_stands : pos 0 <ℤ new.denominator → old.constant ≡ number_at k.constants.items place →
+      length old.numbers ≡ width_of k →
+      ((c : ℕ) → c < width_of k → number_at old.numbers c ≡ number_at_column (form_of_place k place) (column_of k c)) →
+      StandsForPlace k place new
+  reduced_stands positive constant long put =
+      record {
+        count = r.count ∙ long;
+        positive = positive;
+        constant = over new.constant (number_at k.constants.items place) (sym constant ∙ r.constant);
+        numbers = λ c c_in.
+            over (number_at new.numbers c) (number_at (numbers_of_place k place) c)
+            (line_number k place c c_in ∙ sym (put c c_in) ∙ r.numbers c (omega (arith, c_in, long)));
+      }
+
+  pub reduced_line : IsBounded k → pos 0 <ℤ new.denominator → pos 0 ≤ℤ new.reach → new.reach ≤ℤ pos (2 ^ 30) →
+      AllWithin (nat_abs new.reach) new.numbers → IsLine new
+  reduced_line b positive high small within =
+      let size : nat_abs new.denominator * part ≡ nat_abs k.common = sym (unsigned_abs-mul new.denominator (pos part)) ∙ ap nat_abs common_is in
+      let least : nat_abs new.denominator * 1 ≤ nat_abs new.denominator * part = mul-le-mul_left (nat_abs new.denominator) r.positive in
+      record {
+        positive = positive;
+        denominator = omega (arith, ints, size, least, common_small k b, positive_is new.denominator positive);
+        reach_positive = high;
+        reach = small;
+        numbers = within;
+      }
+
+-- a test of what is read
+pub limit_passed : (m : ℕ) (z : ℤ) → pos 0 ≤ℤ z → nat_abs z < 2 ^ 63 → lt_z (pos m) (read z) ≡ true → m < nat_abs z
+limit_passed m (pos n) high small test = ltb-true m n (sym (ap (lt_z (pos m)) (read_number (pos n) small)) ∙ test)
+limit_passed m (negsuc n) high small test = absurd (omega (arith, ints))
+
+pub limit_kept : (m : ℕ) (z : ℤ) → pos 0 ≤ℤ z → nat_abs z < 2 ^ 63 → lt_z (pos m) (read z) ≡ false → z ≤ℤ pos m
+limit_kept m (pos n) high small test =
+    let most = ltb-false m n (sym (ap (lt_z (pos m)) (read_number (pos n) small)) ∙ test) in
+    omega (arith, ints, most)
+limit_kept m (negsuc n) high small test = absurd (omega (arith, ints))
+
+-- the sum of a row's factors is read as it is
+pub factors_told : (z : ℤ) (n : ℕ) → z ≡ pos n → z ≤ℤ pos (2 ^ 46) → (pos 0 ≤ℤ z) × (nat_abs z < 2 ^ 63) × (nat_abs z ≡ n)
+factors_told z n is small =
+    let most : n ≤ 2 ^ 46 = (let e : pos n ≤ℤ pos (2 ^ 46) = subst (λ (y : ℤ). y ≤ℤ pos (2 ^ 46)) is small in omega (arith, ints, e)) in
+    (omega (arith, ints, is), omega (arith, ap nat_abs is, most), ap nat_abs is)
+
+-- the form of a row's place
+pub row_form_is : (k : Kernel) (place row : ℕ) → row < length k.table.rows.items → place ≡ width_of k + width_of k + row →
+    form_of_place k place ≡ slice_index_or k.table.rows.items row no_form
+row_form_is k place row row_in place_is =
+    ap (λ (p : ℕ). member_form (width_of k) k.table.rows.items (member_at k.table p)) place_is
+    ∙ ap (member_form (width_of k) k.table.rows.items) (row_place k.table.costs (length k.table.rows.items) row (Low 0 0) row_in)
+
+-- the kernel with a line in place of its entering one keeps its numbers
+pub keeps_entering : (old mid : Kernel) (line : Line) → KeepsNumbers old mid → length line.numbers ≡ length mid.entering.numbers →
+    KeepsNumbers old (record mid { entering = line })
+keeps_entering old mid line keeps long = record {
+  table = keeps.table;
+  common = keeps.common;
+  lows = keeps.lows;
+  leads = keeps.leads;
+  constants = keeps.constants;
+  left = keeps.left;
+  entering = long ∙ keeps.entering;
+}
+
+pub keeps_self : (k : Kernel) → KeepsNumbers k k
+keeps_self k = record { table = refl; common = refl; lows = refl; leads = refl; constants = refl; left = omega arith; entering = refl }

@@ -1,62 +1,75 @@
--- Pivots that a kernel's bounds don't cover.
+-- Pivots that a kernel's bounds don't cover, and what stays as columns alone are put into the room for them.
 use Rattle.std.specs.declared.alloc.Global.{Global}
 use Rattle.std.specs.declared.result.Result.TheVariants.{Ok, Err}
-use Rattle.std.proofs.Common.{Vec, ◌≡◌, ℕ, ◌^◌, ◌<◌, ◌≤◌, sym, ◌∙◌, ap, subst, length, arith}
-use Rattle.std.specs.Prelude.{ℤ, Option, Result, Some, OnErr, pos, nat_abs, slice_index_or}
+use Rattle.std.proofs.Common.{Vec, ◌≡◌, ℕ, ◌<◌, length, sym, ◌∙◌, ap, subst, ◌⊎◌}
+use Rattle.std.specs.Prelude.{ℤ, pos, ◌<ℤ◌, Option, None, Result, Some, OnErr}
 use Rattle.whole_numbers.specs.Lists.{number_at}
 use Rattle.fraction_table.specs.declared.stage.Solved.{Solved}
-use Rattle.integer_pivots.specs.Turns.{turn_of}
-use Rattle.integer_pivots.proofs.Crossings.{item_is, positive_size}
-use Rattle.integer_pivots.proofs.Sizes.{read, read_number}
+use Rattle.integer_pivots.specs.declared.line.Line.{Line}
 use Rattle.table_kernel.specs.declared.kernel.OutOfRange.{OutOfRange}
 use Rattle.table_kernel.specs.declared.kernel.Kernel.{Kernel}
-use Rattle.table_kernel.specs.Turns.{IsBestColumn, IsPivotPlace, KeepsNumbers, along_numbers, numbers_of_place}
-use Rattle.table_kernel.specs.Turnings.{IsHeldUp, IsReadyToTurn, IsRefusedAt, MayTurn, turn_at}
+use Rattle.table_kernel.specs.Lines.{IsBestColumn, IsEntering, IsLineTooLarge, IsPivotPlace, KeepsNumbers}
+use Rattle.table_kernel.specs.Turns.{IsHeldUp, IsRefusedAt, MayTurn}
 use Rattle.table_kernel.proofs.SameButRoom.{rebuilt}
-
--- what is read of the line, of the denominator and of the constants is the turn at a place and a column
-pub turn_at_is : (k : Kernel) (place column : ℕ) (pivot across : ℤ) → IsReadyToTurn k → place < length k.constants.items →
-    column < length k.line.items → pivot ≡ slice_index_or k.line.items column pivot →
-    across ≡ slice_index_or k.constants.items place across →
-    turn_of (read pivot) (read k.common) (read across) ≡ turn_at k place column
-turn_at_is k place column pivot across r place_in column_in pivot_is across_is =
-    let p = number_at k.line.items column in
-    let z = number_at k.constants.items place in
-    let p_small : nat_abs p ≤ 2 ^ 22 = r.line column (pos 0) column_in in
-    let z_small : nat_abs z ≤ 2 ^ 39 = r.limit place (pos 0) place_in in
-    let p_read : read pivot ≡ p = ap read (item_is k.line.items column pivot pivot_is column_in) ∙ read_number p (omega (arith, p_small)) in
-    let z_read : read across ≡ z = ap read (item_is k.constants.items place across across_is place_in) ∙ read_number z (omega (arith, z_small)) in
-    let common_read : read k.common ≡ k.common = read_number k.common (omega (arith, positive_size k.common (2 ^ 22) r.common)) in
-    ap (λ x. turn_of x (read k.common) (read across)) p_read ∙ ap (λ x. turn_of p x (read across)) common_read ∙ ap (λ x. turn_of p k.common x) z_read
 
 -- what holds holds of an answer that is an error
 pub on_err : {Value Error Fact : Type 0} (answer : Result Value Error) → Fact → OnErr answer Fact
 on_err (Ok value) fact = tt
 on_err (Err error) fact = fact
 
--- once the numbers at the column stand along
-pub refused_at : (k m : Kernel) (place column : ℕ) → KeepsNumbers k m → m.line ≡ k.line →
-    k.line.items ≡ numbers_of_place k place → IsBestColumn k (Some column) → m.along.items ≡ along_numbers k column →
-    (MayTurn m place column → ⊥) → IsRefusedAt m place column
-refused_at k m place column keeps line_kept line_is best along_is refused =
-    let same = rebuilt k m keeps in
-    record {
-      line = ap (λ (ls : Vec ℤ Global). ls.items) line_kept ∙ line_is ∙ sym (ap (λ (h : Kernel). numbers_of_place h place) same);
-      best = subst (λ (h : Kernel). IsBestColumn h (Some column)) (sym same)
-          (subst (λ (ls : Vec ℤ Global). IsBestColumn (record k { left = m.left; line = ls; along = m.along }) (Some column)) (sym line_kept) best);
-      along = along_is ∙ sym (ap (λ (h : Kernel). along_numbers h column) same);
-      refused = refused;
-    }
+-- the one kernel is the other but for its columns
+pub but_columns : (old new : Kernel) → KeepsNumbers old new → new.entering ≡ old.entering → new ≡ record old { left = new.left }
+but_columns old new keeps entering =
+    rebuilt old new keeps ∙ ap (λ (line : Line). record old { left = new.left; entering = line }) entering
+
+-- so its entering line is that of the same place
+pub entering_kept : (old new : Kernel) (place : ℕ) → KeepsNumbers old new → new.entering ≡ old.entering → IsEntering old place → IsEntering new place
+entering_kept old new place keeps entering is =
+    subst (λ (k : Kernel). IsEntering k place) (sym (but_columns old new keeps entering))
+    (record {
+      stands = record {
+        count = is.stands.count;
+        positive = is.stands.positive;
+        constant = is.stands.constant;
+        numbers = is.stands.numbers;
+      };
+      line = is.line;
+    })
+
+-- and the best column is the same
+pub best_kept : (old new : Kernel) (best : Option ℕ) → KeepsNumbers old new → new.entering ≡ old.entering → IsBestColumn old best → IsBestColumn new best
+best_kept old new None keeps entering is =
+    subst (λ (k : Kernel). IsBestColumn k None) (sym (but_columns old new keeps entering)) is
+best_kept old new (Some column) keeps entering is =
+    subst (λ (k : Kernel). IsBestColumn k (Some column)) (sym (but_columns old new keeps entering)) is
+
+-- the constants are the same
+pub in_kept : (old new : Kernel) (place : ℕ) → KeepsNumbers old new → place < length old.constants.items → place < length new.constants.items
+in_kept old new place keeps place_in =
+    subst (λ (constants : Vec ℤ Global). place < length constants.items) (sym keeps.constants) place_in
+
+pub below_kept : (old new : Kernel) (place : ℕ) → KeepsNumbers old new → number_at old.constants.items place <ℤ pos 0 → number_at new.constants.items place <ℤ pos 0
+below_kept old new place keeps below =
+    subst (λ (constants : Vec ℤ Global). number_at constants.items place <ℤ pos 0) (sym keeps.constants) below
+
+-- a pivot at the best column that isn't covered
+pub refused_at : (old new : Kernel) (place column : ℕ) → KeepsNumbers old new → new.entering ≡ old.entering →
+    IsEntering old place → IsBestColumn old (Some column) → (MayTurn new column → ⊥) → IsRefusedAt new place
+refused_at old new place column keeps entering is best refused = record {
+  column = column;
+  entering = entering_kept old new place keeps entering is;
+  best = best_kept old new (Some column) keeps entering best;
+  refused = refused;
+}
 
 -- at the pivot form
 pub held_up : (old new : Kernel) (place : ℕ) (found : Result (Option Solved) OutOfRange) →
     IsPivotPlace old place → OnErr found (KeepsNumbers old new) →
-    OnErr found ((column : ℕ) × IsRefusedAt new place column) → OnErr found (IsHeldUp new)
+    OnErr found (IsLineTooLarge new place ⊎ IsRefusedAt new place) → OnErr found (IsHeldUp new)
 held_up old new place (Ok solved) due keeps refused = tt
 held_up old new place (Err out) due keeps refused =
     record {
       place = place;
       due = subst (λ (h : Kernel). IsPivotPlace h place) (sym (rebuilt old new keeps)) due;
-      column = refused.0;
-      refused = refused.1;
+      cause = refused;
     }

@@ -3,20 +3,17 @@ use Rattle.std.proofs.Common.{◌≡◌, ◌≤◌, refl, sym, ◌∙◌, ap, su
 use Rattle.std.specs.Prelude.{vec_capacity}
 use Rattle.table_kernel.specs.declared.kernel.Kernel.{Kernel}
 use Rattle.table_kernel.specs.Kernels.{IsKernel, stated}
-use Rattle.table_kernel.specs.Turns.{KeepsNumbers}
+use Rattle.table_kernel.specs.Lines.{KeepsNumbers}
 
 -- the one kernel is the other with another room
-pub rebuilt : (old new : Kernel) → KeepsNumbers old new → new ≡ record old { left = new.left; line = new.line; along = new.along }
+pub rebuilt : (old new : Kernel) → KeepsNumbers old new → new ≡ record old { left = new.left; entering = new.entering }
 rebuilt old new keeps =
     rw (
       sym keeps.table,
       sym keeps.common,
-      sym keeps.reach,
-      sym keeps.weight,
       sym keeps.lows,
       sym keeps.leads,
       sym keeps.constants,
-      sym keeps.uses,
     ) refl
 
 -- so it stands for the same table
@@ -35,10 +32,8 @@ keeps_kernel old new keeps m =
         leads = m.shaped.leads;
         lead = m.shaped.lead;
         constants = m.shaped.constants;
-        uses = m.shaped.uses;
-        line = keeps.line ∙ m.shaped.line;
+        entering = keeps.entering ∙ m.shaped.entering;
         left = omega (arith, keeps.left, m.shaped.left);
-        along = keeps.along ∙ m.shaped.along;
         lines = m.shaped.lines;
         wide = m.shaped.wide;
       };
@@ -46,12 +41,11 @@ keeps_kernel old new keeps m =
         top = m.bounded.top;
         positive = m.bounded.positive;
         common = m.bounded.common;
-        reach = m.bounded.reach;
-        weight = m.bounded.weight;
-        product = m.bounded.product;
-        lows = m.bounded.lows;
-        rows = m.bounded.rows;
+        lines = m.bounded.lines;
+        divides = m.bounded.divides;
+        low = m.bounded.low;
         constants = m.bounded.constants;
+        rows = m.bounded.rows;
       };
       whole = m.whole;
       numbers = record { common = m.numbers.common; lows = m.numbers.lows; constants = m.numbers.constants };
@@ -62,14 +56,10 @@ pub left_keeps : (old new : Kernel) → new ≡ record old { left = new.left } �
 left_keeps old new is room = record {
   table = ap (λ (k : Kernel). k.table) is;
   common = ap (λ (k : Kernel). k.common) is;
-  reach = ap (λ (k : Kernel). k.reach) is;
-  weight = ap (λ (k : Kernel). k.weight) is;
   lows = ap (λ (k : Kernel). k.lows) is;
   leads = ap (λ (k : Kernel). k.leads) is;
   constants = ap (λ (k : Kernel). k.constants) is;
-  uses = ap (λ (k : Kernel). k.uses) is;
-  line = ap (λ (k : Kernel). length k.line.items) is;
-  along = ap (λ (k : Kernel). length k.along.items) is;
+  entering = ap (λ (k : Kernel). length k.entering.numbers) is;
   left = room;
 }
 
@@ -78,13 +68,9 @@ pub keeps_twice : (first second third : Kernel) → KeepsNumbers first second �
 keeps_twice first second third k l = record {
   table = l.table ∙ k.table;
   common = l.common ∙ k.common;
-  reach = l.reach ∙ k.reach;
-  weight = l.weight ∙ k.weight;
   lows = l.lows ∙ k.lows;
   leads = l.leads ∙ k.leads;
   constants = l.constants ∙ k.constants;
-  uses = l.uses ∙ k.uses;
-  line = l.line ∙ k.line;
-  along = l.along ∙ k.along;
+  entering = l.entering ∙ k.entering;
   left = omega (arith, k.left, l.left);
 }

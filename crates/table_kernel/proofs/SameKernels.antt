@@ -1,6 +1,7 @@
 -- A kernel that holds the same numbers in other room is one, too.
 use Rattle.std.specs.declared.alloc.Global.{Global}
-use Rattle.std.proofs.Common.{Vec, ◌≡◌, ℕ, suc, ◌*◌, ◌^◌, ◌≤◌, refl, sym, ◌∙◌, ap, subst, List, length, arith}
+use Prim.Native.Nat.{◌∣◌}
+use Rattle.std.proofs.Common.{Vec, ◌≡◌, ℕ, suc, ◌*◌, ◌^◌, ◌≤◌, refl, sym, ◌∙◌, ap, subst, List, length, map, arith}
 use Rattle.std.specs.Prelude.{ℤ, pos, ◌<ℤ◌, ◌≤ℤ◌, nat_abs, All}
 use Rattle.whole_numbers.specs.Fractions.{Fraction}
 use Rattle.design_problem.specs.declared.form.Form.{Form}
@@ -11,15 +12,18 @@ use Rattle.fraction_table.specs.declared.table.Table.{Table}
 use Rattle.fraction_table.specs.RowLines.{HoldsSame}
 use Rattle.fraction_table.specs.Tableaus.{FitsBox}
 use Rattle.fraction_table.specs.ValidTables.{members_of_box}
-use Rattle.integer_pivots.proofs.UseLaws.{uses_kept}
 use Rattle.integer_pivots.specs.Leads.{AreLeads}
+use Rattle.integer_pivots.specs.declared.line.Line.{Line}
+use Rattle.integer_pivots.specs.Lines.{IsLine, rows_of}
 use Rattle.integer_pivots.specs.Numbers.{AllWithin, weight_of}
 use Rattle.table_kernel.specs.declared.kernel.Kernel.{Kernel}
 use Rattle.table_kernel.specs.Kernels.{IsBounded, IsKernel, IsShaped, kernel_lines, lows_of, stated, width_of}
-use Rattle.table_kernel.specs.Numbers.{lows_by}
-use Rattle.table_kernel.specs.Turns.{HoldsNumbers}
-use Rattle.table_kernel.proofs.AtBasis.{AreAtBasis, basis_kernel, kernel_basis, stated_lines}
-use Rattle.table_kernel.proofs.MoreRows.{AreConstants}
+use Rattle.table_kernel.specs.Bases.{AreAtBasis}
+use Rattle.table_kernel.specs.Constants.{AreConstants}
+use Rattle.table_kernel.specs.Numbers.{scaled_line, share_of}
+use Rattle.table_kernel.specs.Rows.{HoldsNumbers}
+use Rattle.table_kernel.proofs.AtBasis.{basis_kernel, kernel_basis, stated_lines}
+
 
 same_shaped : (old new : Kernel) → HoldsSame old.table new.table → HoldsNumbers old new → IsShaped old → IsShaped new
 same_shaped old new t h s =
@@ -34,17 +38,15 @@ same_shaped old new t h s =
         quotients = ap length t.quotients ∙ s.room.quotients ∙ ap suc (sym width);
         scratch = ap length t.scratch ∙ s.room.scratch ∙ ap suc (sym width);
       };
-      lows = ap length h.lows ∙ s.lows ∙ sym width;
-      each = subst (λ (m : ℕ). All (λ (row : List ℤ). length row ≡ m) new.lows.items) (sym width)
-          (subst (All (λ (row : List ℤ). length row ≡ width_of old)) (sym h.lows) s.each);
+      lows = ap (λ (ls : Vec Line Global). length ls.items) h.lows ∙ s.lows ∙ sym width;
+      each = subst (λ (m : ℕ). All (λ (line : Line). length line.numbers ≡ m) new.lows.items) (sym width)
+          (subst (λ (ls : Vec Line Global). All (λ (line : Line). length line.numbers ≡ width_of old) ls.items) (sym h.lows) s.each);
       leads = ap (λ (vs : Vec ℕ Global). length vs.items) h.leads ∙ s.leads ∙ sym width;
-      lead = subst (λ (rows : List (List ℤ)). AreLeads rows new.leads.items) (sym h.lows)
-          (subst (λ (vs : Vec ℕ Global). AreLeads old.lows.items vs.items) (sym h.leads) s.lead);
+      lead = subst (λ (ls : Vec Line Global). AreLeads (rows_of ls.items) new.leads.items) (sym h.lows)
+          (subst (λ (vs : Vec ℕ Global). AreLeads (rows_of old.lows.items) vs.items) (sym h.leads) s.lead);
       constants = constants ∙ s.constants ∙ sym counted;
-      uses = uses_kept old.uses.items new.uses.items old.table.rows.items new.table.rows.items (width_of old) (width_of new) h.uses t.rows width s.uses;
-      line = ap length h.line ∙ s.line ∙ sym width;
       left = omega (arith, width, s.left, h.left);
-      along = ap length h.along ∙ s.along ∙ sym constants;
+      entering = ap (λ (line : Line). length line.numbers) h.entering ∙ s.entering ∙ sym width;
       lines = ap length t.lines ∙ s.lines ∙ sym constants;
       wide = subst (λ (m : ℕ). All (λ (row : List Fraction). length row ≡ suc m) new.table.lines.items) (sym width)
           (subst (All (λ (row : List Fraction). length row ≡ suc (width_of old))) (sym t.lines) s.wide);
@@ -53,17 +55,16 @@ same_shaped old new t h s =
 same_bounded : (old new : Kernel) → HoldsSame old.table new.table → HoldsNumbers old new → IsBounded old → IsBounded new
 same_bounded old new t h b =
     record {
-      top = subst (λ (top : ℕ). 2 ^ 39 ≤ top) (sym t.top) b.top;
+      top = subst (λ (top : ℕ). 2 ^ 126 ≤ top) (sym t.top) b.top;
       positive = subst (λ (z : ℤ). pos 0 <ℤ z) (sym h.common) b.positive;
-      common = subst (λ (z : ℤ). z ≤ℤ pos (2 ^ 22)) (sym h.common) b.common;
-      reach = subst (λ (z : ℤ). pos 1 ≤ℤ z) (sym h.reach) b.reach;
-      weight = subst (λ (z : ℤ). pos 1 ≤ℤ z) (sym h.weight) b.weight;
-      product = subst (λ (z : ℤ). nat_abs new.weight * nat_abs z ≤ 2 ^ 22) (sym h.reach)
-          (subst (λ (z : ℤ). nat_abs z * nat_abs old.reach ≤ 2 ^ 22) (sym h.weight) b.product);
-      lows = subst (λ (z : ℤ). All (AllWithin (nat_abs z)) new.lows.items) (sym h.reach) (subst (All (AllWithin (nat_abs old.reach))) (sym h.lows) b.lows);
-      rows = subst (λ (z : ℤ). All (λ (row : Form). weight_of row ≤ nat_abs z) new.table.rows.items) (sym h.weight)
-          (subst (All (λ (row : Form). weight_of row ≤ nat_abs old.weight)) (sym t.rows) b.rows);
-      constants = subst (AllWithin (2 ^ 39)) (sym h.constants) b.constants;
+      common = subst (λ (z : ℤ). z ≤ℤ pos (2 ^ 30)) (sym h.common) b.common;
+      lines = subst (λ (ls : Vec Line Global). All IsLine ls.items) (sym h.lows) b.lines;
+      divides = subst (λ (z : ℤ). All (λ (line : Line). nat_abs line.denominator ∣ nat_abs z) new.lows.items) (sym h.common)
+          (subst (λ (ls : Vec Line Global). All (λ (line : Line). nat_abs line.denominator ∣ nat_abs old.common) ls.items) (sym h.lows) b.divides);
+      low = subst (λ (z : ℤ). All (λ (line : Line). nat_abs line.constant * share_of (nat_abs z) line ≤ 2 ^ 44) new.lows.items) (sym h.common)
+          (subst (λ (ls : Vec Line Global). All (λ (line : Line). nat_abs line.constant * share_of (nat_abs old.common) line ≤ 2 ^ 44) ls.items) (sym h.lows) b.low);
+      rows = subst (All (λ (row : Form). weight_of row ≤ 2 ^ 16)) (sym t.rows) b.rows;
+      constants = subst (AllWithin (2 ^ 62)) (sym h.constants) b.constants;
     }
 
 pub kernel_same : (old new : Kernel) → HoldsSame old.table new.table → HoldsNumbers old new → IsKernel old → IsKernel new
@@ -73,7 +74,8 @@ kernel_same old new t h m =
     let basis = old.table.basis.items in
     let D = nat_abs old.common in
     let there = kernel_basis old m in
-    let lows : lows_of new ≡ lows_of old = ap (λ zs. lows_by zs new.lows.items) h.constants ∙ ap (lows_by old.constants.items) h.lows in
+    let lows : lows_of new ≡ lows_of old =
+    ap (λ (z : ℤ). map (scaled_line (nat_abs z)) new.lows.items) h.common ∙ ap (λ (ls : Vec Line Global). map (scaled_line D) ls.items) h.lows in
     basis_kernel new (same_shaped old new t h m.shaped) (same_bounded old new t h m.bounded)
     (subst (λ (box : CostBox). IsBox (length box.low) box) (sym t.costs) m.whole.box)
     (subst (λ (box : CostBox). All (FitsBox box) new.table.rows.items) (sym t.costs) (subst (All (FitsBox costs)) (sym t.rows) m.whole.fit))
@@ -100,4 +102,4 @@ lines_same old new t k kernel =
     ∙ sym (stated_lines old kernel.shaped)
   where
     same : kernel_lines new ≡ kernel_lines old
-    same = rw (t.costs, t.rows, k.common, k.lows, k.constants) refl
+    same = rw (t.costs, t.rows, k.common, k.lows) refl

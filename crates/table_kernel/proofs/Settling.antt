@@ -1,12 +1,12 @@
 -- What the constants and a line of a kernel show of the table that it stands for.
-use Rattle.std.proofs.Common.{◌≡◌, ℕ, zero, suc, ◌+◌, ◌<◌, ◌≤◌, sym, ◌∙◌, ap, subst, List, length, arith}
-use Rattle.std.specs.Prelude.{ℤ, None, pos, ◌<ℤ◌, ◌≤ℤ◌, All}
+use Rattle.std.proofs.Common.{◌≡◌, ℕ, zero, suc, ◌+◌, ◌<◌, ◌≤◌, sym, ◌∙◌, ap, subst, length, arith}
+use Rattle.std.specs.Prelude.{ℤ, None, pos, ◌*ℤ◌, ◌<ℤ◌, ◌≤ℤ◌, nat_abs, All}
 use Rattle.cost_base.proofs.ListLemmas.{get_or-map-numbers_from}
 use Rattle.whole_numbers.specs.Fractions.{StandsFor}
 use Rattle.whole_numbers.specs.Lists.{number_at}
+use Rattle.whole_numbers.proofs.Sizes.{positive_is, size_positive}
 use Rattle.design_problem.specs.Basis.{entry}
 use Rattle.design_problem.specs.Steps.{IsStuck}
-use Rattle.fraction_table.specs.declared.table.Table.{Table}
 use Rattle.fraction_table.specs.PivotForms.{NoneNegative, sign_at}
 use Rattle.fraction_table.specs.Pivots.{line_at}
 use Rattle.fraction_table.specs.ValidTables.{number_of_form}
@@ -17,9 +17,9 @@ use Rattle.fraction_table.proofs.Solutions.{high_number, low_number, negative_nu
 use Rattle.fraction_table.proofs.IntegralTurns.{stand_at}
 use Rattle.fraction_table.proofs.theory.TurnedNumbers.{numbers_at, numbers_long}
 use Rattle.table_kernel.specs.declared.kernel.Kernel.{Kernel}
-use Rattle.table_kernel.specs.Kernels.{IsKernel, stated, width_of}
+use Rattle.table_kernel.specs.Kernels.{IsBounded, IsKernel, stated, width_of}
 use Rattle.table_kernel.specs.Numbers.{number_at_column}
-use Rattle.table_kernel.specs.Turns.{IsBestColumn, IsPivotPlace, KeepsNumbers, column_of, form_of_place, numbers_of_place}
+use Rattle.table_kernel.specs.Lines.{IsBestColumn, IsEntering, IsPivotPlace, column_of, form_of_place, numbers_of_place}
 use Rattle.table_kernel.proofs.Columns.{column_number}
 
 -- a line's entry has the sign of its number
@@ -66,7 +66,7 @@ module _ (k : Kernel) (m : IsKernel k) (place : ℕ) (place_in : place < length 
   column_here c c_in =
       get_or-map-numbers_from (λ column. number_at_column (form_of_place k place) (column_of k column)) 0 (width_of k) c (pos 0) c_in
       ∙ ap (λ (j : ℕ). number_at_column (form_of_place k place) (column_of k j)) (from_none c)
-      ∙ sym (column_number k m.shaped m.whole.unboxed.common k.table.costs.low (form_of_place k place) c)
+      ∙ sym (column_number k m.whole.unboxed.common k.table.costs.low (form_of_place k place) c)
       ∙ ap (λ lows. number_of_form m.whole.unboxed.common k.table.costs.low lows (form_of_place k place) (suc c)) (sym m.numbers.lows)
     where
       from_none : (n : ℕ) → 0 + n ≡ n
@@ -114,9 +114,14 @@ pivot_place_in k m place due =
 pub pivot_place_below : (k : Kernel) (place : ℕ) → IsPivotPlace k place → number_at k.constants.items place <ℤ pos 0
 pivot_place_below k place due = pivot_negative (width_of k) k.table.rows.items (number_at k.constants.items) place due
 
--- a line that is put down, where it is positive at no column
-pub none_positive : (old new : Kernel) (place : ℕ) → KeepsNumbers old new → new.line.items ≡ numbers_of_place old place →
-    IsBestColumn new None → (c : ℕ) → c < width_of old → number_at (numbers_of_place old place) c ≤ℤ pos 0
-none_positive old new place keeps line_is best c c_in =
-    subst (λ (zs : List ℤ). number_at zs c ≤ℤ pos 0) line_is
-    (best c (subst (λ (t : Table). c < length t.costs.low) (sym keeps.table) c_in))
+-- the entering line is positive at no column: then neither is the form of its place
+pub none_positive : (k : Kernel) (place : ℕ) → IsBounded k → IsEntering k place → IsBestColumn k None → (c : ℕ) → c < width_of k →
+    number_at (numbers_of_place k place) c ≤ℤ pos 0
+none_positive k place b e best c c_in =
+    let z = number_at k.entering.numbers c in
+    let n = number_at (numbers_of_place k place) c in
+    let common_is = positive_is k.common b.positive in
+    let denominator_is = positive_is k.entering.denominator e.stands.positive in
+    low_number z n (nat_abs k.entering.denominator) (nat_abs k.common) (size_positive k.entering.denominator e.stands.positive) (size_positive k.common b.positive)
+    (ap (λ (D : ℤ). z *ℤ D) (sym common_is) ∙ e.stands.numbers c c_in ∙ ap (λ (D : ℤ). n *ℤ D) denominator_is)
+    (best c c_in)

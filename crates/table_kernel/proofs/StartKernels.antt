@@ -1,11 +1,14 @@
 -- At the starting basis a kernel holds the units over 1, and the ranges of the variables.
+use Prim.Native.Nat.{◌∣◌}
 use Rattle.std.proofs.Common.{◌≡◌, ℕ, zero, suc, ◌+◌, ◌^◌, ◌<◌, ◌*◌, ◌≤◌, Bool, true, false, cond, refl, sym, ◌∙◌, ap, subst, List, [], ◌∷◌, ◌++◌, map, length, arith, append-nil, zero-add}
-use Rattle.std.specs.Prelude.{ℤ, pos, ◌-ℤ◌, ◌<ℤ◌, ◌≤ℤ◌, ◌==◌, nat_abs, slice_index, slice_index_or, vec_capacity, All}
+use Rattle.std.specs.Prelude.{ℤ, pos, ◌-ℤ◌, ◌*ℤ◌, ◌<ℤ◌, ◌≤ℤ◌, ◌==◌, nat_abs, slice_index, slice_index_or, vec_capacity, All}
 use Rattle.std.proofs.lemmas.Int.{ints}
 use Rattle.std.proofs.lemmas.List.{get_or-map, get_or_default, length-append, map-append}
+use Rattle.std.proofs.lemmas.Nat.Gcd.{dvd_refl}
 use Rattle.std.proofs.lemmas.Simd.{map-map}
 use Rattle.cost_base.specs.Lists.{numbers_from}
 use Rattle.cost_base.proofs.ListLemmas.{length-numbers_from, get_or-numbers_from, length-map-numbers_from, map-numbers_from-agree, get_or-map-numbers_from}
+use Rattle.whole_numbers.proofs.Ring.{var, num, ◌⊗◌, ring}
 use Rattle.whole_numbers.specs.Fractions.{Fraction}
 use Rattle.whole_numbers.specs.Lists.{number_at}
 use Rattle.design_problem.specs.declared.form.Form.{Form}
@@ -23,13 +26,16 @@ use Rattle.fraction_table.proofs.StartingTables.{all_mapped, elsewhere_none, mem
 use Rattle.fraction_table.proofs.IntegralTurns.{coefficients_long}
 use Rattle.fraction_table.proofs.theory.Resolved.{unit_same, unit_other}
 use Rattle.fraction_table.proofs.theory.Units.{high_value, low_value}
-use Rattle.integer_pivots.specs.Uses.{held_in, uses_by}
+use Rattle.integer_pivots.specs.declared.line.Line.{Line}
+use Rattle.integer_pivots.specs.Lines.{IsLine, rows_of}
 use Rattle.integer_pivots.specs.Leads.{AreLeads, IsLead}
 use Rattle.integer_pivots.specs.Numbers.{AllWithin, weight_of}
 use Rattle.table_kernel.specs.declared.kernel.Kernel.{Kernel}
 use Rattle.table_kernel.specs.Kernels.{IsBounded, IsKernel, IsShaped, lows_of, width_of}
-use Rattle.table_kernel.specs.Numbers.{lows_by}
-use Rattle.table_kernel.proofs.AtBasis.{AreAtBasis, basis_kernel}
+use Rattle.table_kernel.specs.Bases.{AreAtBasis}
+use Rattle.table_kernel.specs.Numbers.{scaled_line, share_of}
+use Rattle.table_kernel.specs.Starts.{unit_line_of}
+use Rattle.table_kernel.proofs.AtBasis.{basis_kernel}
 
 -- the units lead each at its own variable
 pub unit_leads : (n : ℕ) → AreLeads (map (λ v. unit n v (pos 1)) (numbers_from 0 n)) (numbers_from 0 n)
@@ -95,12 +101,26 @@ first_at costs rows place rows_are place_in =
     ∙ get_or-map (λ member. value_for_costs (member_form n [] member) costs.low) (members_of_box costs 0) place (Low 0 0) (pos 0)
     (omega (arith, first_long costs, members_long costs 0, place_in)))
 
+-- a list over 1
+scaled_once : (zs : List ℤ) → map (λ z. z *ℤ pos 1) zs ≡ zs
+scaled_once [] = refl
+scaled_once (z ∷ zs) =
+    ap (λ y. y ∷ map (λ x. x *ℤ pos 1) zs) (ring (z ∷ []) (var 0 ⊗ num (pos 1)) (var 0) refl) ∙ ap (λ ys. z ∷ ys) (scaled_once zs)
+
 -- the numbers of x - low, by the units
-rows_by : (a m : ℕ) (f : ℕ → List ℤ) (more : List ℤ) →
-    lows_by (map (λ v. pos 0) (numbers_from a m) ++ more) (map f (numbers_from a m))
-    ≡ map (λ v. pos 0 ∷ f v) (numbers_from a m)
-rows_by a zero f more = refl
-rows_by a (suc m) f more = ap (λ rows. (pos 0 ∷ f a) ∷ rows) (rows_by (a + 1) m f more)
+unit_scaled : (n v : ℕ) → scaled_line 1 (unit_line_of n v) ≡ pos 0 ∷ unit n v (pos 1)
+unit_scaled n v = scaled_once (pos 0 ∷ unit n v (pos 1))
+
+rows_by : (a m n : ℕ) → map (scaled_line 1) (map (unit_line_of n) (numbers_from a m)) ≡ map (λ v. pos 0 ∷ unit n v (pos 1)) (numbers_from a m)
+rows_by a zero n = refl
+rows_by a (suc m) n =
+    ap (λ row. row ∷ map (scaled_line 1) (map (unit_line_of n) (numbers_from (a + 1) m))) (unit_scaled n a)
+    ∙ ap (λ rows. (pos 0 ∷ unit n a (pos 1)) ∷ rows) (rows_by (a + 1) m n)
+
+-- the numbers at the columns are the units
+unit_rows : (n a m : ℕ) → rows_of (map (unit_line_of n) (numbers_from a m)) ≡ map (λ v. unit n v (pos 1)) (numbers_from a m)
+unit_rows n a zero = refl
+unit_rows n a (suc m) = ap (λ rows. unit n a (pos 1) ∷ rows) (unit_rows n (a + 1) m)
 
 -- the starting basis
 pub start_at_basis : (costs : CostBox) (rows : List Form) → IsBox (length costs.low) costs → All (FitsBox costs) rows →
@@ -127,19 +147,25 @@ unit_within n v = all_mapped (λ (z : ℤ). nat_abs z ≤ 1) (λ k. cond (k == v
     either true = omega arith
     either false = omega arith
 
+-- a unit's line is small
+unit_line_small : (n v : ℕ) → IsLine (unit_line_of n v)
+unit_line_small n v = record {
+  positive = omega (arith, ints);
+  denominator = omega (arith, ints);
+  reach_positive = omega (arith, ints);
+  reach = omega (arith, ints);
+  numbers = unit_within n v;
+}
+
 -- what the kernel of a box is made of
 pub record IsStarting (k : Kernel) (costs : CostBox) : Type 0 where
   pub common : k.common ≡ pos 1
-  pub reach : k.reach ≡ pos 1
-  pub weight : k.weight ≡ pos 1
-  pub lows : k.lows.items ≡ map (λ v. unit (length costs.low) v (pos 1)) (numbers_from 0 (length costs.low))
+  pub lows : k.lows.items ≡ map (unit_line_of (length costs.low)) (numbers_from 0 (length costs.low))
   pub leads : k.leads.items ≡ numbers_from 0 (length costs.low)
   pub constants : k.constants.items ≡ first_constants costs
   pub small : AllWithin (2 ^ 27) k.constants.items
-  pub uses : held_in k.uses.items ≡ map (λ v. []) (numbers_from 0 (length costs.low))
   pub left : length costs.low ≤ vec_capacity k.left
-  pub line : length k.line.items ≡ length costs.low
-  pub along : length k.along.items ≡ length costs.low + length costs.low
+  pub entering : length k.entering.numbers ≡ length costs.low
 
 starting_shaped : (k : Kernel) → IsTableau k.table → HasRoom k.table → k.table.rows.items ≡ [] → IsStarting k k.table.costs → IsShaped k
 starting_shaped k w room rows_are s =
@@ -149,18 +175,17 @@ starting_shaped k w room rows_are s =
     let many = members_long k.table.costs (length k.table.rows.items) in
     record {
       room = room;
-      lows = ap length s.lows ∙ length-map-numbers_from (λ v. unit n v (pos 1)) 0 n;
-      each = subst (All (λ (row : List ℤ). length row ≡ n)) (sym s.lows)
-          (all_mapped (λ (row : List ℤ). length row ≡ n) (λ v. unit n v (pos 1)) n
+      lows = ap length s.lows ∙ length-map-numbers_from (unit_line_of n) 0 n;
+      each = subst (All (λ (line : Line). length line.numbers ≡ n)) (sym s.lows)
+          (all_mapped (λ (line : Line). length line.numbers ≡ n) (unit_line_of n) n
           (λ v v_in. length-map-numbers_from (λ j. cond (j == v) (pos 1) (pos 0)) 0 n));
       leads = ap length s.leads ∙ length-numbers_from 0 n;
-      lead = subst (λ (rows : List (List ℤ)). AreLeads rows k.leads.items) (sym s.lows)
-          (subst (AreLeads (map (λ v. unit n v (pos 1)) (numbers_from 0 n))) (sym s.leads) (unit_leads n));
+      lead = subst (λ (lines : List Line). AreLeads (rows_of lines) k.leads.items) (sym s.lows)
+          (subst (λ (rows : List (List ℤ)). AreLeads rows k.leads.items) (sym (unit_rows n 0 n))
+          (subst (AreLeads (map (λ v. unit n v (pos 1)) (numbers_from 0 n))) (sym s.leads) (unit_leads n)));
       constants = omega (arith, counted, many, none);
-      uses = s.uses ∙ ap (λ (rows : List Form). uses_by rows n) (sym rows_are);
-      line = s.line;
       left = s.left;
-      along = s.along ∙ sym counted;
+      entering = s.entering;
       lines = omega (arith, lines_long k.table w, counted, none);
       wide = λ i d i_in. line_wide i d i_in;
     }
@@ -169,24 +194,26 @@ starting_shaped k w room rows_are s =
     line_wide i d i_in = subst (λ (line : List Fraction). length line ≡ suc (width_of k))
         (get_or_default k.table.lines.items i [] d i_in) (line_long k.table w i i_in)
 
-starting_bounded : (k : Kernel) → 2 ^ 39 ≤ k.table.top → k.table.rows.items ≡ [] → IsStarting k k.table.costs → IsBounded k
+-- what holds of each unit's line holds of the kernel's
+each_unit : (k : Kernel) (P : Line → Type 0) → IsStarting k k.table.costs → ((v : ℕ) → P (unit_line_of (width_of k) v)) → All P k.lows.items
+each_unit k P s holds = subst (All P) (sym s.lows) (all_mapped P (unit_line_of (width_of k)) (width_of k) (λ v v_in. holds v))
+
+starting_bounded : (k : Kernel) → 2 ^ 126 ≤ k.table.top → k.table.rows.items ≡ [] → IsStarting k k.table.costs → IsBounded k
 starting_bounded k top rows_are s =
-    let n = width_of k in
     record {
       top = top;
       positive = subst (λ (z : ℤ). pos 0 <ℤ z) (sym s.common) (omega (arith, ints));
-      common = subst (λ (z : ℤ). z ≤ℤ pos (2 ^ 22)) (sym s.common) (omega (arith, ints));
-      reach = subst (λ (z : ℤ). pos 1 ≤ℤ z) (sym s.reach) (omega (arith, ints));
-      weight = subst (λ (z : ℤ). pos 1 ≤ℤ z) (sym s.weight) (omega (arith, ints));
-      product = subst (λ (z : ℤ). nat_abs z * nat_abs k.reach ≤ 2 ^ 22) (sym s.weight) (subst (λ (z : ℤ). 1 * nat_abs z ≤ 2 ^ 22) (sym s.reach) (omega arith));
-      lows = subst (λ (z : ℤ). All (AllWithin (nat_abs z)) k.lows.items) (sym s.reach)
-          (subst (All (AllWithin 1)) (sym s.lows) (all_mapped (AllWithin 1) (λ v. unit n v (pos 1)) n (λ v v_in. unit_within n v)));
-      rows = subst (All (λ (f : Form). weight_of f ≤ nat_abs k.weight)) (sym rows_are) (λ i d i_in. absurd (omega (arith, i_in)));
+      common = subst (λ (z : ℤ). z ≤ℤ pos (2 ^ 30)) (sym s.common) (omega (arith, ints));
+      lines = each_unit k IsLine s (unit_line_small (width_of k));
+      divides = subst (λ (z : ℤ). All (λ (line : Line). nat_abs line.denominator ∣ nat_abs z) k.lows.items) (sym s.common)
+          (each_unit k (λ (line : Line). nat_abs line.denominator ∣ 1) s (λ v. dvd_refl 1));
+      low = each_unit k (λ (line : Line). nat_abs line.constant * share_of (nat_abs k.common) line ≤ 2 ^ 44) s (λ v. omega arith);
+      rows = subst (All (λ (f : Form). weight_of f ≤ 2 ^ 16)) (sym rows_are) (λ i d i_in. absurd (omega (arith, i_in)));
       constants = λ i d i_in. omega (arith, s.small i d i_in);
     }
 
 -- the kernel of a box without rows
-starting_is : (k : Kernel) → 2 ^ 39 ≤ k.table.top → IsTableau k.table → HasRoom k.table → k.table.rows.items ≡ [] →
+starting_is : (k : Kernel) → 2 ^ 126 ≤ k.table.top → IsTableau k.table → HasRoom k.table → k.table.rows.items ≡ [] →
     k.table.basis.items ≡ starting k.table.costs → IsStarting k k.table.costs → IsKernel k
 starting_is k top w room rows_are basis_is s =
     let n = width_of k in
@@ -194,9 +221,9 @@ starting_is k top w room rows_are basis_is s =
     let rows = k.table.rows.items in
     let one : nat_abs k.common ≡ 1 = ap nat_abs s.common in
     let lows_are : lows_of k ≡ start_rows n 0 n =
-    ap (λ zs. lows_by zs k.lows.items) s.constants
-    ∙ ap (lows_by (first_constants costs)) s.lows
-    ∙ rows_by 0 n (λ v. unit n v (pos 1)) (map (λ v. pos (slice_index costs.high v) -ℤ pos (slice_index costs.low v)) (numbers_from 0 n)) in
+    ap (λ D. map (scaled_line D) k.lows.items) one
+    ∙ ap (map (scaled_line 1)) s.lows
+    ∙ rows_by 0 n n in
     let shaped = starting_shaped k w room rows_are s in
     basis_kernel k shaped (starting_bounded k top rows_are s) w.box w.fit
     (subst (λ (D : ℕ). AreAtBasis costs rows k.table.basis.items D (lows_of k)) (sym one)
@@ -215,10 +242,10 @@ starting_is k top w room rows_are basis_is s =
 
 pub started : (k : Kernel) (costs : CostBox) (top : ℕ) →
     held_of k.table Open ≡ record { top = top; costs = costs; rows = []; basis = starting costs; stage = Open } →
-    IsSound k.table Open → IsStarting k costs → 2 ^ 39 ≤ top → IsKernel k
+    IsSound k.table Open → IsStarting k costs → 2 ^ 126 ≤ top → IsKernel k
 started k costs top held sound s large =
     let costs_are : k.table.costs ≡ costs = ap (λ (h : Held). h.costs) held in
-    starting_is k (subst (λ (m : ℕ). 2 ^ 39 ≤ m) (sym (ap (λ (h : Held). h.top) held)) large) (sound.whole tt) sound.room
+    starting_is k (subst (λ (m : ℕ). 2 ^ 126 ≤ m) (sym (ap (λ (h : Held). h.top) held)) large) (sound.whole tt) sound.room
     (ap (λ (h : Held). h.rows) held)
     (ap (λ (h : Held). h.basis) held ∙ ap starting (sym costs_are))
     (subst (IsStarting k) (sym costs_are) s)

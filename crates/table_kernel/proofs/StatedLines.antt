@@ -1,8 +1,7 @@
 -- The lines of the table that a kernel stands for, by the numbers that it holds.
-use Rattle.std.proofs.Common.{◌≡◌, ℕ, suc, ◌<◌, refl, sym, ◌∙◌, ap, subst, [], ◌∷◌, map, length, zero-add}
-use Rattle.std.specs.Prelude.{ℤ, pos, nat_abs, slice_index_or}
+use Rattle.std.proofs.Common.{◌≡◌, ℕ, suc, ◌<◌, refl, sym, ◌∙◌, ap, subst, [], ◌∷◌, map, length}
+use Rattle.std.specs.Prelude.{pos, nat_abs, slice_index_or}
 use Rattle.std.proofs.lemmas.List.{get_or-map, length-map}
-use Rattle.cost_base.proofs.ListLemmas.{length-map-numbers_from, get_or-map-numbers_from}
 use Rattle.whole_numbers.specs.Fractions.{whole}
 use Rattle.whole_numbers.specs.Lists.{number_at}
 use Rattle.design_problem.specs.Basis.{entry}
@@ -10,43 +9,34 @@ use Rattle.design_problem.specs.Steps.{IsStuck}
 use Rattle.fraction_table.specs.Pivots.{line_at}
 use Rattle.fraction_table.proofs.Refuting.{IsStuckLine}
 use Rattle.table_kernel.specs.declared.kernel.Kernel.{Kernel}
-use Rattle.table_kernel.specs.Kernels.{IsKernel, IsMoving, stated, width_of}
+use Rattle.table_kernel.specs.Kernels.{IsKernel, stated, width_of}
 use Rattle.table_kernel.specs.Numbers.{number_at_column, over_common}
-use Rattle.table_kernel.specs.Turns.{column_of, form_of_place, numbers_of_place}
-use Rattle.table_kernel.proofs.AtBasis.{kernel_moves, stated_lines}
-use Rattle.table_kernel.proofs.Restated.{line_of_place, lines_many}
+use Rattle.table_kernel.specs.Lines.{column_of, form_of_place, numbers_of_place}
+use Rattle.table_kernel.proofs.AtBasis.{stated_lines}
+use Rattle.table_kernel.proofs.Restated.{line_number, line_of_place, lines_many, numbers_long}
 
--- the number of a place's form at a column
-pub line_number : (k : Kernel) (place column : ℕ) → column < width_of k →
-    number_at (numbers_of_place k place) column ≡ number_at_column (form_of_place k place) (column_of k column)
-line_number k place column column_in =
-    let number : ℕ → ℤ = λ c. number_at_column (form_of_place k place) (column_of k c) in
-    get_or-map-numbers_from number 0 (width_of k) column (pos 0) column_in ∙ ap number (zero-add column)
-
-pub stated_line : (k : Kernel) → IsMoving k → (place : ℕ) → place < length k.constants.items →
+pub stated_line : (k : Kernel) → IsKernel k → (place : ℕ) → place < length k.constants.items →
     line_at (stated k) place ≡ map (over_common (nat_abs k.common)) (number_at k.constants.items place ∷ numbers_of_place k place)
 stated_line k m place place_in =
     ap (λ lines. slice_index_or lines place []) (stated_lines k m.shaped)
     ∙ sym (line_of_place k m place place_in _ refl)
 
-pub stated_entry : (k : Kernel) → IsMoving k → (place column : ℕ) → place < length k.constants.items →
+pub stated_entry : (k : Kernel) → IsKernel k → (place column : ℕ) → place < length k.constants.items →
     column < width_of k → entry (line_at (stated k) place) (suc column)
     ≡ over_common (nat_abs k.common) (number_at_column (form_of_place k place) (column_of k column))
 stated_entry k m place column place_in column_in =
-    let number : ℕ → ℤ = λ c. number_at_column (form_of_place k place) (column_of k c) in
     ap (λ line. entry line (suc column)) (stated_line k m place place_in)
     ∙ get_or-map (over_common (nat_abs k.common)) (numbers_of_place k place) column (pos 0) (whole (pos 0))
-    (subst (λ (n : ℕ). column < n) (sym (length-map-numbers_from number 0 (width_of k))) column_in)
+    (subst (λ (n : ℕ). column < n) (sym (numbers_long k place)) column_in)
     ∙ ap (over_common (nat_abs k.common)) (line_number k place column column_in)
 
-pub stated_long : (k : Kernel) → IsMoving k → (place : ℕ) → place < length k.constants.items → length (line_at (stated k) place) ≡ suc (width_of k)
+pub stated_long : (k : Kernel) → IsKernel k → (place : ℕ) → place < length k.constants.items → length (line_at (stated k) place) ≡ suc (width_of k)
 stated_long k m place place_in =
-    let number : ℕ → ℤ = λ c. number_at_column (form_of_place k place) (column_of k c) in
     ap length (stated_line k m place place_in)
-    ∙ ap suc (length-map (numbers_of_place k place) (over_common (nat_abs k.common)) ∙ length-map-numbers_from number 0 (width_of k))
+    ∙ ap suc (length-map (numbers_of_place k place) (over_common (nat_abs k.common)) ∙ numbers_long k place)
 
 -- there is a line for each constant
-pub stated_many : (k : Kernel) → IsMoving k → length (stated k).lines.items ≡ length k.constants.items
+pub stated_many : (k : Kernel) → IsKernel k → length (stated k).lines.items ≡ length k.constants.items
 stated_many k m = ap length (stated_lines k m.shaped) ∙ lines_many k m.shaped
 
 -- a place whose form is stuck is a line that is
@@ -55,6 +45,6 @@ pub stated_stuck : (k : Kernel) (place : ℕ) → IsKernel k → place < length 
 stated_stuck k place m place_in stuck =
     record {
       whole = m.whole;
-      line_in = subst (λ (n : ℕ). place < n) (sym (stated_many k (kernel_moves k m))) place_in;
+      line_in = subst (λ (n : ℕ). place < n) (sym (stated_many k m)) place_in;
       stuck = stuck;
     }

@@ -1,83 +1,104 @@
--- Numbers that stay within the limits after a turn.
-use Rattle.std.proofs.Common.{◌≡◌, ℕ, ◌+◌, ◌*◌, ◌/◌, ◌^◌, ◌<◌, ◌≤◌, ap, subst, [], arith, le_trans, ◌↔◌, refl, sym}
-use Rattle.std.specs.Prelude.{ℤ, ◌-ℤ◌, ◌*ℤ◌, nat_abs, slice_index_or}
-use Rattle.std.proofs.Math.Nat.{le-div_iff_mul-le, mul-div-le, mul-le-mul, mul-le-mul_left, mul_comm}
-use Rattle.std.proofs.lemmas.Int.{ints, unsigned_abs-mul}
+-- Constants that stay within the limit after a turn, and lines that stay as they are.
+use Prim.Native.Nat.{◌∣◌}
+use native.Mathlib.Nat.{div-mul_cancel}
+use Rattle.std.proofs.Common.{◌≡◌, Bool, ◌↔◌, ℕ, ◌*◌, ◌/◌, ◌^◌, ◌<◌, ◌≤◌, ap, subst, [], ◌∷◌, arith, refl, sym, ◌∙◌}
+use Rattle.std.specs.Prelude.{ℤ, pos, negsuc, ◌*ℤ◌, nat_abs, IsTrue}
+use Rattle.std.proofs.lemmas.Int.{unsigned_abs-mul}
+use Rattle.whole_numbers.specs.Fractions.{exact_quotient, gcd}
 use Rattle.whole_numbers.specs.Lists.{number_at}
+use Rattle.whole_numbers.proofs.Divisors.{gcd_is}
+use Rattle.whole_numbers.proofs.FractionLaws.{cancel, over-mul, product_positive}
+use Rattle.whole_numbers.proofs.Ring.{num, ◌⊖◌, ◌⊗◌, ring, ring_by, using, nothing, var}
+use Rattle.whole_numbers.proofs.Sizes.{size_positive}
+use Rattle.integer_pivots.specs.declared.line.Line.{Line}
 use Rattle.integer_pivots.specs.declared.turn.Turn.{Turn}
-use Rattle.integer_pivots.specs.Numbers.{AllWithin, greatest_of}
-use Rattle.integer_pivots.specs.Turns.{AreTurnedWithin, IsNumberTurned, size_after, turn_of}
-use Rattle.integer_pivots.proofs.SizesAfter.{after_read, greatest_within, within_after}
-use Rattle.integer_pivots.proofs.Sizes.{number_within}
+use Rattle.integer_pivots.specs.Lines.{IsLine}
+use Rattle.integer_pivots.specs.Turns.{IsTurnedLine, denominator_after, turn_at, turned_number}
 use Rattle.table_kernel.specs.declared.kernel.Kernel.{Kernel}
-use Rattle.table_kernel.specs.Turnings.{IsReadyToTurn, LowsStay, StaysWithin}
+use Rattle.table_kernel.specs.Turns.{constant_size, line_of, turn_of_line}
+use Rattle.table_kernel.proofs.Shares.{factor_within}
 
-pub entries_read : (k : Kernel) (t : Turn) (p : ℤ) (along across : ℕ) → p ≡ t.pivot → t.common ≡ k.common →
-    along ≡ greatest_of k.along.items → across ≡ greatest_of k.line.items → LowsStay k p along across
-    ↔ (nat_abs k.weight * size_after t.pivot t.common (nat_abs k.reach) (greatest_of k.along.items)
-    (greatest_of k.line.items) ≤ 2 ^ 22)
-entries_read k t p along across p_is common_is along_is across_is =
-    let same = after_read t.pivot t.common (nat_abs k.reach) (greatest_of k.along.items) (greatest_of k.line.items) p
-    k.common (nat_abs k.reach) along across p_is (sym common_is) refl along_is across_is in (
-      λ stay. subst (λ (n : ℕ). nat_abs k.weight * n ≤ 2 ^ 22) same stay,
-      λ stay. subst (λ (n : ℕ). nat_abs k.weight * n ≤ 2 ^ 22) (sym same) stay,
+pos_same : (a b : ℕ) → pos a ≡ pos b → a ≡ b
+pos_same a b same = ap nat_abs same
+
+-- a value over a common multiple is the same whichever of two denominators it stands over before
+pub same_over : (c t m d C A B : ℕ) → c * m ≡ t * d → A * m ≡ C → B * d ≡ C → 0 < m → 0 < d → c * B ≡ t * A
+same_over c t m d C A B same first second m_some d_some =
+    let one : (pos c *ℤ pos m) ≡ (pos t *ℤ pos d) = ap pos same in
+    let other : (pos B *ℤ pos d) ≡ (pos A *ℤ pos m) = ap pos (second ∙ sym first) in
+    pos_same (c * B) (t * A)
+    (cancel (m * d) (pos c *ℤ pos B) (pos t *ℤ pos A) (product_positive m d m_some d_some)
+    (ring_by (pos c ∷ pos t ∷ pos m ∷ pos d ∷ pos A ∷ pos B ∷ []) ((var 0 ⊗ var 5) ⊗ (var 2 ⊗ var 3)) ((var 1 ⊗ var 4) ⊗ (var 2 ⊗ var 3))
+    (using (var 5 ⊗ var 3) (var 0 ⊗ var 2) (var 1 ⊗ var 3) one (using (var 1 ⊗ var 3) (var 5 ⊗ var 3) (var 4 ⊗ var 2) other nothing)) refl))
+
+-- a turned constant over the common denominator
+pub constant_same : (turn : Turn) (column : ℕ) (entering old new : Line) (C : ℕ) → IsTurnedLine turn column entering old new →
+    0 < nat_abs old.denominator * nat_abs turn.multiplier →
+    (nat_abs old.denominator * nat_abs turn.multiplier) ∣ C → nat_abs new.denominator ∣ C →
+    nat_abs new.constant * (C / nat_abs new.denominator)
+    ≡ nat_abs (turned_number turn old.constant entering.constant) * (C / (nat_abs old.denominator * nat_abs turn.multiplier))
+constant_same turn column entering old new C t some first second =
+    let m = nat_abs old.denominator * nat_abs turn.multiplier in
+    let d = nat_abs new.denominator in
+    let moved = turned_number turn old.constant entering.constant in
+    let same : nat_abs new.constant * m ≡ nat_abs moved * d =
+    ap (λ (n : ℕ). nat_abs new.constant * n) (sym (unsigned_abs-mul old.denominator turn.multiplier))
+    ∙ sym (unsigned_abs-mul new.constant (old.denominator *ℤ turn.multiplier))
+    ∙ ap nat_abs t.constant
+    ∙ unsigned_abs-mul moved new.denominator in
+    same_over (nat_abs new.constant) (nat_abs moved) m d C (C / m) (C / d) same (div-mul_cancel m first) (div-mul_cancel d second) some (size_positive new.denominator t.positive)
+
+-- a number that stays within the limit with a share that is positive is within it itself
+pub within_share : (n share : ℕ) → 0 < share → n * share ≤ 2 ^ 44 → n ≤ 2 ^ 62
+within_share n share some product =
+    let small = factor_within n share (2 ^ 44) (omega (arith, some)) product in
+    omega (arith, small)
+
+-- a number without a factor is 0, and then the multiplier is 1
+no_number : (z : ℤ) (g : ℕ) → g ∣ nat_abs z → exact_quotient z g ≡ pos 0 → z ≡ pos 0
+no_number z g divides none =
+    sym (over-mul z g (div-mul_cancel g divides)) ∙ ap (λ (y : ℤ). y *ℤ pos g) none ∙ ring (pos g ∷ []) (num (pos 0) ⊗ var 0) (num (pos 0)) refl
+
+-- a line whose factor is 0 stays as it is
+module _ (entering line : Line) (column : ℕ) (none : (turn_at entering column line).factor ≡ pos 0) where
+  abbrev turn : Turn
+  turn = turn_at entering column line
+
+  zero_here : number_at line.numbers column ≡ pos 0
+  zero_here =
+      let here = number_at line.numbers column in
+      let there = number_at entering.numbers column in
+      no_number here (gcd (nat_abs here) (nat_abs there)) (gcd_is (nat_abs here) (nat_abs there)).0 none
+
+  same : (z e : ℤ) → (z *ℤ (line.denominator *ℤ turn.multiplier)) ≡ (turned_number turn z e *ℤ line.denominator)
+  same z e =
+      ring_by (z ∷ line.denominator ∷ turn.multiplier ∷ turn.factor ∷ e ∷ []) (var 0 ⊗ (var 1 ⊗ var 2)) (((var 2 ⊗ var 0) ⊖ (var 3 ⊗ var 4)) ⊗ var 1)
+      (using (var 4 ⊗ var 1) (var 3) (num (pos 0)) none nothing) refl
+
+  own_same : (number_at line.numbers column *ℤ (line.denominator *ℤ turn.multiplier)) ≡ ((turn.factor *ℤ entering.denominator) *ℤ line.denominator)
+  own_same =
+      ring_by (number_at line.numbers column ∷ line.denominator ∷ turn.multiplier ∷ turn.factor ∷ entering.denominator ∷ [])
+      (var 0 ⊗ (var 1 ⊗ var 2)) ((var 3 ⊗ var 4) ⊗ var 1)
+      (using (var 1 ⊗ var 2) (var 0) (num (pos 0)) zero_here (using (num (negsuc 0) ⊗ (var 4 ⊗ var 1)) (var 3) (num (pos 0)) none nothing)) refl
+
+  pub stays : IsLine line → IsTurnedLine turn column entering line line
+  stays l = record {
+    positive = l.positive;
+    count = refl;
+    constant = same line.constant entering.constant;
+    others = λ c c_in other. same (number_at line.numbers c) (number_at entering.numbers c);
+    own = own_same;
+  }
+
+-- what the test of a constant tells, by what it is given
+pub constant_told : (k : Kernel) (column v C : ℕ) (answer : Bool) (z : ℤ) (share : ℕ) →
+    z ≡ turned_number (turn_of_line k column v) (line_of k v).constant k.entering.constant →
+    share ≡ C / denominator_after k.entering column (line_of k v) → IsTrue answer ↔ (nat_abs z * share ≤ 2 ^ 44) →
+    IsTrue answer ↔ (constant_size k column C v ≤ 2 ^ 44)
+constant_told k column v C answer z share z_is share_is told =
+    let same : nat_abs z * share ≡ constant_size k column C v =
+    ap (λ (y : ℤ). nat_abs y * share) z_is
+    ∙ ap (λ (s : ℕ). nat_abs (turned_number (turn_of_line k column v) (line_of k v).constant k.entering.constant) * s) share_is in (
+      λ holds. subst (λ (n : ℕ). n ≤ 2 ^ 44) same (told.0 holds),
+      λ small. told.1 (subst (λ (n : ℕ). n ≤ 2 ^ 44) (sym same) small),
     )
-
-difference_size : (x y : ℤ) → nat_abs (x -ℤ y) ≤ nat_abs x + nat_abs y
-difference_size x y = omega (arith, ints)
-
--- the size of a number after a turn, over the old denominator
-pub turned_size : (p d r z y new : ℤ) (m n : ℕ) → nat_abs y ≤ m → nat_abs r ≤ n → IsNumberTurned (turn_of p d r) z y new →
-    nat_abs new * nat_abs d ≤ nat_abs p * nat_abs z + m * n
-turned_size p d r z y new m n y_small r_small is =
-    let product = unsigned_abs-mul new d in
-    let difference = difference_size (p *ℤ z) (y *ℤ r) in
-    let first = unsigned_abs-mul p z in
-    let second = unsigned_abs-mul y r in
-    let more : nat_abs y * nat_abs r ≤ m * n = mul-le-mul y_small r_small in
-    omega (arith, product, ap nat_abs is, difference, first, second, more)
-
--- a constant stays within its limit
-pub limit_stays : (p d r z y new : ℤ) (most m : ℕ) → 0 < nat_abs d → nat_abs z ≤ most → nat_abs y ≤ m →
-    size_after p d most m (nat_abs r) ≤ 2 ^ 39 → IsNumberTurned (turn_of p d r) z y new → nat_abs new ≤ 2 ^ 39
-limit_stays p d r z y new most m d_positive z_small y_small enough is =
-    let size = turned_size p d r z y new m (nat_abs r) y_small (let e : nat_abs r ≤ nat_abs r = omega arith in e) is in
-    le_trans (within_after (nat_abs p) most m (nat_abs r) (nat_abs d) (nat_abs z) (nat_abs new) d_positive z_small size) enough
-
--- a number that the turn of a row makes is small: times the weight it is within the limit
-turned_stays : (k : Kernel) (t : Turn) (var column : ℕ) (new : ℤ) → IsReadyToTurn k → StaysWithin k t → t.common ≡ k.common →
-    AllWithin (nat_abs k.reach) (slice_index_or k.lows.items var []) →
-    IsNumberTurned (turn_of t.pivot k.common (number_at k.line.items column))
-    (number_at (slice_index_or k.lows.items var []) column) (number_at k.along.items var) new →
-    nat_abs k.weight * nat_abs new ≤ 2 ^ 22
-turned_stays k t var column new r s common_is row turned =
-    let y = number_at k.along.items var in
-    let olds = slice_index_or k.lows.items var [] in
-    let along = greatest_of k.along.items in
-    let across = greatest_of k.line.items in
-    let size = turned_size t.pivot k.common (number_at k.line.items column) (number_at olds column) y new along across
-    (number_within along k.along.items var (greatest_within k.along.items))
-    (number_within across k.line.items column (greatest_within k.line.items))
-    turned in
-    let after : nat_abs new ≤ size_after t.pivot k.common (nat_abs k.reach) along across =
-    within_after (nat_abs t.pivot) (nat_abs k.reach) along across (nat_abs k.common) (nat_abs (number_at olds column)) (nat_abs new)
-    (omega (arith, ints, r.common.0)) (number_within (nat_abs k.reach) olds column row) size in
-    le_trans (mul-le-mul_left (nat_abs k.weight) after)
-    (subst (λ (d : ℤ). nat_abs k.weight * size_after t.pivot d (nat_abs k.reach) along across ≤ 2 ^ 22) common_is s.entries)
-
--- so it is within the limit over the weight
-pub turned_within : (k : Kernel) (t : Turn) (var : ℕ) → IsReadyToTurn k → StaysWithin k t → t.common ≡ k.common →
-    AllWithin (nat_abs k.reach) (slice_index_or k.lows.items var []) →
-    AreTurnedWithin t.pivot k.common (number_at k.along.items var) k.line.items (slice_index_or k.lows.items var [])
-    (2 ^ 22 / nat_abs k.weight)
-turned_within k t var r s common_is row column column_in new turned =
-    let product = turned_stays k t var column new r s common_is row turned in
-    let some : 0 < nat_abs k.weight = omega (arith, ints, r.weight) in
-    (le-div_iff_mul-le {k = nat_abs k.weight} {x = nat_abs new} {y = 2 ^ 22} some).1
-    (subst (λ (m : ℕ). m ≤ 2 ^ 22) (mul_comm (nat_abs k.weight) (nat_abs new)) product)
-
-pub within_limit : (k : Kernel) (n : ℕ) → n ≤ 2 ^ 22 / nat_abs k.weight → nat_abs k.weight * n ≤ 2 ^ 22
-within_limit k n small =
-    let more : nat_abs k.weight * n ≤ nat_abs k.weight * (2 ^ 22 / nat_abs k.weight) = mul-le-mul_left (nat_abs k.weight) small in
-    let enough : nat_abs k.weight * (2 ^ 22 / nat_abs k.weight) ≤ 2 ^ 22 = mul-div-le (2 ^ 22) (nat_abs k.weight) in
-    omega (arith, more, enough)

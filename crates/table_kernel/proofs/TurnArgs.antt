@@ -1,73 +1,63 @@
--- What the turn of a row is given, as it is read.
-use Rattle.std.proofs.Common.{◌≡◌, ℕ, ◌^◌, ◌<◌, ◌≤◌, sym, ◌∙◌, ap, List, [], length, arith}
-use Rattle.std.specs.Prelude.{ℤ, pos, nat_abs, ◌<ℤ◌, ◌≤ℤ◌, slice_index_or}
+-- What the turn of a line is given, as it is read.
+use Rattle.std.proofs.Common.{◌≡◌, ℕ, ◌*◌, ◌^◌, ◌<◌, ◌≤◌, sym, ◌∙◌, ap, subst, length, arith, w64, to_z, of_z}
+use Rattle.std.specs.Prelude.{ℤ, pos, ◌*ℤ◌, nat_abs, ◌<ℤ◌, ◌≤ℤ◌, slice_index_or}
+use Rattle.std.proofs.Math.Nat.{mul-le-mul}
+use Rattle.std.proofs.lemmas.Int.{ints, unsigned_abs-mul}
 use Rattle.std.proofs.lemmas.List.{get_or_default}
-use Rattle.whole_numbers.proofs.Sizes.{factor_most}
-use Rattle.whole_numbers.specs.Lists.{number_at}
-use Rattle.integer_pivots.specs.Numbers.{AllWithin}
-use Rattle.integer_pivots.specs.Turns.{AreSmallTurns}
-use Rattle.integer_pivots.proofs.Sizes.{read, read_number, wider}
-use Rattle.integer_pivots.proofs.Crossings.{item_is}
+use Rattle.integer_pivots.specs.declared.line.Line.{Line}
+use Rattle.integer_pivots.specs.declared.turn.Turn.{Turn}
+use Rattle.integer_pivots.specs.Turns.{denominator_after}
+use Rattle.integer_pivots.specs.Lines.{no_line}
+use Rattle.integer_pivots.proofs.Sizes.{product_read as known_product, read, read_number, size_most}
 use Rattle.table_kernel.specs.declared.kernel.Kernel.{Kernel}
-use Rattle.table_kernel.specs.Turnings.{IsReadyToTurn}
-use Rattle.table_kernel.proofs.Columns.{reach_within}
+use Rattle.table_kernel.specs.Turns.{IsLineReady, IsReadyToTurn, line_of, turn_of_line}
+use Rattle.table_kernel.proofs.LeftColumns.{times_positive}
 
-pub along_number : (k : Kernel) → IsReadyToTurn k → (var : ℕ) → var < length k.lows.items → nat_abs (number_at k.along.items var) ≤ 2 ^ 22
-along_number k r var var_in = r.along var (pos 0) (omega (arith, var_in, r.lows))
+-- each line of a kernel is ready where all numbers are
+pub line_ready : (k : Kernel) (column v : ℕ) → IsReadyToTurn k column → v < length k.lows.items → IsLineReady k column v
+line_ready k column v r v_in = record {
+  inside = r.inside;
+  among = v_in;
+  line = r.lines v no_line v_in;
+  count = r.each v no_line v_in;
+  entering = r.entering;
+  long = r.long;
+  pivot = r.pivot;
+}
 
--- What the turn of a variable's row is given, as it is read.
-pub record IsRowRead (k : Kernel) (var : ℕ) (d w : ℤ) (across row : List ℤ) (columns : List ℕ) : Type 0 where
-  pub common_is : d ≡ k.common
-  pub along_is : w ≡ number_at k.along.items var
-  pub across_is : across ≡ k.line.items
-  pub row_is : row ≡ slice_index_or k.lows.items var []
-  pub columns_is : columns ≡ k.left.items
+-- a line of a kernel, as it is read
+pub line_read : (k : Kernel) (v : ℕ) (line : Line) → v < length k.lows.items → line ≡ slice_index_or k.lows.items v line → line ≡ line_of k v
+line_read k v line v_in is = is ∙ get_or_default k.lows.items v line no_line v_in
 
-pub row_read : (k : Kernel) (var : ℕ) (d w : ℤ) (across row other : List ℤ) (columns : List ℕ) → IsReadyToTurn k →
-    var < length k.lows.items → d ≡ k.common → w ≡ slice_index_or k.along.items var w → across ≡ k.line.items →
-    row ≡ slice_index_or k.lows.items var other → columns ≡ k.left.items → IsRowRead k var d (read w) across row columns
-row_read k var d w across row other columns r var_in common_is w_is across_is row_is columns_is =
-    record {
-      common_is = common_is;
-      along_is = ap read (item_is k.along.items var w w_is (omega (arith, var_in, r.lows)))
-          ∙ read_number (number_at k.along.items var) (omega (arith, along_number k r var var_in));
-      across_is = across_is;
-      row_is = row_is ∙ get_or_default k.lows.items var other [] var_in;
-      columns_is = columns_is;
-    }
+-- a product of positive numbers of at most 2^30, as 64 bits hold it
+pub product_read : (d m : ℤ) → (pos 0 <ℤ d) × (d ≤ℤ pos (2 ^ 30)) → (pos 0 <ℤ m) × (m ≤ℤ pos (2 ^ 30)) →
+    (pos 0 <ℤ read (read d *ℤ read m)) × (read (read d *ℤ read m) ≤ℤ pos (2 ^ 60))
+product_read d m d_is m_is =
+    let d_small : nat_abs d ≤ 2 ^ 30 = size_most d (2 ^ 30) d_is.0 d_is.1 in
+    let m_small : nat_abs m ≤ 2 ^ 30 = size_most m (2 ^ 30) m_is.0 m_is.1 in
+    let most : nat_abs d * nat_abs m ≤ 2 ^ 30 * 2 ^ 30 = mul-le-mul d_small m_small in
+    let size : nat_abs (d *ℤ m) ≡ nat_abs d * nat_abs m = unsigned_abs-mul d m in
+    let same : read (read d *ℤ read m) ≡ (d *ℤ m) = known_product d m d_small m_small in
+    subst (λ (z : ℤ). (pos 0 <ℤ z) × (z ≤ℤ pos (2 ^ 60))) (sym same) (times_positive d m d_is.0 m_is.0, at_most (d *ℤ m) (omega (arith, size, most)))
+  where
+    at_most : (z : ℤ) → nat_abs z ≤ 2 ^ 60 → z ≤ℤ pos (2 ^ 60)
+    at_most z small = omega (arith, ints)
 
--- what holds of the kernel's numbers holds of them as they are read, and the other way round
-pub row_to_read : (P : ℤ → ℤ → List ℤ → List ℤ → List ℕ → Type 0) (k : Kernel) (var : ℕ) (d w : ℤ) (across row : List ℤ)
-    (columns : List ℕ) → IsRowRead k var d w across row columns →
-    P k.common (number_at k.along.items var) k.line.items (slice_index_or k.lows.items var []) k.left.items →
-    P d w across row columns
-row_to_read P k var d w across row columns a holds =
-    rw (a.common_is, a.along_is, a.across_is, a.row_is, a.columns_is) holds
+-- a number by its bits
+pub bits_one : (z : ℤ) → nat_abs z < 2 ^ 63 → of_z w64 z ≡ 1 → z ≡ pos 1
+bits_one z small e = sym (read_number z small) ∙ ap (to_z w64) e
 
-pub row_from_read : (P : ℤ → ℤ → List ℤ → List ℤ → List ℕ → Type 0) (k : Kernel) (var : ℕ) (d w : ℤ)
-    (across row : List ℤ) (columns : List ℕ) → IsRowRead k var d w across row columns → P d w across row columns →
-    P k.common (number_at k.along.items var) k.line.items (slice_index_or k.lows.items var []) k.left.items
-row_from_read P k var d w across row columns a holds =
-    rw (sym a.common_is, sym a.along_is, sym a.across_is, sym a.row_is, sym a.columns_is) holds
+pub bits_none : (z : ℤ) → nat_abs z < 2 ^ 63 → of_z w64 z ≡ 0 → z ≡ pos 0
+bits_none z small e = sym (read_number z small) ∙ ap (to_z w64) e
 
--- the reach is small
-pub reach_small : (k : Kernel) → IsReadyToTurn k → nat_abs k.reach ≤ 2 ^ 22
-reach_small k r = reach_within k.reach k.weight r.weight r.product
-
--- and so is the weight
-pub weight_small : (k : Kernel) → IsReadyToTurn k → nat_abs k.weight ≤ 2 ^ 22
-weight_small k r = factor_most k.reach k.weight (2 ^ 22) r.reach r.product
-
--- the turns of a row of a kernel are small
-pub row_small : (k : Kernel) (p : ℤ) (var : ℕ) → IsReadyToTurn k → (pos 0 <ℤ p) × (p ≤ℤ pos (2 ^ 22)) →
-    var < length k.lows.items → AllWithin (nat_abs k.reach) (slice_index_or k.lows.items var []) →
-    AreSmallTurns p k.common (number_at k.along.items var) k.line.items (slice_index_or k.lows.items var [])
-row_small k p var r p_small var_in row =
-    record {
-      count = r.each var [] var_in;
-      pivot_small = p_small;
-      common_small = r.common;
-      along_small = along_number k r var var_in;
-      across_small = r.line;
-      numbers_small = wider (nat_abs k.reach) (2 ^ 39) (slice_index_or k.lows.items var []) (omega (arith, reach_small k r)) row;
-    }
+-- the denominator after the pivot, as it is made
+pub after_read : (k : Kernel) (column v : ℕ) (line : Line) (turn : Turn) → IsLineReady k column v → line ≡ line_of k v → turn ≡ turn_of_line k column v →
+    (pos 0 <ℤ turn.multiplier) × (turn.multiplier ≤ℤ pos (2 ^ 30)) →
+    nat_abs (read line.denominator) * nat_abs (read turn.multiplier) ≡ denominator_after k.entering column (line_of k v)
+after_read k column v line turn r line_is turn_is small =
+    let d_small : nat_abs (line_of k v).denominator ≤ 2 ^ 30 = size_most (line_of k v).denominator (2 ^ 30) r.line.positive r.line.denominator in
+    let m_small : nat_abs turn.multiplier ≤ 2 ^ 30 = size_most turn.multiplier (2 ^ 30) small.0 small.1 in
+    ap (λ (l : Line). nat_abs (read l.denominator) * nat_abs (read turn.multiplier)) line_is
+    ∙ ap (λ (z : ℤ). nat_abs z * nat_abs (read turn.multiplier)) (read_number (line_of k v).denominator (omega (arith, d_small)))
+    ∙ ap (λ (z : ℤ). nat_abs (line_of k v).denominator * nat_abs z) (read_number turn.multiplier (omega (arith, m_small)))
+    ∙ ap (λ (t : Turn). nat_abs (line_of k v).denominator * nat_abs t.multiplier) turn_is

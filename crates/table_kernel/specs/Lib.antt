@@ -1,7 +1,11 @@
 pub mod Numbers
+pub mod Bases
 pub mod Kernels
+pub mod Starts
+pub mod Restated
+pub mod Lines
+pub mod Constants
+pub mod Choices
 pub mod Turns
 pub mod Moves
-pub mod Restated
-pub mod Choices
-pub mod Turnings
+pub mod Rows

@@ -1,26 +1,40 @@
--- What a bound that moves makes of a kernel. No public clause cites it.
-use Rattle.std.specs.Prelude.{◌≡◌, ℕ, ◌≤◌, List, ℤ, pos, ◌-ℤ◌, ◌*ℤ◌, Option, None, Some, length, slice_set, vec_capacity}
+-- What a bound that moves makes of a kernel, and how far bounds may move.
+use Rattle.std.specs.Prelude.{◌≡◌, ℕ, ◌+◌, ◌*◌, ◌^◌, ◌<◌, ◌≤◌, List, [], ◌∷◌, ℤ, pos, ◌+ℤ◌, ◌-ℤ◌, ◌*ℤ◌, nat_abs, max, Option, None, Some, map, length, slice_index_or, slice_set}
 use Rattle.whole_numbers.specs.Lists.{number_at}
+use Rattle.design_problem.specs.declared.form.CostBox.{CostBox}
 use Rattle.design_problem.specs.declared.tree.Member.{Member}
 use Rattle.fraction_table.specs.Moves.{IsColumnOf, put_at}
-use Rattle.integer_pivots.specs.Numbers.{more_sums}
+use Rattle.integer_pivots.specs.declared.line.Line.{Line}
+use Rattle.integer_pivots.specs.Lines.{no_line}
+use Rattle.integer_pivots.specs.Numbers.{greatest_of}
 use Rattle.table_kernel.specs.declared.kernel.Kernel.{Kernel}
-use Rattle.table_kernel.specs.Turns.{along_numbers}
+use Rattle.table_kernel.specs.Numbers.{share_of}
 
--- The constants after a bound's form fell: its own is less by that many times the denominator, where it isn't in the
--- basis; else each other rises by its number at that column times the fall, and its own is 0.
-abbrev pub shifted_constants : Kernel → Option ℕ → ℕ → ℤ → List ℤ
-shifted_constants k None own fall = slice_set k.constants.items own (number_at k.constants.items own -ℤ (k.common *ℤ fall))
-shifted_constants k (Some column) own fall = slice_set (more_sums k.constants.items fall (along_numbers k column)) own (pos 0)
+-- the line with another constant
+abbrev pub with_constant : Line → ℤ → Line
+with_constant line constant = record { denominator = line.denominator; constant = constant; numbers = line.numbers; reach = line.reach }
 
--- the constants and the basis after a bound moved
-pub record IsKernelShifted (old new : Kernel) (own : ℕ) (before after : Member) (fall : ℤ) : Type 0 where
-  pub column : Option ℕ
-  pub found : IsColumnOf old.table.basis.items before column
-  pub basis : new.table.basis.items ≡ put_at column after old.table.basis.items
-  pub constants : new.constants.items ≡ shifted_constants old column own fall
+-- the line whose constant rises by its number at a column times the fall
+abbrev pub raised_line : ℕ → ℤ → Line → Line
+raised_line column fall line = with_constant line (line.constant +ℤ (fall *ℤ number_at line.numbers column))
 
--- what a bound that moves leaves, but for the box
+-- The lines of x - low after the form x - low of a variable fell: its own constant is less by that many times its
+-- denominator, where the form isn't in the basis; else each other rises by its number at that column times the fall, and
+-- its own is 0.
+abbrev pub lines_after_low : List Line → Option ℕ → ℕ → ℤ → List Line
+lines_after_low lines None var fall =
+    slice_set lines var (with_constant (slice_index_or lines var no_line)
+    ((slice_index_or lines var no_line).constant -ℤ ((slice_index_or lines var no_line).denominator *ℤ fall)))
+lines_after_low lines (Some column) var fall =
+    slice_set (map (raised_line column fall) lines) var (with_constant (slice_index_or lines var no_line) (pos 0))
+
+-- The lines of x - low after the form high - x of a variable fell: they stay where the form isn't in the basis; else each
+-- rises by its number at that column times the fall.
+abbrev pub lines_after_high : List Line → Option ℕ → ℤ → List Line
+lines_after_high lines None fall = lines
+lines_after_high lines (Some column) fall = map (raised_line column fall) lines
+
+-- what a bound that moves leaves, but for the box, the basis and the constants of lines
 pub record KeepsInMove (old new : Kernel) : Type 0 where
   pub top : new.table.top ≡ old.table.top
   pub rows : new.table.rows ≡ old.table.rows
@@ -28,11 +42,42 @@ pub record KeepsInMove (old new : Kernel) : Type 0 where
   pub quotients : new.table.quotients ≡ old.table.quotients
   pub scratch : new.table.scratch ≡ old.table.scratch
   pub common : new.common ≡ old.common
-  pub reach : new.reach ≡ old.reach
-  pub weight : new.weight ≡ old.weight
-  pub lows : new.lows ≡ old.lows
   pub leads : new.leads ≡ old.leads
-  pub uses : new.uses ≡ old.uses
-  pub line : length new.line.items ≡ length old.line.items
-  pub along : length new.along.items ≡ length old.along.items
-  pub left : vec_capacity old.left ≤ vec_capacity new.left
+  pub constants : new.constants ≡ old.constants
+  pub left : new.left ≡ old.left
+  pub entering : new.entering ≡ old.entering
+
+-- the basis after a bound's form fell, the member `after` in the place of `before`
+pub record IsBasisMoved (old new : Kernel) (before after : Member) (column : Option ℕ) : Type 0 where
+  pub found : IsColumnOf old.table.basis.items before column
+  pub basis : new.table.basis.items ≡ put_at column after old.table.basis.items
+
+-- the sum of the differences of two lists, place by place
+abbrev pub distance_of : List ℕ → List ℕ → ℕ
+distance_of [] ys = 0
+distance_of (x ∷ xs) [] = 0
+distance_of (x ∷ xs) (y ∷ ys) = nat_abs (pos y -ℤ pos x) + distance_of xs ys
+
+-- how far the bounds of two boxes are from each other
+abbrev pub box_distance : CostBox → CostBox → ℕ
+box_distance old new = distance_of old.low new.low + distance_of old.high new.high
+
+-- how far a line's constant can move where a bound moves by 1: its greatest number, or its denominator
+abbrev pub step_of : Line → ℕ
+step_of line = max (greatest_of line.numbers) (nat_abs line.denominator)
+
+-- a line's constant stays within its limit where the bounds move this far
+abbrev pub LineMayMove : ℕ → ℕ → Line → Type 0
+LineMayMove common far line = (nat_abs line.constant + far * step_of line) * share_of common line ≤ 2 ^ 44
+
+-- all constants of x - low stay within their limit where the bounds move this far
+abbrev pub MayMove : Kernel → ℕ → Type 0
+MayMove k far = (var : ℕ) → var < length k.lows.items → LineMayMove (nat_abs k.common) far (slice_index_or k.lows.items var no_line)
+
+-- a move keeps the rows, the width, and all of the lines but their constants
+pub record KeepsOfBox (old new : Kernel) : Type 0 where
+  pub top : new.table.top ≡ old.table.top
+  pub rows : new.table.rows ≡ old.table.rows
+  pub width : length new.table.costs.low ≡ length old.table.costs.low
+  pub common : new.common ≡ old.common
+  pub lows : length new.lows.items ≡ length old.lows.items

@@ -1,120 +1,129 @@
--- What the work on a kernel needs and leaves: its room, the choice of a column, a turn, a row more, and another box.
-use Rattle.std.specs.Prelude.{◌≡◌, ◌≢◌, ℕ, ◌+◌, ◌*◌, ◌^◌, ◌<◌, ◌≤◌, List, [], ◌∷◌, ℤ, pos, ◌-ℤ◌, ◌*ℤ◌, ◌+ℤ◌, ◌<ℤ◌, ◌≤ℤ◌, nat_abs, Option, None, Some, map, length, vec_capacity, vec_len}
-use Rattle.cost_base.specs.Lists.{numbers_from}
+-- When a kernel may turn at a pivot, and what is left where it may not.
+use Rattle.std.specs.Prelude.{◌≡◌, ◌≢◌, ℕ, ◌*◌, ◌/◌, ◌^◌, ◌<◌, ◌≤◌, ◌⊎◌, pos, ◌<ℤ◌, ◌≤ℤ◌, nat_abs, Some, length, slice_index_or, All}
+use Prim.Native.Nat.{◌∣◌}
 use Rattle.whole_numbers.specs.Lists.{number_at}
-use Rattle.design_problem.specs.declared.form.CostBox.{CostBox}
-use Rattle.design_problem.specs.declared.form.Form.{Form}
-use Rattle.design_problem.specs.Basis.{member_form}
-use Rattle.design_problem.specs.Forms.{value_for_costs}
-use Rattle.fraction_table.specs.PivotForms.{IsPivotForm}
-use Rattle.fraction_table.specs.Pivots.{LeadsNoNegative, member_at, turned_column}
-use Rattle.fraction_table.specs.RowLines.{HasPlace}
-use Rattle.fraction_table.specs.ValidTables.{members_of_box}
-use Rattle.integer_pivots.specs.Numbers.{AllWithin, product_sum, weight_of}
-use Rattle.integer_pivots.specs.Uses.{HaveRoom, held_in}
+use Rattle.integer_pivots.specs.declared.line.Line.{Line}
+use Rattle.integer_pivots.specs.declared.turn.Turn.{Turn}
+use Rattle.integer_pivots.specs.Leads.{AreLeads}
+use Rattle.integer_pivots.specs.Lines.{IsLine, no_line, rows_of}
+use Rattle.integer_pivots.specs.Numbers.{AllWithin}
+use Rattle.integer_pivots.specs.Turns.{AreTurnedLines, IsTurnedLine, StaysSmall, common_after, denominator_after, turn_at, turned_number}
 use Rattle.table_kernel.specs.declared.kernel.Kernel.{Kernel}
-use Rattle.table_kernel.specs.Numbers.{number_at_column}
+use Rattle.table_kernel.specs.Constants.{AreConstantsPut}
 use Rattle.table_kernel.specs.Kernels.{width_of}
+use Rattle.table_kernel.specs.Lines.{IsBestColumn, IsEntering, IsLineTooLarge, IsPivotPlace}
+use Rattle.table_kernel.specs.Numbers.{share_of}
 
--- the kernels differ in their room alone
-pub record KeepsNumbers (old new : Kernel) : Type 0 where
+-- the line of x - low for a variable
+abbrev pub line_of : Kernel → ℕ → Line
+line_of k var = slice_index_or k.lows.items var no_line
+
+-- how a variable's line turns at a column
+abbrev pub turn_of_line : Kernel → ℕ → ℕ → Turn
+turn_of_line k column var = turn_at k.entering column (line_of k var)
+
+-- the common denominator after a pivot at a column
+abbrev pub next_common : Kernel → ℕ → ℕ
+next_common k column = common_after k.entering column k.lows.items (nat_abs k.common)
+
+-- the size of the constant of x - low for a variable after a pivot, over a common denominator
+abbrev pub constant_size : Kernel → ℕ → ℕ → ℕ → ℕ
+constant_size k column common var =
+    nat_abs (turned_number (turn_of_line k column var) (line_of k var).constant k.entering.constant) * (common / denominator_after k.entering column (line_of k var))
+
+-- all lines of x - low stay small in a turn at a column
+abbrev pub LinesStaySmall : Kernel → ℕ → Type 0
+LinesStaySmall k column = (var : ℕ) → var < length k.lows.items → StaysSmall (turn_of_line k column var) (line_of k var) k.entering
+
+-- all constants of x - low stay small, over a common denominator
+abbrev pub ConstantsStaySmall : Kernel → ℕ → ℕ → Type 0
+ConstantsStaySmall k column common = (var : ℕ) → var < length k.lows.items → constant_size k column common var ≤ 2 ^ 44
+
+-- the bounds cover the turn at a column by the entering line
+pub record MayTurn (k : Kernel) (column : ℕ) : Type 0 where
+  pub lines : LinesStaySmall k column
+  pub common : next_common k column ≤ 2 ^ 30
+  pub constants : ConstantsStaySmall k column (next_common k column)
+
+-- the pivot at a place's line and its best column isn't covered
+pub record IsRefusedAt (k : Kernel) (place : ℕ) : Type 0 where
+  pub column : ℕ
+  pub entering : IsEntering k place
+  pub best : IsBestColumn k (Some column)
+  pub refused : MayTurn k column → ⊥
+
+-- the pivot that is due, at the pivot form, isn't covered: its line isn't, or the turn isn't
+pub record IsHeldUp (k : Kernel) : Type 0 where
+  pub place : ℕ
+  pub due : IsPivotPlace k place
+  pub cause : IsLineTooLarge k place ⊎ IsRefusedAt k place
+
+-- what the turn of a kernel at a column needs of its numbers
+pub record IsReadyToTurn (k : Kernel) (column : ℕ) : Type 0 where
+  pub inside : column < width_of k
+  pub lows : length k.lows.items ≡ width_of k
+  pub each : All (λ line. length line.numbers ≡ width_of k) k.lows.items
+  pub lines : All IsLine k.lows.items
+  pub divides : All (λ line. nat_abs line.denominator ∣ nat_abs k.common) k.lows.items
+  pub common : (pos 0 <ℤ k.common) × (k.common ≤ℤ pos (2 ^ 30))
+  pub entering : IsLine k.entering
+  pub long : length k.entering.numbers ≡ width_of k
+  pub pivot : pos 0 <ℤ number_at k.entering.numbers column
+
+-- what the turn of one variable's line at a column needs
+pub record IsLineReady (k : Kernel) (column var : ℕ) : Type 0 where
+  pub inside : column < width_of k
+  pub among : var < length k.lows.items
+  pub line : IsLine (line_of k var)
+  pub count : length (line_of k var).numbers ≡ width_of k
+  pub entering : IsLine k.entering
+  pub long : length k.entering.numbers ≡ width_of k
+  pub pivot : pos 0 <ℤ number_at k.entering.numbers column
+
+-- the line's numbers, its constant and its denominator stay small in that turn
+pub record MayLineTurn (k : Kernel) (column var : ℕ) : Type 0 where
+  pub small : StaysSmall (turn_of_line k column var) (line_of k var) k.entering
+  pub constant : nat_abs (turned_number (turn_of_line k column var) (line_of k var).constant k.entering.constant) ≤ 2 ^ 62
+  pub denominator : denominator_after k.entering column (line_of k var) ≤ 2 ^ 30
+
+-- what a turn of lines leaves as it is
+pub record KeepsAllButLows (old new : Kernel) : Type 0 where
   pub table : new.table ≡ old.table
   pub common : new.common ≡ old.common
-  pub reach : new.reach ≡ old.reach
-  pub weight : new.weight ≡ old.weight
-  pub lows : new.lows ≡ old.lows
   pub leads : new.leads ≡ old.leads
   pub constants : new.constants ≡ old.constants
-  pub uses : new.uses ≡ old.uses
-  pub line : length new.line.items ≡ length old.line.items
-  pub along : length new.along.items ≡ length old.along.items
-  pub left : vec_capacity old.left ≤ vec_capacity new.left
+  pub left : new.left ≡ old.left
+  pub entering : new.entering ≡ old.entering
 
--- the form of a place
-abbrev pub form_of_place : Kernel → ℕ → Form
-form_of_place k place = member_form (width_of k) k.table.rows.items (member_at k.table place)
+-- a variable's line has turned at a column: it is small, its denominator goes into the common one after the pivot, and it
+-- stands for the turned numbers; the others are as before
+pub record IsLineTurned (old new : Kernel) (column var : ℕ) : Type 0 where
+  pub count : length new.lows.items ≡ length old.lows.items
+  pub line : IsLine (line_of new var)
+  pub turned : IsTurnedLine (turn_of_line old column var) column old.entering (line_of old var) (line_of new var)
+  pub divides : nat_abs (line_of new var).denominator ∣ denominator_after old.entering column (line_of old var)
+  pub others : (v : ℕ) → v ≢ var → line_of new v ≡ line_of old v
 
--- the numbers of x - low for each variable at a column
-abbrev pub column_of : Kernel → ℕ → List ℤ
-column_of k column = map (λ row. number_at row column) k.lows.items
+-- all lines have turned at a column
+pub record AreLinesTurned (old new : Kernel) (column : ℕ) : Type 0 where
+  pub turned : AreTurnedLines old.entering column old.lows.items new.lows.items
+  pub lines : All IsLine new.lows.items
+  pub divides : (v : ℕ) → v < length old.lows.items → nat_abs (line_of new v).denominator ∣ denominator_after old.entering column (line_of old v)
 
--- the numbers of a place's form at the columns
-abbrev pub numbers_of_place : Kernel → ℕ → List ℤ
-numbers_of_place k place = map (λ column. number_at_column (form_of_place k place) (column_of k column)) (numbers_from 0 (width_of k))
-
--- the numbers of all forms at a column
-abbrev pub along_numbers : Kernel → ℕ → List ℤ
-along_numbers k column =
-    map (λ member. number_at_column (member_form (width_of k) k.table.rows.items member) (column_of k column)) (members_of_box k.table.costs (length k.table.rows.items))
-
--- the first column, over its positive number in the line, doesn't come after the second one over its own
-abbrev pub IsNotAfterInKernel : Kernel → ℕ → ℕ → Type 0
-IsNotAfterInKernel k first second =
-    LeadsNoNegative (turned_column (nat_abs (number_at k.line.items first)) (column_of k second) (number_at k.line.items second) (column_of k first))
-
--- a best of the columns in which the line is positive; none where it is positive in none
-abbrev pub IsBestColumn : Kernel → Option ℕ → Type 0
-IsBestColumn k None = (c : ℕ) → c < width_of k → number_at k.line.items c ≤ℤ pos 0
-IsBestColumn k (Some best) =
-    (best < width_of k) × (pos 0 <ℤ number_at k.line.items best)
-    × ((c : ℕ) → c < width_of k → c ≢ best → pos 0 <ℤ number_at k.line.items c → IsNotAfterInKernel k best c)
-
--- the pivot form of a kernel, by its place
-abbrev pub IsPivotPlace : Kernel → ℕ → Type 0
-IsPivotPlace k place = IsPivotForm (width_of k) k.table.rows.items (number_at k.constants.items) place
-
--- a form's constant at the basis, by those of x - low
-abbrev pub row_constant_of : Kernel → Form → ℤ
-row_constant_of k f = (k.common *ℤ value_for_costs f k.table.costs.low) +ℤ product_sum f.coefficients k.constants.items
-
--- the kernel's bounds hold with the row, too
-pub record IsCovered (k : Kernel) (f : Form) : Type 0 where
-  pub product : weight_of f * nat_abs k.reach ≤ 2 ^ 22
-  pub constant : nat_abs (row_constant_of k f) ≤ 2 ^ 39
-
--- the kernels hold the same numbers
-pub record HoldsNumbers (old new : Kernel) : Type 0 where
-  pub common : new.common ≡ old.common
-  pub reach : new.reach ≡ old.reach
-  pub weight : new.weight ≡ old.weight
-  pub lows : new.lows.items ≡ old.lows.items
-  pub leads : new.leads ≡ old.leads
-  pub constants : new.constants.items ≡ old.constants.items
-  pub uses : held_in new.uses.items ≡ held_in old.uses.items
-  pub line : new.line.items ≡ old.line.items
-  pub left : vec_capacity old.left ≤ vec_capacity new.left
-  pub along : new.along.items ≡ old.along.items
-
--- there is a place for one more form, its lines, its numbers and its uses
-pub record HasRowPlace (k : Kernel) : Type 0 where
-  pub table : HasPlace k.table
-  pub constants : vec_len k.constants < vec_capacity k.constants
-  pub along : vec_len k.along < vec_capacity k.along
-  pub uses : HaveRoom k.uses.items
-
--- how far a constant can move where a bound moves by 1: the greatest number of a form at a column, or the denominator
-abbrev pub step_of : Kernel → ℕ
-step_of k = nat_abs k.reach * nat_abs k.weight + nat_abs k.common
-
--- the sum of the differences of two lists, place by place
-abbrev pub distance_of : List ℕ → List ℕ → ℕ
-distance_of [] ys = 0
-distance_of (x ∷ xs) [] = 0
-distance_of (x ∷ xs) (y ∷ ys) = nat_abs (pos y -ℤ pos x) + distance_of xs ys
-
--- how far the bounds of two boxes are from each other
-abbrev pub box_distance : CostBox → CostBox → ℕ
-box_distance old new = distance_of old.low new.low + distance_of old.high new.high
-
--- the constants stay within their limit where the bounds move this far
-abbrev pub MayMove : Kernel → ℕ → Type 0
-MayMove k far = (most : ℕ) × (AllWithin most k.constants.items × (most + far * step_of k ≤ 2 ^ 39))
-
--- a move keeps what bounds the numbers
-pub record KeepsNumberBounds (old new : Kernel) : Type 0 where
-  pub top : new.table.top ≡ old.table.top
-  pub rows : new.table.rows ≡ old.table.rows
-  pub width : length new.table.costs.low ≡ length old.table.costs.low
-  pub common : new.common ≡ old.common
-  pub reach : new.reach ≡ old.reach
-  pub weight : new.weight ≡ old.weight
+-- what the turn of all numbers at a column leaves
+pub record HasTurned (old new : Kernel) (column : ℕ) : Type 0 where
+  pub table : new.table ≡ old.table
+  pub left : new.left ≡ old.left
+  pub entering : new.entering ≡ old.entering
+  pub common : nat_abs new.common ≡ next_common old column
+  pub positive : pos 0 <ℤ new.common
+  pub small : new.common ≤ℤ pos (2 ^ 30)
+  pub turned : AreTurnedLines old.entering column old.lows.items new.lows.items
+  pub lines : All IsLine new.lows.items
+  pub divides : All (λ line. nat_abs line.denominator ∣ nat_abs new.common) new.lows.items
+  pub limit : All (λ line. nat_abs line.constant * share_of (nat_abs new.common) line ≤ 2 ^ 44) new.lows.items
+  pub leads_count : length new.leads.items ≡ length old.leads.items
+  pub leads : AreLeads (rows_of old.lows.items) old.leads.items → AreLeads (rows_of new.lows.items) new.leads.items
+  pub constants : AreConstantsPut new new.constants.items
+  pub constants_small : AllWithin (2 ^ 62) new.constants.items
+  pub constants_count : length new.constants.items ≡ length old.constants.items

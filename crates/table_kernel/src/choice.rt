@@ -1,9 +1,9 @@
 //! The choice of a pivot's column.
 ghost use Rattle.std.specs.Prelude.{◌≡◌, ◌+◌, ◌^◌, ◌<◌, length, vec_capacity, vec_len};
-ghost use Rattle.integer_pivots.specs.Numbers.{AllWithin};
+ghost use Rattle.integer_pivots.specs.Lines.{IsLine, rows_of};
 ghost use Rattle.table_kernel.specs.Choices.{AreColumnsLeft};
 ghost use Rattle.table_kernel.specs.Kernels.{IsKernel};
-ghost use Rattle.table_kernel.specs.Turns.{IsBestColumn, KeepsNumbers};
+ghost use Rattle.table_kernel.specs.Lines.{IsBestColumn, KeepsNumbers};
 
 use crate::Kernel;
 use integer_pivots::{keep_least, put_latest};
@@ -12,29 +12,29 @@ impl Kernel {
     /// Keeps of the columns that are left those in which the variable's number, over the line's, is least.
     fn look_at(&mut self, var: usize)
         requires kernel { IsKernel self.old }
-        requires line { AllWithin (2 ^ 22) self.old.line.items }
+        requires line { IsLine self.old.entering }
         requires var { var < length self.old.lows.items }
         requires some { 0 < vec_len self.old.left }
-        requires left { AreColumnsLeft self.old.lows.items self.old.line.items var self.old.left.items }
-        ensures left { AreColumnsLeft self.new.lows.items self.new.line.items (var + 1) self.new.left.items }
+        requires left { AreColumnsLeft (rows_of self.old.lows.items) self.old.entering.numbers var self.old.left.items }
+        ensures left { AreColumnsLeft (rows_of self.new.lows.items) self.new.entering.numbers (var + 1) self.new.left.items }
         ensures some { 0 < vec_len self.new.left }
         ensures room { vec_capacity self.new.left ≡ vec_capacity self.old.left }
         ensures keeps { self.new ≡ record self.old { left = self.new.left } }
     {
         keep_least(
             &mut self.left,
-            self.lows[var].as_slice(),
-            self.line.as_slice(),
+            self.lows[var].numbers.as_slice(),
+            self.entering.numbers.as_slice(),
         );
     }
 
     /// Looks at one variable after the other from this one on, as long as several columns are left.
     fn look_at_all(&mut self, first: usize)
         requires kernel { IsKernel self.old }
-        requires line { AllWithin (2 ^ 22) self.old.line.items }
+        requires line { IsLine self.old.entering }
         requires some { 0 < vec_len self.old.left }
-        requires left { AreColumnsLeft self.old.lows.items self.old.line.items first self.old.left.items }
-        ensures left { AreColumnsLeft self.new.lows.items self.new.line.items (length self.new.lows.items) self.new.left.items }
+        requires left { AreColumnsLeft (rows_of self.old.lows.items) self.old.entering.numbers first self.old.left.items }
+        ensures left { AreColumnsLeft (rows_of self.new.lows.items) self.new.entering.numbers (length self.new.lows.items) self.new.left.items }
         ensures some { 0 < vec_len self.new.left }
         ensures room { vec_capacity self.new.left ≡ vec_capacity self.old.left }
         ensures keeps { self.new ≡ record self.old { left = self.new.left } }
@@ -51,12 +51,16 @@ impl Kernel {
     /// at the forms x - low, in order. The first number of a column is positive, so those that lead latest come first.
     pub fn choose(&mut self) -> Option<usize>
         requires kernel { IsKernel self.old }
-        requires line { AllWithin (2 ^ 22) self.old.line.items }
+        requires line { IsLine self.old.entering }
         ensures best { IsBestColumn self.old result }
-        ensures line { self.new.line ≡ self.old.line }
+        ensures entering { self.new.entering ≡ self.old.entering }
         ensures keeps { KeepsNumbers self.old self.new }
     {
-        let latest = put_latest(&mut self.left, self.line.as_slice(), self.leads.as_slice());
+        let latest = put_latest(
+            &mut self.left,
+            self.entering.numbers.as_slice(),
+            self.leads.as_slice(),
+        );
         if self.left.is_empty() {
             return None;
         }

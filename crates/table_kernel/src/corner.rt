@@ -20,8 +20,8 @@ fn size_of(number: i64) -> u128
 
 /// A low bound times the scale, and what stands above it.
 fn raised(low: u16, scale: u128, above: u128) -> u128
-    requires scale { scale ≤ 2 ^ 22 }
-    requires above { above ≤ 2 ^ 39 }
+    requires scale { scale ≤ 2 ^ 30 }
+    requires above { above ≤ 2 ^ 44 }
     ensures { result ≡ low * scale + above }
 {
     u128::from(low) * scale + above
@@ -47,7 +47,7 @@ impl Kernel {
     fn put_values(&self, divisor: u128, scale: u128, into: &mut Listed<u128>)
         requires kernel { IsKernel self.now }
         requires positive { 0 < divisor }
-        requires scale { scale ≤ 2 ^ 22 }
+        requires scale { scale ≤ 2 ^ 30 }
         requires places { length into.old ≡ width_of self.now }
         ensures places { length into.new ≡ width_of self.now }
         ensures values { (var : ℕ) → var < width_of self.now →

@@ -1,180 +1,254 @@
-//! The numbers of one form at all columns, and of all forms at one column.
-ghost use Rattle.std.specs.Prelude.{◌≡◌, ℕ, ◌^◌, ◌+◌, ◌<◌, ◌≤◌, [], neg_ℤ, pos, nat_abs, length, map, slice_index_or, All};
+//! The line of a form at the kernel's basis, and its numbers over the common denominator.
+ghost use Rattle.std.specs.Prelude.{◌≡◌, ℕ, suc, ◌*◌, ◌/◌, ◌^◌, ◌+◌, ◌<◌, ◌≤◌, pos, ◌*ℤ◌, ◌-ℤ◌, ◌<ℤ◌, ◌≤ℤ◌, nat_abs, map, length, slice_index, slice_index_or, All, OnErr, OnOk};
+ghost use Prim.Native.Nat.{◌∣◌};
 ghost use Rattle.whole_numbers.specs.Lists.{number_at};
 ghost use Rattle.design_problem.specs.Basis.{IsFormOf, member_form};
 ghost use Rattle.design_problem.specs.Forms.{no_form};
-ghost use Rattle.integer_pivots.specs.Numbers.{AllWithin, weight_of};
-ghost use Rattle.integer_pivots.specs.Uses.{held_in, uses_by};
+ghost use Rattle.integer_pivots.specs.Lines.{IsLine};
+ghost use Rattle.integer_pivots.specs.Numbers.{AllWithin};
 ghost use Rattle.table_kernel.specs.Kernels.{IsKernel, IsMoving, width_of};
-ghost use Rattle.table_kernel.specs.Numbers.{number_at_column};
-ghost use Rattle.table_kernel.specs.Turns.{KeepsNumbers, along_numbers, column_of, numbers_of_place};
+ghost use Rattle.table_kernel.specs.Lines.{IsEntering, IsLineTooLarge, KeepsNumbers, column_of, factors_of};
+ghost use Rattle.table_kernel.specs.Numbers.{number_at_column, scaled_line, share_of};
+ghost use Rattle.table_kernel.specs.Rows.{IsCovered};
+ghost use Rattle.table_kernel.specs.Turns.{line_of};
 
 use crate::Kernel;
+use crate::kernel::OutOfRange;
 use cost_base::Listed;
 use design_problem::{Form, Member};
-use integer_pivots::{Use, clear, put_multiple, put_scaled, put_uses};
+use fraction_table::range_of;
+use integer_pivots::{ENTRY_LIMIT, FACTOR_LIMIT, Line, clear, put_multiple};
 
-/// A form's number at a column, by the numbers of x - low for each variable: the sum of its coefficients times these.
-fn row_entry(form: &Form, lows: &[Listed<i64>], column: usize) -> i64
+/// How often a denominator goes into a common multiple.
+fn share_in(common: i64, denominator: i64) -> i64
+    requires common { (pos 0 <ℤ common) × (common ≤ℤ pos (2 ^ 30)) }
+    requires denominator { pos 0 <ℤ denominator }
+    requires divides { nat_abs denominator ∣ nat_abs common }
+    ensures share { result ≡ pos (nat_abs common / nat_abs denominator) }
+    ensures times { (result *ℤ denominator) ≡ common }
+    ensures positive { pos 1 ≤ℤ result }
+    ensures size { result ≤ℤ pos (2 ^ 30) }
+{
+    if common == 1 {
+        return 1;
+    }
+    common / denominator
+}
+
+/// A term's factor times a number, both of which are small.
+fn product_of(factor: i64, number: i128) -> i128
+    requires factor { nat_abs factor ≤ 2 ^ 30 }
+    requires number { nat_abs number ≤ 2 ^ 60 }
+    ensures { result ≡ (factor *ℤ number) }
+{
+    i128::from(factor) * number
+}
+
+/// Puts a line in place of another, with another sign and another constant.
+fn put_signed_line(into: &mut Line, line: &Line, sign: i64, constant: i64)
+    requires line { IsLine line.now }
+    requires count { length into.old.numbers ≡ length line.now.numbers }
+    requires sign { nat_abs sign ≡ 1 }
+    ensures count { length into.new.numbers ≡ length line.now.numbers }
+    ensures numbers { (c : ℕ) → c < length line.now.numbers → number_at into.new.numbers c ≡ (sign *ℤ number_at line.now.numbers c) }
+    ensures denominator { into.new.denominator ≡ line.now.denominator }
+    ensures constant { into.new.constant ≡ constant }
+    ensures reach { into.new.reach ≡ line.now.reach }
+{
+    into.denominator = line.denominator;
+    into.constant = constant;
+    into.reach = line.reach;
+    let numbers = line.numbers.as_slice();
+    for column in 0..numbers.len() {
+        into.numbers.set(column, sign * numbers[column]);
+    }
+}
+
+/// Puts a form's numbers over a common denominator in place of numbers: the sum of its coefficients, each times its
+/// variable's line.
+fn put_sums(sums: &mut Listed<i64>, form: &Form, lows: &[Line], common: i64)
     requires count { length form.now.coefficients ≤ length lows.now }
-    requires light { weight_of form.now ≤ 2 ^ 22 }
-    requires long { All (λ row. column < length row) lows.now }
-    requires small { All (AllWithin (2 ^ 22)) lows.now }
-    ensures { result ≡ number_at_column form.now (map (λ row. number_at row column) lows.now) }
+    requires common { (pos 0 <ℤ common) × (common ≤ℤ pos (2 ^ 30)) }
+    requires lines { All IsLine lows.now × All (λ line. nat_abs line.denominator ∣ nat_abs common) lows.now }
+    requires long { All (λ line. length line.numbers ≡ length sums.old) lows.now }
+    requires factors { factors_of (nat_abs common) form.now.coefficients lows.now ≤ 2 ^ 32 }
+    ensures count { length sums.new ≡ length sums.old }
+    ensures numbers { (c : ℕ) → c < length sums.old →
+        number_at sums.new c ≡ number_at_column form.now (map (λ row. number_at row (suc c)) (map (scaled_line (nat_abs common)) lows.now)) }
+    ensures sizes { AllWithin (2 ^ 62) sums.new }
 {
-    let mut sum = 0;
+    clear(sums);
     for term in form.terms() {
-        sum += term.coefficient * lows[term.var as usize].as_slice()[column];
+        let line = &lows[term.var as usize];
+        let factor = term.coefficient * share_in(common, line.denominator);
+        put_multiple(sums, factor, line.numbers.as_slice());
     }
-    sum
-}
-
-/// Puts a form's numbers at the columns in place of `line`: the sum of its coefficients, each times its variable's
-/// numbers.
-fn put_sums(line: &mut [i64], form: &Form, lows: &[Listed<i64>])
-    requires count { length form.now.coefficients ≤ length lows.now }
-    requires light { weight_of form.now ≤ 2 ^ 22 }
-    requires long { All (λ row. length row ≡ length line.old) lows.now }
-    requires small { All (AllWithin (2 ^ 22)) lows.now }
-    ensures { (column : ℕ) → column < length line.old → number_at line.new column ≡ number_at_column form.now (map (λ row. number_at row column) lows.now) }
-{
-    clear(line);
-    for term in form.terms() {
-        put_multiple(line, term.coefficient, lows[term.var as usize].as_slice());
-    }
-}
-
-/// Puts the numbers of x - low and of high - x for each variable at a column in front of `along`.
-fn put_bounds(along: &mut [i64], lows: &[Listed<i64>], column: usize)
-    requires room { length lows.now + length lows.now ≤ length along.old }
-    requires long { All (λ row. column < length row) lows.now }
-    requires small { All (AllWithin (2 ^ 22)) lows.now }
-    ensures low { (v : ℕ) → v < length lows.now → number_at along.new v ≡ number_at (slice_index_or lows.now v []) column }
-    ensures high { (v : ℕ) → v < length lows.now → number_at along.new (length lows.now + v) ≡ neg_ℤ (number_at (slice_index_or lows.now v []) column) }
-{
-    let width = lows.len();
-    for var in 0..width {
-        let number = lows[var].as_slice()[column];
-        along[var] = number;
-        along[width + var] = -number;
-    }
-}
-
-/// Puts 0 at the place of each row in `along`.
-fn clear_rows(along: &mut [i64], rows: &[Form], first: usize)
-    requires room { first + length rows.now ≤ length along.old }
-    ensures before { (v : ℕ) → v < first → number_at along.new v ≡ number_at along.old v }
-    ensures rows { (row : ℕ) → row < length rows.now → number_at along.new (first + row) ≡ pos 0 }
-{
-    for row in 0..rows.len() {
-        along[first + row] = 0;
-    }
-}
-
-/// Puts each row's number at a column at its place in `along`, by those of x - low, which stand first there.
-fn put_rows(along: &mut [i64], rows: &[Form], uses: &[Vec<Use>], first: usize)
-    requires room { first + length rows.now ≤ length along.old }
-    requires uses { held_in uses.now ≡ uses_by rows.now (length uses.now) }
-    requires before { length uses.now ≤ first }
-    requires count { All (λ f. length f.coefficients ≤ length uses.now) rows.now }
-    requires light { All (λ f. weight_of f ≤ 2 ^ 22) rows.now }
-    requires small { (v : ℕ) → v < first → nat_abs (number_at along.old v) ≤ 2 ^ 22 }
-    ensures before { (v : ℕ) → v < first → number_at along.new v ≡ number_at along.old v }
-    ensures rows { (row : ℕ) → row < length rows.now → number_at along.new (first + row) ≡ number_at_column (slice_index_or rows.now row no_form) along.old }
-{
-    clear_rows(along, rows, first);
-    for var in 0..uses.len() {
-        let number = along[var];
-        put_uses(along, &uses[var], number, first);
-    }
-}
-
-/// Puts the numbers of all forms at a column into `along`: of x - low, of high - x and of the rows.
-fn put_forms(
-    along: &mut [i64],
-    rows: &[Form],
-    uses: &[Vec<Use>],
-    lows: &[Listed<i64>],
-    column: usize,
-)
-    requires room { length lows.now + length lows.now + length rows.now ≤ length along.old }
-    requires uses { held_in uses.now ≡ uses_by rows.now (length lows.now) }
-    requires count { All (λ f. length f.coefficients ≤ length lows.now) rows.now }
-    requires light { All (λ f. weight_of f ≤ 2 ^ 22) rows.now }
-    requires long { All (λ row. column < length row) lows.now }
-    requires small { All (AllWithin (2 ^ 22)) lows.now }
-    ensures low { (v : ℕ) → v < length lows.now → number_at along.new v ≡ number_at (slice_index_or lows.now v []) column }
-    ensures high { (v : ℕ) → v < length lows.now → number_at along.new (length lows.now + v) ≡ neg_ℤ (number_at (slice_index_or lows.now v []) column) }
-    ensures rows { (row : ℕ) → row < length rows.now →
-        number_at along.new (length lows.now + length lows.now + row) ≡
-        number_at_column (slice_index_or rows.now row no_form) (map (λ row. number_at row column) lows.now) }
-{
-    put_bounds(along, lows, column);
-    put_rows(along, rows, uses, lows.len() + lows.len());
 }
 
 impl Kernel {
-    /// The number of a member's form at a column.
-    pub fn entry(&self, member: Member, column: usize) -> i64
+    /// How often the denominator of a variable's line goes into the common one.
+    pub fn share(&self, var: usize) -> i64
+        requires kernel { IsMoving self.now }
+        requires var { var < width_of self.now }
+        ensures share { result ≡ pos (share_of (nat_abs self.now.common) (line_of self.now var)) }
+        ensures times { (result *ℤ (line_of self.now var).denominator) ≡ self.now.common }
+        ensures positive { pos 1 ≤ℤ result }
+        ensures size { result ≤ℤ pos (2 ^ 30) }
+    {
+        share_in(self.common, self.lows[var].denominator)
+    }
+
+    /// A variable's number of x - low at a column, over the common denominator.
+    fn low_entry(&self, var: usize, column: usize) -> i128
+        requires kernel { IsKernel self.now }
+        requires var { var < width_of self.now }
+        requires column { column < width_of self.now }
+        ensures number { result ≡ number_at (column_of self.now column) var }
+        ensures size { nat_abs result ≤ 2 ^ 60 }
+    {
+        i128::from(self.lows[var].numbers.as_slice()[column]) * i128::from(self.share(var))
+    }
+
+    /// A row's number at a column, over the common denominator: the sum of its coefficients times the variables' numbers.
+    fn row_entry(&self, form: &Form, column: usize) -> i128
+        requires kernel { IsKernel self.now }
+        requires count { length form.now.coefficients ≤ width_of self.now }
+        requires light { IsCovered form.now }
+        requires column { column < width_of self.now }
+        ensures number { result ≡ number_at_column form.now (column_of self.now column) }
+        ensures size { nat_abs result ≤ 2 ^ 76 }
+    {
+        let mut sum = 0;
+        for term in form.terms() {
+            sum += product_of(term.coefficient, self.low_entry(term.var as usize, column));
+        }
+        sum
+    }
+
+    /// The number of a member's form at a column, over the common denominator.
+    pub fn entry(&self, member: Member, column: usize) -> i128
         requires kernel { IsKernel self.now }
         requires member { IsFormOf self.now.table.costs self.now.table.rows.items member }
         requires column { column < width_of self.now }
-        ensures { result ≡ number_at_column (member_form (width_of self.now) self.now.table.rows.items member) (column_of self.now column) }
+        ensures number { result ≡ number_at_column (member_form (width_of self.now) self.now.table.rows.items member) (column_of self.now column) }
+        ensures size { nat_abs result ≤ 2 ^ 76 }
     {
         match member {
-            Member::Low(var, _) => self.lows[var as usize].as_slice()[column],
-            Member::High(var, _) => -self.lows[var as usize].as_slice()[column],
-            Member::Row(row) => row_entry(
-                &self.table.rows[row as usize],
-                self.lows.as_slice(),
-                column,
-            ),
+            Member::Low(var, _) => self.low_entry(var as usize, column),
+            Member::High(var, _) => -self.low_entry(var as usize, column),
+            Member::Row(row) => self.row_entry(&self.table.rows[row as usize], column),
         }
     }
 
-    /// Puts the numbers of a place's form at the columns into `line`.
-    pub fn put_line(&mut self, place: usize)
-        requires kernel { IsMoving self.old }
+    /// Puts a variable's line in place of the entering one, with another sign.
+    fn put_signed(&mut self, var: usize, sign: i64, constant: i64)
+        requires kernel { IsKernel self.old }
+        requires var { var < width_of self.old }
+        requires sign { nat_abs sign ≡ 1 }
+        ensures numbers { (c : ℕ) → c < width_of self.old → number_at self.new.entering.numbers c ≡ (sign *ℤ number_at (line_of self.old var).numbers c) }
+        ensures denominator { self.new.entering.denominator ≡ (line_of self.old var).denominator }
+        ensures constant { self.new.entering.constant ≡ constant }
+        ensures line { IsLine self.new.entering }
+        ensures keeps { KeepsNumbers self.old self.new }
+    {
+        put_signed_line(&mut self.entering, &self.lows[var], sign, constant);
+    }
+
+    /// The constant of high - x for a variable, over its line's denominator.
+    fn high_constant(&self, var: usize) -> i64
+        requires kernel { IsKernel self.now }
+        requires var { var < width_of self.now }
+        ensures { result ≡ (((pos (slice_index self.now.table.costs.high var) -ℤ pos (slice_index self.now.table.costs.low var)) *ℤ (line_of self.now var).denominator) -ℤ (line_of self.now var).constant) }
+    {
+        let low = self.table.costs.low.as_slice()[var];
+        let high = self.table.costs.high.as_slice()[var];
+        range_of(low, high) * self.lows[var].denominator - self.lows[var].constant
+    }
+
+    /// The sum of the sizes of the factors of which a row's line is made.
+    fn factor_sum(&self, form: &Form) -> i64
+        requires kernel { IsKernel self.now }
+        requires count { length form.now.coefficients ≤ width_of self.now }
+        requires light { IsCovered form.now }
+        ensures sum { result ≡ pos (factors_of (nat_abs self.now.common) form.now.coefficients self.now.lows.items) }
+        ensures size { result ≤ℤ pos (2 ^ 46) }
+    {
+        let mut sum = 0;
+        for term in form.terms() {
+            sum += term.coefficient.abs() * self.share(term.var as usize);
+        }
+        sum
+    }
+
+    /// Puts a row's numbers over the common denominator in place of the entering line's.
+    fn put_row_numbers(&mut self, row: usize)
+        requires kernel { IsKernel self.old }
+        requires row { row < length self.old.table.rows.items }
+        requires factors { factors_of (nat_abs self.old.common) (slice_index_or self.old.table.rows.items row no_form).coefficients self.old.lows.items ≤ 2 ^ 32 }
+        ensures count { length self.new.entering.numbers ≡ width_of self.old }
+        ensures numbers { (c : ℕ) → c < width_of self.old →
+            number_at self.new.entering.numbers c ≡ number_at_column (slice_index_or self.old.table.rows.items row no_form) (column_of self.old c) }
+        ensures sizes { AllWithin (2 ^ 62) self.new.entering.numbers }
+        ensures keeps { KeepsNumbers self.old self.new }
+    {
+        put_sums(
+            &mut self.entering.numbers,
+            &self.table.rows[row],
+            self.lows.as_slice(),
+            self.common,
+        );
+    }
+
+    /// Puts a row's line in place of the entering one.
+    ///
+    /// # Errors
+    ///
+    /// `OutOfRange` where the factors of which it is made, or its numbers in lowest terms, pass the bounds.
+    fn put_row_line(&mut self, row: usize, place: usize) -> Result<(), OutOfRange>
+        requires kernel { IsKernel self.old }
+        requires row { row < length self.old.table.rows.items }
+        requires place { place ≡ width_of self.old + width_of self.old + row }
+        ensures line { OnOk result (IsEntering self.new place) }
+        ensures large { OnErr result (IsLineTooLarge self.new place) }
+        ensures keeps { KeepsNumbers self.old self.new }
+    {
+        if self.factor_sum(&self.table.rows[row]) > FACTOR_LIMIT {
+            return Err(OutOfRange);
+        }
+        self.put_row_numbers(row);
+        self.entering.denominator = self.common;
+        self.entering.constant = self.constants[place];
+        self.entering.reduce();
+        if self.entering.reach > ENTRY_LIMIT {
+            return Err(OutOfRange);
+        }
+        Ok(())
+    }
+
+    /// Puts the line of a place's form in place of the entering one.
+    ///
+    /// # Errors
+    ///
+    /// `OutOfRange` where the kernel's bounds don't cover the line, which they do for the forms of the box.
+    pub fn put_line(&mut self, place: usize) -> Result<(), OutOfRange>
+        requires kernel { IsKernel self.old }
         requires place { place < length self.old.constants.items }
-        ensures line { self.new.line.items ≡ numbers_of_place self.old place }
-        ensures within { AllWithin (2 ^ 22) self.new.line.items }
-        ensures along { self.new.along ≡ self.old.along }
+        ensures line { OnOk result (IsEntering self.new place) }
+        ensures large { OnErr result (IsLineTooLarge self.new place) }
         ensures keeps { KeepsNumbers self.old self.new }
     {
         match self.table.member_at(place) {
-            Member::Low(var, _) => put_scaled(
-                self.line.as_mut_slice(),
-                1,
-                self.lows[var as usize].as_slice(),
-            ),
-            Member::High(var, _) => put_scaled(
-                self.line.as_mut_slice(),
-                -1,
-                self.lows[var as usize].as_slice(),
-            ),
-            Member::Row(row) => put_sums(
-                self.line.as_mut_slice(),
-                &self.table.rows[row as usize],
-                self.lows.as_slice(),
-            ),
+            Member::Low(var, _) => {
+                let constant = self.lows[var as usize].constant;
+                self.put_signed(var as usize, 1, constant);
+                Ok(())
+            }
+            Member::High(var, _) => {
+                let constant = self.high_constant(var as usize);
+                self.put_signed(var as usize, -1, constant);
+                Ok(())
+            }
+            Member::Row(row) => self.put_row_line(row as usize, place),
         }
-    }
-
-    /// Puts the numbers of all forms at a column into `along`.
-    pub fn put_along(&mut self, column: usize)
-        requires kernel { IsMoving self.old }
-        requires column { column < width_of self.old }
-        ensures along { self.new.along.items ≡ along_numbers self.old column }
-        ensures within { AllWithin (2 ^ 22) self.new.along.items }
-        ensures line { self.new.line ≡ self.old.line }
-        ensures keeps { KeepsNumbers self.old self.new }
-    {
-        put_forms(
-            self.along.as_mut_slice(),
-            self.table.rows.as_slice(),
-            self.uses.as_slice(),
-            self.lows.as_slice(),
-            column,
-        );
     }
 }

@@ -1,17 +1,18 @@
 //! The move of the kernel to another box, bound by bound.
-ghost use Rattle.std.specs.Prelude.{◌≡◌, ℕ, ◌^◌, ◌+◌, ◌<◌, ◌≤◌, ◌↔◌, pos, ◌-ℤ◌, length, ◌*◌, ◌<ℤ◌, ◌≤ℤ◌, nat_abs, slice_index, All, IsTrue, OnErr, OnOk};
+ghost use Rattle.std.specs.Prelude.{◌≡◌, ℕ, ◌^◌, ◌+◌, ◌*◌, ◌<◌, ◌≤◌, ◌↔◌, pos, ◌-ℤ◌, ◌<ℤ◌, ◌≤ℤ◌, nat_abs, length, map, slice_index, All, IsTrue, Option, OnErr, OnOk};
 ghost use Rattle.design_problem.specs.Boxes.{IsBox, with_high, with_low};
 ghost use Rattle.fraction_table.specs.Moves.{IsMoved, KeepsTableRows};
 ghost use Rattle.fraction_table.specs.Tableaus.{FitsBox};
+ghost use Rattle.integer_pivots.specs.Lines.{IsLine};
 ghost use Rattle.table_kernel.specs.Kernels.{IsKernel, IsMoving, stated, width_of};
-ghost use Rattle.table_kernel.specs.Moves.{IsKernelShifted, KeepsInMove};
-ghost use Rattle.table_kernel.specs.Turns.{KeepsNumberBounds, MayMove, box_distance, distance_of, step_of};
+ghost use Rattle.table_kernel.specs.Moves.{IsBasisMoved, KeepsInMove, KeepsOfBox, LineMayMove, MayMove, box_distance, distance_of, lines_after_high, lines_after_low, raised_line, step_of};
+ghost use Rattle.table_kernel.specs.Turns.{line_of};
 
 use crate::Kernel;
 use crate::kernel::OutOfRange;
 use design_problem::{CostBox, Member};
 use fraction_table::{column_of, range_of};
-use integer_pivots::{CONSTANT_LIMIT, greatest, put_multiple};
+use integer_pivots::{CONSTANT_LIMIT, Line, greatest};
 
 /// The sum of the differences of two lists, place by place.
 fn distance(first: &[u16], second: &[u16]) -> i64
@@ -27,37 +28,65 @@ fn distance(first: &[u16], second: &[u16]) -> i64
     sum
 }
 
-/// Whether so many steps fit in the room.
-fn steps_fit(steps: i64, step: i64, room: i64) -> bool
-    requires steps { pos 0 ≤ℤ steps }
-    requires step { pos 0 <ℤ step }
-    requires room { pos 0 ≤ℤ room }
-    ensures { IsTrue result ↔ (nat_abs steps * nat_abs step ≤ nat_abs room) }
+/// How far a line's constant can move where a bound moves by 1.
+fn step(line: &Line) -> i64
+    requires line { IsLine line.now }
+    ensures exact { result ≡ pos (step_of line.now) }
+    ensures size { (pos 0 <ℤ result) × (result ≤ℤ pos (2 ^ 30)) }
 {
-    steps <= room / step
+    let most = greatest(line.numbers.as_slice());
+    if most < line.denominator {
+        line.denominator
+    } else {
+        most
+    }
+}
+
+/// Lets the constant of each line rise by its number at a column times a fall.
+fn raise(lines: &mut [Line], column: usize, fall: i64)
+    requires long { All (λ line. column < length line.numbers) lines.old }
+    requires lines { All IsLine lines.old }
+    requires constants { All (λ line. nat_abs line.constant ≤ 2 ^ 44) lines.old }
+    requires fall { nat_abs fall < 2 ^ 16 }
+    ensures { lines.new ≡ map (raised_line column fall) lines.old }
+{
+    for var in 0..lines.len() {
+        let number = lines[var].numbers.as_slice()[column];
+        lines[var].constant += fall * number;
+    }
 }
 
 impl Kernel {
-    /// Moves the constants where a bound's form falls, and the member in the basis: `own` is the place of the form,
-    /// `before` its member as it stands in the basis, and `after` the one that takes its place there. Where it isn't in
-    /// the basis, its own constant falls; else those of all others rise, and its own stays 0.
-    fn shift(&mut self, own: usize, before: Member, after: Member, fall: i64)
+    /// Moves the lines where the form x - low of a variable falls, and the member in the basis.
+    fn shift_low(&mut self, var: usize, before: Member, after: Member, fall: i64)
         requires kernel { IsMoving self.old }
-        requires own { own < length self.old.constants.items }
-        requires small { nat_abs fall ≤ 2 ^ 22 }
-        ensures shifted { IsKernelShifted self.old self.new own before after fall }
+        requires var { var < width_of self.old }
+        requires fall { nat_abs fall < 2 ^ 16 }
+        ensures shifted { (column : Option ℕ) × (IsBasisMoved self.old self.new before after column × (self.new.lows.items ≡ lines_after_low self.old.lows.items column var fall)) }
         ensures keeps { KeepsInMove self.old self.new }
         ensures costs { self.new.table.costs ≡ self.old.table.costs }
     {
         match column_of(self.table.basis.as_slice(), before) {
-            None => self.constants[own] -= self.common * fall,
+            None => self.lows[var].constant -= self.lows[var].denominator * fall,
             Some(column) => {
-                let column = column as usize;
-                self.put_along(column);
-                put_multiple(self.constants.as_mut_slice(), fall, self.along.as_slice());
-                self.constants[own] = 0;
-                self.table.basis[column] = after;
+                raise(self.lows.as_mut_slice(), column as usize, fall);
+                self.lows[var].constant = 0;
+                self.table.basis[column as usize] = after;
             }
+        }
+    }
+
+    /// Moves the lines where the form high - x of a variable falls, and the member in the basis.
+    fn shift_high(&mut self, before: Member, after: Member, fall: i64)
+        requires kernel { IsMoving self.old }
+        requires fall { nat_abs fall < 2 ^ 16 }
+        ensures shifted { (column : Option ℕ) × (IsBasisMoved self.old self.new before after column × (self.new.lows.items ≡ lines_after_high self.old.lows.items column fall)) }
+        ensures keeps { KeepsInMove self.old self.new }
+        ensures costs { self.new.table.costs ≡ self.old.table.costs }
+    {
+        if let Some(column) = column_of(self.table.basis.as_slice(), before) {
+            raise(self.lows.as_mut_slice(), column as usize, fall);
+            self.table.basis[column as usize] = after;
         }
     }
 
@@ -68,7 +97,7 @@ impl Kernel {
         requires room { MayMove self.old (nat_abs (pos bound -ℤ pos (slice_index self.old.table.costs.low var))) }
         ensures kernel { IsMoving self.new }
         ensures moved { IsMoved (stated self.old) (with_low self.old.table.costs var bound) (stated self.new) }
-        ensures keeps { KeepsNumberBounds self.old self.new }
+        ensures keeps { KeepsOfBox self.old self.new }
         ensures room { (more : ℕ) → MayMove self.old (nat_abs (pos bound -ℤ pos (slice_index self.old.table.costs.low var)) + more) → MayMove self.new more }
     {
         let place = var as usize;
@@ -77,7 +106,7 @@ impl Kernel {
             return;
         }
         let fall = range_of(low, bound);
-        self.shift(place, Member::Low(var, low), Member::Low(var, bound), fall);
+        self.shift_low(place, Member::Low(var, low), Member::Low(var, bound), fall);
         self.table.costs.low.set(place, bound);
     }
 
@@ -88,7 +117,7 @@ impl Kernel {
         requires room { MayMove self.old (nat_abs (pos (slice_index self.old.table.costs.high var) -ℤ pos bound)) }
         ensures kernel { IsMoving self.new }
         ensures moved { IsMoved (stated self.old) (with_high self.old.table.costs var bound) (stated self.new) }
-        ensures keeps { KeepsNumberBounds self.old self.new }
+        ensures keeps { KeepsOfBox self.old self.new }
         ensures room { (more : ℕ) → MayMove self.old (nat_abs (pos (slice_index self.old.table.costs.high var) -ℤ pos bound) + more) → MayMove self.new more }
     {
         let place = var as usize;
@@ -97,34 +126,40 @@ impl Kernel {
             return;
         }
         let fall = range_of(bound, high);
-        let own = self.width() + place;
-        self.shift(own, Member::High(var, high), Member::High(var, bound), fall);
+        self.shift_high(Member::High(var, high), Member::High(var, bound), fall);
         self.table.costs.high.set(place, bound);
     }
 
-    /// How far a constant can move where a bound moves by 1.
-    fn step(&self) -> i64
+    /// Whether a variable's constant stays within its limit where the bounds move so far.
+    fn line_may_move(&self, var: usize, far: i64) -> bool
         requires kernel { IsKernel self.now }
-        ensures exact { result ≡ pos (step_of self.now) }
-        ensures positive { pos 0 <ℤ result }
+        requires var { var < width_of self.now }
+        requires far { (pos 0 ≤ℤ far) × (far ≤ℤ pos (2 ^ 61)) }
+        ensures { IsTrue result ↔ LineMayMove (nat_abs self.now.common) (nat_abs far) (line_of self.now var) }
     {
-        self.reach * self.weight + self.common
+        let line = &self.lows[var];
+        let most = u128::from(line.constant.unsigned_abs()) + far as u128 * step(line) as u128;
+        most * self.share(var) as u128 <= CONSTANT_LIMIT as u128
     }
 
-    /// Whether the constants stay within their limit wherever the bounds move.
+    /// Whether all constants stay within their limit where the bounds move to those of another box.
     fn moves_within(&self, costs: &CostBox) -> bool
         requires kernel { IsKernel self.now }
         requires ranges { IsBox (width_of self.now) costs.now }
         ensures { IsTrue result ↔ MayMove self.now (box_distance self.now.table.costs costs.now) }
     {
-        let most = greatest(self.constants.as_slice());
         let lows = distance(self.table.costs.low.as_slice(), costs.low.as_slice());
         let highs = distance(self.table.costs.high.as_slice(), costs.high.as_slice());
-        let step = self.step();
-        steps_fit(lows + highs, step, CONSTANT_LIMIT - most)
+        for var in 0..self.lows.len() {
+            if !self.line_may_move(var, lows + highs) {
+                return false;
+            }
+        }
+        true
     }
 
-    /// Moves all bounds to those of another box: for each variable, in order, the lower one and then the upper one.
+    /// Moves all bounds to those of another box: for each variable, in order, the lower one and then the upper one. The
+    /// constants of all forms follow.
     ///
     /// # Errors
     ///
@@ -148,6 +183,7 @@ impl Kernel {
             self.move_low(var, low[var as usize]);
             self.move_high(var, high[var as usize]);
         }
+        self.put_constants();
         Ok(())
     }
 }

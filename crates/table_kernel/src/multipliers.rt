@@ -25,7 +25,7 @@ impl Kernel {
         let member = self.table.member_at(place);
         let mut parts = Vec::new(alloc);
         put_fraction(&mut parts, member, Frac::whole(1))?;
-        for column in 0..self.lows.len() {
+        for column in 0..self.width() {
             let entry = fraction_over(self.entry(member, column), self.common, self.table.top);
             put_negated(&mut parts, self.table.basis[column], entry)?;
         }

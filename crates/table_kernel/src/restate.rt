@@ -1,67 +1,80 @@
 //! The table in fractions at the kernel's basis.
-ghost use Rattle.std.specs.Prelude.{◌≡◌, suc, ◌^◌, ◌<◌, ◌≤◌, [], ◌∷◌, pos, ◌<ℤ◌, nat_abs, length, map, slice_index_or, slice_set};
-ghost use Rattle.fraction_rows.specs.TableRows.{AreTableNumbers, IsTableNumber};
+ghost use Rattle.std.specs.Prelude.{◌≡◌, ℕ, suc, ◌<◌, ◌≤◌, [], pos, ◌<ℤ◌, nat_abs, length, slice_index_or, slice_set};
+ghost use Rattle.whole_numbers.specs.Lists.{number_at};
+ghost use Rattle.design_problem.specs.Basis.{IsFormOf, entry, member_form};
+ghost use Rattle.fraction_rows.specs.TableRows.{IsTableNumber, blank_row, nothing};
 ghost use Rattle.fraction_table.specs.Pivots.{KeepsBoxAndRows};
 ghost use Rattle.fraction_table.specs.RowLines.{HasPlace};
 ghost use Rattle.fraction_table.specs.ValidTables.{HasRoom, IsTableau};
-ghost use Rattle.integer_pivots.specs.Numbers.{AllWithin};
-ghost use Rattle.table_kernel.specs.Kernels.{IsKernel, IsMoving, kernel_lines};
-ghost use Rattle.table_kernel.specs.Numbers.{over_common};
-ghost use Rattle.table_kernel.specs.Restated.{KeepsAllButRoom};
+ghost use Rattle.table_kernel.specs.Kernels.{IsKernel, kernel_lines, width_of};
+ghost use Rattle.table_kernel.specs.Lines.{column_of};
+ghost use Rattle.table_kernel.specs.Numbers.{number_at_column, over_common};
+ghost use Rattle.table_kernel.specs.Restated.{KeepsAllButLinesOf};
 
 use crate::Kernel;
-use fraction_rows::TableRow;
+use design_problem::Member;
 use wide_fraction::{Frac, Top};
 
 /// A number over the denominator, in lowest terms.
-pub fn fraction_over(number: i64, common: i64, top: Top) -> Frac
+pub fn fraction_over(number: i128, common: i64, top: Top) -> Frac
     requires positive { pos 0 <ℤ common }
     requires common { nat_abs common ≤ top }
     requires number { nat_abs number ≤ top }
     ensures value { result ≡ over_common (nat_abs common) number }
     ensures number { IsTableNumber top result }
 {
-    match Frac::new(i128::from(number), i128::from(common), top) {
+    match Frac::new(number, i128::from(common), top) {
         Some(fraction) => fraction,
         None => unreachable!(),
     }
 }
 
-/// Makes a line of a constant and of numbers at the columns.
-fn fill(line: &mut TableRow, constant: i64, numbers: &[i64], common: i64, top: Top)
-    requires width { length line.old ≡ suc (length numbers.now) }
-    requires few { length numbers.now < 2 ^ 32 }
-    requires top { 2 ^ 39 ≤ top }
-    requires positive { pos 0 <ℤ common }
-    requires common { nat_abs common ≤ 2 ^ 22 }
-    requires constant { nat_abs constant ≤ 2 ^ 39 }
-    requires numbers { AllWithin (2 ^ 22) numbers.now }
-    ensures line { line.new ≡ map (over_common (nat_abs common)) (constant ∷ numbers.now) }
-    ensures numbers { AreTableNumbers top line.new }
-{
-    line.clear();
-    line.set_constant(fraction_over(constant, common, top));
-    for column in 0..numbers.len() {
-        line.push(column as u32, fraction_over(numbers[column], common, top));
-    }
-}
-
 impl Kernel {
-    /// Puts the line of one place's form into the table.
-    fn restate_line(&mut self, place: usize)
-        requires kernel { IsMoving self.old }
+    /// Puts the constant of a place's form into its line in the table, with 0 at the columns.
+    fn restate_constant(&mut self, place: usize)
+        requires kernel { IsKernel self.old }
         requires place { place < length self.old.constants.items }
-        ensures lines { self.new.table.lines.items ≡ slice_set self.old.table.lines.items place (slice_index_or (kernel_lines self.old) place []) }
-        ensures keeps { KeepsAllButRoom self.old self.new }
+        ensures lines { self.new.table.lines.items ≡ slice_set self.old.table.lines.items place
+            (slice_set (blank_row (width_of self.old)) 0 (over_common (nat_abs self.old.common) (number_at self.old.constants.items place))) }
+        ensures keeps { KeepsAllButLinesOf self.old self.new }
     {
-        self.put_line(place);
-        fill(
-            &mut self.table.lines[place],
-            self.constants[place],
-            self.line.as_slice(),
+        let constant = fraction_over(
+            i128::from(self.constants[place]),
             self.common,
             self.table.top,
         );
+        self.table.lines[place].clear();
+        self.table.lines[place].set_constant(constant);
+    }
+
+    /// Puts a member's number at a column into a line in the table that is 0 from there on.
+    fn restate_entry(&mut self, place: usize, member: Member, column: usize)
+        requires kernel { IsKernel self.old }
+        requires place { place < length self.old.constants.items }
+        requires member { IsFormOf self.old.table.costs self.old.table.rows.items member }
+        requires column { column < width_of self.old }
+        requires zeros { (later : ℕ) → column ≤ later → entry (slice_index_or self.old.table.lines.items place []) (suc later) ≡ nothing }
+        ensures lines { self.new.table.lines.items ≡ slice_set self.old.table.lines.items place
+            (slice_set (slice_index_or self.old.table.lines.items place []) (suc column)
+            (over_common (nat_abs self.old.common) (number_at_column (member_form (width_of self.old) self.old.table.rows.items member) (column_of self.old column)))) }
+        ensures keeps { KeepsAllButLinesOf self.old self.new }
+    {
+        let number = fraction_over(self.entry(member, column), self.common, self.table.top);
+        self.table.lines[place].push(column as u32, number);
+    }
+
+    /// Puts the line of one place's form into the table.
+    fn restate_line(&mut self, place: usize)
+        requires kernel { IsKernel self.old }
+        requires place { place < length self.old.constants.items }
+        ensures lines { self.new.table.lines.items ≡ slice_set self.old.table.lines.items place (slice_index_or (kernel_lines self.old) place []) }
+        ensures keeps { KeepsAllButLinesOf self.old self.new }
+    {
+        let member = self.table.member_at(place);
+        self.restate_constant(place);
+        for column in 0..self.width() {
+            self.restate_entry(place, member, column);
+        }
     }
 
     /// Puts the lines of all forms into the table.

@@ -1,13 +1,13 @@
 //! The work towards an answer: pivots, until the constants show one.
-ghost use Rattle.std.specs.Prelude.{ℕ, ◌+◌, ◌<◌, ◌↔◌, length, pos, ◌<ℤ◌, IsTrue, IfOk, OnErr};
+ghost use Rattle.std.specs.Prelude.{◌+◌, ◌<◌, ◌↔◌, ◌⊎◌, length, pos, ◌<ℤ◌, IsTrue, IfOk, OnErr};
 ghost use Rattle.whole_numbers.specs.Lists.{number_at};
 ghost use Rattle.fraction_table.specs.declared.stage.Stage.TheVariants.{Ended};
 ghost use Rattle.fraction_table.specs.PivotForms.{IsFirstFound, IsPivotFormFound, IsShortestFound, row_constant};
 ghost use Rattle.fraction_table.specs.Pivots.{IsAhead, KeepsBoxAndRows};
 ghost use Rattle.fraction_table.specs.ValidTables.{IsShown};
 ghost use Rattle.table_kernel.specs.Kernels.{IsKernel, kernel_lines, stated, width_of};
-ghost use Rattle.table_kernel.specs.Turnings.{IsHeldUp, IsRefusedAt};
-ghost use Rattle.table_kernel.specs.Turns.{IsPivotPlace, KeepsNumbers};
+ghost use Rattle.table_kernel.specs.Lines.{IsLineTooLarge, IsPivotPlace, KeepsNumbers};
+ghost use Rattle.table_kernel.specs.Turns.{IsHeldUp, IsRefusedAt};
 
 use crate::Kernel;
 use crate::kernel::OutOfRange;
@@ -93,9 +93,9 @@ impl Kernel {
         ensures ahead { IfOk result (λ solved. IsAhead (stated self.old) (stated self.new) solved) }
         ensures keeps { KeepsBoxAndRows (stated self.old) (stated self.new) }
         ensures same { OnErr result (KeepsNumbers self.old self.new) }
-        ensures refused { OnErr result ((column : ℕ) × IsRefusedAt self.new place column) }
+        ensures refused { OnErr result (IsLineTooLarge self.new place ⊎ IsRefusedAt self.new place) }
     {
-        self.put_line(place);
+        self.put_line(place)?;
         match self.choose() {
             None => Ok(Some(Solved::Refuted(place as u64))),
             Some(column) => {

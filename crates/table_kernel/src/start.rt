@@ -1,19 +1,19 @@
 //! The kernel of a box without rows.
 ghost use Rattle.std.specs.Prelude.{◌≡◌, ◌^◌, ◌<◌, ◌≤◌, ◌++◌, [], pos, ◌-ℤ◌, length, map, slice_index, vec_capacity, IfOk};
 ghost use Rattle.cost_base.specs.Lists.{numbers_from};
-ghost use Rattle.design_problem.specs.Basis.{unit};
 ghost use Rattle.design_problem.specs.Boxes.{IsBox};
 ghost use Rattle.fraction_table.specs.declared.stage.Stage.TheVariants.{Open};
 ghost use Rattle.fraction_table.specs.Tableaus.{starting};
 ghost use Rattle.fraction_table.specs.ValidTables.{IsSound, held_of};
 ghost use Rattle.integer_pivots.specs.Numbers.{AllWithin};
 ghost use Rattle.table_kernel.specs.Kernels.{IsKernel};
+ghost use Rattle.table_kernel.specs.Starts.{unit_line_of};
 
 use crate::Kernel;
 use cost_base::{Listed, OutOfMemory};
 use design_problem::CostBox;
 use fraction_table::{range_of, starting_table};
-use integer_pivots::empty_uses;
+use integer_pivots::{Line, Turn, empty_uses};
 use std::alloc::Global;
 use wide_fraction::Top;
 
@@ -35,25 +35,56 @@ fn room_of(alloc: Global, width: usize) -> Result<Vec<usize>, OutOfMemory>
     Ok(Vec::with_capacity(alloc, width)?)
 }
 
-/// A list of zeros with a 1 at one place.
-fn unit_row(alloc: Global, width: usize, var: usize) -> Result<Listed<i64>, OutOfMemory>
-    requires var { var < width }
-    ensures { IfOk result (λ column. column ≡ unit width var (pos 1)) }
+/// Room for the turns of so many lines.
+fn no_turns(alloc: Global, width: usize) -> Result<Vec<Turn>, OutOfMemory>
+    ensures { IfOk result (λ turns. length turns.items ≡ width) }
 {
-    let mut column = Listed::from_items(zeros(alloc, width)?);
-    column.set(var, 1);
-    Ok(column)
+    let mut turns = Vec::new(alloc);
+    for _ in 0..width {
+        turns.push(Turn {
+            multiplier: 1,
+            factor: 0,
+        })?;
+    }
+    Ok(turns)
 }
 
-/// The columns of the forms x - low.
-fn unit_rows(alloc: Global, width: usize) -> Result<Vec<Listed<i64>>, OutOfMemory>
-    ensures { IfOk result (λ columns. columns.items ≡ map (λ var. unit width var (pos 1)) (numbers_from 0 width)) }
+/// The line of a form x - low at the starting basis: 1 in its own column.
+fn unit_line(alloc: Global, width: usize, var: usize) -> Result<Line, OutOfMemory>
+    requires var { var < width }
+    ensures { IfOk result (λ line. line ≡ unit_line_of width var) }
 {
-    let mut columns = Vec::new(alloc);
+    let mut numbers = Listed::from_items(zeros(alloc, width)?);
+    numbers.set(var, 1);
+    Ok(Line {
+        denominator: 1,
+        constant: 0,
+        numbers,
+        reach: 1,
+    })
+}
+
+/// The lines of the forms x - low.
+fn unit_lines(alloc: Global, width: usize) -> Result<Vec<Line>, OutOfMemory>
+    ensures { IfOk result (λ lines. lines.items ≡ map (unit_line_of width) (numbers_from 0 width)) }
+{
+    let mut lines = Vec::new(alloc);
     for var in 0..width {
-        columns.push(unit_row(alloc, width, var)?)?;
+        lines.push(unit_line(alloc, width, var)?)?;
     }
-    Ok(columns)
+    Ok(lines)
+}
+
+/// A line of zeros.
+fn zero_line(alloc: Global, width: usize) -> Result<Line, OutOfMemory>
+    ensures { IfOk result (λ line. length line.numbers ≡ width) }
+{
+    Ok(Line {
+        denominator: 1,
+        constant: 0,
+        numbers: Listed::from_items(zeros(alloc, width)?),
+        reach: 0,
+    })
 }
 
 /// The first variable with a number in each column of the forms x - low: its own.
@@ -85,7 +116,7 @@ fn bound_constants(alloc: Global, costs: &CostBox) -> Result<Vec<i64>, OutOfMemo
 }
 
 /// The kernel of a box without rows, at the basis of the forms x - low. Its table has that basis, too. The numbers are
-/// within the kernel's bounds where the greatest number of the table is at least 2^39.
+/// within the kernel's bounds where the greatest number of the table is at least 2^126.
 ///
 /// # Errors
 ///
@@ -96,20 +127,18 @@ pub fn starting_kernel(alloc: Global, costs: &CostBox, top: Top) -> Result<Kerne
     ensures held { IfOk result (λ kernel.
         held_of kernel.table Open ≡ record { top = top; costs = costs.now; rows = []; basis = starting costs.now; stage = Open }) }
     ensures sound { IfOk result (λ kernel. IsSound kernel.table Open) }
-    ensures kernel { IfOk result (λ kernel. 2 ^ 39 ≤ top → IsKernel kernel) }
+    ensures kernel { IfOk result (λ kernel. 2 ^ 126 ≤ top → IsKernel kernel) }
 {
     let width = costs.low.as_slice().len();
     Ok(Kernel {
         table: starting_table(alloc, costs, top)?,
         common: 1,
-        reach: 1,
-        weight: 1,
-        lows: unit_rows(alloc, width)?,
+        lows: unit_lines(alloc, width)?,
         leads: unit_leads(alloc, width)?,
         constants: bound_constants(alloc, costs)?,
         uses: empty_uses(alloc, width)?,
+        turns: no_turns(alloc, width)?,
         left: room_of(alloc, width)?,
-        line: zeros(alloc, width)?,
-        along: zeros(alloc, width + width)?,
+        entering: zero_line(alloc, width)?,
     })
 }

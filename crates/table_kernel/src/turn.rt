@@ -1,288 +1,265 @@
 //! A pivot of the kernel.
-ghost use Rattle.std.specs.Prelude.{◌≡◌, ◌≢◌, ℕ, ◌^◌, ◌*◌, ◌<◌, ◌≤◌, ◌↔◌, [], pos, nat_abs, ◌<ℤ◌, ◌≤ℤ◌, length, slice_index_or};
-ghost use Rattle.std.specs.Prelude.{Some, OnErr, OnOk, IsTrue, vec_capacity};
+ghost use Rattle.std.specs.Prelude.{◌≡◌, ◌*◌, ◌/◌, ◌^◌, ◌<◌, ◌≤◌, ◌↔◌, pos, ◌<ℤ◌, ◌≤ℤ◌, nat_abs, length, Some, MatchOption, OnErr, OnOk, IsTrue};
+ghost use Prim.Native.Nat.{◌∣◌};
+ghost use Rattle.whole_numbers.specs.Fractions.{lcm};
 ghost use Rattle.whole_numbers.specs.Lists.{number_at};
 ghost use Rattle.fraction_table.specs.Pivots.{KeepsBoxAndRows};
 ghost use Rattle.fraction_table.specs.Ranks.{rank};
-ghost use Rattle.integer_pivots.specs.Numbers.{AllWithin};
-ghost use Rattle.integer_pivots.specs.Reciprocals.{IsDivisorOf, IsShare};
-ghost use Rattle.integer_pivots.specs.Turns.{IsSmallTurn};
+ghost use Rattle.integer_pivots.specs.Turns.{AreNonZeros, StaysSmall, denominator_after};
 ghost use Rattle.table_kernel.specs.Kernels.{IsKernel, stated, width_of};
-ghost use Rattle.table_kernel.specs.Turns.{IsBestColumn, KeepsNumbers, along_numbers, numbers_of_place};
-ghost use Rattle.table_kernel.specs.Turnings.{AreTouchedBy, StayIntegral, AreWithinReach, ConstantsAreTurned, ConstantsStayIntegral, HasTurned, IsReadyToTurn, IsRefusedAt};
-ghost use Rattle.table_kernel.specs.Turnings.{IsTurnedAt, KeepsLows, KeepsAllButLows, LowsStayIntegral, LowsStay, MayTurn, RowStaysIntegral, StandAlong, StaysWithin};
+ghost use Rattle.table_kernel.specs.Lines.{IsBestColumn, IsEntering, KeepsNumbers};
+ghost use Rattle.table_kernel.specs.Turns.{AreLinesTurned, ConstantsStaySmall, HasTurned, IsLineReady, IsLineTurned, IsReadyToTurn, KeepsAllButLows, LinesStaySmall, MayLineTurn, MayTurn, constant_size, line_of, next_common, turn_of_line};
 
 use crate::Kernel;
 use crate::kernel::OutOfRange;
-use cost_base::Listed;
-use integer_pivots::{
-    CONSTANT_LIMIT, Divisor, Turn, entry_limit, greater, greatest, put_touched, share_of,
-    turn_leads, turn_low, turns_whole,
-};
+use integer_pivots::{CONSTANT_LIMIT, Turn, common_multiple, put_touched, turn_leads, turn_of};
+
+/// A common denominator above this is lowered: 2^16.
+const LARGE_COMMON: i64 = 1 << 16;
+
+/// A denominator times a multiplier.
+fn denominator_times(denominator: i64, multiplier: i64) -> i64
+    requires denominator { (pos 0 <ℤ denominator) × (denominator ≤ℤ pos (2 ^ 30)) }
+    requires multiplier { (pos 0 <ℤ multiplier) × (multiplier ≤ℤ pos (2 ^ 30)) }
+    ensures product { nat_abs result ≡ nat_abs denominator * nat_abs multiplier }
+    ensures range { (pos 0 <ℤ result) × (result ≤ℤ pos (2 ^ 60)) }
+{
+    denominator * multiplier
+}
+
+/// How often a denominator goes into a multiple of it.
+fn share_in(common: i64, denominator: i64) -> i64
+    requires common { (pos 0 <ℤ common) × (common ≤ℤ pos (2 ^ 30)) }
+    requires denominator { (pos 0 <ℤ denominator) × (denominator ≤ℤ pos (2 ^ 60)) }
+    requires divides { nat_abs denominator ∣ nat_abs common }
+    ensures share { nat_abs result ≡ nat_abs common / nat_abs denominator }
+    ensures range { (pos 0 <ℤ result) × (result ≤ℤ pos (2 ^ 30)) }
+{
+    common / denominator
+}
+
+/// Whether a constant, times how often its denominator goes into the common one, is within the limit.
+fn stays_within(constant: i128, share: i64) -> bool
+    requires share { (pos 0 <ℤ share) × (share ≤ℤ pos (2 ^ 30)) }
+    ensures { IsTrue result ↔ (nat_abs constant * nat_abs share ≤ 2 ^ 44) }
+{
+    let size = constant.unsigned_abs();
+    if size > CONSTANT_LIMIT as u128 {
+        return false;
+    }
+    size * u128::from(share.unsigned_abs()) <= CONSTANT_LIMIT as u128
+}
 
 impl Kernel {
-    /// Whether the numbers of a variable turn into whole ones.
-    fn row_turns_whole(&self, var: usize, turn: Turn, divisor: Divisor, share: u64) -> bool
-        requires share { IsShare (nat_abs self.now.common) self.now.line.items (length self.now.line.items) share }
-        requires small { share ≤ 2 ^ 22 }
-        requires divisor { IsDivisorOf turn.common divisor }
-        requires ready { IsReadyToTurn self.now }
-        requires numbers { AreWithinReach self.now }
-        requires var { var < length self.now.lows.items }
-        requires turn { (pos 0 <ℤ turn.pivot) × (turn.pivot ≤ℤ pos (2 ^ 22)) × (turn.common ≡ self.now.common) }
-        requires touched { AreTouchedBy self.now turn.pivot }
-        ensures { IsTrue result ↔ RowStaysIntegral self.now turn.pivot var }
+    /// How a variable's line turns at a column.
+    fn turn_at(&self, var: usize, column: usize) -> Turn
+        requires ready { IsLineReady self.now column var }
+        ensures turn { result ≡ turn_of_line self.now column var }
+        ensures multiplier { (pos 0 <ℤ result.multiplier) × (result.multiplier ≤ℤ pos (2 ^ 30)) }
+        ensures factor { nat_abs result.factor ≤ 2 ^ 30 }
     {
-        let along = self.along[var];
-        if turn.pivot == turn.common {
-            return divisor.divides_share(along, share);
+        self.turns[var]
+    }
+
+    /// Whether a variable's line stays small in a turn at a column.
+    fn line_stays_small(&self, var: usize, column: usize) -> bool
+        requires ready { IsLineReady self.now column var }
+        ensures { IsTrue result ↔ StaysSmall (turn_of_line self.now column var) (line_of self.now var) self.now.entering }
+    {
+        let turn = self.turn_at(var, column);
+        if turn.factor == 0 {
+            return true;
         }
-        turns_whole(
-            self.lows[var].as_slice(),
-            along,
-            self.line.as_slice(),
-            self.left.as_slice(),
-            turn,
-            divisor,
+        self.lows[var].stays_small(turn, &self.entering)
+    }
+
+    /// Whether all lines of x - low stay small in a turn at a column.
+    fn lines_stay_small(&self, column: usize) -> bool
+        requires ready { IsReadyToTurn self.now column }
+        ensures { IsTrue result ↔ LinesStaySmall self.now column }
+    {
+        for var in 0..self.lows.len() {
+            if !self.line_stays_small(var, column) {
+                return false;
+            }
+        }
+        true
+    }
+
+    /// The least common multiple of a common denominator and of a line's after a turn at a column, where it is at most
+    /// 2^30.
+    fn common_with(&self, var: usize, column: usize, common: i64) -> Option<i64>
+        requires ready { IsLineReady self.now column var }
+        requires common { (pos 0 <ℤ common) × (common ≤ℤ pos (2 ^ 30)) }
+        requires divides { nat_abs (line_of self.now var).denominator ∣ nat_abs common }
+        ensures { MatchOption result (2 ^ 30 < lcm (nat_abs common) (denominator_after self.now.entering column (line_of self.now var))) (λ new.
+            (pos 0 <ℤ new) × (nat_abs new ≡ lcm (nat_abs common) (denominator_after self.now.entering column (line_of self.now var))) × (new ≤ℤ pos (2 ^ 30))) }
+    {
+        let multiplier = self.turn_at(var, column).multiplier;
+        if multiplier == 1 {
+            return Some(common);
+        }
+        common_multiple(
+            common,
+            denominator_times(self.lows[var].denominator, multiplier),
         )
     }
 
-    /// Whether the numbers of all variables turn into whole ones.
-    fn turn_whole(&self, turn: Turn, divisor: Divisor) -> bool
-        requires divisor { IsDivisorOf turn.common divisor }
-        requires ready { IsReadyToTurn self.now }
-        requires numbers { AreWithinReach self.now }
-        requires turn { (pos 0 <ℤ turn.pivot) × (turn.pivot ≤ℤ pos (2 ^ 22)) × (turn.common ≡ self.now.common) }
-        requires touched { AreTouchedBy self.now turn.pivot }
-        ensures { IsTrue result ↔ LowsStayIntegral self.now turn.pivot }
+    /// The common denominator after a turn at a column, where it is at most 2^30.
+    fn common_after(&self, column: usize) -> Option<i64>
+        requires ready { IsReadyToTurn self.now column }
+        ensures { MatchOption result (2 ^ 30 < next_common self.now column) (λ common.
+            (pos 0 <ℤ common) × (nat_abs common ≡ next_common self.now column) × (common ≤ℤ pos (2 ^ 30))) }
     {
-        let share = share_of(self.line.as_slice(), divisor);
+        let mut common = self.common;
         for var in 0..self.lows.len() {
-            if !self.row_turns_whole(var, turn, divisor, share) {
-                return false;
-            }
+            common = self.common_with(var, column, common)?;
         }
-        true
+        Some(common)
     }
 
-    /// Whether all constants turn into whole ones.
-    fn constants_turn_whole(&self, turn: Turn, divisor: Divisor) -> bool
-        requires divisor { IsDivisorOf turn.common divisor }
-        requires ready { IsReadyToTurn self.now }
-        requires small { IsSmallTurn turn }
-        ensures { IsTrue result ↔ ConstantsStayIntegral self.now turn }
+    /// Whether a variable's constant stays small in a turn at a column, over the common denominator after it.
+    fn constant_stays_small(&self, var: usize, column: usize, common: i64) -> bool
+        requires ready { IsLineReady self.now column var }
+        requires common { (pos 0 <ℤ common) × (common ≤ℤ pos (2 ^ 30)) }
+        requires divides { denominator_after self.now.entering column (line_of self.now var) ∣ nat_abs common }
+        ensures { IsTrue result ↔ (constant_size self.now column (nat_abs common) var ≤ 2 ^ 44) }
     {
-        for place in 0..self.constants.len() {
-            if !turn.is_whole(self.constants[place], self.along[place], divisor) {
-                return false;
-            }
-        }
-        true
-    }
-
-    /// Whether all numbers of x - low stay within the limit.
-    fn lows_stay(&self, pivot: i64, along: i64, across: i64) -> bool
-        requires ready { IsReadyToTurn self.now }
-        requires pivot { (pos 0 <ℤ pivot) × (pivot ≤ℤ pos (2 ^ 22)) }
-        requires along { (pos 0 ≤ℤ along) × (along ≤ℤ pos (2 ^ 22)) }
-        requires across { (pos 0 ≤ℤ across) × (across ≤ℤ pos (2 ^ 22)) }
-        ensures { IsTrue result ↔ LowsStay self.now pivot (nat_abs along) (nat_abs across) }
-    {
-        let entries = Turn {
-            pivot,
-            across,
-            common: self.common,
-        };
-        entries.keeps(self.reach, along, entry_limit(self.weight))
-    }
-
-    /// Whether all numbers stay within the limits.
-    fn stays_within(&self, constants: Turn) -> bool
-        requires ready { IsReadyToTurn self.now }
-        requires pivot { (pos 0 <ℤ constants.pivot) × (constants.pivot ≤ℤ pos (2 ^ 22)) }
-        requires across { nat_abs constants.across ≤ 2 ^ 39 }
-        requires common { constants.common ≡ self.now.common }
-        ensures { IsTrue result ↔ StaysWithin self.now constants }
-    {
-        let along = greatest(self.along.as_slice());
-        let across = greatest(self.line.as_slice());
-        if !self.lows_stay(constants.pivot, along, across) {
-            return false;
-        }
-        constants.keeps(greatest(self.constants.as_slice()), along, CONSTANT_LIMIT)
-    }
-
-    /// Turns the numbers of a variable, and gives the greatest size that they may have then.
-    fn turn_row(&mut self, var: usize, column: usize, turn: Turn, divisor: Divisor) -> i64
-        requires divisor { IsDivisorOf turn.common divisor }
-        requires ready { IsReadyToTurn self.old }
-        requires var { var < length self.old.lows.items }
-        requires column { column < length self.old.line.items }
-        requires turn { (pos 0 <ℤ turn.pivot) × (turn.common ≡ self.old.common) }
-        requires within { StaysWithin self.old turn }
-        requires row { AllWithin (nat_abs self.old.reach) (slice_index_or self.old.lows.items var []) }
-        requires whole { RowStaysIntegral self.old turn.pivot var }
-        requires along { number_at (slice_index_or self.old.lows.items var []) column ≡ number_at self.old.along.items var }
-        requires touched { AreTouchedBy self.old turn.pivot }
-        ensures ready { IsReadyToTurn self.new }
-        ensures within { StaysWithin self.new turn }
-        ensures keeps { KeepsAllButLows self.old self.new }
-        ensures turned { IsTurnedAt self.old self.new turn.pivot column var }
-        ensures reach { self.new.reach ≡ self.old.reach }
-        ensures others { (v : ℕ) → v ≢ var → slice_index_or self.new.lows.items v [] ≡ slice_index_or self.old.lows.items v [] }
-        ensures size { AllWithin (nat_abs result) (slice_index_or self.new.lows.items var []) }
-        ensures product { nat_abs self.old.weight * nat_abs result ≤ 2 ^ 22 }
-        ensures from_zero { pos 0 ≤ℤ result }
-    {
-        let along = self.along[var];
-        if turn.stays(along) {
-            return self.reach;
-        }
-        let most = turn_low(
-            &mut self.lows[var],
-            column,
-            along,
-            self.line.as_slice(),
-            self.left.as_slice(),
-            turn,
-            divisor,
-        );
-        greater(self.reach, most)
-    }
-
-    /// Turns the numbers of all variables.
-    fn turn_lows(&mut self, column: usize, turn: Turn, divisor: Divisor)
-        requires divisor { IsDivisorOf turn.common divisor }
-        requires ready { IsReadyToTurn self.old }
-        requires numbers { AreWithinReach self.old }
-        requires column { column < length self.old.line.items }
-        requires turn { (pos 0 <ℤ turn.pivot) × (turn.common ≡ self.old.common) }
-        requires within { StaysWithin self.old turn }
-        requires whole { LowsStayIntegral self.old turn.pivot }
-        requires along { StandAlong self.old column }
-        requires touched { AreTouchedBy self.old turn.pivot }
-        ensures ready { IsReadyToTurn self.new }
-        ensures numbers { AreWithinReach self.new }
-        ensures keeps { KeepsAllButLows self.old self.new }
-        ensures turned { (var : ℕ) → var < length self.old.lows.items → IsTurnedAt self.old self.new turn.pivot column var }
-    {
-        let mut reach = self.reach;
-        for var in 0..self.lows.len() {
-            let most = self.turn_row(var, column, turn, divisor);
-            reach = greater(reach, most);
-        }
-        self.reach = reach;
-    }
-
-    /// Turns the constants of all forms.
-    fn turn_constants(&mut self, turn: Turn, divisor: Divisor)
-        requires divisor { IsDivisorOf turn.common divisor }
-        requires ready { IsReadyToTurn self.old }
-        requires small { IsSmallTurn turn }
-        requires whole { ConstantsStayIntegral self.old turn }
-        ensures count { length self.new.constants.items ≡ length self.old.constants.items }
-        ensures turned { ConstantsAreTurned self.old self.new turn }
-        ensures others { KeepsLows self.old self.new }
-    {
-        for place in 0..self.constants.len() {
-            self.constants[place] = turn.turned(self.constants[place], self.along[place], divisor);
-        }
-    }
-
-    /// Whether all numbers turn into whole ones.
-    fn all_whole(&self, turn: Turn, divisor: Divisor) -> bool
-        requires divisor { IsDivisorOf turn.common divisor }
-        requires ready { IsReadyToTurn self.now }
-        requires numbers { AreWithinReach self.now }
-        requires small { IsSmallTurn turn }
-        requires common { turn.common ≡ self.now.common }
-        requires touched { AreTouchedBy self.now turn.pivot }
-        ensures { IsTrue result ↔ StayIntegral self.now turn }
-    {
-        if turn.common == 1 {
+        let turn = self.turn_at(var, column);
+        if turn.factor == 0 && common == self.common {
             return true;
         }
-        if !self.turn_whole(turn, divisor) {
-            return false;
+        let denominator = denominator_times(self.lows[var].denominator, turn.multiplier);
+        stays_within(
+            self.lows[var].constant_after(turn, &self.entering),
+            share_in(common, denominator),
+        )
+    }
+
+    /// Whether all constants of x - low stay small in a turn at a column, over the common denominator after it.
+    fn constants_stay_small(&self, column: usize, common: i64) -> bool
+        requires ready { IsReadyToTurn self.now column }
+        requires common { (pos 0 <ℤ common) × (common ≤ℤ pos (2 ^ 30)) }
+        requires next { nat_abs common ≡ next_common self.now column }
+        ensures { IsTrue result ↔ ConstantsStaySmall self.now column (nat_abs common) }
+    {
+        for var in 0..self.lows.len() {
+            if !self.constant_stays_small(var, column, common) {
+                return false;
+            }
         }
-        self.constants_turn_whole(turn, divisor)
+        true
     }
 
-    /// Puts the columns in which a turn at a column may change a number into `left`.
-    fn put_touched(&mut self, column: usize)
-        requires room { length self.old.line.items ≤ vec_capacity self.old.left }
-        requires column { column < length self.old.line.items }
-        ensures touched { AreTouchedBy self.new (number_at self.old.line.items column) }
-        ensures line { self.new.line ≡ self.old.line }
-        ensures along { self.new.along ≡ self.old.along }
-        ensures keeps { KeepsNumbers self.old self.new }
+    /// Turns a variable's line, where its number at the column isn't 0.
+    fn turn_line(&mut self, var: usize, column: usize)
+        requires ready { IsLineReady self.old column var }
+        requires touched { AreNonZeros self.old.entering.numbers (width_of self.old) self.old.left.items }
+        requires may { MayLineTurn self.old column var }
+        ensures turned { IsLineTurned self.old self.new column var }
+        ensures keeps { KeepsAllButLows self.old self.new }
     {
-        put_touched(
-            &mut self.left,
-            self.line.as_slice(),
-            self.line[column],
-            self.common,
-        );
+        let turn = self.turn_at(var, column);
+        if turn.factor != 0 {
+            self.lows[var].turn(&self.entering, column, self.left.as_slice(), turn);
+        }
     }
 
-    /// Puts what a turn at a column needs into the kernel's room: the numbers of all forms at the column, and the columns
-    /// in which the turn may change a number.
-    fn prepare(&mut self, column: usize)
-        requires kernel { IsKernel self.old }
-        requires column { column < width_of self.old }
-        ensures along { self.new.along.items ≡ along_numbers self.old column }
-        ensures within { AllWithin (2 ^ 22) self.new.along.items }
-        ensures touched { AreTouchedBy self.new (number_at self.new.line.items column) }
-        ensures line { self.new.line ≡ self.old.line }
-        ensures keeps { KeepsNumbers self.old self.new }
+    /// Turns all lines of x - low.
+    fn turn_lines(&mut self, column: usize)
+        requires ready { IsReadyToTurn self.old column }
+        requires touched { AreNonZeros self.old.entering.numbers (width_of self.old) self.old.left.items }
+        requires may { MayTurn self.old column }
+        ensures turned { AreLinesTurned self.old self.new column }
+        ensures keeps { KeepsAllButLows self.old self.new }
     {
-        self.put_along(column);
-        self.put_touched(column);
+        for var in 0..self.lows.len() {
+            self.turn_line(var, column);
+        }
     }
 
-    /// Turns all numbers by the constant of a place and the line's number at a column.
+    /// Turns all lines at a column by the entering line; the leads, the common denominator and the constants follow.
     ///
     /// # Errors
     ///
     /// `OutOfRange` where the bounds don't cover that. Then the kernel is as before.
-    fn turn_numbers(&mut self, place: usize, column: usize) -> Result<(), OutOfRange>
-        requires ready { IsReadyToTurn self.old }
-        requires numbers { AreWithinReach self.old }
-        requires place { place < length self.old.constants.items }
-        requires column { column < length self.old.line.items }
-        requires pivot { pos 0 <ℤ number_at self.old.line.items column }
-        requires along { StandAlong self.old column }
-        requires touched { AreTouchedBy self.old (number_at self.old.line.items column) }
+    fn turn_numbers(&mut self, column: usize) -> Result<(), OutOfRange>
+        requires ready { IsReadyToTurn self.old column }
+        requires kernel { IsKernel self.old }
+        requires touched { AreNonZeros self.old.entering.numbers (width_of self.old) self.old.left.items }
         ensures same { OnErr result (self.new ≡ self.old) }
-        ensures refused { OnErr result (MayTurn self.old place column → ⊥) }
-        ensures turned { OnOk result (HasTurned self.old self.new place column) }
+        ensures refused { OnErr result (MayTurn self.old column → ⊥) }
+        ensures turned { OnOk result (HasTurned self.old self.new column) }
     {
-        let turn = Turn {
-            pivot: self.line[column],
-            across: self.constants[place],
-            common: self.common,
+        if !self.lines_stay_small(column) {
+            return Err(OutOfRange);
+        }
+        let Some(common) = self.common_after(column) else {
+            return Err(OutOfRange);
         };
-        if !self.stays_within(turn) {
+        if !self.constants_stay_small(column, common) {
             return Err(OutOfRange);
         }
-        let divisor = Divisor::new(self.common);
-        if !self.all_whole(turn, divisor) {
-            return Err(OutOfRange);
-        }
-        self.turn_lows(column, turn, divisor);
-        self.turn_constants(turn, divisor);
+        self.turn_lines(column);
         turn_leads(
             self.leads.as_mut_slice(),
             self.lows.as_slice(),
-            self.line.as_slice(),
+            &self.entering,
             column,
         );
-        self.common = turn.pivot;
+        if common == self.common {
+            self.follow_lines();
+        } else {
+            self.common = common;
+            self.put_constants();
+        }
         Ok(())
     }
 
-    /// Turns the kernel at a line and a column: the line's form takes the place of the column's form in the basis. The
-    /// line's numbers stand in `line`.
+    /// Puts how each variable's line turns at a column into `turns`.
+    fn put_turns(&mut self, column: usize) {
+        let pivot = self.entering.numbers.as_slice()[column];
+        for var in 0..self.lows.len() {
+            self.turns[var] = turn_of(self.lows[var].numbers.as_slice()[column], pivot);
+        }
+    }
+
+    /// The least common multiple of the denominators of all lines.
+    fn least_common(&self) -> i64 {
+        let mut common = 1;
+        for var in 0..self.lows.len() {
+            let denominator = self.lows[var].denominator;
+            if denominator != 1 {
+                common = match common_multiple(common, denominator) {
+                    Some(common) => common,
+                    None => unreachable!(),
+                };
+            }
+        }
+        common
+    }
+
+    /// Makes the common denominator the least common multiple of those of the lines; the constants follow.
+    fn lower_common(&mut self) {
+        let common = self.least_common();
+        if common != self.common {
+            self.common = common;
+            self.put_constants();
+        }
+    }
+
+    /// Puts the columns in which the entering line isn't 0 into `left`.
+    fn put_touched(&mut self)
+        requires kernel { IsKernel self.old }
+        ensures touched { AreNonZeros self.old.entering.numbers (width_of self.old) self.new.left.items }
+        ensures entering { self.new.entering ≡ self.old.entering }
+        ensures keeps { KeepsNumbers self.old self.new }
+    {
+        put_touched(&mut self.left, self.entering.numbers.as_slice());
+    }
+
+    /// Turns the kernel at a place's form and a column: the form takes the place of the column's form in the basis. The
+    /// form's line is the entering one.
     ///
     /// # Errors
     ///
@@ -291,19 +268,23 @@ impl Kernel {
         requires kernel { IsKernel self.old }
         requires place { place < length self.old.constants.items }
         requires below { number_at self.old.constants.items place <ℤ pos 0 }
-        requires line { self.old.line.items ≡ numbers_of_place self.old place }
-        requires column { column < width_of self.old }
+        requires entering { IsEntering self.old place }
         requires best { IsBestColumn self.old (Some column) }
         ensures kernel { IsKernel self.new }
         ensures rises { OnOk result (rank (stated self.old) < rank (stated self.new)) }
         ensures keeps { KeepsBoxAndRows (stated self.old) (stated self.new) }
         ensures same { OnErr result (KeepsNumbers self.old self.new) }
-        ensures refused { OnErr result (IsRefusedAt self.new place column) }
+        ensures entering_stays { OnErr result (self.new.entering ≡ self.old.entering) }
+        ensures refused { OnErr result (MayTurn self.new column → ⊥) }
     {
         let member = self.table.member_at(place);
-        self.prepare(column);
-        self.turn_numbers(place, column)?;
+        self.put_touched();
+        self.put_turns(column);
+        self.turn_numbers(column)?;
         self.table.basis[column] = member;
+        if self.common > LARGE_COMMON {
+            self.lower_common();
+        }
         Ok(())
     }
 }

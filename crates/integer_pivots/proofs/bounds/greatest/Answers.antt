@@ -1,8 +1,7 @@
 -- One more number is within.
 use Rattle.std.proofs.Common.{◌≡◌, ◌^◌, ◌≤◌, ap, arith, get_or, inl, inr, nat_abs, w64, to_z, of_z}
 use Rattle.std.specs.Prelude.{pos}
-use Rattle.integer_pivots.proofs.Crossings.{read_known}
-use Rattle.integer_pivots.proofs.Sizes.{more_within, read_number}
+use Rattle.integer_pivots.proofs.Sizes.{more_within, read_known, read_number}
 use Rattle.integer_pivots.proofs.bounds.greatest.Goals as goal
 
 pub loop-index-preserved : goal.loop-index-preserved

@@ -1,7 +1,10 @@
 -- The places before the counter are done.
-use Rattle.std.proofs.Common.{◌≡◌, ℕ, ◌<◌, pos}
+use Rattle.std.proofs.Common.{◌≡◌, ℕ, ◌<◌, pos, length}
 use Rattle.whole_numbers.specs.Lists.{number_at}
 use Rattle.integer_pivots.proofs.multiples.clear.Given as goal
 
-abbrev pub invariant-loop-number : goal.invariant-loop-number
-invariant-loop-number l = (place : ℕ) → place < l.number-index → number_at l.line place ≡ pos 0
+abbrev pub invariant-loop-place : goal.invariant-loop-place
+invariant-loop-place l = record {
+  count : length l.line ≡ length l.fn.line;
+  zeros : (place : ℕ) → place < l.place → number_at l.line place ≡ pos 0;
+}

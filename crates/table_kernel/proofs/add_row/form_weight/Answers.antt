@@ -1,5 +1,5 @@
 -- The weight so far and what is left of it.
-use Rattle.table_kernel.proofs.RowSums.{weighed_all, weighed_first}
+use Rattle.table_kernel.proofs.RowWeights.{weighed_all, weighed_first}
 use Rattle.table_kernel.proofs.add_row.form_weight.Goals as goal
 
 pub loop-term-init : goal.loop-term-init

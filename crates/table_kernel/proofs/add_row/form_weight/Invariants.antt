@@ -1,5 +1,5 @@
 -- The weight with what is left of the terms is the whole one.
-use Rattle.table_kernel.proofs.RowSums.{IsWeighed}
+use Rattle.table_kernel.proofs.RowWeights.{IsWeighed}
 use Rattle.table_kernel.proofs.add_row.form_weight.Given as goal
 
 abbrev pub invariant-loop-term : goal.invariant-loop-term

@@ -1,46 +1,134 @@
--- One more term is added at each column.
-use Rattle.std.proofs.Common.{◌≡◌, ◌^◌, ◌<◌, ◌≤◌, List, arith, get_or, length, map, sym, subst, ◌∙◌}
-use Rattle.std.specs.Prelude.{ℤ, nat_abs, All}
-use Rattle.std.proofs.lemmas.List.{length-map}
+-- One more term's line is added.
+use Rattle.std.proofs.Common.{◌+◌, ◌*◌, ◌/◌, ◌^◌, ◌<◌, ◌≤◌, ◌∙◌, sym, ap, subst, length, get_or, arith}
+use Rattle.std.specs.Prelude.{ℕ, ℤ, pos, ◌*ℤ◌, ◌<ℤ◌, nat_abs, All}
+use Prim.Native.Nat.{◌∣◌}
+use Rattle.whole_numbers.proofs.Divisors.{quotient_positive}
+use Rattle.whole_numbers.proofs.Sizes.{size_positive}
 use Rattle.design_problem.specs.Forms.{no_term}
-use Rattle.whole_numbers.specs.Lists.{number_at}
-use Rattle.integer_pivots.proofs.Terms.{term_light}
-use Rattle.integer_pivots.proofs.Sizes.{read_number}
-use Rattle.table_kernel.proofs.LineSums.{IsSummed, summed_all, summed_first, sums_step}
+use Rattle.integer_pivots.specs.Numbers.{AllWithin, more_sums, product_sum}
+use Rattle.integer_pivots.proofs.PartSums.{more_long}
+use Rattle.integer_pivots.proofs.Sizes.{read, size_most}
+use Rattle.table_kernel.specs.Lines.{factors_of}
+use Rattle.table_kernel.proofs.Factors.{IsFactorRead, factor_read, factor_within, put_all, put_first, put_more, put_room, put_within, scaled_column}
+use Rattle.table_kernel.proofs.Columns.{numbers_small}
+use Rattle.table_kernel.proofs.Lines.{IsTermLine, denominator_read, read_common, term_line}
 use Rattle.table_kernel.proofs.line.put_sums.Goals as goal
+use Rattle.table_kernel.proofs.line.put_sums.Goals.{After-share_in}
 
 pub loop-term-init : goal.loop-term-init
-loop-term-init c = λ column column_in.
-    let zs = map (λ (row : List ℤ). number_at row column) c.args.lows.now in
-    subst (IsSummed zs c.terms-term-items.result.now 0) (sym (c.clear.ensures column (omega (arith, column_in, c.clear.auto.line))))
-    (summed_first (2 ^ 22) (2 ^ 44) zs c.terms-term-items.result.now c.args.form.now.coefficients
-    c.terms-term-items.ensures.terms (omega (arith, c.requires.light)))
+loop-term-init c =
+    let same = read_common c.args.common c.requires.common in
+    record {
+      count = c.clear.ensures.count;
+      put = put_first (nat_abs (read c.args.common)) c.args.lows.now c.terms-term-items.result.now c.args.form.now.coefficients c.clear.new.line
+          c.requires.count c.terms-term-items.ensures.terms
+          (subst (λ (z : ℤ). factors_of (nat_abs z) c.args.form.now.coefficients c.args.lows.now ≤ 2 ^ 32) (sym same) c.requires.factors)
+          (λ k k_in. c.clear.ensures.zeros k (omega (arith, k_in, c.clear.ensures.count)));
+    }
+
+pub bounds-lows-term : goal.bounds-lows-term
+bounds-lows-term c =
+    let known = c.terms-term-items.ensures.known c.loop-term.term-index no_term c.loop-term-test.true in
+    omega (arith, known, c.requires.count)
+
+pub share_in-requires-clause-denominator : goal.share_in-requires-clause-denominator
+share_in-requires-clause-denominator c =
+    let v = (get_or c.terms-term-items.result.now c.loop-term.term-index no_term).var in
+    let known = c.terms-term-items.ensures.known c.loop-term.term-index no_term c.loop-term-test.true in
+    let l = term_line c.args.lows.now c.args.common (length c.args.sums.now) v c.index-lows-term.result _ (omega (arith, known, c.requires.count))
+    c.index-lows-term.is c.requires.lines.0 c.requires.lines.1 c.requires.long in
+    subst (λ (z : ℤ). pos 0 <ℤ z) (sym (denominator_read c.index-lows-term.result l.small).1) l.small.positive
+
+pub share_in-requires-clause-divides : goal.share_in-requires-clause-divides
+share_in-requires-clause-divides c =
+    let v = (get_or c.terms-term-items.result.now c.loop-term.term-index no_term).var in
+    let known = c.terms-term-items.ensures.known c.loop-term.term-index no_term c.loop-term-test.true in
+    let l = term_line c.args.lows.now c.args.common (length c.args.sums.now) v c.index-lows-term.result _ (omega (arith, known, c.requires.count))
+    c.index-lows-term.is c.requires.lines.0 c.requires.lines.1 c.requires.long in
+    subst (λ (z : ℤ). nat_abs z ∣ nat_abs (read c.args.common)) (sym (denominator_read c.index-lows-term.result l.small).1)
+    (subst (λ (z : ℤ). nat_abs c.index-lows-term.result.denominator ∣ nat_abs z) (sym (read_common c.args.common c.requires.common)) l.divides)
+
+-- the term's line
+here : (c : After-share_in) →
+    IsTermLine c.args.lows.now c.args.common (length c.args.sums.now)
+    (get_or c.terms-term-items.result.now c.loop-term.term-index no_term).var c.index-lows-term.result
+here c =
+    let v = (get_or c.terms-term-items.result.now c.loop-term.term-index no_term).var in
+    let known = c.terms-term-items.ensures.known c.loop-term.term-index no_term c.loop-term-test.true in
+    term_line c.args.lows.now c.args.common (length c.args.sums.now) v c.index-lows-term.result _ (omega (arith, known, c.requires.count))
+    c.index-lows-term.is c.requires.lines.0 c.requires.lines.1 c.requires.long
+
+-- the factor as it is computed
+made : (c : After-share_in) →
+    IsFactorRead (nat_abs (read c.args.common)) c.args.lows.now (get_or c.terms-term-items.result.now c.loop-term.term-index no_term)
+    c.index-lows-term.result c.share_in.result
+made c =
+    let ts = c.terms-term-items.result.now in
+    let cs = c.args.form.now.coefficients in
+    let lines = c.args.lows.now in
+    let D = nat_abs (read c.args.common) in
+    let same = read_common c.args.common c.requires.common in
+    let size = size_most c.args.common (2 ^ 30) c.requires.common.0 c.requires.common.1 in
+    let l = here c in
+    let line = c.index-lows-term.result in
+    let divides : nat_abs line.denominator ∣ D = subst (λ (z : ℤ). nat_abs line.denominator ∣ nat_abs z) (sym same) l.divides in
+    let some : 0 < D = subst (λ (z : ℤ). 0 < nat_abs z) (sym same) (size_positive c.args.common c.requires.common.0) in
+    let light = factor_within D lines ts c.loop-term.term-index no_term cs c.loop-term-test.true c.requires.count c.terms-term-items.ensures.terms
+    (subst (λ (z : ℤ). factors_of (nat_abs z) cs lines ≤ 2 ^ 32) (sym same) c.requires.factors) in
+    factor_read D lines (get_or ts c.loop-term.term-index no_term) line c.share_in.result
+    (omega (arith, size, ap nat_abs same)) (quotient_positive D (nat_abs line.denominator) some divides) l.is
+    (c.share_in.ensures.share ∙ ap (λ (z : ℤ). pos (D / nat_abs z)) (denominator_read line l.small).1) light
+
+pub overflow_mul-factor : goal.overflow_mul-factor
+overflow_mul-factor c = (made (goal.at.overflow_mul-factor c).After-share_in).fits
+
+pub put_multiple-requires-clause-long : goal.put_multiple-requires-clause-long
+put_multiple-requires-clause-long c =
+    let l = here (goal.at.put_multiple-requires-clause-long c).After-share_in in
+    omega (arith, c.loop-term.invariant.count, l.long, ap length c.as_slice.ensures)
 
 pub put_multiple-requires-clause-factor : goal.put_multiple-requires-clause-factor
 put_multiple-requires-clause-factor c =
-    let t = get_or c.terms-term-items.result.now c.loop-term.term-index no_term in
-    let light = term_light c.terms-term-items.result.now c.args.form.now.coefficients c.loop-term.term-index
-    c.loop-term-test.true c.terms-term-items.ensures.terms c.requires.light in
-    subst (λ (z : ℤ). nat_abs z ≤ 2 ^ 22) (sym (read_number t.coefficient (let e : nat_abs t.coefficient < 2 ^ 63 = omega (arith, light) in e))) light
+    let m = made (goal.at.put_multiple-requires-clause-factor c).After-share_in in
+    omega (arith, m.size, m.small)
+
+pub put_multiple-requires-clause-sums : goal.put_multiple-requires-clause-sums
+put_multiple-requires-clause-sums c =
+    let m = made (goal.at.put_multiple-requires-clause-sums c).After-share_in in
+    subst (λ (n : ℕ). All (λ sum. nat_abs sum + n * 2 ^ 30 ≤ 2 ^ 62) c.loop-term.sums) (sym m.size)
+    (put_room (nat_abs (read c.args.common)) c.args.lows.now c.terms-term-items.result.now c.loop-term.term-index no_term c.loop-term.sums
+    c.loop-term-test.true c.loop-term.invariant.put)
+
+pub put_multiple-requires-clause-numbers : goal.put_multiple-requires-clause-numbers
+put_multiple-requires-clause-numbers c =
+    let l = here (goal.at.put_multiple-requires-clause-numbers c).After-share_in in
+    subst (AllWithin (2 ^ 30)) (sym c.as_slice.ensures) (numbers_small c.index-lows-term.result l.small)
 
 pub loop-term-preserved : goal.loop-term-preserved
-loop-term-preserved c = λ column column_in.
-    let ts = c.terms-term-items.result.now in
-    let index = c.loop-term.term-index in
-    let t = get_or ts index no_term in
-    let light = term_light ts c.args.form.now.coefficients index c.loop-term-test.true c.terms-term-items.ensures.terms c.requires.light in
-    let known : t.var < length c.args.form.now.coefficients = c.terms-term-items.ensures.known index no_term c.loop-term-test.true in
-    let wide : length c.loop-term.line ≡ length c.args.line.now = c.loop-term.auto.line ∙ c.clear.auto.line in
-    let long : All (λ (r : List ℤ). length r ≡ length c.loop-term.line) c.args.lows.now = λ k d k_in. c.requires.long k d k_in ∙ sym wide in
-    let here : column < length c.loop-term.line = omega (arith, column_in, c.put_multiple.auto.sums) in
-    sums_step c.args.lows.now ts index c.loop-term.line c.put_multiple.new.sums c.as_slice.result.now _ column
-    c.loop-term-test.true (omega (arith, known, c.requires.count)) (c.as_slice.ensures ∙ c.index-lows-term.is) long
-    c.requires.small light c.put_multiple.ensures here (c.loop-term.invariant column here)
+loop-term-preserved c =
+    let l = here (goal.at.loop-term-preserved c).After-share_in in
+    let m = made (goal.at.loop-term-preserved c).After-share_in in
+    let f = read (read (get_or c.terms-term-items.result.now c.loop-term.term-index no_term).coefficient *ℤ read c.share_in.result) in
+    let news = c.put_multiple.ensures ∙ ap (more_sums c.loop-term.sums f) c.as_slice.ensures in
+    record {
+      count = ap length news ∙ more_long c.loop-term.sums f c.index-lows-term.result.numbers ∙ c.loop-term.invariant.count;
+      put = put_more (nat_abs (read c.args.common)) c.args.lows.now c.terms-term-items.result.now c.loop-term.term-index no_term c.loop-term.sums
+          c.put_multiple.new.sums c.index-lows-term.result f c.loop-term-test.true l.inside l.is
+          (numbers_small c.index-lows-term.result l.small)
+          (omega (arith, l.long, c.loop-term.invariant.count))
+          m.value news c.loop-term.invariant.put;
+    }
 
-pub returns : goal.returns
-returns c = λ column column_in.
-    let zs = map (λ (row : List ℤ). number_at row column) c.args.lows.now in
-    let here : column < length c.loop-term.line = omega (arith, column_in, c.loop-term.auto.line, c.clear.auto.line) in
-    summed_all (2 ^ 22) (2 ^ 44) zs c.terms-term-items.result.now c.loop-term.term-index _ c.args.form.now.coefficients
-    c.loop-term-test.false c.terms-term-items.ensures.terms
-    (omega (arith, c.requires.count, length-map c.args.lows.now (λ (row : List ℤ). number_at row column))) (c.loop-term.invariant column here)
+pub returns-clause-count : goal.returns-clause-count
+returns-clause-count c = c.loop-term.invariant.count
+
+pub returns-clause-numbers : goal.returns-clause-numbers
+returns-clause-numbers c k k_in =
+    put_all (nat_abs (read c.args.common)) c.args.lows.now c.terms-term-items.result.now c.loop-term.term-index c.loop-term.sums
+    c.args.form.now.coefficients c.loop-term-test.false c.terms-term-items.ensures.terms c.requires.count c.loop-term.invariant.put
+    k (omega (arith, k_in, c.loop-term.invariant.count))
+    ∙ ap (λ (z : ℤ). product_sum c.args.form.now.coefficients (scaled_column (nat_abs z) c.args.lows.now k)) (read_common c.args.common c.requires.common)
+
+pub returns-clause-sizes : goal.returns-clause-sizes
+returns-clause-sizes c =
+    put_within (nat_abs (read c.args.common)) c.args.lows.now c.terms-term-items.result.now c.loop-term.term-index c.loop-term.sums c.loop-term.invariant.put

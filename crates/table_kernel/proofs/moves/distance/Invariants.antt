@@ -1,7 +1,7 @@
 -- The sum of the differences before the index, by what is left of the whole.
 use Rattle.std.proofs.Common.{◌≡◌, ◌*◌, ◌^◌}
 use Rattle.std.specs.Prelude.{pos, ◌+ℤ◌, ◌≤ℤ◌}
-use Rattle.table_kernel.specs.Turns.{distance_of}
+use Rattle.table_kernel.specs.Moves.{distance_of}
 use Rattle.table_kernel.proofs.Distances.{left_of}
 use Rattle.table_kernel.proofs.moves.distance.Given as goal
 

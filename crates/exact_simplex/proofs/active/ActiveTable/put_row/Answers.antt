@@ -5,8 +5,8 @@ use Rattle.exact_simplex.specs.declared.active.ActiveTable.{ActiveTable}
 use Rattle.exact_simplex.proofs.active.ActiveTable.put_row.Goals.{then-self+else-covers, else-self}
 use Rattle.exact_simplex.proofs.active.ActiveTable.put_row.Goals as goal
 
-pub covers-requires-clause-kernel : goal.covers-requires-clause-kernel
-covers-requires-clause-kernel c = c.requires.active.kernel c.if-self.true
+pub covers-requires-clause-few : goal.covers-requires-clause-few
+covers-requires-clause-few c = c.requires.active.room.few
 
 pub put_row-requires-clause-kernel : goal.put_row-requires-clause-kernel
 put_row-requires-clause-kernel c = c.requires.active.kernel c.if-self.true

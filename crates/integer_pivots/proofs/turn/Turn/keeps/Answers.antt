@@ -1,25 +1,21 @@
--- The sizes are divided and compared as they are.
-use Rattle.std.proofs.Common.{◌≡◌, ◌+◌, ◌*◌, ◌^◌, ◌∙◌, ap, arith}
-use Rattle.std.specs.Prelude.{ℤ, pos, nat_abs}
-use Rattle.integer_pivots.proofs.Sizes.{read, read_number}
-use Rattle.integer_pivots.proofs.Crossings.{positive_size, size_of}
-use Rattle.integer_pivots.proofs.SizesAfter.{products_small, size_test}
+-- The sizes are multiplied and compared as they are.
+use Rattle.integer_pivots.proofs.TurnLaws.{AreKept, kept_fits, kept_test}
 use Rattle.integer_pivots.proofs.turn.Turn.keeps.Goals as goal
+use Rattle.integer_pivots.proofs.turn.Turn.keeps.Goals.{After-abs}
+
+kept : (c : After-abs) → AreKept c.args.self.multiplier c.args.most c.args.self.factor c.args.entering c.abs.result
+kept c = record {
+  multiplier = c.requires.multiplier;
+  factor = c.requires.factor;
+  most_in = c.requires.most;
+  entering = c.requires.entering;
+  size = c.abs.ensures.value;
+}
+
+pub overflow_add-result : goal.overflow_add-result
+overflow_add-result c =
+    kept_fits c.args.self.multiplier c.args.most c.args.self.factor c.args.entering c.abs.result (kept (goal.at.overflow_add-result c).After-abs)
 
 pub returns : goal.returns
 returns c =
-    let t = c.args.self in
-    let most_read = read_number c.args.most (omega (arith, size_of c.args.most (2 ^ 39) c.requires.most)) in
-    let along_read = read_number c.args.along (omega (arith, size_of c.args.along (2 ^ 22) c.requires.along)) in
-    let is : c.most_crossed.result ≡ pos (nat_abs t.pivot * nat_abs c.args.most + nat_abs c.args.along * nat_abs t.across) =
-    c.most_crossed.ensures
-    ∙ ap (λ (z : ℤ). pos (nat_abs t.pivot * nat_abs z + nat_abs (read c.args.along) * nat_abs t.across)) most_read
-    ∙ ap (λ (z : ℤ). pos (nat_abs t.pivot * nat_abs c.args.most + nat_abs z * nat_abs t.across)) along_read in
-    size_test c.most_crossed.result t.common c.args.limit (nat_abs t.pivot * nat_abs c.args.most + nat_abs c.args.along * nat_abs t.across) is
-    (omega (
-      arith,
-      products_small (nat_abs t.pivot) (nat_abs c.args.most) (nat_abs c.args.along) (nat_abs t.across)
-          (positive_size t.pivot (2 ^ 22) c.requires.small.pivot) (size_of c.args.most (2 ^ 39) c.requires.most)
-          (size_of c.args.along (2 ^ 22) c.requires.along) c.requires.small.across,
-    ))
-    c.requires.small.common c.requires.limit
+    kept_test c.args.self.multiplier c.args.most c.args.self.factor c.args.entering c.abs.result (kept (goal.at.returns c).After-abs)

@@ -1,23 +1,13 @@
--- The number before it is divided, over the old denominator.
-use Rattle.std.proofs.Common.{◌∙◌, ap, w64, to_z}
-use Rattle.integer_pivots.proofs.Crossings.{crossed_args, undivided_turned}
-use Rattle.integer_pivots.proofs.CrossedOver.{read_crossed, read_small, turned_goes}
+-- The products and their difference fit 128 bits.
+use Rattle.integer_pivots.proofs.TurnLaws.{turned_fits, turned_is}
 use Rattle.integer_pivots.proofs.turn.Turn.turned.Goals as goal
 
-pub divided-requires-clause-size : goal.divided-requires-clause-size
-divided-requires-clause-size c =
-    read_small c.args.self c.args.number c.args.along c.crossed-crossed.result c.requires.small c.requires.number c.requires.along
-    (c.crossed-crossed.ensures ∙ crossed_args c.args.self c.args.number c.args.along c.requires.number c.requires.along)
+pub overflow_sub-result : goal.overflow_sub-result
+overflow_sub-result c =
+    turned_fits c.args.self c.args.number c.args.entering c.from.result c.from-2.result c.from-3.result c.from-4.result
+    c.requires.multiplier c.requires.factor c.ranges.number c.ranges.entering c.from.ensures c.from-2.ensures c.from-3.ensures c.from-4.ensures
 
-pub divided-requires-clause-whole : goal.divided-requires-clause-whole
-divided-requires-clause-whole c =
-    turned_goes c.args.self c.args.number c.args.along c.crossed-crossed.result c.args.divisor.number c.requires.divisor.same
-    (read_crossed c.args.self c.args.number c.args.along c.crossed-crossed.result c.requires.small c.requires.number c.requires.along
-    (c.crossed-crossed.ensures ∙ crossed_args c.args.self c.args.number c.args.along c.requires.number c.requires.along))
-    c.requires.whole
-
-pub returns-then-self-eq1 : goal.returns-then-self-eq1
-returns-then-self-eq1 c =
-    undivided_turned c.args.self c.args.number c.args.along c.crossed-crossed.result c.requires.small c.requires.number c.requires.along
-    (c.crossed-crossed.ensures ∙ crossed_args c.args.self c.args.number c.args.along c.requires.number c.requires.along)
-    (ap (to_z w64) c.if-self-eq1.true)
+pub returns : goal.returns
+returns c =
+    turned_is c.args.self c.args.number c.args.entering c.from.result c.from-2.result c.from-3.result c.from-4.result
+    c.requires.multiplier c.requires.factor c.ranges.number c.ranges.entering c.from.ensures c.from-2.ensures c.from-3.ensures c.from-4.ensures

@@ -2,6 +2,7 @@
 use Rattle.std.proofs.Common.{◌∙◌, ◌≡◌, sym, ap, subst, length, refl, arith}
 use Rattle.std.specs.Prelude.{vec_len, ◌==◌, true}
 use Rattle.std.proofs.lemmas.Bool.Decides.{nat_tests}
+use Rattle.integer_pivots.specs.Lines.{rows_of}
 use Rattle.table_kernel.specs.declared.kernel.Kernel.{Kernel}
 use Rattle.table_kernel.specs.Choices.{AreColumnsLeft}
 use Rattle.table_kernel.proofs.LeftColumns.{chosen_best, latest_read, left_of, none_best}
@@ -17,12 +18,12 @@ look_at_all-requires-clause-kernel c =
 pub put_latest-latest-requires-clause-leads : goal.put_latest-latest-requires-clause-leads
 put_latest-latest-requires-clause-leads c =
     let s = c.requires.kernel.shaped in
-    ap length c.as_slice-2.ensures.value ∙ s.leads ∙ sym s.line ∙ ap length (sym c.as_slice.ensures.value)
+    ap length c.as_slice-2.ensures.value ∙ s.leads ∙ sym s.entering ∙ ap length (sym c.as_slice.ensures)
 
 pub look_at_all-requires-clause-left : goal.look_at_all-requires-clause-left
 look_at_all-requires-clause-left c = left_of c.args.self.now c.put_latest-latest.result c.put_latest-latest.new.left.items c.requires.kernel
     (latest_read c.args.self.now c.as_slice.result.now c.as_slice-2.result.now c.put_latest-latest.result
-    c.put_latest-latest.new.left.items c.as_slice.ensures.value c.as_slice-2.ensures.value
+    c.put_latest-latest.new.left.items c.as_slice.ensures c.as_slice-2.ensures.value
     c.put_latest-latest.ensures.latest)
 
 pub returns-then-is_empty-clause-best : goal.returns-then-is_empty-clause-best
@@ -32,15 +33,15 @@ returns-then-is_empty-clause-best c =
     let none : vec_len left ≡ 0 = grind (arith, nat_tests) in
     none_best c.args.self.now c.put_latest-latest.result left.items c.requires.kernel.shaped
     (latest_read c.args.self.now c.as_slice.result.now c.as_slice-2.result.now c.put_latest-latest.result left.items
-    c.as_slice.ensures.value c.as_slice-2.ensures.value c.put_latest-latest.ensures.latest)
+    c.as_slice.ensures c.as_slice-2.ensures.value c.put_latest-latest.ensures.latest)
     (omega (arith, none, left.ok.0))
 
 pub returns-clause-best : goal.returns-clause-best
 returns-clause-best c =
     let k = c.args.self.now in
     let left = c.look_at_all.new.self.left in
-    chosen_best k left.items c.index.result.now c.requires.kernel.shaped
-    (subst (λ (m : Kernel). AreColumnsLeft m.lows.items m.line.items (length m.lows.items) left.items) c.look_at_all.ensures.keeps c.look_at_all.ensures.left)
+    chosen_best k left.items c.index.result.now c.requires.kernel.shaped c.requires.kernel.bounded
+    (subst (λ (m : Kernel). AreColumnsLeft (rows_of m.lows.items) m.entering.numbers (length m.lows.items) left.items) c.look_at_all.ensures.keeps c.look_at_all.ensures.left)
     (omega (arith, c.look_at_all.ensures.some, left.ok.0))
     c.index.ensures
 

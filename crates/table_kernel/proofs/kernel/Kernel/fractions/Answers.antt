@@ -8,14 +8,14 @@ use Rattle.design_problem.specs.Basis.{IsFormOf, member_form}
 use Rattle.fraction_table.specs.Multipliers.{columns_numbered, numbered}
 use Rattle.fraction_table.specs.Pivots.{line_at, member_at}
 use Rattle.fraction_table.proofs.MultiplierColumns.{fractions_next}
-use Rattle.integer_pivots.proofs.Sizes.{read_number, size_most}
+use Rattle.integer_pivots.proofs.Sizes.{read_number}
 use Rattle.table_kernel.specs.Kernels.{stated, width_of}
 use Rattle.table_kernel.specs.Numbers.{number_at_column}
-use Rattle.table_kernel.specs.Turns.{column_of, form_of_place}
-use Rattle.table_kernel.proofs.AtBasis.{kernel_moves}
-use Rattle.table_kernel.proofs.Columns.{place_is, place_number_within}
+use Rattle.table_kernel.specs.Lines.{column_of, form_of_place}
+use Rattle.table_kernel.proofs.Columns.{common_small, place_is, place_number_within}
 use Rattle.table_kernel.proofs.OverCommon.{over_as}
 use Rattle.table_kernel.proofs.StatedLines.{stated_entry, stated_long}
+use Rattle.table_kernel.proofs.WideNumbers.{read_wide}
 use Rattle.table_kernel.proofs.kernel.Kernel.fractions.Goals as goal
 
 pub entry-requires-clause-member : goal.entry-requires-clause-member
@@ -26,17 +26,17 @@ entry-requires-clause-member c =
 
 pub entry-requires-clause-column : goal.entry-requires-clause-column
 entry-requires-clause-column c =
-    omega (arith, c.loop-column-test.true, c.len-column-end.ensures, c.args.self.now.lows.ok.0, c.requires.kernel.shaped.lows)
+    omega (arith, c.loop-column-test.true, c.width-column-end.ensures)
 
 pub fraction_over-entry-requires-clause-number : goal.fraction_over-entry-requires-clause-number
 fraction_over-entry-requires-clause-number c =
     let t = c.args.self.now in
     let m = c.requires.kernel in
     let number_is : c.entry.result ≡ number_at_column (form_of_place t c.args.place) (column_of t c.loop-column.column) =
-    c.entry.ensures ∙ ap (λ (member : Member). number_at_column (member_form (width_of t) t.table.rows.items member)
+    c.entry.ensures.number ∙ ap (λ (member : Member). number_at_column (member_form (width_of t) t.table.rows.items member)
     (column_of t c.loop-column.column)) c.member_at-member.ensures in
     let small = place_number_within t m.shaped m.bounded c.args.place c.requires.place c.loop-column.column in
-    let read = read_number c.entry.result (omega (arith, ap nat_abs number_is, small)) in
+    let read = read_wide c.entry.result (omega (arith, ap nat_abs number_is, small)) in
     omega (arith, ap nat_abs read, ap nat_abs number_is, small, m.bounded.top)
 
 pub index-requires : goal.index-requires
@@ -45,9 +45,7 @@ index-requires c =
     omega (
       arith,
       c.loop-column-test.true,
-      c.len-column-end.ensures,
-      t.lows.ok.0,
-      c.requires.kernel.shaped.lows,
+      c.width-column-end.ensures,
       c.requires.kernel.whole.unboxed.count,
       t.table.basis.ok.0,
     )
@@ -58,23 +56,22 @@ loop-column-preserved c =
     let m = c.requires.kernel in
     let place = c.args.place in
     let column = c.loop-column.column in
-    let moves = kernel_moves t m in
-    let common : nat_abs t.common ≤ 2 ^ 22 = size_most t.common (2 ^ 22) m.bounded.positive m.bounded.common in
+    let common : nat_abs t.common ≤ 2 ^ 30 = common_small t m.bounded in
     let number_is : c.entry.result ≡ number_at_column (form_of_place t place) (column_of t column) =
-    c.entry.ensures ∙ ap (λ (member : Member). number_at_column (member_form (width_of t) t.table.rows.items member)
+    c.entry.ensures.number ∙ ap (λ (member : Member). number_at_column (member_form (width_of t) t.table.rows.items member)
     (column_of t column)) c.member_at-member.ensures in
     let small = place_number_within t m.shaped m.bounded place c.requires.place column in
     fractions_next t.table.basis.items (member_at (stated t) place) (line_at (stated t) place) column
     (width_of t) c.index.result.now c.fraction_over-entry.result c.loop-column.parts.items
     c.put_negated.new.parts.items
-    (omega (arith, c.loop-column-test.true, c.len-column-end.ensures, t.lows.ok.0, m.shaped.lows, m.whole.unboxed.count))
-    (omega (arith, c.loop-column-test.true, c.len-column-end.ensures, t.lows.ok.0, m.shaped.lows))
-    (stated_long t moves place c.requires.place)
+    (omega (arith, c.loop-column-test.true, c.width-column-end.ensures, m.whole.unboxed.count))
+    (omega (arith, c.loop-column-test.true, c.width-column-end.ensures))
+    (stated_long t m place c.requires.place)
     c.loop-column.invariant c.index.ensures
     (c.fraction_over-entry.ensures.value
     ∙ over_as _ _ _ _ (ap nat_abs (read_number t.common (omega (arith, common))))
-    (read_number c.entry.result (omega (arith, ap nat_abs number_is, small)) ∙ number_is)
-    ∙ sym (stated_entry t moves place column c.requires.place (omega (arith, c.loop-column-test.true, c.len-column-end.ensures, t.lows.ok.0, m.shaped.lows))))
+    (read_wide c.entry.result (omega (arith, ap nat_abs number_is, small)) ∙ number_is)
+    ∙ sym (stated_entry t m place column c.requires.place (omega (arith, c.loop-column-test.true, c.width-column-end.ensures))))
     c.in_ok-put_negated.ensures
 
 pub returns : goal.returns
@@ -87,8 +84,6 @@ returns c =
     (omega (
       arith,
       c.loop-column-test.false,
-      c.len-column-end.ensures,
-      t.lows.ok.0,
-      c.requires.kernel.shaped.lows,
+      c.width-column-end.ensures,
       c.requires.kernel.whole.unboxed.count,
     )))

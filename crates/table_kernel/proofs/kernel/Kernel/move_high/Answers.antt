@@ -1,46 +1,61 @@
 -- An upper bound moves.
-use Rattle.std.proofs.Common.{rules, ◌∙◌, ◌+◌, ap, arith, w16, w64, to_z, of_z, Fits}
-use Rattle.std.specs.Prelude.{nat_abs, pos, ◌-ℤ◌, slice_index}
+use Rattle.std.proofs.Common.{rules, ◌≡◌, ◌∙◌, ◌<◌, ◌^◌, ap, subst, arith, w16, Fits}
+use Rattle.std.specs.Prelude.{ℤ, ℕ, nat_abs, pos, ◌-ℤ◌, slice_index}
 use Rattle.design_problem.specs.declared.tree.Member.TheVariants.{High}
 use Rattle.design_problem.specs.Boxes.{with_high}
 use Rattle.fraction_table.specs.Moves.{IsMoved}
-use Rattle.fraction_table.proofs.Shifts.{high_stays}
-use Rattle.integer_pivots.proofs.Sizes.{read_number}
+use Rattle.integer_pivots.proofs.Sizes.{read, read_number}
 use Rattle.table_kernel.specs.Kernels.{IsMoving, stated}
-use Rattle.table_kernel.proofs.BoundMoves.{forms_many, high_moves, put_highs, shift_room, small_fall}
-use Rattle.table_kernel.proofs.kernel.Kernel.move_high.Goals.{After-set}
+use Rattle.table_kernel.proofs.MovedBases.{high_same}
+use Rattle.table_kernel.proofs.MovedKernels.{IsHighShift, high_moves, high_shift_moved, moved_room, put_highs, small_fall}
+use Rattle.table_kernel.proofs.kernel.Kernel.move_high.Goals.{After-range_of-fall, After-set}
 use Rattle.table_kernel.proofs.kernel.Kernel.move_high.Goals as goal
 
 pub returns-then-bound-high-clause-moved : goal.returns-then-bound-high-clause-moved
 returns-then-bound-high-clause-moved c =
     let k = c.args.self.now in
-    let stays = high_stays (stated k) c.requires.kernel.unboxed c.args.var c.args.bound (c.if-bound-high.true
+    let stays = high_same k.table.costs k.table.rows.items k.table.basis.items c.args.var c.args.bound c.requires.kernel.basis.members (c.if-bound-high.true
     ∙ ap (λ bounds. slice_index bounds c.args.var) c.as_slice.ensures) in
     record { costs_are = stays.0; basis = stays.1 }
 
-pub shift-requires-clause-own : goal.shift-requires-clause-own
-shift-requires-clause-own c = omega (arith, forms_many c.args.self.now c.requires.kernel, c.requires.var)
+-- how far the bound falls
+fall_small : (c : After-range_of-fall) → nat_abs c.range_of-fall.result < 2 ^ 16
+fall_small c =
+    let fits : Fits w16 (slice_index c.as_slice.result.now c.args.var) = search rules in
+    small_fall (slice_index c.as_slice.result.now c.args.var) c.args.bound c.range_of-fall.result
+    fits.fits c.ranges.bound.fits c.range_of-fall.ensures.range
 
-pub shift-requires-clause-small : goal.shift-requires-clause-small
-shift-requires-clause-small c =
-    let high_fits : Fits w16 (slice_index c.as_slice.result.now c.args.var) = search rules in
-    let small = small_fall (slice_index c.as_slice.result.now c.args.var) c.args.bound c.range_of-fall.result
-    high_fits.fits c.ranges.bound.fits c.range_of-fall.ensures.range in
+pub shift_high-requires-clause-fall : goal.shift_high-requires-clause-fall
+shift_high-requires-clause-fall c =
+    let small = fall_small (goal.at.shift_high-requires-clause-fall c).After-range_of-fall in
     omega (arith, small, ap nat_abs (read_number c.range_of-fall.result (omega (arith, small))))
 
--- the kernel that is left, and how it has moved
-moves_on : (c : After-set) →
-    IsMoving (put_highs c.shift.new.self c.set.new.self)
-    × IsMoved (stated c.args.self.now) (with_high c.args.self.now.table.costs c.args.var c.args.bound)
-    (stated (put_highs c.shift.new.self c.set.new.self))
-moves_on c =
-    high_moves c.args.self.now c.shift.new.self c.requires.kernel c.args.var c.args.bound
-    (slice_index c.as_slice.result.now c.args.var) (c.width.result + c.args.var) (to_z w64 (of_z w64 c.range_of-fall.result))
-    c.set.new.self c.requires.var (ap (λ n. n + c.args.var) c.width.ensures) c.shift.ensures.keeps
-    c.shift.ensures.costs (ap (λ bounds. slice_index bounds c.args.var) c.as_slice.ensures)
-    (read_number c.range_of-fall.result (omega (arith, c.range_of-fall.ensures.small))
-    ∙ c.range_of-fall.ensures.range)
-    c.shift.ensures.shifted c.set.ensures c.requires.room
+-- the shift, by the box's own bound
+module _ (c : After-set) where
+  high_is : slice_index c.as_slice.result.now c.args.var ≡ slice_index c.args.self.now.table.costs.high c.args.var
+  high_is = ap (λ bounds. slice_index bounds c.args.var) c.as_slice.ensures
+
+  fall_is : read c.range_of-fall.result ≡ (pos (slice_index c.args.self.now.table.costs.high c.args.var) -ℤ pos c.args.bound)
+  fall_is =
+      read_number c.range_of-fall.result (omega (arith, c.range_of-fall.ensures.small))
+      ∙ c.range_of-fall.ensures.range
+      ∙ ap (λ b. pos b -ℤ pos c.args.bound) high_is
+
+  shift : IsHighShift c.args.self.now c.shift_high.new.self (High c.args.var (slice_index c.args.self.now.table.costs.high c.args.var)) (High c.args.var c.args.bound)
+      (pos (slice_index c.args.self.now.table.costs.high c.args.var) -ℤ pos c.args.bound)
+  shift =
+      let sh = c.shift_high.ensures.shifted in
+      subst (λ (b : ℕ). IsHighShift c.args.self.now c.shift_high.new.self (High c.args.var b) (High c.args.var c.args.bound)
+      (pos (slice_index c.args.self.now.table.costs.high c.args.var) -ℤ pos c.args.bound)) high_is
+      (subst (λ (z : ℤ). IsHighShift c.args.self.now c.shift_high.new.self (High c.args.var (slice_index c.as_slice.result.now c.args.var)) (High c.args.var c.args.bound) z) fall_is
+      (record { column = sh.0; basis = sh.1.0; lines = sh.1.1 }))
+
+  moves_on : IsMoving (put_highs c.shift_high.new.self c.set.new.self)
+      × IsMoved (stated c.args.self.now) (with_high c.args.self.now.table.costs c.args.var c.args.bound)
+      (stated (put_highs c.shift_high.new.self c.set.new.self))
+  moves_on =
+      high_moves c.args.self.now c.shift_high.new.self c.requires.kernel c.args.var c.args.bound c.set.new.self c.requires.var
+      c.shift_high.ensures.keeps c.shift_high.ensures.costs shift c.set.ensures c.requires.room
 
 pub returns-clause-kernel : goal.returns-clause-kernel
 returns-clause-kernel c = (moves_on (goal.at.returns-clause-kernel c).After-set).0
@@ -52,14 +67,6 @@ returns-clause-moved c =
 
 pub returns-clause-room : goal.returns-clause-room
 returns-clause-room c more may =
-    let k = c.args.self.now in
-    let high = slice_index c.as_slice.result.now c.args.var in
-    let fall = to_z w64 (of_z w64 c.range_of-fall.result) in
-    let fall_is = read_number c.range_of-fall.result (omega (arith, c.range_of-fall.ensures.small))
-    ∙ c.range_of-fall.ensures.range
-    ∙ ap (λ bounds. pos (slice_index bounds c.args.var) -ℤ pos c.args.bound) c.as_slice.ensures in
-    let left = shift_room k c.shift.new.self c.requires.kernel (c.width.result + c.args.var) (High c.args.var high)
-    (High c.args.var c.args.bound) fall
-    (nat_abs (pos (slice_index k.table.costs.high c.args.var) -ℤ pos c.args.bound)) more
-    (omega (arith, forms_many k c.requires.kernel, c.requires.var, c.width.ensures)) c.shift.ensures.keeps c.shift.ensures.shifted (ap nat_abs fall_is) may in
-    (left.0, left.1)
+    let a = (goal.at.returns-clause-room c).After-set in
+    moved_room c.args.self.now c.shift_high.new.self _ more c.shift_high.ensures.keeps.common
+    (high_shift_moved c.args.self.now c.shift_high.new.self c.requires.kernel c.args.var c.args.bound c.requires.var (shift a)) may

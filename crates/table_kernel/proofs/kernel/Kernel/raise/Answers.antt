@@ -1,51 +1,84 @@
 -- The line is put down and a column chosen, which only takes room; then the pivot lets the rank rise, or the line is stuck.
-use Rattle.std.proofs.Common.{sym, subst}
-use Rattle.std.specs.Prelude.{Some}
-use Rattle.fraction_table.specs.declared.stage.Solved.TheVariants.{Refuted}
+use Rattle.std.proofs.Common.{subst, inl, inr, ◌<◌}
+use Rattle.std.specs.Prelude.{None, Some}
 use Rattle.fraction_table.specs.declared.table.Table.{Table}
-use Rattle.fraction_table.specs.Pivots.{IsAhead}
+use Rattle.fraction_table.specs.Ranks.{rank}
 use Rattle.table_kernel.specs.Kernels.{stated}
-use Rattle.table_kernel.specs.Turns.{IsBestColumn}
-use Rattle.table_kernel.proofs.Refusals.{on_err}
+use Rattle.table_kernel.proofs.Refusals.{below_kept, best_kept, entering_kept, in_kept, on_err, refused_at}
 use Rattle.table_kernel.proofs.SameButRoom.{keeps_kernel, keeps_twice, same_stated}
 use Rattle.table_kernel.proofs.Settling.{line_in, line_stuck, none_positive, pivot_place_below, pivot_place_in}
 use Rattle.table_kernel.proofs.kernel.Kernel.raise.Goals as goal
 
+pub put_line-requires-clause-place : goal.put_line-requires-clause-place
+put_line-requires-clause-place c = pivot_place_in c.args.self.now c.requires.kernel c.args.place c.requires.due
+
+pub returns-in_err-put_line-clause-kernel : goal.returns-in_err-put_line-clause-kernel
+returns-in_err-put_line-clause-kernel c = keeps_kernel c.args.self.now c.put_line.new.self c.in_err-put_line.ensures.keeps c.requires.kernel
+
+pub returns-in_err-put_line-clause-refused : goal.returns-in_err-put_line-clause-refused
+returns-in_err-put_line-clause-refused c = on_err c.from_residual.result (inl c.in_err-put_line.ensures.large)
+
 pub choose-requires-clause-kernel : goal.choose-requires-clause-kernel
-choose-requires-clause-kernel c = keeps_kernel c.args.self.now c.put_line.new.self c.put_line.ensures.keeps c.requires.kernel
+choose-requires-clause-kernel c = keeps_kernel c.args.self.now c.put_line.new.self c.in_ok-put_line.ensures.keeps c.requires.kernel
 
 pub pivot-requires-clause-kernel : goal.pivot-requires-clause-kernel
 pivot-requires-clause-kernel c =
     keeps_kernel c.args.self.now c.choose.new.self
-    (keeps_twice c.args.self.now c.put_line.new.self c.choose.new.self c.put_line.ensures.keeps
+    (keeps_twice c.args.self.now c.put_line.new.self c.choose.new.self c.in_ok-put_line.ensures.keeps
     c.choose.ensures.keeps) c.requires.kernel
+
+pub pivot-requires-clause-entering : goal.pivot-requires-clause-entering
+pivot-requires-clause-entering c =
+    entering_kept c.put_line.new.self c.choose.new.self c.args.place c.choose.ensures.keeps c.choose.ensures.entering c.in_ok-put_line.ensures.line
+
+pub pivot-requires-clause-place : goal.pivot-requires-clause-place
+pivot-requires-clause-place c =
+    in_kept c.args.self.now c.choose.new.self c.args.place
+    (keeps_twice c.args.self.now c.put_line.new.self c.choose.new.self c.in_ok-put_line.ensures.keeps c.choose.ensures.keeps)
+    (pivot_place_in c.args.self.now c.requires.kernel c.args.place c.requires.due)
+
+pub pivot-requires-clause-below : goal.pivot-requires-clause-below
+pivot-requires-clause-below c =
+    below_kept c.args.self.now c.choose.new.self c.args.place
+    (keeps_twice c.args.self.now c.put_line.new.self c.choose.new.self c.in_ok-put_line.ensures.keeps c.choose.ensures.keeps)
+    (pivot_place_below c.args.self.now c.args.place c.requires.due)
+
+pub returns-in_err-pivot-in-Some-clause-same : goal.returns-in_err-pivot-in-Some-clause-same
+returns-in_err-pivot-in-Some-clause-same c =
+    on_err c.from_residual-in_err-pivot-in-Some.result
+    (keeps_twice c.args.self.now c.choose.new.self c.pivot.new.self
+    (keeps_twice c.args.self.now c.put_line.new.self c.choose.new.self c.in_ok-put_line.ensures.keeps c.choose.ensures.keeps) c.in_err-pivot-in-Some.ensures.same)
+
+pub returns-in_err-pivot-in-Some-clause-refused : goal.returns-in_err-pivot-in-Some-clause-refused
+returns-in_err-pivot-in-Some-clause-refused c =
+    let e = c.in_err-pivot-in-Some.ensures in
+    on_err c.from_residual-in_err-pivot-in-Some.result
+    (inr (refused_at c.choose.new.self c.pivot.new.self c.args.place c.in-Some.column e.same e.entering_stays
+    (entering_kept c.put_line.new.self c.choose.new.self c.args.place c.choose.ensures.keeps c.choose.ensures.entering c.in_ok-put_line.ensures.line)
+    (best_kept c.put_line.new.self c.choose.new.self (Some c.in-Some.column) c.choose.ensures.keeps c.choose.ensures.entering c.in-Some.ensures.best)
+    e.refused))
 
 pub returns-in-None-clause-kernel : goal.returns-in-None-clause-kernel
 returns-in-None-clause-kernel c =
     keeps_kernel c.args.self.now c.choose.new.self
-    (keeps_twice c.args.self.now c.put_line.new.self c.choose.new.self c.put_line.ensures.keeps
+    (keeps_twice c.args.self.now c.put_line.new.self c.choose.new.self c.in_ok-put_line.ensures.keeps
     c.choose.ensures.keeps) c.requires.kernel
 
 pub returns-in-None-clause-ahead : goal.returns-in-None-clause-ahead
 returns-in-None-clause-ahead c =
     let old = c.args.self.now in
-    let place_in = pivot_place_in old c.requires.kernel c.args.place c.requires.due in
-    let both = keeps_twice old c.put_line.new.self c.choose.new.self c.put_line.ensures.keeps c.choose.ensures.keeps in
-    let best = subst (IsBestColumn c.put_line.new.self) c.in-None.is c.choose.ensures.best in
-    subst (λ (t : Table). IsAhead (stated old) t (Some (Refuted c.args.place))) (sym (same_stated old c.choose.new.self both)) (
-      line_in old c.requires.kernel c.args.place place_in,
-      line_stuck old c.requires.kernel c.args.place place_in (pivot_place_below old c.args.place c.requires.due)
-          (none_positive old c.put_line.new.self c.args.place c.put_line.ensures.keeps c.put_line.ensures.line best),
+    let new = c.choose.new.self in
+    let both = keeps_twice old c.put_line.new.self new c.in_ok-put_line.ensures.keeps c.choose.ensures.keeps in
+    let kernel = keeps_kernel old new both c.requires.kernel in
+    let place_in = in_kept old new c.args.place both (pivot_place_in old c.requires.kernel c.args.place c.requires.due) in
+    let below = below_kept old new c.args.place both (pivot_place_below old c.args.place c.requires.due) in
+    let entering = entering_kept c.put_line.new.self new c.args.place c.choose.ensures.keeps c.choose.ensures.entering c.in_ok-put_line.ensures.line in
+    let best = best_kept c.put_line.new.self new None c.choose.ensures.keeps c.choose.ensures.entering c.in-None.ensures.best in (
+      line_in new kernel c.args.place place_in,
+      line_stuck new kernel c.args.place place_in below (none_positive new c.args.place kernel.bounded entering best),
     )
 
-pub returns-in_err-pivot-in-Some-clause-same : goal.returns-in_err-pivot-in-Some-clause-same
-returns-in_err-pivot-in-Some-clause-same c =
-    on_err c.from_residual.result
-    (keeps_twice c.args.self.now c.choose.new.self c.pivot.new.self
-    (keeps_twice c.args.self.now c.put_line.new.self c.choose.new.self c.put_line.ensures.keeps c.choose.ensures.keeps) c.in_err-pivot-in-Some.ensures.same)
-
-pub returns-in_err-pivot-in-Some-clause-refused : goal.returns-in_err-pivot-in-Some-clause-refused
-returns-in_err-pivot-in-Some-clause-refused c = on_err c.from_residual.result (c.in-Some.column, c.in_err-pivot-in-Some.ensures.refused)
-
-pub put_line-requires-clause-place : goal.put_line-requires-clause-place
-put_line-requires-clause-place c = pivot_place_in c.args.self.now c.requires.kernel c.args.place c.requires.due
+pub returns-in_ok-pivot-in-Some-clause-ahead : goal.returns-in_ok-pivot-in-Some-clause-ahead
+returns-in_ok-pivot-in-Some-clause-ahead c =
+    let both = keeps_twice c.args.self.now c.put_line.new.self c.choose.new.self c.in_ok-put_line.ensures.keeps c.choose.ensures.keeps in
+    subst (λ (t : Table). rank t < rank (stated c.pivot.new.self)) (same_stated c.args.self.now c.choose.new.self both) c.in_ok-pivot-in-Some.ensures.rises

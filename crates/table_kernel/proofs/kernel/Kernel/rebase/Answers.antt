@@ -1,5 +1,5 @@
 -- Bound by bound the kernel moves.
-use Rattle.std.proofs.Common.{◌≡◌, ◌<◌, ◌+◌, suc, refl, ap, sym, subst, length, arith}
+use Rattle.std.proofs.Common.{◌≡◌, ℕ, ◌<◌, ◌≤◌, ◌+◌, suc, refl, ap, sym, subst, length, arith}
 use Rattle.std.specs.Prelude.{slice_index}
 use Rattle.design_problem.specs.declared.form.CostBox.{CostBox}
 use Rattle.design_problem.specs.Boxes.{IsBox}
@@ -9,10 +9,11 @@ use Rattle.fraction_table.proofs.Shifts.{moved_same}
 use Rattle.fraction_table.proofs.BetweenBoxes.{AreAlike, all_moved, high_step, low_step, none_moved}
 use Rattle.table_kernel.specs.declared.kernel.Kernel.{Kernel}
 use Rattle.table_kernel.specs.Kernels.{IsKernel, stated, width_of}
-use Rattle.table_kernel.specs.Turns.{MayMove}
+use Rattle.table_kernel.specs.Moves.{MayMove}
 use Rattle.table_kernel.proofs.AtBasis.{kernel_moves}
-use Rattle.table_kernel.proofs.BoxMoves.{both_keep, high_may, high_room, low_may, low_room, settled}
+use Rattle.table_kernel.proofs.BoxMoves.{both_keep, high_may, high_room, low_may, low_room, settled_box, settled_fit}
 use Rattle.table_kernel.proofs.Distances.{left_of}
+use Rattle.table_kernel.proofs.PutKernels.{put_kernel}
 use Rattle.table_kernel.proofs.kernel.Kernel.rebase.Goals.{After-move_low}
 use Rattle.table_kernel.proofs.kernel.Kernel.rebase.Goals as goal
 
@@ -22,8 +23,8 @@ loop-var-init c =
     let m = kernel_moves k c.requires.kernel in
     record {
       kernel = m;
-      moved = none_moved (stated k) c.args.costs.now (sym (moved_same k.table.costs k.table.rows.items k.table.basis.items m.unboxed.members));
-      keeps = record { top = refl; rows = refl; width = refl; common = refl; reach = refl; weight = refl };
+      moved = none_moved (stated k) c.args.costs.now (sym (moved_same k.table.costs k.table.rows.items k.table.basis.items m.basis.members));
+      keeps = record { top = refl; rows = refl; width = refl; common = refl; lows = refl };
       room = c.moves_within.ensures.0 c.if-not-moves_within.false;
     }
 
@@ -104,17 +105,31 @@ loop-var-preserved c =
       room = subst (λ k. MayMove s (left_of old.table.costs.low costs.low k + left_of old.table.costs.high costs.high k)) next room;
     }
 
+-- all bounds have moved
+all_are : (k s : Kernel) (costs : CostBox) (v : ℕ) → IsKernel k → IsBox (width_of k) costs → length costs.low ≤ v → v ≤ length costs.low →
+    IsMoved (stated k) (between k.table.costs costs v v) (stated s) → IsMoved (stated k) costs (stated s)
+all_are k s costs v m box past inside moved =
+    all_moved (stated k) (stated s) costs v (alike k costs m box) (omega (arith, past, inside, box.low_count)) moved
+
+pub put_constants-requires-clause-fit : goal.put_constants-requires-clause-fit
+put_constants-requires-clause-fit c =
+    let k = c.args.self.now in
+    let s = c.loop-var.self in
+    let costs = c.args.costs.now in
+    let many : length c.as_slice-low.result.now ≡ length costs.low = ap length c.as_slice-low.ensures in
+    let all = all_are k s costs c.loop-var.var c.requires.kernel c.requires.ranges (omega (arith, many, c.loop-var-test.false))
+    (omega (arith, many, c.loop-var.auto.var-end)) c.loop-var.invariant.moved in
+    settled_fit k s costs c.loop-var.invariant.keeps all.costs_are c.requires.fits
+
 pub returns-clause-kernel : goal.returns-clause-kernel
 returns-clause-kernel c =
-    let old = c.args.self.now in
+    let k = c.args.self.now in
+    let s = c.loop-var.self in
     let costs = c.args.costs.now in
-    let all = all_moved (stated old) (stated c.loop-var.self) costs c.loop-var.var
-    (alike old costs c.requires.kernel c.requires.ranges)
-    (omega (
-      arith,
-      c.loop-var-test.false,
-      c.loop-var.auto.var-end,
-      ap length c.as_slice-low.ensures,
-      c.requires.ranges.low_count,
-    )) c.loop-var.invariant.moved in
-    settled old c.loop-var.self costs c.loop-var.invariant.kernel c.loop-var.invariant.keeps all.costs_are c.requires.ranges c.requires.fits
+    let many : length c.as_slice-low.result.now ≡ length costs.low = ap length c.as_slice-low.ensures in
+    let all = all_are k s costs c.loop-var.var c.requires.kernel c.requires.ranges (omega (arith, many, c.loop-var-test.false))
+    (omega (arith, many, c.loop-var.auto.var-end)) c.loop-var.invariant.moved in
+    put_kernel s c.put_constants.new.self c.loop-var.invariant.kernel
+    (settled_box k s costs c.loop-var.invariant.keeps all.costs_are c.requires.ranges)
+    (settled_fit k s costs c.loop-var.invariant.keeps all.costs_are c.requires.fits)
+    c.put_constants.ensures.constants c.put_constants.ensures.small c.put_constants.ensures.keeps

@@ -1,6 +1,5 @@
 -- All lines are put.
 use Rattle.std.proofs.Common.{refl, ap, arith, length}
-use Rattle.table_kernel.proofs.AtBasis.{kernel_moves}
 use Rattle.table_kernel.proofs.Restated.{keeps_both, keeps_itself, restated_all, restated_next, restated_room, restated_whole, restating}
 use Rattle.table_kernel.proofs.kernel.Kernel.restate.Goals as goal
 
@@ -9,7 +8,7 @@ loop-place-init c = record { lines = refl; keeps = keeps_itself c.args.self.now 
 
 pub restate_line-requires-clause-kernel : goal.restate_line-requires-clause-kernel
 restate_line-requires-clause-kernel c =
-    restating c.args.self.now c.loop-place.self c.loop-place.place (kernel_moves c.args.self.now c.requires.kernel)
+    restating c.args.self.now c.loop-place.self c.loop-place.place c.requires.kernel
     c.loop-place.invariant.keeps c.loop-place.invariant.lines
 
 pub restate_line-requires-clause-place : goal.restate_line-requires-clause-place
@@ -25,9 +24,8 @@ restate_line-requires-clause-place c =
 pub loop-place-preserved : goal.loop-place-preserved
 loop-place-preserved c =
     let t = c.args.self.now in
-    let moving = kernel_moves t c.requires.kernel in
     record {
-      lines = restated_next t c.loop-place.self c.loop-place.place c.restate_line.new.self.table.lines.items moving c.loop-place.invariant.keeps
+      lines = restated_next t c.loop-place.self c.loop-place.place c.restate_line.new.self.table.lines.items c.requires.kernel c.loop-place.invariant.keeps
           (omega (arith, c.loop-place-test.true, c.len-place-end.ensures, t.constants.ok.0)) c.loop-place.invariant.lines c.restate_line.ensures.lines;
       keeps = keeps_both t c.loop-place.self c.restate_line.new.self c.loop-place.invariant.keeps c.restate_line.ensures.keeps;
     }
@@ -35,14 +33,14 @@ loop-place-preserved c =
 pub returns-clause-lines : goal.returns-clause-lines
 returns-clause-lines c =
     let t = c.args.self.now in
-    restated_all t c.loop-place.place c.loop-place.self.table.lines.items (kernel_moves t c.requires.kernel)
+    restated_all t c.loop-place.place c.loop-place.self.table.lines.items c.requires.kernel
     (omega (arith, c.loop-place-test.false, c.loop-place.auto.place-end, c.len-place-end.ensures, t.constants.ok.0)) c.loop-place.invariant.lines
 
 pub returns-clause-whole : goal.returns-clause-whole
 returns-clause-whole c =
     let t = c.args.self.now in
     restated_whole t c.loop-place.self c.requires.kernel c.loop-place.invariant.keeps
-    (restated_all t c.loop-place.place c.loop-place.self.table.lines.items (kernel_moves t c.requires.kernel)
+    (restated_all t c.loop-place.place c.loop-place.self.table.lines.items c.requires.kernel
     (omega (arith, c.loop-place-test.false, c.loop-place.auto.place-end, c.len-place-end.ensures, t.constants.ok.0)) c.loop-place.invariant.lines)
 
 pub returns-clause-room : goal.returns-clause-room

@@ -1,0 +1,48 @@
+-- What one more number has in common with those before it.
+use Rattle.std.proofs.Common.{◌∙◌, ap, List, length, arith, w64, to_z}
+use Rattle.std.specs.Prelude.{ℤ, pos, nat_abs}
+use mathlib.Core.Path.{ap₂}
+use Rattle.whole_numbers.specs.Fractions.{gcd}
+use Rattle.whole_numbers.specs.Lists.{number_at}
+use Rattle.integer_pivots.proofs.Sizes.{read, read_known, read_number}
+use Rattle.integer_pivots.proofs.LineLaws.{IsCommonPart, common_first, common_more, common_rest}
+use Rattle.integer_pivots.proofs.line.Line.common_part.Goals as goal
+use Rattle.integer_pivots.proofs.line.Line.common_part.Goals.{Then-part-eq1, After-loop-column}
+
+pub loop-column-init : goal.loop-column-init
+loop-column-init c =
+    let line = c.args.self.now in
+    common_first line (read c.common_with-part.result) c.requires.positive
+    (read_known c.common_with-part.result c.common_with-part.type_inv ∙ c.common_with-part.ensures.value
+    ∙ ap₂ (λ (y z : ℤ). pos (gcd (nat_abs y) (nat_abs z)))
+    (read_number line.constant (omega (arith, c.requires.sizes.1)))
+    (read_number line.denominator (omega (arith, c.requires.sizes.0))))
+
+pub loop-column-preserved : goal.loop-column-preserved
+loop-column-preserved c =
+    let line = c.args.self.now in
+    let i = c.loop-column.column in
+    let small = c.requires.sizes.2 i (pos 0) (omega (arith, ap length c.as_slice-numbers.ensures, c.loop-column-test.true)) in
+    common_more line i (to_z w64 c.loop-column.part-bits) (read c.common_with-part-in-loop-column.result) c.loop-column.invariant
+    (read_known c.common_with-part-in-loop-column.result c.common_with-part-in-loop-column.type_inv
+    ∙ c.common_with-part-in-loop-column.ensures.value
+    ∙ ap (λ (xs : List ℤ). pos (gcd (nat_abs (read (number_at xs i))) (nat_abs (to_z w64 c.loop-column.part-bits)))) c.as_slice-numbers.ensures
+    ∙ ap (λ (z : ℤ). pos (gcd (nat_abs z) (nat_abs (to_z w64 c.loop-column.part-bits)))) (read_number (number_at line.numbers i) (omega (arith, small))))
+
+-- nothing but 1 is in common
+one : (c : Then-part-eq1) → IsCommonPart c.args.self.now (length c.args.self.now.numbers) (pos 1)
+one c =
+    common_rest c.args.self.now c.loop-column.column (to_z w64 c.loop-column.part-bits) c.loop-column.invariant
+    (ap (to_z w64) c.if-part-eq1.true) (omega (arith, ap length c.as_slice-numbers.ensures, c.loop-column-test.true))
+
+pub returns-then-part-eq1-clause-denominator : goal.returns-then-part-eq1-clause-denominator
+returns-then-part-eq1-clause-denominator c = (one (goal.at.returns-then-part-eq1-clause-denominator c).Then-part-eq1).denominator
+
+pub returns-then-part-eq1-clause-constant : goal.returns-then-part-eq1-clause-constant
+returns-then-part-eq1-clause-constant c = (one (goal.at.returns-then-part-eq1-clause-constant c).Then-part-eq1).constant
+
+pub returns-then-part-eq1-clause-numbers : goal.returns-then-part-eq1-clause-numbers
+returns-then-part-eq1-clause-numbers c = (one (goal.at.returns-then-part-eq1-clause-numbers c).Then-part-eq1).numbers
+
+pub returns-then-part-eq1-clause-greatest : goal.returns-then-part-eq1-clause-greatest
+returns-then-part-eq1-clause-greatest c = (one (goal.at.returns-then-part-eq1-clause-greatest c).Then-part-eq1).greatest

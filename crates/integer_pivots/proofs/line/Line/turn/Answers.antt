@@ -1,0 +1,161 @@
+-- The numbers turn, and what they have in common goes out.
+use Rattle.std.proofs.Common.{◌≡◌, ℕ, ◌*◌, ◌^◌, ◌≤◌, sym, ◌∙◌, ap, subst, List, arith}
+use Rattle.std.specs.Prelude.{ℤ, pos, ◌*ℤ◌, ◌-ℤ◌, ◌<ℤ◌, nat_abs}
+use Prim.Native.Nat.{◌∣◌}
+use Rattle.std.proofs.lemmas.Int.{ints, unsigned_abs-mul}
+use Rattle.std.proofs.lemmas.Nat.Gcd.{le_of_dvd}
+use Rattle.std.proofs.Math.Nat.{dvd-mul_right}
+use Rattle.whole_numbers.specs.Lists.{number_at}
+use Rattle.whole_numbers.proofs.FractionLaws.{product_positive}
+use Rattle.whole_numbers.proofs.Sizes.{size_positive}
+use Rattle.integer_pivots.specs.declared.turn.Turn.{Turn}
+use Rattle.integer_pivots.specs.Numbers.{AllWithin}
+use Rattle.integer_pivots.specs.Turns.{turned_number}
+use Rattle.integer_pivots.proofs.Sizes.{number_within, positive_size, product_read, read, read_number, size_of, wider}
+use Rattle.integer_pivots.proofs.TurnLaws.{turn_positive, turn_small, wide, wide_number}
+use Rattle.integer_pivots.proofs.TurnedLines.{AreMade, made_count, made_others, made_own, made_small, made_within, multiplied_within, product_high, scaled}
+use Rattle.integer_pivots.proofs.line.Line.turn.Goals as goal
+use Rattle.integer_pivots.proofs.line.Line.turn.Goals.{Start, After-set, After-lower}
+
+reach_small : (c : Start) → (nat_abs c.args.self.now.reach ≤ 2 ^ 30) × (nat_abs c.args.entering.now.reach ≤ 2 ^ 30)
+reach_small c = (
+  size_of c.args.self.now.reach (2 ^ 30) (c.requires.line.reach_positive, c.requires.line.reach),
+  size_of c.args.entering.now.reach (2 ^ 30) (c.requires.entering.reach_positive, c.requires.entering.reach),
+)
+
+sizes : (c : Start) → (nat_abs c.args.turn.multiplier ≤ 2 ^ 30) × (nat_abs c.args.turn.factor ≤ 2 ^ 30)
+sizes c =
+    let small = turn_small (number_at c.args.self.now.numbers c.args.column) (number_at c.args.entering.now.numbers c.args.column) in
+    let number = number_within (nat_abs c.args.self.now.reach) c.args.self.now.numbers c.args.column c.requires.line.numbers in
+    let pivot = number_within (nat_abs c.args.entering.now.reach) c.args.entering.now.numbers c.args.column c.requires.entering.numbers in
+    let reaches = reach_small c in
+    subst (λ (t : Turn). (nat_abs t.multiplier ≤ 2 ^ 30) × (nat_abs t.factor ≤ 2 ^ 30)) (sym c.requires.turn)
+    (omega (arith, small.0, pivot, reaches.1), omega (arith, small.1, number, reaches.0))
+
+multiplier_positive : (c : Start) → pos 0 <ℤ c.args.turn.multiplier
+multiplier_positive c =
+    subst (λ (t : Turn). pos 0 <ℤ t.multiplier) (sym c.requires.turn)
+    (turn_positive (number_at c.args.self.now.numbers c.args.column) (number_at c.args.entering.now.numbers c.args.column) c.requires.pivot)
+
+denominator_is : (c : Start) → read (read c.args.self.now.denominator *ℤ read c.args.turn.multiplier) ≡ (c.args.self.now.denominator *ℤ c.args.turn.multiplier)
+denominator_is c =
+    product_read c.args.self.now.denominator c.args.turn.multiplier
+    (positive_size c.args.self.now.denominator (2 ^ 30) (c.requires.line.positive, c.requires.line.denominator)) (sizes c).0
+
+made : (c : After-set) → (nat_abs c.args.turn.multiplier ≤ 2 ^ 30) × (nat_abs c.args.turn.factor ≤ 2 ^ 30) →
+    AreMade c.args.turn c.args.column c.args.entering.now.denominator c.args.self.now.numbers c.args.entering.now.numbers
+    c.multiply.new.numbers c.take_away.new.numbers c.set.new.self
+made c small =
+    record {
+      multiplier = small.0;
+      factor = small.1;
+      own_small = positive_size c.args.entering.now.denominator (2 ^ 30) (c.requires.entering.positive, c.requires.entering.denominator);
+      column_in = c.requires.column;
+      mids_count = c.multiply.ensures.count;
+      multiplied = c.multiply.ensures.each;
+      aways_count = c.take_away.ensures.count;
+      taken = λ k k_in. c.take_away.ensures.each k k_in
+          ∙ ap (λ (zs : List ℤ). number_at c.multiply.new.numbers k -ℤ (read c.args.turn.factor *ℤ number_at zs k)) c.as_slice.ensures;
+      written = c.set.ensures;
+    }
+
+within : (c : After-set) → (nat_abs c.args.turn.multiplier ≤ 2 ^ 30) × (nat_abs c.args.turn.factor ≤ 2 ^ 30) → AllWithin (2 ^ 30) c.set.new.self
+within c small =
+    made_within c.args.turn c.args.column c.args.entering.now.denominator c.args.self.now.numbers c.args.entering.now.numbers
+    c.multiply.new.numbers c.take_away.new.numbers c.set.new.self (made c small) c.requires.small.numbers c.requires.small.own
+
+pub take_away-requires-clause-sizes : goal.take_away-requires-clause-sizes
+take_away-requires-clause-sizes c =
+    let start = (goal.at.take_away-requires-clause-sizes c).Start in
+    multiplied_within c.args.turn.multiplier c.args.self.now.numbers c.multiply.new.numbers (sizes start).0
+    (wider (nat_abs c.args.self.now.reach) (2 ^ 30) c.args.self.now.numbers (reach_small start).0 c.requires.line.numbers)
+    c.multiply.ensures.count c.multiply.ensures.each
+
+pub take_away-requires-clause-factor : goal.take_away-requires-clause-factor
+take_away-requires-clause-factor c =
+    let small = (sizes (goal.at.take_away-requires-clause-factor c).Start).1 in
+    omega (arith, small, ap nat_abs (read_number c.args.turn.factor (omega (arith, small))))
+
+pub lower-requires-clause-positive : goal.lower-requires-clause-positive
+lower-requires-clause-positive c =
+    let start = (goal.at.lower-requires-clause-positive c).Start in
+    subst (λ (z : ℤ). pos 0 <ℤ z) (sym (denominator_is start))
+    (product_high c.args.self.now.denominator c.args.turn.multiplier c.requires.line.positive (multiplier_positive start))
+
+pub lower-requires-clause-denominator : goal.lower-requires-clause-denominator
+lower-requires-clause-denominator c =
+    let start = (goal.at.lower-requires-clause-denominator c).Start in
+    omega (arith, ap nat_abs (denominator_is start), unsigned_abs-mul c.args.self.now.denominator c.args.turn.multiplier, c.requires.denominator)
+
+pub lower-requires-clause-sizes : goal.lower-requires-clause-sizes
+lower-requires-clause-sizes c =
+    let p = goal.at.lower-requires-clause-sizes c in
+    within p.After-set (sizes p.Start)
+
+pub lower-requires-clause-most : goal.lower-requires-clause-most
+lower-requires-clause-most c =
+    let p = goal.at.lower-requires-clause-most c in
+    let most = c.most_after-most.ensures in
+    made_small c.args.turn c.args.column c.args.entering.now.denominator c.args.self.now.numbers c.args.entering.now.numbers
+    c.multiply.new.numbers c.take_away.new.numbers c.set.new.self (made p.After-set (sizes p.Start)) _
+    (nat_abs c.args.self.now.reach) (nat_abs c.args.entering.now.reach) c.requires.line.numbers c.requires.entering.numbers most.numbers most.own
+
+divides : (c : After-lower) →
+    read (read c.args.self.now.denominator *ℤ read c.args.turn.multiplier) ≡ (c.args.self.now.denominator *ℤ c.args.turn.multiplier) →
+    nat_abs c.lower.new.self.denominator ∣ (nat_abs c.args.self.now.denominator * nat_abs c.args.turn.multiplier)
+divides c is =
+    let r = c.lower.ensures.reduced in
+    subst (λ (n : ℕ). nat_abs c.lower.new.self.denominator ∣ n)
+    (sym (unsigned_abs-mul c.lower.new.self.denominator (pos r.0))
+    ∙ ap nat_abs (sym r.1.denominator ∙ is)
+    ∙ unsigned_abs-mul c.args.self.now.denominator c.args.turn.multiplier)
+    (dvd-mul_right (nat_abs c.lower.new.self.denominator) r.0)
+
+pub returns-clause-divides : goal.returns-clause-divides
+returns-clause-divides c =
+    let p = goal.at.returns-clause-divides c in
+    divides p.After-lower (denominator_is p.Start)
+
+pub returns-clause-line : goal.returns-clause-line
+returns-clause-line c =
+    let p = goal.at.returns-clause-line c in
+    let some = product_positive (nat_abs c.args.self.now.denominator) (nat_abs c.args.turn.multiplier)
+    (size_positive c.args.self.now.denominator c.requires.line.positive) (size_positive c.args.turn.multiplier (multiplier_positive p.Start)) in
+    let most = le_of_dvd some (divides p.After-lower (denominator_is p.Start)) in
+    let least = c.lower.ensures.reach in
+    record {
+      positive = c.lower.ensures.positive;
+      denominator = omega (arith, ints, most, c.requires.denominator, c.lower.ensures.positive);
+      reach_positive = c.lower.ensures.reach_positive;
+      reach = omega (arith, ints, least, c.lower.ensures.reach_positive);
+      numbers = c.lower.ensures.within;
+    }
+
+pub returns-clause-turned : goal.returns-clause-turned
+returns-clause-turned c =
+    let p = goal.at.returns-clause-turned c in
+    let m = made p.After-set (sizes p.Start) in
+    let t = c.args.turn in
+    let old = c.args.self.now in
+    let entering = c.args.entering.now in
+    let new = c.lower.new.self in
+    let part = c.lower.ensures.reduced.0 in
+    let r = c.lower.ensures.reduced.1 in
+    let counted = made_count t c.args.column entering.denominator old.numbers entering.numbers c.multiply.new.numbers c.take_away.new.numbers c.set.new.self m in
+    let D_is : (old.denominator *ℤ t.multiplier) ≡ (new.denominator *ℤ pos part) = sym (denominator_is p.Start) ∙ r.denominator in
+    record {
+      positive = c.lower.ensures.positive;
+      count = r.count ∙ counted;
+      constant = scaled new.constant (turned_number t old.constant entering.constant) (old.denominator *ℤ t.multiplier) new.denominator (pos part) D_is
+          (sym (ap (λ (z : ℤ). read (wide z)) c.constant_after.ensures
+          ∙ ap read (wide_number (turned_number t old.constant entering.constant) (let e = c.requires.constant in omega (arith, e)))
+          ∙ read_number (turned_number t old.constant entering.constant) (let e = c.requires.constant in omega (arith, e))) ∙ r.constant);
+      others = λ k k_in apart. scaled (number_at new.numbers k) (turned_number t (number_at old.numbers k) (number_at entering.numbers k))
+          (old.denominator *ℤ t.multiplier) new.denominator (pos part) D_is
+          (sym (made_others t c.args.column entering.denominator old.numbers entering.numbers c.multiply.new.numbers c.take_away.new.numbers
+          c.set.new.self m k k_in apart) ∙ r.numbers k (omega (arith, k_in, counted)));
+      own = scaled (number_at new.numbers c.args.column) (t.factor *ℤ entering.denominator)
+          (old.denominator *ℤ t.multiplier) new.denominator (pos part) D_is
+          (sym (made_own t c.args.column entering.denominator old.numbers entering.numbers c.multiply.new.numbers c.take_away.new.numbers
+          c.set.new.self m) ∙ r.numbers c.args.column (omega (arith, c.requires.column, counted)));
+    }

@@ -1,0 +1,9 @@
+-- The numbers before the counter are done.
+use Rattle.std.proofs.Common.{◌≡◌, pos}
+use Rattle.std.specs.Prelude.{◌*ℤ◌}
+use Rattle.whole_numbers.specs.Lists.{number_at}
+use Rattle.integer_pivots.proofs.WrittenPlaces.{AreWritten}
+use Rattle.integer_pivots.proofs.line.divide.Given as goal
+
+abbrev pub invariant-loop-column : goal.invariant-loop-column
+invariant-loop-column l = AreWritten (λ c z. (z *ℤ l.part) ≡ number_at l.fn.numbers c) (pos 0) l.fn.numbers l.column l.numbers

@@ -1,0 +1,36 @@
+-- Lines: whole numbers over one denominator, a form's constant at a basis and its numbers at the columns.
+use Rattle.std.specs.Prelude.{◌≡◌, ℕ, ◌^◌, ◌<◌, List, [], ℤ, pos, ◌*ℤ◌, ◌<ℤ◌, ◌≤ℤ◌, nat_abs, map, length}
+use Prim.Native.Nat.{◌∣◌}
+use Rattle.whole_numbers.specs.Lists.{number_at}
+use Rattle.integer_pivots.specs.declared.line.Line.{Line}
+use Rattle.integer_pivots.specs.Numbers.{AllWithin}
+
+-- a line whose numbers at the columns are at most 2^30 in size, over a denominator of at most 2^30
+pub record IsLine (line : Line) : Type 0 where
+  pub positive : pos 0 <ℤ line.denominator
+  pub denominator : line.denominator ≤ℤ pos (2 ^ 30)
+  pub reach_positive : pos 0 ≤ℤ line.reach
+  pub reach : line.reach ≤ℤ pos (2 ^ 30)
+  pub numbers : AllWithin (nat_abs line.reach) line.numbers
+
+-- a line of zeros
+abbrev pub no_line : Line
+no_line = record { denominator = pos 1; constant = pos 0; numbers = []; reach = pos 0 }
+
+-- the numbers at the columns of lines, a row for each
+abbrev pub rows_of : List Line → List (List ℤ)
+rows_of lines = map (λ line. line.numbers) lines
+
+-- the second line has the numbers of the first, and its denominator, each over one and the same number
+pub record IsReduced (old new : Line) (part : ℕ) : Type 0 where
+  pub positive : 0 < part
+  pub denominator : old.denominator ≡ (new.denominator *ℤ pos part)
+  pub constant : old.constant ≡ (new.constant *ℤ pos part)
+  pub count : length new.numbers ≡ length old.numbers
+  pub numbers : (c : ℕ) → c < length old.numbers → number_at old.numbers c ≡ (number_at new.numbers c *ℤ pos part)
+
+-- 1 alone goes into the denominator, the constant and all numbers
+abbrev pub IsInLowestTerms : Line → Type 0
+IsInLowestTerms line =
+    (d : ℕ) → d ∣ nat_abs line.denominator → d ∣ nat_abs line.constant →
+    ((c : ℕ) → c < length line.numbers → d ∣ nat_abs (number_at line.numbers c)) → d ≡ 1

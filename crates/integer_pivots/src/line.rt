@@ -1,0 +1,153 @@
+//! Lines: whole numbers over one denominator each.
+ghost use Rattle.std.specs.Prelude.{◌≡◌, ℕ, ◌^◌, ◌<◌, ◌≤◌, pos, ◌*ℤ◌, ◌<ℤ◌, ◌≤ℤ◌, nat_abs, length};
+ghost use Prim.Native.Nat.{◌∣◌};
+ghost use Rattle.whole_numbers.specs.Fractions.{exact_quotient, gcd};
+ghost use Rattle.whole_numbers.specs.Lists.{number_at};
+ghost use Rattle.integer_pivots.specs.Lines.{IsInLowestTerms, IsReduced};
+ghost use Rattle.integer_pivots.specs.Numbers.{AllWithin};
+
+use crate::bounds::{ENTRY_LIMIT, greatest};
+use cost_base::Listed;
+use whole_numbers::greatest_common_divisor;
+
+/// A form at a basis in whole numbers over one denominator: its constant there, and its numbers at the columns.
+#[derive(Drop)]
+pub struct Line {
+    /// What all numbers stand over; it is positive.
+    pub denominator: i64,
+    /// The form's value where all forms of the basis are 0.
+    pub constant: i64,
+    /// How far the form rises with the form of each column.
+    pub numbers: Listed<i64>,
+    /// No number at a column is greater in size.
+    pub reach: i64,
+}
+
+/// The greatest common divisor of a number's size and a positive number.
+pub fn common_with(number: i64, part: i64) -> i64
+    requires part { pos 0 <ℤ part }
+    ensures value { result ≡ pos (gcd (nat_abs number) (nat_abs part)) }
+    ensures positive { pos 0 <ℤ result }
+    ensures least { result ≤ℤ part }
+{
+    if part == 1 || number == 0 {
+        return part;
+    }
+    greatest_common_divisor(
+        u128::from(number.unsigned_abs()),
+        u128::from(part.unsigned_abs()),
+    ) as i64
+}
+
+/// A number into which a divisor goes, over it.
+pub fn over(number: i64, part: i64) -> i64
+    requires part { pos 0 <ℤ part }
+    requires whole { nat_abs part ∣ nat_abs number }
+    requires size { nat_abs number ≤ 2 ^ 62 }
+    ensures value { result ≡ exact_quotient number (nat_abs part) }
+    ensures times { (result *ℤ part) ≡ number }
+    ensures size { nat_abs result ≤ nat_abs number }
+{
+    if number == 0 {
+        return 0;
+    }
+    number / part
+}
+
+/// Puts each number, into which a divisor goes, over it.
+fn divide(numbers: &mut Listed<i64>, part: i64)
+    requires part { pos 0 <ℤ part }
+    requires whole { (c : ℕ) → c < length numbers.old → nat_abs part ∣ nat_abs (number_at numbers.old c) }
+    requires sizes { AllWithin (2 ^ 62) numbers.old }
+    ensures count { length numbers.new ≡ length numbers.old }
+    ensures numbers { (c : ℕ) → c < length numbers.old → (number_at numbers.new c *ℤ part) ≡ number_at numbers.old c }
+{
+    for column in 0..numbers.as_slice().len() {
+        let number = numbers.as_slice()[column];
+        numbers.set(column, over(number, part));
+    }
+}
+
+impl Line {
+    /// What the denominator, the constant and all numbers have in common.
+    fn common_part(&self) -> i64
+        requires positive { pos 0 <ℤ self.now.denominator }
+        requires sizes { (nat_abs self.now.denominator ≤ 2 ^ 62) × (nat_abs self.now.constant ≤ 2 ^ 62) × AllWithin (2 ^ 62) self.now.numbers }
+        ensures positive { pos 0 <ℤ result }
+        ensures denominator { nat_abs result ∣ nat_abs self.now.denominator }
+        ensures constant { nat_abs result ∣ nat_abs self.now.constant }
+        ensures numbers { (c : ℕ) → c < length self.now.numbers → nat_abs result ∣ nat_abs (number_at self.now.numbers c) }
+        ensures greatest { (d : ℕ) → d ∣ nat_abs self.now.denominator → d ∣ nat_abs self.now.constant →
+            ((c : ℕ) → c < length self.now.numbers → d ∣ nat_abs (number_at self.now.numbers c)) → d ∣ nat_abs result }
+    {
+        let mut part = common_with(self.constant, self.denominator);
+        let numbers = self.numbers.as_slice();
+        for column in 0..numbers.len() {
+            if part == 1 {
+                return 1;
+            }
+            part = common_with(numbers[column], part);
+        }
+        part
+    }
+
+    /// Puts the denominator, the constant and all numbers over a number that goes into each.
+    fn put_over(&mut self, part: i64)
+        requires part { pos 0 <ℤ part }
+        requires denominator { nat_abs part ∣ nat_abs self.old.denominator }
+        requires constant { nat_abs part ∣ nat_abs self.old.constant }
+        requires numbers { (c : ℕ) → c < length self.old.numbers → nat_abs part ∣ nat_abs (number_at self.old.numbers c) }
+        requires sizes { (nat_abs self.old.denominator ≤ 2 ^ 62) × (nat_abs self.old.constant ≤ 2 ^ 62) × AllWithin (2 ^ 62) self.old.numbers }
+        ensures { IsReduced self.old self.new (nat_abs part) }
+    {
+        if part == 1 {
+            return;
+        }
+        self.denominator = over(self.denominator, part);
+        self.constant = over(self.constant, part);
+        divide(&mut self.numbers, part);
+    }
+
+    /// Brings a line into lowest terms: what its denominator, its constant and all its numbers have in common goes out.
+    /// Its reach is the greatest of the numbers then.
+    pub fn reduce(&mut self)
+        requires positive { pos 0 <ℤ self.old.denominator }
+        requires denominator { nat_abs self.old.denominator ≤ 2 ^ 62 }
+        requires constant { nat_abs self.old.constant ≤ 2 ^ 62 }
+        requires sizes { AllWithin (2 ^ 62) self.old.numbers }
+        ensures reduced { (part : ℕ) × IsReduced self.old self.new part }
+        ensures positive { pos 0 <ℤ self.new.denominator }
+        ensures lowest { IsInLowestTerms self.new }
+        ensures reach_positive { pos 0 ≤ℤ self.new.reach }
+        ensures within { AllWithin (nat_abs self.new.reach) self.new.numbers }
+        ensures least { (most : ℕ) → AllWithin most self.old.numbers → nat_abs self.new.reach ≤ most }
+        ensures reached { (most : ℕ) → AllWithin most self.new.numbers → nat_abs self.new.reach ≤ most }
+    {
+        let part = self.common_part();
+        self.put_over(part);
+        self.reach = greatest(self.numbers.as_slice());
+    }
+
+    /// Brings a line into lowest terms, no number of which passes a size. Over 1 it is so as it stands, and its reach is that
+    /// size, unless that is too large.
+    pub(crate) fn lower(&mut self, most: i64)
+        requires positive { pos 0 <ℤ self.old.denominator }
+        requires denominator { nat_abs self.old.denominator ≤ 2 ^ 62 }
+        requires constant { nat_abs self.old.constant ≤ 2 ^ 62 }
+        requires sizes { AllWithin (2 ^ 30) self.old.numbers }
+        requires from_zero { pos 0 ≤ℤ most }
+        requires most { AllWithin (nat_abs most) self.old.numbers }
+        ensures reduced { (part : ℕ) × IsReduced self.old self.new part }
+        ensures positive { pos 0 <ℤ self.new.denominator }
+        ensures lowest { IsInLowestTerms self.new }
+        ensures reach_positive { pos 0 ≤ℤ self.new.reach }
+        ensures reach { nat_abs self.new.reach ≤ 2 ^ 30 }
+        ensures within { AllWithin (nat_abs self.new.reach) self.new.numbers }
+    {
+        if self.denominator == 1 && most <= ENTRY_LIMIT {
+            self.reach = most;
+            return;
+        }
+        self.reduce();
+    }
+}

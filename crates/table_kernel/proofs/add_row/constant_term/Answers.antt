@@ -1,8 +1,0 @@
--- The product is read as it is.
-use Rattle.std.proofs.Common.{◌^◌, arith}
-use Rattle.table_kernel.proofs.RowSums.{read_product}
-use Rattle.table_kernel.proofs.add_row.constant_term.Goals as goal
-
-pub returns : goal.returns
-returns c = read_product c.args.coefficient c.args.constant (2 ^ 22) (2 ^ 39) c.requires.coefficient c.requires.constant
-    (omega arith) (omega arith) (omega arith)

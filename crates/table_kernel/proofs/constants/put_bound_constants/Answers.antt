@@ -1,0 +1,57 @@
+-- Two more constants are put.
+use Rattle.std.proofs.Common.{◌≡◌, ℕ, ◌+◌, ◌<◌, ◌≤◌, ◌^◌, ◌∙◌, arith, length, subst, sym, ap, w64, to_z, of_z}
+use Rattle.std.specs.Prelude.{ℤ, nat_abs, slice_index, slice_index_or, slice_set}
+use Rattle.std.proofs.lemmas.List.{get_or_default, length-set}
+use Rattle.std.proofs.lemmas.List.Elements.{All-set}
+use Rattle.integer_pivots.specs.Lines.{no_line}
+use Rattle.integer_pivots.proofs.Sizes.{read_number, size_most}
+use Rattle.table_kernel.specs.Constants.{IsShortConstant, high_constant, line_constant}
+use Rattle.table_kernel.proofs.Places.{first_more, second_more}
+use Rattle.table_kernel.proofs.constants.put_bound_constants.Goals.{After-index-lines-var}
+use Rattle.table_kernel.proofs.constants.put_bound_constants.Goals as goal
+
+-- the line that is read is the variable's
+line_is : (c : After-index-lines-var) → c.index-lines-var.result ≡ slice_index_or c.args.lines.now c.loop-var.var no_line
+line_is c =
+    c.index-lines-var.is
+    ∙ get_or_default c.args.lines.now c.loop-var.var _ no_line (omega (arith, c.loop-var-test.true, c.requires.lines, ap length c.as_slice-low.ensures))
+
+pub constant_over-constant-requires-clause-line : goal.constant_over-constant-requires-clause-line
+constant_over-constant-requires-clause-line c =
+    let i = c.loop-var.var in
+    let i_in : i < length c.args.lines.now = omega (arith, c.loop-var-test.true, c.requires.lines, ap length c.as_slice-low.ensures) in
+    let common = read_number c.args.common (omega (arith, size_most c.args.common (2 ^ 30) c.requires.common.0 c.requires.common.1)) in
+    subst (λ (z : ℤ). IsShortConstant z c.index-lines-var.result) (sym common)
+    (subst (IsShortConstant c.args.common) (sym (line_is (goal.at.constant_over-constant-requires-clause-line c).After-index-lines-var)) (c.requires.short i no_line i_in))
+
+pub loop-var-preserved : goal.loop-var-preserved
+loop-var-preserved c =
+    let n = length c.as_slice-low.result.now in
+    let i = c.loop-var.var in
+    let xs = c.loop-var.constants in
+    let x = c.constant_over-constant.result in
+    let y = c.constant_of_high.result in
+    let v = c.loop-var.invariant in
+    let common = read_number c.args.common (omega (arith, size_most c.args.common (2 ^ 30) c.requires.common.0 c.requires.common.1)) in
+    let x_read = read_number x (omega (arith, c.constant_over-constant.ensures.size)) in
+    let y_read = read_number y (omega (arith, c.constant_of_high.ensures.size)) in
+    let low : length c.args.costs.now.low ≡ n = ap length (sym c.as_slice-low.ensures) in
+    let i_in : i < n = c.loop-var-test.true in
+    let there : n + i < length xs = omega (arith, i_in, v.count, c.requires.many, low) in
+    let here : x ≡ line_constant (to_z w64 (of_z w64 c.args.common)) (slice_index_or c.args.lines.now i no_line) =
+    c.constant_over-constant.ensures.constant
+    ∙ ap (line_constant (to_z w64 (of_z w64 c.args.common))) (line_is (goal.at.loop-var-preserved c).After-index-lines-var) in
+    record {
+      count = length-set (slice_set xs i (to_z w64 (of_z w64 x))) (n + i) (to_z w64 (of_z w64 y)) ∙ length-set xs i (to_z w64 (of_z w64 x)) ∙ v.count;
+      low = first_more (λ k z. z ≡ line_constant (to_z w64 (of_z w64 c.args.common)) (slice_index_or c.args.lines.now k no_line))
+          n i xs (to_z w64 (of_z w64 x)) (to_z w64 (of_z w64 y)) i_in there v.low (x_read ∙ here);
+      high = second_more (λ k z. z ≡ high_constant (slice_index c.as_slice-low.result.now k) (slice_index c.as_slice-high.result.now k)
+          (to_z w64 (of_z w64 c.args.common)) (line_constant (to_z w64 (of_z w64 c.args.common)) (slice_index_or c.args.lines.now k no_line)))
+          n i xs (to_z w64 (of_z w64 x)) (to_z w64 (of_z w64 y)) i_in (subst (λ (m : ℕ). n + i < m) (sym (length-set xs i (to_z w64 (of_z w64 x)))) there) v.high
+          (y_read ∙ c.constant_of_high.ensures.constant
+          ∙ ap (high_constant (slice_index c.as_slice-low.result.now i) (slice_index c.as_slice-high.result.now i) (to_z w64 (of_z w64 c.args.common))) (x_read ∙ here));
+      small = λ within. All-set (λ (z : ℤ). nat_abs z ≤ 2 ^ 62) (slice_set xs i (to_z w64 (of_z w64 x))) (n + i) (to_z w64 (of_z w64 y))
+          (subst (λ (z : ℤ). nat_abs z ≤ 2 ^ 62) (sym y_read) c.constant_of_high.ensures.size)
+          (All-set (λ (z : ℤ). nat_abs z ≤ 2 ^ 62) xs i (to_z w64 (of_z w64 x))
+          (subst (λ (z : ℤ). nat_abs z ≤ 2 ^ 62) (sym x_read) (omega (arith, c.constant_over-constant.ensures.size))) (v.small within));
+    }

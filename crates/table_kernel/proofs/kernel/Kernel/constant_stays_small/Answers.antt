@@ -1,0 +1,51 @@
+-- The constant is that of the turn, and the share that of the denominator after it.
+use Prim.Native.Nat.{◌∣◌}
+use Rattle.std.proofs.Common.{ap, sym, subst, ◌∙◌, ◌/◌, ◌≡◌, ℕ, nat_abs, ℤ, w64, to_z, of_z}
+use Rattle.std.specs.Int.{w128}
+use Rattle.std.proofs.lemmas.Int.{to_z-of_z}
+use Rattle.integer_pivots.specs.declared.line.Line.{Line}
+use Rattle.integer_pivots.specs.declared.turn.Turn.{Turn}
+use Rattle.integer_pivots.specs.Turns.{denominator_after, turned_number}
+use Rattle.integer_pivots.proofs.Sizes.{read}
+use Rattle.table_kernel.specs.Turns.{line_of}
+use Rattle.table_kernel.proofs.StayingWithin.{constant_told}
+use Rattle.table_kernel.proofs.Lines.{read_common}
+use Rattle.table_kernel.proofs.TurnArgs.{after_read, line_read}
+use Rattle.table_kernel.proofs.kernel.Kernel.constant_stays_small.Goals as goal
+
+pub share_in-requires-clause-divides : goal.share_in-requires-clause-divides
+share_in-requires-clause-divides c =
+    let k = c.args.self.now in
+    let v = c.args.var in
+    let after = denominator_after k.entering c.args.column (line_of k v) in
+    let denominator = c.denominator_times-denominator.result in
+    let after_is : nat_abs (read denominator) ≡ after =
+    ap nat_abs (to_z-of_z w64 denominator (record { sfits = c.denominator_times-denominator.type_inv }))
+    ∙ c.denominator_times-denominator.ensures.product
+    ∙ after_read k c.args.column v c.index.result.now c.turn_at-turn.result c.requires.ready
+    (line_read k v c.index.result.now c.requires.ready.among c.index.ensures) c.turn_at-turn.ensures.turn c.turn_at-turn.ensures.multiplier in
+    subst (λ (n : ℕ). n ∣ nat_abs (read c.args.common)) (sym after_is)
+    (subst (λ (z : ℤ). after ∣ nat_abs z) (sym (read_common c.args.common c.requires.common)) c.requires.divides)
+
+pub returns : goal.returns
+returns c =
+    let k = c.args.self.now in
+    let v = c.args.var in
+    let turn_is = c.turn_at-turn.ensures.turn in
+    let denominator = c.denominator_times-denominator.result in
+    let after_is : nat_abs (read denominator) ≡ denominator_after k.entering c.args.column (line_of k v) =
+    ap nat_abs (to_z-of_z w64 denominator (record { sfits = c.denominator_times-denominator.type_inv }))
+    ∙ c.denominator_times-denominator.ensures.product
+    ∙ after_read k c.args.column v c.index.result.now c.turn_at-turn.result c.requires.ready
+    (line_read k v c.index.result.now c.requires.ready.among c.index.ensures) turn_is c.turn_at-turn.ensures.multiplier in
+    constant_told k c.args.column v (nat_abs c.args.common) c.stays_within.result (to_z w128 (of_z w128 c.constant_after.result)) (nat_abs (read c.share_in.result))
+    (to_z-of_z w128 c.constant_after.result (record { sfits = c.constant_after.type_inv })
+    ∙ c.constant_after.ensures
+    ∙ ap (λ (l : Line). turned_number c.turn_at-turn.result l.constant k.entering.constant)
+    (line_read k v c.index-2.result.now c.requires.ready.among c.index-2.ensures)
+    ∙ ap (λ (m : Turn). turned_number m (line_of k v).constant k.entering.constant) turn_is)
+    (ap nat_abs (to_z-of_z w64 c.share_in.result (record { sfits = c.share_in.type_inv }))
+    ∙ c.share_in.ensures.share
+    ∙ ap (λ (z : ℤ). nat_abs z / nat_abs (read denominator)) (read_common c.args.common c.requires.common)
+    ∙ ap (λ (n : ℕ). nat_abs c.args.common / n) after_is)
+    c.stays_within.ensures

@@ -1,0 +1,74 @@
+-- The constant of the variable's own line falls, or those of all others rise.
+use Rattle.std.proofs.Common.{◌≡◌, ℕ, ◌<◌, ◌≤◌, ◌^◌, ◌∙◌, ap, refl, List, length, subst, sym, arith}
+use Rattle.std.specs.Prelude.{ℤ, ◌-ℤ◌, ◌*ℤ◌, Option, None, nat_abs, slice_set, All}
+use Rattle.std.proofs.lemmas.List.{get_or_default}
+use Rattle.design_problem.specs.declared.tree.Member.{Member}
+use Rattle.fraction_table.specs.Moves.{IsColumnOf}
+use Rattle.integer_pivots.specs.declared.line.Line.{Line}
+use Rattle.integer_pivots.specs.Lines.{no_line}
+use Rattle.integer_pivots.proofs.Sizes.{read, size_most}
+use Rattle.table_kernel.specs.Moves.{with_constant}
+use Rattle.table_kernel.specs.Turns.{line_of}
+use Rattle.table_kernel.proofs.MoveReads.{IsReadRight, lowered_read}
+use Rattle.table_kernel.proofs.Shares.{constants_short}
+use Rattle.table_kernel.proofs.kernel.Kernel.shift_low.Goals.{After-index, After-index_mut}
+use Rattle.table_kernel.proofs.kernel.Kernel.shift_low.Goals as goal
+
+-- the line before, and its denominator
+module _ (c : After-index) where
+  inside : c.args.var < length c.args.self.now.lows.items
+  inside = omega (arith, c.requires.var, c.requires.kernel.shaped.lows)
+
+  right : (line : Line) → line ≡ line_of c.args.self.now c.args.var →
+      IsReadRight (read c.index.result.now.denominator *ℤ read c.args.fall)
+      (read line.constant -ℤ read (read c.index.result.now.denominator *ℤ read c.args.fall))
+      ((line_of c.args.self.now c.args.var).constant -ℤ ((line_of c.args.self.now c.args.var).denominator *ℤ c.args.fall))
+  right line line_is =
+      let k = c.args.self.now in
+      let old = line_of k c.args.var in
+      let l = c.requires.kernel.bounded.lines c.args.var no_line inside in
+      let denominator : c.index.result.now.denominator ≡ old.denominator =
+      ap (λ (line : Line). line.denominator) (c.index.ensures ∙ get_or_default k.lows.items c.args.var _ no_line inside) in
+      subst (λ (d : ℤ). IsReadRight (read d *ℤ read c.args.fall) (read line.constant -ℤ read (read d *ℤ read c.args.fall))
+      (old.constant -ℤ (old.denominator *ℤ c.args.fall))) (sym denominator)
+      (subst (λ (x : Line). IsReadRight (read old.denominator *ℤ read c.args.fall) (read x.constant -ℤ read (read old.denominator *ℤ read c.args.fall))
+      (old.constant -ℤ (old.denominator *ℤ c.args.fall))) (sym line_is)
+      (lowered_read old.denominator c.args.fall old.constant (size_most old.denominator (2 ^ 30) l.positive l.denominator) c.requires.fall
+      (constants_short k c.requires.kernel.bounded c.args.var no_line inside)))
+
+-- what is written to
+line_is : (c : After-index_mut) → c.index_mut.result.now ≡ line_of c.args.self.now c.args.var
+line_is c = c.index_mut.ensures.value ∙ get_or_default c.args.self.now.lows.items c.args.var _ no_line (omega (arith, c.requires.var, c.requires.kernel.shaped.lows))
+
+pub overflow_mul-index : goal.overflow_mul-index
+overflow_mul-index c = (right (goal.at.overflow_mul-index c).After-index (line_of c.args.self.now c.args.var) refl).product_fits
+
+pub overflow_sub-index_mut : goal.overflow_sub-index_mut
+overflow_sub-index_mut c =
+    let at = goal.at.overflow_sub-index_mut c in
+    (right at.After-index c.index_mut.result.now (line_is at.After-index_mut)).whole_fits
+
+pub raise-requires-clause-constants : goal.raise-requires-clause-constants
+raise-requires-clause-constants c =
+    subst (λ (lines : List Line). All (λ (line : Line). nat_abs line.constant ≤ 2 ^ 44) lines) (sym c.as_mut_slice.ensures.value)
+    (constants_short c.args.self.now c.requires.kernel.bounded)
+
+pub returns-in-None-clause-shifted : goal.returns-in-None-clause-shifted
+returns-in-None-clause-shifted c =
+    let at = goal.at.returns-in-None-clause-shifted c in
+    let k = c.args.self.now in
+    let x = c.index_mut.result.now in
+    let here = line_is at.After-index_mut in
+    let value = (right at.After-index x here).value in (
+      None,
+      (
+        record {
+          found =
+              subst (λ (column : Option ℕ). IsColumnOf k.table.basis.items c.args.before column) c.in-None.is
+              (subst (λ (bs : List Member). IsColumnOf bs c.args.before c.column_of.result) c.as_slice.ensures.value c.column_of.ensures);
+          basis = refl;
+        },
+        ap (slice_set k.lows.items c.args.var) (ap (with_constant x) value
+        ∙ ap (λ (line : Line). with_constant line ((line_of k c.args.var).constant -ℤ ((line_of k c.args.var).denominator *ℤ c.args.fall))) here),
+      ),
+    )

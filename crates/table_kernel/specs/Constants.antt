@@ -1,0 +1,53 @@
+-- The constants of all forms of a kernel, by its lines of x - low.
+use Rattle.std.specs.Prelude.{◌≡◌, ℕ, ◌*◌, ◌^◌, ◌<◌, ◌≤◌, List, ℤ, pos, ◌-ℤ◌, ◌*ℤ◌, ◌<ℤ◌, nat_abs, length, slice_index_or}
+use Prim.Native.Nat.{◌∣◌}
+use Rattle.whole_numbers.specs.Lists.{number_at}
+use Rattle.design_problem.specs.declared.form.CostBox.{CostBox}
+use Rattle.design_problem.specs.declared.form.Form.{Form}
+use Rattle.design_problem.specs.declared.tree.Member.TheVariants.{Low}
+use Rattle.design_problem.specs.Basis.{member_form}
+use Rattle.fraction_table.specs.ValidTables.{members_of_box, number_of_form}
+use Rattle.integer_pivots.specs.declared.line.Line.{Line}
+use Rattle.integer_pivots.specs.Lines.{no_line}
+use Rattle.table_kernel.specs.declared.kernel.Kernel.{Kernel}
+use Rattle.table_kernel.specs.Kernels.{lows_of}
+use Rattle.table_kernel.specs.Numbers.{share_of}
+
+-- the constant of a line over the common denominator
+abbrev pub line_constant : ℤ → Line → ℤ
+line_constant common line = line.constant *ℤ pos (share_of (nat_abs common) line)
+
+-- the line's denominator goes into the common one, over which its constant is at most 2^44
+pub record IsShortConstant (common : ℤ) (line : Line) : Type 0 where
+  pub positive : pos 0 <ℤ line.denominator
+  pub divides : nat_abs line.denominator ∣ nat_abs common
+  pub limit : nat_abs line.constant * share_of (nat_abs common) line ≤ 2 ^ 44
+
+-- that of high - x, by the one of x - low
+abbrev pub high_constant : ℕ → ℕ → ℤ → ℤ → ℤ
+high_constant low high common constant = (common *ℤ (pos high -ℤ pos low)) -ℤ constant
+
+-- the constant of x - low for a variable, over the common denominator
+abbrev pub constant_of_line : Kernel → ℕ → ℤ
+constant_of_line k var = line_constant k.common (slice_index_or k.lows.items var no_line)
+
+-- numbers that are the constants of the forms of a box and of rows, over a denominator, by the numbers of x - low
+abbrev pub AreConstants : CostBox → List Form → ℕ → List (List ℤ) → List ℤ → Type 0
+AreConstants costs rows D lows constants =
+    (place : ℕ) → place < length constants →
+    number_at constants place ≡ number_of_form D costs.low lows
+    (member_form (length costs.low) rows (slice_index_or (members_of_box costs (length rows)) place (Low 0 0))) 0
+
+-- the constants are those of the kernel's forms
+pub record AreConstantsPut (k : Kernel) (constants : List ℤ) : Type 0 where
+  pub count : length constants ≡ length k.constants.items
+  pub each : AreConstants k.table.costs k.table.rows.items (nat_abs k.common) (lows_of k) constants
+
+-- the kernels differ in their constants alone
+pub record KeepsAllButConstants (old new : Kernel) : Type 0 where
+  pub table : new.table ≡ old.table
+  pub common : new.common ≡ old.common
+  pub lows : new.lows ≡ old.lows
+  pub leads : new.leads ≡ old.leads
+  pub left : new.left ≡ old.left
+  pub entering : new.entering ≡ old.entering
