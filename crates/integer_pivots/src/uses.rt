@@ -70,8 +70,8 @@ pub fn push_uses(uses: &mut [Vec<Use>], form: &Form, row: usize)
 /// stand in their order from a first place on.
 pub fn put_uses(sums: &mut [i64], uses: &Vec<Use>, number: i64, first: usize)
     requires known { All (λ u. first + u.row < length sums.old) uses.now.items }
-    requires number { nat_abs number ≤ 2 ^ 22 }
-    requires small { All (λ u. nat_abs (number_at sums.old (first + u.row)) + size_in uses.now.items u.row * 2 ^ 22 ≤ 2 ^ 44) uses.now.items }
+    requires number { nat_abs number ≤ 2 ^ 45 }
+    requires small { All (λ u. nat_abs (number_at sums.old (first + u.row)) + size_in uses.now.items u.row * 2 ^ 45 ≤ 2 ^ 62) uses.now.items }
     ensures before { (v : ℕ) → v < first → number_at sums.new v ≡ number_at sums.old v }
     ensures rows { (row : ℕ) → number_at sums.new (first + row) ≡ (number_at sums.old (first + row) +ℤ (number *ℤ coefficient_in uses.now.items row)) }
 {

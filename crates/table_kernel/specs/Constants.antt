@@ -1,17 +1,19 @@
 -- The constants of all forms of a kernel, by its lines of x - low.
-use Rattle.std.specs.Prelude.{◌≡◌, ℕ, ◌*◌, ◌^◌, ◌<◌, ◌≤◌, List, ℤ, pos, ◌-ℤ◌, ◌*ℤ◌, ◌<ℤ◌, nat_abs, length, slice_index_or}
+use Rattle.std.specs.Prelude.{◌≡◌, ℕ, ◌*◌, ◌^◌, ◌<◌, ◌≤◌, List, ℤ, pos, ◌-ℤ◌, ◌*ℤ◌, ◌<ℤ◌, nat_abs, length, slice_index, slice_index_or}
 use Prim.Native.Nat.{◌∣◌}
 use Rattle.whole_numbers.specs.Lists.{number_at}
 use Rattle.design_problem.specs.declared.form.CostBox.{CostBox}
 use Rattle.design_problem.specs.declared.form.Form.{Form}
 use Rattle.design_problem.specs.declared.tree.Member.TheVariants.{Low}
 use Rattle.design_problem.specs.Basis.{member_form}
+use Rattle.design_problem.specs.Forms.{no_form}
 use Rattle.fraction_table.specs.ValidTables.{members_of_box, number_of_form}
 use Rattle.integer_pivots.specs.declared.line.Line.{Line}
 use Rattle.integer_pivots.specs.Lines.{no_line}
 use Rattle.table_kernel.specs.declared.kernel.Kernel.{Kernel}
-use Rattle.table_kernel.specs.Kernels.{lows_of}
+use Rattle.table_kernel.specs.Kernels.{lows_of, width_of}
 use Rattle.table_kernel.specs.Numbers.{share_of}
+use Rattle.table_kernel.specs.Rows.{row_constant_of}
 
 -- the constant of a line over the common denominator
 abbrev pub line_constant : ℤ → Line → ℤ
@@ -49,5 +51,20 @@ pub record KeepsAllButConstants (old new : Kernel) : Type 0 where
   pub common : new.common ≡ old.common
   pub lows : new.lows ≡ old.lows
   pub leads : new.leads ≡ old.leads
+  pub uses : new.uses ≡ old.uses
+  pub turns : new.turns ≡ old.turns
   pub left : new.left ≡ old.left
   pub entering : new.entering ≡ old.entering
+
+-- The constants of the other forms are what those of x - low, which stand first, make of them: that of high - x for each
+-- variable, and those of the rows.
+pub record AreByFirst (k : Kernel) (constants : List ℤ) : Type 0 where
+  pub count : length constants ≡ length k.constants.items
+  pub high : (v : ℕ) → v < width_of k →
+      number_at constants (width_of k + v) ≡ high_constant (slice_index k.table.costs.low v) (slice_index k.table.costs.high v) k.common (number_at constants v)
+  pub rows : (row : ℕ) → row < length k.table.rows.items →
+      number_at constants (width_of k + width_of k + row) ≡ row_constant_of k.common k.table.costs.low constants (slice_index_or k.table.rows.items row no_form)
+
+-- the constants of x - low for each variable, which stand first, are at most 2^44
+abbrev pub AreFirstSmall : Kernel → List ℤ → Type 0
+AreFirstSmall k constants = (v : ℕ) → v < width_of k → nat_abs (number_at constants v) ≤ 2 ^ 44

@@ -4,8 +4,8 @@ pub mod Kernels
 pub mod Starts
 pub mod Restated
 pub mod Lines
+pub mod Rows
 pub mod Constants
 pub mod Choices
 pub mod Turns
 pub mod Moves
-pub mod Rows

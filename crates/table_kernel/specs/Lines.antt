@@ -20,6 +20,8 @@ pub record KeepsNumbers (old new : Kernel) : Type 0 where
   pub lows : new.lows ≡ old.lows
   pub leads : new.leads ≡ old.leads
   pub constants : new.constants ≡ old.constants
+  pub uses : new.uses ≡ old.uses
+  pub turns : length new.turns.items ≡ length old.turns.items
   pub left : vec_capacity old.left ≤ vec_capacity new.left
   pub entering : length new.entering.numbers ≡ length old.entering.numbers
 

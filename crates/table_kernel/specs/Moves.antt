@@ -44,6 +44,8 @@ pub record KeepsInMove (old new : Kernel) : Type 0 where
   pub common : new.common ≡ old.common
   pub leads : new.leads ≡ old.leads
   pub constants : new.constants ≡ old.constants
+  pub uses : new.uses ≡ old.uses
+  pub turns : new.turns ≡ old.turns
   pub left : new.left ≡ old.left
   pub entering : new.entering ≡ old.entering
 

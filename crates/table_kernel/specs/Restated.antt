@@ -11,6 +11,8 @@ pub record KeepsAllButLinesOf (old new : Kernel) : Type 0 where
   pub lows : new.lows ≡ old.lows
   pub leads : new.leads ≡ old.leads
   pub constants : new.constants ≡ old.constants
+  pub uses : new.uses ≡ old.uses
+  pub turns : new.turns ≡ old.turns
   pub left : new.left ≡ old.left
   pub entering : new.entering ≡ old.entering
   pub place : HasPlace old.table → HasPlace new.table

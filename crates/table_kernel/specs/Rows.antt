@@ -4,6 +4,7 @@ use Rattle.design_problem.specs.declared.form.Form.{Form}
 use Rattle.design_problem.specs.Forms.{value_for_costs}
 use Rattle.fraction_table.specs.RowLines.{HasPlace}
 use Rattle.integer_pivots.specs.Numbers.{product_sum, weight_of}
+use Rattle.integer_pivots.specs.Uses.{HaveRoom, held_in}
 use Rattle.table_kernel.specs.declared.kernel.Kernel.{Kernel}
 
 -- a form's constant at the basis over the common denominator, by those of x - low
@@ -20,10 +21,13 @@ pub record HoldsNumbers (old new : Kernel) : Type 0 where
   pub lows : new.lows ≡ old.lows
   pub leads : new.leads ≡ old.leads
   pub constants : new.constants.items ≡ old.constants.items
+  pub uses : held_in new.uses.items ≡ held_in old.uses.items
+  pub turns : new.turns ≡ old.turns
   pub left : vec_capacity old.left ≤ vec_capacity new.left
   pub entering : new.entering ≡ old.entering
 
--- there is a place for one more form, its line and its constant
+-- there is a place for one more form, its line, its constant and its uses
 pub record HasRowPlace (k : Kernel) : Type 0 where
   pub table : HasPlace k.table
   pub constants : vec_len k.constants < vec_capacity k.constants
+  pub uses : HaveRoom k.uses.items

@@ -58,6 +58,19 @@ pub record IsHeldUp (k : Kernel) : Type 0 where
   pub due : IsPivotPlace k place
   pub cause : IsLineTooLarge k place ⊎ IsRefusedAt k place
 
+-- a turn that leaves a line as it is
+abbrev pub no_turn : Turn
+no_turn = record { multiplier = pos 1; factor = pos 0 }
+
+-- the turn that a kernel holds for a variable
+abbrev pub held_turn : Kernel → ℕ → Turn
+held_turn k var = slice_index_or k.turns.items var no_turn
+
+-- the turns that a kernel holds are those of its lines at a column
+pub record AreTurns (k : Kernel) (column : ℕ) : Type 0 where
+  pub count : length k.turns.items ≡ length k.lows.items
+  pub each : (var : ℕ) → var < length k.lows.items → held_turn k var ≡ turn_of_line k column var
+
 -- what the turn of a kernel at a column needs of its numbers
 pub record IsReadyToTurn (k : Kernel) (column : ℕ) : Type 0 where
   pub inside : column < width_of k
@@ -66,9 +79,11 @@ pub record IsReadyToTurn (k : Kernel) (column : ℕ) : Type 0 where
   pub lines : All IsLine k.lows.items
   pub divides : All (λ line. nat_abs line.denominator ∣ nat_abs k.common) k.lows.items
   pub common : (pos 0 <ℤ k.common) × (k.common ≤ℤ pos (2 ^ 30))
+  pub limit : All (λ line. nat_abs line.constant * share_of (nat_abs k.common) line ≤ 2 ^ 44) k.lows.items
   pub entering : IsLine k.entering
   pub long : length k.entering.numbers ≡ width_of k
   pub pivot : pos 0 <ℤ number_at k.entering.numbers column
+  pub turns : AreTurns k column
 
 -- what the turn of one variable's line at a column needs
 pub record IsLineReady (k : Kernel) (column var : ℕ) : Type 0 where
@@ -76,9 +91,12 @@ pub record IsLineReady (k : Kernel) (column var : ℕ) : Type 0 where
   pub among : var < length k.lows.items
   pub line : IsLine (line_of k var)
   pub count : length (line_of k var).numbers ≡ width_of k
+  pub limit : nat_abs (line_of k var).constant * share_of (nat_abs k.common) (line_of k var) ≤ 2 ^ 44
   pub entering : IsLine k.entering
   pub long : length k.entering.numbers ≡ width_of k
   pub pivot : pos 0 <ℤ number_at k.entering.numbers column
+  pub held : var < length k.turns.items
+  pub turn : held_turn k var ≡ turn_of_line k column var
 
 -- the line's numbers, its constant and its denominator stay small in that turn
 pub record MayLineTurn (k : Kernel) (column var : ℕ) : Type 0 where
@@ -92,16 +110,19 @@ pub record KeepsAllButLows (old new : Kernel) : Type 0 where
   pub common : new.common ≡ old.common
   pub leads : new.leads ≡ old.leads
   pub constants : new.constants ≡ old.constants
+  pub uses : new.uses ≡ old.uses
+  pub turns : new.turns ≡ old.turns
   pub left : new.left ≡ old.left
   pub entering : new.entering ≡ old.entering
 
 -- a variable's line has turned at a column: it is small, its denominator goes into the common one after the pivot, and it
--- stands for the turned numbers; the others are as before
+-- stands for the turned numbers; where it has no number at the column, it is as before, and so are the others
 pub record IsLineTurned (old new : Kernel) (column var : ℕ) : Type 0 where
   pub count : length new.lows.items ≡ length old.lows.items
   pub line : IsLine (line_of new var)
   pub turned : IsTurnedLine (turn_of_line old column var) column old.entering (line_of old var) (line_of new var)
   pub divides : nat_abs (line_of new var).denominator ∣ denominator_after old.entering column (line_of old var)
+  pub stays : (turn_of_line old column var).factor ≡ pos 0 → line_of new var ≡ line_of old var
   pub others : (v : ℕ) → v ≢ var → line_of new v ≡ line_of old v
 
 -- all lines have turned at a column
@@ -109,10 +130,13 @@ pub record AreLinesTurned (old new : Kernel) (column : ℕ) : Type 0 where
   pub turned : AreTurnedLines old.entering column old.lows.items new.lows.items
   pub lines : All IsLine new.lows.items
   pub divides : (v : ℕ) → v < length old.lows.items → nat_abs (line_of new v).denominator ∣ denominator_after old.entering column (line_of old v)
+  pub stays : (v : ℕ) → v < length old.lows.items → (turn_of_line old column v).factor ≡ pos 0 → line_of new v ≡ line_of old v
 
 -- what the turn of all numbers at a column leaves
 pub record HasTurned (old new : Kernel) (column : ℕ) : Type 0 where
   pub table : new.table ≡ old.table
+  pub uses : new.uses ≡ old.uses
+  pub turns : new.turns ≡ old.turns
   pub left : new.left ≡ old.left
   pub entering : new.entering ≡ old.entering
   pub common : nat_abs new.common ≡ next_common old column

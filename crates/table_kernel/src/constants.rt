@@ -1,14 +1,15 @@
 //! The constants of all forms, over the common denominator.
-ghost use Rattle.std.specs.Prelude.{◌≡◌, ℕ, ◌^◌, ◌+◌, ◌*◌, ◌<◌, ◌≤◌, pos, ◌*ℤ◌, ◌<ℤ◌, ◌≤ℤ◌, nat_abs, length, slice_index, slice_index_or, All};
+ghost use Rattle.std.specs.Prelude.{◌≡◌, ◌≢◌, ℕ, ◌^◌, ◌+◌, ◌*◌, ◌<◌, ◌≤◌, pos, ◌*ℤ◌, ◌<ℤ◌, ◌≤ℤ◌, nat_abs, length, slice_index, slice_index_or, All};
 ghost use Prim.Native.Nat.{◌∣◌};
 ghost use Rattle.whole_numbers.specs.Lists.{number_at};
 ghost use Rattle.design_problem.specs.Forms.{no_form};
 ghost use Rattle.fraction_table.specs.Tableaus.{FitsBox};
 ghost use Rattle.integer_pivots.specs.Lines.{no_line};
 ghost use Rattle.integer_pivots.specs.Numbers.{AllWithin, product_sum};
-ghost use Rattle.table_kernel.specs.Constants.{AreConstantsPut, IsShortConstant, KeepsAllButConstants, high_constant, line_constant};
+ghost use Rattle.table_kernel.specs.Constants.{AreByFirst, AreConstantsPut, AreFirstSmall, IsShortConstant, KeepsAllButConstants, constant_of_line, high_constant, line_constant};
 ghost use Rattle.table_kernel.specs.Kernels.{IsBounded, IsShaped, width_of};
 ghost use Rattle.table_kernel.specs.Rows.{IsCovered, row_constant_of};
+ghost use Rattle.table_kernel.specs.Turns.{held_turn};
 
 use crate::Kernel;
 use design_problem::{CostBox, Form};
@@ -151,7 +152,19 @@ impl Kernel {
     }
 
     /// Lets the constants of a variable's forms, and those of the rows that use it, follow its line.
-    fn follow(&mut self, var: usize) {
+    fn follow(&mut self, var: usize)
+        requires shaped { IsShaped self.old }
+        requires bounded { IsBounded self.old }
+        requires fit { All (FitsBox self.old.table.costs) self.old.table.rows.items }
+        requires var { var < width_of self.old }
+        requires first { AreFirstSmall self.old self.old.constants.items }
+        requires by_first { AreByFirst self.old self.old.constants.items }
+        ensures own { number_at self.new.constants.items var ≡ constant_of_line self.old var }
+        ensures others { (v : ℕ) → v < width_of self.old → v ≢ var → number_at self.new.constants.items v ≡ number_at self.old.constants.items v }
+        ensures by_first { AreByFirst self.old self.new.constants.items }
+        ensures small { AllWithin (2 ^ 62) self.new.constants.items }
+        ensures keeps { KeepsAllButConstants self.old self.new }
+    {
         let width = self.width();
         let constant = constant_over(&self.lows[var], self.common);
         let change = constant - self.constants[var];
@@ -165,8 +178,19 @@ impl Kernel {
         );
     }
 
-    /// Lets the constants of all forms follow the lines that have turned, over the common denominator.
-    pub fn follow_lines(&mut self) {
+    /// Lets the constants of all forms follow the lines that have turned, over the common denominator as it was.
+    pub fn follow_lines(&mut self)
+        requires shaped { IsShaped self.old }
+        requires bounded { IsBounded self.old }
+        requires fit { All (FitsBox self.old.table.costs) self.old.table.rows.items }
+        requires high { length self.old.table.costs.high ≡ width_of self.old }
+        requires first { AreFirstSmall self.old self.old.constants.items }
+        requires by_first { AreByFirst self.old self.old.constants.items }
+        requires stays { (v : ℕ) → v < width_of self.old → (held_turn self.old v).factor ≡ pos 0 → number_at self.old.constants.items v ≡ constant_of_line self.old v }
+        ensures constants { AreConstantsPut self.old self.new.constants.items }
+        ensures small { AllWithin (2 ^ 62) self.new.constants.items }
+        ensures keeps { KeepsAllButConstants self.old self.new }
+    {
         for var in 0..self.lows.len() {
             if self.turns[var].factor != 0 {
                 self.follow(var);

@@ -1,14 +1,15 @@
 //! A pivot of the kernel.
-ghost use Rattle.std.specs.Prelude.{◌≡◌, ◌*◌, ◌/◌, ◌^◌, ◌<◌, ◌≤◌, ◌↔◌, pos, ◌<ℤ◌, ◌≤ℤ◌, nat_abs, length, Some, MatchOption, OnErr, OnOk, IsTrue};
+ghost use Rattle.std.specs.Prelude.{◌≡◌, ◌*◌, ◌/◌, ◌^◌, ◌<◌, ◌≤◌, ◌↔◌, pos, ◌<ℤ◌, ◌≤ℤ◌, nat_abs, length, Some, All, MatchOption, OnErr, OnOk, IsTrue};
 ghost use Prim.Native.Nat.{◌∣◌};
 ghost use Rattle.whole_numbers.specs.Fractions.{lcm};
 ghost use Rattle.whole_numbers.specs.Lists.{number_at};
 ghost use Rattle.fraction_table.specs.Pivots.{KeepsBoxAndRows};
 ghost use Rattle.fraction_table.specs.Ranks.{rank};
+ghost use Rattle.integer_pivots.specs.Lines.{IsLine};
 ghost use Rattle.integer_pivots.specs.Turns.{AreNonZeros, StaysSmall, denominator_after};
 ghost use Rattle.table_kernel.specs.Kernels.{IsKernel, stated, width_of};
 ghost use Rattle.table_kernel.specs.Lines.{IsBestColumn, IsEntering, KeepsNumbers};
-ghost use Rattle.table_kernel.specs.Turns.{AreLinesTurned, ConstantsStaySmall, HasTurned, IsLineReady, IsLineTurned, IsReadyToTurn, KeepsAllButLows, LinesStaySmall, MayLineTurn, MayTurn, constant_size, line_of, next_common, turn_of_line};
+ghost use Rattle.table_kernel.specs.Turns.{AreLinesTurned, AreTurns, ConstantsStaySmall, HasTurned, IsLineReady, IsLineTurned, IsReadyToTurn, KeepsAllButLows, LinesStaySmall, MayLineTurn, MayTurn, constant_size, line_of, next_common, turn_of_line};
 
 use crate::Kernel;
 use crate::kernel::OutOfRange;
@@ -217,7 +218,16 @@ impl Kernel {
     }
 
     /// Puts how each variable's line turns at a column into `turns`.
-    fn put_turns(&mut self, column: usize) {
+    fn put_turns(&mut self, column: usize)
+        requires kernel { IsKernel self.old }
+        requires inside { column < width_of self.old }
+        requires entering { IsLine self.old.entering }
+        requires pivot { pos 0 <ℤ number_at self.old.entering.numbers column }
+        ensures turns { AreTurns self.new column }
+        ensures left { self.new.left ≡ self.old.left }
+        ensures entering { self.new.entering ≡ self.old.entering }
+        ensures keeps { KeepsNumbers self.old self.new }
+    {
         let pivot = self.entering.numbers.as_slice()[column];
         for var in 0..self.lows.len() {
             self.turns[var] = turn_of(self.lows[var].numbers.as_slice()[column], pivot);
@@ -225,7 +235,12 @@ impl Kernel {
     }
 
     /// The least common multiple of the denominators of all lines.
-    fn least_common(&self) -> i64 {
+    fn least_common(&self) -> i64
+        requires kernel { IsKernel self.now }
+        ensures range { (pos 0 <ℤ result) × (result ≤ℤ pos (2 ^ 30)) }
+        ensures multiple { All (λ line. nat_abs line.denominator ∣ nat_abs result) self.now.lows.items }
+        ensures least { nat_abs result ∣ nat_abs self.now.common }
+    {
         let mut common = 1;
         for var in 0..self.lows.len() {
             let denominator = self.lows[var].denominator;
@@ -240,7 +255,11 @@ impl Kernel {
     }
 
     /// Makes the common denominator the least common multiple of those of the lines; the constants follow.
-    fn lower_common(&mut self) {
+    fn lower_common(&mut self)
+        requires kernel { IsKernel self.old }
+        ensures kernel { IsKernel self.new }
+        ensures stated { stated self.new ≡ stated self.old }
+    {
         let common = self.least_common();
         if common != self.common {
             self.common = common;
