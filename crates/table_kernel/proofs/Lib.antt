@@ -37,3 +37,4 @@ pub mod MovedKernels
 pub mod PutKernels
 pub mod Shares
 pub mod MoveReads
+pub mod LoweredCommon
