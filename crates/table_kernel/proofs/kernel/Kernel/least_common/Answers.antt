@@ -1,6 +1,6 @@
 -- The multiple of one line more.
 use Rattle.std.proofs.Common.{◌≡◌, ◌<◌, ◌+◌, length, subst, sym, arith, w64, to_z, nat_abs}
-use Rattle.table_kernel.proofs.LoweredCommon.{IsLeastTo, IsLineRead, all_multiple, line_is_read, multiple_small, next_both, next_same}
+use Rattle.table_kernel.proofs.LeastCommon.{IsLeastTo, IsLineRead, all_multiple, line_is_read, multiple_small, next_both, next_same}
 use Rattle.table_kernel.proofs.kernel.Kernel.least_common.Goals.{After-index, then-denominator-ne1+in-Some, else-denominator-ne1}
 use Rattle.table_kernel.proofs.kernel.Kernel.least_common.Goals as goal
 
