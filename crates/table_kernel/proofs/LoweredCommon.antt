@@ -24,7 +24,7 @@ use Rattle.integer_pivots.proofs.Sizes.{read, read_number, size_most}
 use Rattle.table_kernel.specs.declared.kernel.Kernel.{Kernel}
 use Rattle.table_kernel.specs.Bases.{AreAtBasis}
 use Rattle.table_kernel.specs.Constants.{AreConstantsPut, KeepsAllButConstants}
-use Rattle.table_kernel.specs.Kernels.{IsBounded, IsKernel, IsMoving, kernel_lines, lows_of, stated}
+use Rattle.table_kernel.specs.Kernels.{IsBounded, IsKernel, IsMoving, kernel_lines, stated}
 use Rattle.table_kernel.specs.Numbers.{fraction_lines, over_common, scaled_line, share_of}
 use Rattle.table_kernel.proofs.AtBasis.{kernel_basis, number_up, scaled_by, scaled_down}
 use Rattle.table_kernel.proofs.PutKernels.{put_kernel}
@@ -35,7 +35,8 @@ same_values : (p q : Fraction) (m : ℤ) (D : ℕ) → 0 < D → StandsFor p m D
     (p.numerator *ℤ pos q.denominator) ≡ (q.numerator *ℤ pos p.denominator)
 same_values p q m D D_some p_is q_is =
     cancel D _ _ D_some
-    (ring_by (p.numerator ∷ pos p.denominator ∷ q.numerator ∷ pos q.denominator ∷ m ∷ pos D ∷ []) (var 0 ⊗ var 3 ⊗ var 5) (var 2 ⊗ var 1 ⊗ var 5)
+    (ring_by (p.numerator ∷ pos p.denominator ∷ q.numerator ∷ pos q.denominator ∷ m ∷ pos D ∷ [])
+    (var 0 ⊗ var 3 ⊗ var 5) (var 2 ⊗ var 1 ⊗ var 5)
     (using (var 3) (var 0 ⊗ var 5) (var 4 ⊗ var 1) p_is (using (var 1) (var 4 ⊗ var 3) (var 2 ⊗ var 5) (sym q_is) nothing)) refl)
 
 -- a number times a factor, over the denominator times it, is the same fraction
@@ -193,7 +194,8 @@ module _ (k : Kernel) (common : ℤ) (l : IsLower k common) where
 -- the kernels with the constants put for the lower one
 pub kernel_lower : (k n : Kernel) (common : ℤ) → IsLower k common → IsKernel k → AreConstantsPut (with_common k common) n.constants.items →
     AllWithin (2 ^ 62) n.constants.items → KeepsAllButConstants (with_common k common) n → IsKernel n
-kernel_lower k n common l m are small keeps = put_kernel (with_common k common) n (moving_lower k common l m) m.whole.box m.whole.fit are small keeps
+kernel_lower k n common l m are small keeps =
+    put_kernel (with_common k common) n (moving_lower k common l m) m.whole.box m.whole.fit are small keeps
 
 -- a table with these lines
 abbrev with_lines : Table → List (List Fraction) → Table
@@ -208,7 +210,8 @@ with_lines t lines = record {
 }
 
 -- it stands for the same table
-pub stated_lower : (k n : Kernel) (common : ℤ) → IsLower k common → IsBounded k → KeepsAllButConstants (with_common k common) n → stated n ≡ stated k
+pub stated_lower : (k n : Kernel) (common : ℤ) → IsLower k common → IsBounded k →
+    KeepsAllButConstants (with_common k common) n → stated n ≡ stated k
 stated_lower k n common l b keeps = kept ∙ ap (with_lines k.table) (lines_lower k common l b)
   where
     kept : stated n ≡ stated (with_common k common)

@@ -1,5 +1,5 @@
 -- The multiple of one line more.
-use Rattle.std.proofs.Common.{◌≡◌, ◌<◌, ◌+◌, length, subst, sym, arith, w64, to_z, nat_abs}
+use Rattle.std.proofs.Common.{◌<◌, ◌+◌, length, subst, sym, arith, w64, to_z}
 use Rattle.table_kernel.proofs.LeastCommon.{IsLeastTo, IsLineRead, all_multiple, line_is_read, multiple_small, next_both, next_same}
 use Rattle.table_kernel.proofs.kernel.Kernel.least_common.Goals.{After-index, then-denominator-ne1+in-Some, else-denominator-ne1}
 use Rattle.table_kernel.proofs.kernel.Kernel.least_common.Goals as goal
@@ -22,17 +22,18 @@ loop-var-preserved c =
     let k = c.args.self.now in
     let v = c.loop-var.var in
     let common = to_z w64 c.loop-var.common-bits in
+    let d = c.index.result.now.denominator in
     let at = goal.at.loop-var-preserved c in
     let l = at_line at.After-index in
-    let next = IsLeastTo k.lows.items (nat_abs k.common) (v + 1) in
     elim c.if-denominator-ne1.branch [
-      then-denominator-ne1+in-Some w ↦ subst next (sym w.common-is)
-          (next_both k v common c.index.result.now.denominator w.in-Some.common c.requires.kernel.bounded l.0 l.1 c.loop-var.invariant w.in-Some.ensures)
-    | else-denominator-ne1 w ↦ subst next (sym w.common-is)
-          (next_same k v common c.index.result.now.denominator l.0 l.1 c.loop-var.invariant w.if-denominator-ne1.false)
+      then-denominator-ne1+in-Some w ↦ subst (IsLeastTo k (v + 1)) (sym w.common-is)
+          (next_both k v common d w.in-Some.common c.requires.kernel.bounded l.0 l.1 c.loop-var.invariant w.in-Some.ensures)
+    | else-denominator-ne1 w ↦ subst (IsLeastTo k (v + 1)) (sym w.common-is)
+          (next_same k v common d l.0 l.1 c.loop-var.invariant w.if-denominator-ne1.false)
     ]
 
 pub returns-clause-multiple : goal.returns-clause-multiple
 returns-clause-multiple c =
     let k = c.args.self.now in
-    all_multiple k.lows.items (nat_abs k.common) c.loop-var.var (to_z w64 c.loop-var.common-bits) (omega (arith, c.loop-var-test.false, c.len-var-end.ensures, k.lows.ok.0)) c.loop-var.invariant
+    all_multiple k c.loop-var.var (to_z w64 c.loop-var.common-bits)
+    (omega (arith, c.loop-var-test.false, c.len-var-end.ensures, k.lows.ok.0)) c.loop-var.invariant

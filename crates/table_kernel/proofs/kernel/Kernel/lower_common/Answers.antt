@@ -1,5 +1,4 @@
 -- The kernel over the lower common denominator, whose constants are put.
-use Rattle.std.specs.Prelude.{ℤ}
 use Rattle.integer_pivots.proofs.Sizes.{read}
 use Rattle.table_kernel.proofs.LoweredCommon.{IsLower, bounded_lower, kernel_lower, lower_read, stated_lower}
 use Rattle.table_kernel.proofs.kernel.Kernel.lower_common.Goals.{After-least_common-common}
@@ -20,9 +19,11 @@ pub returns-then-common-self-clause-kernel : goal.returns-then-common-self-claus
 returns-then-common-self-clause-kernel c =
     let at = goal.at.returns-then-common-self-clause-kernel c in
     let put = c.put_constants.ensures in
-    kernel_lower c.args.self.now c.put_constants.new.self (read c.least_common-common.result) (lower at.After-least_common-common) c.requires.kernel put.constants put.small put.keeps
+    kernel_lower c.args.self.now c.put_constants.new.self (read c.least_common-common.result) (lower at.After-least_common-common) c.requires.kernel
+    put.constants put.small put.keeps
 
 pub returns-then-common-self-clause-stated : goal.returns-then-common-self-clause-stated
 returns-then-common-self-clause-stated c =
     let at = goal.at.returns-then-common-self-clause-stated c in
-    stated_lower c.args.self.now c.put_constants.new.self (read c.least_common-common.result) (lower at.After-least_common-common) c.requires.kernel.bounded c.put_constants.ensures.keeps
+    stated_lower c.args.self.now c.put_constants.new.self (read c.least_common-common.result) (lower at.After-least_common-common)
+    c.requires.kernel.bounded c.put_constants.ensures.keeps
