@@ -114,7 +114,6 @@ with_common k common = record {
 }
 
 module _ (k : Kernel) (common : ℤ) (l : IsLower k common) where
-
   -- how often the lower one goes into the common one
   abbrev times : ℕ
   times = nat_abs k.common / nat_abs common

@@ -26,9 +26,9 @@ loop-var-preserved c =
     let at = goal.at.loop-var-preserved c in
     let l = at_line at.After-index in
     elim c.if-denominator-ne1.branch [
-      then-denominator-ne1+in-Some w ↦ subst (IsLeastTo k (v + 1)) (sym w.common-is)
+      | then-denominator-ne1+in-Some w ↦ subst (IsLeastTo k (v + 1)) (sym w.common-is)
           (next_both k v common d w.in-Some.common c.requires.kernel.bounded l.0 l.1 c.loop-var.invariant w.in-Some.ensures)
-    | else-denominator-ne1 w ↦ subst (IsLeastTo k (v + 1)) (sym w.common-is)
+      | else-denominator-ne1 w ↦ subst (IsLeastTo k (v + 1)) (sym w.common-is)
           (next_same k v common d l.0 l.1 c.loop-var.invariant w.if-denominator-ne1.false)
     ]
 
