@@ -154,16 +154,18 @@ module _ (m most f e a : ℤ) (k : AreKept m most f e a) where
       test_natural _ (pos (2 ^ 30)) (nat_abs m * nat_abs most + nat_abs f * nat_abs e) (2 ^ 30)
       (ap read sum_is ∙ read_number (pos (nat_abs m * nat_abs most + nat_abs f * nat_abs e)) sum_small) refl
 
--- the size of a product of numbers of at most 2^30 in size, and the sum of two such sizes
+-- the size of a product of numbers of at most 2^30 in size is the product of their sizes
 product_abs : (x y a : ℤ) → nat_abs x ≤ 2 ^ 30 → nat_abs y ≤ 2 ^ 30 → a ≡ pos (nat_abs (read (read x *ℤ read y))) → a ≡ pos (nat_abs x * nat_abs y)
 product_abs x y a x_small y_small is =
     is ∙ ap (λ (z : ℤ). pos (nat_abs z)) (product_read x y x_small y_small) ∙ ap pos (unsigned_abs-mul x y)
 
+-- such a product is at most 2^60
 pub product_fits : (x y : ℤ) → nat_abs x ≤ 2 ^ 30 → nat_abs y ≤ 2 ^ 30 → nat_abs (read (read x *ℤ read y)) ≤ 2 ^ 60
 product_fits x y x_small y_small =
     let size = product_small (2 ^ 30) (2 ^ 30) x y x_small y_small in
     omega (arith, size, ap nat_abs (product_read x y x_small y_small))
 
+-- and 64 bits hold it, and what it is with the other sign
 pub product_of_read : (x y : ℤ) → nat_abs x ≤ 2 ^ 30 → nat_abs y ≤ 2 ^ 30 → FitsSigned w64 (read x *ℤ read y)
 product_of_read x y x_small y_small =
     let size = product_small (2 ^ 30) (2 ^ 30) x y x_small y_small in
@@ -194,6 +196,7 @@ module _ (m most f e a b : ℤ) (k : AreMeasured m most f e a b) where
   second_small : nat_abs f * nat_abs e ≤ 2 ^ 60
   second_small = let small : nat_abs f * nat_abs e ≤ 2 ^ 30 * 2 ^ 30 = mul-le-mul k.factor k.entering in omega (arith, small)
 
+  -- their sum is that of the products of sizes
   measured_is : (read a +ℤ read b) ≡ pos (nat_abs m * nat_abs most + nat_abs f * nat_abs e)
   measured_is =
       ap₂ (λ (x y : ℤ). x +ℤ y)

@@ -1,12 +1,9 @@
--- Sums of rows to which the uses of a variable put its number: use by use, and variable by variable.
-use Rattle.std.proofs.Common.{◌≡◌, ℕ, zero, suc, ◌+◌, ◌*◌, ◌^◌, ◌<◌, ◌≤◌, refl, sym, ◌∙◌, ap, subst, List, [], ◌∷◌, length, get_or, set, drop, arith, add-one, zero-add, drop-cons, inl, inr, FitsSigned, w64}
-use Rattle.std.specs.Prelude.{ℤ, pos, ◌+ℤ◌, ◌*ℤ◌, nat_abs, sum_by, All, ◌≢◌}
-use Rattle.std.proofs.Math.Nat.{mul-le-mul_left}
-use Rattle.std.proofs.Math.Seq.{drop-nil}
+-- Sums of rows to which the uses of a variable put its number, use by use.
+use Rattle.std.proofs.Common.{◌≡◌, ℕ, ◌+◌, ◌*◌, ◌^◌, ◌<◌, ◌≤◌, refl, sym, ◌∙◌, ap, subst, List, [], ◌∷◌, length, get_or, set, drop, arith, add-one, zero-add, drop-cons, inl, inr, FitsSigned, w64}
+use Rattle.std.specs.Prelude.{ℤ, pos, ◌+ℤ◌, ◌*ℤ◌, nat_abs, All, ◌≢◌}
 use Rattle.std.proofs.lemmas.Bool.{cases_eq}
-use Rattle.std.proofs.lemmas.Int.{fits_signed_from_abs, ints, unsigned_abs-mul}
+use Rattle.std.proofs.lemmas.Int.{fits_signed_from_abs}
 use Rattle.std.proofs.lemmas.List.{at_drop_all, get_or-set_other, get_or-set_same}
-use Rattle.std.proofs.lemmas.List.Sums.{sum_by-cons}
 use Rattle.whole_numbers.proofs.Ring.{var, num, ◌⊕◌, ◌⊗◌, ring}
 use Rattle.whole_numbers.specs.Lists.{number_at}
 use Rattle.whole_numbers.proofs.Sizes.{sum_size}
@@ -16,7 +13,6 @@ use Rattle.integer_pivots.specs.declared.uses.Use.{Use}
 use Rattle.integer_pivots.specs.Uses.{coefficient_in, size_in, uses_from}
 use Rattle.integer_pivots.proofs.Sizes.{product_size, read, read_number}
 use Rattle.integer_pivots.proofs.UseLaws.{other_rest, own_rest, row_told, uses_within}
-use Rattle.integer_pivots.specs.Numbers.{product_sum}
 
 abbrev pub no_use : Use
 no_use = record { row = 0; coefficient = pos 0 }

@@ -1,8 +1,8 @@
 -- The sizes of the products are added and compared as they are.
-use Rattle.std.proofs.Common.{◌*◌, ◌^◌, ◌<◌, ◌≤◌, ap, subst, sym, arith, w64}
-use Rattle.std.specs.Prelude.{ℤ, pos, ◌*ℤ◌, ◌≤ℤ◌, nat_abs}
-use Rattle.std.proofs.lemmas.Int.{fits_signed_from_abs, fits_signed_mul, ints, unsigned_abs-mul}
-use Rattle.integer_pivots.proofs.Sizes.{product_read, read, read_known, read_number}
+use Rattle.std.proofs.Common.{ap, subst, sym, arith}
+use Rattle.std.specs.Prelude.{ℤ, pos, ◌≤ℤ◌, nat_abs}
+use Rattle.std.proofs.lemmas.Int.{ints, unsigned_abs-mul}
+use Rattle.integer_pivots.proofs.Sizes.{product_read, read_known}
 use Rattle.integer_pivots.proofs.TurnLaws.{AreMeasured, measured_fits, measured_read, negated_fits, product_fits, product_of_read}
 use Rattle.integer_pivots.proofs.turn.Turn.most_after.Goals as goal
 use Rattle.integer_pivots.proofs.turn.Turn.most_after.Goals.{After-abs-2}
