@@ -82,6 +82,11 @@ pub no_factor : (k : Kernel) (column v : ℕ) (turn : Turn) → turn ≡ turn_of
     of_z w64 turn.factor ≡ 0 → (turn_of_line k column v).factor ≡ pos 0
 no_factor k column v turn is small none = sym (ap (λ (t : Turn). t.factor) is) ∙ bits_none turn.factor (omega (arith, small)) none
 
+-- and one that isn't
+pub some_factor : (k : Kernel) (column v : ℕ) (turn : Turn) → turn ≡ turn_of_line k column v → (of_z w64 turn.factor ≡ 0 → ⊥) →
+    (turn_of_line k column v).factor ≡ pos 0 → ⊥
+some_factor k column v turn is some none = some (ap (of_z w64) (ap (λ (t : Turn). t.factor) is ∙ none))
+
 -- the denominator after the pivot, as it is made
 pub after_read : (k : Kernel) (column v : ℕ) (line : Line) (turn : Turn) → IsLineReady k column v → line ≡ line_of k v → turn ≡ turn_of_line k column v →
     (pos 0 <ℤ turn.multiplier) × (turn.multiplier ≤ℤ pos (2 ^ 30)) →
