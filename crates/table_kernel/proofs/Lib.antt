@@ -21,6 +21,7 @@ pub mod Lines
 pub mod SameKernels
 pub mod Turning
 pub mod TurnArgs
+pub mod HeldTurns
 pub mod CommonSteps
 pub mod Pivoting
 pub mod Refusals
