@@ -38,3 +38,5 @@ pub mod MovedKernels
 pub mod PutKernels
 pub mod Shares
 pub mod MoveReads
+pub mod LeastCommon
+pub mod LoweredCommon
