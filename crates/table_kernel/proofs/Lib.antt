@@ -15,6 +15,7 @@ pub mod LineSums
 pub mod Factors
 pub mod WideNumbers
 pub mod PlaceConstants
+pub mod FollowedConstants
 pub mod MoreRows
 pub mod Corners
 pub mod Lines
