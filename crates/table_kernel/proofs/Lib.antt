@@ -29,6 +29,8 @@ pub mod Refusals
 pub mod TurnKernels
 pub mod StayingWithin
 pub mod TurnedRows
+pub mod FirstConstants
+pub mod FollowedTurns
 pub mod RowWeights
 pub mod ConstantSums
 pub mod Places

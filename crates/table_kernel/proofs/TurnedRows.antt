@@ -340,12 +340,15 @@ leads_after k h column befores afters lows o r turned befores_are lows_are moves
     (subst (AreLeads (rows_of k.lows.items)) (sym (befores_are ∙ ap (λ (vs : Vec ℕ Global). vs.items) o.leads)) lead))
 
 -- and are put
+abbrev pub AreLeadsPut : Kernel → Kernel → Vec ℕ Global → Type 0
+AreLeadsPut k h leads =
+    (length leads.items ≡ length k.leads.items) × (AreLeads (rows_of k.lows.items) k.leads.items → AreLeads (rows_of h.lows.items) leads.items)
+
 pub leads_put : (k h : Kernel) (column : ℕ) (befores afters : List ℕ) (lows : List Line) → KeepsAllButLows k h → IsReadyToTurn k column →
     AreLinesTurned k h column → befores ≡ h.leads.items → lows ≡ h.lows.items → length afters ≡ length befores →
     ((olds : List Line) → AreTurnedLines h.entering column olds lows → All (λ (line : Line). pos 0 <ℤ line.denominator) olds →
     AreLeads (rows_of olds) befores → AreLeads (rows_of lows) afters) →
-    (length (with_items h.leads afters).items ≡ length k.leads.items)
-    × (AreLeads (rows_of k.lows.items) k.leads.items → AreLeads (rows_of h.lows.items) (with_items h.leads afters).items)
+    AreLeadsPut k h (with_items h.leads afters)
 leads_put k h column befores afters lows o r turned befores_are lows_are counted moves =
     let long : length afters ≡ length h.leads.items = counted ∙ ap length befores_are in
     let are : (with_items h.leads afters).items ≡ afters = with_items_is h.leads afters (omega (arith, long, h.leads.ok.0)) in (
