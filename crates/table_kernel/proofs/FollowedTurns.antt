@@ -1,6 +1,6 @@
 -- What the constants need to follow the lines that have turned, where the common denominator stays.
 use Rattle.std.specs.declared.alloc.Global.{Global}
-use Rattle.std.proofs.Common.{Vec, ◌≡◌, ℕ, ◌<◌, refl, sym, ◌∙◌, ap, subst, length, arith, to_z, of_z, w64}
+use Rattle.std.proofs.Common.{Vec, ◌≡◌, ℕ, ◌<◌, sym, ◌∙◌, ap, subst, length, arith, to_z, of_z, w64}
 use Rattle.std.specs.Prelude.{ℤ, pos}
 use Rattle.whole_numbers.specs.Lists.{number_at}
 use Rattle.integer_pivots.specs.declared.line.Line.{Line}

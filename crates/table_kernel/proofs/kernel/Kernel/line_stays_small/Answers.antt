@@ -1,5 +1,5 @@
 -- A line without a factor stays as it is.
-use Rattle.std.proofs.Common.{arith, refl}
+use Rattle.std.proofs.Common.{refl}
 use Rattle.table_kernel.specs.Turns.{line_of}
 use Rattle.table_kernel.proofs.StayingWithin.{small_here}
 use Rattle.table_kernel.proofs.TurnArgs.{no_factor}

@@ -1,6 +1,5 @@
 -- The line has turned, or has no number at the column and stays.
-use Rattle.std.proofs.Common.{refl, ap, sym, ◌∙◌, arith}
-use Rattle.integer_pivots.specs.declared.turn.Turn.{Turn}
+use Rattle.std.proofs.Common.{refl}
 use Rattle.table_kernel.proofs.TurnArgs.{line_read, no_factor, some_factor}
 use Rattle.table_kernel.proofs.TurnedRows.{line_put, line_stays}
 use Rattle.table_kernel.proofs.kernel.Kernel.turn_line.Goals as goal
