@@ -1,0 +1,67 @@
+-- One variable's constants more follow.
+use Rattle.std.proofs.Common.{rules, ◌≡◌, ◌<◌, ◌≤◌, ◌∙◌, ap, length, subst, sym, arith}
+use Rattle.std.specs.Int.Signed.{mag}
+use Rattle.std.proofs.lemmas.Int.{ints}
+use Rattle.std.proofs.lemmas.List.{get_or_default}
+use Rattle.fraction_table.specs.Tableaus.{FitsBox}
+use Rattle.integer_pivots.specs.declared.turn.Turn.{Turn}
+use Rattle.table_kernel.specs.Kernels.{width_of}
+use Rattle.table_kernel.specs.Turns.{held_turn, no_turn}
+use Rattle.table_kernel.proofs.FollowedLines.{all_followed, first_meanwhile, kept_bounded, kept_by_first, kept_fit, kept_high, kept_shaped, kept_width, none_followed, one_followed, one_stays}
+use Rattle.table_kernel.proofs.TurnArgs.{bits_none}
+use Rattle.table_kernel.proofs.kernel.Kernel.follow_lines.Goals.{then-index-ne0, else-index-ne0}
+use Rattle.table_kernel.proofs.kernel.Kernel.follow_lines.Goals as goal
+
+pub loop-var-init : goal.loop-var-init
+loop-var-init c = none_followed c.args.self.now c.requires.bounded c.requires.by_first
+
+pub follow-requires-clause-shaped : goal.follow-requires-clause-shaped
+follow-requires-clause-shaped c =
+    let f = c.loop-var.invariant in
+    kept_shaped c.args.self.now c.loop-var.self f.keeps f.by_first.count c.requires.shaped
+
+pub follow-requires-clause-bounded : goal.follow-requires-clause-bounded
+follow-requires-clause-bounded c =
+    let f = c.loop-var.invariant in
+    kept_bounded c.args.self.now c.loop-var.self f.keeps f.small c.requires.bounded
+
+pub follow-requires-clause-fit : goal.follow-requires-clause-fit
+follow-requires-clause-fit c = kept_fit c.args.self.now c.loop-var.self c.loop-var.invariant.keeps c.requires.fit
+
+pub follow-requires-clause-high : goal.follow-requires-clause-high
+follow-requires-clause-high c = kept_high c.args.self.now c.loop-var.self c.loop-var.invariant.keeps c.requires.high
+
+pub follow-requires-clause-var : goal.follow-requires-clause-var
+follow-requires-clause-var c =
+    let k = c.args.self.now in
+    omega (arith, c.loop-var-test.true, c.len-var-end.ensures, k.lows.ok.0, c.requires.shaped.lows, kept_width k c.loop-var.self c.loop-var.invariant.keeps)
+
+pub follow-requires-clause-first : goal.follow-requires-clause-first
+follow-requires-clause-first c =
+    first_meanwhile c.args.self.now c.loop-var.self c.loop-var.var c.requires.shaped c.requires.bounded c.requires.first c.loop-var.invariant
+
+pub follow-requires-clause-by_first : goal.follow-requires-clause-by_first
+follow-requires-clause-by_first c =
+    let f = c.loop-var.invariant in
+    kept_by_first c.args.self.now c.loop-var.self f.keeps f.by_first
+
+pub loop-var-preserved : goal.loop-var-preserved
+loop-var-preserved c =
+    elim c.if-index-ne0.branch [
+      | then-index-ne0 w ↦ ?
+      | else-index-ne0 w ↦
+          let fits : mag c.index.result.now.factor < 9223372036854775808 = search rules in
+          ?
+    ]
+
+pub returns-clause-constants : goal.returns-clause-constants
+returns-clause-constants c =
+    let k = c.args.self.now in
+    all_followed k c.loop-var.self c.loop-var.var c.requires.shaped c.requires.bounded c.requires.fit
+    (omega (arith, c.loop-var-test.false, c.len-var-end.ensures, k.lows.ok.0, c.requires.shaped.lows)) c.loop-var.invariant
+
+pub returns-clause-small : goal.returns-clause-small
+returns-clause-small c = c.loop-var.invariant.small
+
+pub returns-clause-keeps : goal.returns-clause-keeps
+returns-clause-keeps c = c.loop-var.invariant.keeps
