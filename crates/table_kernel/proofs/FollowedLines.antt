@@ -1,21 +1,25 @@
 -- The constants of a kernel's forms where the lines of some variables have changed, variable by variable.
 use Rattle.std.specs.declared.alloc.Global.{Global}
-use Rattle.std.proofs.Common.{Vec, ◌≡◌, ◌≢◌, ℕ, ◌+◌, ◌^◌, ◌<◌, ◌≤◌, refl, sym, ◌∙◌, ap, subst, List, length, arith, inl, inr}
+use Rattle.std.proofs.Common.{Vec, ◌≡◌, ◌≢◌, ℕ, ◌+◌, ◌^◌, ◌<◌, ◌≤◌, refl, sym, ◌∙◌, ap, subst, List, length, arith, inl, inr, w64, to_z, of_z}
 use Rattle.std.specs.Prelude.{ℤ, pos, ◌+ℤ◌, ◌-ℤ◌, ◌*ℤ◌, nat_abs, slice_index, slice_index_or, All}
+use Rattle.std.specs.Int.Signed.{mag}
 use Rattle.std.proofs.lemmas.Bool.{cases_eq, cases_lt}
+use Rattle.std.proofs.lemmas.List.{get_or_default}
 use Rattle.whole_numbers.proofs.Sizes.{positive_is}
 use Rattle.whole_numbers.specs.Lists.{number_at}
 use Rattle.design_problem.specs.Forms.{no_form, value_for_costs}
 use Rattle.fraction_table.specs.Tableaus.{FitsBox}
+use Rattle.integer_pivots.specs.declared.turn.Turn.{Turn}
 use Rattle.integer_pivots.specs.Numbers.{AllWithin, product_sum}
+use Rattle.integer_pivots.proofs.Sizes.{number_within, read_known}
 use Rattle.table_kernel.specs.declared.kernel.Kernel.{Kernel}
 use Rattle.table_kernel.specs.Constants.{AreByFirst, AreConstantsPut, AreFirstSmall, KeepsAllButConstants, constant_of_line}
 use Rattle.table_kernel.specs.Kernels.{IsBounded, IsShaped, width_of}
+use Rattle.table_kernel.specs.Turns.{held_turn, no_turn}
 use Rattle.table_kernel.proofs.Columns.{constants_long, constants_within, low_constant_at, low_constants}
 use Rattle.table_kernel.proofs.ConstantSums.{sums_alike}
 use Rattle.table_kernel.proofs.FollowedConstants.{constants_many}
 use Rattle.table_kernel.proofs.Places.{constants_are}
-use Rattle.integer_pivots.proofs.Sizes.{number_within}
 
 -- a kernel that differs in its constants alone is the one with these constants
 abbrev with_constants : Kernel → Vec ℤ Global → Kernel
@@ -191,3 +195,11 @@ all_followed k now var s b fit all f =
           (sums_alike form.coefficients news zs (omega (arith, few, f.by_first.count, constants_many k s)) (omega (arith, few, constants_long k s))
           (λ i i_in. low i (omega (arith, i_in, few))))));
     }
+
+-- a turn that is read without a factor is one that a kernel holds
+pub read_factor : (k now : Kernel) (v : ℕ) (turn : Turn) → KeepsAllButConstants k now → IsShaped k → v < width_of k →
+    turn ≡ slice_index_or now.turns.items v turn → mag turn.factor < 2 ^ 63 → of_z w64 turn.factor ≡ 0 → (held_turn k v).factor ≡ pos 0
+read_factor k now v turn keeps s v_in is fits none =
+    let same : turn ≡ held_turn k v =
+    is ∙ ap (λ (ts : Vec Turn Global). slice_index_or ts.items v turn) keeps.turns ∙ get_or_default k.turns.items v turn no_turn (omega (arith, v_in, s.turns)) in
+    ap (λ (t : Turn). t.factor) (sym same) ∙ sym (read_known turn.factor fits) ∙ ap (to_z w64) none

@@ -1,14 +1,8 @@
 -- One variable's constants more follow.
-use Rattle.std.proofs.Common.{rules, ◌≡◌, ◌<◌, ◌≤◌, ◌∙◌, ap, length, subst, sym, arith}
+use Rattle.std.proofs.Common.{rules, ◌^◌, ◌+◌, ◌<◌, subst, sym, arith}
 use Rattle.std.specs.Int.Signed.{mag}
-use Rattle.std.proofs.lemmas.Int.{ints}
-use Rattle.std.proofs.lemmas.List.{get_or_default}
-use Rattle.fraction_table.specs.Tableaus.{FitsBox}
-use Rattle.integer_pivots.specs.declared.turn.Turn.{Turn}
-use Rattle.table_kernel.specs.Kernels.{width_of}
-use Rattle.table_kernel.specs.Turns.{held_turn, no_turn}
-use Rattle.table_kernel.proofs.FollowedLines.{all_followed, first_meanwhile, kept_bounded, kept_by_first, kept_fit, kept_high, kept_shaped, kept_width, none_followed, one_followed, one_stays}
-use Rattle.table_kernel.proofs.TurnArgs.{bits_none}
+use Rattle.table_kernel.specs.declared.kernel.Kernel.{Kernel}
+use Rattle.table_kernel.proofs.FollowedLines.{AreFollowedTo, all_followed, first_meanwhile, kept_bounded, kept_by_first, kept_fit, kept_high, kept_shaped, kept_width, none_followed, one_followed, one_stays, read_factor}
 use Rattle.table_kernel.proofs.kernel.Kernel.follow_lines.Goals.{then-index-ne0, else-index-ne0}
 use Rattle.table_kernel.proofs.kernel.Kernel.follow_lines.Goals as goal
 
@@ -47,11 +41,20 @@ follow-requires-clause-by_first c =
 
 pub loop-var-preserved : goal.loop-var-preserved
 loop-var-preserved c =
+    let k = c.args.self.now in
+    let now = c.loop-var.self in
+    let v = c.loop-var.var in
+    let f = c.loop-var.invariant in
     elim c.if-index-ne0.branch [
-      | then-index-ne0 w ↦ ?
+      | then-index-ne0 w ↦
+          subst (λ (n : Kernel). AreFollowedTo k n (v + 1)) (sym w.self-is)
+          (one_followed k now w.follow.new.self v f w.follow.ensures.keeps w.follow.ensures.own w.follow.ensures.others
+          w.follow.ensures.by_first w.follow.ensures.small)
       | else-index-ne0 w ↦
-          let fits : mag c.index.result.now.factor < 9223372036854775808 = search rules in
-          ?
+          let fits : mag c.index.result.now.factor < 2 ^ 63 = search rules in
+          subst (λ (n : Kernel). AreFollowedTo k n (v + 1)) (sym w.self-is)
+          (one_stays k now v f (λ v_in. c.requires.stays v v_in
+          (read_factor k now v c.index.result.now f.keeps c.requires.shaped v_in c.index.ensures fits w.if-index-ne0.false)))
     ]
 
 pub returns-clause-constants : goal.returns-clause-constants
