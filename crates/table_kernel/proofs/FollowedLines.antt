@@ -69,10 +69,12 @@ pub kept_width : (old new : Kernel) → KeepsAllButConstants old new → width_o
 kept_width old new keeps = ap width_of (rebuilt old new keeps)
 
 -- its rows fit its box as before
-pub kept_fit : (old new : Kernel) → KeepsAllButConstants old new → All (FitsBox old.table.costs) old.table.rows.items → All (FitsBox new.table.costs) new.table.rows.items
+pub kept_fit : (old new : Kernel) → KeepsAllButConstants old new → All (FitsBox old.table.costs) old.table.rows.items →
+    All (FitsBox new.table.costs) new.table.rows.items
 kept_fit old new keeps fit = subst (λ (k : Kernel). All (FitsBox k.table.costs) k.table.rows.items) (sym (rebuilt old new keeps)) fit
 
-pub kept_high : (old new : Kernel) → KeepsAllButConstants old new → length old.table.costs.high ≡ width_of old → length new.table.costs.high ≡ width_of new
+pub kept_high : (old new : Kernel) → KeepsAllButConstants old new →
+    length old.table.costs.high ≡ width_of old → length new.table.costs.high ≡ width_of new
 kept_high old new keeps high = subst (λ (k : Kernel). length k.table.costs.high ≡ width_of k) (sym (rebuilt old new keeps)) high
 
 -- constants that are by the first ones in the one kernel are so in the other
@@ -201,5 +203,7 @@ pub read_factor : (k now : Kernel) (v : ℕ) (turn : Turn) → KeepsAllButConsta
     turn ≡ slice_index_or now.turns.items v turn → mag turn.factor < 2 ^ 63 → of_z w64 turn.factor ≡ 0 → (held_turn k v).factor ≡ pos 0
 read_factor k now v turn keeps s v_in is fits none =
     let same : turn ≡ held_turn k v =
-    is ∙ ap (λ (ts : Vec Turn Global). slice_index_or ts.items v turn) keeps.turns ∙ get_or_default k.turns.items v turn no_turn (omega (arith, v_in, s.turns)) in
+    is
+    ∙ ap (λ (ts : Vec Turn Global). slice_index_or ts.items v turn) keeps.turns
+    ∙ get_or_default k.turns.items v turn no_turn (omega (arith, v_in, s.turns)) in
     ap (λ (t : Turn). t.factor) (sym same) ∙ sym (read_known turn.factor fits) ∙ ap (to_z w64) none
