@@ -357,9 +357,11 @@ keeps_entering old mid line keeps long = record {
   lows = keeps.lows;
   leads = keeps.leads;
   constants = keeps.constants;
+  uses = keeps.uses;
+  turns = keeps.turns;
   left = keeps.left;
   entering = long ∙ keeps.entering;
 }
 
 pub keeps_self : (k : Kernel) → KeepsNumbers k k
-keeps_self k = record { table = refl; common = refl; lows = refl; leads = refl; constants = refl; left = omega arith; entering = refl }
+keeps_self k = record { table = refl; common = refl; lows = refl; leads = refl; constants = refl; uses = refl; turns = refl; left = omega arith; entering = refl }

@@ -28,6 +28,8 @@ use Rattle.integer_pivots.specs.declared.line.Line.{Line}
 use Rattle.integer_pivots.specs.Lines.{IsLine, rows_of}
 use Rattle.integer_pivots.specs.Leads.{AreLeads}
 use Rattle.integer_pivots.specs.Numbers.{AllWithin, product_sum, weight_of}
+use Rattle.integer_pivots.specs.Uses.{held_in, uses_by}
+use Rattle.integer_pivots.specs.declared.turn.Turn.{Turn}
 use Rattle.table_kernel.specs.declared.kernel.Kernel.{Kernel}
 use Rattle.table_kernel.specs.Kernels.{IsBounded, IsKernel, IsShaped, lows_of, width_of}
 use Rattle.table_kernel.specs.Bases.{AreAtBasis}
@@ -118,6 +120,8 @@ pub record IsGrown (old new : Kernel) (f : Form) (line : List Fraction) (z : ℤ
   pub lows : new.lows ≡ old.lows
   pub leads : new.leads ≡ old.leads
   pub constants : new.constants.items ≡ old.constants.items ++ z ∷ []
+  pub uses : held_in new.uses.items ≡ uses_by (old.table.rows.items ++ f ∷ []) (width_of old)
+  pub turns : new.turns ≡ old.turns
   pub left : vec_capacity new.left ≡ vec_capacity old.left
   pub entering : new.entering ≡ old.entering
 
@@ -150,6 +154,8 @@ grown_shaped old new f line z s g =
         members_long old.table.costs (length old.table.rows.items),
         members_long new.table.costs (length new.table.rows.items),
       );
+      uses = g.uses ∙ ap (λ (rows : List Form). uses_by rows n) (sym t.rows) ∙ ap (uses_by new.table.rows.items) (sym width);
+      turns = ap (λ (ts : Vec Turn Global). length ts.items) g.turns ∙ s.turns ∙ sym width;
       left = omega (arith, width, s.left, g.left);
       entering = ap (λ (l : Line). length l.numbers) g.entering ∙ s.entering ∙ sym width;
       lines = omega (arith, lines, s.lines, constants);

@@ -23,6 +23,8 @@ kernel_with s constants m box fit are small =
       leads = m.shaped.leads;
       lead = m.shaped.lead;
       constants = are.count ∙ m.shaped.constants;
+      uses = m.shaped.uses;
+      turns = m.shaped.turns;
       left = m.shaped.left;
       entering = m.shaped.entering;
       lines = m.shaped.lines ∙ sym are.count;
@@ -46,4 +48,4 @@ put_kernel s n m box fit are small keeps =
     subst IsKernel (sym rebuilt) (kernel_with s n.constants m box fit are small)
   where
     rebuilt : n ≡ record s { constants = n.constants }
-    rebuilt = rw (sym keeps.table, sym keeps.common, sym keeps.lows, sym keeps.leads, sym keeps.left, sym keeps.entering) refl
+    rebuilt = rw (sym keeps.table, sym keeps.common, sym keeps.lows, sym keeps.leads, sym keeps.uses, sym keeps.turns, sym keeps.left, sym keeps.entering) refl

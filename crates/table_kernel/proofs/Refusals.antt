@@ -17,10 +17,10 @@ pub on_err : {Value Error Fact : Type 0} (answer : Result Value Error) → Fact 
 on_err (Ok value) fact = tt
 on_err (Err error) fact = fact
 
--- the one kernel is the other but for its columns
-pub but_columns : (old new : Kernel) → KeepsNumbers old new → new.entering ≡ old.entering → new ≡ record old { left = new.left }
+-- the one kernel is the other but for its columns and its turns
+pub but_columns : (old new : Kernel) → KeepsNumbers old new → new.entering ≡ old.entering → new ≡ record old { turns = new.turns; left = new.left }
 but_columns old new keeps entering =
-    rebuilt old new keeps ∙ ap (λ (line : Line). record old { left = new.left; entering = line }) entering
+    rebuilt old new keeps ∙ ap (λ (line : Line). record old { turns = new.turns; left = new.left; entering = line }) entering
 
 -- so its entering line is that of the same place
 pub entering_kept : (old new : Kernel) (place : ℕ) → KeepsNumbers old new → new.entering ≡ old.entering → IsEntering old place → IsEntering new place

@@ -6,7 +6,7 @@ use Rattle.table_kernel.specs.Kernels.{IsKernel, stated}
 use Rattle.table_kernel.specs.Lines.{KeepsNumbers}
 
 -- the one kernel is the other with another room
-pub rebuilt : (old new : Kernel) → KeepsNumbers old new → new ≡ record old { left = new.left; entering = new.entering }
+pub rebuilt : (old new : Kernel) → KeepsNumbers old new → new ≡ record old { turns = new.turns; left = new.left; entering = new.entering }
 rebuilt old new keeps =
     rw (
       sym keeps.table,
@@ -14,6 +14,7 @@ rebuilt old new keeps =
       sym keeps.lows,
       sym keeps.leads,
       sym keeps.constants,
+      sym keeps.uses,
     ) refl
 
 -- so it stands for the same table
@@ -32,6 +33,8 @@ keeps_kernel old new keeps m =
         leads = m.shaped.leads;
         lead = m.shaped.lead;
         constants = m.shaped.constants;
+        uses = m.shaped.uses;
+        turns = keeps.turns ∙ m.shaped.turns;
         entering = keeps.entering ∙ m.shaped.entering;
         left = omega (arith, keeps.left, m.shaped.left);
         lines = m.shaped.lines;
@@ -59,6 +62,8 @@ left_keeps old new is room = record {
   lows = ap (λ (k : Kernel). k.lows) is;
   leads = ap (λ (k : Kernel). k.leads) is;
   constants = ap (λ (k : Kernel). k.constants) is;
+  uses = ap (λ (k : Kernel). k.uses) is;
+  turns = ap (λ (k : Kernel). length k.turns.items) is;
   entering = ap (λ (k : Kernel). length k.entering.numbers) is;
   left = room;
 }
@@ -71,6 +76,8 @@ keeps_twice first second third k l = record {
   lows = l.lows ∙ k.lows;
   leads = l.leads ∙ k.leads;
   constants = l.constants ∙ k.constants;
+  uses = l.uses ∙ k.uses;
+  turns = l.turns ∙ k.turns;
   entering = l.entering ∙ k.entering;
   left = omega (arith, k.left, l.left);
 }

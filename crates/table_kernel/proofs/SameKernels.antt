@@ -16,6 +16,8 @@ use Rattle.integer_pivots.specs.Leads.{AreLeads}
 use Rattle.integer_pivots.specs.declared.line.Line.{Line}
 use Rattle.integer_pivots.specs.Lines.{IsLine, rows_of}
 use Rattle.integer_pivots.specs.Numbers.{AllWithin, weight_of}
+use Rattle.integer_pivots.specs.declared.turn.Turn.{Turn}
+use Rattle.integer_pivots.proofs.UseLaws.{uses_kept}
 use Rattle.table_kernel.specs.declared.kernel.Kernel.{Kernel}
 use Rattle.table_kernel.specs.Kernels.{IsBounded, IsKernel, IsShaped, kernel_lines, lows_of, stated, width_of}
 use Rattle.table_kernel.specs.Bases.{AreAtBasis}
@@ -23,7 +25,6 @@ use Rattle.table_kernel.specs.Constants.{AreConstants}
 use Rattle.table_kernel.specs.Numbers.{scaled_line, share_of}
 use Rattle.table_kernel.specs.Rows.{HoldsNumbers}
 use Rattle.table_kernel.proofs.AtBasis.{basis_kernel, kernel_basis, stated_lines}
-
 
 same_shaped : (old new : Kernel) → HoldsSame old.table new.table → HoldsNumbers old new → IsShaped old → IsShaped new
 same_shaped old new t h s =
@@ -45,6 +46,8 @@ same_shaped old new t h s =
       lead = subst (λ (ls : Vec Line Global). AreLeads (rows_of ls.items) new.leads.items) (sym h.lows)
           (subst (λ (vs : Vec ℕ Global). AreLeads (rows_of old.lows.items) vs.items) (sym h.leads) s.lead);
       constants = constants ∙ s.constants ∙ sym counted;
+      uses = uses_kept old.uses.items new.uses.items old.table.rows.items new.table.rows.items (width_of old) (width_of new) h.uses t.rows width s.uses;
+      turns = ap (λ (ts : Vec Turn Global). length ts.items) h.turns ∙ s.turns ∙ sym width;
       left = omega (arith, width, s.left, h.left);
       entering = ap (λ (line : Line). length line.numbers) h.entering ∙ s.entering ∙ sym width;
       lines = ap length t.lines ∙ s.lines ∙ sym constants;

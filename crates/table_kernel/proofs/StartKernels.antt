@@ -30,6 +30,7 @@ use Rattle.integer_pivots.specs.declared.line.Line.{Line}
 use Rattle.integer_pivots.specs.Lines.{IsLine, rows_of}
 use Rattle.integer_pivots.specs.Leads.{AreLeads, IsLead}
 use Rattle.integer_pivots.specs.Numbers.{AllWithin, weight_of}
+use Rattle.integer_pivots.specs.Uses.{held_in, uses_by}
 use Rattle.table_kernel.specs.declared.kernel.Kernel.{Kernel}
 use Rattle.table_kernel.specs.Kernels.{IsBounded, IsKernel, IsShaped, lows_of, width_of}
 use Rattle.table_kernel.specs.Bases.{AreAtBasis}
@@ -164,6 +165,8 @@ pub record IsStarting (k : Kernel) (costs : CostBox) : Type 0 where
   pub leads : k.leads.items ≡ numbers_from 0 (length costs.low)
   pub constants : k.constants.items ≡ first_constants costs
   pub small : AllWithin (2 ^ 27) k.constants.items
+  pub uses : held_in k.uses.items ≡ map (λ v. []) (numbers_from 0 (length costs.low))
+  pub turns : length k.turns.items ≡ length costs.low
   pub left : length costs.low ≤ vec_capacity k.left
   pub entering : length k.entering.numbers ≡ length costs.low
 
@@ -184,6 +187,8 @@ starting_shaped k w room rows_are s =
           (subst (λ (rows : List (List ℤ)). AreLeads rows k.leads.items) (sym (unit_rows n 0 n))
           (subst (AreLeads (map (λ v. unit n v (pos 1)) (numbers_from 0 n))) (sym s.leads) (unit_leads n)));
       constants = omega (arith, counted, many, none);
+      uses = s.uses ∙ ap (λ (rows : List Form). uses_by rows n) (sym rows_are);
+      turns = s.turns;
       left = s.left;
       entering = s.entering;
       lines = omega (arith, lines_long k.table w, counted, none);

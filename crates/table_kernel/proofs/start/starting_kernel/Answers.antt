@@ -1,5 +1,5 @@
 -- The new kernel is one.
-use Rattle.std.proofs.Common.{ℕ, ◌≤◌, ◌∙◌, refl, ap, subst, length, map}
+use Rattle.std.proofs.Common.{ℕ, ◌≤◌, ◌∙◌, refl, ap, subst, [], length, map}
 use Rattle.std.specs.Prelude.{pos, vec_capacity}
 use Rattle.cost_base.specs.Lists.{numbers_from}
 use Rattle.table_kernel.specs.declared.kernel.Kernel.{Kernel}
@@ -15,6 +15,8 @@ returns-clause-kernel c =
       lows = c.in_ok-unit_lines.field-0;
       leads = c.in_ok-unit_leads.field-0;
       constants = c.in_ok-bound_constants.field-0;
+      uses = c.in_ok-empty_uses.field-0;
+      turns = c.in_ok-no_turns.field-0;
       left = c.in_ok-room_of.field-0;
       entering = c.in_ok-zero_line.field-0;
     } in
@@ -26,6 +28,8 @@ returns-clause-kernel c =
       leads = c.in_ok-unit_leads.ensures ∙ ap (numbers_from 0) same;
       constants = c.in_ok-bound_constants.ensures.constants;
       small = c.in_ok-bound_constants.ensures.small;
+      uses = c.in_ok-empty_uses.ensures ∙ ap (λ (n : ℕ). map (λ v. []) (numbers_from 0 n)) same;
+      turns = c.in_ok-no_turns.ensures ∙ same;
       left = subst (λ (n : ℕ). n ≤ vec_capacity c.in_ok-room_of.field-0) same c.in_ok-room_of.ensures;
       entering = c.in_ok-zero_line.ensures ∙ same;
     }

@@ -5,7 +5,9 @@ use Rattle.whole_numbers.specs.Lists.{number_at}
 use Rattle.design_problem.specs.Forms.{value_for_costs}
 use Rattle.fraction_rows.proofs.BlankRows.{blank_long}
 use Rattle.fraction_table.proofs.Pivots.{members_long}
-use Rattle.integer_pivots.specs.Numbers.{product_sum}
+use Rattle.integer_pivots.specs.Numbers.{product_sum, weight_of}
+use Rattle.integer_pivots.specs.Uses.{HaveRoom}
+use Rattle.integer_pivots.proofs.UseLaws.{lists_many, uses_put}
 use Rattle.integer_pivots.proofs.Sizes.{number_within, read_number}
 use Rattle.table_kernel.specs.Kernels.{width_of}
 use Rattle.table_kernel.specs.Rows.{row_constant_of}
@@ -34,6 +36,24 @@ row_constant-constant-requires-clause-constants c v v_in =
     (subst (λ (z : ℤ). nat_abs z ≤ 2 ^ 44) (sym (low_first k c.requires.kernel v v_in))
     (number_within (2 ^ 44) (low_constants k) v (constants_within k c.requires.kernel.bounded)))
 
+pub push_uses-requires-clause-count : goal.push_uses-requires-clause-count
+push_uses-requires-clause-count c =
+    let k = c.args.self.now in
+    omega (
+      arith,
+      c.requires.fits.count,
+      lists_many k.uses.items k.table.rows.items (width_of k) c.requires.kernel.shaped.uses,
+      ap length c.as_mut_slice.ensures.value,
+    )
+
+pub push_uses-requires-clause-light : goal.push_uses-requires-clause-light
+push_uses-requires-clause-light c =
+    let covered : weight_of c.args.row.form ≤ 2 ^ 16 = c.requires.covered in
+    omega (arith, covered)
+
+pub push_uses-requires-clause-room : goal.push_uses-requires-clause-room
+push_uses-requires-clause-room c = subst HaveRoom (sym c.as_mut_slice.ensures.value) c.requires.place.uses
+
 pub returns-clause-kernel : goal.returns-clause-kernel
 returns-clause-kernel c =
     let old = c.args.self.now in
@@ -55,6 +75,10 @@ returns-clause-kernel c =
       lows = refl;
       leads = refl;
       constants = c.push_reserved.ensures.items;
+      uses = uses_put old.uses.len c.len-count.result (width_of old) old.uses.items c.as_mut_slice.result.now
+          c.push_uses.new.uses old.table.rows.items f c.requires.kernel.shaped.uses c.as_mut_slice.ensures.value
+          old.uses.ok.0 (c.len-count.ensures ∙ old.table.rows.ok.0) c.push_uses.auto.uses c.push_uses.ensures;
+      turns = refl;
       left = refl;
       entering = refl;
     }

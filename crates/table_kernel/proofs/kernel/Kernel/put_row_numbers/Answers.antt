@@ -77,6 +77,8 @@ returns-clause-keeps c = record {
   lows = refl;
   leads = refl;
   constants = refl;
+  uses = refl;
+  turns = refl;
   left = omega arith;
   entering = c.put_sums.ensures.count;
 }

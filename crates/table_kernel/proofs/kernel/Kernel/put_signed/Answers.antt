@@ -53,6 +53,8 @@ returns-clause-keeps c =
       lows = refl;
       leads = refl;
       constants = refl;
+      uses = refl;
+      turns = refl;
       left = omega arith;
       entering = c.put_signed_line.ensures.count ∙ (line (goal.at.returns-clause-keeps c).After-index).long ∙ sym c.requires.kernel.shaped.entering;
     }

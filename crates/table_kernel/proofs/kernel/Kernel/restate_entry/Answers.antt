@@ -55,6 +55,8 @@ returns-clause-keeps c = record {
   lows = refl;
   leads = refl;
   constants = refl;
+  uses = refl;
+  turns = refl;
   left = refl;
   entering = refl;
   place = λ there. record { rows = there.rows; lines = there.lines };

@@ -1,13 +1,14 @@
 -- The constant of the variable's own line falls, or those of all others rise.
-use Rattle.std.proofs.Common.{◌≡◌, ℕ, ◌<◌, ◌≤◌, ◌^◌, ◌∙◌, ap, refl, List, length, subst, sym, arith}
-use Rattle.std.specs.Prelude.{ℤ, ◌-ℤ◌, ◌*ℤ◌, Option, None, nat_abs, slice_set, All}
-use Rattle.std.proofs.lemmas.List.{get_or_default}
+use Rattle.std.proofs.Common.{◌≡◌, ℕ, ◌<◌, ◌≤◌, ◌^◌, ◌∙◌, ap, refl, List, ◌++◌, length, map, take, drop, subst, sym, arith}
+use Rattle.std.specs.Prelude.{ℤ, pos, ◌-ℤ◌, ◌*ℤ◌, Option, None, Some, nat_abs, slice_index_or, slice_set, All}
+use Rattle.std.proofs.lemmas.List.{get_or-map, get_or_default, length-map}
 use Rattle.design_problem.specs.declared.tree.Member.{Member}
 use Rattle.fraction_table.specs.Moves.{IsColumnOf}
 use Rattle.integer_pivots.specs.declared.line.Line.{Line}
 use Rattle.integer_pivots.specs.Lines.{no_line}
-use Rattle.integer_pivots.proofs.Sizes.{read, size_most}
-use Rattle.table_kernel.specs.Moves.{with_constant}
+use Rattle.integer_pivots.proofs.Sizes.{read, read_number, size_most}
+use Rattle.integer_pivots.proofs.WrittenPlaces.{written}
+use Rattle.table_kernel.specs.Moves.{raised_line, with_constant}
 use Rattle.table_kernel.specs.Turns.{line_of}
 use Rattle.table_kernel.proofs.MoveReads.{IsReadRight, lowered_read}
 use Rattle.table_kernel.proofs.Shares.{constants_short}
@@ -70,5 +71,38 @@ returns-in-None-clause-shifted c =
         },
         ap (slice_set k.lows.items c.args.var) (ap (with_constant x) value
         ∙ ap (λ (line : Line). with_constant line ((line_of k c.args.var).constant -ℤ ((line_of k c.args.var).denominator *ℤ c.args.fall))) here),
+      ),
+    )
+
+-- the lines that rose are written, and then the variable's own
+own_put : (n : ℕ) (olds lent news : List Line) (column v : ℕ) (fall seen : ℤ) (x : Line) → n ≡ length olds → lent ≡ olds → seen ≡ fall →
+    news ≡ map (raised_line column seen) lent → v < length olds → x ≡ slice_index_or (take n (news ++ drop (length news) olds)) v x →
+    slice_set (take n (news ++ drop (length news) olds)) v (with_constant x (pos 0))
+    ≡ slice_set (map (raised_line column fall) olds) v (with_constant (slice_index_or olds v no_line) (pos 0))
+own_put n olds lent news column v fall seen x counted same read_is rose v_in x_is =
+    let all : news ≡ map (raised_line column fall) olds =
+    rose ∙ ap (λ (z : ℤ). map (raised_line column z) lent) read_is ∙ ap (map (raised_line column fall)) same in
+    let whole : take n (news ++ drop (length news) olds) ≡ map (raised_line column fall) olds =
+    written n news olds (ap length all ∙ length-map olds (raised_line column fall)) counted ∙ all in
+    let own : x ≡ raised_line column fall (slice_index_or olds v no_line) =
+    x_is ∙ ap (λ (lines : List Line). slice_index_or lines v x) whole ∙ get_or-map (raised_line column fall) olds v no_line x v_in in
+    ap (λ (lines : List Line). slice_set lines v (with_constant x (pos 0))) whole
+    ∙ ap (λ (line : Line). slice_set (map (raised_line column fall) olds) v (with_constant line (pos 0))) own
+
+pub returns-in-Some-clause-shifted : goal.returns-in-Some-clause-shifted
+returns-in-Some-clause-shifted c =
+    let k = c.args.self.now in (
+      Some c.in-Some.column,
+      (
+        record {
+          found =
+              subst (λ (column : Option ℕ). IsColumnOf k.table.basis.items c.args.before column) c.in-Some.is
+              (subst (λ (bs : List Member). IsColumnOf bs c.args.before c.column_of.result) c.as_slice.ensures.value c.column_of.ensures);
+          basis = refl;
+        },
+        own_put k.lows.len k.lows.items c.as_mut_slice.result.now c.raise.new.lines c.in-Some.column c.args.var c.args.fall
+        (read c.args.fall) c.index_mut-in-Some.result.now k.lows.ok.0 c.as_mut_slice.ensures.value
+        (read_number c.args.fall (omega (arith, c.requires.fall))) c.raise.ensures
+        (omega (arith, c.requires.var, c.requires.kernel.shaped.lows)) c.index_mut-in-Some.ensures.value,
       ),
     )
