@@ -1,6 +1,6 @@
 -- A variable's two constants are put, and those of the rows that use it follow.
 use Rattle.std.proofs.Common.{◌≡◌, ℕ, ◌^◌, ◌+◌, ◌*◌, ◌<◌, ◌≤◌, ◌∙◌, ◌++◌, List, arith, ap, length, take, drop, subst, sym, w64, to_z, of_z}
-use Rattle.std.specs.Prelude.{ℤ, ◌+ℤ◌, ◌-ℤ◌, ◌*ℤ◌, nat_abs, All, slice_index, slice_set}
+use Rattle.std.specs.Prelude.{ℤ, ◌+ℤ◌, ◌-ℤ◌, ◌*ℤ◌, nat_abs, All, slice_index}
 use Rattle.std.proofs.lemmas.Int.{fits_signed_from_abs}
 use Rattle.whole_numbers.specs.Lists.{number_at}
 use Rattle.integer_pivots.specs.Lines.{no_line}
