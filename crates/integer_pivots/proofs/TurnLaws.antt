@@ -1,9 +1,9 @@
 -- The turn of a line, and the numbers that it makes, as 64 and 128 bits hold them.
 use Rattle.std.proofs.Common.{◌≡◌, ℕ, zero, suc, ◌+◌, ◌*◌, ◌/◌, ◌^◌, ◌<◌, ◌≤◌, ◌↔◌, refl, sym, ◌∙◌, ap, subst, List, [], ◌∷◌, arith, le_trans, FitsSigned, w64, to_z, of_z}
-use Rattle.std.specs.Prelude.{ℤ, pos, negsuc, ◌+ℤ◌, ◌-ℤ◌, ◌*ℤ◌, ◌<ℤ◌, ◌≤ℤ◌, nat_abs, IsTrue}
+use Rattle.std.specs.Prelude.{ℤ, pos, negsuc, ◌+ℤ◌, ◌-ℤ◌, ◌*ℤ◌, ◌<ℤ◌, ◌≤ℤ◌, nat_abs, neg_ℤ, IsTrue}
 use Rattle.std.specs.Int.{w128}
 use Rattle.std.specs.Int.Signed.{le_z, mag}
-use Rattle.std.proofs.lemmas.Int.{fits_signed_from_abs, ints, to_z-of_z}
+use Rattle.std.proofs.lemmas.Int.{fits_signed_from_abs, ints, to_z-of_z, unsigned_abs-mul}
 use Rattle.std.proofs.lemmas.List.Elements.{All-tail}
 use Rattle.std.proofs.Math.IntN.{pos-*ℤ-pos}
 use Rattle.std.proofs.Math.Nat.{div_self, le-max_left, le-max_right, max-le, mul-le-mul, mul-le-mul_left, zero-div}
@@ -153,6 +153,64 @@ module _ (m most f e a : ℤ) (k : AreKept m most f e a) where
   kept_test =
       test_natural _ (pos (2 ^ 30)) (nat_abs m * nat_abs most + nat_abs f * nat_abs e) (2 ^ 30)
       (ap read sum_is ∙ read_number (pos (nat_abs m * nat_abs most + nat_abs f * nat_abs e)) sum_small) refl
+
+-- the size of a product of numbers of at most 2^30 in size is the product of their sizes
+product_abs : (x y a : ℤ) → nat_abs x ≤ 2 ^ 30 → nat_abs y ≤ 2 ^ 30 → a ≡ pos (nat_abs (read (read x *ℤ read y))) → a ≡ pos (nat_abs x * nat_abs y)
+product_abs x y a x_small y_small is =
+    is ∙ ap (λ (z : ℤ). pos (nat_abs z)) (product_read x y x_small y_small) ∙ ap pos (unsigned_abs-mul x y)
+
+-- such a product is at most 2^60
+pub product_fits : (x y : ℤ) → nat_abs x ≤ 2 ^ 30 → nat_abs y ≤ 2 ^ 30 → nat_abs (read (read x *ℤ read y)) ≤ 2 ^ 60
+product_fits x y x_small y_small =
+    let size = product_small (2 ^ 30) (2 ^ 30) x y x_small y_small in
+    omega (arith, size, ap nat_abs (product_read x y x_small y_small))
+
+-- and 64 bits hold it, and what it is with the other sign
+pub product_of_read : (x y : ℤ) → nat_abs x ≤ 2 ^ 30 → nat_abs y ≤ 2 ^ 30 → FitsSigned w64 (read x *ℤ read y)
+product_of_read x y x_small y_small =
+    let size = product_small (2 ^ 30) (2 ^ 30) x y x_small y_small in
+    fits_signed_from_abs w64 (read x *ℤ read y)
+    (subst (λ (z : ℤ). nat_abs z < 2 ^ 63)
+    (sym (ap₂ (λ (p q : ℤ). p *ℤ q) (read_number x (omega (arith, x_small))) (read_number y (omega (arith, y_small)))))
+    (omega (arith, size)))
+
+pub negated_fits : (x y : ℤ) → nat_abs x ≤ 2 ^ 30 → nat_abs y ≤ 2 ^ 30 → FitsSigned w64 (neg_ℤ (read (read x *ℤ read y)))
+negated_fits x y x_small y_small = negated (read (read x *ℤ read y)) (product_fits x y x_small y_small)
+  where
+    negated : (z : ℤ) → nat_abs z ≤ 2 ^ 60 → FitsSigned w64 (neg_ℤ z)
+    negated z small = fits_signed_from_abs w64 (neg_ℤ z) (omega (arith, ints, small))
+
+-- two products, as `most_after` makes them
+pub record AreMeasured (m most f e a b : ℤ) : Type 0 where
+  pub multiplier : nat_abs m ≤ 2 ^ 30
+  pub most_in : nat_abs most ≤ 2 ^ 30
+  pub factor : nat_abs f ≤ 2 ^ 30
+  pub entering : nat_abs e ≤ 2 ^ 30
+  pub first : a ≡ pos (nat_abs (read (read m *ℤ read most)))
+  pub second : b ≡ pos (nat_abs (read (read f *ℤ read e)))
+
+module _ (m most f e a b : ℤ) (k : AreMeasured m most f e a b) where
+  first_small : nat_abs m * nat_abs most ≤ 2 ^ 60
+  first_small = let small : nat_abs m * nat_abs most ≤ 2 ^ 30 * 2 ^ 30 = mul-le-mul k.multiplier k.most_in in omega (arith, small)
+
+  second_small : nat_abs f * nat_abs e ≤ 2 ^ 60
+  second_small = let small : nat_abs f * nat_abs e ≤ 2 ^ 30 * 2 ^ 30 = mul-le-mul k.factor k.entering in omega (arith, small)
+
+  -- their sum is that of the products of sizes
+  measured_is : (read a +ℤ read b) ≡ pos (nat_abs m * nat_abs most + nat_abs f * nat_abs e)
+  measured_is =
+      ap₂ (λ (x y : ℤ). x +ℤ y)
+      (ap read (product_abs m most a k.multiplier k.most_in k.first) ∙ read_number (pos (nat_abs m * nat_abs most)) (omega (arith, first_small)))
+      (ap read (product_abs f e b k.factor k.entering k.second) ∙ read_number (pos (nat_abs f * nat_abs e)) (omega (arith, second_small)))
+
+  pub measured_fits : FitsSigned w64 (read a +ℤ read b)
+  measured_fits =
+      subst (FitsSigned w64) (sym measured_is)
+      (fits_signed_from_abs w64 (pos (nat_abs m * nat_abs most + nat_abs f * nat_abs e)) (omega (arith, first_small, second_small)))
+
+  pub measured_read : read (read a +ℤ read b) ≡ pos (nat_abs m * nat_abs most + nat_abs f * nat_abs e)
+  measured_read =
+      ap read measured_is ∙ read_number (pos (nat_abs m * nat_abs most + nat_abs f * nat_abs e)) (omega (arith, first_small, second_small))
 
 -- what is read of 128 bits
 abbrev pub wide : ℤ → ℤ

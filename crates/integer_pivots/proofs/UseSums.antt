@@ -1,12 +1,9 @@
--- Sums of rows to which the uses of a variable put its number: use by use, and variable by variable.
-use Rattle.std.proofs.Common.{◌≡◌, ℕ, zero, suc, ◌+◌, ◌*◌, ◌^◌, ◌<◌, ◌≤◌, refl, sym, ◌∙◌, ap, subst, List, [], ◌∷◌, length, get_or, set, drop, arith, add-one, zero-add, drop-cons, inl, inr, FitsSigned, w64}
-use Rattle.std.specs.Prelude.{ℤ, pos, ◌+ℤ◌, ◌*ℤ◌, nat_abs, sum_by, All, ◌≢◌}
-use Rattle.std.proofs.Math.Nat.{mul-le-mul_left}
-use Rattle.std.proofs.Math.Seq.{drop-nil}
+-- Sums of rows to which the uses of a variable put its number, use by use.
+use Rattle.std.proofs.Common.{◌≡◌, ℕ, ◌+◌, ◌*◌, ◌^◌, ◌<◌, ◌≤◌, refl, sym, ◌∙◌, ap, subst, List, [], ◌∷◌, length, get_or, set, drop, arith, add-one, zero-add, drop-cons, inl, inr, FitsSigned, w64}
+use Rattle.std.specs.Prelude.{ℤ, pos, ◌+ℤ◌, ◌*ℤ◌, nat_abs, All, ◌≢◌}
 use Rattle.std.proofs.lemmas.Bool.{cases_eq}
-use Rattle.std.proofs.lemmas.Int.{fits_signed_from_abs, ints, unsigned_abs-mul}
+use Rattle.std.proofs.lemmas.Int.{fits_signed_from_abs}
 use Rattle.std.proofs.lemmas.List.{at_drop_all, get_or-set_other, get_or-set_same}
-use Rattle.std.proofs.lemmas.List.Sums.{sum_by-cons}
 use Rattle.whole_numbers.proofs.Ring.{var, num, ◌⊕◌, ◌⊗◌, ring}
 use Rattle.whole_numbers.specs.Lists.{number_at}
 use Rattle.whole_numbers.proofs.Sizes.{sum_size}
@@ -16,7 +13,6 @@ use Rattle.integer_pivots.specs.declared.uses.Use.{Use}
 use Rattle.integer_pivots.specs.Uses.{coefficient_in, size_in, uses_from}
 use Rattle.integer_pivots.proofs.Sizes.{product_size, read, read_number}
 use Rattle.integer_pivots.proofs.UseLaws.{other_rest, own_rest, row_told, uses_within}
-use Rattle.integer_pivots.specs.Numbers.{product_sum}
 
 abbrev pub no_use : Use
 no_use = record { row = 0; coefficient = pos 0 }
@@ -28,10 +24,10 @@ HasUse us row = (k : ℕ) × ((k < length us) × ((get_or us k no_use).row ≡ r
 -- with the rest of the uses a row's sum is the whole one, and there is room for the rest
 pub record IsAdded (us : List Use) (index : ℕ) (number start : ℤ) (row : ℕ) (sum : ℤ) : Type 0 where
   pub so_far : (sum +ℤ (number *ℤ coefficient_in (drop index us) row)) ≡ (start +ℤ (number *ℤ coefficient_in us row))
-  pub size : HasUse us row → nat_abs sum + size_in (drop index us) row * 2 ^ 22 ≤ 2 ^ 44
+  pub size : HasUse us row → nat_abs sum + size_in (drop index us) row * 2 ^ 45 ≤ 2 ^ 62
 
 -- what is added by the number as it is read is added by the number
-pub added_read : (us : List Use) (index : ℕ) (number : ℤ) (first : ℕ) (olds sums : List ℤ) → nat_abs number ≤ 2 ^ 22 →
+pub added_read : (us : List Use) (index : ℕ) (number : ℤ) (first : ℕ) (olds sums : List ℤ) → nat_abs number ≤ 2 ^ 45 →
     ((row : ℕ) → IsAdded us index (read number) (number_at olds (first + row)) row (number_at sums (first + row))) →
     (row : ℕ) → IsAdded us index number (number_at olds (first + row)) row (number_at sums (first + row))
 added_read us index number first olds sums small added =
@@ -52,15 +48,15 @@ others_added us index number start row sum index_in apart s =
     let size : size_in (drop index us) row ≡ size_in (drop (index + 1) us) row = ap (λ (vs : List Use). size_in vs row) list ∙ rest.1 in
     record {
       so_far = ap (λ (z : ℤ). sum +ℤ (number *ℤ z)) (sym coefficient) ∙ s.so_far;
-      size = λ has. subst (λ (n : ℕ). nat_abs sum + n * 2 ^ 22 ≤ 2 ^ 44) size (s.size has);
+      size = λ has. subst (λ (n : ℕ). nat_abs sum + n * 2 ^ 45 ≤ 2 ^ 62) size (s.size has);
     }
 
 -- what the next use puts
-next_added : (us : List Use) (index : ℕ) (number start sum : ℤ) → index < length us → nat_abs number ≤ 2 ^ 22 →
+next_added : (us : List Use) (index : ℕ) (number start sum : ℤ) → index < length us → nat_abs number ≤ 2 ^ 45 →
     IsAdded us index number start (get_or us index no_use).row sum →
-    (nat_abs (get_or us index no_use).coefficient ≤ 2 ^ 22)
-    × (nat_abs ((get_or us index no_use).coefficient *ℤ number) ≤ 2 ^ 44)
-    × (nat_abs (sum +ℤ ((get_or us index no_use).coefficient *ℤ number)) ≤ 2 ^ 44) × (nat_abs sum ≤ 2 ^ 44)
+    (nat_abs (get_or us index no_use).coefficient ≤ 2 ^ 17)
+    × (nat_abs ((get_or us index no_use).coefficient *ℤ number) ≤ 2 ^ 62)
+    × (nat_abs (sum +ℤ ((get_or us index no_use).coefficient *ℤ number)) ≤ 2 ^ 62) × (nat_abs sum ≤ 2 ^ 62)
     × IsAdded us (index + 1) number start (get_or us index no_use).row
     (sum +ℤ ((get_or us index no_use).coefficient *ℤ number))
 next_added us index number start sum index_in small s =
@@ -71,10 +67,10 @@ next_added us index number start sum index_in small s =
     let later = coefficient_in (drop (index + 1) us) u.row in
     let coefficient : coefficient_in (drop index us) u.row ≡ (c +ℤ later) = ap (λ (vs : List Use). coefficient_in vs u.row) list ∙ rest.0 in
     let size : size_in (drop index us) u.row ≡ nat_abs c + size_in (drop (index + 1) us) u.row = ap (λ (vs : List Use). size_in vs u.row) list ∙ rest.1 in
-    let before : nat_abs sum + size_in (drop index us) u.row * 2 ^ 22 ≤ 2 ^ 44 = s.size (index, (index_in, refl)) in
-    let product = product_size c number small in
+    let before : nat_abs sum + size_in (drop index us) u.row * 2 ^ 45 ≤ 2 ^ 62 = s.size (index, (index_in, refl)) in
+    let product = product_size c number (2 ^ 45) small in
     let both = sum_size sum (c *ℤ number) in
-    let after : nat_abs (sum +ℤ (c *ℤ number)) + size_in (drop (index + 1) us) u.row * 2 ^ 22 ≤ 2 ^ 44 = omega (arith, before, size, product, both) in (
+    let after : nat_abs (sum +ℤ (c *ℤ number)) + size_in (drop (index + 1) us) u.row * 2 ^ 45 ≤ 2 ^ 62 = omega (arith, before, size, product, both) in (
       omega (arith, before, size),
       omega (arith, before, size, product),
       omega (arith, after),
@@ -88,7 +84,7 @@ next_added us index number start sum index_in small s =
     )
 
 -- what code computes at a use
-pub use_step : (us : List Use) (index : ℕ) (number start sum : ℤ) → index < length us → nat_abs number ≤ 2 ^ 22 →
+pub use_step : (us : List Use) (index : ℕ) (number start sum : ℤ) → index < length us → nat_abs number ≤ 2 ^ 45 →
     IsAdded us index number start (get_or us index no_use).row sum →
     FitsSigned w64 (read (get_or us index no_use).coefficient *ℤ read number)
     × FitsSigned w64 (read sum +ℤ read (read (get_or us index no_use).coefficient *ℤ read number))
@@ -117,7 +113,7 @@ use_step us index number start sum index_in small s =
 
 -- the sums of all rows, one use further
 pub sums_added : (us : List Use) (index : ℕ) (number : ℤ) (first : ℕ) (olds sums : List ℤ) → index < length us →
-    nat_abs number ≤ 2 ^ 22 → first + (get_or us index no_use).row < length sums →
+    nat_abs number ≤ 2 ^ 45 → first + (get_or us index no_use).row < length sums →
     ((row : ℕ) → IsAdded us index number (number_at olds (first + row)) row (number_at sums (first + row))) →
     (row : ℕ) → IsAdded us (index + 1) number (number_at olds (first + row)) row
     (number_at (set sums (first + (get_or us index no_use).row)
@@ -146,78 +142,26 @@ all_added us index number start row sum past s =
     let none : coefficient_in (drop index us) row ≡ pos 0 = at_drop_all (λ (vs : List Use). coefficient_in vs row) us index past in
     ring (sum ∷ number ∷ []) (var 0) (var 0 ⊕ (var 1 ⊗ num (pos 0))) refl ∙ ap (λ (z : ℤ). sum +ℤ (number *ℤ z)) (sym none) ∙ s.so_far
 
--- with the rest of the variables a row's sum is its number, and there is room for the rest
-pub record IsPart (cs zs : List ℤ) (v : ℕ) (sum : ℤ) : Type 0 where
-  pub so_far : (sum +ℤ product_sum (drop v cs) (drop v zs)) ≡ product_sum cs zs
-  pub size : nat_abs sum + sum_by nat_abs (drop v cs) * 2 ^ 22 ≤ 2 ^ 44
-
-pub no_part : (cs zs : List ℤ) → sum_by nat_abs cs ≤ 2 ^ 22 → IsPart cs zs 0 (pos 0)
-no_part cs zs light = record { so_far = omega (arith, ints); size = omega (arith, light) }
-
-later_sum : (cs zs : List ℤ) (v : ℕ) → length cs ≤ length zs →
-    product_sum (drop v cs) (drop v zs)
-    ≡ ((number_at zs v *ℤ number_at cs v) +ℤ product_sum (drop (suc v) cs) (drop (suc v) zs))
-later_sum [] zs v few = rw (drop-nil v) (omega (arith, ints))
-later_sum (c ∷ cs) [] v few = absurd (omega arith)
-later_sum (c ∷ cs) (z ∷ zs) zero few = ring (c ∷ z ∷ product_sum cs zs ∷ []) ((var 0 ⊗ var 1) ⊕ var 2) ((var 1 ⊗ var 0) ⊕ var 2) refl
-later_sum (c ∷ cs) (z ∷ zs) (suc v) few = later_sum cs zs v (omega arith)
-
-later_size : (cs : List ℤ) (v : ℕ) → sum_by nat_abs (drop v cs) ≡ nat_abs (number_at cs v) + sum_by nat_abs (drop (suc v) cs)
-later_size [] v = rw (drop-nil v) refl
-later_size (c ∷ cs) zero = sum_by-cons nat_abs c cs
-later_size (c ∷ cs) (suc v) = later_size cs v
-
--- the room for a variable's product
-pub part_room : (cs zs : List ℤ) (v : ℕ) (sum : ℤ) → IsPart cs zs v sum → nat_abs sum + nat_abs (number_at cs v) * 2 ^ 22 ≤ 2 ^ 44
-part_room cs zs v sum s = omega (arith, s.size, later_size cs v)
-
-pub next_part : (cs zs : List ℤ) (v : ℕ) (sum new : ℤ) → length cs ≤ length zs → nat_abs (number_at zs v) ≤ 2 ^ 22 →
-    new ≡ (sum +ℤ (number_at zs v *ℤ number_at cs v)) → IsPart cs zs v sum → IsPart cs zs (v + 1) new
-next_part cs zs v sum new few small new_is s =
-    let next : v + 1 ≡ suc v = add-one v in
-    let product : nat_abs (number_at zs v *ℤ number_at cs v) ≤ nat_abs (number_at cs v) * 2 ^ 22 =
-    omega (
-      arith,
-      unsigned_abs-mul (number_at zs v) (number_at cs v),
-      mul-le-mul_left (nat_abs (number_at cs v)) small,
-    ) in
-    subst (λ (w : ℕ). IsPart cs zs w new) (sym next)
-    (subst (IsPart cs zs (suc v)) (sym new_is)
-    record {
-      so_far = omega (arith, ints, s.so_far, later_sum cs zs v few);
-      size = omega (arith, s.size, later_size cs v, product, sum_size sum (number_at zs v *ℤ number_at cs v));
-    })
-
-pub whole_part : (cs zs : List ℤ) (v : ℕ) (sum : ℤ) → length cs ≤ v → IsPart cs zs v sum → sum ≡ product_sum cs zs
-whole_part cs zs v sum past s =
-    let none : product_sum (drop v cs) (drop v zs) ≡ pos 0 = at_drop_all (λ (ys : List ℤ). product_sum ys (drop v zs)) cs v past in
-    omega (arith, ints, s.so_far, none)
-
--- a row's part, one variable further
-pub row_part : (rows : List Form) (us : List Use) (zs : List ℤ) (v row : ℕ) (number old new : ℤ) →
-    us ≡ uses_from 0 rows v → length (get_or rows row no_form).coefficients ≤ length zs →
-    nat_abs (number_at zs v) ≤ 2 ^ 22 → number ≡ number_at zs v → new ≡ (old +ℤ (number *ℤ coefficient_in us row)) →
-    IsPart (get_or rows row no_form).coefficients zs v old →
-    IsPart (get_or rows row no_form).coefficients zs (v + 1) new
-row_part rows us zs v row number old new us_are few small number_is new_is s =
+-- a row's sum goes on by its coefficient times the variable's number
+pub row_added : (rows : List Form) (us : List Use) (v row : ℕ) (number old new : ℤ) → us ≡ uses_from 0 rows v →
+    new ≡ (old +ℤ (number *ℤ coefficient_in us row)) → new ≡ (old +ℤ (number *ℤ number_at (get_or rows row no_form).coefficients v))
+row_added rows us v row number old new us_are new_is =
     let told : coefficient_in us row ≡ number_at (get_or rows row no_form).coefficients v =
     ap (λ (vs : List Use). coefficient_in vs row) us_are ∙ ap (coefficient_in (uses_from 0 rows v)) (sym (zero-add row)) ∙ (row_told 0 rows v row).0 in
-    next_part (get_or rows row no_form).coefficients zs v old new few small
-    (new_is ∙ ap (λ (z : ℤ). old +ℤ (z *ℤ coefficient_in us row)) number_is ∙ ap (λ (z : ℤ). old +ℤ (number_at zs v *ℤ z)) told) s
+    new_is ∙ ap (λ (z : ℤ). old +ℤ (number *ℤ z)) told
 
--- and each use has room
-pub uses_room : (rows : List Form) (us : List Use) (zs along : List ℤ) (v first : ℕ) → us ≡ uses_from 0 rows v →
+-- where each row's sum has room for its coefficient's product, each use has
+pub uses_room : (rows : List Form) (us : List Use) (sums : List ℤ) (v first : ℕ) → us ≡ uses_from 0 rows v →
     ((row : ℕ) → row < length rows →
-    IsPart (get_or rows row no_form).coefficients zs v (number_at along (first + row))) →
-    All (λ u. nat_abs (number_at along (first + u.row)) + size_in us u.row * 2 ^ 22 ≤ 2 ^ 44) us
-uses_room rows us zs along v first us_are parts k d k_in =
+    nat_abs (number_at sums (first + row)) + nat_abs (number_at (get_or rows row no_form).coefficients v) * 2 ^ 45 ≤ 2 ^ 62) →
+    All (λ u. nat_abs (number_at sums (first + u.row)) + size_in us u.row * 2 ^ 45 ≤ 2 ^ 62) us
+uses_room rows us sums v first us_are room k d k_in =
     let row = (get_or us k d).row in
     let inside = subst (All (λ (u : Use). (0 ≤ u.row) × (u.row < 0 + length rows))) (sym us_are) (uses_within 0 rows v) k d k_in in
     let within : row < length rows = omega (arith, inside.1) in
     let told : size_in us row ≡ nat_abs (number_at (get_or rows row no_form).coefficients v) =
     ap (λ (vs : List Use). size_in vs row) us_are ∙ ap (size_in (uses_from 0 rows v)) (sym (zero-add row)) ∙ (row_told 0 rows v row).1 in
-    subst (λ (n : ℕ). nat_abs (number_at along (first + row)) + n * 2 ^ 22 ≤ 2 ^ 44) (sym told)
-    (part_room (get_or rows row no_form).coefficients zs v (number_at along (first + row)) (parts row within))
+    subst (λ (n : ℕ). nat_abs (number_at sums (first + row)) + n * 2 ^ 45 ≤ 2 ^ 62) (sym told) (room row within)
 
 -- the uses are by rows
 pub uses_known : (rows : List Form) (us : List Use) (v first many : ℕ) → us ≡ uses_from 0 rows v →

@@ -18,5 +18,5 @@ pub use choice::{keep_least, put_latest};
 pub use leads::turn_leads;
 pub use line::Line;
 pub use multiples::{clear, put_multiple};
-pub use uses::{Use, empty_uses, push_uses, put_uses, reserve_uses};
 pub use turn::{Turn, common_multiple, put_touched, turn_of};
+pub use uses::{Use, empty_uses, push_uses, put_uses, reserve_uses};

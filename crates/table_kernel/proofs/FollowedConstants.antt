@@ -2,12 +2,12 @@
 use Rattle.std.specs.declared.alloc.Global.{Global}
 use Rattle.std.proofs.Common.{Vec, ◌≡◌, ◌≢◌, ℕ, zero, suc, ◌+◌, ◌*◌, ◌^◌, ◌<◌, ◌≤◌, refl, sym, ◌∙◌, ap, subst, List, [], ◌∷◌, length, arith, inl, inr, get_or-set_same, get_or-set_other, zero-add, w64, to_z, of_z}
 use Rattle.std.specs.Prelude.{ℤ, pos, ◌+ℤ◌, ◌-ℤ◌, ◌*ℤ◌, nat_abs, slice_index, slice_index_or, slice_set, sum_by, All}
-use Rattle.std.proofs.Math.Nat.{mul-le-mul_left, mul-le-mul_right}
+use Rattle.std.proofs.Math.Nat.{mul-le-mul_right}
 use Rattle.std.proofs.lemmas.Bool.{cases_eq}
 use Rattle.std.proofs.lemmas.Int.{ints}
 use Rattle.std.proofs.lemmas.List.{get_or-map, get_or_default, length-set}
 use Rattle.std.proofs.lemmas.List.Sums.{sum_by-cons}
-use Rattle.whole_numbers.proofs.Ring.{var, ◌⊕◌, ◌⊖◌, ◌⊗◌, ring}
+use Rattle.whole_numbers.proofs.Ring.{var, ◌⊕◌, ◌⊗◌, ring}
 use Rattle.whole_numbers.proofs.Sizes.{sum_size}
 use Rattle.whole_numbers.specs.Lists.{number_at}
 use Rattle.design_problem.specs.Forms.{no_form, value_for_costs}
@@ -138,17 +138,21 @@ pub old_read : (k : Kernel) → IsShaped k → (v : ℕ) (old : ℤ) → v < wid
     old ≡ number_at k.constants.items v
 old_read k s v old v_in is = is ∙ get_or_default k.constants.items v old (pos 0) (omega (arith, v_in, constants_many k s))
 
+-- a variable's two constants are put
+abbrev pub AreTwoPut : Kernel → ℕ → ℤ → ℤ → List ℤ → Type 0
+AreTwoPut k v x y puts = puts ≡ slice_set (slice_set k.constants.items v x) (width_of k + v) y
+
 pub puts_read : (k : Kernel) (v n : ℕ) (x y : ℤ) (puts : List ℤ) → nat_abs x ≤ 2 ^ 44 → nat_abs y ≤ 2 ^ 62 → n ≡ width_of k →
-    puts ≡ slice_set (slice_set k.constants.items v (to_z w64 (of_z w64 x))) (n + v) (to_z w64 (of_z w64 y)) →
-    puts ≡ slice_set (slice_set k.constants.items v x) (width_of k + v) y
+    puts ≡ slice_set (slice_set k.constants.items v (to_z w64 (of_z w64 x))) (n + v) (to_z w64 (of_z w64 y)) → AreTwoPut k v x y puts
 puts_read k v n x y puts x_small y_small n_is is =
     is
     ∙ ap (λ (z : ℤ). slice_set (slice_set k.constants.items v z) (n + v) (to_z w64 (of_z w64 y))) (read_number x (omega (arith, x_small)))
     ∙ ap (slice_set (slice_set k.constants.items v x) (n + v)) (read_number y (omega (arith, y_small)))
     ∙ ap (λ (m : ℕ). slice_set (slice_set k.constants.items v x) (m + v) y) n_is
 
-pub puts_long : (xs puts : List ℤ) (i j : ℕ) (x y : ℤ) → puts ≡ slice_set (slice_set xs i x) j y → length puts ≡ length xs
-puts_long xs puts i j x y is = ap length is ∙ length-set (slice_set xs i x) j y ∙ length-set xs i x
+pub puts_long : (k : Kernel) (v : ℕ) (x y : ℤ) (puts : List ℤ) → AreTwoPut k v x y puts → length puts ≡ length k.constants.items
+puts_long k v x y puts is =
+    ap length is ∙ length-set (slice_set k.constants.items v x) (width_of k + v) y ∙ length-set k.constants.items v x
 
 -- The constants once a variable's own two were put, and its uses by the rows.
 pub record AreFollowed (k : Kernel) (at : ℕ) (x y : ℤ) (news : List ℤ) : Type 0 where
@@ -162,8 +166,7 @@ pub record AreFollowed (k : Kernel) (at : ℕ) (x y : ℤ) (news : List ℤ) : T
       +ℤ ((x -ℤ number_at k.constants.items at) *ℤ number_at (slice_index_or k.table.rows.items row no_form).coefficients at))
 
 -- what was put at the variable's two places leaves those of the rows
-pub rows_stay : (k : Kernel) (at : ℕ) (x y : ℤ) (puts : List ℤ) → at < width_of k →
-    puts ≡ slice_set (slice_set k.constants.items at x) (width_of k + at) y → (row : ℕ) →
+pub rows_stay : (k : Kernel) (at : ℕ) (x y : ℤ) (puts : List ℤ) → at < width_of k → AreTwoPut k at x y puts → (row : ℕ) →
     number_at puts (width_of k + width_of k + row) ≡ number_at k.constants.items (width_of k + width_of k + row)
 rows_stay k at x y puts at_in puts_are row =
     let w = width_of k in
@@ -175,13 +178,13 @@ rows_stay k at x y puts at_in puts_are row =
 -- what code puts are these
 pub are_followed : (k : Kernel) → IsShaped k → (at : ℕ) (x y change : ℤ) (us : List Use) (puts news : List ℤ) → at < width_of k →
     us ≡ uses_from 0 k.table.rows.items at → change ≡ (x -ℤ number_at k.constants.items at) → length news ≡ length puts →
-    puts ≡ slice_set (slice_set k.constants.items at x) (width_of k + at) y →
+    AreTwoPut k at x y puts →
     ((v : ℕ) → v < width_of k + width_of k → number_at news v ≡ number_at puts v) →
     ((row : ℕ) → number_at news (width_of k + width_of k + row)
     ≡ (number_at puts (width_of k + width_of k + row) +ℤ (change *ℤ coefficient_in us row))) →
     AreFollowed k at x y news
 are_followed k s at x y change us puts news at_in us_are change_is long puts_are before rows = record {
-  count = long ∙ puts_long olds puts at (w + at) x y puts_are;
+  count = long ∙ puts_long k at x y puts puts_are;
   own = first at (omega (arith, at_in))
       ∙ get_or-set_other put (w + at) at y (pos 0) (λ (same : at ≡ w + at). absurd (omega (arith, same, at_in)))
       ∙ get_or-set_same olds at x (pos 0) (omega (arith, at_in, constants_many k s));
@@ -278,7 +281,8 @@ followed_small k s b fit at x y news x_small y_small first f by_first i d i_in =
         ]
 
 -- there is room for what each use adds
-pub uses_fit : (k : Kernel) → IsShaped k → IsBounded k → All (FitsBox k.table.costs) k.table.rows.items → (v : ℕ) (us : List Use) (puts : List ℤ) →
+pub uses_fit : (k : Kernel) → IsShaped k → IsBounded k → All (FitsBox k.table.costs) k.table.rows.items →
+    (v : ℕ) (us : List Use) (puts : List ℤ) →
     us ≡ uses_from 0 k.table.rows.items v → AreFirstSmall k k.constants.items → AreByFirst k k.constants.items →
     ((row : ℕ) → number_at puts (width_of k + width_of k + row) ≡ number_at k.constants.items (width_of k + width_of k + row)) →
     All (λ u. nat_abs (number_at puts (width_of k + width_of k + u.row)) + size_in us u.row * 2 ^ 45 ≤ 2 ^ 62) us

@@ -16,6 +16,7 @@ pub mod Factors
 pub mod WideNumbers
 pub mod PlaceConstants
 pub mod FollowedConstants
+pub mod FollowedLines
 pub mod MoreRows
 pub mod Corners
 pub mod Lines

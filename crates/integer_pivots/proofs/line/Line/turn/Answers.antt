@@ -1,8 +1,8 @@
 -- The numbers turn, and what they have in common goes out.
-use Rattle.std.proofs.Common.{◌≡◌, ℕ, ◌*◌, ◌^◌, ◌≤◌, sym, ◌∙◌, ap, subst, List, arith}
+use Rattle.std.proofs.Common.{◌≡◌, ℕ, ◌*◌, ◌^◌, ◌≤◌, sym, ◌∙◌, ap, subst, List, arith, FitsSigned, w64}
 use Rattle.std.specs.Prelude.{ℤ, pos, ◌*ℤ◌, ◌-ℤ◌, ◌<ℤ◌, nat_abs}
 use Prim.Native.Nat.{◌∣◌}
-use Rattle.std.proofs.lemmas.Int.{ints, unsigned_abs-mul}
+use Rattle.std.proofs.lemmas.Int.{fits_signed_from_abs, ints, unsigned_abs-mul}
 use Rattle.std.proofs.lemmas.Nat.Gcd.{le_of_dvd}
 use Rattle.std.proofs.Math.Nat.{dvd-mul_right}
 use Rattle.whole_numbers.specs.Lists.{number_at}
@@ -11,8 +11,8 @@ use Rattle.whole_numbers.proofs.Sizes.{size_positive}
 use Rattle.integer_pivots.specs.declared.turn.Turn.{Turn}
 use Rattle.integer_pivots.specs.Numbers.{AllWithin}
 use Rattle.integer_pivots.specs.Turns.{turned_number}
-use Rattle.integer_pivots.proofs.Sizes.{number_within, positive_size, product_read, read, read_number, size_of, wider}
-use Rattle.integer_pivots.proofs.TurnLaws.{turn_positive, turn_small, wide, wide_number}
+use Rattle.integer_pivots.proofs.Sizes.{number_within, positive_size, product_read, read, read_known, read_number, size_of, wider}
+use Rattle.integer_pivots.proofs.TurnLaws.{product_of_read, turn_positive, turn_small, wide, wide_number}
 use Rattle.integer_pivots.proofs.TurnedLines.{AreMade, made_count, made_others, made_own, made_small, made_within, multiplied_within, product_high, scaled}
 use Rattle.integer_pivots.proofs.line.Line.turn.Goals as goal
 use Rattle.integer_pivots.proofs.line.Line.turn.Goals.{Start, After-set, After-lower}
@@ -42,6 +42,10 @@ denominator_is c =
     product_read c.args.self.now.denominator c.args.turn.multiplier
     (positive_size c.args.self.now.denominator (2 ^ 30) (c.requires.line.positive, c.requires.line.denominator)) (sizes c).0
 
+-- numbers are within a reach as it is read
+as_read : (reach : ℤ) (zs : List ℤ) → nat_abs reach ≤ 2 ^ 30 → AllWithin (nat_abs reach) zs → AllWithin (nat_abs (read reach)) zs
+as_read reach zs small within = subst (λ (z : ℤ). AllWithin (nat_abs z) zs) (sym (read_number reach (omega (arith, small)))) within
+
 made : (c : After-set) → (nat_abs c.args.turn.multiplier ≤ 2 ^ 30) × (nat_abs c.args.turn.factor ≤ 2 ^ 30) →
     AreMade c.args.turn c.args.column c.args.entering.now.denominator c.args.self.now.numbers c.args.entering.now.numbers
     c.multiply.new.numbers c.take_away.new.numbers c.set.new.self
@@ -64,6 +68,29 @@ within c small =
     made_within c.args.turn c.args.column c.args.entering.now.denominator c.args.self.now.numbers c.args.entering.now.numbers
     c.multiply.new.numbers c.take_away.new.numbers c.set.new.self (made c small) c.requires.small.numbers c.requires.small.own
 
+pub overflow_cast-self : goal.overflow_cast-self
+overflow_cast-self c =
+    let size = c.requires.constant in
+    let t = turned_number c.args.turn c.args.self.now.constant c.args.entering.now.constant in
+    subst (FitsSigned w64) (sym (ap wide c.constant_after.ensures ∙ wide_number t (omega (arith, size))))
+    (fits_signed_from_abs w64 t (omega (arith, size)))
+
+pub overflow_mul-self : goal.overflow_mul-self
+overflow_mul-self c =
+    let l = c.requires.line in
+    product_of_read c.args.self.now.denominator c.args.turn.multiplier
+    (positive_size c.args.self.now.denominator (2 ^ 30) (l.positive, l.denominator)) (sizes (goal.at.overflow_mul-self c).Start).0
+
+pub multiply-requires-clause-sizes : goal.multiply-requires-clause-sizes
+multiply-requires-clause-sizes c =
+    wider (nat_abs c.args.self.now.reach) (2 ^ 30) c.args.self.now.numbers
+    (reach_small (goal.at.multiply-requires-clause-sizes c).Start).0 c.requires.line.numbers
+
+pub multiply-requires-clause-multiplier : goal.multiply-requires-clause-multiplier
+multiply-requires-clause-multiplier c =
+    let small = (sizes (goal.at.multiply-requires-clause-multiplier c).Start).0 in
+    omega (arith, small, ap nat_abs (read_number c.args.turn.multiplier (omega (arith, small))))
+
 pub take_away-requires-clause-sizes : goal.take_away-requires-clause-sizes
 take_away-requires-clause-sizes c =
     let start = (goal.at.take_away-requires-clause-sizes c).Start in
@@ -75,6 +102,19 @@ pub take_away-requires-clause-factor : goal.take_away-requires-clause-factor
 take_away-requires-clause-factor c =
     let small = (sizes (goal.at.take_away-requires-clause-factor c).Start).1 in
     omega (arith, small, ap nat_abs (read_number c.args.turn.factor (omega (arith, small))))
+
+pub take_away-requires-clause-line : goal.take_away-requires-clause-line
+take_away-requires-clause-line c =
+    let numbers = c.args.entering.now.numbers in
+    subst (AllWithin (2 ^ 30)) (sym c.as_slice.ensures)
+    (wider (nat_abs c.args.entering.now.reach) (2 ^ 30) numbers
+    (reach_small (goal.at.take_away-requires-clause-line c).Start).1 c.requires.entering.numbers)
+
+pub overflow_mul-turn : goal.overflow_mul-turn
+overflow_mul-turn c =
+    let e = c.requires.entering in
+    product_of_read c.args.turn.factor c.args.entering.now.denominator (sizes (goal.at.overflow_mul-turn c).Start).1
+    (positive_size c.args.entering.now.denominator (2 ^ 30) (e.positive, e.denominator))
 
 pub lower-requires-clause-positive : goal.lower-requires-clause-positive
 lower-requires-clause-positive c =
@@ -96,9 +136,17 @@ pub lower-requires-clause-most : goal.lower-requires-clause-most
 lower-requires-clause-most c =
     let p = goal.at.lower-requires-clause-most c in
     let most = c.most_after-most.ensures in
+    let reaches = reach_small p.Start in
+    let result = ap nat_abs (read_known c.most_after-most.result c.most_after-most.type_inv) in
+    let denominator = positive_size c.args.entering.now.denominator (2 ^ 30) (c.requires.entering.positive, c.requires.entering.denominator) in
+    let own = subst (λ (z : ℤ). nat_abs c.args.turn.factor * nat_abs z ≤ nat_abs c.most_after-most.result)
+    (read_number c.args.entering.now.denominator (omega (arith, denominator))) most.own in
     made_small c.args.turn c.args.column c.args.entering.now.denominator c.args.self.now.numbers c.args.entering.now.numbers
     c.multiply.new.numbers c.take_away.new.numbers c.set.new.self (made p.After-set (sizes p.Start)) _
-    (nat_abs c.args.self.now.reach) (nat_abs c.args.entering.now.reach) c.requires.line.numbers c.requires.entering.numbers most.numbers most.own
+    (nat_abs (read c.args.self.now.reach)) (nat_abs (read c.args.entering.now.reach))
+    (as_read c.args.self.now.reach c.args.self.now.numbers reaches.0 c.requires.line.numbers)
+    (as_read c.args.entering.now.reach c.args.entering.now.numbers reaches.1 c.requires.entering.numbers)
+    (omega (arith, most.numbers, result)) (subst (λ (n : ℕ). nat_abs c.args.turn.factor * nat_abs c.args.entering.now.denominator ≤ n) (sym result) own)
 
 divides : (c : After-lower) →
     read (read c.args.self.now.denominator *ℤ read c.args.turn.multiplier) ≡ (c.args.self.now.denominator *ℤ c.args.turn.multiplier) →

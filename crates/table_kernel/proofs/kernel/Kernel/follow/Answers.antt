@@ -1,9 +1,8 @@
 -- A variable's two constants are put, and those of the rows that use it follow.
 use Rattle.std.proofs.Common.{◌≡◌, ℕ, ◌^◌, ◌+◌, ◌*◌, ◌<◌, ◌≤◌, ◌∙◌, ◌++◌, List, arith, ap, length, take, drop, subst, sym, w64, to_z, of_z}
-use Rattle.std.specs.Prelude.{ℤ, pos, ◌+ℤ◌, ◌-ℤ◌, ◌*ℤ◌, nat_abs, All, slice_index, slice_index_or, slice_set}
+use Rattle.std.specs.Prelude.{ℤ, ◌+ℤ◌, ◌-ℤ◌, ◌*ℤ◌, nat_abs, All, slice_index}
 use Rattle.std.proofs.lemmas.Int.{fits_signed_from_abs}
 use Rattle.whole_numbers.specs.Lists.{number_at}
-use Rattle.integer_pivots.specs.declared.line.Line.{Line}
 use Rattle.integer_pivots.specs.Lines.{no_line}
 use Rattle.integer_pivots.specs.Numbers.{AllWithin}
 use Rattle.integer_pivots.specs.Uses.{coefficient_in, size_in, uses_from}
@@ -12,7 +11,7 @@ use Rattle.integer_pivots.proofs.UseLaws.{lists_many}
 use Rattle.integer_pivots.proofs.WrittenPlaces.{written}
 use Rattle.table_kernel.specs.Constants.{AreByFirst, IsShortConstant, constant_of_line, high_constant, line_constant}
 use Rattle.table_kernel.specs.Kernels.{width_of}
-use Rattle.table_kernel.proofs.FollowedConstants.{AreFollowed, IsChange, are_followed, change_read, common_read, constants_many, followed_by_first, followed_small, line_read, old_read, puts_long, puts_read, rows_stay, uses_fit, uses_known, uses_read}
+use Rattle.table_kernel.proofs.FollowedConstants.{AreFollowed, AreTwoPut, IsChange, are_followed, change_read, common_read, constants_many, followed_by_first, followed_small, line_read, old_read, puts_long, puts_read, rows_stay, uses_fit, uses_known, uses_read}
 use Rattle.table_kernel.proofs.kernel.Kernel.follow.Goals.{After-change-1, After-index-3, After-self-3-1}
 use Rattle.table_kernel.proofs.kernel.Kernel.follow.Goals as goal
 
@@ -62,8 +61,7 @@ module _ (c : After-index-3) where
   uses_are : c.index-3.result.now.items ≡ uses_from 0 c.args.self.now.table.rows.items c.args.var
   uses_are = uses_read c.args.self.now c.requires.shaped c.args.var c.index-3.result.now c.requires.var c.index-3.ensures
 
-  puts_are : c.as_mut_slice.result.now
-      ≡ slice_set (slice_set c.args.self.now.constants.items c.args.var c.constant_over-constant.result) (width_of c.args.self.now + c.args.var) c.constant_of_high.result
+  puts_are : AreTwoPut c.args.self.now c.args.var c.constant_over-constant.result c.constant_of_high.result c.as_mut_slice.result.now
   puts_are =
       puts_read c.args.self.now c.args.var c.width-width.result c.constant_over-constant.result c.constant_of_high.result c.as_mut_slice.result.now
       c.constant_over-constant.ensures.size c.constant_of_high.ensures.size c.width-width.ensures c.as_mut_slice.ensures.value
@@ -73,7 +71,7 @@ put_uses-requires-clause-known c i d i_in =
     let a = (goal.at.put_uses-requires-clause-known c).After-index-3 in
     let k = c.args.self.now in
     let known = uses_known k c.args.var c.index-3.result.now.items (uses_are a) i d i_in in
-    let long = puts_long k.constants.items c.as_mut_slice.result.now _ _ _ _ (puts_are a) in
+    let long = puts_long k c.args.var _ _ c.as_mut_slice.result.now (puts_are a) in
     omega (arith, known, c.width-width.ensures, long, constants_many k c.requires.shaped)
 
 pub put_uses-requires-clause-number : goal.put_uses-requires-clause-number
@@ -113,8 +111,7 @@ module _ (c : After-self-3-1) where
       ∙ ap (λ (z : ℤ). high_constant low high z (read x)) (common_read k c.requires.bounded)
       ∙ ap (high_constant low high k.common) (read_number x (omega (arith, c.constant_over-constant.ensures.size)))
 
-  ends_are : c.as_mut_slice.result.now
-      ≡ slice_set (slice_set c.args.self.now.constants.items c.args.var c.constant_over-constant.result) (width_of c.args.self.now + c.args.var) c.constant_of_high.result
+  ends_are : AreTwoPut c.args.self.now c.args.var c.constant_over-constant.result c.constant_of_high.result c.as_mut_slice.result.now
   ends_are =
       puts_read c.args.self.now c.args.var c.width-width.result c.constant_over-constant.result c.constant_of_high.result c.as_mut_slice.result.now
       c.constant_over-constant.ensures.size c.constant_of_high.ensures.size c.width-width.ensures c.as_mut_slice.ensures.value
@@ -123,7 +120,7 @@ module _ (c : After-self-3-1) where
       take c.args.self.now.constants.len (c.put_uses.new.sums ++ drop (length c.put_uses.new.sums) xs) ≡ c.put_uses.new.sums
   news_are xs is =
       let k = c.args.self.now in
-      let long = ap length is ∙ puts_long k.constants.items c.as_mut_slice.result.now _ _ _ _ ends_are in
+      let long = ap length is ∙ puts_long k c.args.var _ _ c.as_mut_slice.result.now ends_are in
       written k.constants.len c.put_uses.new.sums xs (c.put_uses.auto.sums ∙ sym (ap length is)) (k.constants.ok.0 ∙ sym long)
 
   followed : AreFollowed c.args.self.now c.args.var c.constant_over-constant.result c.constant_of_high.result c.put_uses.new.sums
@@ -145,8 +142,8 @@ module _ (c : After-self-3-1) where
 
   by_first_is : AreByFirst c.args.self.now c.put_uses.new.sums
   by_first_is =
-      followed_by_first c.args.self.now c.requires.shaped c.requires.fit c.args.var c.constant_over-constant.result c.constant_of_high.result c.put_uses.new.sums
-      c.requires.var high_is c.requires.by_first followed
+      followed_by_first c.args.self.now c.requires.shaped c.requires.fit c.args.var c.constant_over-constant.result c.constant_of_high.result
+      c.put_uses.new.sums c.requires.var high_is c.requires.by_first followed
 
 pub returns-clause-own : goal.returns-clause-own
 returns-clause-own c =
@@ -168,5 +165,5 @@ returns-clause-small c =
     let a = (goal.at.returns-clause-small c).After-self-3-1 in
     let k = c.args.self.now in
     subst (AllWithin (2 ^ 62)) (sym (news_are a _ (sym c.as_mut_slice.ensures.value)))
-    (followed_small k c.requires.shaped c.requires.bounded c.requires.fit c.args.var c.constant_over-constant.result c.constant_of_high.result c.put_uses.new.sums
-    c.constant_over-constant.ensures.size c.constant_of_high.ensures.size c.requires.first (followed a) (by_first_is a))
+    (followed_small k c.requires.shaped c.requires.bounded c.requires.fit c.args.var c.constant_over-constant.result c.constant_of_high.result
+    c.put_uses.new.sums c.constant_over-constant.ensures.size c.constant_of_high.ensures.size c.requires.first (followed a) (by_first_is a))
