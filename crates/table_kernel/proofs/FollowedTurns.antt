@@ -15,7 +15,8 @@ use Rattle.table_kernel.proofs.Lines.{read_common}
 use Rattle.table_kernel.proofs.TurnedRows.{but_lows, with_leads, with_lines}
 
 -- the common denominator stays where its bits do
-pub common_stays : (k h : Kernel) (column : ℕ) (common : ℤ) → IsReadyToTurn k column → KeepsAllButLows k h → of_z w64 common ≡ of_z w64 h.common → read common ≡ h.common
+pub common_stays : (k h : Kernel) (column : ℕ) (common : ℤ) → IsReadyToTurn k column → KeepsAllButLows k h →
+    of_z w64 common ≡ of_z w64 h.common → read common ≡ h.common
 common_stays k h column common r o same = ap (to_z w64) same ∙ subst (λ (z : ℤ). read z ≡ z) (sym o.common) (read_common k.common r.common)
 
 -- the kernel is the one before with other lines and leads

@@ -86,7 +86,9 @@ are_read k mid column v line numbers entering kernel inside e positive lows v_in
     here : numbers ≡ (line_of k v).numbers
     here =
         numbers_are
-        ∙ ap (λ (l : Line). l.numbers) (line_is ∙ ap (λ (ls : Vec Line Global). slice_index_or ls.items v line) lows ∙ get_or_default k.lows.items v line no_line v_in)
+        ∙ ap (λ (l : Line). l.numbers) line_is
+        ∙ ap (λ (ls : Vec Line Global). (slice_index_or ls.items v line).numbers) lows
+        ∙ ap (λ (l : Line). l.numbers) (get_or_default k.lows.items v line no_line v_in)
 
     own_small : nat_abs (number_at (line_of k v).numbers column) ≤ 2 ^ 30
     own_small = number_small (line_of k v) (kernel.bounded.lines v no_line v_in) column
