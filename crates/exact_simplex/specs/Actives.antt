@@ -1,5 +1,5 @@
 -- The table that a tableau works on, and what it keeps.
-use Rattle.std.specs.Prelude.{◌≡◌, Bool, true, false}
+use Rattle.std.specs.Prelude.{◌≡◌, ◌^◌, ◌≤◌, Bool, true, false}
 use Rattle.design_problem.specs.Basis.{IsBasis}
 use Rattle.fraction_table.specs.declared.stage.Stage.{Stage}
 use Rattle.fraction_table.specs.declared.table.Table.{Table}
@@ -8,6 +8,7 @@ use Rattle.fraction_table.specs.Tableaus.{IsGoing}
 use Rattle.fraction_table.specs.ValidTables.{HasRoom, IsShown, IsTableau}
 use Rattle.table_kernel.specs.declared.kernel.Kernel.{Kernel}
 use Rattle.table_kernel.specs.Kernels.{IsKernel, stated}
+use Rattle.table_kernel.specs.ReadBack.{IsParked, MayReadBack}
 use Rattle.table_kernel.specs.Turns.{IsHeldUp}
 use Rattle.exact_simplex.specs.declared.active.ActiveTable.{ActiveTable}
 
@@ -20,11 +21,17 @@ table_in false kernel = kernel.table
 abbrev pub table_of : ActiveTable → Table
 table_of a = table_in a.in_kernel a.kernel
 
--- A table that is worked on is whole; where the kernel works, it is one.
+-- A table that is worked on is whole; where the kernel works, it is one; and where it doesn't, it can be read back.
 pub record IsActive (a : ActiveTable) : Type 0 where
   pub whole : IsTableau (table_of a)
   pub kernel : a.in_kernel ≡ true → IsKernel a.kernel
+  pub parked : IsParked a.kernel
   pub room : HasRoom a.kernel.table
+
+-- the kernel may work on a table in fractions: at its width, and within its bounds
+pub record MayReturn (t : Table) : Type 0 where
+  pub wide : 2 ^ 126 ≤ t.top
+  pub covered : MayReadBack t
 
 -- a kernel over a table's forms, of which the bounds don't cover the pivot that is due
 pub record WasHeldUp (table : Table) : Type 0 where

@@ -1,5 +1,5 @@
-//! The table that a tableau works on: the kernel, and from the first step that its bounds don't cover the table in
-//! fractions.
+//! The table that a tableau works on: the kernel, and from a step that its bounds don't cover the table in fractions, up
+//! to the first box at which its numbers fit again.
 ghost use Rattle.std.specs.Prelude.{◌≡◌, ℕ, suc, ◌^◌, ◌<◌, ◌≤◌, ◌↔◌, ◌++◌, [], ◌∷◌, length, true, false, All, IfErr, IfOk, IsTrue, OnErr, OnOk};
 ghost use Rattle.design_problem.specs.Boxes.{IsBox, Refutes};
 ghost use Rattle.design_problem.specs.Earnest.{IsLeastPoint};
@@ -15,7 +15,7 @@ ghost use Rattle.fraction_table.specs.Tableaus.{FitsBox, IsRebased, starting, wi
 ghost use Rattle.fraction_table.specs.ValidTables.{HasRoom, IsShown, held_of};
 ghost use Rattle.table_kernel.specs.Moves.{MayMove, box_distance};
 ghost use Rattle.table_kernel.specs.Rows.{HasRowPlace, IsCovered};
-ghost use Rattle.exact_simplex.specs.Actives.{IsActive, IsSoundActive, WasHeldUp, table_of};
+ghost use Rattle.exact_simplex.specs.Actives.{IsActive, IsSoundActive, MayReturn, WasHeldUp, table_of};
 
 use area_graph::Point;
 use cost_base::OutOfMemory;
@@ -29,7 +29,7 @@ use wide_fraction::{Top, Wide};
 #[derive(Drop)]
 pub struct ActiveTable {
     pub kernel: Kernel,
-    /// Whether the kernel works. Else the table in fractions does, for good.
+    /// Whether the kernel works. Else the table in fractions does, until its numbers fit again.
     pub in_kernel: bool,
 }
 
@@ -92,6 +92,19 @@ impl ActiveTable {
         self.in_kernel = false;
     }
 
+    /// Goes on in the kernel, where its bounds cover the table in fractions.
+    fn return_to_kernel(&mut self)
+        requires active { IsActive self.old }
+        requires fractions { self.old.in_kernel ≡ false }
+        ensures active { IsActive self.new }
+        ensures table { self.new.kernel.table ≡ self.old.kernel.table }
+        ensures back { MayReturn self.old.kernel.table → self.new.in_kernel ≡ true }
+    {
+        if is_wide(self.kernel.table.top) {
+            self.in_kernel = self.kernel.read_back().is_ok();
+        }
+    }
+
     /// Adds a row for which there is room. The kernel works on where its bounds cover the row.
     ///
     /// # Errors
@@ -122,7 +135,7 @@ impl ActiveTable {
             }
             self.leave_kernel();
         }
-        self.kernel.table.put_row(row)
+        self.kernel.park_row(row)
     }
 
     /// Works until the table shows the answer: in the kernel, unless its bounds don't cover a pivot that is due.
@@ -191,13 +204,15 @@ impl ActiveTable {
     }
 
     /// Moves the table to another box, bound by bound; where a step of that is too wide, it is started anew. The kernel
-    /// works on where its bounds cover so far a move. It takes no memory.
+    /// works on where its bounds cover so far a move, and again where they cover the table in fractions afterwards. It
+    /// takes no memory.
     pub fn rebase(&mut self, costs: &CostBox)
         requires active { IsActive self.old }
         requires ranges { IsBox (length self.old.kernel.table.costs.low) costs.now }
         requires fits { All (FitsBox costs.now) self.old.kernel.table.rows.items }
         ensures active { IsActive self.new }
         ensures stays { self.old.in_kernel ≡ true → MayMove self.old.kernel (box_distance self.old.kernel.table.costs costs.now) → self.new.in_kernel ≡ true }
+        ensures back { self.new.in_kernel ≡ false → MayReturn self.new.kernel.table → ⊥ }
         ensures rebased { IsRebased (held_of self.old.kernel.table Open) costs.now (held_of self.new.kernel.table Open) }
     {
         if self.in_kernel {
@@ -207,5 +222,6 @@ impl ActiveTable {
             }
         }
         self.kernel.table.rebase(costs);
+        self.return_to_kernel();
     }
 }

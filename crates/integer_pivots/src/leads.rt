@@ -55,3 +55,14 @@ pub fn turn_leads(leads: &mut [usize], lines: &[Line], entering: &Line, column: 
         leads[other] = turned_lead(lines, other, across[other], leads[other], pivots);
     }
 }
+
+/// The first variable with a number in each column, into the leads.
+pub fn put_leads(leads: &mut [usize], lines: &[Line])
+    requires each { All (λ line. length line.numbers ≡ length leads.old) lines.now }
+    ensures count { length leads.new ≡ length leads.old }
+    ensures leads { AreLeads (rows_of lines.now) leads.new }
+{
+    for column in 0..leads.len() {
+        leads[column] = lead_from(lines, column, 0);
+    }
+}

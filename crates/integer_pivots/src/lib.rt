@@ -15,7 +15,7 @@ pub use bounds::{
     CONSTANT_LIMIT, ENTRY_LIMIT, FACTOR_LIMIT, WEIGHT_LIMIT, greater_size, greatest, within,
 };
 pub use choice::{keep_least, put_latest};
-pub use leads::turn_leads;
+pub use leads::{put_leads, turn_leads};
 pub use line::Line;
 pub use multiples::{clear, put_multiple};
 pub use turn::{Turn, common_multiple, put_touched, turn_of};

@@ -2,7 +2,6 @@
 ghost use Rattle.std.specs.Prelude.{◌≡◌, ℕ, ◌^◌, ◌+◌, ◌*◌, ◌<◌, ◌≤◌, ◌++◌, [], nat_abs, ◌+ℤ◌, ◌*ℤ◌, length, map, slice_index_or, All, IfOk, OnOk};
 ghost use Rattle.cost_base.specs.Lists.{numbers_from};
 ghost use Rattle.whole_numbers.specs.Lists.{number_at};
-ghost use Rattle.integer_pivots.specs.Numbers.{weight_of};
 ghost use Rattle.integer_pivots.specs.Uses.{HaveRoom, coefficient_in, held_in, size_in, use_of};
 
 use cost_base::OutOfMemory;
@@ -53,7 +52,7 @@ pub fn reserve_uses(uses: &mut [Vec<Use>]) -> Result<(), OutOfMemory>
 /// Puts a row's uses at the end of the lists of its variables. The lists have room for one use more each.
 pub fn push_uses(uses: &mut [Vec<Use>], form: &Form, row: usize)
     requires count { length form.now.coefficients ≤ length uses.old }
-    requires light { weight_of form.now ≤ 2 ^ 22 }
+    requires sizes { All (λ c. nat_abs c ≤ 2 ^ 26) form.now.coefficients }
     requires room { HaveRoom uses.old }
     ensures { (v : ℕ) → v < length uses.old →
         slice_index_or (held_in uses.new) v [] ≡ slice_index_or (held_in uses.old) v [] ++ use_of row (number_at form.now.coefficients v) }

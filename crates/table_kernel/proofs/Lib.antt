@@ -39,3 +39,5 @@ pub mod MovedKernels
 pub mod PutKernels
 pub mod Shares
 pub mod MoveReads
+pub mod LeastCommon
+pub mod LoweredCommon

@@ -9,3 +9,4 @@ pub mod Constants
 pub mod Choices
 pub mod Turns
 pub mod Moves
+pub mod ReadBack

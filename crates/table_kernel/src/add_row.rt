@@ -1,12 +1,14 @@
 //! One more row: its form, and its constant at the present basis.
-ghost use Rattle.std.specs.Prelude.{◌≡◌, ◌^◌, ◌<◌, ◌≤◌, ◌↔◌, pos, ◌∷◌, [], ◌++◌, nat_abs, length, All, IfOk, IsTrue, OnOk};
+ghost use Rattle.std.specs.Prelude.{◌≡◌, ◌^◌, ◌<◌, ◌≤◌, ◌↔◌, pos, ◌∷◌, [], ◌++◌, nat_abs, length, All, IfErr, IfOk, IsTrue, OnOk};
 ghost use Rattle.fraction_rows.specs.TableRows.{blank_row};
-ghost use Rattle.fraction_table.specs.RowLines.{HoldsSame};
-ghost use Rattle.fraction_table.specs.Tableaus.{FitsBox};
-ghost use Rattle.fraction_table.specs.ValidTables.{held_of};
+ghost use Rattle.design_problem.specs.Steps.{IsStepTooWide};
+ghost use Rattle.fraction_table.specs.RowLines.{HoldsRow, HoldsSame};
+ghost use Rattle.fraction_table.specs.Tableaus.{FitsBox, wide_at};
+ghost use Rattle.fraction_table.specs.ValidTables.{HasRoom, IsTableau, held_of};
 ghost use Rattle.fraction_table.specs.declared.stage.Stage.TheVariants.{Open};
 ghost use Rattle.integer_pivots.specs.Numbers.{weight_of};
 ghost use Rattle.table_kernel.specs.Kernels.{IsKernel, width_of};
+ghost use Rattle.table_kernel.specs.ReadBack.{IsParked};
 ghost use Rattle.table_kernel.specs.Rows.{HasRowPlace, HoldsNumbers, IsCovered};
 
 use crate::Kernel;
@@ -16,6 +18,7 @@ use design_problem::Form;
 use fraction_table::BlankRow;
 use integer_pivots::{WEIGHT_LIMIT, push_uses, reserve_uses, within};
 use std::alloc::Global;
+use wide_fraction::Wide;
 
 /// The sum of the sizes of a form's coefficients.
 fn form_weight(form: &Form) -> i64
@@ -41,6 +44,7 @@ impl Kernel {
         ensures same { HoldsSame self.old.table self.new.table }
         ensures numbers { HoldsNumbers self.old self.new }
         ensures kernel { IsKernel self.old → IsKernel self.new }
+        ensures parked { IsParked self.old → IsParked self.new }
         ensures place { OnOk result (HasRowPlace self.new) }
         ensures form { IfOk result (λ row. row.form ≡ form.now) }
         ensures blank { IfOk result (λ row. row.line ≡ blank_row (length self.old.table.costs.low)) }
@@ -88,5 +92,30 @@ impl Kernel {
         let count = self.table.rows.len();
         push_uses(self.uses.as_mut_slice(), &row.form, count);
         self.table.put_blank(row);
+    }
+
+    /// Adds a row for which there is room to the table in fractions. The kernel's lists grow with it, so that its lines can
+    /// be read back.
+    ///
+    /// # Errors
+    ///
+    /// `Wide` where a step of the row's line makes a whole number that passes the top. The row was added nevertheless.
+    pub fn park_row(&mut self, row: BlankRow) -> Result<(), Wide>
+        requires parked { IsParked self.old }
+        requires whole { IsTableau self.old.table }
+        requires place { HasRowPlace self.old }
+        requires fits { FitsBox self.old.table.costs row.form }
+        requires blank { row.line ≡ blank_row (width_of self.old) }
+        ensures holds { HoldsRow self.old.table row.form self.new.table }
+        ensures room { HasRoom self.new.table }
+        ensures whole { OnOk result (IsTableau self.new.table) }
+        ensures parked { OnOk result (IsParked self.new) }
+        ensures wide { IfErr result (λ wide.
+            IsStepTooWide self.new.table.top self.new.table.costs self.new.table.rows.items (wide_at wide self.new.table.basis.items)) }
+    {
+        self.constants.push_reserved(0);
+        let count = self.table.rows.len();
+        push_uses(self.uses.as_mut_slice(), &row.form, count);
+        self.table.put_row(row)
     }
 }

@@ -13,6 +13,7 @@ mod kernel;
 mod line;
 mod moves;
 mod multipliers;
+mod read_back;
 mod restate;
 mod settle;
 mod start;

@@ -9,6 +9,7 @@ ghost use Rattle.fraction_table.specs.ValidTables.{HasRoom, IsTableau};
 ghost use Rattle.table_kernel.specs.Kernels.{IsKernel, kernel_lines, width_of};
 ghost use Rattle.table_kernel.specs.Lines.{column_of};
 ghost use Rattle.table_kernel.specs.Numbers.{number_at_column, over_common};
+ghost use Rattle.table_kernel.specs.ReadBack.{IsParked};
 ghost use Rattle.table_kernel.specs.Restated.{KeepsAllButLinesOf};
 
 use crate::Kernel;
@@ -86,6 +87,7 @@ impl Kernel {
         ensures keeps { KeepsBoxAndRows self.old.table self.new.table }
         ensures basis { self.new.table.basis ≡ self.old.table.basis }
         ensures place { HasPlace self.old.table → HasPlace self.new.table }
+        ensures parked { IsParked self.new }
     {
         for place in 0..self.constants.len() {
             self.restate_line(place);

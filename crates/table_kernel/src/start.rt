@@ -7,6 +7,7 @@ ghost use Rattle.fraction_table.specs.Tableaus.{starting};
 ghost use Rattle.fraction_table.specs.ValidTables.{IsSound, held_of};
 ghost use Rattle.integer_pivots.specs.Numbers.{AllWithin};
 ghost use Rattle.table_kernel.specs.Kernels.{IsKernel};
+ghost use Rattle.table_kernel.specs.ReadBack.{IsParked};
 ghost use Rattle.table_kernel.specs.Starts.{unit_line_of};
 
 use crate::Kernel;
@@ -128,6 +129,7 @@ pub fn starting_kernel(alloc: Global, costs: &CostBox, top: Top) -> Result<Kerne
         held_of kernel.table Open ≡ record { top = top; costs = costs.now; rows = []; basis = starting costs.now; stage = Open }) }
     ensures sound { IfOk result (λ kernel. IsSound kernel.table Open) }
     ensures kernel { IfOk result (λ kernel. 2 ^ 126 ≤ top → IsKernel kernel) }
+    ensures parked { IfOk result IsParked }
 {
     let width = costs.low.as_slice().len();
     Ok(Kernel {

@@ -29,7 +29,7 @@ fn denominator_times(denominator: i64, multiplier: i64) -> i64
 }
 
 /// How often a denominator goes into a multiple of it.
-fn share_in(common: i64, denominator: i64) -> i64
+pub(crate) fn share_in(common: i64, denominator: i64) -> i64
     requires common { (pos 0 <ℤ common) × (common ≤ℤ pos (2 ^ 30)) }
     requires denominator { (pos 0 <ℤ denominator) × (denominator ≤ℤ pos (2 ^ 60)) }
     requires divides { nat_abs denominator ∣ nat_abs common }
@@ -40,7 +40,7 @@ fn share_in(common: i64, denominator: i64) -> i64
 }
 
 /// Whether a constant, times how often its denominator goes into the common one, is within the limit.
-fn stays_within(constant: i128, share: i64) -> bool
+pub(crate) fn stays_within(constant: i128, share: i64) -> bool
     requires share { (pos 0 <ℤ share) × (share ≤ℤ pos (2 ^ 30)) }
     ensures { IsTrue result ↔ (nat_abs constant * nat_abs share ≤ 2 ^ 44) }
 {
