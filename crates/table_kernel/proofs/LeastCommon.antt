@@ -1,26 +1,25 @@
--- The least common multiple of the denominators of a kernel's lines, line by line.
+-- The least common multiple of the denominators of lines, line by line.
 use Prim.Native.Nat.{◌∣◌}
 use native.Mathlib.Nat.{div-mul_cancel, dvd_of_mul-dvd-mul_right, mul-dvd-mul_right, mul_assoc, mul_comm, one-dvd}
-use Rattle.std.proofs.Common.{◌≡◌, ℕ, ◌+◌, ◌*◌, ◌/◌, ◌^◌, ◌<◌, ◌≤◌, refl, sym, ◌∙◌, ap, subst, take, length, arith, w64, to_z, of_z}
+use Rattle.std.proofs.Common.{◌≡◌, ℕ, zero, suc, ◌+◌, ◌*◌, ◌/◌, ◌^◌, ◌<◌, ◌≤◌, refl, sym, ◌∙◌, ap, subst, List, take, length, arith}
 use Rattle.std.specs.Prelude.{ℤ, pos, ◌<ℤ◌, ◌≤ℤ◌, nat_abs, slice_index_or, All}
+use Rattle.std.proofs.lemmas.Int.{ints}
 use Rattle.std.proofs.lemmas.List.{get_or_default, take_all}
 use Rattle.std.proofs.lemmas.List.Elements.{All-more, All-weaker}
-use Rattle.std.proofs.lemmas.Nat.Gcd.{dvd_refl, dvd_trans, le_of_dvd}
+use Rattle.std.proofs.lemmas.Nat.Gcd.{dvd_trans, dvd-zero, le_of_dvd}
 use Rattle.whole_numbers.specs.Fractions.{gcd, lcm}
 use Rattle.whole_numbers.proofs.Divisors.{divides_other, gcd_is, gcd_positive, quotient_positive}
 use Rattle.whole_numbers.proofs.FractionLaws.{reduced_lowest}
 use Rattle.whole_numbers.proofs.Multiples.{left_divides_lcm, right_divides_lcm}
 use Rattle.whole_numbers.proofs.Sizes.{size_positive}
 use Rattle.integer_pivots.specs.declared.line.Line.{Line}
-use Rattle.integer_pivots.specs.Lines.{no_line}
+use Rattle.integer_pivots.specs.Lines.{IsLine, no_line}
 use Rattle.integer_pivots.proofs.Sizes.{read, read_number, size_most}
-use Rattle.table_kernel.specs.declared.kernel.Kernel.{Kernel}
-use Rattle.table_kernel.specs.Kernels.{IsBounded}
-use Rattle.table_kernel.specs.Turns.{line_of}
+use Rattle.table_kernel.specs.ReadBack.{IsLeastCommon}
 
 -- a common multiple of two numbers is a multiple of the least one
-pub lcm_divides : (a b c : ℕ) → 0 < a → 0 < b → 0 < c → a ∣ c → b ∣ c → lcm a b ∣ c
-lcm_divides a b c a_some b_some c_some left right =
+some_divides : (a b c : ℕ) → 0 < b → 0 < c → a ∣ c → b ∣ c → lcm a b ∣ c
+some_divides a b c b_some c_some left right =
     let g = gcd a b in
     let both = gcd_is a b in
     let times = c / b in
@@ -36,92 +35,86 @@ lcm_divides a b c a_some b_some c_some left right =
     divides_other (a / g) (b / g) times lowest.lowest (dvd_of_mul-dvd-mul_right (a / g) g_some scaled) (quotient_positive c b c_some right) in
     subst (λ (n : ℕ). lcm a b ∣ n) whole (mul-dvd-mul_right (a / g) share b)
 
--- a common multiple of the denominators of the lines before an index, of which the common denominator is one
-pub record IsLeastTo (k : Kernel) (i : ℕ) (common : ℤ) : Type 0 where
+pub lcm_divides : (a b c : ℕ) → 0 < b → a ∣ c → b ∣ c → lcm a b ∣ c
+lcm_divides a b zero b_some left right = dvd-zero (lcm a b)
+lcm_divides a b (suc c) b_some left right = some_divides a b (suc c) b_some (omega arith) left right
+
+-- the line's denominator goes into this number
+abbrev pub GoesInto : ℕ → Line → Type 0
+GoesInto D line = nat_abs line.denominator ∣ D
+
+-- a common multiple of the denominators of the lines before an index, which goes into each of those of all lines
+pub record IsLeastTo (lines : List Line) (i : ℕ) (common : ℤ) : Type 0 where
   pub range : (pos 0 <ℤ common) × (common ≤ℤ pos (2 ^ 30))
-  pub multiple : All (λ line. nat_abs line.denominator ∣ nat_abs common) (take i k.lows.items)
-  pub least : nat_abs common ∣ nat_abs k.common
+  pub multiple : All (GoesInto (nat_abs common)) (take i lines)
+  pub least : (D : ℕ) → All (GoesInto D) lines → nat_abs common ∣ D
 
--- the line's denominator is one that is read as it is, and goes into the common one
-pub record IsLineRead (k : Kernel) (i : ℕ) (denominator : ℤ) : Type 0 where
-  pub is : denominator ≡ (line_of k i).denominator
-  pub known : read denominator ≡ denominator
-  pub some : 0 < nat_abs denominator
-  pub divides : nat_abs denominator ∣ nat_abs k.common
+-- 1 is one of no line
+pub none_yet : (lines : List Line) → IsLeastTo lines 0 (pos 1)
+none_yet lines = record {
+  range = (omega (arith, ints), omega (arith, ints));
+  multiple = λ v d v_in. absurd (omega (arith, v_in));
+  least = λ D all. one-dvd D;
+}
 
-pub line_is_read : (k : Kernel) (i : ℕ) (line : Line) → IsBounded k → i < length k.lows.items →
-    line ≡ slice_index_or k.lows.items i line → IsLineRead k i line.denominator
-line_is_read k i line b i_in is =
-    let same : line ≡ line_of k i = is ∙ get_or_default k.lows.items i line no_line i_in in
-    let l = b.lines i no_line i_in in
-    let d = (line_of k i).denominator in
+-- the line's denominator is one that is read as it is
+pub record IsLineRead (lines : List Line) (i : ℕ) (denominator : ℤ) : Type 0 where
+  pub is : read denominator ≡ (slice_index_or lines i no_line).denominator
+  pub some : 0 < nat_abs (read denominator)
+  pub range : (pos 0 <ℤ read denominator) × (read denominator ≤ℤ pos (2 ^ 60))
+
+pub line_is_read : (lines : List Line) (i : ℕ) (line : Line) → All IsLine lines → i < length lines →
+    line ≡ slice_index_or lines i line → IsLineRead lines i line.denominator
+line_is_read lines i line all i_in is =
+    let same : line ≡ slice_index_or lines i no_line = is ∙ get_or_default lines i line no_line i_in in
+    let l = all i no_line i_in in
+    let d = (slice_index_or lines i no_line).denominator in
     let small : nat_abs d ≤ 2 ^ 30 = size_most d (2 ^ 30) l.positive l.denominator in
-    subst (IsLineRead k i) (sym (ap (λ (m : Line). m.denominator) same))
+    let known : read d ≡ d = read_number d (omega (arith, small)) in
+    subst (IsLineRead lines i) (sym (ap (λ (m : Line). m.denominator) same))
     (record {
-      is = refl;
-      known = read_number d (omega (arith, small));
-      some = size_positive d l.positive;
-      divides = b.divides i no_line i_in;
+      is = known;
+      some = subst (λ (z : ℤ). 0 < nat_abs z) (sym known) (size_positive d l.positive);
+      range = subst (λ (z : ℤ). (pos 0 <ℤ z) × (z ≤ℤ pos (2 ^ 60))) (sym known) (l.positive, omega (arith, ints, l.denominator));
     })
 
--- a multiple of the one before and of the line's denominator is the next one
-next_multiple : (k : Kernel) (i : ℕ) (common new : ℤ) → i < length k.lows.items → IsLeastTo k i common →
-    (pos 0 <ℤ new) × (new ≤ℤ pos (2 ^ 30)) → nat_abs common ∣ nat_abs new → nat_abs (line_of k i).denominator ∣ nat_abs new →
-    nat_abs new ∣ nat_abs k.common → IsLeastTo k (i + 1) (read new)
-next_multiple k i common new i_in before range grows here goes =
-    let small : nat_abs new ≤ 2 ^ 30 = size_most new (2 ^ 30) range.0 range.1 in
-    subst (IsLeastTo k (i + 1)) (sym (read_number new (omega (arith, small))))
-    (record {
-      range = range;
-      multiple = All-more (λ line. nat_abs line.denominator ∣ nat_abs new) k.lows.items i no_line i_in
-          (All-weaker (λ line. nat_abs line.denominator ∣ nat_abs common) (λ line. nat_abs line.denominator ∣ nat_abs new)
-          (λ line divides. dvd_trans (nat_abs line.denominator) divides grows) (take i k.lows.items) before.multiple) here;
-      least = goes;
-    })
+-- the least multiple of both goes into each of those of all lines
+both_divide : (lines : List Line) (i : ℕ) (common d : ℤ) → i < length lines → IsLineRead lines i d → IsLeastTo lines i common →
+    (D : ℕ) → All (GoesInto D) lines → lcm (nat_abs common) (nat_abs (read d)) ∣ D
+both_divide lines i common d i_in l before D all =
+    lcm_divides (nat_abs common) (nat_abs (read d)) D l.some (before.least D all)
+    (subst (λ (z : ℤ). nat_abs z ∣ D) (sym l.is) (all i no_line i_in))
 
--- the least multiple of both goes into the common denominator
-both_divide : (k : Kernel) (i : ℕ) (common d : ℤ) → IsBounded k → IsLineRead k i d → IsLeastTo k i common →
-    lcm (nat_abs common) (nat_abs (read d)) ∣ nat_abs k.common
-both_divide k i common d b l before =
-    subst (λ (z : ℤ). lcm (nat_abs common) (nat_abs z) ∣ nat_abs k.common) (sym l.known)
-    (lcm_divides (nat_abs common) (nat_abs d) (nat_abs k.common) (size_positive common before.range.0) l.some
-    (size_positive k.common b.positive) before.least l.divides)
+-- so none of at most 2^30 is left where it is too large
+pub too_large : (lines : List Line) (i : ℕ) (common d : ℤ) → i < length lines → IsLineRead lines i d → IsLeastTo lines i common →
+    2 ^ 30 < lcm (nat_abs common) (nat_abs (read d)) → (D : ℕ) → 0 < D → D ≤ 2 ^ 30 → All (GoesInto D) lines → ⊥
+too_large lines i common d i_in l before large D some small all =
+    omega (arith, large, small, le_of_dvd some (both_divide lines i common d i_in l before D all))
 
--- so it isn't too large
-pub multiple_small : (k : Kernel) (i : ℕ) (common d : ℤ) → IsBounded k → IsLineRead k i d → IsLeastTo k i common →
-    2 ^ 30 < lcm (nat_abs common) (nat_abs (read d)) → ⊥
-multiple_small k i common d b l before large =
-    let most : lcm (nat_abs common) (nat_abs (read d)) ≤ nat_abs k.common =
-    le_of_dvd (size_positive k.common b.positive) (both_divide k i common d b l before) in
-    let small : nat_abs k.common ≤ 2 ^ 30 = size_most k.common (2 ^ 30) b.positive b.common in
-    absurd (omega (arith, most, small, large))
-
--- where the line's denominator is 1, the one before stays
-pub next_same : (k : Kernel) (i : ℕ) (common d : ℤ) → i < length k.lows.items → IsLineRead k i d → IsLeastTo k i common →
-    of_z w64 d ≡ 1 → IsLeastTo k (i + 1) common
-next_same k i common d i_in l before bits =
-    let one : nat_abs d ≡ 1 = ap nat_abs (sym l.known) ∙ ap (λ (n : ℕ). nat_abs (to_z w64 n)) bits in
-    let here : nat_abs (line_of k i).denominator ∣ nat_abs common =
-    subst (λ (n : ℕ). n ∣ nat_abs common) (sym one ∙ ap nat_abs l.is) (one-dvd (nat_abs common)) in
-    let small : nat_abs common ≤ 2 ^ 30 = size_most common (2 ^ 30) before.range.0 before.range.1 in
-    subst (IsLeastTo k (i + 1)) (read_number common (omega (arith, small)))
-    (next_multiple k i common common i_in before before.range (dvd_refl (nat_abs common)) here before.least)
-
--- else the least multiple of both is made
-pub next_both : (k : Kernel) (i : ℕ) (common d new : ℤ) → IsBounded k → i < length k.lows.items → IsLineRead k i d →
-    IsLeastTo k i common → (pos 0 <ℤ new) × (nat_abs new ≡ lcm (nat_abs common) (nat_abs (read d))) × (new ≤ℤ pos (2 ^ 30)) →
-    IsLeastTo k (i + 1) (read new)
-next_both k i common d new b i_in l before made =
+-- the least multiple of both is one of one line more
+pub next_both : (lines : List Line) (i : ℕ) (common d new : ℤ) → i < length lines → IsLineRead lines i d → IsLeastTo lines i common →
+    (pos 0 <ℤ new) × (nat_abs new ≡ lcm (nat_abs common) (nat_abs (read d))) × (new ≤ℤ pos (2 ^ 30)) →
+    IsLeastTo lines (i + 1) (read new)
+next_both lines i common d new i_in l before made =
     let both = lcm (nat_abs common) (nat_abs (read d)) in
-    let here : nat_abs (line_of k i).denominator ∣ both =
-    subst (λ (z : ℤ). nat_abs z ∣ both) (l.known ∙ l.is) (right_divides_lcm (nat_abs common) (nat_abs (read d))) in
-    next_multiple k i common new i_in before (made.0, made.2)
-    (subst (λ (n : ℕ). nat_abs common ∣ n) (sym made.1) (left_divides_lcm (nat_abs common) (nat_abs (read d))))
-    (subst (λ (n : ℕ). nat_abs (line_of k i).denominator ∣ n) (sym made.1) here)
-    (subst (λ (n : ℕ). n ∣ nat_abs k.common) (sym made.1) (both_divide k i common d b l before))
+    let small : nat_abs new ≤ 2 ^ 30 = size_most new (2 ^ 30) made.0 made.2 in
+    let here : GoesInto both (slice_index_or lines i no_line) =
+    subst (λ (z : ℤ). nat_abs z ∣ both) l.is (right_divides_lcm (nat_abs common) (nat_abs (read d))) in
+    let before_it : All (GoesInto both) (take i lines) =
+    All-weaker (GoesInto (nat_abs common)) (GoesInto both) (λ line divides. dvd_trans (nat_abs line.denominator) divides (left_divides_lcm (nat_abs common) (nat_abs (read d))))
+    (take i lines) before.multiple in
+    subst (IsLeastTo lines (i + 1)) (sym (read_number new (omega (arith, small))))
+    (record {
+      range = (made.0, made.2);
+      multiple = subst (λ (n : ℕ). All (GoesInto n) (take (i + 1) lines)) (sym made.1) (All-more (GoesInto both) lines i no_line i_in before_it here);
+      least = λ D all. subst (λ (n : ℕ). n ∣ D) (sym made.1) (both_divide lines i common d i_in l before D all);
+    })
 
 -- all lines are before the end
-pub all_multiple : (k : Kernel) (i : ℕ) (common : ℤ) → length k.lows.items ≤ i → IsLeastTo k i common →
-    All (λ line. nat_abs line.denominator ∣ nat_abs common) k.lows.items
-all_multiple k i common past before =
-    subst (All (λ line. nat_abs line.denominator ∣ nat_abs common)) (take_all i k.lows.items past) before.multiple
+pub least_common : (lines : List Line) (i : ℕ) (common : ℤ) → length lines ≤ i → IsLeastTo lines i common → IsLeastCommon lines common
+least_common lines i common past before = record {
+  positive = before.range.0;
+  small = before.range.1;
+  multiple = subst (All (GoesInto (nat_abs common))) (take_all i lines past) before.multiple;
+  least = before.least;
+}

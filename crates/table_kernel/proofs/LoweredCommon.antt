@@ -26,6 +26,7 @@ use Rattle.table_kernel.specs.Bases.{AreAtBasis}
 use Rattle.table_kernel.specs.Constants.{AreConstantsPut, KeepsAllButConstants}
 use Rattle.table_kernel.specs.Kernels.{IsBounded, IsKernel, IsMoving, kernel_lines, stated}
 use Rattle.table_kernel.specs.Numbers.{fraction_lines, over_common, scaled_line, share_of}
+use Rattle.table_kernel.specs.ReadBack.{IsLeastCommon}
 use Rattle.table_kernel.proofs.AtBasis.{kernel_basis, number_up, scaled_by, scaled_down}
 use Rattle.table_kernel.proofs.PutKernels.{put_kernel}
 use Rattle.table_kernel.proofs.Shares.{factor_within}
@@ -94,10 +95,12 @@ pub record IsLower (k : Kernel) (common : ℤ) : Type 0 where
   pub multiple : All (λ line. nat_abs line.denominator ∣ nat_abs common) k.lows.items
   pub least : nat_abs common ∣ nat_abs k.common
 
-pub lower_read : (k : Kernel) (common : ℤ) → IsLower k common → IsLower k (read common)
-lower_read k common l =
-    let small : nat_abs common ≤ 2 ^ 30 = size_most common (2 ^ 30) l.range.0 l.range.1 in
-    subst (IsLower k) (sym (read_number common (omega (arith, small)))) l
+-- the least one is a lower one, as it is read
+pub lower_least : (k : Kernel) (common : ℤ) → IsBounded k → IsLeastCommon k.lows.items common → IsLower k (read common)
+lower_least k common b l =
+    let small : nat_abs common ≤ 2 ^ 30 = size_most common (2 ^ 30) l.positive l.small in
+    subst (IsLower k) (sym (read_number common (omega (arith, small))))
+    (record { range = (l.positive, l.small); multiple = l.multiple; least = l.least (nat_abs k.common) b.divides })
 
 -- the kernel with it
 abbrev pub with_common : Kernel → ℤ → Kernel

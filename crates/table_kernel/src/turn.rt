@@ -234,33 +234,15 @@ impl Kernel {
         }
     }
 
-    /// The least common multiple of the denominators of all lines.
-    fn least_common(&self) -> i64
-        requires kernel { IsKernel self.now }
-        ensures range { (pos 0 <ℤ result) × (result ≤ℤ pos (2 ^ 30)) }
-        ensures multiple { All (λ line. nat_abs line.denominator ∣ nat_abs result) self.now.lows.items }
-        ensures least { nat_abs result ∣ nat_abs self.now.common }
-    {
-        let mut common = 1;
-        for var in 0..self.lows.len() {
-            let denominator = self.lows[var].denominator;
-            if denominator != 1 {
-                common = match common_multiple(common, denominator) {
-                    Some(common) => common,
-                    None => unreachable!(),
-                };
-            }
-        }
-        common
-    }
-
     /// Makes the common denominator the least common multiple of those of the lines; the constants follow.
     fn lower_common(&mut self)
         requires kernel { IsKernel self.old }
         ensures kernel { IsKernel self.new }
         ensures stated { stated self.new ≡ stated self.old }
     {
-        let common = self.least_common();
+        let Some(common) = self.common_of_lines() else {
+            return;
+        };
         if common != self.common {
             self.common = common;
             self.put_constants();
