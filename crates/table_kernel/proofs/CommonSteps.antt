@@ -2,13 +2,12 @@
 use Prim.Native.Nat.{◌∣◌}
 use native.Mathlib.Nat.{div-mul_cancel, mul-one}
 use Rattle.std.proofs.Common.{◌≡◌, ℕ, zero, suc, ◌+◌, ◌*◌, ◌/◌, ◌^◌, ◌<◌, ◌≤◌, refl, sym, ◌∙◌, ap, subst, List, [], ◌∷◌, drop, length, arith}
-use Rattle.std.specs.Prelude.{ℤ, pos, negsuc, ◌<ℤ◌, ◌≤ℤ◌, nat_abs, slice_index_or, All, Option, None, MatchOption}
-use Rattle.std.proofs.lemmas.Int.{ints}
+use Rattle.std.specs.Prelude.{ℤ, pos, ◌<ℤ◌, ◌≤ℤ◌, nat_abs, slice_index_or, All, Option, None, MatchOption}
 use Rattle.std.proofs.lemmas.List.Elements.{All-drop, All-tail}
 use Rattle.std.proofs.lemmas.Nat.Gcd.{dvd_refl, dvd_trans, le_of_dvd, same_from_IsGcd}
 use Rattle.whole_numbers.specs.Fractions.{gcd, lcm}
 use Rattle.whole_numbers.specs.Lists.{number_at}
-use Rattle.whole_numbers.proofs.Divisors.{gcd_is, quotient_positive}
+use Rattle.whole_numbers.proofs.Divisors.{gcd_is}
 use Rattle.whole_numbers.proofs.FractionLaws.{product_positive}
 use Rattle.whole_numbers.proofs.Multiples.{lcm_positive, left_divides_lcm, right_divides_lcm}
 use Rattle.whole_numbers.proofs.Sizes.{size_positive}
@@ -16,15 +15,9 @@ use Rattle.integer_pivots.specs.declared.line.Line.{Line}
 use Rattle.integer_pivots.specs.Lines.{IsLine, no_line}
 use Rattle.integer_pivots.specs.Turns.{common_after, denominator_after, turn_by}
 use Rattle.integer_pivots.proofs.Sizes.{read, read_number, size_most}
+use Rattle.integer_pivots.proofs.TurnLaws.{turn_positive}
 
 -- a multiplier is positive
-pub turn_positive : (number pivot : ℤ) → pos 0 <ℤ pivot → pos 0 <ℤ (turn_by number pivot).multiplier
-turn_positive number (pos n) positive =
-    let quotient : 0 < n / gcd (nat_abs number) n =
-    quotient_positive n (gcd (nat_abs number) n) (omega (arith, ints, positive)) (gcd_is (nat_abs number) n).1 in
-    omega (arith, ints, quotient)
-turn_positive number (negsuc n) positive = absurd (omega (arith, ints, positive))
-
 pub multiplier_some : (number pivot : ℤ) → pos 0 <ℤ pivot → 0 < nat_abs (turn_by number pivot).multiplier
 multiplier_some number pivot positive = size_positive (turn_by number pivot).multiplier (turn_positive number pivot positive)
 

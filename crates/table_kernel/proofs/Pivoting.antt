@@ -21,8 +21,11 @@ use Rattle.fraction_table.proofs.theory.TurnedLeads.{column_other, length-number
 use Rattle.fraction_table.proofs.theory.TurnedNumbers.{numbers_at, numbers_long}
 use Rattle.fraction_table.proofs.theory.Turns.{turned_rows}
 use Rattle.integer_pivots.specs.declared.line.Line.{Line}
+use Rattle.integer_pivots.specs.declared.turn.Turn.{Turn}
+use Rattle.integer_pivots.specs.declared.uses.Use.{Use}
 use Rattle.integer_pivots.specs.Lines.{no_line}
 use Rattle.integer_pivots.specs.Numbers.{weight_of}
+use Rattle.integer_pivots.specs.Uses.{held_in, uses_by}
 use Rattle.table_kernel.specs.declared.kernel.Kernel.{Kernel}
 use Rattle.table_kernel.specs.Bases.{AreAtBasis}
 use Rattle.table_kernel.specs.Kernels.{IsBounded, IsKernel, IsShaped, lows_of, stated, width_of}
@@ -176,6 +179,10 @@ module _ (k : Kernel) (place column : ℕ) (p : IsPivotIn k place column) where
             lead = t.leads s.lead;
             constants = t.constants_count ∙ s.constants
                 ∙ ap (λ (u : Table). length (members_of_box u.costs (length u.rows.items))) (sym t.table);
+            uses = ap (λ (us : Vec (Vec Use Global) Global). held_in us.items) t.uses
+                ∙ s.uses
+                ∙ ap (λ (u : Table). uses_by u.rows.items (length u.costs.low)) (sym t.table);
+            turns = ap (λ (ts : Vec Turn Global). length ts.items) t.turns ∙ s.turns ∙ sym wide_is;
             left = subst (λ (m : ℕ). m ≤ vec_capacity h.left) (sym wide_is)
                 (subst (λ (v : Vec ℕ Global). width_of k ≤ vec_capacity v) (sym t.left) s.left);
             entering = ap (λ (line : Line). length line.numbers) t.entering ∙ s.entering ∙ sym wide_is;

@@ -1,8 +1,8 @@
 -- Constants that stay within the limit after a turn, and lines that stay as they are.
 use Prim.Native.Nat.{◌∣◌}
-use native.Mathlib.Nat.{div-mul_cancel}
-use Rattle.std.proofs.Common.{◌≡◌, Bool, ◌↔◌, ℕ, ◌*◌, ◌/◌, ◌^◌, ◌<◌, ◌≤◌, ap, subst, [], ◌∷◌, arith, refl, sym, ◌∙◌}
-use Rattle.std.specs.Prelude.{ℤ, pos, negsuc, ◌*ℤ◌, nat_abs, IsTrue}
+use native.Mathlib.Nat.{div-mul_cancel, mul-one, zero-mul}
+use Rattle.std.proofs.Common.{◌≡◌, Bool, ◌↔◌, ℕ, ◌+◌, ◌*◌, ◌/◌, ◌^◌, ◌<◌, ◌≤◌, ap, subst, [], ◌∷◌, arith, refl, sym, ◌∙◌}
+use Rattle.std.specs.Prelude.{ℤ, pos, negsuc, ◌*ℤ◌, ◌<ℤ◌, nat_abs, IsTrue}
 use Rattle.std.proofs.lemmas.Int.{unsigned_abs-mul}
 use Rattle.whole_numbers.specs.Fractions.{exact_quotient, gcd}
 use Rattle.whole_numbers.specs.Lists.{number_at}
@@ -13,9 +13,13 @@ use Rattle.whole_numbers.proofs.Sizes.{size_positive}
 use Rattle.integer_pivots.specs.declared.line.Line.{Line}
 use Rattle.integer_pivots.specs.declared.turn.Turn.{Turn}
 use Rattle.integer_pivots.specs.Lines.{IsLine}
-use Rattle.integer_pivots.specs.Turns.{IsTurnedLine, denominator_after, turn_at, turned_number}
+use Rattle.integer_pivots.specs.Numbers.{greatest_of}
+use Rattle.integer_pivots.specs.Turns.{IsTurnedLine, StaysSmall, denominator_after, turn_at, turned_number}
+use Rattle.integer_pivots.proofs.TurnLaws.{greatest_least, turn_by_none}
 use Rattle.table_kernel.specs.declared.kernel.Kernel.{Kernel}
+use Rattle.table_kernel.specs.Numbers.{share_of}
 use Rattle.table_kernel.specs.Turns.{constant_size, line_of, turn_of_line}
+use Rattle.table_kernel.proofs.Columns.{numbers_small}
 use Rattle.table_kernel.proofs.Shares.{factor_within}
 
 pos_same : (a b : ℕ) → pos a ≡ pos b → a ≡ b
@@ -59,6 +63,13 @@ no_number : (z : ℤ) (g : ℕ) → g ∣ nat_abs z → exact_quotient z g ≡ p
 no_number z g divides none =
     sym (over-mul z g (div-mul_cancel g divides)) ∙ ap (λ (y : ℤ). y *ℤ pos g) none ∙ ring (pos g ∷ []) (num (pos 0) ⊗ var 0) (num (pos 0)) refl
 
+-- once a size and no other is as large as that size
+kept_once : (m f a b : ℕ) → m ≡ 1 → f ≡ 0 → a ≤ 2 ^ 30 → m * a + f * b ≤ 2 ^ 30
+kept_once m f a b one none small = omega (arith, small, ap (λ (n : ℕ). n * a) one, mul-one a, ap (λ (n : ℕ). n * b) none, zero-mul b)
+
+none_times : (f b : ℕ) → f ≡ 0 → f * b ≤ 2 ^ 30
+none_times f b none = omega (arith, ap (λ (n : ℕ). n * b) none, zero-mul b)
+
 -- a line whose factor is 0 stays as it is
 module _ (entering line : Line) (column : ℕ) (none : (turn_at entering column line).factor ≡ pos 0) where
   abbrev turn : Turn
@@ -81,6 +92,21 @@ module _ (entering line : Line) (column : ℕ) (none : (turn_at entering column 
       (var 0 ⊗ (var 1 ⊗ var 2)) ((var 3 ⊗ var 4) ⊗ var 1)
       (using (var 1 ⊗ var 2) (var 0) (num (pos 0)) zero_here (using (num (negsuc 0) ⊗ (var 4 ⊗ var 1)) (var 3) (num (pos 0)) none nothing)) refl
 
+  pub once : pos 0 <ℤ number_at entering.numbers column → turn.multiplier ≡ pos 1
+  once positive =
+      ap (λ (t : Turn). t.multiplier) (sym (turn_by_none (number_at line.numbers column) (number_at entering.numbers column) positive zero_here))
+
+  -- it stays small, too
+  pub small_here : IsLine line → pos 0 <ℤ number_at entering.numbers column → StaysSmall turn line entering
+  small_here l positive =
+      let one : nat_abs turn.multiplier ≡ 1 = ap nat_abs (once positive) in
+      let zero : nat_abs turn.factor ≡ 0 = ap nat_abs none in
+      let most = greatest_least line.numbers (2 ^ 30) (numbers_small line l) in
+      record {
+        numbers = kept_once (nat_abs turn.multiplier) (nat_abs turn.factor) (greatest_of line.numbers) (greatest_of entering.numbers) one zero most;
+        own = none_times (nat_abs turn.factor) (nat_abs entering.denominator) zero;
+      }
+
   pub stays : IsLine line → IsTurnedLine turn column entering line line
   stays l = record {
     positive = l.positive;
@@ -89,6 +115,25 @@ module _ (entering line : Line) (column : ℕ) (none : (turn_at entering column 
     others = λ c c_in other. same (number_at line.numbers c) (number_at entering.numbers c);
     own = own_same;
   }
+
+-- a number without a factor is as it was
+number_here : (turn : Turn) (z e : ℤ) → turn.multiplier ≡ pos 1 → turn.factor ≡ pos 0 → turned_number turn z e ≡ z
+number_here turn z e one none =
+    ring_by (turn.multiplier ∷ turn.factor ∷ z ∷ e ∷ []) ((var 0 ⊗ var 2) ⊖ (var 1 ⊗ var 3)) (var 2)
+    (using (var 2) (var 0) (num (pos 1)) one (using (num (negsuc 0) ⊗ var 3) (var 1) (num (pos 0)) none nothing)) refl
+
+-- where neither it turns nor the common denominator changes, a constant is as large as before
+pub same_constant : (k : Kernel) (column v C : ℕ) → (turn_of_line k column v).factor ≡ pos 0 → pos 0 <ℤ number_at k.entering.numbers column →
+    C ≡ nat_abs k.common → constant_size k column C v ≡ nat_abs (line_of k v).constant * share_of (nat_abs k.common) (line_of k v)
+same_constant k column v C none pivot same =
+    let line = line_of k v in
+    let turn = turn_of_line k column v in
+    let one = once k.entering line column none pivot in
+    let after : denominator_after k.entering column line ≡ nat_abs line.denominator =
+    ap (λ (z : ℤ). nat_abs line.denominator * nat_abs z) one ∙ mul-one (nat_abs line.denominator) in
+    ap (λ (z : ℤ). nat_abs z * (C / denominator_after k.entering column line)) (number_here turn line.constant k.entering.constant one none)
+    ∙ ap (λ (n : ℕ). nat_abs line.constant * (C / n)) after
+    ∙ ap (λ (n : ℕ). nat_abs line.constant * (n / nat_abs line.denominator)) same
 
 -- what the test of a constant tells, by what it is given
 pub constant_told : (k : Kernel) (column v C : ℕ) (answer : Bool) (z : ℤ) (share : ℕ) →

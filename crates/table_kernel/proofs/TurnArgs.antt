@@ -1,16 +1,19 @@
 -- What the turn of a line is given, as it is read.
-use Rattle.std.proofs.Common.{◌≡◌, ℕ, ◌*◌, ◌^◌, ◌<◌, ◌≤◌, sym, ◌∙◌, ap, subst, length, arith, w64, to_z, of_z}
+use Rattle.std.proofs.Common.{◌≡◌, ℕ, ◌*◌, ◌^◌, ◌<◌, ◌≤◌, sym, ◌∙◌, ap, subst, length, arith, FitsSigned, w64, to_z, of_z}
 use Rattle.std.specs.Prelude.{ℤ, pos, ◌*ℤ◌, nat_abs, ◌<ℤ◌, ◌≤ℤ◌, slice_index_or}
 use Rattle.std.proofs.Math.Nat.{mul-le-mul}
-use Rattle.std.proofs.lemmas.Int.{ints, unsigned_abs-mul}
+use Rattle.std.proofs.lemmas.Int.{ints, to_z-of_z, unsigned_abs-mul}
 use Rattle.std.proofs.lemmas.List.{get_or_default}
+use Rattle.whole_numbers.specs.Lists.{number_at}
 use Rattle.integer_pivots.specs.declared.line.Line.{Line}
 use Rattle.integer_pivots.specs.declared.turn.Turn.{Turn}
 use Rattle.integer_pivots.specs.Turns.{denominator_after}
 use Rattle.integer_pivots.specs.Lines.{no_line}
 use Rattle.integer_pivots.proofs.Sizes.{product_read as known_product, read, read_number, size_most}
+use Rattle.integer_pivots.proofs.TurnLaws.{turn_positive, turn_small}
 use Rattle.table_kernel.specs.declared.kernel.Kernel.{Kernel}
-use Rattle.table_kernel.specs.Turns.{IsLineReady, IsReadyToTurn, line_of, turn_of_line}
+use Rattle.table_kernel.specs.Turns.{IsLineReady, IsReadyToTurn, line_of, no_turn, turn_of_line}
+use Rattle.table_kernel.proofs.Columns.{number_small}
 use Rattle.table_kernel.proofs.LeftColumns.{times_positive}
 
 -- each line of a kernel is ready where all numbers are
@@ -23,7 +26,27 @@ line_ready k column v r v_in = record {
   entering = r.entering;
   long = r.long;
   pivot = r.pivot;
+  limit = r.limit v no_line v_in;
+  held = omega (arith, v_in, r.turns.count);
+  turn = r.turns.each v v_in;
 }
+
+-- how large the multiplier and the factor of a line's turn are
+pub turn_sizes : (k : Kernel) (column v : ℕ) → IsLineReady k column v →
+    ((pos 0 <ℤ (turn_of_line k column v).multiplier) × ((turn_of_line k column v).multiplier ≤ℤ pos (2 ^ 30)))
+    × (nat_abs (turn_of_line k column v).factor ≤ 2 ^ 30)
+turn_sizes k column v r =
+    let number = number_at (line_of k v).numbers column in
+    let pivot = number_at k.entering.numbers column in
+    let sizes = turn_small number pivot in
+    let some = turn_positive number pivot r.pivot in
+    let pivot_small = number_small k.entering r.entering column in
+    let small = number_small (line_of k v) r.line column in
+    ((some, omega (arith, ints, sizes.0, pivot_small)), omega (arith, sizes.1, small))
+
+-- the turn that is held, as it is read
+pub turn_read : (k : Kernel) (column v : ℕ) (turn : Turn) → IsLineReady k column v → turn ≡ slice_index_or k.turns.items v turn → turn ≡ turn_of_line k column v
+turn_read k column v turn r is = is ∙ get_or_default k.turns.items v turn no_turn r.held ∙ r.turn
 
 -- a line of a kernel, as it is read
 pub line_read : (k : Kernel) (v : ℕ) (line : Line) → v < length k.lows.items → line ≡ slice_index_or k.lows.items v line → line ≡ line_of k v
@@ -49,6 +72,20 @@ bits_one z small e = sym (read_number z small) ∙ ap (to_z w64) e
 
 pub bits_none : (z : ℤ) → nat_abs z < 2 ^ 63 → of_z w64 z ≡ 0 → z ≡ pos 0
 bits_none z small e = sym (read_number z small) ∙ ap (to_z w64) e
+
+-- numbers that 64 bits hold are the same where their bits are
+pub same_bits : (y z : ℤ) → FitsSigned w64 y → FitsSigned w64 z → of_z w64 y ≡ of_z w64 z → y ≡ z
+same_bits y z y_fits z_fits same = sym (to_z-of_z w64 y y_fits) ∙ ap (to_z w64) same ∙ to_z-of_z w64 z z_fits
+
+-- a factor that is 0, as it is tested
+pub no_factor : (k : Kernel) (column v : ℕ) (turn : Turn) → turn ≡ turn_of_line k column v → nat_abs turn.factor ≤ 2 ^ 30 →
+    of_z w64 turn.factor ≡ 0 → (turn_of_line k column v).factor ≡ pos 0
+no_factor k column v turn is small none = sym (ap (λ (t : Turn). t.factor) is) ∙ bits_none turn.factor (omega (arith, small)) none
+
+-- and one that isn't
+pub some_factor : (k : Kernel) (column v : ℕ) (turn : Turn) → turn ≡ turn_of_line k column v → (of_z w64 turn.factor ≡ 0 → ⊥) →
+    (turn_of_line k column v).factor ≡ pos 0 → ⊥
+some_factor k column v turn is some none = some (ap (of_z w64) (ap (λ (t : Turn). t.factor) is ∙ none))
 
 -- the denominator after the pivot, as it is made
 pub after_read : (k : Kernel) (column v : ℕ) (line : Line) (turn : Turn) → IsLineReady k column v → line ≡ line_of k v → turn ≡ turn_of_line k column v →

@@ -1,23 +1,30 @@
 -- A kernel whose room has changed may turn where it could before, and is ready for it.
-use Rattle.std.proofs.Common.{◌≡◌, ℕ, ◌<◌, sym, ◌∙◌, ap, subst, length}
-use Rattle.std.specs.Prelude.{pos, ◌<ℤ◌, Some}
+use Rattle.std.specs.declared.alloc.Global.{Global}
+use Rattle.std.proofs.Common.{Vec, ◌≡◌, ℕ, ◌<◌, sym, ◌∙◌, ap, subst, length}
+use Rattle.std.specs.Prelude.{pos, ◌<ℤ◌, Some, slice_set}
+use Rattle.std.specs.Vec.{with_item}
 use Rattle.whole_numbers.specs.Lists.{number_at}
+use Rattle.design_problem.specs.declared.tree.Member.{Member}
+use Rattle.fraction_table.specs.declared.table.Table.{Table}
+use Rattle.fraction_table.specs.Pivots.{KeepsBoxAndRows, member_at}
+use Rattle.fraction_table.specs.Ranks.{rank}
 use Rattle.integer_pivots.specs.declared.line.Line.{Line}
+use Rattle.integer_pivots.specs.Turns.{AreNonZeros}
 use Rattle.table_kernel.specs.declared.kernel.Kernel.{Kernel}
-use Rattle.table_kernel.specs.Kernels.{IsKernel}
+use Rattle.table_kernel.specs.Kernels.{IsKernel, stated, width_of}
 use Rattle.table_kernel.specs.Lines.{IsBestColumn, IsEntering, KeepsNumbers}
-use Rattle.table_kernel.specs.Turns.{IsReadyToTurn}
-use Rattle.table_kernel.proofs.Pivoting.{IsPivotIn}
-use Rattle.table_kernel.proofs.SameButRoom.{keeps_kernel, rebuilt}
+use Rattle.table_kernel.specs.Turns.{AreTurns, HasTurned, IsReadyToTurn}
+use Rattle.table_kernel.proofs.Pivoting.{IsPivotIn, forms_kept, kernel_is, rank_rose, with_basis}
+use Rattle.table_kernel.proofs.SameButRoom.{keeps_kernel, rebuilt, same_stated}
 
 pub pivot_in : (k : Kernel) (place column : ℕ) → IsKernel k → place < length k.constants.items →
     number_at k.constants.items place <ℤ pos 0 → IsEntering k place → IsBestColumn k (Some column) → IsPivotIn k place column
 pivot_in k place column kernel place_in below entering best =
     record { kernel = kernel; place_in = place_in; below = below; entering = entering; best = best }
 
--- where the entering line stays, the columns that are left alone differ
-left_alone : (k m : Kernel) → KeepsNumbers k m → m.entering ≡ k.entering → m ≡ record k { left = m.left }
-left_alone k m keeps entering = rebuilt k m keeps ∙ ap (λ (line : Line). record k { left = m.left; entering = line }) entering
+-- where the entering line stays, the turns and the columns that are left alone differ
+left_alone : (k m : Kernel) → KeepsNumbers k m → m.entering ≡ k.entering → m ≡ record k { turns = m.turns; left = m.left }
+left_alone k m keeps entering = rebuilt k m keeps ∙ ap (λ (line : Line). record k { turns = m.turns; left = m.left; entering = line }) entering
 
 -- what a pivot needs stays
 pub pivot_stays : (k m : Kernel) (place column : ℕ) → KeepsNumbers k m → m.entering ≡ k.entering →
@@ -37,9 +44,9 @@ pivot_stays k m place column keeps entering p =
       best = subst (λ (h : Kernel). IsBestColumn h (Some column)) same p.best;
     }
 
--- the kernel is ready for its turn
-pub ready_of : (k : Kernel) (place column : ℕ) → IsPivotIn k place column → IsReadyToTurn k column
-ready_of k place column p =
+-- the kernel is ready for its turn, once it holds how its lines turn
+pub ready_of : (k : Kernel) (place column : ℕ) → IsPivotIn k place column → AreTurns k column → IsReadyToTurn k column
+ready_of k place column p turns =
     let s = p.kernel.shaped in
     let b = p.kernel.bounded in
     record {
@@ -49,7 +56,36 @@ ready_of k place column p =
       lines = b.lines;
       divides = b.divides;
       common = (b.positive, b.common);
+      limit = b.low;
       entering = p.entering.line;
       long = p.entering.stands.count;
       pivot = p.best.1;
+      turns = turns;
+    }
+
+-- the columns in which the entering line isn't 0 stay those
+pub touched_stay : (k m n : Kernel) → KeepsNumbers k m → m.entering ≡ k.entering → KeepsNumbers m n → n.entering ≡ m.entering → n.left ≡ m.left →
+    AreNonZeros k.entering.numbers (width_of k) m.left.items → AreNonZeros n.entering.numbers (width_of n) n.left.items
+touched_stay k m n first entering second entering_again left touched =
+    subst (λ (list : Vec ℕ Global). AreNonZeros n.entering.numbers (width_of n) list.items) (sym left)
+    (subst (λ (t : Table). AreNonZeros n.entering.numbers (length t.costs.low) m.left.items) (sym (second.table ∙ first.table))
+    (subst (λ (line : Line). AreNonZeros line.numbers (width_of k) m.left.items) (sym (entering_again ∙ entering)) touched))
+
+-- what a pivot is for: a kernel of the same box and rows, whose rank rose
+pub record HasPivoted (old new : Kernel) : Type 0 where
+  pub kernel : IsKernel new
+  pub rises : rank (stated old) < rank (stated new)
+  pub keeps : KeepsBoxAndRows (stated old) (stated new)
+
+-- that is so where all numbers have turned and the member is put into the basis
+pub has_pivoted : (k m h : Kernel) (place column : ℕ) (member : Member) → KeepsNumbers k m → IsPivotIn m place column → HasTurned m h column →
+    member ≡ member_at k.table place → HasPivoted k (with_basis h (with_item h.table.basis column member))
+has_pivoted k m h place column member keeps p turned is =
+    let basis = with_item h.table.basis column member in
+    let set = ap (slice_set h.table.basis.items column) (is ∙ ap (λ (u : Table). member_at u place) (sym keeps.table)) in
+    let same = same_stated k m keeps in
+    record {
+      kernel = kernel_is m place column p h turned basis set;
+      rises = subst (λ (u : Table). rank u < rank (stated (with_basis h basis))) same (rank_rose m place column p h turned basis set);
+      keeps = subst (λ (u : Table). KeepsBoxAndRows u (stated (with_basis h basis))) same (forms_kept m place column p h turned basis set);
     }

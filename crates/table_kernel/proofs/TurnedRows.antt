@@ -24,7 +24,7 @@ use Rattle.table_kernel.specs.declared.kernel.Kernel.{Kernel}
 use Rattle.table_kernel.specs.Constants.{AreConstantsPut, KeepsAllButConstants}
 use Rattle.table_kernel.specs.Kernels.{IsBounded, IsShaped, width_of}
 use Rattle.table_kernel.specs.Numbers.{share_of}
-use Rattle.table_kernel.specs.Turns.{AreLinesTurned, ConstantsStaySmall, HasTurned, IsLineReady, IsLineTurned, IsReadyToTurn, KeepsAllButLows, LinesStaySmall, MayLineTurn, MayTurn, line_of, next_common, turn_of_line}
+use Rattle.table_kernel.specs.Turns.{AreLinesTurned, ConstantsStaySmall, HasTurned, IsLineReady, IsLineTurned, IsReadyToTurn, KeepsAllButLows, LinesStaySmall, MayLineTurn, MayTurn, line_of, next_common, no_turn, turn_of_line}
 use Rattle.table_kernel.proofs.CommonSteps.{after_some, common_grows, each_goes_in}
 use Rattle.table_kernel.proofs.StayingWithin.{constant_same, stays, within_share}
 use Rattle.table_kernel.proofs.Lines.{read_common}
@@ -47,6 +47,8 @@ others_kept k m h first second =
       common = second.common ∙ first.common;
       leads = second.leads ∙ first.leads;
       constants = second.constants ∙ first.constants;
+      uses = second.uses ∙ first.uses;
+      turns = second.turns ∙ first.turns;
       left = second.left ∙ first.left;
       entering = second.entering ∙ first.entering;
     }
@@ -58,15 +60,17 @@ pub record AreTurnedBefore (old new : Kernel) (column bound : ℕ) : Type 0 wher
   pub lines : (v : ℕ) → v < bound → IsLine (line_of new v)
   pub turned : (v : ℕ) → v < bound → IsTurnedLine (turn_of_line old column v) column old.entering (line_of old v) (line_of new v)
   pub divides : (v : ℕ) → v < bound → nat_abs (line_of new v).denominator ∣ denominator_after old.entering column (line_of old v)
+  pub stays : (v : ℕ) → v < bound → (turn_of_line old column v).factor ≡ pos 0 → line_of new v ≡ line_of old v
   pub rest : (v : ℕ) → bound ≤ v → line_of new v ≡ line_of old v
 
 pub none_turned : (k : Kernel) (column : ℕ) → AreTurnedBefore k k column 0
 none_turned k column = record {
-  keeps = record { table = refl; common = refl; leads = refl; constants = refl; left = refl; entering = refl };
+  keeps = record { table = refl; common = refl; leads = refl; constants = refl; uses = refl; turns = refl; left = refl; entering = refl };
   count = refl;
   lines = λ v before. absurd (omega (arith, before));
   turned = λ v before. absurd (omega (arith, before));
   divides = λ v before. absurd (omega (arith, before));
+  stays = λ v before none. absurd (omega (arith, before));
   rest = λ v behind. refl;
 }
 
@@ -88,6 +92,11 @@ one_more_turned old mid new column v b t keeps = record {
     | inl same ↦ subst (λ (w : ℕ). nat_abs (line_of new w).denominator ∣ denominator_after old.entering column (line_of old w)) (sym same) goes_in
     | inr other ↦ subst (λ (l : Line). nat_abs l.denominator ∣ denominator_after old.entering column (line_of old u)) (sym (t.others u other)) (b.divides u (omega (arith, before, other)))
   ];
+  stays = λ u before none. elim (cases_eq u v) [
+    | inl same ↦
+        subst (λ (w : ℕ). line_of new w ≡ line_of old w) (sym same) (here_stays (subst (λ (w : ℕ). (turn_of_line old column w).factor ≡ pos 0) same none))
+    | inr other ↦ t.others u other ∙ b.stays u (omega (arith, before, other)) none
+  ];
   rest = λ u behind. t.others u (apart u behind) ∙ b.rest u (omega (arith, behind));
 }
   where
@@ -98,6 +107,12 @@ one_more_turned old mid new column v b t keeps = record {
     here =
         subst (λ (e : Line). IsTurnedLine (turn_at e column (line_of old v)) column e (line_of old v) (line_of new v)) b.keeps.entering
         (subst (λ (l : Line). IsTurnedLine (turn_at mid.entering column l) column mid.entering l (line_of new v)) (b.rest v (omega arith)) t.turned)
+
+    here_stays : (turn_of_line old column v).factor ≡ pos 0 → line_of new v ≡ line_of old v
+    here_stays none =
+        let own = b.rest v (omega arith) in
+        let there = subst (λ (e : Line). (turn_at e column (line_of old v)).factor ≡ pos 0) (sym b.keeps.entering) none in
+        t.stays (subst (λ (l : Line). (turn_at mid.entering column l).factor ≡ pos 0) (sym own) there) ∙ own
 
     goes_in : nat_abs (line_of new v).denominator ∣ denominator_after old.entering column (line_of old v)
     goes_in =
@@ -110,6 +125,7 @@ all_turned old new column b = record {
   turned = record { count = b.count; each = b.turned };
   lines = λ v d v_in. subst IsLine (get_or_default new.lows.items v no_line d v_in) (b.lines v (omega (arith, v_in, b.count)));
   divides = b.divides;
+  stays = b.stays;
 }
 
 -- the next line is ready to turn, and may
@@ -127,6 +143,13 @@ ready_between old mid column v r b v_in =
       entering = subst IsLine (sym b.keeps.entering) o.entering;
       long = ap (λ (l : Line). length l.numbers) b.keeps.entering ∙ o.long ∙ sym width;
       pivot = subst (λ (l : Line). pos 0 <ℤ number_at l.numbers column) (sym b.keeps.entering) o.pivot;
+      limit = subst (λ (z : ℤ). nat_abs (line_of mid v).constant * share_of (nat_abs z) (line_of mid v) ≤ 2 ^ 44) (sym b.keeps.common)
+          (subst (λ (l : Line). nat_abs l.constant * share_of (nat_abs old.common) l ≤ 2 ^ 44) (sym own) o.limit);
+      held = subst (λ (ts : Vec Turn Global). v < length ts.items) (sym b.keeps.turns) o.held;
+      turn = ap (λ (ts : Vec Turn Global). slice_index_or ts.items v no_turn) b.keeps.turns
+          ∙ o.turn
+          ∙ ap (λ (e : Line). turn_at e column (line_of old v)) (sym b.keeps.entering)
+          ∙ ap (turn_at mid.entering column) (sym own);
     }
 
 may_turn_line : (k : Kernel) (column v : ℕ) → IsReadyToTurn k column → MayTurn k column → v < length k.lows.items → MayLineTurn k column v
@@ -164,10 +187,10 @@ abbrev pub with_leads : Kernel → Vec ℕ Global → ℤ → Kernel
 with_leads h leads z = record h { common = z; leads = leads }
 
 pub but_lows : (k h : Kernel) (leads : Vec ℕ Global) (z : ℤ) → KeepsAllButLows k h → with_leads h leads z ≡ with_lines k h.lows leads z
-but_lows k h leads z o = rw (sym o.table, sym o.constants, sym o.left, sym o.entering) refl
+but_lows k h leads z o = rw (sym o.table, sym o.constants, sym o.uses, sym o.turns, sym o.left, sym o.entering) refl
 
 but_constants : (m n : Kernel) → KeepsAllButConstants m n → n ≡ record m { constants = n.constants }
-but_constants m n o = rw (sym o.table, sym o.common, sym o.lows, sym o.leads, sym o.left, sym o.entering) refl
+but_constants m n o = rw (sym o.table, sym o.common, sym o.lows, sym o.leads, sym o.uses, sym o.turns, sym o.left, sym o.entering) refl
 
 -- a number that is the common denominator after the pivot, and small
 abbrev pub IsNext : Kernel → ℕ → ℤ → Type 0
@@ -244,6 +267,8 @@ module _ (k h : Kernel) (column : ℕ) (leads : Vec ℕ Global) (z : ℤ) (t : I
         leads = counted ∙ s.leads;
         lead = lead;
         constants = s.constants;
+        uses = s.uses;
+        turns = s.turns;
         left = s.left;
         entering = s.entering;
         lines = s.lines;
@@ -274,6 +299,8 @@ module _ (k h : Kernel) (column : ℕ) (leads : Vec ℕ Global) (z : ℤ) (t : I
       subst (λ (m : Kernel). HasTurned k m column) (sym same)
       (record {
         table = refl;
+        uses = refl;
+        turns = refl;
         left = refl;
         entering = refl;
         common = t.next;
@@ -313,12 +340,15 @@ leads_after k h column befores afters lows o r turned befores_are lows_are moves
     (subst (AreLeads (rows_of k.lows.items)) (sym (befores_are ∙ ap (λ (vs : Vec ℕ Global). vs.items) o.leads)) lead))
 
 -- and are put
+abbrev pub AreLeadsPut : Kernel → Kernel → Vec ℕ Global → Type 0
+AreLeadsPut k h leads =
+    (length leads.items ≡ length k.leads.items) × (AreLeads (rows_of k.lows.items) k.leads.items → AreLeads (rows_of h.lows.items) leads.items)
+
 pub leads_put : (k h : Kernel) (column : ℕ) (befores afters : List ℕ) (lows : List Line) → KeepsAllButLows k h → IsReadyToTurn k column →
     AreLinesTurned k h column → befores ≡ h.leads.items → lows ≡ h.lows.items → length afters ≡ length befores →
     ((olds : List Line) → AreTurnedLines h.entering column olds lows → All (λ (line : Line). pos 0 <ℤ line.denominator) olds →
     AreLeads (rows_of olds) befores → AreLeads (rows_of lows) afters) →
-    (length (with_items h.leads afters).items ≡ length k.leads.items)
-    × (AreLeads (rows_of k.lows.items) k.leads.items → AreLeads (rows_of h.lows.items) (with_items h.leads afters).items)
+    AreLeadsPut k h (with_items h.leads afters)
 leads_put k h column befores afters lows o r turned befores_are lows_are counted moves =
     let long : length afters ≡ length h.leads.items = counted ∙ ap length befores_are in
     let are : (with_items h.leads afters).items ≡ afters = with_items_is h.leads afters (omega (arith, long, h.leads.ok.0)) in (
@@ -347,8 +377,9 @@ may_constants k column common is may =
 -- a line that is put in its place has turned
 pub line_put : (k h : Kernel) (column v : ℕ) (line new : Line) (turn : Turn) → v < length k.lows.items → h.lows.items ≡ slice_set k.lows.items v new →
     line ≡ line_of k v → turn ≡ turn_of_line k column v → IsLine new → IsTurnedLine turn column k.entering line new →
-    nat_abs new.denominator ∣ (nat_abs line.denominator * nat_abs turn.multiplier) → IsLineTurned k h column v
-line_put k h column v line new turn v_in put line_is turn_is small turned divides =
+    nat_abs new.denominator ∣ (nat_abs line.denominator * nat_abs turn.multiplier) → ((turn_of_line k column v).factor ≡ pos 0 → ⊥) →
+    IsLineTurned k h column v
+line_put k h column v line new turn v_in put line_is turn_is small turned divides some =
     let own : line_of h v ≡ new = ap (λ (ls : List Line). slice_index_or ls v no_line) put ∙ get_or-set_same k.lows.items v new no_line v_in in
     record {
       count = ap length put ∙ length-set k.lows.items v new;
@@ -359,6 +390,7 @@ line_put k h column v line new turn v_in put line_is turn_is small turned divide
       divides = subst (λ (l : Line). nat_abs l.denominator ∣ denominator_after k.entering column (line_of k v)) (sym own)
           (subst (λ (l : Line). nat_abs new.denominator ∣ (nat_abs l.denominator * nat_abs (turn_of_line k column v).multiplier)) line_is
           (subst (λ (t : Turn). nat_abs new.denominator ∣ (nat_abs line.denominator * nat_abs t.multiplier)) turn_is divides));
+      stays = λ none. absurd (some none);
       others = λ u other. ap (λ (ls : List Line). slice_index_or ls u no_line) put ∙ get_or-set_other k.lows.items v u new no_line other;
     }
 
@@ -369,5 +401,6 @@ line_stays k column v r none = record {
   line = r.line;
   turned = stays k.entering (line_of k v) column none r.line;
   divides = dvd-mul_right (nat_abs (line_of k v).denominator) (nat_abs (turn_of_line k column v).multiplier);
+  stays = λ none. refl;
   others = λ u other. refl;
 }

@@ -156,6 +156,7 @@ impl Kernel {
         requires shaped { IsShaped self.old }
         requires bounded { IsBounded self.old }
         requires fit { All (FitsBox self.old.table.costs) self.old.table.rows.items }
+        requires high { length self.old.table.costs.high ≡ width_of self.old }
         requires var { var < width_of self.old }
         requires first { AreFirstSmall self.old self.old.constants.items }
         requires by_first { AreByFirst self.old self.old.constants.items }
@@ -168,8 +169,10 @@ impl Kernel {
         let width = self.width();
         let constant = constant_over(&self.lows[var], self.common);
         let change = constant - self.constants[var];
+        let low = self.table.costs.low.as_slice()[var];
+        let high = self.table.costs.high.as_slice()[var];
         self.constants[var] = constant;
-        self.constants[width + var] -= change;
+        self.constants[width + var] = constant_of_high(low, high, self.common, constant);
         put_uses(
             self.constants.as_mut_slice(),
             &self.uses[var],

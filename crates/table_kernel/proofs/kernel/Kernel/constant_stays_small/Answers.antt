@@ -1,6 +1,6 @@
 -- The constant is that of the turn, and the share that of the denominator after it.
 use Prim.Native.Nat.{◌∣◌}
-use Rattle.std.proofs.Common.{ap, sym, subst, ◌∙◌, ◌/◌, ◌≡◌, ℕ, nat_abs, ℤ, w64, to_z, of_z}
+use Rattle.std.proofs.Common.{rules, FitsSigned, ap, refl, sym, subst, ◌∙◌, ◌/◌, ◌^◌, ◌≡◌, ◌≤◌, ℕ, nat_abs, ℤ, w64, to_z, of_z}
 use Rattle.std.specs.Int.{w128}
 use Rattle.std.proofs.lemmas.Int.{to_z-of_z}
 use Rattle.integer_pivots.specs.declared.line.Line.{Line}
@@ -8,9 +8,9 @@ use Rattle.integer_pivots.specs.declared.turn.Turn.{Turn}
 use Rattle.integer_pivots.specs.Turns.{denominator_after, turned_number}
 use Rattle.integer_pivots.proofs.Sizes.{read}
 use Rattle.table_kernel.specs.Turns.{line_of}
-use Rattle.table_kernel.proofs.StayingWithin.{constant_told}
+use Rattle.table_kernel.proofs.StayingWithin.{constant_told, same_constant}
 use Rattle.table_kernel.proofs.Lines.{read_common}
-use Rattle.table_kernel.proofs.TurnArgs.{after_read, line_read}
+use Rattle.table_kernel.proofs.TurnArgs.{after_read, line_read, no_factor, same_bits}
 use Rattle.table_kernel.proofs.kernel.Kernel.constant_stays_small.Goals as goal
 
 pub share_in-requires-clause-divides : goal.share_in-requires-clause-divides
@@ -49,3 +49,17 @@ returns c =
     ∙ ap (λ (z : ℤ). nat_abs z / nat_abs (read denominator)) (read_common c.args.common c.requires.common)
     ∙ ap (λ (n : ℕ). nat_abs c.args.common / n) after_is)
     c.stays_within.ensures
+
+-- without a factor, and over the same common denominator, it is as large as before
+pub returns-then-common-self : goal.returns-then-common-self
+returns-then-common-self c =
+    let k = c.args.self.now in
+    let e = c.turn_at-turn.ensures in
+    let r = c.requires.ready in
+    let none = no_factor k c.args.column c.args.var c.turn_at-turn.result e.turn e.factor c.if-turn-eq0.true in
+    let fits : FitsSigned w64 k.common = search rules in
+    let same = same_bits c.args.common k.common c.ranges.common fits c.if-common-self.true in
+    let is = same_constant k c.args.column c.args.var (nat_abs c.args.common) none r.pivot (ap nat_abs same) in (
+      λ holds. subst (λ (n : ℕ). n ≤ 2 ^ 44) (sym is) r.limit,
+      λ small. refl,
+    )

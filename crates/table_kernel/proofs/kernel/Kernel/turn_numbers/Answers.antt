@@ -9,7 +9,9 @@ use Rattle.fraction_table.specs.Tableaus.{FitsBox}
 use Rattle.integer_pivots.specs.declared.line.Line.{Line}
 use Rattle.integer_pivots.proofs.FailedTests.{failed}
 use Rattle.integer_pivots.proofs.Sizes.{read}
-use Rattle.table_kernel.proofs.TurnedRows.{bounded_after, has_turned, leads_put, lines_long, may_constants, may_turn, next_told, shaped_after, tested}
+use Rattle.table_kernel.proofs.TurnedRows.{AreLeadsPut, IsTurnTested, bounded_after, has_turned, leads_put, lines_long, may_constants, may_turn, next_told, shaped_after, tested}
+use Rattle.table_kernel.proofs.FollowedTurns.{common_stays, constants_stay, first_kept, made_kept}
+use Rattle.table_kernel.proofs.kernel.Kernel.turn_numbers.Goals.{After-turn_leads, Then-common-self}
 use Rattle.table_kernel.proofs.kernel.Kernel.turn_numbers.Goals as goal
 
 pub turn_lines-requires-clause-may : goal.turn_lines-requires-clause-may
@@ -59,43 +61,100 @@ pub turn_leads-requires-clause-denominator : goal.turn_leads-requires-clause-den
 turn_leads-requires-clause-denominator c =
     subst (λ (line : Line). pos 0 <ℤ line.denominator) (sym c.turn_lines.ensures.keeps.entering) c.requires.ready.entering.positive
 
-pub put_constants-requires-clause-shaped : goal.put_constants-requires-clause-shaped
-put_constants-requires-clause-shaped c =
+-- what is known once the lines have turned, and the leads
+tested_at : (c : After-turn_leads) → IsTurnTested c.args.self.now c.turn_lines.new.self c.args.column (read c.in-Some.common)
+tested_at c =
+    let k = c.args.self.now in
+    let e = c.turn_lines.ensures in
+    tested k c.turn_lines.new.self c.args.column c.in-Some.common c.requires.ready e.keeps e.turned
+    (next_told k c.args.column c.common_after.result c.in-Some.common c.in-Some.is c.common_after.ensures)
+    (c.constants_stay_small.ensures.0 c.if-not-constants_stay_small.false)
+
+leads_at : (c : After-turn_leads) → AreLeadsPut c.args.self.now c.turn_lines.new.self (with_items c.turn_lines.new.self.leads c.turn_leads.new.leads)
+leads_at c =
+    let e = c.turn_lines.ensures in
+    let t = c.turn_leads.ensures in
+    leads_put c.args.self.now c.turn_lines.new.self c.args.column c.as_mut_slice.result.now c.turn_leads.new.leads c.as_slice.result.now e.keeps
+    c.requires.ready e.turned c.as_mut_slice.ensures.value c.as_slice.ensures.value t.count t.leads
+
+-- and where the common denominator stays
+stays_at : (c : Then-common-self) → read c.in-Some.common ≡ c.turn_lines.new.self.common
+stays_at c =
+    common_stays c.args.self.now c.turn_lines.new.self c.args.column c.in-Some.common c.requires.ready c.turn_lines.ensures.keeps c.if-common-self.true
+
+tested_here : (c : After-turn_leads) → read c.in-Some.common ≡ c.turn_lines.new.self.common →
+    IsTurnTested c.args.self.now c.turn_lines.new.self c.args.column c.turn_lines.new.self.common
+tested_here c same = subst (IsTurnTested c.args.self.now c.turn_lines.new.self c.args.column) same (tested_at c)
+
+pub follow_lines-requires-clause-shaped : goal.follow_lines-requires-clause-shaped
+follow_lines-requires-clause-shaped c =
     let k = c.args.self.now in
     let h = c.turn_lines.new.self in
-    let e = c.turn_lines.ensures in
-    let t = tested k h c.args.column c.in-Some.common c.requires.ready e.keeps e.turned
-    (next_told c.args.self.now c.args.column c.common_after.result c.in-Some.common c.in-Some.is c.common_after.ensures)
-    (c.constants_stay_small.ensures.0 c.if-not-constants_stay_small.false) in
-    let leads = leads_put k h c.args.column c.as_mut_slice.result.now c.turn_leads.new.leads c.as_slice.result.now e.keeps c.requires.ready
-    e.turned c.as_mut_slice.ensures.value c.as_slice.ensures.value c.turn_leads.ensures.count c.turn_leads.ensures.leads in
-    shaped_after k h c.args.column (with_items h.leads c.turn_leads.new.leads) (read c.in-Some.common) t c.requires.kernel.shaped leads.0
-    (leads.1 c.requires.kernel.shaped.lead)
+    let at = goal.at.follow_lines-requires-clause-shaped c in
+    let leads = leads_at at.After-turn_leads in
+    shaped_after k h c.args.column (with_items h.leads c.turn_leads.new.leads) h.common (tested_here at.After-turn_leads (stays_at at.Then-common-self)) c.requires.kernel.shaped
+    leads.0 (leads.1 c.requires.kernel.shaped.lead)
+
+pub follow_lines-requires-clause-bounded : goal.follow_lines-requires-clause-bounded
+follow_lines-requires-clause-bounded c =
+    let h = c.turn_lines.new.self in
+    let at = goal.at.follow_lines-requires-clause-bounded c in
+    bounded_after c.args.self.now h c.args.column (with_items h.leads c.turn_leads.new.leads) h.common
+    (tested_here at.After-turn_leads (stays_at at.Then-common-self)) c.requires.kernel.bounded
+
+pub follow_lines-requires-clause-fit : goal.follow_lines-requires-clause-fit
+follow_lines-requires-clause-fit c =
+    subst (λ (t : Table). All (FitsBox t.costs) t.rows.items) (sym c.turn_lines.ensures.keeps.table) c.requires.kernel.whole.fit
+
+pub follow_lines-requires-clause-first : goal.follow_lines-requires-clause-first
+follow_lines-requires-clause-first c =
+    let h = c.turn_lines.new.self in
+    first_kept c.args.self.now h (with_items h.leads c.turn_leads.new.leads) c.requires.kernel c.turn_lines.ensures.keeps
+
+pub follow_lines-requires-clause-by_first : goal.follow_lines-requires-clause-by_first
+follow_lines-requires-clause-by_first c =
+    let h = c.turn_lines.new.self in
+    made_kept c.args.self.now h (with_items h.leads c.turn_leads.new.leads) c.requires.kernel c.turn_lines.ensures.keeps
+
+pub follow_lines-requires-clause-stays : goal.follow_lines-requires-clause-stays
+follow_lines-requires-clause-stays c =
+    let h = c.turn_lines.new.self in
+    constants_stay c.args.self.now h (with_items h.leads c.turn_leads.new.leads) c.requires.kernel c.turn_lines.ensures.keeps
+    c.args.column c.requires.ready c.turn_lines.ensures.turned
+
+pub returns-then-common-self-clause-turned : goal.returns-then-common-self-clause-turned
+returns-then-common-self-clause-turned c =
+    let h = c.turn_lines.new.self in
+    let at = goal.at.returns-then-common-self-clause-turned c in
+    let leads = leads_at at.After-turn_leads in
+    let p = c.follow_lines.ensures in
+    has_turned c.args.self.now h c.args.column (with_items h.leads c.turn_leads.new.leads) h.common (tested_here at.After-turn_leads (stays_at at.Then-common-self))
+    c.follow_lines.new.self leads.0 leads.1 p.keeps p.constants p.small
+
+-- or another one is put
+pub put_constants-requires-clause-shaped : goal.put_constants-requires-clause-shaped
+put_constants-requires-clause-shaped c =
+    let h = c.turn_lines.new.self in
+    let at = (goal.at.put_constants-requires-clause-shaped c).After-turn_leads in
+    let leads = leads_at at in
+    shaped_after c.args.self.now h c.args.column (with_items h.leads c.turn_leads.new.leads) (read c.in-Some.common) (tested_at at)
+    c.requires.kernel.shaped leads.0 (leads.1 c.requires.kernel.shaped.lead)
 
 pub put_constants-requires-clause-bounded : goal.put_constants-requires-clause-bounded
 put_constants-requires-clause-bounded c =
-    let k = c.args.self.now in
     let h = c.turn_lines.new.self in
-    let e = c.turn_lines.ensures in
-    let t = tested k h c.args.column c.in-Some.common c.requires.ready e.keeps e.turned
-    (next_told c.args.self.now c.args.column c.common_after.result c.in-Some.common c.in-Some.is c.common_after.ensures)
-    (c.constants_stay_small.ensures.0 c.if-not-constants_stay_small.false) in
-    bounded_after k h c.args.column (with_items h.leads c.turn_leads.new.leads) (read c.in-Some.common) t c.requires.kernel.bounded
+    bounded_after c.args.self.now h c.args.column (with_items h.leads c.turn_leads.new.leads) (read c.in-Some.common)
+    (tested_at (goal.at.put_constants-requires-clause-bounded c).After-turn_leads) c.requires.kernel.bounded
 
 pub put_constants-requires-clause-fit : goal.put_constants-requires-clause-fit
 put_constants-requires-clause-fit c =
     subst (λ (t : Table). All (FitsBox t.costs) t.rows.items) (sym c.turn_lines.ensures.keeps.table) c.requires.kernel.whole.fit
 
-pub returns-clause-turned : goal.returns-clause-turned
-returns-clause-turned c =
-    let k = c.args.self.now in
+pub returns-else-common-self-clause-turned : goal.returns-else-common-self-clause-turned
+returns-else-common-self-clause-turned c =
     let h = c.turn_lines.new.self in
-    let e = c.turn_lines.ensures in
+    let at = (goal.at.returns-else-common-self-clause-turned c).After-turn_leads in
+    let leads = leads_at at in
     let p = c.put_constants.ensures in
-    let t = tested k h c.args.column c.in-Some.common c.requires.ready e.keeps e.turned
-    (next_told c.args.self.now c.args.column c.common_after.result c.in-Some.common c.in-Some.is c.common_after.ensures)
-    (c.constants_stay_small.ensures.0 c.if-not-constants_stay_small.false) in
-    let leads = leads_put k h c.args.column c.as_mut_slice.result.now c.turn_leads.new.leads c.as_slice.result.now e.keeps c.requires.ready
-    e.turned c.as_mut_slice.ensures.value c.as_slice.ensures.value c.turn_leads.ensures.count c.turn_leads.ensures.leads in
-    has_turned k h c.args.column (with_items h.leads c.turn_leads.new.leads) (read c.in-Some.common) t c.put_constants.new.self leads.0
-    leads.1 p.keeps p.constants p.small
+    has_turned c.args.self.now h c.args.column (with_items h.leads c.turn_leads.new.leads) (read c.in-Some.common) (tested_at at)
+    c.put_constants.new.self leads.0 leads.1 p.keeps p.constants p.small
