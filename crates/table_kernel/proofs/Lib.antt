@@ -46,3 +46,6 @@ pub mod MoveReads
 pub mod LeastCommon
 pub mod LoweredCommon
 pub mod FittingConstants
+pub mod ReadBases
+pub mod ReadRefusals
+pub mod ReadKernels
