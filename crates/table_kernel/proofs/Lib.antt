@@ -39,3 +39,4 @@ pub mod Shares
 pub mod MoveReads
 pub mod LeastCommon
 pub mod LoweredCommon
+pub mod ReadRows
