@@ -40,3 +40,4 @@ pub mod MoveReads
 pub mod LeastCommon
 pub mod LoweredCommon
 pub mod ReadRows
+pub mod LeastDenominators
