@@ -41,3 +41,4 @@ pub mod LeastCommon
 pub mod LoweredCommon
 pub mod ReadRows
 pub mod LeastDenominators
+pub mod ReadLines

@@ -59,6 +59,7 @@ returns c =
     let small : nat_abs c.args.limit ≤ 2 ^ 44 = size_of c.args.limit (2 ^ 44) c.requires.limit in
     let number = over_denominator (nat_abs c.args.denominator) c.args.value in
     let is = product_read c.args.value c.args.denominator c.numerator-numerator.result c.from.result c.denominator.result (made a) (few a) in
-    let within : nat_abs number ≤ 2 ^ 44 =
-    omega (arith, c.unsigned_abs-2.ensures.value, ap nat_abs is, limit_read c.args.limit small, small, c.if-unsigned_abs-limit-2.false) in
-    ap read is ∙ read_number number (omega (arith, within))
+    let within : nat_abs number ≤ nat_abs c.args.limit =
+    omega (arith, c.unsigned_abs-2.ensures.value, ap nat_abs is, limit_read c.args.limit small, c.if-unsigned_abs-limit-2.false) in
+    let known : read number ≡ number = read_number number (omega (arith, within, small)) in
+    (ap read is ∙ known, subst (λ (z : ℤ). nat_abs z ≤ nat_abs c.args.limit) (sym (ap read is ∙ known)) within)
