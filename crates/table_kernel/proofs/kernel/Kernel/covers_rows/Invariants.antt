@@ -1,5 +1,6 @@
 -- The rows before the index are covered.
-use Rattle.std.specs.Prelude.{take, All}
+use Rattle.std.proofs.Common.{take}
+use Rattle.std.specs.Prelude.{All}
 use Rattle.table_kernel.specs.Rows.{IsCovered}
 use Rattle.table_kernel.proofs.kernel.Kernel.covers_rows.Given as goal
 
