@@ -42,3 +42,4 @@ pub mod LoweredCommon
 pub mod ReadRows
 pub mod LeastDenominators
 pub mod ReadLines
+pub mod ReadKernels
