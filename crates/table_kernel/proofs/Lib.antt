@@ -45,6 +45,11 @@ pub mod Shares
 pub mod MoveReads
 pub mod LeastCommon
 pub mod LoweredCommon
+pub mod ReadRows
+pub mod LeastDenominators
+pub mod ReadLines
+pub mod ReadLows
+pub mod ParkedKernels
 pub mod FittingConstants
 pub mod ReadBases
 pub mod ReadRefusals
