@@ -44,3 +44,4 @@ pub mod Shares
 pub mod MoveReads
 pub mod LeastCommon
 pub mod LoweredCommon
+pub mod FittingConstants
