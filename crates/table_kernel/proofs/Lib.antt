@@ -45,3 +45,6 @@ pub mod MoveReads
 pub mod LeastCommon
 pub mod LoweredCommon
 pub mod FittingConstants
+pub mod ReadRows
+pub mod LeastDenominators
+pub mod ReadLines

@@ -52,7 +52,8 @@ fn number_over(value: Frac, denominator: i64, limit: i64) -> Option<i64>
     requires denominator { (pos 0 <ℤ denominator) × (denominator ≤ℤ pos (2 ^ 30)) }
     requires whole { value.denominator ∣ nat_abs denominator }
     requires limit { (pos 0 ≤ℤ limit) × (limit ≤ℤ pos (2 ^ 44)) }
-    ensures { MatchOption result (nat_abs limit < nat_abs (over_denominator (nat_abs denominator) value)) (λ number. number ≡ over_denominator (nat_abs denominator) value) }
+    ensures { MatchOption result (nat_abs limit < nat_abs (over_denominator (nat_abs denominator) value)) (λ number.
+        (number ≡ over_denominator (nat_abs denominator) value) × (nat_abs number ≤ nat_abs limit)) }
 {
     let numerator = value.numerator();
     if numerator.unsigned_abs() > limit as u128 {
