@@ -48,3 +48,4 @@ pub mod FittingConstants
 pub mod ReadRows
 pub mod LeastDenominators
 pub mod ReadLines
+pub mod ReadKernels
