@@ -12,7 +12,7 @@ use Rattle.table_kernel.specs.Kernels.{IsKernel, width_of}
 use Rattle.table_kernel.specs.Turns.{AreLinesTurned, IsReadyToTurn, KeepsAllButLows, held_turn}
 use Rattle.table_kernel.proofs.FirstConstants.{by_first, first_small, low_first}
 use Rattle.table_kernel.proofs.Lines.{read_common}
-use Rattle.table_kernel.proofs.TurnedRows.{but_lows, with_leads, with_lines}
+use Rattle.table_kernel.proofs.OtherLines.{but_lows, with_leads, with_lines}
 
 -- the common denominator stays where its bits do
 pub common_stays : (k h : Kernel) (column : ℕ) (common : ℤ) → IsReadyToTurn k column → KeepsAllButLows k h →

@@ -29,6 +29,7 @@ pub mod Pivoting
 pub mod Refusals
 pub mod TurnKernels
 pub mod StayingWithin
+pub mod OtherLines
 pub mod TurnedRows
 pub mod FirstConstants
 pub mod FollowedTurns

@@ -1,6 +1,6 @@
 -- A kernel whose common denominator is lowered to a divisor that is a multiple of all lines' own ones.
 use Prim.Native.Nat.{◌∣◌}
-use native.Mathlib.Nat.{div-mul_cancel, mul-div_assoc, mul_assoc, mul_comm}
+use native.Mathlib.Nat.{div-mul_cancel, mul_assoc, mul_comm}
 use Rattle.std.proofs.Common.{◌≡◌, ℕ, suc, ◌*◌, ◌/◌, ◌^◌, ◌<◌, ◌≤◌, refl, sym, ◌∙◌, ap, subst, List, [], ◌∷◌, map, length, arith}
 use Rattle.std.specs.Prelude.{ℤ, pos, ◌*ℤ◌, ◌<ℤ◌, ◌≤ℤ◌, nat_abs, slice_index_or, All}
 use Rattle.std.specs.Vec.{with_items}
@@ -29,7 +29,7 @@ use Rattle.table_kernel.specs.Numbers.{fraction_lines, over_common, scaled_line,
 use Rattle.table_kernel.specs.ReadBack.{IsLeastCommon}
 use Rattle.table_kernel.proofs.AtBasis.{kernel_basis, number_up, scaled_by, scaled_down}
 use Rattle.table_kernel.proofs.PutKernels.{put_kernel}
-use Rattle.table_kernel.proofs.Shares.{factor_within}
+use Rattle.table_kernel.proofs.Shares.{factor_within, share_more}
 
 -- two fractions that stand for one number over one denominator have one value
 same_values : (p q : Fraction) (m : ℤ) (D : ℕ) → 0 < D → StandsFor p m D → StandsFor q m D →
@@ -47,10 +47,6 @@ over_more D r m D_some r_some =
     let p = reduced (m *ℤ pos r) (D * r) in
     lowest_unique p (reduced m D) (reduced_lowest (m *ℤ pos r) (D * r) both) (reduced_lowest m D D_some)
     (same_values p (reduced m D) m D D_some (stands_less p m D r r_some (reduced_stands (m *ℤ pos r) (D * r) both)) (reduced_stands m D D_some))
-
--- a denominator goes into a multiple of its multiple as often, times the factor
-share_more : (E r d : ℕ) → d ∣ E → (E * r) / d ≡ E / d * r
-share_more E r d divides = ap (λ (n : ℕ). n / d) (mul_comm E r) ∙ mul-div_assoc d r divides ∙ mul_comm r (E / d)
 
 -- numbers times a product
 scaled_twice : (a r : ℕ) (zs : List ℤ) → scaled_by (a * r) zs ≡ scaled_by r (scaled_by a zs)

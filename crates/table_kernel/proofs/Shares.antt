@@ -1,6 +1,6 @@
 -- How often a line's denominator goes into the common one.
 use Prim.Native.Nat.{◌∣◌}
-use native.Mathlib.Nat.{div-mul_cancel}
+use native.Mathlib.Nat.{div-mul_cancel, mul-div_assoc, mul_comm}
 use Rattle.std.proofs.Common.{◌≡◌, ℕ, ◌*◌, ◌/◌, ◌^◌, ◌<◌, ◌≤◌, ◌∙◌, ap, subst, arith, le_trans, mul-one}
 use Rattle.std.proofs.Math.Nat.{mul-le-mul_left}
 use Rattle.std.specs.Prelude.{ℤ, pos, ◌*ℤ◌, ◌<ℤ◌, nat_abs, slice_index_or, All}
@@ -17,6 +17,10 @@ pub share_exact : (D : ℕ) (denominator : ℤ) → pos 0 <ℤ denominator → n
 share_exact D denominator positive divides =
     ap (λ (z : ℤ). pos (D / nat_abs denominator) *ℤ z) (positive_is denominator positive)
     ∙ ap pos (div-mul_cancel (nat_abs denominator) divides)
+
+-- a denominator goes into a multiple of its multiple as often, times the factor
+pub share_more : (E r d : ℕ) → d ∣ E → (E * r) / d ≡ E / d * r
+share_more E r d divides = ap (λ (n : ℕ). n / d) (mul_comm E r) ∙ mul-div_assoc d r divides ∙ mul_comm r (E / d)
 
 -- the denominators of a kernel's lines go into the common one at least once
 pub shares_some : (k : Kernel) → IsBounded k → All (λ (line : Line). 0 < share_of (nat_abs k.common) line) k.lows.items

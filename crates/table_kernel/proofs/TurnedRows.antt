@@ -6,7 +6,7 @@ use Rattle.std.proofs.Common.{Vec, ◌≡◌, ℕ, ◌+◌, ◌*◌, ◌/◌, �
 use Rattle.std.specs.Prelude.{ℤ, pos, ◌<ℤ◌, ◌≤ℤ◌, nat_abs, slice_index_or, slice_set, All, Option, Some, MatchOption}
 use Rattle.std.specs.Vec.{with_items}
 use Rattle.std.proofs.lemmas.Bool.{cases_eq}
-use Rattle.std.proofs.lemmas.List.{get_or_default, length-set, with_items_is}
+use Rattle.std.proofs.lemmas.List.{get_or_default, length-set}
 use Rattle.std.proofs.lemmas.List.Elements.{All-weaker}
 use Rattle.std.proofs.lemmas.Nat.Gcd.{dvd_trans, le_of_dvd}
 use Rattle.whole_numbers.proofs.Divisors.{quotient_positive}
@@ -28,6 +28,7 @@ use Rattle.table_kernel.specs.Turns.{AreLinesTurned, ConstantsStaySmall, HasTurn
 use Rattle.table_kernel.proofs.CommonSteps.{after_some, common_grows, each_goes_in}
 use Rattle.table_kernel.proofs.StayingWithin.{constant_same, stays, within_share}
 use Rattle.table_kernel.proofs.Lines.{read_common}
+use Rattle.table_kernel.proofs.OtherLines.{bounded_with, leads_are, shaped_with, with_leads, with_lines, but_lows}
 use Rattle.table_kernel.proofs.TurnArgs.{line_ready}
 
 -- the denominators after the pivot are positive, and so is their common multiple
@@ -178,17 +179,6 @@ may_between old mid column v r b v_in may =
           (subst (λ (l : Line). denominator_after old.entering column l ≤ 2 ^ 30) (sym own) m.denominator);
     }
 
--- a kernel with other lines, leads and another common denominator
-abbrev pub with_lines : Kernel → Vec Line Global → Vec ℕ Global → ℤ → Kernel
-with_lines k lows leads z = record k { common = z; lows = lows; leads = leads }
-
--- what the turn of lines leaves, once the leads and the common denominator are put
-abbrev pub with_leads : Kernel → Vec ℕ Global → ℤ → Kernel
-with_leads h leads z = record h { common = z; leads = leads }
-
-pub but_lows : (k h : Kernel) (leads : Vec ℕ Global) (z : ℤ) → KeepsAllButLows k h → with_leads h leads z ≡ with_lines k h.lows leads z
-but_lows k h leads z o = rw (sym o.table, sym o.constants, sym o.uses, sym o.turns, sym o.left, sym o.entering) refl
-
 but_constants : (m n : Kernel) → KeepsAllButConstants m n → n ≡ record m { constants = n.constants }
 but_constants m n o = rw (sym o.table, sym o.common, sym o.lows, sym o.leads, sym o.uses, sym o.turns, sym o.left, sym o.entering) refl
 
@@ -259,36 +249,11 @@ module _ (k h : Kernel) (column : ℕ) (leads : Vec ℕ Global) (z : ℤ) (t : I
   -- the kernel is as long as before
   pub shaped_after : IsShaped k → length leads.items ≡ length k.leads.items → AreLeads (rows_of h.lows.items) leads.items → IsShaped (with_leads h leads z)
   shaped_after s counted lead =
-      subst IsShaped (sym (but_lows k h leads z t.keeps))
-      (record {
-        room = s.room;
-        lows = t.turned.turned.count ∙ s.lows;
-        each = lines_long k h column t.ready t.turned;
-        leads = counted ∙ s.leads;
-        lead = lead;
-        constants = s.constants;
-        uses = s.uses;
-        turns = s.turns;
-        left = s.left;
-        entering = s.entering;
-        lines = s.lines;
-        wide = s.wide;
-      })
+      shaped_with k h leads z t.keeps s (t.turned.turned.count ∙ s.lows) (lines_long k h column t.ready t.turned) counted lead
 
   -- and its numbers are within the bounds
   pub bounded_after : IsBounded k → IsBounded (with_leads h leads z)
-  bounded_after b =
-      subst IsBounded (sym (but_lows k h leads z t.keeps))
-      (record {
-        top = b.top;
-        positive = t.positive;
-        common = t.small;
-        lines = t.turned.lines;
-        divides = all_divide;
-        low = all_within;
-        constants = b.constants;
-        rows = b.rows;
-      })
+  bounded_after b = bounded_with k h leads z t.keeps b.top b.constants b.rows t.positive t.small t.turned.lines all_divide all_within
 
   -- then the constants are put
   pub has_turned : (n : Kernel) → length leads.items ≡ length k.leads.items →
@@ -350,10 +315,9 @@ pub leads_put : (k h : Kernel) (column : ℕ) (befores afters : List ℕ) (lows 
     AreLeads (rows_of olds) befores → AreLeads (rows_of lows) afters) →
     AreLeadsPut k h (with_items h.leads afters)
 leads_put k h column befores afters lows o r turned befores_are lows_are counted moves =
-    let long : length afters ≡ length h.leads.items = counted ∙ ap length befores_are in
-    let are : (with_items h.leads afters).items ≡ afters = with_items_is h.leads afters (omega (arith, long, h.leads.ok.0)) in (
-      ap length are ∙ long ∙ ap (λ (vs : Vec ℕ Global). length vs.items) o.leads,
-      λ lead. subst (AreLeads (rows_of h.lows.items)) (sym are)
+    let put = leads_are k h befores afters o befores_are counted in (
+      put.1,
+      λ lead. subst (AreLeads (rows_of h.lows.items)) (sym put.0)
           (leads_after k h column befores afters lows o r turned befores_are lows_are moves lead),
     )
 
