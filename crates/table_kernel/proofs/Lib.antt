@@ -50,3 +50,4 @@ pub mod ReadRows
 pub mod LeastDenominators
 pub mod ReadLines
 pub mod ReadKernels
+pub mod ParkedKernels

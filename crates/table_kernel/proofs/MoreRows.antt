@@ -111,11 +111,9 @@ low_first k m v v_in =
     (members_begin costs many v (Low 0 0) v_in)
     ∙ low_total costs k.table.rows.items (nat_abs k.common) (lows_of k) (low_constants k) refl (constants_long k s) v v_in
 
--- what a kernel has with one more row
-pub record IsGrown (old new : Kernel) (f : Form) (line : List Fraction) (z : ℤ) : Type 0 where
+-- what a kernel has with one more row, but for its line in fractions
+pub record IsGrown (old new : Kernel) (f : Form) (z : ℤ) : Type 0 where
   pub table : HoldsRow old.table f new.table
-  pub lines : new.table.lines.items ≡ old.table.lines.items ++ line ∷ []
-  pub line_long : length line ≡ suc (width_of old)
   pub common : new.common ≡ old.common
   pub lows : new.lows ≡ old.lows
   pub leads : new.leads ≡ old.leads
@@ -125,14 +123,49 @@ pub record IsGrown (old new : Kernel) (f : Form) (line : List Fraction) (z : ℤ
   pub left : vec_capacity new.left ≡ vec_capacity old.left
   pub entering : new.entering ≡ old.entering
 
-grown_shaped : (old new : Kernel) (f : Form) (line : List Fraction) (z : ℤ) → IsShaped old → IsGrown old new f line z → IsShaped new
-grown_shaped old new f line z s g =
+-- there is a line in fractions for each constant, with a number for it and one for each column
+pub record AreLinesWide (k : Kernel) : Type 0 where
+  pub lines : length k.table.lines.items ≡ length k.constants.items
+  pub wide : All (λ line. length line ≡ suc (width_of k)) k.table.lines.items
+
+width_kept : (old new : Kernel) (f : Form) → HoldsRow old.table f new.table → width_of new ≡ width_of old
+width_kept old new f t = ap (λ (costs : CostBox). length costs.low) t.costs
+
+pub constants_counted : (old new : Kernel) (f : Form) (z : ℤ) → IsShaped old → IsGrown old new f z →
+    length new.constants.items ≡ length (members_of_box new.table.costs (length new.table.rows.items))
+constants_counted old new f z s g =
+    let constants : length new.constants.items ≡ length old.constants.items + 1 = ap length g.constants ∙ length-append old.constants.items (z ∷ []) in
+    let rows : length new.table.rows.items ≡ length old.table.rows.items + 1 = ap length g.table.rows ∙ length-append old.table.rows.items (f ∷ []) in
+    omega (
+      arith,
+      constants,
+      s.constants,
+      rows,
+      width_kept old new f g.table,
+      members_long old.table.costs (length old.table.rows.items),
+      members_long new.table.costs (length new.table.rows.items),
+    )
+
+-- where one line more stands at the end
+pub line_more : (old new : Kernel) (f : Form) (line : List Fraction) (z : ℤ) → IsShaped old → IsGrown old new f z →
+    new.table.lines.items ≡ old.table.lines.items ++ line ∷ [] → length line ≡ suc (width_of old) → AreLinesWide new
+line_more old new f line z s g is long =
+    let n = width_of old in
+    let constants : length new.constants.items ≡ length old.constants.items + 1 = ap length g.constants ∙ length-append old.constants.items (z ∷ []) in
+    let lines : length new.table.lines.items ≡ length old.table.lines.items + 1 = ap length is ∙ length-append old.table.lines.items (line ∷ []) in
+    record {
+      lines = omega (arith, lines, s.lines, constants);
+      wide = subst (λ (m : ℕ). All (λ (row : List Fraction). length row ≡ suc m) new.table.lines.items) (sym (width_kept old new f g.table))
+          (subst (All (λ (row : List Fraction). length row ≡ suc n)) (sym is)
+          (All-append (λ (row : List Fraction). length row ≡ suc n) old.table.lines.items (line ∷ []) s.wide
+          (one_all (λ (row : List Fraction). length row ≡ suc n) line long)));
+    }
+
+pub grown_shaped : (old new : Kernel) (f : Form) (z : ℤ) → IsShaped old → IsGrown old new f z → AreLinesWide new → IsShaped new
+grown_shaped old new f z s g l =
     let t = g.table in
     let n = width_of old in
-    let width : width_of new ≡ n = ap (λ (costs : CostBox). length costs.low) t.costs in
-    let rows : length new.table.rows.items ≡ length old.table.rows.items + 1 = ap length t.rows ∙ length-append old.table.rows.items (f ∷ []) in
-    let constants : length new.constants.items ≡ length old.constants.items + 1 = ap length g.constants ∙ length-append old.constants.items (z ∷ []) in
-    let lines : length new.table.lines.items ≡ length old.table.lines.items + 1 = ap length g.lines ∙ length-append old.table.lines.items (line ∷ []) in
+    let width = width_kept old new f t in
     record {
       room = record {
         few = omega (arith, width, s.room.few);
@@ -145,29 +178,26 @@ grown_shaped old new f line z s g =
       leads = ap (λ (vs : Vec ℕ Global). length vs.items) g.leads ∙ s.leads ∙ sym width;
       lead = subst (λ (ls : Vec Line Global). AreLeads (rows_of ls.items) new.leads.items) (sym g.lows)
           (subst (λ (vs : Vec ℕ Global). AreLeads (rows_of old.lows.items) vs.items) (sym g.leads) s.lead);
-      constants = omega (
-        arith,
-        constants,
-        s.constants,
-        rows,
-        width,
-        members_long old.table.costs (length old.table.rows.items),
-        members_long new.table.costs (length new.table.rows.items),
-      );
+      constants = constants_counted old new f z s g;
       uses = g.uses ∙ ap (λ (rows : List Form). uses_by rows n) (sym t.rows) ∙ ap (uses_by new.table.rows.items) (sym width);
       turns = ap (λ (ts : Vec Turn Global). length ts.items) g.turns ∙ s.turns ∙ sym width;
       left = omega (arith, width, s.left, g.left);
       entering = ap (λ (l : Line). length l.numbers) g.entering ∙ s.entering ∙ sym width;
-      lines = omega (arith, lines, s.lines, constants);
-      wide = subst (λ (m : ℕ). All (λ (row : List Fraction). length row ≡ suc m) new.table.lines.items) (sym width)
-          (subst (All (λ (row : List Fraction). length row ≡ suc n)) (sym g.lines)
-          (All-append (λ (row : List Fraction). length row ≡ suc n) old.table.lines.items (line ∷ []) s.wide
-          (one_all (λ (row : List Fraction). length row ≡ suc n) line g.line_long)));
+      lines = l.lines;
+      wide = l.wide;
     }
 
-grown_bounded : (old new : Kernel) (f : Form) (line : List Fraction) (z : ℤ) → IsBounded old → IsCovered f → nat_abs z ≤ 2 ^ 62 →
-    IsGrown old new f line z → IsBounded new
-grown_bounded old new f line z b covered small g =
+-- the constants stay small
+pub grown_small : (old new : Kernel) (f : Form) (z : ℤ) → AllWithin (2 ^ 62) old.constants.items → nat_abs z ≤ 2 ^ 62 →
+    IsGrown old new f z → AllWithin (2 ^ 62) new.constants.items
+grown_small old new f z within small g =
+    subst (AllWithin (2 ^ 62)) (sym g.constants)
+    (All-append (λ (y : ℤ). nat_abs y ≤ 2 ^ 62) old.constants.items (z ∷ []) within
+    (one_all (λ (y : ℤ). nat_abs y ≤ 2 ^ 62) z small))
+
+grown_bounded : (old new : Kernel) (f : Form) (z : ℤ) → IsBounded old → IsCovered f → nat_abs z ≤ 2 ^ 62 →
+    IsGrown old new f z → IsBounded new
+grown_bounded old new f z b covered small g =
     record {
       top = subst (λ (top : ℕ). 2 ^ 126 ≤ top) (sym g.table.top) b.top;
       positive = subst (λ (y : ℤ). pos 0 <ℤ y) (sym g.common) b.positive;
@@ -180,16 +210,14 @@ grown_bounded old new f line z b covered small g =
       rows = subst (All (λ (row : Form). weight_of row ≤ 2 ^ 16)) (sym g.table.rows)
           (All-append (λ (row : Form). weight_of row ≤ 2 ^ 16) old.table.rows.items (f ∷ []) b.rows
           (one_all (λ (row : Form). weight_of row ≤ 2 ^ 16) f covered));
-      constants = subst (AllWithin (2 ^ 62)) (sym g.constants)
-          (All-append (λ (y : ℤ). nat_abs y ≤ 2 ^ 62) old.constants.items (z ∷ []) b.constants
-          (one_all (λ (y : ℤ). nat_abs y ≤ 2 ^ 62) z small));
+      constants = grown_small old new f z b.constants small g;
     }
 
 -- the kernel with one more row is one
 pub kernel_more : (old new : Kernel) (f : Form) (line : List Fraction) (z : ℤ) → IsKernel old → FitsBox old.table.costs f →
     IsCovered f → z ≡ row_constant_of old.common old.table.costs.low old.constants.items f → nat_abs z ≤ 2 ^ 62 →
-    IsGrown old new f line z → IsKernel new
-kernel_more old new f line z m fits covered z_is small g =
+    IsGrown old new f z → new.table.lines.items ≡ old.table.lines.items ++ line ∷ [] → length line ≡ suc (width_of old) → IsKernel new
+kernel_more old new f line z m fits covered z_is small g is long =
     let costs = old.table.costs in
     let rows = old.table.rows.items ++ f ∷ [] in
     let basis = old.table.basis.items in
@@ -210,7 +238,7 @@ kernel_more old new f line z m fits covered z_is small g =
     let are = constants_more costs old.table.rows.items D (lows_of old) old.constants.items f z s.constants constant there.1 in
     let lows : lows_of new ≡ lows_of old =
     ap (λ (y : ℤ). map (scaled_line (nat_abs y)) new.lows.items) g.common ∙ ap (λ (ls : Vec Line Global). map (scaled_line D) ls.items) g.lows in
-    basis_kernel new (grown_shaped old new f line z s g) (grown_bounded old new f line z m.bounded covered small g)
+    basis_kernel new (grown_shaped old new f z s g (line_more old new f line z s g is long)) (grown_bounded old new f z m.bounded covered small g)
     (subst (λ (box : CostBox). IsBox (length box.low) box) (sym g.table.costs) m.whole.box)
     (subst (λ (box : CostBox). All (FitsBox box) new.table.rows.items) (sym g.table.costs)
     (subst (All (FitsBox costs)) (sym g.table.rows) (All-append (FitsBox costs) old.table.rows.items (f ∷ []) m.whole.fit (one_all (FitsBox costs) f fits))))

@@ -1,11 +1,11 @@
 -- The kernel with one more row.
-use Rattle.std.proofs.Common.{◌≡◌, ◌≤◌, ◌^◌, ◌∙◌, arith, length, subst, sym, ap, refl, List, w64, to_z, of_z}
+use Rattle.std.proofs.Common.{◌≡◌, ◌^◌, ◌≤◌, ◌∙◌, arith, length, subst, sym, ap, refl, List, w64, to_z, of_z}
 use Rattle.std.specs.Prelude.{ℤ, pos, ◌<ℤ◌, ◌≤ℤ◌, ◌*ℤ◌, ◌+ℤ◌, nat_abs}
 use Rattle.whole_numbers.specs.Lists.{number_at}
 use Rattle.design_problem.specs.Forms.{value_for_costs}
 use Rattle.fraction_rows.proofs.BlankRows.{blank_long}
 use Rattle.fraction_table.proofs.Pivots.{members_long}
-use Rattle.integer_pivots.specs.Numbers.{product_sum, weight_of}
+use Rattle.integer_pivots.specs.Numbers.{product_sum}
 use Rattle.integer_pivots.specs.Uses.{HaveRoom}
 use Rattle.integer_pivots.proofs.UseLaws.{lists_many, uses_put}
 use Rattle.integer_pivots.proofs.Sizes.{number_within, read_number}
@@ -46,11 +46,6 @@ push_uses-requires-clause-count c =
       ap length c.as_mut_slice.ensures.value,
     )
 
-pub push_uses-requires-clause-light : goal.push_uses-requires-clause-light
-push_uses-requires-clause-light c =
-    let covered : weight_of c.args.row.form ≤ 2 ^ 16 = c.requires.covered in
-    omega (arith, covered)
-
 pub push_uses-requires-clause-room : goal.push_uses-requires-clause-room
 push_uses-requires-clause-room c = subst HaveRoom (sym c.as_mut_slice.ensures.value) c.requires.place.uses
 
@@ -69,8 +64,6 @@ returns-clause-kernel c =
     (z_read ∙ is) (subst (λ (x : ℤ). nat_abs x ≤ 2 ^ 62) (sym z_read) (omega (arith, c.row_constant-constant.ensures.size)))
     record {
       table = c.put_blank.ensures.holds;
-      lines = c.put_blank.ensures.lines;
-      line_long = blank_long c.args.row.line (width_of old) c.requires.blank;
       common = refl;
       lows = refl;
       leads = refl;
@@ -81,4 +74,4 @@ returns-clause-kernel c =
       turns = refl;
       left = refl;
       entering = refl;
-    }
+    } c.put_blank.ensures.lines (blank_long c.args.row.line (width_of old) c.requires.blank)
