@@ -170,7 +170,7 @@ pub record IsStarting (k : Kernel) (costs : CostBox) : Type 0 where
   pub left : length costs.low ≤ vec_capacity k.left
   pub entering : length k.entering.numbers ≡ length costs.low
 
-starting_shaped : (k : Kernel) → IsTableau k.table → HasRoom k.table → k.table.rows.items ≡ [] → IsStarting k k.table.costs → IsShaped k
+pub starting_shaped : (k : Kernel) → IsTableau k.table → HasRoom k.table → k.table.rows.items ≡ [] → IsStarting k k.table.costs → IsShaped k
 starting_shaped k w room rows_are s =
     let n = width_of k in
     let none : length k.table.rows.items ≡ 0 = ap length rows_are in

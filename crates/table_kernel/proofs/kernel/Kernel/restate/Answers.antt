@@ -1,5 +1,6 @@
 -- All lines are put.
 use Rattle.std.proofs.Common.{refl, ap, arith, length}
+use Rattle.table_kernel.proofs.ParkedKernels.{kernel_parked}
 use Rattle.table_kernel.proofs.Restated.{keeps_both, keeps_itself, restated_all, restated_next, restated_room, restated_whole, restating}
 use Rattle.table_kernel.proofs.kernel.Kernel.restate.Goals as goal
 
@@ -45,6 +46,11 @@ returns-clause-whole c =
 
 pub returns-clause-room : goal.returns-clause-room
 returns-clause-room c = restated_room c.args.self.now c.loop-place.self c.requires.kernel c.loop-place.invariant.keeps
+
+pub returns-clause-parked : goal.returns-clause-parked
+returns-clause-parked c =
+    let i = c.loop-place.invariant in
+    kernel_parked c.loop-place.self (restating c.args.self.now c.loop-place.self c.loop-place.place c.requires.kernel i.keeps i.lines)
 
 pub returns-clause-keeps : goal.returns-clause-keeps
 returns-clause-keeps c =
