@@ -86,8 +86,7 @@ pub use_told : (k : Kernel) (v row : ℕ) (us : List Use) → us ≡ uses_from 0
     (coefficient_in us row ≡ number_at (slice_index_or k.table.rows.items row no_form).coefficients v)
     × (size_in us row ≡ nat_abs (number_at (slice_index_or k.table.rows.items row no_form).coefficients v))
 use_told k v row us are =
-    let told = row_told 0 k.table.rows.items v row in
-    (
+    let told = row_told 0 k.table.rows.items v row in (
       ap (λ (vs : List Use). coefficient_in vs row) are ∙ ap (coefficient_in (uses_from 0 k.table.rows.items v)) (sym (zero-add row)) ∙ told.0,
       ap (λ (vs : List Use). size_in vs row) are ∙ ap (size_in (uses_from 0 k.table.rows.items v)) (sym (zero-add row)) ∙ told.1,
     )
@@ -209,10 +208,13 @@ are_followed k s at x y change us puts news at_in us_are change_is long puts_are
   where
     olds : List ℤ
     olds = k.constants.items
+
     w : ℕ
     w = width_of k
+
     put : List ℤ
     put = slice_set olds at x
+
     first : (v : ℕ) → v < w + w → number_at news v ≡ number_at (slice_set put (w + at) y) v
     first v v_in = before v v_in ∙ ap (λ (zs : List ℤ). number_at zs v) puts_are
 
