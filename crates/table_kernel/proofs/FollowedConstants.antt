@@ -86,8 +86,7 @@ pub use_told : (k : Kernel) (v row : ℕ) (us : List Use) → us ≡ uses_from 0
     (coefficient_in us row ≡ number_at (slice_index_or k.table.rows.items row no_form).coefficients v)
     × (size_in us row ≡ nat_abs (number_at (slice_index_or k.table.rows.items row no_form).coefficients v))
 use_told k v row us are =
-    let told = row_told 0 k.table.rows.items v row in
-    (
+    let told = row_told 0 k.table.rows.items v row in (
       ap (λ (vs : List Use). coefficient_in vs row) are ∙ ap (coefficient_in (uses_from 0 k.table.rows.items v)) (sym (zero-add row)) ∙ told.0,
       ap (λ (vs : List Use). size_in vs row) are ∙ ap (size_in (uses_from 0 k.table.rows.items v)) (sym (zero-add row)) ∙ told.1,
     )
@@ -111,7 +110,7 @@ pub record IsChange (k : Kernel) (v : ℕ) (x old : ℤ) : Type 0 where
   pub read_size : nat_abs (to_z w64 (of_z w64 (to_z w64 (of_z w64 x) -ℤ to_z w64 (of_z w64 old)))) ≤ 2 ^ 45
   pub is : to_z w64 (of_z w64 (to_z w64 (of_z w64 x) -ℤ to_z w64 (of_z w64 old))) ≡ (x -ℤ number_at k.constants.items v)
 
-pub change_read : (k : Kernel) (v : ℕ) (x old : ℤ) → nat_abs x ≤ 2 ^ 44 → nat_abs (number_at k.constants.items v) ≤ 2 ^ 44 →
+change_read : (k : Kernel) (v : ℕ) (x old : ℤ) → nat_abs x ≤ 2 ^ 44 → nat_abs (number_at k.constants.items v) ≤ 2 ^ 44 →
     old ≡ number_at k.constants.items v → IsChange k v x old
 change_read k v x old x_small there_small old_is =
     let there = number_at k.constants.items v in
@@ -134,9 +133,14 @@ line_read k s v line v_in is = is ∙ get_or_default k.lows.items v line no_line
 pub common_read : (k : Kernel) → IsBounded k → to_z w64 (of_z w64 k.common) ≡ k.common
 common_read k b = read_number k.common (omega (arith, common_small k b))
 
-pub old_read : (k : Kernel) → IsShaped k → (v : ℕ) (old : ℤ) → v < width_of k → old ≡ slice_index_or k.constants.items v old →
+old_read : (k : Kernel) → IsShaped k → (v : ℕ) (old : ℤ) → v < width_of k → old ≡ slice_index_or k.constants.items v old →
     old ≡ number_at k.constants.items v
 old_read k s v old v_in is = is ∙ get_or_default k.constants.items v old (pos 0) (omega (arith, v_in, constants_many k s))
+
+-- the change of a variable's constant, by the kernel's old one, which is small
+pub change_of : (k : Kernel) → IsShaped k → AreFirstSmall k k.constants.items → (v : ℕ) (x old : ℤ) → v < width_of k → nat_abs x ≤ 2 ^ 44 →
+    old ≡ slice_index_or k.constants.items v old → IsChange k v x old
+change_of k s first v x old v_in x_small is = change_read k v x old x_small (first v v_in) (old_read k s v old v_in is)
 
 -- a variable's two constants are put
 abbrev pub AreTwoPut : Kernel → ℕ → ℤ → ℤ → List ℤ → Type 0
@@ -204,10 +208,13 @@ are_followed k s at x y change us puts news at_in us_are change_is long puts_are
   where
     olds : List ℤ
     olds = k.constants.items
+
     w : ℕ
     w = width_of k
+
     put : List ℤ
     put = slice_set olds at x
+
     first : (v : ℕ) → v < w + w → number_at news v ≡ number_at (slice_set put (w + at) y) v
     first v v_in = before v v_in ∙ ap (λ (zs : List ℤ). number_at zs v) puts_are
 

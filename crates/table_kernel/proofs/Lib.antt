@@ -45,12 +45,12 @@ pub mod Shares
 pub mod MoveReads
 pub mod LeastCommon
 pub mod LoweredCommon
+pub mod FittingConstants
 pub mod ReadRows
 pub mod LeastDenominators
 pub mod ReadLines
-pub mod ReadLows
+pub mod ReadSteps
 pub mod ParkedKernels
-pub mod FittingConstants
 pub mod ReadBases
 pub mod ReadRefusals
 pub mod ReadKernels

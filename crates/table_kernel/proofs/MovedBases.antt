@@ -67,7 +67,6 @@ high_move costs rows basis D lows v bound column b v_in found =
 module _ (costs next : CostBox) (rows : List Form) (basis : List Member) (D : ℕ) (lows news : List (List ℤ))
     (before after : Member) (fall : ℤ) (column : Option ℕ) (b : AreAtBasis costs rows basis D lows)
     (mv : IsBasisMove costs next rows basis D lows news before after fall column) where
-
   -- the members of the basis in the next box
   pub members_put : moved_basis next basis ≡ put_at column after basis
   members_put =

@@ -166,12 +166,12 @@ own_line k m v j v_in found =
     let own = column_own (large_top costs rows D (lows_of k)) costs rows k.table.basis.items (fraction_lines D costs rows (lows_of k))
     (unboxed_any costs rows k.table.basis.items D (lows_of k) m.basis) (Low v (slice_index costs.low v)) j found.0 found.1 in (
       sym (low_constant_at k m.shaped v v_in)
-      ∙ sym (low_total costs rows D (lows_of k) (low_constants k) refl (constants_long k m.shaped) v v_in)
-      ∙ own.0,
+          ∙ sym (low_total costs rows D (lows_of k) (low_constants k) refl (constants_long k m.shaped) v v_in)
+          ∙ own.0,
       sym (column_at k m.shaped j v v_in)
-      ∙ sym (low_number_in n rows v (slice_index costs.low v) (column_of k j) v_in (sym (column_long k m.shaped j)))
-      ∙ sym (column_number k D costs.low (member_form n rows (Low v (slice_index costs.low v))) j)
-      ∙ own.1,
+          ∙ sym (low_number_in n rows v (slice_index costs.low v) (column_of k j) v_in (sym (column_long k m.shaped j)))
+          ∙ sym (column_number k D costs.low (member_form n rows (Low v (slice_index costs.low v))) j)
+          ∙ own.1,
     )
 
 -- a kernel with another box

@@ -99,12 +99,12 @@ module _ (t : Table) (w : IsTableau t) (lines : List Line) (C : ℕ) (many : len
       let second : length (map (scaled_by C) lows) ≡ length lows = length-map lows (scaled_by C) in
       ext_get_or [] (map (scaled_by D) news) (map (scaled_by C) lows) (first ∙ many ∙ counted ∙ sym second)
       (λ v v_in.
-          let v_line : v < length lines = omega (arith, v_in, first) in
-          let v_new : v < length news = omega (arith, v_line, length-map lines (scaled_line C)) in
-          get_or-map (scaled_by D) news v [] [] v_new
-          ∙ ap (scaled_by D) (get_or-map (scaled_line C) lines v no_line [] v_line)
-          ∙ row_crossed v v_line
-          ∙ sym (get_or-map (scaled_by C) lows v [] [] (omega (arith, v_line, many, counted))))
+      let v_line : v < length lines = omega (arith, v_in, first) in
+      let v_new : v < length news = omega (arith, v_line, length-map lines (scaled_line C)) in
+      get_or-map (scaled_by D) news v [] [] v_new
+      ∙ ap (scaled_by D) (get_or-map (scaled_line C) lines v no_line [] v_line)
+      ∙ row_crossed v v_line
+      ∙ sym (get_or-map (scaled_by C) lows v [] [] (omega (arith, v_line, many, counted))))
 
   -- so they are at the table's basis
   pub read_basis : 0 < C → AreAtBasis t.costs t.rows.items t.basis.items C (map (scaled_line C) lines)

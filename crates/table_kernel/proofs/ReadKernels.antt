@@ -1,6 +1,6 @@
 -- A kernel whose lines were read back from the table in fractions.
 use Rattle.std.specs.declared.alloc.Global.{Global}
-use Rattle.std.proofs.Common.{Vec, ◌≡◌, ℕ, ◌^◌, ◌≤◌, sym, ap, subst, List, length}
+use Rattle.std.proofs.Common.{Vec, ◌≡◌, ℕ, ◌^◌, ◌≤◌, sym, subst, List, length}
 use Rattle.std.specs.Prelude.{ℤ, nat_abs, All}
 use Rattle.std.specs.Vec.{with_items}
 use Rattle.whole_numbers.proofs.Sizes.{size_positive}
@@ -22,7 +22,7 @@ use Rattle.table_kernel.specs.Rows.{IsCovered}
 use Rattle.table_kernel.specs.Turns.{KeepsAllButLows}
 use Rattle.table_kernel.proofs.FittingConstants.{FitsIn}
 use Rattle.table_kernel.proofs.Lines.{read_common}
-use Rattle.table_kernel.proofs.OtherLines.{bounded_with, but_lows, leads_are, shaped_with, with_leads}
+use Rattle.table_kernel.proofs.OtherLines.{bounded_with, leads_are, shaped_with, with_leads}
 use Rattle.table_kernel.proofs.PutKernels.{put_kernel}
 use Rattle.table_kernel.proofs.ReadBases.{AreReadFrom, read_basis}
 

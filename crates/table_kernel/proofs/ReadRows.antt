@@ -1,20 +1,20 @@
 -- Rows of fractions over a denominator, and lines that are read from them.
 use Prim.Native.Nat.{◌∣◌}
-use Rattle.std.proofs.Common.{◌≡◌, ℕ, ◌*◌, ◌/◌, ◌^◌, ◌<◌, ◌≤◌, refl, sym, ◌∙◌, ap, subst, arith, FitsSigned, true}
+use Rattle.std.proofs.Common.{◌≡◌, ℕ, ◌*◌, ◌/◌, ◌^◌, ◌<◌, ◌≤◌, sym, ◌∙◌, ap, subst, arith, FitsSigned, true}
 use Rattle.std.specs.Int.{w128}
-use Rattle.std.specs.Prelude.{ℤ, pos, negsuc, ◌*ℤ◌, ◌<ℤ◌, ◌≤ℤ◌, nat_abs}
-use Rattle.std.specs.Int.Signed.{lt_z, mag, quot_z}
-use Rattle.std.proofs.lemmas.Int.{fits_signed_from_abs, ints, to_z-of_z}
+use Rattle.std.specs.Prelude.{ℤ, pos, ◌*ℤ◌, ◌<ℤ◌, ◌≤ℤ◌, nat_abs}
+use Rattle.std.specs.Int.Signed.{lt_z, quot_z}
+use Rattle.std.proofs.lemmas.Int.{fits_signed_from_abs, ints}
 use Rattle.std.proofs.lemmas.Nat.Gcd.{le_of_dvd}
 use Rattle.std.proofs.Math.Nat.{div-le_self, mul-le-mul_left}
 use mathlib.Core.Path.{ap₂}
-use Rattle.whole_numbers.specs.Fractions.{Fraction, IsLowest, lcm}
+use Rattle.whole_numbers.specs.Fractions.{Fraction, lcm}
 use Rattle.whole_numbers.proofs.Divisors.{quotient_positive}
 use Rattle.whole_numbers.proofs.Multiples.{lcm_positive, right_divides_lcm}
 use Rattle.whole_numbers.proofs.Sizes.{positive_is, product_size, size_positive}
 use Rattle.wide_fraction.specs.Widths.{IsFractionIn127Bits}
 use Rattle.integer_pivots.proofs.Sizes.{product_small, read, read_number, size_most}
-use Rattle.table_kernel.specs.ReadBack.{AllGoInto, over_denominator}
+use Rattle.table_kernel.specs.ReadBack.{over_denominator}
 use Rattle.table_kernel.proofs.WideNumbers.{read_of, read_wide}
 
 -- a denominator, as 128 bits hold it

@@ -160,9 +160,9 @@ impl Kernel {
         requires var { var < width_of self.old }
         requires first { AreFirstSmall self.old self.old.constants.items }
         requires by_first { AreByFirst self.old self.old.constants.items }
+        ensures by_first { AreByFirst self.old self.new.constants.items }
         ensures own { number_at self.new.constants.items var ≡ constant_of_line self.old var }
         ensures others { (v : ℕ) → v < width_of self.old → v ≢ var → number_at self.new.constants.items v ≡ number_at self.old.constants.items v }
-        ensures by_first { AreByFirst self.old self.new.constants.items }
         ensures small { AllWithin (2 ^ 62) self.new.constants.items }
         ensures keeps { KeepsAllButConstants self.old self.new }
     {

@@ -1,12 +1,12 @@
 -- A number over a multiple of its denominator.
-use Rattle.std.proofs.Common.{◌≡◌, ◌^◌, ◌<◌, ◌≤◌, sym, ◌∙◌, ap, subst, arith}
+use Rattle.std.proofs.Common.{◌≡◌, ◌^◌, ◌≤◌, sym, ◌∙◌, ap, subst, arith}
 use Rattle.std.specs.Prelude.{ℤ, nat_abs}
 use Rattle.integer_pivots.proofs.Sizes.{read, read_number, size_of}
 use Rattle.whole_numbers.proofs.Sizes.{size_positive}
 use Rattle.table_kernel.specs.ReadBack.{over_denominator}
 use Rattle.table_kernel.proofs.WideNumbers.{read_of, read_wide}
-use Rattle.table_kernel.proofs.ReadRows.{IsNumberMade, numerator_smaller, product_fits, product_made, product_read}
-use Rattle.table_kernel.proofs.read_back.number_over.Goals.{After-denominator, Else-unsigned_abs-limit, Then-unsigned_abs-limit}
+use Rattle.table_kernel.proofs.ReadRows.{IsNumberMade, numerator_smaller, product_fits, product_read}
+use Rattle.table_kernel.proofs.read_back.number_over.Goals.{After-denominator}
 use Rattle.table_kernel.proofs.read_back.number_over.Goals as goal
 
 made : (c : After-denominator) → IsNumberMade c.args.value c.args.denominator c.numerator-numerator.result c.from.result c.denominator.result

@@ -11,8 +11,8 @@ use Rattle.integer_pivots.proofs.UseLaws.{lists_many}
 use Rattle.integer_pivots.proofs.WrittenPlaces.{written}
 use Rattle.table_kernel.specs.Constants.{AreByFirst, IsShortConstant, constant_of_line, high_constant, line_constant}
 use Rattle.table_kernel.specs.Kernels.{width_of}
-use Rattle.table_kernel.proofs.FollowedConstants.{AreFollowed, AreTwoPut, IsChange, are_followed, change_read, common_read, constants_many, followed_by_first, followed_small, line_read, old_read, puts_long, puts_read, rows_stay, uses_fit, uses_known, uses_read}
-use Rattle.table_kernel.proofs.kernel.Kernel.follow.Goals.{After-change-1, After-index-3, After-self-3-1}
+use Rattle.table_kernel.proofs.FollowedConstants.{AreFollowed, AreTwoPut, IsChange, are_followed, change_of, common_read, constants_many, followed_by_first, followed_small, line_read, puts_long, puts_read, rows_stay, uses_fit, uses_known, uses_read}
+use Rattle.table_kernel.proofs.kernel.Kernel.follow.Goals.{After-index-3}
 use Rattle.table_kernel.proofs.kernel.Kernel.follow.Goals as goal
 
 pub constant_over-constant-requires-clause-line : goal.constant_over-constant-requires-clause-line
@@ -30,16 +30,11 @@ index-requires-2 c =
     let k = c.args.self.now in
     omega (arith, c.requires.var, constants_many k c.requires.shaped, k.constants.ok.0)
 
--- what is read of the change
-change_is : (c : After-change-1) → IsChange c.args.self.now c.args.var c.constant_over-constant.result c.index-2.result.now
-change_is c =
-    let k = c.args.self.now in
-    change_read k c.args.var c.constant_over-constant.result c.index-2.result.now c.constant_over-constant.ensures.size
-    (c.requires.first c.args.var c.requires.var) (old_read k c.requires.shaped c.args.var c.index-2.result.now c.requires.var c.index-2.ensures)
-
 pub overflow_sub-change : goal.overflow_sub-change
 overflow_sub-change c =
-    fits_signed_from_abs w64 _ (omega (arith, (change_is (goal.at.overflow_sub-change c).After-change-1).size))
+    let change = change_of c.args.self.now c.requires.shaped c.requires.first c.args.var c.constant_over-constant.result c.index-2.result.now
+    c.requires.var c.constant_over-constant.ensures.size c.index-2.ensures in
+    fits_signed_from_abs w64 _ (omega (arith, change.size))
 
 pub index_mut-requires : goal.index_mut-requires
 index_mut-requires c =
@@ -56,8 +51,13 @@ index-requires-3 c =
     let k = c.args.self.now in
     omega (arith, c.requires.var, lists_many k.uses.items k.table.rows.items (width_of k) c.requires.shaped.uses, k.uses.ok.0)
 
--- what the uses of the variable are put to
+-- what is read and put before the uses follow
 module _ (c : After-index-3) where
+  change_is : IsChange c.args.self.now c.args.var c.constant_over-constant.result c.index-2.result.now
+  change_is =
+      change_of c.args.self.now c.requires.shaped c.requires.first c.args.var c.constant_over-constant.result c.index-2.result.now
+      c.requires.var c.constant_over-constant.ensures.size c.index-2.ensures
+
   uses_are : c.index-3.result.now.items ≡ uses_from 0 c.args.self.now.table.rows.items c.args.var
   uses_are = uses_read c.args.self.now c.requires.shaped c.args.var c.index-3.result.now c.requires.var c.index-3.ensures
 
@@ -66,29 +66,6 @@ module _ (c : After-index-3) where
       puts_read c.args.self.now c.args.var c.width-width.result c.constant_over-constant.result c.constant_of_high.result c.as_mut_slice.result.now
       c.constant_over-constant.ensures.size c.constant_of_high.ensures.size c.width-width.ensures c.as_mut_slice.ensures.value
 
-pub put_uses-requires-clause-known : goal.put_uses-requires-clause-known
-put_uses-requires-clause-known c i d i_in =
-    let a = (goal.at.put_uses-requires-clause-known c).After-index-3 in
-    let k = c.args.self.now in
-    let known = uses_known k c.args.var c.index-3.result.now.items (uses_are a) i d i_in in
-    let long = puts_long k c.args.var _ _ c.as_mut_slice.result.now (puts_are a) in
-    omega (arith, known, c.width-width.ensures, long, constants_many k c.requires.shaped)
-
-pub put_uses-requires-clause-number : goal.put_uses-requires-clause-number
-put_uses-requires-clause-number c = (change_is (goal.at.put_uses-requires-clause-number c).After-change-1).read_size
-
-pub put_uses-requires-clause-small : goal.put_uses-requires-clause-small
-put_uses-requires-clause-small c =
-    let a = (goal.at.put_uses-requires-clause-small c).After-index-3 in
-    let k = c.args.self.now in
-    let us = c.index-3.result.now.items in
-    let puts = c.as_mut_slice.result.now in
-    subst (λ (n : ℕ). All (λ u. nat_abs (number_at puts (n + n + u.row)) + size_in us u.row * 2 ^ 45 ≤ 2 ^ 62) us) (sym c.width-width.ensures)
-    (uses_fit k c.requires.shaped c.requires.bounded c.requires.fit c.args.var us puts (uses_are a) c.requires.first c.requires.by_first
-    (rows_stay k c.args.var _ _ puts c.requires.var (puts_are a)))
-
--- what the constants end as
-module _ (c : After-self-3-1) where
   own_is : c.constant_over-constant.result ≡ constant_of_line c.args.self.now c.args.var
   own_is =
       let k = c.args.self.now in
@@ -111,59 +88,86 @@ module _ (c : After-self-3-1) where
       ∙ ap (λ (z : ℤ). high_constant low high z (read x)) (common_read k c.requires.bounded)
       ∙ ap (high_constant low high k.common) (read_number x (omega (arith, c.constant_over-constant.ensures.size)))
 
-  ends_are : AreTwoPut c.args.self.now c.args.var c.constant_over-constant.result c.constant_of_high.result c.as_mut_slice.result.now
-  ends_are =
-      puts_read c.args.self.now c.args.var c.width-width.result c.constant_over-constant.result c.constant_of_high.result c.as_mut_slice.result.now
-      c.constant_over-constant.ensures.size c.constant_of_high.ensures.size c.width-width.ensures c.as_mut_slice.ensures.value
-
-  news_are : (xs : List ℤ) → xs ≡ c.as_mut_slice.result.now →
-      take c.args.self.now.constants.len (c.put_uses.new.sums ++ drop (length c.put_uses.new.sums) xs) ≡ c.put_uses.new.sums
-  news_are xs is =
+  -- what the uses leave behind the front of the list is all of it
+  news_are : (news xs : List ℤ) → length news ≡ length c.as_mut_slice.result.now → xs ≡ c.as_mut_slice.result.now →
+      take c.args.self.now.constants.len (news ++ drop (length news) xs) ≡ news
+  news_are news xs long is =
       let k = c.args.self.now in
-      let long = ap length is ∙ puts_long k c.args.var _ _ c.as_mut_slice.result.now ends_are in
-      written k.constants.len c.put_uses.new.sums xs (c.put_uses.auto.sums ∙ sym (ap length is)) (k.constants.ok.0 ∙ sym long)
+      let puts_count = ap length is ∙ puts_long k c.args.var _ _ c.as_mut_slice.result.now puts_are in
+      written k.constants.len news xs (long ∙ sym (ap length is)) (k.constants.ok.0 ∙ sym puts_count)
 
-  followed : AreFollowed c.args.self.now c.args.var c.constant_over-constant.result c.constant_of_high.result c.put_uses.new.sums
+pub put_uses-requires-clause-known : goal.put_uses-requires-clause-known
+put_uses-requires-clause-known c i d i_in =
+    let a = (goal.at.put_uses-requires-clause-known c).After-index-3 in
+    let k = c.args.self.now in
+    let known = uses_known k c.args.var c.index-3.result.now.items (uses_are a) i d i_in in
+    let long = puts_long k c.args.var _ _ c.as_mut_slice.result.now (puts_are a) in
+    omega (arith, known, c.width-width.ensures, long, constants_many k c.requires.shaped)
+
+pub put_uses-requires-clause-number : goal.put_uses-requires-clause-number
+put_uses-requires-clause-number c = (change_is (goal.at.put_uses-requires-clause-number c).After-index-3).read_size
+
+pub put_uses-requires-clause-small : goal.put_uses-requires-clause-small
+put_uses-requires-clause-small c =
+    let a = (goal.at.put_uses-requires-clause-small c).After-index-3 in
+    let k = c.args.self.now in
+    let us = c.index-3.result.now.items in
+    let puts = c.as_mut_slice.result.now in
+    subst (λ (n : ℕ). All (λ u. nat_abs (number_at puts (n + n + u.row)) + size_in us u.row * 2 ^ 45 ≤ 2 ^ 62) us) (sym c.width-width.ensures)
+    (uses_fit k c.requires.shaped c.requires.bounded c.requires.fit c.args.var us puts (uses_are a) c.requires.first c.requires.by_first
+    (rows_stay k c.args.var _ _ puts c.requires.var (puts_are a)))
+
+-- what the constants end as, by what the uses leave
+module _ (c : After-index-3) (news : List ℤ) (long : length news ≡ length c.as_mut_slice.result.now)
+    (before : (v : ℕ) → v < c.width-width.result + c.width-width.result → number_at news v ≡ number_at c.as_mut_slice.result.now v)
+    (rows : (row : ℕ) → number_at news (c.width-width.result + c.width-width.result + row)
+    ≡ (number_at c.as_mut_slice.result.now (c.width-width.result + c.width-width.result + row)
+    +ℤ (to_z w64 (of_z w64 (to_z w64 (of_z w64 c.constant_over-constant.result) -ℤ to_z w64 (of_z w64 c.index-2.result.now)))
+    *ℤ coefficient_in c.index-3.result.now.items row))) where
+  followed : AreFollowed c.args.self.now c.args.var c.constant_over-constant.result c.constant_of_high.result news
   followed =
       let k = c.args.self.now in
       let us = c.index-3.result.now.items in
       let x = c.constant_over-constant.result in
       let old = c.index-2.result.now in
-      let news = c.put_uses.new.sums in
       let puts = c.as_mut_slice.result.now in
-      let change = change_read k c.args.var x old c.constant_over-constant.ensures.size (c.requires.first c.args.var c.requires.var)
-      (old_read k c.requires.shaped c.args.var old c.requires.var c.index-2.ensures) in
       are_followed k c.requires.shaped c.args.var x c.constant_of_high.result _ us puts news
-      c.requires.var (uses_read k c.requires.shaped c.args.var c.index-3.result.now c.requires.var c.index-3.ensures) change.is c.put_uses.auto.sums ends_are
-      (λ v v_in. c.put_uses.ensures.before v (omega (arith, v_in, c.width-width.ensures)))
+      c.requires.var (uses_are c) (change_is c).is long (puts_are c)
+      (λ v v_in. before v (omega (arith, v_in, c.width-width.ensures)))
       (subst (λ (n : ℕ). (row : ℕ) → number_at news (n + n + row)
       ≡ (number_at puts (n + n + row) +ℤ (to_z w64 (of_z w64 (to_z w64 (of_z w64 x) -ℤ to_z w64 (of_z w64 old))) *ℤ coefficient_in us row)))
-      c.width-width.ensures c.put_uses.ensures.rows)
+      c.width-width.ensures rows)
 
-  by_first_is : AreByFirst c.args.self.now c.put_uses.new.sums
+  by_first_is : AreByFirst c.args.self.now news
   by_first_is =
       followed_by_first c.args.self.now c.requires.shaped c.requires.fit c.args.var c.constant_over-constant.result c.constant_of_high.result
-      c.put_uses.new.sums c.requires.var high_is c.requires.by_first followed
+      news c.requires.var (high_is c) c.requires.by_first followed
+
+  small_is : AllWithin (2 ^ 62) news
+  small_is =
+      followed_small c.args.self.now c.requires.shaped c.requires.bounded c.requires.fit c.args.var c.constant_over-constant.result
+      c.constant_of_high.result news c.constant_over-constant.ensures.size c.constant_of_high.ensures.size c.requires.first followed by_first_is
 
 pub returns-clause-own : goal.returns-clause-own
 returns-clause-own c =
-    let a = (goal.at.returns-clause-own c).After-self-3-1 in
-    ap (λ (zs : List ℤ). number_at zs c.args.var) (news_are a _ (sym c.as_mut_slice.ensures.value)) ∙ (followed a).own ∙ own_is a
+    let a = (goal.at.returns-clause-own c).After-index-3 in
+    ap (λ (zs : List ℤ). number_at zs c.args.var) (news_are a c.put_uses.new.sums _ c.put_uses.auto.sums (sym c.as_mut_slice.ensures.value))
+    ∙ (followed a c.put_uses.new.sums c.put_uses.auto.sums c.put_uses.ensures.before c.put_uses.ensures.rows).own ∙ own_is a
 
 pub returns-clause-others : goal.returns-clause-others
 returns-clause-others c v v_in apart =
-    let a = (goal.at.returns-clause-others c).After-self-3-1 in
-    ap (λ (zs : List ℤ). number_at zs v) (news_are a _ (sym c.as_mut_slice.ensures.value)) ∙ (followed a).others v v_in apart
+    let a = (goal.at.returns-clause-others c).After-index-3 in
+    ap (λ (zs : List ℤ). number_at zs v) (news_are a c.put_uses.new.sums _ c.put_uses.auto.sums (sym c.as_mut_slice.ensures.value))
+    ∙ (followed a c.put_uses.new.sums c.put_uses.auto.sums c.put_uses.ensures.before c.put_uses.ensures.rows).others v v_in apart
 
 pub returns-clause-by_first : goal.returns-clause-by_first
 returns-clause-by_first c =
-    let a = (goal.at.returns-clause-by_first c).After-self-3-1 in
-    subst (AreByFirst c.args.self.now) (sym (news_are a _ (sym c.as_mut_slice.ensures.value))) (by_first_is a)
+    let a = (goal.at.returns-clause-by_first c).After-index-3 in
+    subst (AreByFirst c.args.self.now) (sym (news_are a c.put_uses.new.sums _ c.put_uses.auto.sums (sym c.as_mut_slice.ensures.value)))
+    (by_first_is a c.put_uses.new.sums c.put_uses.auto.sums c.put_uses.ensures.before c.put_uses.ensures.rows)
 
 pub returns-clause-small : goal.returns-clause-small
 returns-clause-small c =
-    let a = (goal.at.returns-clause-small c).After-self-3-1 in
-    let k = c.args.self.now in
-    subst (AllWithin (2 ^ 62)) (sym (news_are a _ (sym c.as_mut_slice.ensures.value)))
-    (followed_small k c.requires.shaped c.requires.bounded c.requires.fit c.args.var c.constant_over-constant.result c.constant_of_high.result
-    c.put_uses.new.sums c.constant_over-constant.ensures.size c.constant_of_high.ensures.size c.requires.first (followed a) (by_first_is a))
+    let a = (goal.at.returns-clause-small c).After-index-3 in
+    subst (AllWithin (2 ^ 62)) (sym (news_are a c.put_uses.new.sums _ c.put_uses.auto.sums (sym c.as_mut_slice.ensures.value)))
+    (small_is a c.put_uses.new.sums c.put_uses.auto.sums c.put_uses.ensures.before c.put_uses.ensures.rows)

@@ -70,7 +70,7 @@ returns-in-None-clause-shifted c =
           basis = refl;
         },
         ap (slice_set k.lows.items c.args.var) (ap (with_constant x) value
-        ∙ ap (λ (line : Line). with_constant line ((line_of k c.args.var).constant -ℤ ((line_of k c.args.var).denominator *ℤ c.args.fall))) here),
+            ∙ ap (λ (line : Line). with_constant line ((line_of k c.args.var).constant -ℤ ((line_of k c.args.var).denominator *ℤ c.args.fall))) here),
       ),
     )
 
@@ -101,8 +101,8 @@ returns-in-Some-clause-shifted c =
           basis = refl;
         },
         own_put k.lows.len k.lows.items c.as_mut_slice.result.now c.raise.new.lines c.in-Some.column c.args.var c.args.fall
-        (read c.args.fall) c.index_mut-in-Some.result.now k.lows.ok.0 c.as_mut_slice.ensures.value
-        (read_number c.args.fall (omega (arith, c.requires.fall))) c.raise.ensures
-        (omega (arith, c.requires.var, c.requires.kernel.shaped.lows)) c.index_mut-in-Some.ensures.value,
+            (read c.args.fall) c.index_mut-in-Some.result.now k.lows.ok.0 c.as_mut_slice.ensures.value
+            (read_number c.args.fall (omega (arith, c.requires.fall))) c.raise.ensures
+            (omega (arith, c.requires.var, c.requires.kernel.shaped.lows)) c.index_mut-in-Some.ensures.value,
       ),
     )
