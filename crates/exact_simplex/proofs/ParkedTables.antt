@@ -2,6 +2,7 @@
 use Rattle.std.proofs.Common.{◌≡◌, ℕ, suc, ◌≤◌, sym, ◌∙◌, ap, subst, List, [], length, arith, All, Bool, true, false, inl, inr}
 use Rattle.std.specs.declared.result.Result.TheVariants.{Ok, Err}
 use Rattle.std.specs.Prelude.{Result, OnOk, vec_capacity}
+use Rattle.std.specs.Result.{is_ok}
 use Rattle.std.proofs.lemmas.List.{get_or_default}
 use Rattle.whole_numbers.specs.Fractions.{Fraction}
 use Rattle.wide_fraction.specs.declared.steps.Wide.{Wide}
@@ -18,10 +19,11 @@ use Rattle.fraction_table.proofs.Pivots.{line_long, lines_long, members_long}
 use Rattle.integer_pivots.specs.declared.line.Line.{Line}
 use Rattle.integer_pivots.specs.Uses.{uses_by}
 use Rattle.table_kernel.specs.declared.kernel.Kernel.{Kernel}
+use Rattle.table_kernel.specs.declared.kernel.OutOfRange.{OutOfRange}
 use Rattle.table_kernel.specs.Kernels.{IsKernel, IsShaped, width_of}
 use Rattle.table_kernel.specs.ReadBack.{IsParked}
 use Rattle.exact_simplex.specs.declared.active.ActiveTable.{ActiveTable}
-use Rattle.exact_simplex.specs.Actives.{IsActive}
+use Rattle.exact_simplex.specs.Actives.{IsActive, table_in}
 use Rattle.exact_simplex.proofs.Actives.{clash}
 
 -- each line of a whole table has a number for each variable and one more
@@ -85,3 +87,24 @@ pub moved_beside : (a : ActiveTable) (t : Table) (costs : CostBox) → a.in_kern
 moved_beside a t costs out active box rebased w room =
     let keeps = rebased_keeps (held_of a.kernel.table Open) (held_of t Open) costs rebased in
     beside a.in_kernel a.kernel t out active.parked w room (ap (λ (now : CostBox). length now.low) keeps.0 ∙ box.low_count) keeps.1
+
+-- the table in fractions is whole where it is worked on
+whole_beside : (b : Bool) (k : Kernel) → b ≡ false → IsTableau (table_in b k) → IsTableau k.table
+whole_beside true k out w = absurd (clash (sym out))
+whole_beside false k out w = w
+
+-- a kernel works on where it was read back; else the table in fractions does
+pub read_back_or_beside : (b : Bool) (a : ActiveTable) (k : Kernel) (found : Result (Unit {0}) OutOfRange) → b ≡ is_ok found →
+    a.in_kernel ≡ false → IsActive a → k.table ≡ a.kernel.table → IsParked k → OnOk found (IsKernel k) →
+    IsActive (record { kernel = k; in_kernel = b })
+read_back_or_beside b a k (Ok done) is out active same parked kernel =
+    subst (λ (inside : Bool). IsActive (record { kernel = k; in_kernel = inside })) (sym is)
+    (record { whole = kernel.whole; kernel = λ there. kernel; parked = parked; room = parked.shaped.room })
+read_back_or_beside b a k (Err refused) is out active same parked kernel =
+    subst (λ (inside : Bool). IsActive (record { kernel = k; in_kernel = inside })) (sym is)
+    (record {
+      whole = subst IsTableau (sym same) (whole_beside a.in_kernel a.kernel out active.whole);
+      kernel = λ there. absurd (clash there);
+      parked = parked;
+      room = parked.shaped.room;
+    })

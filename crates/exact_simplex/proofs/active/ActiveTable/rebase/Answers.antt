@@ -2,6 +2,7 @@
 use Rattle.std.proofs.Common.{◌≡◌, ap, subst, sym, ◌∙◌, false, length}
 use Rattle.design_problem.specs.declared.form.CostBox.{CostBox}
 use Rattle.design_problem.specs.Boxes.{IsBox}
+use Rattle.table_kernel.specs.declared.kernel.Kernel.{Kernel}
 use Rattle.exact_simplex.specs.declared.active.ActiveTable.{ActiveTable}
 use Rattle.exact_simplex.specs.Actives.{IsActive}
 use Rattle.exact_simplex.proofs.ParkedTables.{moved_beside}
@@ -23,8 +24,10 @@ return_to_kernel-requires-clause-active c =
       | then-self+in-Err w ↦ ap (λ (b : ActiveTable). b.in_kernel) w.self-is ∙ w.leave_kernel.ensures.left
       | else-self w ↦ ap (λ (b : ActiveTable). b.in_kernel) w.self-is ∙ w.if-self.false
     ] in
-    let box : IsBox (length a.kernel.table.costs.low) costs = elim c.if-self.branch [
-      | then-self+in-Err w ↦ ?
-      | else-self w ↦ subst (λ (b : ActiveTable). IsBox (length b.kernel.table.costs.low) costs) (sym w.self-is) c.requires.ranges
+    let costs_are : a.kernel.table.costs ≡ c.args.self.now.kernel.table.costs = elim c.if-self.branch [
+      | then-self+in-Err w ↦ ap (λ (b : ActiveTable). b.kernel.table.costs) w.self-is ∙ w.leave_kernel.ensures.keeps.costs
+          ∙ ap (λ (k : Kernel). k.table.costs) w.in-Err.ensures.same
+      | else-self w ↦ ap (λ (b : ActiveTable). b.kernel.table.costs) w.self-is
     ] in
+    let box = subst (λ (b : CostBox). IsBox (length b.low) costs) (sym costs_are) c.requires.ranges in
     moved_beside a c.rebase-2.new.self costs out active box c.rebase-2.ensures.rebased c.rebase-2.ensures.whole c.rebase-2.ensures.room
