@@ -1,6 +1,6 @@
 //! The table that a tableau works on: the kernel, and from a step that its bounds don't cover the table in fractions, up
 //! to the first box at which its numbers fit again.
-ghost use Rattle.std.specs.Prelude.{◌≡◌, ℕ, suc, ◌^◌, ◌<◌, ◌≤◌, ◌↔◌, ◌++◌, [], ◌∷◌, length, true, false, All, IfErr, IfOk, IsTrue, OnErr, OnOk};
+ghost use Rattle.std.specs.Prelude.{◌≡◌, suc, ◌^◌, ◌<◌, ◌≤◌, ◌↔◌, ◌++◌, [], ◌∷◌, length, true, false, All, IfErr, IfOk, IsTrue, OnErr, OnOk};
 ghost use Rattle.design_problem.specs.Boxes.{IsBox, Refutes};
 ghost use Rattle.design_problem.specs.Earnest.{IsLeastPoint};
 ghost use Rattle.design_problem.specs.Steps.{IsStuck, IsStepTooWide};
@@ -10,7 +10,6 @@ ghost use Rattle.fraction_table.specs.declared.stage.Stage.{Stage};
 ghost use Rattle.fraction_table.specs.declared.stage.Stage.TheVariants.{Ended, Open};
 ghost use Rattle.fraction_table.specs.Multipliers.{IsToldOf};
 ghost use Rattle.fraction_table.specs.Pivots.{AreHigh, KeepsBoxAndRows, line_at};
-ghost use Rattle.fraction_table.specs.RowLines.{HasPlace};
 ghost use Rattle.fraction_table.specs.Tableaus.{FitsBox, IsRebased, starting, wide_at};
 ghost use Rattle.fraction_table.specs.ValidTables.{HasRoom, IsShown, held_of};
 ghost use Rattle.table_kernel.specs.Moves.{MayMove, box_distance};
@@ -86,7 +85,7 @@ impl ActiveTable {
         ensures left { self.new.in_kernel ≡ false }
         ensures keeps { KeepsBoxAndRows self.old.kernel.table self.new.kernel.table }
         ensures basis { self.new.kernel.table.basis.items ≡ self.old.kernel.table.basis.items }
-        ensures place { HasPlace self.old.kernel.table → HasPlace self.new.kernel.table }
+        ensures place { HasRowPlace self.old.kernel → HasRowPlace self.new.kernel }
     {
         self.kernel.restate();
         self.in_kernel = false;
