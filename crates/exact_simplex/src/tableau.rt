@@ -1,5 +1,5 @@
 //! The tableau: a table, and how far the work on it is.
-ghost use Rattle.std.specs.Prelude.{◌≡◌, ℕ, suc, ◌^◌, ◌<◌, ◌≤◌, ◌↔◌, ◌⊎◌, ◌++◌, [], ◌∷◌, length, true, false, All, IfErr, IfOk, IsTrue, OnErr, OnOk};
+ghost use Rattle.std.specs.Prelude.{◌≡◌, ℕ, suc, ◌^◌, ◌<◌, ◌≤◌, ◌↔◌, ◌++◌, [], ◌∷◌, length, true, false, All, IfErr, IfOk, IsTrue, OnErr, OnOk};
 ghost use Rattle.design_problem.specs.Basis.{IsBasis};
 ghost use Rattle.design_problem.specs.Boxes.{IsBox, Refutes};
 ghost use Rattle.design_problem.specs.Earnest.{IsLeastPoint};
@@ -121,7 +121,7 @@ impl Tableau {
             record { top = self.old.top; costs = self.old.costs; rows = self.old.rows ++ form.now ∷ []; basis = self.old.basis; stage = Stage.Open }) }
         ensures refused { IfErr result (IsRowRefused (held_by self.old) form.now (held_by self.new)) }
         ensures same { result ≡ Err SimplexStop.OutOfMemory → self.new ≡ self.old }
-        ensures rests { IsGoing self.old.stage ⊎ (self.new ≡ self.old) }
+        ensures rests { (wide : Wide) → self.old.stage ≡ Stopped wide → self.new ≡ self.old }
         ensures kernel { self.old.in_kernel ≡ true → IsCovered form.now → self.new.in_kernel ≡ true }
     {
         self.going()?;
@@ -147,7 +147,7 @@ impl Tableau {
         ensures ended { IfOk result (λ solved. held_by self.new ≡
             record { top = self.old.top; costs = self.old.costs; rows = self.old.rows; basis = self.new.basis; stage = Ended solved }) }
         ensures stop { IfErr result (λ wide. IsTableauStopped (held_by self.old) self.old.rows (held_by self.new) wide) }
-        ensures rests { IsGoing self.old.stage ⊎ (self.new ≡ self.old) }
+        ensures rests { (wide : Wide) → self.old.stage ≡ Stopped wide → self.new ≡ self.old }
         ensures left { self.old.in_kernel ≡ true → self.new.in_kernel ≡ false → WasHeldUp (held_by self.old) }
     {
         self.going()?;
