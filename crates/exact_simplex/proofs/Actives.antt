@@ -29,6 +29,7 @@ use Rattle.table_kernel.specs.declared.kernel.Kernel.{Kernel}
 use Rattle.table_kernel.specs.Kernels.{IsKernel, kernel_lines, stated}
 use Rattle.table_kernel.specs.declared.kernel.OutOfRange.{OutOfRange}
 use Rattle.table_kernel.specs.Moves.{MayMove, box_distance}
+use Rattle.table_kernel.specs.ReadBack.{IsParked}
 use Rattle.table_kernel.specs.Rows.{HoldsNumbers}
 use Rattle.table_kernel.specs.Turns.{IsHeldUp}
 use Rattle.table_kernel.proofs.AtBasis.{stated_lines}
@@ -43,11 +44,20 @@ pub clash : false ≡ true → ⊥
 clash h = cc
 
 -- a table at its start
-pub started : (b : Bool) (k : Kernel) → IsSound k.table Open → (b ≡ true → IsKernel k) → IsSoundActive (record { kernel = k; in_kernel = b }) Open
-started true k s kernel =
-    record { active = λ going. record { whole = (kernel refl).whole; kernel = λ is. kernel refl; room = s.room }; shown = tt; basis = s.basis; room = s.room }
-started false k s kernel =
-    record { active = λ going. record { whole = s.whole going; kernel = λ is. absurd (clash is); room = s.room }; shown = tt; basis = s.basis; room = s.room }
+pub started : (b : Bool) (k : Kernel) → IsSound k.table Open → (b ≡ true → IsKernel k) → IsParked k →
+    IsSoundActive (record { kernel = k; in_kernel = b }) Open
+started true k s kernel parked = record {
+  active = λ going. record { whole = (kernel refl).whole; kernel = λ is. kernel refl; parked = parked; room = s.room };
+  shown = tt;
+  basis = s.basis;
+  room = s.room;
+}
+started false k s kernel parked = record {
+  active = λ going. record { whole = s.whole going; kernel = λ is. absurd (clash is); parked = parked; room = s.room };
+  shown = tt;
+  basis = s.basis;
+  room = s.room;
+}
 
 -- the table in fractions shows its answer where it is worked on
 pub shown_beside : (b : Bool) (k : Kernel) (found : Result Solved Wide) → b ≡ false →
@@ -168,23 +178,24 @@ shown_held old new t k (Ended solved) kernel shown =
 shown_held old new t k (Stopped wide) kernel shown = tt
 
 -- a table for which room was made
-pub room_made : (b : Bool) (old new : Kernel) → HoldsSame old.table new.table → HoldsNumbers old new → (stage : Stage) →
-    IsSoundActive (record { kernel = old; in_kernel = b }) stage →
+pub room_made : (b : Bool) (old new : Kernel) → HoldsSame old.table new.table → HoldsNumbers old new →
+    (IsParked old → IsParked new) → (stage : Stage) → IsSoundActive (record { kernel = old; in_kernel = b }) stage →
     IsSoundActive (record { kernel = new; in_kernel = b }) stage
-room_made true old new t k stage s =
+room_made true old new t k parks stage s =
     record {
       active = λ going. (let a = s.active going in let kernel = kernel_same old new t k (a.kernel refl) in
-          record { whole = kernel.whole; kernel = λ is. kernel; room = room_same old.table new.table t s.room });
+          record { whole = kernel.whole; kernel = λ is. kernel; parked = parks a.parked; room = room_same old.table new.table t s.room });
       shown = shown_held old new t k stage (λ going. (s.active going).kernel refl) s.shown;
       basis = rw (t.costs, t.rows, t.basis) s.basis;
       room = room_same old.table new.table t s.room;
     }
-room_made false old new t k stage s =
+room_made false old new t k parks stage s =
     record {
       active = λ going. (let a = s.active going in
           record {
             whole = whole_same old.table new.table t a.whole;
             kernel = λ is. absurd (clash is);
+            parked = parks a.parked;
             room = room_same old.table new.table t s.room;
           });
       shown = shown_same old.table.basis.items new.table.basis.items old.table.lines.items new.table.lines.items stage t.basis t.lines s.shown;

@@ -10,7 +10,6 @@ ghost use Rattle.fraction_table.specs.declared.stage.Stage.{Stage};
 ghost use Rattle.fraction_table.specs.declared.stage.Stage.TheVariants.{Ended, Open};
 ghost use Rattle.fraction_table.specs.Multipliers.{IsToldOf};
 ghost use Rattle.fraction_table.specs.Pivots.{AreHigh, KeepsBoxAndRows, line_at};
-ghost use Rattle.fraction_table.specs.RowLines.{HasPlace};
 ghost use Rattle.fraction_table.specs.Tableaus.{FitsBox, IsRebased, starting, wide_at};
 ghost use Rattle.fraction_table.specs.ValidTables.{HasRoom, IsShown, held_of};
 ghost use Rattle.table_kernel.specs.Moves.{MayMove, box_distance};
@@ -86,7 +85,7 @@ impl ActiveTable {
         ensures left { self.new.in_kernel ≡ false }
         ensures keeps { KeepsBoxAndRows self.old.kernel.table self.new.kernel.table }
         ensures basis { self.new.kernel.table.basis.items ≡ self.old.kernel.table.basis.items }
-        ensures place { HasPlace self.old.kernel.table → HasPlace self.new.kernel.table }
+        ensures place { HasRowPlace self.old.kernel → HasRowPlace self.new.kernel }
     {
         self.kernel.restate();
         self.in_kernel = false;

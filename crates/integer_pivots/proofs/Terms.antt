@@ -1,9 +1,9 @@
 -- The terms of a form, and what they weigh.
-use Rattle.std.proofs.Common.{◌≡◌, ℕ, zero, suc, ◌+◌, ◌^◌, ◌<◌, ◌≤◌, refl, ◌∙◌, ap, List, [], ◌∷◌, length, get_or, drop, arith, add-one, drop-cons}
+use Rattle.std.proofs.Common.{◌≡◌, ℕ, zero, suc, ◌+◌, ◌<◌, refl, ◌∙◌, ap, List, [], ◌∷◌, length, get_or, drop, arith, add-one, drop-cons}
 use Rattle.std.specs.Prelude.{ℤ, pos, negsuc, nat_abs, sum_by}
 use Rattle.std.proofs.lemmas.List.Sums.{sum_by-cons}
 use Rattle.design_problem.specs.declared.form.Term.{Term}
-use Rattle.design_problem.specs.Forms.{terms_from, no_term}
+use Rattle.design_problem.specs.Forms.{terms_from}
 
 abbrev pub term_size : Term → ℕ
 term_size t = nat_abs t.coefficient
@@ -32,14 +32,3 @@ pub rest_weight : (ts : List Term) (index : ℕ) (d : Term) → index < length t
 rest_weight ts index d index_in =
     let e : drop index ts ≡ get_or ts index d ∷ drop (index + 1) ts = rw (add-one, drop-cons ts index d) refl in
     ap (sum_by term_size) e ∙ sum_by-cons term_size (get_or ts index d) (drop (index + 1) ts)
-
--- each term is within the weight of all
-pub weighs : (ts : List Term) (index : ℕ) (d : Term) → index < length ts → nat_abs (get_or ts index d).coefficient ≤ sum_by term_size ts
-weighs [] index d index_in = absurd (omega arith)
-weighs (t ∷ ts) zero d index_in = omega (arith, sum_by-cons term_size t ts)
-weighs (t ∷ ts) (suc index) d index_in = omega (arith, sum_by-cons term_size t ts, weighs ts index d (omega arith))
-
-pub term_light : (ts : List Term) (cs : List ℤ) (index : ℕ) → index < length ts → ts ≡ terms_from 0 cs →
-    sum_by nat_abs cs ≤ 2 ^ 22 → nat_abs (get_or ts index no_term).coefficient ≤ 2 ^ 22
-term_light ts cs index index_in terms light =
-    omega (arith, weighs ts index no_term index_in, ap (sum_by term_size) terms ∙ terms_weight 0 cs, light)

@@ -1,7 +1,7 @@
 -- The uses of a row that are put at the end of the lists of its variables, term by term.
 use Rattle.std.specs.declared.alloc.Global.{Global}
 use Rattle.std.proofs.Common.{Vec, ◌≡◌, ℕ, zero, suc, ◌+◌, ◌<◌, ◌≤◌, refl, sym, ◌∙◌, ap, subst, List, [], ◌∷◌, ◌++◌, length, get_or, set, arith, below_more, inl, inr}
-use Rattle.std.specs.Prelude.{ℤ, pos, negsuc, slice_index_or, All, AllPairs, ◌≢◌}
+use Rattle.std.specs.Prelude.{ℤ, pos, negsuc, nat_abs, slice_index_or, All, AllPairs, ◌≢◌}
 use Rattle.std.proofs.lemmas.Int.{ints}
 use Rattle.std.proofs.lemmas.List.{append-nil, get_or-map, get_or-set_other, get_or-set_same, length-set, map-set}
 use Rattle.std.proofs.lemmas.List.Elements.{All-cons, All-nil}
@@ -11,7 +11,9 @@ use Rattle.design_problem.specs.declared.form.Term.{Term}
 use Rattle.design_problem.specs.Forms.{terms_from, terms_of, no_term}
 use Rattle.design_problem.proofs.TermLaws.{rising_from, term_coefficient, term_or_zero, terms_known}
 use Rattle.integer_pivots.specs.declared.uses.Use.{Use}
+use Rattle.integer_pivots.specs.Numbers.{AllWithin}
 use Rattle.integer_pivots.specs.Uses.{held_in, use_of}
+use Rattle.integer_pivots.proofs.Sizes.{number_within}
 
 -- no term has coefficient 0
 pub some_from : (first : ℕ) (cs : List ℤ) → All (λ t. t.coefficient ≢ pos 0) (terms_from first cs)
@@ -30,6 +32,15 @@ single : (row : ℕ) (c : ℤ) → c ≢ pos 0 → use_of row c ≡ (let u : Use
 single row (pos zero) some = absurd (some refl)
 single row (pos (suc n)) some = refl
 single row (negsuc n) some = refl
+
+-- a term's coefficient is one of the form's
+pub term_within : (f : Form) (ts : List Term) (index most : ℕ) → ts ≡ terms_of f → index < length ts → AllWithin most f.coefficients →
+    nat_abs (get_or ts index no_term).coefficient ≤ most
+term_within f ts index most are index_in within =
+    let there : index < length (terms_of f) = omega (arith, index_in, ap length are) in
+    subst (λ (us : List Term). nat_abs (get_or us index no_term).coefficient ≤ most) (sym are)
+    (subst (λ (z : ℤ). nat_abs z ≤ most) (term_coefficient f index no_term there)
+    (number_within most f.coefficients (get_or (terms_of f) index no_term).var within))
 
 -- the uses by the terms before an index are put
 pub record ArePushed (row : ℕ) (ts : List Term) (index : ℕ) (olds news : List (Vec Use Global)) : Type 0 where

@@ -4,13 +4,13 @@ ghost use Rattle.whole_numbers.specs.Lists.{number_at};
 ghost use Rattle.design_problem.specs.Basis.{IsFormOf, entry, member_form};
 ghost use Rattle.fraction_rows.specs.TableRows.{IsTableNumber, blank_row, nothing};
 ghost use Rattle.fraction_table.specs.Pivots.{KeepsBoxAndRows};
-ghost use Rattle.fraction_table.specs.RowLines.{HasPlace};
 ghost use Rattle.fraction_table.specs.ValidTables.{HasRoom, IsTableau};
 ghost use Rattle.table_kernel.specs.Kernels.{IsKernel, kernel_lines, width_of};
 ghost use Rattle.table_kernel.specs.Lines.{column_of};
 ghost use Rattle.table_kernel.specs.Numbers.{number_at_column, over_common};
 ghost use Rattle.table_kernel.specs.ReadBack.{IsParked};
 ghost use Rattle.table_kernel.specs.Restated.{KeepsAllButLinesOf};
+ghost use Rattle.table_kernel.specs.Rows.{HasRowPlace};
 
 use crate::Kernel;
 use design_problem::Member;
@@ -86,7 +86,7 @@ impl Kernel {
         ensures room { HasRoom self.new.table }
         ensures keeps { KeepsBoxAndRows self.old.table self.new.table }
         ensures basis { self.new.table.basis ≡ self.old.table.basis }
-        ensures place { HasPlace self.old.table → HasPlace self.new.table }
+        ensures place { HasRowPlace self.old → HasRowPlace self.new }
         ensures parked { IsParked self.new }
     {
         for place in 0..self.constants.len() {

@@ -4,9 +4,8 @@ use Rattle.std.proofs.Common.{Vec, ◌^◌, ◌<◌, get_or, length, subst, sym,
 use Rattle.std.specs.Prelude.{nat_abs, vec_capacity, vec_len}
 use Rattle.design_problem.specs.Forms.{no_term}
 use Rattle.integer_pivots.specs.declared.uses.Use.{Use}
-use Rattle.integer_pivots.proofs.Terms.{term_light}
 use Rattle.integer_pivots.proofs.Sizes.{read_number}
-use Rattle.integer_pivots.proofs.UsePushes.{all_pushed, next_list, none_pushed, push_next}
+use Rattle.integer_pivots.proofs.UsePushes.{all_pushed, next_list, none_pushed, push_next, term_within}
 use Rattle.integer_pivots.proofs.uses.push_uses.Goals as goal
 
 pub loop-term-init : goal.loop-term-init
@@ -28,11 +27,11 @@ loop-term-preserved c =
     let ts = c.terms-term-items.result.now in
     let index = c.loop-term.term-index in
     let t = get_or ts index no_term in
-    let light = term_light ts c.args.form.now.coefficients index c.loop-term-test.true c.terms-term-items.ensures.terms c.requires.light in
+    let small = term_within c.args.form.now ts index (2 ^ 26) c.terms-term-items.ensures.terms c.loop-term-test.true c.requires.sizes in
     push_next c.args.row c.args.form.now ts index c.args.uses.now c.loop-term.uses c.push_reserved.new.self
     c.index-uses-term.result _ c.terms-term-items.ensures.terms c.loop-term-test.true c.requires.count
     c.loop-term.auto.uses
-    c.push_reserved.ensures.items (read_number t.coefficient (let e : nat_abs t.coefficient < 2 ^ 63 = omega (arith, light) in e)) c.loop-term.invariant
+    c.push_reserved.ensures.items (read_number t.coefficient (let e : nat_abs t.coefficient < 2 ^ 63 = omega (arith, small) in e)) c.loop-term.invariant
 
 pub returns : goal.returns
 returns c = λ v v_in.

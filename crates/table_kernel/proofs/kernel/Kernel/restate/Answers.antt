@@ -1,5 +1,9 @@
 -- All lines are put.
-use Rattle.std.proofs.Common.{refl, ap, arith, length}
+use Rattle.std.specs.declared.alloc.Global.{Global}
+use Rattle.std.proofs.Common.{Vec, ◌<◌, refl, sym, ap, subst, arith, length}
+use Rattle.std.specs.Prelude.{ℤ, vec_capacity, vec_len}
+use Rattle.integer_pivots.specs.declared.uses.Use.{Use}
+use Rattle.integer_pivots.specs.Uses.{HaveRoom}
 use Rattle.table_kernel.proofs.Restated.{keeps_both, keeps_itself, restated_all, restated_next, restated_room, restated_whole, restating}
 use Rattle.table_kernel.proofs.kernel.Kernel.restate.Goals as goal
 
@@ -55,4 +59,10 @@ pub returns-clause-basis : goal.returns-clause-basis
 returns-clause-basis c = c.loop-place.invariant.keeps.table.basis
 
 pub returns-clause-place : goal.returns-clause-place
-returns-clause-place c = c.loop-place.invariant.keeps.place
+returns-clause-place c place =
+    let k = c.loop-place.invariant.keeps in
+    record {
+      table = k.place place.table;
+      constants = subst (λ (v : Vec ℤ Global). vec_len v < vec_capacity v) (sym k.constants) place.constants;
+      uses = subst (λ (v : Vec (Vec Use Global) Global). HaveRoom v.items) (sym k.uses) place.uses;
+    }
