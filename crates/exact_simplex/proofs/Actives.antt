@@ -19,7 +19,7 @@ use Rattle.fraction_table.specs.declared.table.Table.{Table}
 use Rattle.design_problem.specs.Basis.{entry, member_form}
 use Rattle.fraction_table.specs.Pivots.{AreHigh, KeepsBoxAndRows, line_at, numbers_of_line, member_at}
 use Rattle.fraction_table.specs.Tableaus.{IsAmongForms, IsGoing, IsSolved, wide_at}
-use Rattle.fraction_table.specs.ValidTables.{HasRoom, IsShown, IsSound, IsTableauOf, IsTableau}
+use Rattle.fraction_table.specs.ValidTables.{HasRoom, IsShown, IsSound, IsTableauOf, IsTableau, held_of}
 use Rattle.fraction_table.proofs.Pivots.{line_long, whole_line}
 use Rattle.fraction_table.proofs.Solutions.{high_number, settled_among, settled_solves}
 use Rattle.fraction_table.proofs.IntegralTurns.{stand_at}
@@ -28,6 +28,7 @@ use Rattle.fraction_table.proofs.Bases.{whole_basis}
 use Rattle.table_kernel.specs.declared.kernel.Kernel.{Kernel}
 use Rattle.table_kernel.specs.Kernels.{IsKernel, kernel_lines, stated}
 use Rattle.table_kernel.specs.declared.kernel.OutOfRange.{OutOfRange}
+use Rattle.table_kernel.specs.Moves.{MayMove, box_distance}
 use Rattle.table_kernel.specs.ReadBack.{IsParked}
 use Rattle.table_kernel.specs.Rows.{HoldsNumbers}
 use Rattle.table_kernel.specs.Turns.{IsHeldUp}
@@ -37,7 +38,7 @@ use Rattle.table_kernel.proofs.SameKernels.{kernel_same, lines_same}
 use Rattle.fraction_table.specs.RowLines.{HoldsSame}
 use Rattle.fraction_table.proofs.RowAdds.{room_same}
 use Rattle.exact_simplex.specs.declared.active.ActiveTable.{ActiveTable}
-use Rattle.exact_simplex.specs.Actives.{IsActive, IsSoundActive, WasHeldUp, table_in, table_of}
+use Rattle.exact_simplex.specs.Actives.{CannotReturn, CouldNotMove, IsActive, IsSoundActive, MayReturn, WasHeldUp, held_by, state_of, table_in, table_of}
 
 pub clash : false ≡ true → ⊥
 clash h = cc
@@ -67,14 +68,38 @@ shown_beside false k found is shown = shown
 
 -- a kernel that stopped was held up
 pub was_held_up : (old new : Kernel) (found : Result Solved OutOfRange) (out : OutOfRange) → found ≡ Err out →
-    IsKernel new → KeepsBoxAndRows (stated old) (stated new) → OnErr found (IsHeldUp new) → WasHeldUp old.table
+    IsKernel new → KeepsBoxAndRows (stated old) (stated new) → OnErr found (IsHeldUp new) → WasHeldUp (held_of old.table Open)
 was_held_up old new found out is kernel keeps held =
     record {
       kernel = new;
       whole = kernel;
-      keeps = record { top = keeps.top; costs = keeps.costs; rows = keeps.rows };
+      top = keeps.top;
+      costs = keeps.costs;
+      rows = keeps.rows;
       held_up = subst (λ (answer : Result Solved OutOfRange). OnErr answer (IsHeldUp new)) is held;
     }
+
+-- so it was, however far the work on the table was
+pub held_up_at : (table : Table) (stage : Stage) → WasHeldUp (held_of table Open) → WasHeldUp (held_of table stage)
+held_up_at table stage was =
+    record { kernel = was.kernel; whole = was.whole; top = was.top; costs = was.costs; rows = was.rows; held_up = was.held_up }
+
+-- a kernel that left at a move couldn't make it
+pub could_not_move : (old new : ActiveTable) (stage : Stage) (costs : CostBox) → IsActive old →
+    (old.in_kernel ≡ true → MayMove old.kernel (box_distance old.kernel.table.costs costs) → new.in_kernel ≡ true) →
+    old.in_kernel ≡ true → new.in_kernel ≡ false → CouldNotMove (held_by (state_of old stage)) costs
+could_not_move old new stage costs active stays was_in is_out =
+    record { kernel = old.kernel; whole = active.kernel was_in; holds = refl; far = λ may. clash (sym is_out ∙ stays was_in may) }
+
+whole_beside : (b : Bool) (k : Kernel) → b ≡ false → IsTableau (table_in b k) → IsTableau k.table
+whole_beside true k is whole = absurd (clash (sym is))
+whole_beside false k is whole = whole
+
+-- a table in fractions to which the kernel didn't return
+pub cannot_return : (a : ActiveTable) (stage : Stage) → IsActive a → (a.in_kernel ≡ false → MayReturn a.kernel.table → ⊥) →
+    a.in_kernel ≡ false → CannotReturn (held_by (state_of a stage))
+cannot_return a stage active back is_out =
+    record { table = a.kernel.table; whole = whole_beside a.in_kernel a.kernel is_out active.whole; holds = refl; beyond = back is_out }
 
 -- a kernel's answer is shown by the table that it stands for
 pub kernel_shown : (b : Bool) (k : Kernel) (solved : Solved) → b ≡ true → IsKernel k →

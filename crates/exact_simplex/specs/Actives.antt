@@ -1,13 +1,16 @@
--- The table that a tableau works on, and what it keeps.
-use Rattle.std.specs.Prelude.{◌≡◌, ◌^◌, ◌≤◌, Bool, true, false}
+-- The table that a tableau works on, what it keeps, and when the kernel of whole numbers works.
+use Rattle.std.specs.Prelude.{◌≡◌, ℕ, ◌^◌, ◌≤◌, List, Bool, true, false}
+use Rattle.design_problem.specs.declared.form.Form.{Form}
+use Rattle.design_problem.specs.declared.form.CostBox.{CostBox}
+use Rattle.design_problem.specs.declared.tree.Member.{Member}
 use Rattle.design_problem.specs.Basis.{IsBasis}
 use Rattle.fraction_table.specs.declared.stage.Stage.{Stage}
 use Rattle.fraction_table.specs.declared.table.Table.{Table}
-use Rattle.fraction_table.specs.Pivots.{KeepsBoxAndRows}
-use Rattle.fraction_table.specs.Tableaus.{IsGoing}
-use Rattle.fraction_table.specs.ValidTables.{HasRoom, IsShown, IsTableau}
+use Rattle.fraction_table.specs.Tableaus.{Held, IsGoing}
+use Rattle.fraction_table.specs.ValidTables.{HasRoom, IsShown, IsTableau, held_of}
 use Rattle.table_kernel.specs.declared.kernel.Kernel.{Kernel}
 use Rattle.table_kernel.specs.Kernels.{IsKernel, stated}
+use Rattle.table_kernel.specs.Moves.{MayMove, box_distance}
 use Rattle.table_kernel.specs.ReadBack.{IsParked, MayReadBack}
 use Rattle.table_kernel.specs.Turns.{IsHeldUp}
 use Rattle.exact_simplex.specs.declared.active.ActiveTable.{ActiveTable}
@@ -28,17 +31,57 @@ pub record IsActive (a : ActiveTable) : Type 0 where
   pub parked : IsParked a.kernel
   pub room : HasRoom a.kernel.table
 
+-- What contracts see of a tableau: what it holds, and whether the kernel of whole numbers works, not the table in fractions.
+pub record TableauState : Type 0 where
+  pub top : ℕ
+  pub costs : CostBox
+  pub rows : List Form
+  pub basis : List Member
+  pub stage : Stage
+  pub in_kernel : Bool
+
+-- what a tableau holds, whichever of the two works
+abbrev pub held_by : TableauState → Held
+held_by t = record { top = t.top; costs = t.costs; rows = t.rows; basis = t.basis; stage = t.stage }
+
+-- what contracts see of a tableau that works on this table
+abbrev pub state_of : ActiveTable → Stage → TableauState
+state_of a stage = record {
+  top = a.kernel.table.top;
+  costs = a.kernel.table.costs;
+  rows = a.kernel.table.rows.items;
+  basis = a.kernel.table.basis.items;
+  stage = stage;
+  in_kernel = a.in_kernel;
+}
+
+-- a whole kernel over the box and the rows that are held, of which the bounds don't cover the pivot that is due
+pub record WasHeldUp (h : Held) : Type 0 where
+  pub kernel : Kernel
+  pub whole : IsKernel kernel
+  pub top : kernel.table.top ≡ h.top
+  pub costs : kernel.table.costs ≡ h.costs
+  pub rows : kernel.table.rows.items ≡ h.rows
+  pub held_up : IsHeldUp kernel
+
+-- a whole kernel over what is held, of which the bounds don't cover a move as far as that to another box
+pub record CouldNotMove (h : Held) (costs : CostBox) : Type 0 where
+  pub kernel : Kernel
+  pub whole : IsKernel kernel
+  pub holds : held_of kernel.table h.stage ≡ h
+  pub far : MayMove kernel (box_distance h.costs costs) → ⊥
+
 -- the kernel may work on a table in fractions: at its width, and within its bounds
 pub record MayReturn (t : Table) : Type 0 where
   pub wide : 2 ^ 126 ≤ t.top
   pub covered : MayReadBack t
 
--- a kernel over a table's forms, of which the bounds don't cover the pivot that is due
-pub record WasHeldUp (table : Table) : Type 0 where
-  pub kernel : Kernel
-  pub whole : IsKernel kernel
-  pub keeps : KeepsBoxAndRows table kernel.table
-  pub held_up : IsHeldUp kernel
+-- a whole table in fractions of what is held, on which the kernel may not work
+pub record CannotReturn (h : Held) : Type 0 where
+  pub table : Table
+  pub whole : IsTableau table
+  pub holds : held_of table h.stage ≡ h
+  pub beyond : MayReturn table → ⊥
 
 -- What a tableau keeps: until it stops its table is whole; and at all times its basis is one, and there is room.
 pub record IsSoundActive (a : ActiveTable) (stage : Stage) : Type 0 where

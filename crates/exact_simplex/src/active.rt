@@ -147,7 +147,7 @@ impl ActiveTable {
         ensures active { OnOk result (IsActive self.new) }
         ensures shown { IfOk result (λ solved. IsShown self.new.kernel.table.basis.items (table_of self.new).lines.items (Ended solved)) }
         ensures keeps { KeepsBoxAndRows self.old.kernel.table self.new.kernel.table }
-        ensures left { self.old.in_kernel ≡ true → self.new.in_kernel ≡ false → WasHeldUp self.old.kernel.table }
+        ensures left { self.old.in_kernel ≡ true → self.new.in_kernel ≡ false → WasHeldUp (held_of self.old.kernel.table Open) }
         ensures room { HasRoom self.new.kernel.table }
         ensures wide { IfErr result (λ wide.
             IsStepTooWide self.new.kernel.table.top self.new.kernel.table.costs self.new.kernel.table.rows.items (wide_at wide self.new.kernel.table.basis.items)) }

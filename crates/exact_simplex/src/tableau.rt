@@ -1,5 +1,5 @@
 //! The tableau: a table, and how far the work on it is.
-ghost use Rattle.std.specs.Prelude.{◌≡◌, ℕ, suc, ◌^◌, ◌<◌, ◌≤◌, ◌↔◌, ◌++◌, [], ◌∷◌, length, All, IfErr, IfOk, IsTrue, OnErr, OnOk};
+ghost use Rattle.std.specs.Prelude.{◌≡◌, ℕ, suc, ◌^◌, ◌<◌, ◌≤◌, ◌↔◌, ◌++◌, [], ◌∷◌, length, true, false, All, IfErr, IfOk, IsTrue, OnErr, OnOk};
 ghost use Rattle.design_problem.specs.Basis.{IsBasis};
 ghost use Rattle.design_problem.specs.Boxes.{IsBox, Refutes};
 ghost use Rattle.design_problem.specs.Earnest.{IsLeastPoint};
@@ -8,6 +8,8 @@ ghost use Rattle.design_problem.specs.Forms.{AreMet};
 ghost use Rattle.fraction_table.specs.declared.stage.Solved.TheVariants.{Feasible, Refuted};
 ghost use Rattle.fraction_table.specs.declared.stage.Stage.TheVariants.{Ended, Stopped};
 ghost use Rattle.fraction_table.specs.Tableaus.{FitsBox, IsAmongForms, IsGoing, IsRebased, IsRowRefused, IsSolved, IsTableauStopped, IsTableauTold, starting, wide_at};
+ghost use Rattle.table_kernel.specs.Rows.{IsCovered};
+ghost use Rattle.exact_simplex.specs.Actives.{CannotReturn, CouldNotMove, WasHeldUp, held_by};
 
 use crate::active::ActiveTable;
 use area_graph::Point;
@@ -19,7 +21,7 @@ use std::marker::Model;
 use wide_fraction::{Top, Wide};
 
 /// A box with the forms of rows, at a basis. Contracts see the greatest size of a number, the box, the forms of the
-/// rows as they were added, the members of the basis, and how far the work on it is.
+/// rows as they were added, the members of the basis, how far the work on it is, and whether the kernel works.
 #[derive(Drop)]
 pub struct Tableau {
     table: ActiveTable,
@@ -27,14 +29,11 @@ pub struct Tableau {
 }
 
 impl Model for Tableau {
-    ghost use Rattle.fraction_table.specs.Tableaus.{Held};
+    ghost use Rattle.exact_simplex.specs.Actives.{IsSoundActive, TableauState, state_of};
 
-    ghost Value = { Held };
+    ghost Value = { TableauState };
 
-    ghost use Rattle.fraction_table.specs.ValidTables.{held_of};
-    ghost use Rattle.exact_simplex.specs.Actives.{IsSoundActive};
-
-    ghost view = { λ t. held_of t.table.kernel.table t.stage };
+    ghost view = { λ t. state_of t.table t.stage };
 
     ghost invariant = { λ t. IsSoundActive t.table t.stage };
 }
@@ -48,7 +47,9 @@ impl Tableau {
     pub fn start(alloc: Global, costs: &CostBox, top: Top) -> Result<Tableau, OutOfMemory>
         requires ranges { IsBox (length costs.now.low) costs.now }
         requires few { length costs.now.low < 2 ^ 32 }
-        ensures { IfOk result (λ tableau. tableau ≡ record { top = top; costs = costs.now; rows = []; basis = starting costs.now; stage = Stage.Open }) }
+        ensures held { IfOk result (λ tableau. held_by tableau ≡
+            record { top = top; costs = costs.now; rows = []; basis = starting costs.now; stage = Stage.Open }) }
+        ensures kernel { IfOk result (λ tableau. (tableau.in_kernel ≡ true) ↔ (2 ^ 126 ≤ top)) }
     {
         Ok(Tableau {
             table: ActiveTable::start(alloc, costs, top)?,
@@ -116,9 +117,12 @@ impl Tableau {
     pub fn add_row(&mut self, alloc: Global, form: &Form) -> Result<(), SimplexStop>
         requires fits { FitsBox self.old.costs form.now }
         ensures going { OnOk result (IsGoing self.old.stage) }
-        ensures added { OnOk result (self.new ≡
+        ensures added { OnOk result (held_by self.new ≡
             record { top = self.old.top; costs = self.old.costs; rows = self.old.rows ++ form.now ∷ []; basis = self.old.basis; stage = Stage.Open }) }
-        ensures refused { IfErr result (IsRowRefused self.old form.now self.new) }
+        ensures refused { IfErr result (IsRowRefused (held_by self.old) form.now (held_by self.new)) }
+        ensures same { result ≡ Err SimplexStop.OutOfMemory → self.new ≡ self.old }
+        ensures rests { (wide : Wide) → self.old.stage ≡ Stopped wide → self.new ≡ self.old }
+        ensures kernel { self.old.in_kernel ≡ true → IsCovered form.now → self.new.in_kernel ≡ true }
     {
         self.going()?;
         let row = self.table.make_room(alloc, form)?;
@@ -140,9 +144,11 @@ impl Tableau {
         ensures going { OnOk result (IsGoing self.old.stage) }
         ensures solved { IfOk result (λ solved. IsSolved self.old.costs self.old.rows solved) }
         ensures among { IfOk result (IsAmongForms self.old.costs self.old.rows) }
-        ensures left { IfOk result (λ solved. self.new ≡
+        ensures ended { IfOk result (λ solved. held_by self.new ≡
             record { top = self.old.top; costs = self.old.costs; rows = self.old.rows; basis = self.new.basis; stage = Ended solved }) }
-        ensures stop { IfErr result (λ wide. IsTableauStopped self.old self.old.rows self.new wide) }
+        ensures stop { IfErr result (λ wide. IsTableauStopped (held_by self.old) self.old.rows (held_by self.new) wide) }
+        ensures rests { (wide : Wide) → self.old.stage ≡ Stopped wide → self.new ≡ self.old }
+        ensures left { self.old.in_kernel ≡ true → self.new.in_kernel ≡ false → WasHeldUp (held_by self.old) }
     {
         self.going()?;
         let settled = self.table.settle();
@@ -182,7 +188,7 @@ impl Tableau {
         ensures refutes { OnOk result (Refutes self.now.rows into.new self.now.costs) }
         ensures few { OnOk result (length into.new ≤ suc (length self.now.costs.low)) }
         ensures kept { OnErr result (into.new ≡ into.old) }
-        ensures told { IfErr result (IsTableauTold self.now) }
+        ensures told { IfErr result (IsTableauTold (held_by self.now)) }
     {
         *into = self.table.multipliers(alloc, form as usize)?;
         Ok(())
@@ -200,7 +206,9 @@ impl Tableau {
         requires ranges { IsBox (length self.old.costs.low) costs.now }
         requires fits { All (FitsBox costs.now) self.old.rows }
         ensures going { OnOk result (IsGoing self.old.stage) }
-        ensures moved { OnOk result (IsRebased self.old costs.now self.new) }
+        ensures moved { OnOk result (IsRebased (held_by self.old) costs.now (held_by self.new)) }
+        ensures left { self.old.in_kernel ≡ true → self.new.in_kernel ≡ false → CouldNotMove (held_by self.old) costs.now }
+        ensures back { OnOk result (self.new.in_kernel ≡ false → CannotReturn (held_by self.new)) }
         ensures stopped { IfErr result (λ wide. (self.old.stage ≡ Stopped wide) × (self.new ≡ self.old)) }
     {
         self.going()?;

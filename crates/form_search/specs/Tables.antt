@@ -8,9 +8,10 @@ use Rattle.design_problem.specs.Boxes.{Refutes}
 use Rattle.design_problem.specs.Steps.{IsStepTooWide}
 use Rattle.design_problem.specs.Earnest.{IsLeastPoint}
 use Rattle.design_problem.specs.Text.{IsPrintedRatio}
-use Rattle.fraction_table.specs.Tableaus.{Held, IsGoing, wide_at}
+use Rattle.fraction_table.specs.Tableaus.{IsGoing, wide_at}
 use Rattle.fraction_table.specs.declared.stage.SimplexStop.{SimplexStop}
 use Rattle.fraction_table.specs.declared.stage.SimplexStop.TheVariants.{TooWide as StepTooWide, OutOfMemory}
+use Rattle.exact_simplex.specs.Actives.{TableauState}
 use Rattle.form_search.specs.declared.table.HeldTableau.{HeldTableau}
 use Rattle.form_search.specs.declared.table.Least.{Least}
 use Rattle.form_search.specs.declared.table.Least.TheVariants.{Point as AtPoint, Refuted, Wide}
@@ -59,9 +60,9 @@ IsLeastTold top box forms point (Refuted parts) = RefutesBy box forms parts
 IsLeastTold top box forms point (Wide wide) = IsPrintedWide top box forms wide
 
 -- the step that stopped the work is too wide at the tableau's basis, with the forms that it holds
-abbrev pub IsStepTold : CostBox → List Form → Held → SimplexStop → Type 0
-IsStepTold box forms held (StepTooWide wide) = IsStepTooWide held.top box held.rows (wide_at wide held.basis)
-IsStepTold box forms held OutOfMemory = Unit {0}
+abbrev pub IsStepTold : CostBox → List Form → TableauState → SimplexStop → Type 0
+IsStepTold box forms tableau (StepTooWide wide) = IsStepTooWide tableau.top box tableau.rows (wide_at wide tableau.basis)
+IsStepTold box forms tableau OutOfMemory = Unit {0}
 
 -- what the relaxation of a box comes to: its least accepted point, multipliers that refute it, or a step that is too wide
 abbrev pub IsRelaxation : (Point → Type 0) → ℕ → CostBox → List Form → Point → Relaxed → Type 0

@@ -5,7 +5,7 @@ use Rattle.form_search.proofs.table.started.Goals as goal
 
 pub returns : goal.returns
 returns c forms =
-    let is = c.in_ok-start.ensures in
+    let is = c.in_ok-start.ensures.held in
     record {
       is_held = record {
         same_top = ap (λ (held : Held). held.top) is;
