@@ -6,19 +6,30 @@ use Rattle.whole_numbers.specs.Fractions.{Fraction}
 use Rattle.design_problem.specs.declared.form.Form.{Form}
 use Rattle.design_problem.specs.declared.form.CostBox.{CostBox}
 use Rattle.fraction_table.specs.declared.stage.Stage.TheVariants.{Open}
+use Rattle.fraction_table.specs.RowLines.{HoldsSame}
 use Rattle.fraction_table.specs.Tableaus.{Held, starting}
 use Rattle.fraction_table.specs.ValidTables.{IsSound, IsTableau, held_of}
 use Rattle.fraction_table.proofs.Pivots.{line_long, lines_long, members_long}
+use Rattle.integer_pivots.specs.Numbers.{AllWithin}
 use Rattle.integer_pivots.proofs.Sizes.{wider}
 use Rattle.table_kernel.specs.declared.kernel.Kernel.{Kernel}
 use Rattle.table_kernel.specs.Kernels.{IsKernel, IsShaped, width_of}
 use Rattle.table_kernel.specs.ReadBack.{IsParked}
+use Rattle.table_kernel.specs.Rows.{HoldsNumbers}
 use Rattle.table_kernel.proofs.MoreRows.{AreLinesWide, IsGrown, constants_counted, grown_shaped, grown_small}
+use Rattle.table_kernel.proofs.SameKernels.{same_shaped}
 use Rattle.table_kernel.proofs.StartKernels.{IsStarting, starting_shaped}
 
 -- a kernel may be left for its table in fractions
 pub kernel_parked : (k : Kernel) → IsKernel k → IsParked k
 kernel_parked k m = record { shaped = m.shaped; constants = m.bounded.constants }
+
+-- and so may one with other room
+pub parked_same : (old new : Kernel) → HoldsSame old.table new.table → HoldsNumbers old new → IsParked old → IsParked new
+parked_same old new t h p = record {
+  shaped = same_shaped old new t h p.shaped;
+  constants = subst (AllWithin (2 ^ 62)) (sym h.constants) p.constants;
+}
 
 -- so may one at the starting basis, whatever the top
 pub started_parked : (k : Kernel) (costs : CostBox) (top : ℕ) →

@@ -26,7 +26,7 @@ use Rattle.table_kernel.specs.Numbers.{scaled_line, share_of}
 use Rattle.table_kernel.specs.Rows.{HoldsNumbers}
 use Rattle.table_kernel.proofs.AtBasis.{basis_kernel, kernel_basis, stated_lines}
 
-same_shaped : (old new : Kernel) → HoldsSame old.table new.table → HoldsNumbers old new → IsShaped old → IsShaped new
+pub same_shaped : (old new : Kernel) → HoldsSame old.table new.table → HoldsNumbers old new → IsShaped old → IsShaped new
 same_shaped old new t h s =
     let width : width_of new ≡ width_of old = ap (λ (costs : CostBox). length costs.low) t.costs in
     let constants = ap length h.constants in

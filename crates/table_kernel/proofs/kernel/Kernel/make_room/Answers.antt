@@ -1,4 +1,4 @@
--- The kernel with more room is one.
+-- The kernel with more room is one, and may be left as before.
 use Rattle.std.specs.declared.alloc.Global.{Global}
 use Rattle.std.proofs.Common.{Vec, ◌≡◌, refl, arith}
 use Rattle.std.specs.Prelude.{ℤ}
@@ -9,6 +9,7 @@ use Rattle.integer_pivots.specs.Uses.{held_in}
 use Rattle.integer_pivots.proofs.UseLaws.{uses_lent}
 use Rattle.table_kernel.specs.declared.kernel.Kernel.{Kernel}
 use Rattle.table_kernel.specs.Rows.{HoldsNumbers}
+use Rattle.table_kernel.proofs.ParkedKernels.{parked_same}
 use Rattle.table_kernel.proofs.SameKernels.{kernel_same, same_table}
 use Rattle.table_kernel.proofs.kernel.Kernel.make_room.Goals.{After-reserve_uses}
 use Rattle.table_kernel.proofs.kernel.Kernel.make_room.Goals as goal
@@ -50,3 +51,20 @@ returns-clause-kernel c =
     let k = c.args.self.now in
     kernel_same k _ c.make_room.ensures.same
     (held k _ _ _ c.reserve.ensures.items (uses_held (goal.at.returns-clause-kernel c).After-reserve_uses))
+
+pub returns-then-is_err-clause-parked : goal.returns-then-is_err-clause-parked
+returns-then-is_err-clause-parked c =
+    let k = c.args.self.now in
+    parked_same k _ (same_table k.table) (held k _ _ _ c.reserve.ensures.items refl)
+
+pub returns-in_err-reserve_uses-clause-parked : goal.returns-in_err-reserve_uses-clause-parked
+returns-in_err-reserve_uses-clause-parked c =
+    let k = c.args.self.now in
+    parked_same k _ (same_table k.table)
+    (held k _ _ _ c.reserve.ensures.items (uses_held (goal.at.returns-in_err-reserve_uses-clause-parked c).After-reserve_uses))
+
+pub returns-clause-parked : goal.returns-clause-parked
+returns-clause-parked c =
+    let k = c.args.self.now in
+    parked_same k _ c.make_room.ensures.same
+    (held k _ _ _ c.reserve.ensures.items (uses_held (goal.at.returns-clause-parked c).After-reserve_uses))
