@@ -1,6 +1,6 @@
 -- Kernels whose table goes on in fractions.
 use Rattle.std.proofs.Common.{◌≡◌, ℕ, suc, ◌^◌, sym, ◌∙◌, ap, subst, List, [], length, arith}
-use Rattle.std.specs.Prelude.{pos, slice_index_or, All}
+use Rattle.std.specs.Prelude.{pos}
 use Rattle.std.proofs.lemmas.List.{get_or_default}
 use Rattle.whole_numbers.specs.Fractions.{Fraction}
 use Rattle.design_problem.specs.declared.form.Form.{Form}

@@ -1,7 +1,7 @@
 -- A kernel whose lines are read from the table in fractions, line by line.
 use borrow.Author.Count.{below_more}
 use Rattle.std.specs.declared.alloc.Global.{Global}
-use Rattle.std.proofs.Common.{Vec, ◌≡◌, ℕ, suc, ◌+◌, ◌<◌, refl, sym, ◌∙◌, ap, subst, List, [], length, arith}
+use Rattle.std.proofs.Common.{Vec, ◌≡◌, ℕ, suc, ◌+◌, ◌<◌, sym, ◌∙◌, ap, subst, List, [], length, arith}
 use Rattle.std.specs.Prelude.{◌≢◌, slice_index_or, slice_set, All}
 use Rattle.std.proofs.lemmas.List.{get_or-set_other, get_or-set_same, get_or_default, length-set}
 use Rattle.std.proofs.lemmas.List.Elements.{All-set}

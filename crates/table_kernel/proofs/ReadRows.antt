@@ -1,24 +1,28 @@
--- Rows of fractions over a denominator, and lines that are read from them.
+-- Fractions over a multiple of their denominators, as code computes them.
 use Prim.Native.Nat.{◌∣◌}
-use Rattle.std.proofs.Common.{◌≡◌, ℕ, ◌*◌, ◌/◌, ◌^◌, ◌<◌, ◌≤◌, refl, sym, ◌∙◌, ap, subst, arith, FitsSigned, true}
+use Rattle.std.proofs.Common.{◌≡◌, ℕ, ◌/◌, ◌^◌, ◌<◌, ◌≤◌, sym, ◌∙◌, ap, subst, arith, FitsSigned, true}
 use Rattle.std.specs.Int.{w128}
-use Rattle.std.specs.Prelude.{ℤ, pos, negsuc, ◌*ℤ◌, ◌<ℤ◌, ◌≤ℤ◌, nat_abs}
-use Rattle.std.specs.Int.Signed.{lt_z, mag, quot_z}
-use Rattle.std.proofs.lemmas.Int.{fits_signed_from_abs, ints, to_z-of_z}
+use Rattle.std.specs.Prelude.{ℤ, pos, ◌*ℤ◌, ◌<ℤ◌, ◌≤ℤ◌, nat_abs}
+use Rattle.std.specs.Int.Signed.{lt_z, quot_z}
+use Rattle.std.proofs.lemmas.Int.{fits_signed_from_abs, ints}
 use Rattle.std.proofs.lemmas.Nat.Gcd.{le_of_dvd}
 use Rattle.std.proofs.Math.Nat.{div-le_self, mul-le-mul_left}
 use mathlib.Core.Path.{ap₂}
-use Rattle.whole_numbers.specs.Fractions.{Fraction, IsLowest, lcm}
+use Rattle.whole_numbers.specs.Fractions.{Fraction, lcm}
 use Rattle.whole_numbers.proofs.Divisors.{quotient_positive}
 use Rattle.whole_numbers.proofs.Multiples.{lcm_positive, right_divides_lcm}
 use Rattle.whole_numbers.proofs.Sizes.{positive_is, product_size, size_positive}
 use Rattle.wide_fraction.specs.Widths.{IsFractionIn127Bits}
-use Rattle.integer_pivots.proofs.Sizes.{product_small, read, read_number, size_most}
-use Rattle.table_kernel.specs.ReadBack.{AllGoInto, over_denominator}
+use Rattle.integer_pivots.proofs.Sizes.{product_small, read, read_number, size_most, size_of}
+use Rattle.table_kernel.specs.ReadBack.{over_denominator}
 use Rattle.table_kernel.proofs.WideNumbers.{read_of, read_wide}
 
--- a denominator, as 128 bits hold it
-pub denominator_read : (q : Fraction) (denominator : ℤ) → IsFractionIn127Bits q → denominator ≡ pos q.denominator → read_of denominator ≡ pos q.denominator
+-- a fraction's numbers, as 128 bits hold them
+pub numerator_read : (q : Fraction) (top : ℤ) → IsFractionIn127Bits q → top ≡ q.numerator → read_of top ≡ q.numerator
+numerator_read q top is same = ap read_of same ∙ read_wide q.numerator is.numerator
+
+denominator_read : (q : Fraction) (denominator : ℤ) → IsFractionIn127Bits q → denominator ≡ pos q.denominator →
+    read_of denominator ≡ pos q.denominator
 denominator_read q denominator is same = ap read_of same ∙ read_wide (pos q.denominator) is.denominator
 
 -- the least common multiple with a large denominator is large
@@ -30,6 +34,12 @@ large_multiple common denominator q high is same larger =
     let some = lcm_positive (nat_abs common) q.denominator (size_positive common high) is.lowest.positive in
     let most = le_of_dvd some (right_divides_lcm (nat_abs common) q.denominator) in
     omega (arith, large, most)
+
+-- a limit of at most 2^44 is small, and read as it is
+pub limit_is : (limit : ℤ) → (pos 0 ≤ℤ limit) × (limit ≤ℤ pos (2 ^ 44)) → (nat_abs limit ≤ 2 ^ 44) × (nat_abs (read limit) ≡ nat_abs limit)
+limit_is limit within =
+    let small : nat_abs limit ≤ 2 ^ 44 = size_of limit (2 ^ 44) within in
+    (small, ap nat_abs (read_number limit (omega (arith, small))))
 
 -- how often a denominator goes into a positive multiple of it
 share_some : (D : ℕ) (q : Fraction) → 0 < D → q.denominator ∣ D → 0 < D / q.denominator
@@ -66,9 +76,6 @@ module _ (q : Fraction) (denominator top wide below : ℤ) (m : IsNumberMade q d
   share_small : D / q.denominator ≤ 2 ^ 30
   share_small = omega (arith, D_small, div-le_self D q.denominator)
 
-  numerator_read : read_of top ≡ q.numerator
-  numerator_read = ap read_of m.top_is ∙ read_wide q.numerator m.fraction.numerator
-
   wide_read : read_of wide ≡ pos D
   wide_read =
       ap read_of (m.wide_is ∙ read_number denominator (omega (arith, D_small)) ∙ positive_is denominator m.positive)
@@ -79,8 +86,8 @@ module _ (q : Fraction) (denominator top wide below : ℤ) (m : IsNumberMade q d
       ap read_of (ap₂ quot_z wide_read (denominator_read q below m.fraction m.below_is))
       ∙ read_wide (pos (D / q.denominator)) (omega (arith, share_small))
 
-  pub product_is : product_made top wide below ≡ over_denominator D q
-  product_is = ap₂ (λ (y z : ℤ). y *ℤ z) numerator_read share_read
+  product_is : product_made top wide below ≡ over_denominator D q
+  product_is = ap₂ (λ (y z : ℤ). y *ℤ z) (numerator_read q top m.fraction m.top_is) share_read
 
   product_within : nat_abs q.numerator ≤ 2 ^ 44 → nat_abs (over_denominator D q) < 2 ^ 127
   product_within few =

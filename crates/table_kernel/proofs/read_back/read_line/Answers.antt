@@ -1,7 +1,7 @@
 -- The line of a row over its least common denominator, where it is within the bounds.
 use Prim.Native.Nat.{◌∣◌}
-use Rattle.std.proofs.Common.{◌<◌, suc, sym, ap, subst, length, arith, w64}
-use Rattle.std.specs.Prelude.{ℤ, nat_abs}
+use Rattle.std.proofs.Common.{sym, subst, length, arith}
+use Rattle.std.specs.Prelude.{nat_abs}
 use Rattle.whole_numbers.specs.Fractions.{Fraction}
 use Rattle.integer_pivots.proofs.Sizes.{read}
 use Rattle.table_kernel.specs.ReadBack.{IsLeastDenominator}

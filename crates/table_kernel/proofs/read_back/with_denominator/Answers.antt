@@ -1,6 +1,6 @@
 -- A denominator above 2^30.
-use Rattle.std.proofs.Common.{◌≡◌, ◌^◌, subst, true}
-use Rattle.std.specs.Prelude.{ℤ, pos}
+use Rattle.std.proofs.Common.{◌≡◌, subst, true}
+use Rattle.std.specs.Prelude.{ℤ}
 use Rattle.std.specs.Int.Signed.{lt_z}
 use Rattle.table_kernel.proofs.WideNumbers.{read_of}
 use Rattle.table_kernel.proofs.ReadRows.{large_multiple}
