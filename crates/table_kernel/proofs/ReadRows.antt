@@ -41,14 +41,10 @@ limit_is limit within =
     let small : nat_abs limit ≤ 2 ^ 44 = size_of limit (2 ^ 44) within in
     (small, ap nat_abs (read_number limit (omega (arith, small))))
 
--- how often a denominator goes into a positive multiple of it
-share_some : (D : ℕ) (q : Fraction) → 0 < D → q.denominator ∣ D → 0 < D / q.denominator
-share_some D q some divides = quotient_positive D q.denominator some divides
-
 -- over a multiple of its denominator a fraction's number isn't smaller than its numerator
 pub numerator_smaller : (D : ℕ) (q : Fraction) → 0 < D → q.denominator ∣ D → nat_abs q.numerator ≤ nat_abs (over_denominator D q)
 numerator_smaller D q some divides =
-    let share = share_some D q some divides in
+    let share = quotient_positive D q.denominator some divides in
     let size = product_size q.numerator (D / q.denominator) in
     omega (arith, size, mul-le-mul_left (nat_abs q.numerator) share)
 
@@ -56,7 +52,6 @@ numerator_smaller D q some divides =
 pub record IsNumberMade (q : Fraction) (denominator top wide below : ℤ) : Type 0 where
   pub positive : pos 0 <ℤ denominator
   pub small : denominator ≤ℤ pos (2 ^ 30)
-  pub whole : q.denominator ∣ nat_abs denominator
   pub fraction : IsFractionIn127Bits q
   pub top_is : top ≡ q.numerator
   pub wide_is : wide ≡ read denominator

@@ -71,7 +71,11 @@ fn number_over(value: Frac, denominator: i64, limit: i64) -> Option<i64>
 /// # Errors
 ///
 /// `OutOfRange` where one of them passes 2^30 in size.
-fn read_numbers(numbers: &mut Listed<i64>, row: &TableRow, denominator: i64) -> Result<(), OutOfRange>
+fn read_numbers(
+    numbers: &mut Listed<i64>,
+    row: &TableRow,
+    denominator: i64,
+) -> Result<(), OutOfRange>
     requires row { length row.now ≡ suc (length numbers.old) }
     requires few { length numbers.old < 2 ^ 32 }
     requires denominator { (pos 0 <ℤ denominator) × (denominator ≤ℤ pos (2 ^ 30)) }

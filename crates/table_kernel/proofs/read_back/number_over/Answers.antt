@@ -12,7 +12,6 @@ made : (c : After-denominator) → IsNumberMade c.args.value c.args.denominator 
 made c = record {
   positive = c.requires.denominator.0;
   small = c.requires.denominator.1;
-  whole = c.requires.whole;
   fraction = c.denominator.ensures.kept;
   top_is = c.numerator-numerator.ensures.value;
   wide_is = c.from.ensures;
