@@ -1,103 +1,70 @@
--- A kernel whose lines were read back from the table in fractions.
+-- A kernel whose lines are read from the table in fractions, line by line.
+use borrow.Author.Count.{below_more}
 use Rattle.std.specs.declared.alloc.Global.{Global}
-use Rattle.std.proofs.Common.{Vec, ◌≡◌, ℕ, ◌^◌, ◌≤◌, sym, subst, List, length}
-use Rattle.std.specs.Prelude.{ℤ, nat_abs, All}
-use Rattle.std.specs.Vec.{with_items}
-use Rattle.whole_numbers.proofs.Sizes.{size_positive}
-use Rattle.design_problem.specs.Boxes.{IsBox}
+use Rattle.std.proofs.Common.{Vec, ◌≡◌, ℕ, suc, ◌+◌, ◌<◌, sym, ◌∙◌, ap, subst, List, [], length, arith}
+use Rattle.std.specs.Prelude.{◌≢◌, slice_index_or, slice_set, All}
+use Rattle.std.proofs.lemmas.List.{get_or-set_other, get_or-set_same, get_or_default, length-set}
+use Rattle.std.proofs.lemmas.List.Elements.{All-set}
+use Rattle.whole_numbers.specs.Fractions.{Fraction}
 use Rattle.fraction_table.specs.declared.table.Table.{Table}
-use Rattle.fraction_table.specs.Tableaus.{FitsBox}
-use Rattle.fraction_table.specs.ValidTables.{IsTableau}
+use Rattle.fraction_table.proofs.Pivots.{members_long}
 use Rattle.integer_pivots.specs.declared.line.Line.{Line}
-use Rattle.integer_pivots.specs.Leads.{AreLeads}
-use Rattle.integer_pivots.specs.Lines.{IsLine, rows_of}
-use Rattle.integer_pivots.specs.Numbers.{AllWithin}
-use Rattle.integer_pivots.proofs.Sizes.{read}
+use Rattle.integer_pivots.specs.Lines.{IsLine, no_line}
 use Rattle.table_kernel.specs.declared.kernel.Kernel.{Kernel}
-use Rattle.table_kernel.specs.Bases.{AreAtBasis}
-use Rattle.table_kernel.specs.Constants.{AreConstantsPut, KeepsAllButConstants}
-use Rattle.table_kernel.specs.Kernels.{IsBounded, IsKernel, IsMoving, IsShaped, lows_of, width_of}
-use Rattle.table_kernel.specs.ReadBack.{IsLeastCommon, IsParked}
-use Rattle.table_kernel.specs.Rows.{IsCovered}
-use Rattle.table_kernel.specs.Turns.{KeepsAllButLows}
-use Rattle.table_kernel.proofs.FittingConstants.{FitsIn}
-use Rattle.table_kernel.proofs.Lines.{read_common}
-use Rattle.table_kernel.proofs.OtherLines.{bounded_with, leads_are, shaped_with, with_leads}
-use Rattle.table_kernel.proofs.PutKernels.{put_kernel}
-use Rattle.table_kernel.proofs.ReadBases.{AreReadFrom, read_basis}
+use Rattle.table_kernel.specs.Kernels.{IsShaped, width_of}
+use Rattle.table_kernel.specs.ReadBack.{IsReadFrom, low_row}
+use Rattle.table_kernel.specs.Turns.{KeepsAllButLows, line_of}
 
--- other lines of a kernel, as many and as long as before, with their leads
-pub record HasLines (k h : Kernel) (leads : Vec ℕ Global) : Type 0 where
-  pub keeps : KeepsAllButLows k h
-  pub count : length h.lows.items ≡ width_of k
-  pub each : All (λ (line : Line). length line.numbers ≡ width_of k) h.lows.items
-  pub leads_count : length leads.items ≡ length k.leads.items
-  pub lead : AreLeads (rows_of h.lows.items) leads.items
+-- the table in fractions has a line for each variable's x - low, with the constant before the columns
+pub low_row_in : (k : Kernel) (v : ℕ) → IsShaped k → v < width_of k → v < length k.table.lines.items
+low_row_in k v s v_in = omega (arith, s.lines, s.constants, members_long k.table.costs (length k.table.rows.items), v_in)
 
--- the leads were put by the lines
-pub has_lines : (k h : Kernel) (befores afters : List ℕ) (lows : List Line) → KeepsAllButLows k h → length h.lows.items ≡ width_of k →
-    All (λ (line : Line). length line.numbers ≡ width_of k) h.lows.items → befores ≡ h.leads.items → lows ≡ h.lows.items →
-    length afters ≡ length befores → AreLeads (rows_of lows) afters → HasLines k h (with_items h.leads afters)
-has_lines k h befores afters lows o count each befores_are lows_are counted lead =
-    let put = leads_are k h befores afters o befores_are counted in
+pub low_row_long : (k : Kernel) (v : ℕ) → IsShaped k → v < width_of k → length (low_row k.table v) ≡ suc (width_of k)
+low_row_long k v s v_in = s.wide v [] (low_row_in k v s v_in)
+
+-- the lines before a bound are read
+pub record AreReadBefore (old new : Kernel) (bound : ℕ) : Type 0 where
+  pub keeps : KeepsAllButLows old new
+  pub count : length new.lows.items ≡ width_of old
+  pub each : All (λ (line : Line). length line.numbers ≡ width_of old) new.lows.items
+  pub lines : (v : ℕ) → v < bound → IsLine (line_of new v)
+  pub read : (v : ℕ) → v < bound → IsReadFrom (low_row old.table v) (line_of new v)
+
+-- the row that is read next
+pub row_at : (old mid : Kernel) (v : ℕ) (row : List Fraction) → IsShaped old → KeepsAllButLows old mid → v < width_of old →
+    row ≡ slice_index_or mid.table.lines.items v row → row ≡ low_row old.table v
+row_at old mid v row s keeps v_in is =
+    is ∙ ap (λ (t : Table). slice_index_or t.lines.items v row) keeps.table
+    ∙ get_or_default old.table.lines.items v row [] (low_row_in old v s v_in)
+
+-- one line more, which is put in its place
+pub one_more_read : (old mid : Kernel) (lows : Vec Line Global) (v : ℕ) (row : List Fraction) (new : Line) → IsShaped old → v < width_of old →
+    AreReadBefore old mid v → row ≡ slice_index_or mid.table.lines.items v row → length new.numbers ≡ width_of old → IsLine new → IsReadFrom row new →
+    lows.items ≡ slice_set mid.lows.items v new → AreReadBefore old (record mid { lows = lows }) (v + 1)
+one_more_read old mid lows v row new s v_in b row_is long small read put =
+    let there : v < length mid.lows.items = omega (arith, b.count, v_in) in
+    let own : slice_index_or lows.items v no_line ≡ new = ap (λ (ls : List Line). slice_index_or ls v no_line) put ∙ get_or-set_same mid.lows.items v new no_line there in
     record {
-      keeps = o;
-      count = count;
-      each = each;
-      leads_count = put.1;
-      lead = subst (AreLeads (rows_of h.lows.items)) (sym put.0) (subst (λ (ls : List Line). AreLeads (rows_of ls) afters) lows_are lead);
+      keeps = record {
+        table = b.keeps.table;
+        common = b.keeps.common;
+        leads = b.keeps.leads;
+        constants = b.keeps.constants;
+        uses = b.keeps.uses;
+        turns = b.keeps.turns;
+        left = b.keeps.left;
+        entering = b.keeps.entering;
+      };
+      count = ap length put ∙ length-set mid.lows.items v new ∙ b.count;
+      each = subst (All (λ (line : Line). length line.numbers ≡ width_of old)) (sym put)
+          (All-set (λ (line : Line). length line.numbers ≡ width_of old) mid.lows.items v new long b.each);
+      lines = below_more (λ u. IsLine (slice_index_or lows.items u no_line)) v
+          (λ u before. subst IsLine (sym (others u (omega (arith, before)))) (b.lines u before)) (subst IsLine (sym own) small);
+      read = below_more (λ u. IsReadFrom (low_row old.table u) (slice_index_or lows.items u no_line)) v
+          (λ u before. subst (IsReadFrom (low_row old.table u)) (sym (others u (omega (arith, before)))) (b.read u before))
+          (subst (IsReadFrom (low_row old.table v)) (sym own)
+          (subst (λ (r : List Fraction). IsReadFrom r new) (row_at old mid v row s b.keeps v_in row_is) read));
     }
-
--- the lines are small, and so are their constants over their least common denominator
-pub record AreFitting (h : Kernel) (common : ℤ) : Type 0 where
-  pub lines : All IsLine h.lows.items
-  pub least : IsLeastCommon h.lows.items common
-  pub fit : All (FitsIn (nat_abs common)) h.lows.items
-
--- that denominator is read as it is
-pub least_read : (lines : List Line) (common : ℤ) → IsLeastCommon lines common → IsLeastCommon lines (read common)
-least_read lines common least = subst (IsLeastCommon lines) (sym (read_common common (least.positive, least.small))) least
-
-pub fitting : (h : Kernel) (common : ℤ) → All IsLine h.lows.items → IsLeastCommon h.lows.items common →
-    All (FitsIn (nat_abs (read common))) h.lows.items → AreFitting h (read common)
-fitting h common lines least fit = record {
-  lines = lines;
-  least = least_read h.lows.items common least;
-  fit = fit;
-}
-
-module _ (k h : Kernel) (leads : Vec ℕ Global) (z : ℤ) (p : IsParked k) (r : HasLines k h leads) where
-  pub shaped_back : IsShaped (with_leads h leads z)
-  shaped_back = shaped_with k h leads z r.keeps p.shaped r.count r.each r.leads_count r.lead
-
-  -- the kernel stays parked
-  pub parked_back : IsParked (with_leads h leads z)
-  parked_back = record {
-    shaped = shaped_back;
-    constants = subst (λ (cs : Vec ℤ Global). AllWithin (2 ^ 62) cs.items) (sym r.keeps.constants) p.constants;
-  }
-
-  -- its numbers are within the bounds
-  pub bounded_back : 2 ^ 126 ≤ k.table.top → All IsCovered k.table.rows.items → AreFitting h z → IsBounded (with_leads h leads z)
-  bounded_back top rows f =
-      bounded_with k h leads z r.keeps top p.constants rows f.least.positive f.least.small f.lines f.least.multiple f.fit
-
-  -- its lines are at the table's basis
-  basis_back : IsTableau k.table → AreReadFrom k.table h.lows.items → AreFitting h z →
-      AreAtBasis h.table.costs h.table.rows.items h.table.basis.items (nat_abs z) (lows_of (with_leads h leads z))
-  basis_back w told f =
-      subst (λ (t : Table). AreAtBasis t.costs t.rows.items t.basis.items (nat_abs z) (lows_of (with_leads h leads z))) (sym r.keeps.table)
-      (read_basis k.table w h.lows.items (nat_abs z) r.count r.each told f.least.multiple (size_positive z f.least.positive))
-
-  moving_back : 2 ^ 126 ≤ k.table.top → All IsCovered k.table.rows.items → IsTableau k.table → AreReadFrom k.table h.lows.items →
-      AreFitting h z → IsMoving (with_leads h leads z)
-  moving_back top rows w told f = record { shaped = shaped_back; bounded = bounded_back top rows f; basis = basis_back w told f }
-
-  -- with the constants put it is a kernel
-  pub kernel_back : (n : Kernel) → 2 ^ 126 ≤ k.table.top → All IsCovered k.table.rows.items → IsTableau k.table →
-      AreReadFrom k.table h.lows.items → AreFitting h z → AreConstantsPut (with_leads h leads z) n.constants.items →
-      AllWithin (2 ^ 62) n.constants.items → KeepsAllButConstants (with_leads h leads z) n → IsKernel n
-  kernel_back n top rows w told f put small keeps =
-      put_kernel (with_leads h leads z) n (moving_back top rows w told f)
-      (subst (λ (t : Table). IsBox (length t.costs.low) t.costs) (sym r.keeps.table) w.box)
-      (subst (λ (t : Table). All (FitsBox t.costs) t.rows.items) (sym r.keeps.table) w.fit) put small keeps
+  where
+    others : (u : ℕ) → u ≢ v → slice_index_or lows.items u no_line ≡ line_of mid u
+    others u other = ap (λ (ls : List Line). slice_index_or ls u no_line) put ∙ get_or-set_other mid.lows.items v u new no_line other

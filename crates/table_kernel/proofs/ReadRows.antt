@@ -1,6 +1,6 @@
--- Rows of fractions over a denominator, and lines that are read from them.
+-- Fractions over a multiple of their denominators, as code computes them.
 use Prim.Native.Nat.{◌∣◌}
-use Rattle.std.proofs.Common.{◌≡◌, ℕ, ◌*◌, ◌/◌, ◌^◌, ◌<◌, ◌≤◌, sym, ◌∙◌, ap, subst, arith, FitsSigned, true}
+use Rattle.std.proofs.Common.{◌≡◌, ℕ, ◌/◌, ◌^◌, ◌<◌, ◌≤◌, sym, ◌∙◌, ap, subst, arith, FitsSigned, true}
 use Rattle.std.specs.Int.{w128}
 use Rattle.std.specs.Prelude.{ℤ, pos, ◌*ℤ◌, ◌<ℤ◌, ◌≤ℤ◌, nat_abs}
 use Rattle.std.specs.Int.Signed.{lt_z, quot_z}
@@ -13,12 +13,16 @@ use Rattle.whole_numbers.proofs.Divisors.{quotient_positive}
 use Rattle.whole_numbers.proofs.Multiples.{lcm_positive, right_divides_lcm}
 use Rattle.whole_numbers.proofs.Sizes.{positive_is, product_size, size_positive}
 use Rattle.wide_fraction.specs.Widths.{IsFractionIn127Bits}
-use Rattle.integer_pivots.proofs.Sizes.{product_small, read, read_number, size_most}
+use Rattle.integer_pivots.proofs.Sizes.{product_small, read, read_number, size_most, size_of}
 use Rattle.table_kernel.specs.ReadBack.{over_denominator}
 use Rattle.table_kernel.proofs.WideNumbers.{read_of, read_wide}
 
--- a denominator, as 128 bits hold it
-pub denominator_read : (q : Fraction) (denominator : ℤ) → IsFractionIn127Bits q → denominator ≡ pos q.denominator → read_of denominator ≡ pos q.denominator
+-- a fraction's numbers, as 128 bits hold them
+pub numerator_read : (q : Fraction) (top : ℤ) → IsFractionIn127Bits q → top ≡ q.numerator → read_of top ≡ q.numerator
+numerator_read q top is same = ap read_of same ∙ read_wide q.numerator is.numerator
+
+denominator_read : (q : Fraction) (denominator : ℤ) → IsFractionIn127Bits q → denominator ≡ pos q.denominator →
+    read_of denominator ≡ pos q.denominator
 denominator_read q denominator is same = ap read_of same ∙ read_wide (pos q.denominator) is.denominator
 
 -- the least common multiple with a large denominator is large
@@ -31,14 +35,16 @@ large_multiple common denominator q high is same larger =
     let most = le_of_dvd some (right_divides_lcm (nat_abs common) q.denominator) in
     omega (arith, large, most)
 
--- how often a denominator goes into a positive multiple of it
-share_some : (D : ℕ) (q : Fraction) → 0 < D → q.denominator ∣ D → 0 < D / q.denominator
-share_some D q some divides = quotient_positive D q.denominator some divides
+-- a limit of at most 2^44 is small, and read as it is
+pub limit_is : (limit : ℤ) → (pos 0 ≤ℤ limit) × (limit ≤ℤ pos (2 ^ 44)) → (nat_abs limit ≤ 2 ^ 44) × (nat_abs (read limit) ≡ nat_abs limit)
+limit_is limit within =
+    let small : nat_abs limit ≤ 2 ^ 44 = size_of limit (2 ^ 44) within in
+    (small, ap nat_abs (read_number limit (omega (arith, small))))
 
 -- over a multiple of its denominator a fraction's number isn't smaller than its numerator
 pub numerator_smaller : (D : ℕ) (q : Fraction) → 0 < D → q.denominator ∣ D → nat_abs q.numerator ≤ nat_abs (over_denominator D q)
 numerator_smaller D q some divides =
-    let share = share_some D q some divides in
+    let share = quotient_positive D q.denominator some divides in
     let size = product_size q.numerator (D / q.denominator) in
     omega (arith, size, mul-le-mul_left (nat_abs q.numerator) share)
 
@@ -46,7 +52,6 @@ numerator_smaller D q some divides =
 pub record IsNumberMade (q : Fraction) (denominator top wide below : ℤ) : Type 0 where
   pub positive : pos 0 <ℤ denominator
   pub small : denominator ≤ℤ pos (2 ^ 30)
-  pub whole : q.denominator ∣ nat_abs denominator
   pub fraction : IsFractionIn127Bits q
   pub top_is : top ≡ q.numerator
   pub wide_is : wide ≡ read denominator
@@ -66,9 +71,6 @@ module _ (q : Fraction) (denominator top wide below : ℤ) (m : IsNumberMade q d
   share_small : D / q.denominator ≤ 2 ^ 30
   share_small = omega (arith, D_small, div-le_self D q.denominator)
 
-  numerator_read : read_of top ≡ q.numerator
-  numerator_read = ap read_of m.top_is ∙ read_wide q.numerator m.fraction.numerator
-
   wide_read : read_of wide ≡ pos D
   wide_read =
       ap read_of (m.wide_is ∙ read_number denominator (omega (arith, D_small)) ∙ positive_is denominator m.positive)
@@ -79,8 +81,8 @@ module _ (q : Fraction) (denominator top wide below : ℤ) (m : IsNumberMade q d
       ap read_of (ap₂ quot_z wide_read (denominator_read q below m.fraction m.below_is))
       ∙ read_wide (pos (D / q.denominator)) (omega (arith, share_small))
 
-  pub product_is : product_made top wide below ≡ over_denominator D q
-  product_is = ap₂ (λ (y z : ℤ). y *ℤ z) numerator_read share_read
+  product_is : product_made top wide below ≡ over_denominator D q
+  product_is = ap₂ (λ (y z : ℤ). y *ℤ z) (numerator_read q top m.fraction m.top_is) share_read
 
   product_within : nat_abs q.numerator ≤ 2 ^ 44 → nat_abs (over_denominator D q) < 2 ^ 127
   product_within few =
