@@ -22,7 +22,7 @@ use Rattle.table_kernel.specs.Rows.{IsCovered}
 use Rattle.table_kernel.specs.Turns.{KeepsAllButLows}
 use Rattle.table_kernel.proofs.FittingConstants.{FitsIn}
 use Rattle.table_kernel.proofs.Lines.{read_common}
-use Rattle.table_kernel.proofs.OtherLines.{bounded_with, but_lows, leads_are, shaped_with, with_leads}
+use Rattle.table_kernel.proofs.OtherLines.{bounded_with, leads_are, shaped_with, with_leads}
 use Rattle.table_kernel.proofs.PutKernels.{put_kernel}
 use Rattle.table_kernel.proofs.ReadBases.{AreReadFrom, read_basis}
 

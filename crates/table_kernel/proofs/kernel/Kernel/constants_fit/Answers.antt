@@ -1,6 +1,6 @@
 -- The constant of one line more fits, or doesn't.
 use Rattle.std.specs.Int.{w128}
-use Rattle.std.proofs.Common.{rules, ◌≡◌, ℕ, ◌/◌, ◌<◌, ◌↔◌, ◌∙◌, ap, sym, subst, length, arith, w64, to_z, of_z, take, All}
+use Rattle.std.proofs.Common.{rules, ◌≡◌, ℕ, ◌/◌, ◌<◌, ◌↔◌, ◌∙◌, ap, sym, subst, length, arith, to_z, of_z, take, All}
 use Prim.Native.Nat.{◌∣◌}
 use Rattle.std.specs.Prelude.{ℤ, nat_abs, slice_index_or, IsTrue}
 use Rattle.std.proofs.lemmas.Int.{to_z-of_z}
