@@ -48,4 +48,4 @@ pub mod LoweredCommon
 pub mod FittingConstants
 pub mod ReadBases
 pub mod ReadRefusals
-pub mod ReadKernels
+pub mod KernelsBack
