@@ -7,7 +7,7 @@ use Rattle.integer_pivots.specs.declared.line.Line.{Line}
 use Rattle.integer_pivots.specs.Lines.{IsLine, no_line}
 use Rattle.table_kernel.specs.Kernels.{width_of}
 use Rattle.table_kernel.specs.ReadBack.{FitsOver}
-use Rattle.table_kernel.proofs.ReadKernels.{low_row_in, low_row_long, one_more_read, row_at}
+use Rattle.table_kernel.proofs.ReadSteps.{low_row_in, low_row_long, one_more_read, row_at}
 use Rattle.table_kernel.proofs.Refusals.{on_err}
 use Rattle.table_kernel.proofs.kernel.Kernel.read_lines.Goals.{After-index_mut}
 use Rattle.table_kernel.proofs.kernel.Kernel.read_lines.Goals as goal

@@ -1,5 +1,5 @@
 -- The lines before the index are read.
-use Rattle.table_kernel.proofs.ReadKernels.{AreReadBefore}
+use Rattle.table_kernel.proofs.ReadSteps.{AreReadBefore}
 use Rattle.table_kernel.proofs.kernel.Kernel.read_lines.Given as goal
 
 abbrev pub invariant-loop-var : goal.invariant-loop-var
