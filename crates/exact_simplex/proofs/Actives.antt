@@ -1,7 +1,7 @@
 -- What a tableau's table keeps, in each of its two representations.
 use Rattle.std.proofs.Common.{◌≡◌, ℕ, refl, sym, ◌∙◌, subst, List, [], length, true, false, Bool, arith}
 use Rattle.std.specs.declared.result.Result.TheVariants.{Ok, Err}
-use Rattle.std.specs.Prelude.{Result, IfOk, OnErr, OnOk, ◌^◌, ◌<◌, ◌≤◌, pos, ◌≤ℤ◌, All}
+use Rattle.std.specs.Prelude.{Result, IfOk, OnErr, OnOk, ◌<◌, ◌≤◌, pos, ◌≤ℤ◌, All}
 use Rattle.std.proofs.lemmas.List.{get_or_default}
 use Rattle.whole_numbers.specs.Fractions.{Fraction}
 use Rattle.whole_numbers.specs.Lists.{number_at}
@@ -91,9 +91,10 @@ pub could_not_move : (old new : ActiveTable) (stage : Stage) (costs : CostBox) �
 could_not_move old new stage costs active stays was_in is_out =
     record { kernel = old.kernel; whole = active.kernel was_in; holds = refl; far = λ may. clash (sym is_out ∙ stays was_in may) }
 
-whole_beside : (b : Bool) (k : Kernel) → b ≡ false → IsTableau (table_in b k) → IsTableau k.table
-whole_beside true k is whole = absurd (clash (sym is))
-whole_beside false k is whole = whole
+-- the table in fractions is whole where it is worked on
+pub whole_beside : (b : Bool) (k : Kernel) → b ≡ false → IsTableau (table_in b k) → IsTableau k.table
+whole_beside true k out w = absurd (clash (sym out))
+whole_beside false k out w = w
 
 -- a table in fractions to which the kernel didn't return
 pub cannot_return : (a : ActiveTable) (stage : Stage) → IsActive a → (a.in_kernel ≡ false → MayReturn a.kernel.table → ⊥) →
