@@ -56,10 +56,6 @@ pub parked_with : (k : Kernel) (t : Table) → IsParked k → IsTableau t → Ha
     t.rows.items ≡ k.table.rows.items → IsParked (record k { table = t })
 parked_with k t p w room width rows = record { shaped = shaped_with k t p.shaped w room width rows; constants = p.constants }
 
--- a kernel that works can be parked
-pub kernel_parked : (k : Kernel) → IsKernel k → IsParked k
-kernel_parked k kernel = record { shaped = kernel.shaped; constants = kernel.bounded.constants }
-
 -- a table in fractions that is worked on, beside a parked kernel
 beside : (b : Bool) (k : Kernel) (t : Table) → b ≡ false → IsParked k → IsTableau t → HasRoom t → length t.costs.low ≡ width_of k →
     t.rows.items ≡ k.table.rows.items → IsActive (record { kernel = record k { table = t }; in_kernel = b })

@@ -1,6 +1,6 @@
 //! The table that a tableau works on: the kernel, and from a step that its bounds don't cover the table in fractions, up
 //! to the first box at which its numbers fit again.
-ghost use Rattle.std.specs.Prelude.{◌≡◌, ℕ, suc, ◌^◌, ◌<◌, ◌≤◌, ◌↔◌, ◌++◌, [], ◌∷◌, length, true, false, All, IfErr, IfOk, IsTrue, OnErr, OnOk};
+ghost use Rattle.std.specs.Prelude.{◌≡◌, suc, ◌^◌, ◌<◌, ◌≤◌, ◌↔◌, ◌++◌, [], ◌∷◌, length, true, false, All, IfErr, IfOk, IsTrue, OnErr, OnOk};
 ghost use Rattle.design_problem.specs.Boxes.{IsBox, Refutes};
 ghost use Rattle.design_problem.specs.Earnest.{IsLeastPoint};
 ghost use Rattle.design_problem.specs.Steps.{IsStuck, IsStepTooWide};
