@@ -91,9 +91,10 @@ pub could_not_move : (old new : ActiveTable) (stage : Stage) (costs : CostBox) �
 could_not_move old new stage costs active stays was_in is_out =
     record { kernel = old.kernel; whole = active.kernel was_in; holds = refl; far = λ may. clash (sym is_out ∙ stays was_in may) }
 
-whole_beside : (b : Bool) (k : Kernel) → b ≡ false → IsTableau (table_in b k) → IsTableau k.table
-whole_beside true k is whole = absurd (clash (sym is))
-whole_beside false k is whole = whole
+-- the table in fractions is whole where it is worked on
+pub whole_beside : (b : Bool) (k : Kernel) → b ≡ false → IsTableau (table_in b k) → IsTableau k.table
+whole_beside true k out w = absurd (clash (sym out))
+whole_beside false k out w = w
 
 -- a table in fractions to which the kernel didn't return
 pub cannot_return : (a : ActiveTable) (stage : Stage) → IsActive a → (a.in_kernel ≡ false → MayReturn a.kernel.table → ⊥) →

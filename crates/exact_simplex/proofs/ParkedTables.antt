@@ -23,8 +23,8 @@ use Rattle.table_kernel.specs.declared.kernel.OutOfRange.{OutOfRange}
 use Rattle.table_kernel.specs.Kernels.{IsKernel, IsShaped, width_of}
 use Rattle.table_kernel.specs.ReadBack.{IsParked}
 use Rattle.exact_simplex.specs.declared.active.ActiveTable.{ActiveTable}
-use Rattle.exact_simplex.specs.Actives.{IsActive, table_in}
-use Rattle.exact_simplex.proofs.Actives.{clash}
+use Rattle.exact_simplex.specs.Actives.{IsActive}
+use Rattle.exact_simplex.proofs.Actives.{clash, whole_beside}
 
 -- each line of a whole table has a number for each variable and one more
 lines_wide : (t : Table) → IsTableau t → All (λ line. length line ≡ suc (length t.costs.low)) t.lines.items
@@ -83,11 +83,6 @@ pub moved_beside : (a : ActiveTable) (t : Table) (costs : CostBox) → a.in_kern
 moved_beside a t costs out active box rebased w room =
     let keeps = rebased_keeps (held_of a.kernel.table Open) (held_of t Open) costs rebased in
     beside a.in_kernel a.kernel t out active.parked w room (ap (λ (now : CostBox). length now.low) keeps.0 ∙ box.low_count) keeps.1
-
--- the table in fractions is whole where it is worked on
-whole_beside : (b : Bool) (k : Kernel) → b ≡ false → IsTableau (table_in b k) → IsTableau k.table
-whole_beside true k out w = absurd (clash (sym out))
-whole_beside false k out w = w
 
 -- a kernel works on where it was read back; else the table in fractions does
 pub read_back_or_beside : (b : Bool) (a : ActiveTable) (k : Kernel) (found : Result (Unit {0}) OutOfRange) → b ≡ is_ok found →

@@ -137,6 +137,24 @@ impl ActiveTable {
         self.kernel.park_row(row)
     }
 
+    /// Works on the table in fractions until it shows the answer.
+    ///
+    /// # Errors
+    ///
+    /// `Wide` where a step makes a whole number that passes the top; it is one at the basis that is left.
+    fn settle_in_fractions(&mut self) -> Result<Solved, Wide>
+        requires active { IsActive self.old }
+        requires fractions { self.old.in_kernel ≡ false }
+        ensures active { OnOk result (IsActive self.new) }
+        ensures shown { IfOk result (λ solved. IsShown self.new.kernel.table.basis.items (table_of self.new).lines.items (Ended solved)) }
+        ensures keeps { KeepsBoxAndRows self.old.kernel.table self.new.kernel.table }
+        ensures room { HasRoom self.new.kernel.table }
+        ensures wide { IfErr result (λ wide.
+            IsStepTooWide self.new.kernel.table.top self.new.kernel.table.costs self.new.kernel.table.rows.items (wide_at wide self.new.kernel.table.basis.items)) }
+    {
+        self.kernel.table.settle()
+    }
+
     /// Works until the table shows the answer: in the kernel, unless its bounds don't cover a pivot that is due.
     ///
     /// # Errors
@@ -152,13 +170,14 @@ impl ActiveTable {
         ensures wide { IfErr result (λ wide.
             IsStepTooWide self.new.kernel.table.top self.new.kernel.table.costs self.new.kernel.table.rows.items (wide_at wide self.new.kernel.table.basis.items)) }
     {
+        // The kernel works until a pivot is due that its bounds don't cover.
         if self.in_kernel {
             match self.kernel.settle() {
                 Ok(solved) => return Ok(solved),
                 Err(_) => self.leave_kernel(),
             }
         }
-        self.kernel.table.settle()
+        self.settle_in_fractions()
     }
 
     /// Puts the corner, at which the basis is 0, in place of a point.

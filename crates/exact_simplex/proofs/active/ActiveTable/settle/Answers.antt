@@ -1,15 +1,12 @@
 -- The kernel's answer is shown by the table that it stands for; where it stops it is held up.
-use Rattle.std.proofs.Common.{◌≡◌, ap, subst, sym, ◌∙◌, false}
+use Rattle.std.proofs.Common.{subst, sym, ◌∙◌}
 use Rattle.std.specs.Prelude.{Result, IfOk}
 use Rattle.fraction_table.specs.declared.stage.Solved.{Solved}
 use Rattle.fraction_table.specs.declared.stage.Stage.TheVariants.{Ended}
 use Rattle.fraction_table.specs.ValidTables.{IsShown}
 use Rattle.table_kernel.specs.declared.kernel.OutOfRange.{OutOfRange}
 use Rattle.table_kernel.specs.Kernels.{kernel_lines}
-use Rattle.exact_simplex.specs.declared.active.ActiveTable.{ActiveTable}
-use Rattle.exact_simplex.specs.Actives.{IsActive}
-use Rattle.exact_simplex.proofs.Actives.{clash, kernel_shown, shown_beside, was_held_up}
-use Rattle.exact_simplex.proofs.ParkedTables.{settled_beside}
+use Rattle.exact_simplex.proofs.Actives.{clash, kernel_shown, was_held_up}
 use Rattle.exact_simplex.proofs.active.ActiveTable.settle.Goals.{then-self+in-Err, else-self}
 use Rattle.exact_simplex.proofs.active.ActiveTable.settle.Goals as goal
 
@@ -22,27 +19,6 @@ returns-in-Ok-clause-shown c =
     (subst (λ (r : Result Solved OutOfRange).
     IfOk r (λ solved. IsShown c.settle.new.self.table.basis.items (kernel_lines c.settle.new.self) (Ended solved)))
     c.in-Ok.is c.settle.ensures.shown)
-
-pub returns-clause-shown : goal.returns-clause-shown
-returns-clause-shown c =
-    shown_beside c.if-self.self.in_kernel (record c.if-self.self.kernel { table = c.settle-2.new.self }) c.settle-2.result
-    (elim c.if-self.branch [
-      | then-self+in-Err w ↦ ap (λ (a : ActiveTable). a.in_kernel) w.self-is ∙ w.leave_kernel.ensures.left
-      | else-self w ↦ ap (λ (a : ActiveTable). a.in_kernel) w.self-is ∙ w.if-self.false
-    ]) c.settle-2.ensures.shown
-
-pub returns-clause-active : goal.returns-clause-active
-returns-clause-active c =
-    let a = c.if-self.self in
-    let active : IsActive a = elim c.if-self.branch [
-      | then-self+in-Err w ↦ subst IsActive (sym w.self-is) w.leave_kernel.ensures.active
-      | else-self w ↦ subst IsActive (sym w.self-is) c.requires.active
-    ] in
-    let out : a.in_kernel ≡ false = elim c.if-self.branch [
-      | then-self+in-Err w ↦ ap (λ (b : ActiveTable). b.in_kernel) w.self-is ∙ w.leave_kernel.ensures.left
-      | else-self w ↦ ap (λ (b : ActiveTable). b.in_kernel) w.self-is ∙ w.if-self.false
-    ] in
-    settled_beside a c.settle-2.new.self c.settle-2.result out active c.settle-2.ensures.keeps c.settle-2.ensures.room c.settle-2.ensures.whole
 
 pub returns-clause-left : goal.returns-clause-left
 returns-clause-left c was_in is_out =
