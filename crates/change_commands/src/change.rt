@@ -4,7 +4,6 @@ ghost use Rattle.command_words.specs.Jobs.{bounds};
 ghost use Rattle.input_files.specs.Readings.{Gave};
 ghost use Rattle.input_files.specs.Outcomes.{outcome};
 ghost use Rattle.input_files.specs.Stops.{IsReadAs, files_named};
-ghost use Rattle.design_problem.specs.Answers.{greatest_bound};
 ghost use Rattle.path_requests.specs.Meaning.{problem_of};
 ghost use Rattle.present_costs.specs.PresentCosts.{present_of_variables};
 ghost use Rattle.report_writer.specs.Reports.{Reports, bytes_in};
@@ -14,10 +13,11 @@ ghost use Rattle.change_commands.specs.Changes.{IsReportIn, MayChange, change_st
 use crate::change_text::{fewest_text, impossible_text, undecided_text};
 use cost_base::{OutOfMemory, Shelf, Status};
 use cost_branching::keeps_conditions;
-use design_problem::{Problem, greatest_of};
+use design_problem::Problem;
 use input_files::{FileWords, Network, Stop, View, read_network};
 use least_change::{Change, change_count, find_change};
 use present_costs::present_of_variables;
+use printed_parts::keeps_ceiling;
 use report_writer::Report;
 use std::alloc::Global;
 use wide_fraction::Limits;
@@ -31,13 +31,6 @@ fn status_of(change: &Change) -> Status
         Change::Impossible { .. } => Status::Impossible,
         Change::Undecided { .. } => Status::Undecided,
     }
-}
-
-/// The greatest upper bound of a problem's variables is a cost.
-fn keeps_ceiling(problem: &Problem)
-    ensures { greatest_bound problem.now ≤ 65535 }
-{
-    let _ceiling = greatest_of(problem.high.as_slice());
 }
 
 /// The text of what was found of the changes of a network's present costs.

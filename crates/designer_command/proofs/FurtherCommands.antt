@@ -102,7 +102,7 @@ done_impossible is = cc
 fit_settles : (limits : Bounds) (sharing : Sharing) (bytes : List ℕ) → ShowsSpread limits sharing status.Done bytes → IsSpreadSettled sharing status.Done
 fit_settles limits sharing bytes shown = by_found shown.spread shown.found shown.status
   where
-    by_found : (spread : Spread) → IsSpreadFound sharing.problem shown.sets limits.top limits.nodes spread →
+    by_found : (spread : Spread) → IsSpreadFound sharing.input.problem shown.sets limits.top limits.nodes spread →
         spreads.spread_status spread ≡ status.Done → IsSpreadSettled sharing status.Done
     by_found (Fit w) found is = record { sets = shown.sets; said = shown.said; either = inl refl; fit = λ v fits. refl; unfit = λ none. absurd (none w found) }
     by_found (NoSpread rows tree) found is = absurd (impossible_done is)
@@ -112,7 +112,7 @@ none_fit_settles : (limits : Bounds) (sharing : Sharing) (bytes : List ℕ) →
     ShowsSpread limits sharing status.Impossible bytes → IsSpreadSettled sharing status.Impossible
 none_fit_settles limits sharing bytes shown = by_found shown.spread shown.found shown.status
   where
-    by_found : (spread : Spread) → IsSpreadFound sharing.problem shown.sets limits.top limits.nodes spread →
+    by_found : (spread : Spread) → IsSpreadFound sharing.input.problem shown.sets limits.top limits.nodes spread →
         spreads.spread_status spread ≡ status.Impossible → IsSpreadSettled sharing status.Impossible
     by_found (Fit w) found is = absurd (done_impossible is)
     by_found (NoSpread rows tree) found is =
@@ -129,11 +129,11 @@ unknown_spread : (limits : Bounds) (sharing : Sharing) (bytes : List ℕ) → Ca
     ShowsSpread limits sharing status.Undecided bytes → ⊥
 unknown_spread limits sharing bytes cannot shown = by_found shown.spread shown.found shown.status
   where
-    by_found : (spread : Spread) → IsSpreadFound sharing.problem shown.sets limits.top limits.nodes spread → spreads.spread_status spread ≡ status.Undecided → ⊥
+    by_found : (spread : Spread) → IsSpreadFound sharing.input.problem shown.sets limits.top limits.nodes spread → spreads.spread_status spread ≡ status.Undecided → ⊥
     by_found (Fit w) found is = done_undecided is
     by_found (NoSpread rows tree) found is = impossible_undecided is
     by_found (NoSpreadKnown rows tree) found is =
-        spread_settles sharing.problem shown.sets limits.top limits.nodes (NoSpreadKnown rows tree) (cannot shown.sets shown.said) found
+        spread_settles sharing.input.problem shown.sets limits.top limits.nodes (NoSpreadKnown rows tree) (cannot shown.sets shown.said) found
 
 pub spreads_found : SpreadsAreFound
 spreads_found limits names file came sharing end bytes ends h =

@@ -26,7 +26,7 @@ use Rattle.set_reader.specs.Reading.{set_fault}
 use Rattle.input_files.specs.declared.problem.View.TheVariants.{AsRequested}
 use Rattle.input_files.specs.Inputs.{InputFiles}
 use Rattle.input_files.specs.Readings.{EndsAs, Says}
-use Rattle.input_files.specs.Outcomes.{outcome}
+use Rattle.input_files.specs.Outcomes.{Input, outcome}
 use Rattle.input_files.proofs.Readings.{one_said, said_faulty, was_read}
 use Rattle.input_files.proofs.ReadyInputs.{came_whole, ready_is}
 use Rattle.path_commands.specs.SetFiles.{Sharing, if_sets, sets_read, spread_read}
@@ -77,29 +77,30 @@ enough limits p kept large = record {
       never_spent limits p (greatest_cost w) (forms_within p bound rows) tree kept large (lows_below p w best.fit) earnest.sound undone spent;
 }
 
--- the problem that is read before a file of sets
-sets_of : (file bytes : List ℕ) (p : DesignProblem) (o : Option (FaultyLine SetFault)) (came : List Taken) (sharing : Sharing) →
-    EndsAs (if_sets file p bytes o) came (Says sharing) → sharing.problem ≡ p
-sets_of file bytes p (Some faulty) [] sharing is = absurd (said_faulty sharing _ is)
-sets_of file bytes p (Some faulty) (taken ∷ more) sharing is = absurd is
-sets_of file bytes p None [] sharing is = ap (λ (s : Sharing). s.problem) (one_said sharing (record { problem = p; bytes = bytes }) is)
-sets_of file bytes p None (taken ∷ more) sharing is = absurd is
+-- the input that is read before a file of sets
+sets_of : (file bytes : List ℕ) (d : Input) (o : Option (FaultyLine SetFault)) (came : List Taken) (sharing : Sharing) →
+    EndsAs (if_sets file d bytes o) came (Says sharing) → sharing.input ≡ d
+sets_of file bytes d (Some faulty) [] sharing is = absurd (said_faulty sharing _ is)
+sets_of file bytes d (Some faulty) (taken ∷ more) sharing is = absurd is
+sets_of file bytes d None [] sharing is = ap (λ (s : Sharing). s.input) (one_said sharing (record { input = d; bytes = bytes }) is)
+sets_of file bytes d None (taken ∷ more) sharing is = absurd is
 
-sharing_of : (file : List ℕ) (p : DesignProblem) (came : List Taken) (sharing : Sharing) → EndsAs (sets_read file p) came (Says sharing) → sharing.problem ≡ p
-sharing_of file p [] sharing is = absurd is
-sharing_of file p (taken ∷ more) sharing is =
-    came_whole taken.came (λ bytes. if_sets file p bytes (set_fault p bytes)) more sharing file is.2
-    (λ bytes ends. sets_of file bytes p (set_fault p bytes) more sharing ends)
+sharing_of : (file : List ℕ) (d : Input) (came : List Taken) (sharing : Sharing) → EndsAs (sets_read file d) came (Says sharing) → sharing.input ≡ d
+sharing_of file d [] sharing is = absurd is
+sharing_of file d (taken ∷ more) sharing is =
+    came_whole taken.came (λ bytes. if_sets file d bytes (set_fault d.problem bytes)) more sharing file is.2
+    (λ bytes ends. sets_of file bytes d (set_fault d.problem bytes) more sharing ends)
 
 sharing_kept : (names : InputFiles) (file : List ℕ) (came : List Taken) (sharing : Sharing) →
-    EndsAs (spread_read names file) came (Says sharing) → IsProblem sharing.problem
+    EndsAs (spread_read names file) came (Says sharing) → IsProblem sharing.input.problem
 sharing_kept names file came sharing is =
-    let read = was_read (outcome AsRequested names) (λ d. sets_read file d.problem) came sharing is in
-    subst IsProblem (sym (sharing_of file read.value.problem read.later sharing read.then_said)) (ready_is names read.value read.first read.said).kept
+    let read = was_read (outcome AsRequested names) (sets_read file) came sharing is in
+    subst (λ (d : Input). IsProblem d.problem) (sym (sharing_of file read.value read.later sharing read.then_said))
+    (ready_is names read.value read.first read.said).kept
 
 pub large_suffice : LargeBudgetsSuffice
 large_suffice = (
   λ limits names came d ends large. enough limits d.problem (ready_is names d came ends).kept large,
   λ limits names file came sharing ends large.
-      λ sets said. (enough limits sharing.problem (sharing_kept names file came sharing ends) large).spread sets,
+      λ sets said. (enough limits sharing.input.problem (sharing_kept names file came sharing ends) large).spread sets,
 )

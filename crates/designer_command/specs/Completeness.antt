@@ -133,13 +133,13 @@ pub record IsSpreadSettled (sharing : Sharing) (end : Status) : Type 0 where
   pub sets : List (List ℕ)
   pub said : AreSetsIn sets sharing
   pub either : (end ≡ status.Done) ⊎ (end ≡ status.Impossible)
-  pub fit : (w : List ℕ) → IsSpreadFit sharing.problem (all_sets sharing.problem sets) w → end ≡ status.Done
-  pub unfit : HasNoSpread sharing.problem (all_sets sharing.problem sets) → end ≡ status.Impossible
+  pub fit : (w : List ℕ) → IsSpreadFit sharing.input.problem (all_sets sharing.input.problem sets) w → end ≡ status.Done
+  pub unfit : HasNoSpread sharing.input.problem (all_sets sharing.input.problem sets) → end ≡ status.Impossible
 
 -- the budget can't be used up for any sets of wanted paths that the file may say
 abbrev pub CannotSpendOnSharing : Bounds → Sharing → Type 0
 CannotSpendOnSharing limits sharing =
-    (sets : List (List ℕ)) → AreSetsIn sets sharing → CannotSpendOnSpread sharing.problem sets limits.top limits.nodes
+    (sets : List (List ℕ)) → AreSetsIn sets sharing → CannotSpendOnSpread sharing.input.problem sets limits.top limits.nodes
 
 -- Where its files say a problem and sets of its wanted paths, `spread` may write nothing but what it found: that is settled
 -- where the budget can't be used up.
@@ -179,7 +179,7 @@ LargeBudgetsSuffice =
     ((limits : Bounds) (names : InputFiles) (came : List Taken) (d : Input) →
     EndsAs (outcome AsRequested names) came (Says d) → IsLarge limits d.problem → LargeBudgetIsEnough limits d.problem)
     × ((limits : Bounds) (names : InputFiles) (file : List ℕ) (came : List Taken) (sharing : Sharing) →
-    EndsAs (spread_read names file) came (Says sharing) → IsLarge limits sharing.problem → CannotSpendOnSharing limits sharing)
+    EndsAs (spread_read names file) came (Says sharing) → IsLarge limits sharing.input.problem → CannotSpendOnSharing limits sharing)
 
 -- Where its files say a problem, `change` may write nothing but what it found: that is settled where the budget can't be used
 -- up for a set of variables that keep their present costs, or for a cover tree.

@@ -5,6 +5,7 @@ pub mod ConflictTexts
 pub mod ConflictRuns
 pub mod ConflictLines
 pub mod SpreadTexts
+pub mod SpreadsBack
 pub mod SpreadRuns
 pub mod LiveAudits
 pub mod LiveAuditRuns

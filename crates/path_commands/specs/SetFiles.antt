@@ -1,7 +1,6 @@
--- What a file of sets says of a problem's wanted paths, read after the problem.
+-- What a file of sets says of the wanted paths of an input, read after it.
 use Rattle.std.specs.Prelude.{ℕ, List, Option, Some, None}
 use Rattle.std.specs.Borrow.{Bor}
-use Rattle.design_problem.specs.Problems.{DesignProblem}
 use Rattle.text_lines.specs.LineFaults.{FaultyLine}
 use Rattle.set_reader.specs.declared.stop.SetFault.{SetFault}
 use Rattle.set_reader.specs.declared.stop.SetStop.{SetStop}
@@ -14,34 +13,34 @@ use Rattle.input_files.specs.declared.stop.Stop.TheVariants.{Refused as StopRefu
 use Rattle.input_files.specs.declared.problem.View.TheVariants.{AsRequested}
 use Rattle.input_files.specs.Inputs.{InputFiles}
 use Rattle.input_files.specs.Readings.{Reading, Refused, Ready, ◌>>=◌}
-use Rattle.input_files.specs.Outcomes.{outcome, file_read}
+use Rattle.input_files.specs.Outcomes.{Input, outcome, file_read}
 
 -- 4 MiB
 abbrev pub longest_sets : ℕ
 longest_sets = 4194304
 
--- a problem, and the bytes of a file of sets of its wanted paths in which no line has a fault
+-- what the files of a network say, and the bytes of a file of sets of its wanted paths in which no line has a fault
 pub record Sharing : Type 0 where
-  pub problem : DesignProblem
+  pub input : Input
   pub bytes : List ℕ
 
 -- the sets that the file says
 pub record AreSetsIn (sets : List (List ℕ)) (sharing : Sharing) : Type 0 where
   pub said : AreSaid sharing.bytes sets
-  pub lawful : AreSetsOf sharing.problem sets
+  pub lawful : AreSetsOf sharing.input.problem sets
 
 -- the first faulty line of a file of sets is refused by its number
-abbrev pub if_sets : List ℕ → DesignProblem → List ℕ → Option (FaultyLine SetFault) → Reading Sharing
-if_sets file p bytes None = Ready (record { problem = p; bytes = bytes })
-if_sets file p bytes (Some faulty) = Refused (record { number = number_of faulty.fault; file = file; line = faulty.line })
+abbrev pub if_sets : List ℕ → Input → List ℕ → Option (FaultyLine SetFault) → Reading Sharing
+if_sets file d bytes None = Ready (record { input = d; bytes = bytes })
+if_sets file d bytes (Some faulty) = Refused (record { number = number_of faulty.fault; file = file; line = faulty.line })
 
 -- a file of sets: its size, and then its lines
-abbrev pub sets_read : List ℕ → DesignProblem → Reading Sharing
-sets_read file p = file_read longest_sets file >>= λ bytes. if_sets file p bytes (set_fault p bytes)
+abbrev pub sets_read : List ℕ → Input → Reading Sharing
+sets_read file d = file_read longest_sets file >>= λ bytes. if_sets file d bytes (set_fault d.problem bytes)
 
 -- what the files of a network and of requests say, and then the file of sets
 abbrev pub spread_read : InputFiles → List ℕ → Reading Sharing
-spread_read names file = outcome AsRequested names >>= λ d. sets_read file d.problem
+spread_read names file = outcome AsRequested names >>= λ d. sets_read file d
 
 -- the stop of a file of sets that is refused
 abbrev pub set_stop : SetStop → Bor (List ℕ) → Stop

@@ -1,7 +1,8 @@
 -- The text of `spread`, and what the command may write.
-use Rattle.std.specs.Prelude.{◌≡◌, ℕ, List, [], ◌∷◌, ◌++◌, map, length, codes, Option, None, Some}
+use Rattle.std.specs.Prelude.{◌≡◌, ℕ, List, [], ◌∷◌, ◌++◌, map, length, codes, Option, None, Some, IfSome}
 use Rattle.cost_base.specs.declared.Status.{Status}
 use Rattle.cost_base.specs.declared.Status.TheVariants as status
+use Rattle.area_graph.specs.Costs.{at_costs}
 use Rattle.design_problem.specs.declared.answer.CapTree.{CapTree}
 use Rattle.design_problem.specs.declared.answer.Costs.{Costs}
 use Rattle.design_problem.specs.Problems.{DesignProblem}
@@ -12,7 +13,10 @@ use Rattle.spread_sets.specs.declared.spread.SetRow.{SetRow}
 use Rattle.spread_sets.specs.declared.spread.Spread.{Spread}
 use Rattle.spread_sets.specs.declared.spread.Spread.TheVariants.{Fit, Impossible, Undecided}
 use Rattle.spread_sets.specs.Answers.{IsSpreadFound, set_row_line}
+use Rattle.spread_sets.specs.Spreads.{SharesEach, all_sets}
 use Rattle.command_words.specs.Jobs.{Bounds}
+use Rattle.input_files.specs.Outcomes.{Input}
+use Rattle.read_back.specs.ReadBack.{graph_back, IsReadBack}
 use Rattle.printed_parts.specs.SharedParts.{at_ceiling}
 use Rattle.printed_rows.specs.PrintedCosts.{named_costs}
 use Rattle.path_commands.specs.SetFiles.{AreSetsIn, Sharing}
@@ -47,14 +51,35 @@ spread_status (Fit w) = status.Done
 spread_status (Impossible rows tree) = status.Impossible
 spread_status (Undecided rows tree) = status.Undecided
 
--- the bytes are the text of what was found for the sets that the file says, which has this status
+-- the costs that are printed with what was found, where there are some
+abbrev pub shared_costs : Spread → Option (List ℕ)
+shared_costs (Fit w) = Some w
+shared_costs (Impossible rows tree) = None
+shared_costs (Undecided rows tree) = None
+
+-- the problem of an input in the graph that is read back from a text
+abbrev pub problem_back : Input → List ℕ → DesignProblem
+problem_back d text = record d.problem { graph = graph_back d text }
+
+-- in the graph read back the paths of each set cost the same, and every other simple path of their request costs more
+abbrev pub AreSharedBack : Input → List (List ℕ) → List ℕ → Type 0
+AreSharedBack d sets text = SharesEach (problem_back d text) (all_sets d.problem sets) (at_costs [])
+
+-- the configurations with the sections of a text are accepted; read back, these costs spread traffic over the sets
+pub record IsSpreadBack (d : Input) (sets : List (List ℕ)) (text w : List ℕ) : Type 0 where
+  pub back : IsReadBack d text w
+  pub shared : AreSharedBack d sets text
+
+-- The bytes are the text of what was found for the sets that the file says, which has this status; printed costs are read
+-- back.
 pub record ShowsSpread (limits : Bounds) (sharing : Sharing) (aim : Status) (bytes : List ℕ) : Type 0 where
   pub sets : List (List ℕ)
   pub said : AreSetsIn sets sharing
   pub spread : Spread
-  pub found : IsSpreadFound sharing.problem sets limits.top limits.nodes spread
+  pub found : IsSpreadFound sharing.input.problem sets limits.top limits.nodes spread
   pub status : spread_status spread ≡ aim
-  pub spelled : bytes ≡ spread_text sharing.problem spread
+  pub spelled : bytes ≡ spread_text sharing.input.problem spread
+  pub back : IfSome (shared_costs spread) (IsSpreadBack sharing.input sets bytes)
 
 -- `spread`: spread-fit costs; or that there are none; or that the budget was used up
 abbrev pub MaySpread : Bounds → Sharing → Status → List ℕ → Type 0

@@ -1,6 +1,7 @@
 //! The file of sets, read after the problem.
 ghost use Rattle.std.specs.Prelude.{◌≡◌, IfOk};
 ghost use Rattle.set_reader.specs.SpreadSets.{AreSetsOf};
+ghost use Rattle.input_files.specs.Outcomes.{Input};
 ghost use Rattle.input_files.specs.Readings.{Gave};
 ghost use Rattle.input_files.specs.Stops.{IsReadAs};
 ghost use Rattle.path_commands.specs.SetFiles.{AreSetsIn, set_stop, sets_read};
@@ -28,7 +29,7 @@ fn stop_of_sets(stop: SetStop, file: &str) -> Stop<'_>
     }
 }
 
-/// The sets of a problem's wanted paths that a file says.
+/// The sets of a problem's wanted paths that a file says, whichever input the problem is of.
 ///
 /// # Errors
 ///
@@ -39,8 +40,8 @@ pub(crate) fn read_sets_file<'a, S: Shelf>(
     name: &'a str,
     problem: &Problem,
 ) -> Result<Sets, Stop<'a>>
-    ensures read { Gave (S.gave shelf.old shelf.new)
-        (λ came. IsReadAs (sets_read name.now problem.now) came (λ sets sharing. (sharing.problem ≡ problem.now) × AreSetsIn sets sharing) result) }
+    ensures read { (d : Input) → d.problem ≡ problem.now → Gave (S.gave shelf.old shelf.new)
+        (λ came. IsReadAs (sets_read name.now d) came (λ sets sharing. (sharing.input ≡ d) × AreSetsIn sets sharing) result) }
     ensures lawful { IfOk result (AreSetsOf problem.now) }
 {
     let bytes = read_file(alloc, shelf, name, LONGEST_SETS)?;

@@ -13,6 +13,7 @@ use crate::spread_text::text_of_spread;
 use cost_base::{OutOfMemory, Shelf, Status};
 use design_problem::Problem;
 use input_files::{FileWords, Stop, View, read_problem};
+use printed_parts::keeps_ceiling;
 use report_writer::Report;
 use spread_sets::{Spread, find_spread};
 use std::alloc::Global;
@@ -58,5 +59,6 @@ pub fn spread_report<'a, S: Shelf>(
     let problem = read_problem(alloc, View::AsRequested, words, shelf)?;
     let sets = read_sets_file(alloc, shelf, sets, &problem)?;
     let spread = find_spread(alloc, &problem, &sets, limits)?;
+    keeps_ceiling(&problem);
     Ok(report_of_spread(alloc, &problem, spread)?)
 }

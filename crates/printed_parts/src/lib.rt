@@ -4,5 +4,6 @@
 mod parts;
 
 pub use parts::{
-    at_ceiling, costs_by_name, push_line, push_tree_at_ceiling, push_word, push_words,
+    at_ceiling, costs_by_name, keeps_ceiling, push_line, push_tree_at_ceiling, push_word,
+    push_words,
 };

@@ -93,6 +93,13 @@ fn ceiling(problem: &Problem) -> u16
     greatest_of(problem.high.as_slice())
 }
 
+/// The greatest upper bound of a problem's variables is a cost of an interface.
+pub fn keeps_ceiling(problem: &Problem)
+    ensures { greatest_bound problem.now ≤ 65535 }
+{
+    let _ceiling = ceiling(problem);
+}
+
 /// Adds the lines of a tree over the box at the greatest upper bound at the end, as the text of an answer has them in this
 /// part.
 ///

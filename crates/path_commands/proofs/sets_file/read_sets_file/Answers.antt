@@ -13,38 +13,35 @@ use Rattle.path_commands.proofs.SpreadRuns.{AreSetsFor, sets_ready, sets_stop}
 use Rattle.path_commands.proofs.sets_file.read_sets_file.Goals as goal
 
 pub returns-in_err-bytes-clause-read : goal.returns-in_err-bytes-clause-read
-returns-in_err-bytes-clause-read g c =
+returns-in_err-bytes-clause-read g c = λ d is.
     let file = c.args.name.now in
-    let p = c.args.problem.now in
     let e = err_from_is_err_and c.from_residual.result c.from_residual.ensures.1 in
     rw (e.1, e.2) (gave_stop (g.S.Shelf.gave c.args.shelf.now c.read_file.new.shelf) (file_read longest_sets file)
-    (λ bytes. if_sets file p bytes (set_fault p bytes)) _ c.in_err-bytes.ensures.read)
+    (λ bytes. if_sets file d bytes (set_fault d.problem bytes)) _ c.in_err-bytes.ensures.read)
 
 pub returns-in-Ok-clause-read : goal.returns-in-Ok-clause-read
-returns-in-Ok-clause-read g c =
+returns-in-Ok-clause-read g c = λ d is.
     let file = c.args.name.now in
-    let p = c.args.problem.now in
     gave_made (g.S.Shelf.gave c.args.shelf.now c.read_file.new.shelf) (file_read longest_sets file)
-    (λ bytes. if_sets file p bytes (set_fault p bytes)) (λ (bytes : Vec ℕ Global) read. bytes.items ≡ read)
-    (AreSetsFor p)
+    (λ bytes. if_sets file d bytes (set_fault d.problem bytes)) (λ (bytes : Vec ℕ Global) read. bytes.items ≡ read)
+    (AreSetsFor d)
     c.in_ok-bytes.bytes (Ok c.in-Ok.sets) c.in_ok-bytes.ensures.read
     (λ read same.
     (let here = c.deref.ensures.value ∙ same in
-    sets_ready file p read c.in-Ok.sets
-    (subst (λ (bs : List ℕ). set_fault p bs ≡ None) here c.in-Ok.ensures.made.0)
+    sets_ready file d c.args.problem.now read c.in-Ok.sets is
+    (subst (λ (bs : List ℕ). set_fault c.args.problem.now bs ≡ None) here c.in-Ok.ensures.made.0)
     (subst (λ (bs : List ℕ). AreSaid bs c.in-Ok.sets) here c.in-Ok.ensures.made.1)
     c.in-Ok.ensures.lawful))
 
 pub returns-clause-read : goal.returns-clause-read
-returns-clause-read g c =
+returns-clause-read g c = λ d is.
     let file = c.args.name.now in
-    let p = c.args.problem.now in
     gave_made (g.S.Shelf.gave c.args.shelf.now c.read_file.new.shelf) (file_read longest_sets file)
-    (λ bytes. if_sets file p bytes (set_fault p bytes)) (λ (bytes : Vec ℕ Global) read. bytes.items ≡ read)
-    (AreSetsFor p)
+    (λ bytes. if_sets file d bytes (set_fault d.problem bytes)) (λ (bytes : Vec ℕ Global) read. bytes.items ≡ read)
+    (AreSetsFor d)
     c.in_ok-bytes.bytes (Err c.stop_of_sets.result) c.in_ok-bytes.ensures.read
     (λ read same.
-    subst (λ (s : Stop). StopsAs (if_sets file p read (set_fault p read)) [] s) (sym c.stop_of_sets.ensures)
-    (sets_stop c.args.name p read c.in-Err.stop
-    (subst (λ (bs : List ℕ). TellsReading (set_fault p bs) c.in-Err.stop) (c.deref.ensures.value ∙ same)
+    subst (λ (s : Stop). StopsAs (if_sets file d read (set_fault d.problem read)) [] s) (sym c.stop_of_sets.ensures)
+    (sets_stop c.args.name d c.args.problem.now read c.in-Err.stop is
+    (subst (λ (bs : List ℕ). TellsReading (set_fault c.args.problem.now bs) c.in-Err.stop) (c.deref.ensures.value ∙ same)
     c.in-Err.ensures.refused)))
