@@ -101,7 +101,8 @@ next_both lines i common d new i_in l before made =
     let here : GoesInto both (slice_index_or lines i no_line) =
     subst (λ (z : ℤ). nat_abs z ∣ both) l.is (right_divides_lcm (nat_abs common) (nat_abs (read d))) in
     let before_it : All (GoesInto both) (take i lines) =
-    All-weaker (GoesInto (nat_abs common)) (GoesInto both) (λ line divides. dvd_trans (nat_abs line.denominator) divides (left_divides_lcm (nat_abs common) (nat_abs (read d))))
+    All-weaker (GoesInto (nat_abs common)) (GoesInto both)
+    (λ line divides. dvd_trans (nat_abs line.denominator) divides (left_divides_lcm (nat_abs common) (nat_abs (read d))))
     (take i lines) before.multiple in
     subst (IsLeastTo lines (i + 1)) (sym (read_number new (omega (arith, small))))
     (record {

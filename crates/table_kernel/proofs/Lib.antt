@@ -52,4 +52,4 @@ pub mod ReadLines
 pub mod ParkedKernels
 pub mod ReadBases
 pub mod ReadRefusals
-pub mod ReadKernels
+pub mod KernelsBack

@@ -54,7 +54,8 @@ crossed_at row line ts D C r divides stand place place_in =
     let d = nat_abs line.denominator in
     let q = entry row place in
     let z = line_number line place in
-    let own : StandsFor q z d = subst (λ (y : ℤ). StandsFor q y d) (sym (read_at row line r place place_in)) (stands_over q d (r.least.common place place_in)) in
+    let own : StandsFor q z d =
+    subst (λ (y : ℤ). StandsFor q y d) (sym (read_at row line r place place_in)) (stands_over q d (r.least.common place place_in)) in
     let there = stand place place_in in
     number_scaled D (scaled_line C line) place
     ∙ ap (λ (y : ℤ). y *ℤ pos D) (scaled_number C line place)
@@ -79,7 +80,8 @@ module _ (t : Table) (w : IsTableau t) (lines : List Line) (C : ℕ) (many : len
   abbrev lows : List (List ℤ)
   lows = w.unboxed.lows
 
-  row_crossed : (v : ℕ) → v < length lines → scaled_by w.unboxed.common (scaled_line C (slice_index_or lines v no_line)) ≡ scaled_by C (slice_index_or lows v [])
+  row_crossed : (v : ℕ) → v < length lines →
+      scaled_by w.unboxed.common (scaled_line C (slice_index_or lines v no_line)) ≡ scaled_by C (slice_index_or lows v [])
   row_crossed v v_in =
       let n = length t.costs.low in
       let there : v < n = omega (arith, many, v_in) in

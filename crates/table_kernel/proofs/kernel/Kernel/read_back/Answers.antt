@@ -3,7 +3,7 @@ use Rattle.std.specs.Vec.{with_items}
 use Rattle.integer_pivots.proofs.FailedTests.{failed}
 use Rattle.integer_pivots.proofs.Sizes.{read}
 use Rattle.table_kernel.specs.Kernels.{IsKernel}
-use Rattle.table_kernel.proofs.ReadKernels.{AreFitting, HasLines, bounded_back, fitting, has_lines, kernel_back, least_read, parked_back, shaped_back}
+use Rattle.table_kernel.proofs.KernelsBack.{AreFitting, HasLines, bounded_back, fitting, has_lines, kernel_back, least_read, parked_back, shaped_back}
 use Rattle.table_kernel.proofs.ReadRefusals.{common_found, constants_found}
 use Rattle.table_kernel.proofs.kernel.Kernel.read_back.Goals.{After-put_constants, Else-not-constants_fit, In_ok-read}
 use Rattle.table_kernel.proofs.kernel.Kernel.read_back.Goals as goal
