@@ -16,7 +16,7 @@ use Rattle.table_kernel.proofs.LeastCommon.{lcm_divides}
 pub both_go_in : (a b c : ℕ) → a ∣ c → b ∣ c → lcm a b ∣ c
 both_go_in a b zero left right = dvd-zero (lcm a b)
 both_go_in a b (suc c) left right =
-    lcm_divides a b (suc c) (pos_of_dvd_of_pos left (omega arith)) (pos_of_dvd_of_pos right (omega arith)) (omega arith) left right
+    lcm_divides a b (suc c) (pos_of_dvd_of_pos right (omega arith)) left right
 
 -- the number goes into each common denominator of the row
 abbrev pub GoesIntoCommon : List Fraction → ℕ → Type 0

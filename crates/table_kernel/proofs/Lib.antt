@@ -49,6 +49,7 @@ pub mod FittingConstants
 pub mod ReadRows
 pub mod LeastDenominators
 pub mod ReadLines
+pub mod ReadKernels
 pub mod ParkedKernels
 pub mod ReadBases
 pub mod ReadRefusals
