@@ -1,6 +1,6 @@
 -- The least common multiple of the denominators of lines, line by line.
 use Prim.Native.Nat.{◌∣◌}
-use native.Mathlib.Nat.{div-mul_cancel, dvd_of_mul-dvd-mul_right, mul-dvd-mul_right, mul_assoc, mul_comm, one-dvd}
+use native.Mathlib.Nat.{div-mul_cancel, dvd_of_mul-dvd-mul_right, mul-dvd-mul_right, mul_assoc, mul_comm, one-dvd, pos_of_dvd_of_pos}
 use Rattle.std.proofs.Common.{◌≡◌, ℕ, zero, suc, ◌+◌, ◌*◌, ◌/◌, ◌^◌, ◌<◌, ◌≤◌, sym, ◌∙◌, ap, subst, List, take, length, arith}
 use Rattle.std.specs.Prelude.{ℤ, pos, ◌<ℤ◌, ◌≤ℤ◌, nat_abs, slice_index_or, All}
 use Rattle.std.proofs.lemmas.Int.{ints}
@@ -11,15 +11,14 @@ use Rattle.whole_numbers.specs.Fractions.{gcd, lcm}
 use Rattle.whole_numbers.proofs.Divisors.{divides_other, gcd_is, gcd_positive, quotient_positive}
 use Rattle.whole_numbers.proofs.FractionLaws.{reduced_lowest}
 use Rattle.whole_numbers.proofs.Multiples.{left_divides_lcm, right_divides_lcm}
-use Rattle.whole_numbers.proofs.Sizes.{size_positive}
 use Rattle.integer_pivots.specs.declared.line.Line.{Line}
 use Rattle.integer_pivots.specs.Lines.{IsLine, no_line}
 use Rattle.integer_pivots.proofs.Sizes.{read, read_number, size_most}
 use Rattle.table_kernel.specs.ReadBack.{IsLeastCommon}
 
 -- a common multiple of two numbers is a multiple of the least one
-some_divides : (a b c : ℕ) → 0 < b → 0 < c → a ∣ c → b ∣ c → lcm a b ∣ c
-some_divides a b c b_some c_some left right =
+pub lcm_divides : (a b c : ℕ) → 0 < a → 0 < b → 0 < c → a ∣ c → b ∣ c → lcm a b ∣ c
+lcm_divides a b c a_some b_some c_some left right =
     let g = gcd a b in
     let both = gcd_is a b in
     let times = c / b in
@@ -35,9 +34,11 @@ some_divides a b c b_some c_some left right =
     divides_other (a / g) (b / g) times lowest.lowest (dvd_of_mul-dvd-mul_right (a / g) g_some scaled) (quotient_positive c b c_some right) in
     subst (λ (n : ℕ). lcm a b ∣ n) whole (mul-dvd-mul_right (a / g) share b)
 
-pub lcm_divides : (a b c : ℕ) → 0 < b → a ∣ c → b ∣ c → lcm a b ∣ c
-lcm_divides a b zero b_some left right = dvd-zero (lcm a b)
-lcm_divides a b (suc c) b_some left right = some_divides a b (suc c) b_some (omega arith) left right
+-- what both numbers go into their least common multiple goes into
+pub both_go_in : (a b c : ℕ) → a ∣ c → b ∣ c → lcm a b ∣ c
+both_go_in a b zero left right = dvd-zero (lcm a b)
+both_go_in a b (suc c) left right =
+    lcm_divides a b (suc c) (pos_of_dvd_of_pos left (omega arith)) (pos_of_dvd_of_pos right (omega arith)) (omega arith) left right
 
 -- the line's denominator goes into this number
 abbrev pub GoesInto : ℕ → Line → Type 0
@@ -57,59 +58,46 @@ none_yet lines = record {
   least = λ D all. one-dvd D;
 }
 
--- the line's denominator is one that is read as it is
-pub record IsLineRead (lines : List Line) (i : ℕ) (denominator : ℤ) : Type 0 where
-  pub is : read denominator ≡ (slice_index_or lines i no_line).denominator
-  pub some : 0 < nat_abs (read denominator)
-  pub range : (pos 0 <ℤ read denominator) × (read denominator ≤ℤ pos (2 ^ 60))
-
+-- the line's denominator, as it is read
 pub line_is_read : (lines : List Line) (i : ℕ) (line : Line) → All IsLine lines → i < length lines →
-    line ≡ slice_index_or lines i line → IsLineRead lines i line.denominator
+    line ≡ slice_index_or lines i line → read line.denominator ≡ (slice_index_or lines i no_line).denominator
 line_is_read lines i line all i_in is =
     let same : line ≡ slice_index_or lines i no_line = is ∙ get_or_default lines i line no_line i_in in
     let l = all i no_line i_in in
     let d = (slice_index_or lines i no_line).denominator in
     let small : nat_abs d ≤ 2 ^ 30 = size_most d (2 ^ 30) l.positive l.denominator in
-    let known : read d ≡ d = read_number d (omega (arith, small)) in
-    subst (IsLineRead lines i) (sym (ap (λ (m : Line). m.denominator) same))
-    (record {
-      is = known;
-      some = subst (λ (z : ℤ). 0 < nat_abs z) (sym known) (size_positive d l.positive);
-      range = subst (λ (z : ℤ). (pos 0 <ℤ z) × (z ≤ℤ pos (2 ^ 60))) (sym known) (l.positive, omega (arith, ints, l.denominator));
-    })
+    ap (λ (m : Line). read m.denominator) same ∙ read_number d (omega (arith, small))
 
--- the least multiple of both goes into each of those of all lines
-both_divide : (lines : List Line) (i : ℕ) (common d : ℤ) → i < length lines → IsLineRead lines i d → IsLeastTo lines i common →
-    (D : ℕ) → All (GoesInto D) lines → lcm (nat_abs common) (nat_abs (read d)) ∣ D
-both_divide lines i common d i_in l before D all =
-    lcm_divides (nat_abs common) (nat_abs (read d)) D l.some (before.least D all)
-    (subst (λ (z : ℤ). nat_abs z ∣ D) (sym l.is) (all i no_line i_in))
+module _ (lines : List Line) (i : ℕ) (common d : ℤ) (i_in : i < length lines) (is : read d ≡ (slice_index_or lines i no_line).denominator)
+    (before : IsLeastTo lines i common) where
+  abbrev both : ℕ
+  both = lcm (nat_abs common) (nat_abs (read d))
 
--- so none of at most 2^30 is left where it is too large
-pub too_large : (lines : List Line) (i : ℕ) (common d : ℤ) → i < length lines → IsLineRead lines i d → IsLeastTo lines i common →
-    2 ^ 30 < lcm (nat_abs common) (nat_abs (read d)) → (D : ℕ) → 0 < D → D ≤ 2 ^ 30 → All (GoesInto D) lines → ⊥
-too_large lines i common d i_in l before large D some small all =
-    omega (arith, large, small, le_of_dvd some (both_divide lines i common d i_in l before D all))
+  -- the least multiple of both goes into each of those of all lines
+  both_divide : (D : ℕ) → All (GoesInto D) lines → both ∣ D
+  both_divide D all =
+      both_go_in (nat_abs common) (nat_abs (read d)) D (before.least D all) (subst (λ (z : ℤ). nat_abs z ∣ D) (sym is) (all i no_line i_in))
 
--- the least multiple of both is one of one line more
-pub next_both : (lines : List Line) (i : ℕ) (common d new : ℤ) → i < length lines → IsLineRead lines i d → IsLeastTo lines i common →
-    (pos 0 <ℤ new) × (nat_abs new ≡ lcm (nat_abs common) (nat_abs (read d))) × (new ≤ℤ pos (2 ^ 30)) →
-    IsLeastTo lines (i + 1) (read new)
-next_both lines i common d new i_in l before made =
-    let both = lcm (nat_abs common) (nat_abs (read d)) in
-    let small : nat_abs new ≤ 2 ^ 30 = size_most new (2 ^ 30) made.0 made.2 in
-    let here : GoesInto both (slice_index_or lines i no_line) =
-    subst (λ (z : ℤ). nat_abs z ∣ both) l.is (right_divides_lcm (nat_abs common) (nat_abs (read d))) in
-    let before_it : All (GoesInto both) (take i lines) =
-    All-weaker (GoesInto (nat_abs common)) (GoesInto both)
-    (λ line divides. dvd_trans (nat_abs line.denominator) divides (left_divides_lcm (nat_abs common) (nat_abs (read d))))
-    (take i lines) before.multiple in
-    subst (IsLeastTo lines (i + 1)) (sym (read_number new (omega (arith, small))))
-    (record {
-      range = (made.0, made.2);
-      multiple = subst (λ (n : ℕ). All (GoesInto n) (take (i + 1) lines)) (sym made.1) (All-more (GoesInto both) lines i no_line i_in before_it here);
-      least = λ D all. subst (λ (n : ℕ). n ∣ D) (sym made.1) (both_divide lines i common d i_in l before D all);
-    })
+  -- so none of at most 2^30 is left where it is too large
+  pub too_large : 2 ^ 30 < both → (D : ℕ) → 0 < D → D ≤ 2 ^ 30 → All (GoesInto D) lines → ⊥
+  too_large large D some small all = omega (arith, large, small, le_of_dvd some (both_divide D all))
+
+  -- else it is one of one line more
+  pub next_both : (new : ℤ) → (pos 0 <ℤ new) × (nat_abs new ≡ both) × (new ≤ℤ pos (2 ^ 30)) → IsLeastTo lines (i + 1) (read new)
+  next_both new made =
+      let small : nat_abs new ≤ 2 ^ 30 = size_most new (2 ^ 30) made.0 made.2 in
+      let here : GoesInto both (slice_index_or lines i no_line) =
+      subst (λ (z : ℤ). nat_abs z ∣ both) is (right_divides_lcm (nat_abs common) (nat_abs (read d))) in
+      let earlier : All (GoesInto both) (take i lines) =
+      All-weaker (GoesInto (nat_abs common)) (GoesInto both)
+      (λ line divides. dvd_trans (nat_abs line.denominator) divides (left_divides_lcm (nat_abs common) (nat_abs (read d))))
+      (take i lines) before.multiple in
+      subst (IsLeastTo lines (i + 1)) (sym (read_number new (omega (arith, small))))
+      (record {
+        range = (made.0, made.2);
+        multiple = subst (λ (n : ℕ). All (GoesInto n) (take (i + 1) lines)) (sym made.1) (All-more (GoesInto both) lines i no_line i_in earlier here);
+        least = λ D all. subst (λ (n : ℕ). n ∣ D) (sym made.1) (both_divide D all);
+      })
 
 -- all lines are before the end
 pub least_common : (lines : List Line) (i : ℕ) (common : ℤ) → length lines ≤ i → IsLeastTo lines i common → IsLeastCommon lines common

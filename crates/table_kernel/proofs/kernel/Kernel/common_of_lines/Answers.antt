@@ -1,13 +1,16 @@
 -- The least multiple of one line more.
-use Rattle.std.proofs.Common.{◌<◌, length, arith, w64, to_z}
+use Rattle.std.proofs.Common.{◌≡◌, ◌<◌, length, arith, w64, to_z}
+use Rattle.std.specs.Prelude.{slice_index_or}
+use Rattle.integer_pivots.specs.Lines.{no_line}
+use Rattle.integer_pivots.proofs.Sizes.{read}
 use Rattle.table_kernel.proofs.CommonSteps.{match_none}
-use Rattle.table_kernel.proofs.LeastCommon.{IsLineRead, least_common, line_is_read, next_both, none_yet, too_large}
+use Rattle.table_kernel.proofs.LeastCommon.{least_common, line_is_read, next_both, none_yet, too_large}
 use Rattle.table_kernel.proofs.kernel.Kernel.common_of_lines.Goals.{After-index}
 use Rattle.table_kernel.proofs.kernel.Kernel.common_of_lines.Goals as goal
 
 -- the line whose turn it is
 at_line : (c : After-index) → (c.loop-var.var < length c.args.self.now.lows.items)
-    × IsLineRead c.args.self.now.lows.items c.loop-var.var c.index.result.now.denominator
+    × (read c.index.result.now.denominator ≡ (slice_index_or c.args.self.now.lows.items c.loop-var.var no_line).denominator)
 at_line c =
     let lines = c.args.self.now.lows in
     let v_in : c.loop-var.var < length lines.items = omega (arith, c.loop-var-test.true, c.len-var-end.ensures, lines.ok.0) in
@@ -26,8 +29,8 @@ returns-in_err-common c =
 pub loop-var-preserved : goal.loop-var-preserved
 loop-var-preserved c =
     let at = at_line (goal.at.loop-var-preserved c).After-index in
-    next_both c.args.self.now.lows.items c.loop-var.var (to_z w64 c.loop-var.common-bits) c.index.result.now.denominator c.in_ok-common.common
-    at.0 at.1 c.loop-var.invariant c.in_ok-common.ensures
+    next_both c.args.self.now.lows.items c.loop-var.var (to_z w64 c.loop-var.common-bits) c.index.result.now.denominator at.0 at.1
+    c.loop-var.invariant c.in_ok-common.common c.in_ok-common.ensures
 
 pub returns : goal.returns
 returns c =
