@@ -1,22 +1,16 @@
 -- The least common denominator of a row of fractions, place by place.
 use Prim.Native.Nat.{◌∣◌}
-use native.Mathlib.Nat.{one-dvd, pos_of_dvd_of_pos}
+use native.Mathlib.Nat.{one-dvd}
 use borrow.Author.Count.{below_more}
-use Rattle.std.proofs.Common.{◌≡◌, ℕ, zero, suc, ◌+◌, ◌^◌, ◌<◌, ◌≤◌, sym, subst, List, length, arith}
+use Rattle.std.proofs.Common.{◌≡◌, ℕ, suc, ◌+◌, ◌^◌, ◌<◌, ◌≤◌, sym, subst, List, length, arith}
 use Rattle.std.specs.Prelude.{ℤ, pos, ◌<ℤ◌, ◌≤ℤ◌, nat_abs}
-use Rattle.std.proofs.lemmas.Nat.Gcd.{dvd-zero, dvd_trans, le_of_dvd}
+use Rattle.std.proofs.lemmas.Nat.Gcd.{dvd_trans, le_of_dvd}
 use Rattle.whole_numbers.specs.Fractions.{Fraction, lcm}
 use Rattle.whole_numbers.proofs.Multiples.{left_divides_lcm, right_divides_lcm}
 use Rattle.design_problem.specs.Basis.{entry}
 use Rattle.integer_pivots.proofs.Sizes.{read, read_number, size_most}
 use Rattle.table_kernel.specs.ReadBack.{AllGoInto, IsLeastDenominator}
-use Rattle.table_kernel.proofs.LeastCommon.{lcm_divides}
-
--- what both numbers go into their least common multiple goes into
-pub both_go_in : (a b c : ℕ) → a ∣ c → b ∣ c → lcm a b ∣ c
-both_go_in a b zero left right = dvd-zero (lcm a b)
-both_go_in a b (suc c) left right =
-    lcm_divides a b (suc c) (pos_of_dvd_of_pos right (omega arith)) left right
+use Rattle.table_kernel.proofs.LeastCommon.{both_go_in}
 
 -- the number goes into each common denominator of the row
 abbrev pub GoesIntoCommon : List Fraction → ℕ → Type 0
