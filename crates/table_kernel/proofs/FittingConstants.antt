@@ -1,5 +1,5 @@
 -- Which constants of lines are at most 2^44 in size over a common denominator.
-use Rattle.std.proofs.Common.{◌≡◌, ℕ, ◌+◌, ◌*◌, ◌^◌, ◌<◌, ◌≤◌, ◌↔◌, refl, ◌∙◌, ap, subst, List, take, length, arith, Bool, true, false}
+use Rattle.std.proofs.Common.{◌≡◌, ℕ, ◌+◌, ◌*◌, ◌^◌, ◌<◌, ◌≤◌, ◌↔◌, refl, ◌∙◌, ap, subst, List, take, length, Bool, true, false}
 use Rattle.std.specs.Prelude.{ℤ, nat_abs, slice_index_or, All, IsTrue}
 use Rattle.std.proofs.lemmas.List.{take_all}
 use Rattle.std.proofs.lemmas.List.Elements.{All-more}

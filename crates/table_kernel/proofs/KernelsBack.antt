@@ -1,6 +1,6 @@
 -- A kernel whose lines were read back from the table in fractions.
 use Rattle.std.specs.declared.alloc.Global.{Global}
-use Rattle.std.proofs.Common.{Vec, ◌≡◌, ℕ, ◌^◌, ◌≤◌, sym, ap, subst, List, length}
+use Rattle.std.proofs.Common.{Vec, ◌≡◌, ℕ, ◌^◌, ◌≤◌, sym, subst, List, length}
 use Rattle.std.specs.Prelude.{ℤ, nat_abs, All}
 use Rattle.std.specs.Vec.{with_items}
 use Rattle.whole_numbers.proofs.Sizes.{size_positive}

@@ -17,7 +17,7 @@ use Rattle.integer_pivots.proofs.Sizes.{read, read_number, size_most}
 use Rattle.table_kernel.specs.ReadBack.{IsLeastCommon}
 
 -- a common multiple of two numbers is a multiple of the least one
-pub lcm_divides : (a b c : ℕ) → 0 < a → 0 < b → 0 < c → a ∣ c → b ∣ c → lcm a b ∣ c
+lcm_divides : (a b c : ℕ) → 0 < a → 0 < b → 0 < c → a ∣ c → b ∣ c → lcm a b ∣ c
 lcm_divides a b c a_some b_some c_some left right =
     let g = gcd a b in
     let both = gcd_is a b in
