@@ -49,7 +49,7 @@ pub mod FittingConstants
 pub mod ReadRows
 pub mod LeastDenominators
 pub mod ReadLines
-pub mod ReadKernels
+pub mod ReadSteps
 pub mod ParkedKernels
 pub mod ReadBases
 pub mod ReadRefusals
