@@ -34,7 +34,7 @@ abbrev pub metric_named : LinkName → List LiveLink → Option ℕ
 metric_named name [] = None
 metric_named name (link ∷ more) = if is_link_named_so name link then Some link.metric else metric_named name more
 
--- what is metric_noted of a name behind a link that it names: the first metric
+-- what is noted of a name behind a link that it names: the first metric
 abbrev pub metric_noted : Option (Option ℕ) → ℕ → Option (Option ℕ)
 metric_noted None metric = None
 metric_noted (Some None) metric = Some (Some metric)
