@@ -51,7 +51,8 @@ complete_order p w order rollout held is same = subst (λ (xs : List ℕ). IsSaf
       | inr lacks ↦ by_kind k within lacks (kind_of_step p.rollout p.held k) refl not_last
     ]))
   where
-    by_kind : (k : ℕ) → k < step_count p.rollout → is_one_of (order_behind_first p w.order.items) k ≡ false → (kind : Kind) → kind_of_step p.rollout p.held k ≡ kind →
+    by_kind : (k : ℕ) → k < step_count p.rollout → is_one_of (order_behind_first p w.order.items) k ≡ false →
+        (kind : Kind) → kind_of_step p.rollout p.held k ≡ kind →
         comes_last (kind_of_step p.rollout p.held k) ≡ false → is_one_of (order_behind_first p w.order.items) k ≡ true
     by_kind k within lacks First kind_is not_last =
         list_any-append (λ y. y == k) (first_steps p.rollout p.held) w.order.items
@@ -77,7 +78,8 @@ greatest_blocks p s marks is same step follows has safe =
     (All-push (λ k. k < step_count p.rollout) (order_behind_first p s.greatest) step is.most.line.known follows.known)
     (none_twice_push (order_behind_first p s.greatest) step is.most.line.once (lacks_unless (order_behind_first p s.greatest) step (λ there.
     both_ways (is_one_of (order_behind_first p s.greatest) step)
-    (sym (marks_at p.rollout (is_one_of (order_behind_first p s.greatest)) step follows.known) ∙ ap (λ (m : List Bool). is_done_in m step) (sym same) ∙ follows.left)
+    (sym (marks_at p.rollout (is_one_of (order_behind_first p s.greatest)) step follows.known)
+    ∙ ap (λ (m : List Bool). is_done_in m step) (sym same) ∙ follows.left)
     (has_one_of (order_behind_first p s.greatest) step there)))) in
     let longer = length_push (order_behind_first p s.greatest) step in
     absurd (omega (arith, most, counted, longer))

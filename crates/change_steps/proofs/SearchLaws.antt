@@ -86,7 +86,8 @@ explored_more p tested marks k explored here = λ i below follows. elim (cases_l
 pub top_safe : (p : HeldRollout) (s : Position) → IsSearch p s → IsSafe p.rollout p.held (is_done_in (way_state p s.order))
 top_safe p s is =
     marks_safe p.rollout p.held (is_one_of (order_behind_first p s.order)) (way_state p s.order) refl
-    (subst (λ (xs : List ℕ). IsSafe p.rollout p.held (is_one_of xs)) (take_all (length (order_behind_first p s.order)) (order_behind_first p s.order) (omega arith))
+    (subst (λ (xs : List ℕ). IsSafe p.rollout p.held (is_one_of xs))
+      (take_all (length (order_behind_first p s.order)) (order_behind_first p s.order) (omega arith))
     (is.line.safe (length (order_behind_first p s.order)) (omega arith)))
 
 pub top_tested : (p : HeldRollout) (s : Position) → IsSearch p s → Contains s.tested (way_state p s.order)
@@ -97,13 +98,15 @@ line_push_is p order k = sym (append_assoc (first_steps p.rollout p.held) order 
 
 -- the state after one step more
 pub way_push : (p : HeldRollout) (order : List ℕ) (k : ℕ) → k < step_count p.rollout → set (way_state p order) k true ≡ way_state p (order ++ k ∷ [])
-way_push p order k known = marks_push p.rollout (order_behind_first p order) k known ∙ ap (λ (xs : List ℕ). marks_of p.rollout (is_one_of xs)) (sym (line_push_is p order k))
+way_push p order k known = marks_push p.rollout (order_behind_first p order) k known
+    ∙ ap (λ (xs : List ℕ). marks_of p.rollout (is_one_of xs)) (sym (line_push_is p order k))
 
 -- a step that may follow isn't on the way
 step_new : (p : HeldRollout) (order : List ℕ) (k : ℕ) → MayFollow p.rollout p.held (way_state p order) k → is_one_of (order_behind_first p order) k ≡ false
 step_new p order k follows = sym (marks_at p.rollout (is_one_of (order_behind_first p order)) k follows.known) ∙ follows.left
 
-count_of : (p : HeldRollout) (order : List ℕ) → IsSafeLine p.rollout p.held (order_behind_first p order) → done_count (way_state p order) ≡ length (order_behind_first p order)
+count_of : (p : HeldRollout) (order : List ℕ) → IsSafeLine p.rollout p.held (order_behind_first p order) →
+    done_count (way_state p order) ≡ length (order_behind_first p order)
 count_of p order line = done_count_of p.rollout (order_behind_first p order) line.known line.once
 
 -- It begins with the first steps.

@@ -89,7 +89,8 @@ begun_under_way p nodes w k is follows = record {
 
 -- It tests a state.
 
-new_on_way : (p : HeldRollout) (w : Walk) (step : ℕ) → IsSearchWalk p w → IsNewStep p w.tested w.state.done.items step → IsNewStep p w.tested (way_state p w.order.items) step
+new_on_way : (p : HeldRollout) (w : Walk) (step : ℕ) → IsSearchWalk p w →
+    IsNewStep p w.tested w.state.done.items step → IsNewStep p w.tested (way_state p w.order.items) step
 new_on_way p w step is new = subst (λ (m : List Bool). IsNewStep p w.tested m step) is.here new
 
 pub before_safe : (p : HeldRollout) (w : Walk) (step : ℕ) (marks : List Bool) → IsSearchWalk p w → IsNewStep p w.tested w.state.done.items step →
@@ -142,7 +143,8 @@ walk_fails p w v step is at new unsafe room state done order next tested greates
 
 -- It goes back.
 
-pub popped_known : (p : HeldRollout) (w : Walk) (order : List ℕ) (step : ℕ) → IsSearchWalk p w → w.order.items ≡ order ++ step ∷ [] → step < step_count p.rollout
+pub popped_known : (p : HeldRollout) (w : Walk) (order : List ℕ) (step : ℕ) → IsSearchWalk p w →
+    w.order.items ≡ order ++ step ∷ [] → step < step_count p.rollout
 popped_known p w order step is same =
     subst (λ (k : ℕ). k < step_count p.rollout) (get_or_at (order_behind_first p order) step [] 0 (length (order_behind_first p order)) refl)
     (line (length (order_behind_first p order)) 0 (let count = length_push (order_behind_first p order) step in omega (arith, count)))

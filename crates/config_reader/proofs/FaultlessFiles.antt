@@ -147,7 +147,8 @@ module _ (file_name : List ℕ) (file : List (List ℕ)) where
             )
 
     -- without faults each line is fine
-    fine_from : (rest front : List (List ℕ)) → file ≡ front ++ rest → flat_map (faults_of_place file_name file) (numbers_from (length front) (length rest)) ≡ [] →
+    fine_from : (rest front : List (List ℕ)) → file ≡ front ++ rest →
+        flat_map (faults_of_place file_name file) (numbers_from (length front) (length rest)) ≡ [] →
         AllFine (second_address (said file)) (area_twice (said file) (first_heads file)) front rest
     fine_from [] front split none = tt
     fine_from (line ∷ rest) front split none =

@@ -236,11 +236,13 @@ faults_law file_name file =
         ap first_of (first_filtered (λ (s : Said). sets s.statement)
         (λ (s : Said). second_of (file_drafts file) s.number s.block s.statement) all
         (λ s quiet. unset_second (file_drafts file) s.number s.block s.statement quiet))
-        ∙ ap first_of (filter_map-map (λ (s : Said). second_of (file_drafts file) s.number s.block s.statement) (said_at_place read) (numbers_from 0 (length read)))
+        ∙ ap first_of (filter_map-map (λ (s : Said). second_of (file_drafts file) s.number s.block s.statement)
+          (said_at_place read) (numbers_from 0 (length read)))
         ∙ ap (λ (f : ℕ → Option Fault). first_of (filter_map f (numbers_from 0 (length read)))) (λ j i. one i j)
         ∙ ap (firsts_at second 0) (length-read_lines file)
       where
-        one : (i : ℕ) → second_of (file_drafts file) (said_at_place read i).number (said_at_place read i).block (said_at_place read i).statement ≡ at_line (i + 1) (second i)
+        one : (i : ℕ) → second_of (file_drafts file) (said_at_place read i).number (said_at_place read i).block (said_at_place read i).statement
+            ≡ at_line (i + 1) (second i)
         one i =
             second_same all heads (about-unheaded read) (said_at_place read i).number (said_at_place read i).block (said_at_place read i).statement
             ∙ ap (λ n. at_line n (second i)) (number_at read i)

@@ -49,7 +49,8 @@ IsOwn (AtUnread more) = ⊥
 IsOwn place = Unit {0}
 
 -- lines lead from such a place to another, and are read
-own-next : (place : TextPlace) (line : List ℕ) (next : TextPlace) → IsOwn place → Next place line next → HasLineRoom place line → IsOwn next × (length line ≤ 65536)
+own-next : (place : TextPlace) (line : List ℕ) (next : TextPlace) → IsOwn place → Next place line next → HasLineRoom place line →
+    IsOwn next × (length line ≤ 65536)
 own-next AtHead line next own is short = rw is.1 (tt, short)
 own-next AtVerdict line next own is short = rw is.leads (tt, short)
 own-next AtCosts line next own (inl none) short = rw none.1 (tt, short)

@@ -153,7 +153,8 @@ refused bytes rest instances place (Refused fault offset) so_far some place_is t
         (broken_off bytes rest instances place other so_far some place_is is)
 refused bytes rest instances place OutOfMemory so_far some place_is told = tt
 
-length_told : (rest : List ℕ) (place : ℕ) (stop : LsaStop) → TellsLsaFault (placed place (length_fault rest)) stop → TellsLsaFault (placed place (form_fault rest)) stop
+length_told : (rest : List ℕ) (place : ℕ) (stop : LsaStop) →
+    TellsLsaFault (placed place (length_fault rest)) stop → TellsLsaFault (placed place (form_fault rest)) stop
 length_told rest place (Refused fault offset) told = by_found (length_fault rest) told
   where
     by_found : (found : Option LsaFault) → placed place found ≡ Some (fault, offset) →

@@ -42,7 +42,8 @@ first_push : {X : Type 0} (pick : Statement → Option X) (file : List (List ℕ
 first_push pick file line = ap first_of (filter_map-append (λ l. pick (said_by_request_line l)) file (line ∷ []))
     ∙ first_of-push_option (pick (said_by_request_line line)) (filter_map (λ l. pick (said_by_request_line l)) file)
 
-items_push : (n : ℕ) (file : List (List ℕ)) (line : List ℕ) → items_from n (file ++ line ∷ []) ≡ items_from n file ++ item_in (n + length file) (said_by_request_line line)
+items_push : (n : ℕ) (file : List (List ℕ)) (line : List ℕ) → items_from n (file ++ line ∷ [])
+    ≡ items_from n file ++ item_in (n + length file) (said_by_request_line line)
 items_push n [] line = let place : n ≡ n + length {A = List ℕ} [] = omega arith in append-nil (item_in n (said_by_request_line line))
     ∙ ap (λ (k : ℕ). item_in k (said_by_request_line line)) place
 items_push n (first ∷ more) line =
@@ -53,7 +54,8 @@ items_push n (first ∷ more) line =
 
 pub told_push : (file : List (List ℕ)) (line : List ℕ) → told_by (file ++ line ∷ []) ≡ told_more (told_by file) (length file + 1) (said_by_request_line line)
 told_push file line =
-    let spoken : list_any (λ l. speaks (said_by_request_line l)) (file ++ line ∷ []) ≡ (list_any (λ l. speaks (said_by_request_line l)) file || speaks (said_by_request_line line)) =
+    let spoken : list_any (λ l. speaks (said_by_request_line l)) (file ++ line ∷ [])
+        ≡ (list_any (λ l. speaks (said_by_request_line l)) file || speaks (said_by_request_line line)) =
     list_any-append (λ l. speaks (said_by_request_line l)) file (line ∷ [])
     ∙ ap (λ (b : Bool). list_any (λ l. speaks (said_by_request_line l)) file || b) (or-false (speaks (said_by_request_line line))) in
     let area = first_push area_in file line in
@@ -95,7 +97,8 @@ read_begin bytes left told is none = record { file = []; to = nothing_read fault
 
 -- a line of lawful length has the fault of what it says
 short_fault : (told : Told) (text : List ℕ) → length text ≤ 65536 → fault_of_request_line told text ≡ fault_said told (said_by_request_line text)
-short_fault told text short = cond-true (nat_le (length text) 65536) (fault_said told (said_by_request_line text)) (Some BadRequestLine) (le-leb (length text) 65536 short)
+short_fault told text short =
+    cond-true (nat_le (length text) 65536) (fault_said told (said_by_request_line text)) (Some BadRequestLine) (le-leb (length text) 65536 short)
 
 pub read_more : (bytes : List ℕ) (left next : TextLeft) (told after : Told) (line : Line) → ReadTo bytes left told →
     IsLineRead left next line → fault_said told (said_by_request_line line.text.now) ≡ None →
@@ -106,7 +109,8 @@ read_more bytes left next told after line so_far read lawful is =
     let number : line.number ≡ length so_far.file + 1 = omega (arith, read.1.counted, so_far.to.read) in
     record {
       file = so_far.file ++ text ∷ [];
-      to = one_more_read fault_behind bytes left next so_far.file line so_far.to read (ap (λ (t : Told). fault_of_request_line t text) (sym so_far.told_is) ∙ found);
+      to = one_more_read fault_behind bytes left next so_far.file line so_far.to read
+        (ap (λ (t : Told). fault_of_request_line t text) (sym so_far.told_is) ∙ found);
       told_is =
           is ∙ told_is told.spoken told.area told.default_cost told.items line.number (said_by_request_line text) lawful
           ∙ ap (λ (t : Told). told_more t line.number (said_by_request_line text)) so_far.told_is
@@ -133,7 +137,8 @@ pub read_refused : (bytes : List ℕ) (left next : TextLeft) (told : Told) (line
     TellsRequestFault (fault_in_line line.number (fault_said told (said_by_request_line line.text.now))) stop →
     TellsRequestFault (request_fault bytes) stop
 read_refused bytes left next told line stop so_far read tells =
-    refused_at bytes left told line.text.now (lines next.bytes) (fault_said told (said_by_request_line line.text.now)) line.number stop so_far read.0.first.first
+    refused_at bytes left told line.text.now (lines next.bytes)
+      (fault_said told (said_by_request_line line.text.now)) line.number stop so_far read.0.first.first
     (short_fault told line.text.now (omega (arith, read.1.within, so_far.to.longest))) read.1.counted tells
 
 -- a line is refused for its length
