@@ -31,7 +31,7 @@ same_is name other same =
     let address = eqb-true name.address other.address parts.1 in
     λ i. record { router = router i; address = address i }
 
--- what is metric_noted of a name behind a link, by whether the link has the name and an end has it
+-- what is noted of a name behind a link, by whether the link has the name and an end has it
 note_is : (b e : Bool) (found : Option ℕ) (metric : ℕ) →
     cond b (metric_noted (cond e (Some found) None) metric) (cond e (Some found) None) ≡ cond e (Some (option_or found (cond b (Some metric) None))) None
 note_is true true None metric = refl
@@ -52,7 +52,7 @@ metrics_added old new ends links link has updates name =
     ∙ note_is (same_link (name_of_link link) name) (list_any (is_end_named name) ends) (metric_named name links) link.metric
     ∙ sym (ap (λ (found : Option ℕ). cond (list_any (is_end_named name) ends) (Some found) None) (metric_push name links link))
 
--- the look-up with a metric metric_noted
+-- the look-up with a metric noted
 pub metric_put : {S : Type 0} (old new : IndexMap LinkName (Option ℕ) S) (ends : List LinkEnd) (links : List LiveLink) (link : LiveLink) (metric : Option ℕ) →
     metric_noted (get same_link old (name_of_link link)) link.metric ≡ Some metric →
     ((name : LinkName) → get same_link new name ≡ cond (same_link (name_of_link link) name) (Some metric) (get same_link old name)) →
@@ -65,7 +65,7 @@ metric_put old new ends links link metric is updates has =
     by_test name true same = sym is ∙ ap (λ (n : LinkName). metric_noted (get same_link old n) link.metric) (same_is (name_of_link link) name same)
     by_test name false other = refl
 
--- and where nothing is metric_noted
+-- and where nothing is noted
 pub nothing_put : {S : Type 0} (old : IndexMap LinkName (Option ℕ) S) (ends : List LinkEnd) (links : List LiveLink) (link : LiveLink) →
     metric_noted (get same_link old (name_of_link link)) link.metric ≡ None → HasLinkMetrics old ends links → HasLinkMetrics old ends (links ++ link ∷ [])
 nothing_put old ends links link is has =
