@@ -8,7 +8,7 @@ use Rattle.design_problem.specs.Problems.{DesignProblem}
 use Rattle.design_problem.specs.Answers.{AnswerParts, IsValid}
 use Rattle.design_problem.specs.ProblemLaws.{IsTrueVerdict}
 use Rattle.design_problem.specs.Text.{text}
-use Rattle.answer_lines.specs.Grammar.{TextPlace, AtHead}
+use Rattle.answer_lines.specs.Grammar.{AtHead}
 use Rattle.evidence_reader.specs.Refusals.{IsOffGrammar}
 use Rattle.evidence_text.specs.AnswerValues.{IsAnswerValue}
 use Rattle.evidence_reader.specs.Laws.{IsNoValidText}
