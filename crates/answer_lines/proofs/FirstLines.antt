@@ -2,12 +2,12 @@
 use Rattle.std.proofs.Common.{◌≡◌, ℕ, ◌+◌, ◌≤◌, List, [], ◌∷◌, ◌++◌, length, refl, sym, ap, subst, ◌∙◌, arith, append_assoc, append-nil}
 use Rattle.text_lines.specs.Lines.{IsOneLine}
 use Rattle.answer_lines.specs.Grammar.{TextPlace, AtHead, AtVerdict, AtCosts, AtSections, AtInterface, AtCost, AtExit, AtFloor, AtRows, AtRow, AtTree, AtEnd, AfterEnd, AtOtherHead, AtInnerHead, AtOtherVerdict, AtOtherCosts, AtSectionsEnd, AtUnread, Next}
-use Rattle.answer_lines.specs.Lawful.{HasRoom, IsRead}
+use Rattle.answer_lines.specs.Lawful.{HasLineRoom, IsRead}
 use Rattle.answer_lines.specs.Places.{IsFirstInText, LacksFirst, LacksLawful}
 use Rattle.answer_lines.proofs.LineFronts.{first-one}
 
 -- a short line has room at each place
-pub has-room : (place : TextPlace) (line : List ℕ) → length line ≤ 65536 → HasRoom place line
+pub has-room : (place : TextPlace) (line : List ℕ) → length line ≤ 65536 → HasLineRoom place line
 has-room AtHead line short = short
 has-room AtVerdict line short = short
 has-room AtCosts line short = short
@@ -30,7 +30,7 @@ has-room (AtUnread more) line short = tt
 
 -- at the place lines are read: they have at most 65,536 bytes
 abbrev pub AreReadAt : TextPlace → Type 0
-AreReadAt place = (line : List ℕ) → HasRoom place line → length line ≤ 65536
+AreReadAt place = (line : List ℕ) → HasLineRoom place line → length line ≤ 65536
 
 -- where lines are read, a text without a short first line has no lawful one
 pub lacks-short : (place : TextPlace) (bytes : List ℕ) → AreReadAt place → LacksFirst bytes → LacksLawful place bytes

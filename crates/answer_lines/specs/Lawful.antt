@@ -4,14 +4,14 @@ use Rattle.text_lines.specs.Lines.{with_ends}
 use Rattle.answer_lines.specs.Grammar.{TextPlace, AtUnread, Next}
 
 -- a line that is read has at most 65,536 bytes; one that nobody reads has any number of them
-abbrev pub HasRoom : TextPlace → List ℕ → Type 0
-HasRoom (AtUnread more) line = Unit {0}
-HasRoom place line = length line ≤ 65536
+abbrev pub HasLineRoom : TextPlace → List ℕ → Type 0
+HasLineRoom (AtUnread more) line = Unit {0}
+HasLineRoom place line = length line ≤ 65536
 
 -- a line is lawful at a place, and leads to the next one: it is in the grammar there, and not too long
 pub record LineLeads (place : TextPlace) (line : List ℕ) (next : TextPlace) : Type 0 where
   pub is : Next place line next
-  pub short : HasRoom place line
+  pub short : HasLineRoom place line
 
 -- from a place these lines, each lawful where it stands, lead to another place
 abbrev pub LeadOn : TextPlace → List (List ℕ) → TextPlace → Type 0

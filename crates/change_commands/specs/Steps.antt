@@ -8,8 +8,7 @@ use Rattle.lsdb_build.specs.Graphs.{Database}
 use Rattle.design_problem.specs.declared.answer.CostLine.{CostLine}
 use Rattle.design_problem.specs.Text.{spaced}
 use Rattle.text_lines.specs.Lines.{with_ends}
-use Rattle.evidence_reader.specs.declared.stop.AnswerFault.{AnswerFault}
-use Rattle.evidence_reader.specs.Refusals.{IsTextRefused, number_of as number_of_text}
+use Rattle.evidence_reader.specs.Refusals.{IsOffGrammar}
 use Rattle.sections_reader.specs.Texts.{SaysCosts, start_of_bytes}
 use Rattle.change_steps.specs.declared.found.Barrier.{Barrier}
 use Rattle.change_steps.specs.declared.found.Barrier.TheVariants.{Path, Untested}
@@ -123,12 +122,6 @@ pub record ShowsSteps (nodes : ℕ) (by : StepUnit) (plan : Plan) (aim : Status)
   pub status : outcome_status steps.outcome ≡ aim
   pub spelled : bytes ≡ steps_text by plan.input.database (moves_of by plan.input lines) steps
 
--- the text is off its grammar
-pub record IsPlanOffGrammar (bytes : List ℕ) (rejection : Rejection) : Type 0 where
-  pub fault : AnswerFault
-  pub refused : IsTextRefused (start_of_bytes bytes) 0 bytes fault rejection.place
-  pub number : rejection.number ≡ number_of_text fault
-
 -- the text says that there are no costs
 pub record SaysNoCosts (bytes : List ℕ) (rejection : Rejection) : Type 0 where
   pub said : SaysCosts bytes None
@@ -146,7 +139,9 @@ pub record HasFaultyLine (plan : Plan) (rejection : Rejection) : Type 0 where
 
 -- why a plan is refused
 abbrev pub IsPlanRefused : Plan → Rejection → Type 0
-IsPlanRefused plan rejection = IsPlanOffGrammar plan.bytes rejection ⊎ SaysNoCosts plan.bytes rejection ⊎ HasFaultyLine plan rejection
+IsPlanRefused plan rejection =
+    IsOffGrammar (start_of_bytes plan.bytes) plan.bytes rejection.number rejection.place
+    ⊎ SaysNoCosts plan.bytes rejection ⊎ HasFaultyLine plan rejection
 
 -- `steps`: a safe order; or that there is none; or that the budget was used up; else the text is refused
 abbrev pub MaySteps : ℕ → StepUnit → Plan → Status → List ℕ → Type 0

@@ -17,8 +17,8 @@ use Rattle.change_steps.specs.Rollouts.{IsRollout, Rollout, step_count}
 use Rattle.change_steps.specs.Orders.{AreHeld, IsSafe, IsSafeOrder, is_one_of}
 use Rattle.change_steps.specs.Kinds.{comes_between, comes_first, comes_last, first_steps, kind_of_step, steps_between}
 use Rattle.change_steps.specs.States.{AreAllReached, IsAnotherReached, MayFollow, is_done_in, marks_of}
-use Rattle.change_steps.specs.Outcomes.{AreStepsFound, HasNoOrder, IsBarrier, IsBudgetSpent, IsGreatest, IsOutcome, IsSearchEnd, done_count}
-use Rattle.change_steps.specs.Search.{AreBlockedIn, HeldRollout, IsSearch, Position, last_steps, line_of, way_state}
+use Rattle.change_steps.specs.Outcomes.{AreStepsFound, HasNoOrder, IsBarrier, IsStateBudgetSpent, IsGreatest, IsOutcome, IsSearchEnd, done_count}
+use Rattle.change_steps.specs.Search.{AreBlockedIn, HeldRollout, IsSearch, Position, last_steps, order_behind_first, way_state}
 use Rattle.change_steps.specs.Walks.{IsComplete, IsUnderWay}
 use Rattle.change_steps.proofs.Keeping.{known_if, lacks_unless}
 use Rattle.change_steps.proofs.StateCosts.{has_one_of, one_of_has}
@@ -39,20 +39,21 @@ first_not_last Between is = absurd (false≢true is)
 first_not_last Last is = absurd (false≢true is)
 
 pub complete_order : (p : HeldRollout) (w : Walk) (order : List ℕ) → IsRollout p.rollout → AreHeld p.rollout p.held → IsComplete p w →
-    order ≡ line_of p w.order.items ++ last_steps p → IsSafeOrder p.rollout p.held order
+    order ≡ order_behind_first p w.order.items ++ last_steps p → IsSafeOrder p.rollout p.held order
 complete_order p w order rollout held is same = subst (λ (xs : List ℕ). IsSafeOrder p.rollout p.held xs) (sym same)
-    (line_ends p.rollout p.held (line_of p w.order.items) rollout held is.walk.search.line
+    (line_ends p.rollout p.held (order_behind_first p w.order.items) rollout held is.walk.search.line
     (λ k has. elim (one_of_both (first_steps p.rollout p.held) w.order.items k has) [
       | inl first ↦ first_not_last (kind_of_step p.rollout p.held k) (that_passes p.rollout (λ i. comes_first (kind_of_step p.rollout p.held i)) k first).1
       | inr between ↦ ap comes_last (known_if (λ i. kind_of_step p.rollout p.held i ≡ Between) w.order.items k is.walk.search.between (one_of_has w.order.items k between))
     ])
-    (λ k within not_last. elim (cases_Bool (is_one_of (line_of p w.order.items) k)) [
+    (λ k within not_last. elim (cases_Bool (is_one_of (order_behind_first p w.order.items) k)) [
       | inl has ↦ has
       | inr lacks ↦ by_kind k within lacks (kind_of_step p.rollout p.held k) refl not_last
     ]))
   where
-    by_kind : (k : ℕ) → k < step_count p.rollout → is_one_of (line_of p w.order.items) k ≡ false → (kind : Kind) → kind_of_step p.rollout p.held k ≡ kind →
-        comes_last (kind_of_step p.rollout p.held k) ≡ false → is_one_of (line_of p w.order.items) k ≡ true
+    by_kind : (k : ℕ) → k < step_count p.rollout → is_one_of (order_behind_first p w.order.items) k ≡ false →
+        (kind : Kind) → kind_of_step p.rollout p.held k ≡ kind →
+        comes_last (kind_of_step p.rollout p.held k) ≡ false → is_one_of (order_behind_first p w.order.items) k ≡ true
     by_kind k within lacks First kind_is not_last =
         list_any-append (λ y. y == k) (first_steps p.rollout p.held) w.order.items
         ∙ or_left (is_one_of (first_steps p.rollout p.held) k) (is_one_of w.order.items k)
@@ -60,7 +61,7 @@ complete_order p w order rollout held is same = subst (λ (xs : List ℕ). IsSaf
     by_kind k within lacks Between kind_is not_last = absurd (is.whole k (record {
       known = within;
       between = kind_is;
-      left = ap (λ (m : List Bool). is_done_in m k) is.walk.here ∙ marks_at p.rollout (is_one_of (line_of p w.order.items)) k within ∙ lacks;
+      left = ap (λ (m : List Bool). is_done_in m k) is.walk.here ∙ marks_at p.rollout (is_one_of (order_behind_first p w.order.items)) k within ∙ lacks;
     }))
     by_kind k within lacks Last kind_is not_last = absurd (both_ways (comes_last (kind_of_step p.rollout p.held k)) not_last (ap comes_last kind_is))
 
@@ -71,18 +72,19 @@ pub greatest_blocks : (p : HeldRollout) (s : Position) (marks : List Bool) → I
 greatest_blocks p s marks is same step follows has safe =
     let at : get_or s.tested has.0 [] ≡ set marks step true = get_or_default s.tested has.0 [] (set marks step true) has.1 ∙ has.2 in
     let most = is.most.greatest has.0 has.1 (subst (λ (m : List Bool). IsSafe p.rollout p.held (is_done_in m)) (sym at) safe) in
-    let counted : done_count (get_or s.tested has.0 []) ≡ length (line_of p s.greatest ++ step ∷ []) =
-    ap done_count (at ∙ ap (λ (m : List Bool). set m step true) same ∙ marks_push p.rollout (line_of p s.greatest) step follows.known)
-    ∙ done_count_of p.rollout (line_of p s.greatest ++ step ∷ [])
-    (All-push (λ k. k < step_count p.rollout) (line_of p s.greatest) step is.most.line.known follows.known)
-    (none_twice_push (line_of p s.greatest) step is.most.line.once (lacks_unless (line_of p s.greatest) step (λ there.
-    both_ways (is_one_of (line_of p s.greatest) step)
-    (sym (marks_at p.rollout (is_one_of (line_of p s.greatest)) step follows.known) ∙ ap (λ (m : List Bool). is_done_in m step) (sym same) ∙ follows.left)
-    (has_one_of (line_of p s.greatest) step there)))) in
-    let longer = length_push (line_of p s.greatest) step in
+    let counted : done_count (get_or s.tested has.0 []) ≡ length (order_behind_first p s.greatest ++ step ∷ []) =
+    ap done_count (at ∙ ap (λ (m : List Bool). set m step true) same ∙ marks_push p.rollout (order_behind_first p s.greatest) step follows.known)
+    ∙ done_count_of p.rollout (order_behind_first p s.greatest ++ step ∷ [])
+    (All-push (λ k. k < step_count p.rollout) (order_behind_first p s.greatest) step is.most.line.known follows.known)
+    (none_twice_push (order_behind_first p s.greatest) step is.most.line.once (lacks_unless (order_behind_first p s.greatest) step (λ there.
+    both_ways (is_one_of (order_behind_first p s.greatest) step)
+    (sym (marks_at p.rollout (is_one_of (order_behind_first p s.greatest)) step follows.known)
+    ∙ ap (λ (m : List Bool). is_done_in m step) (sym same) ∙ follows.left)
+    (has_one_of (order_behind_first p s.greatest) step there)))) in
+    let longer = length_push (order_behind_first p s.greatest) step in
     absurd (omega (arith, most, counted, longer))
 
-pub search_end : (p : HeldRollout) (s : Position) (marks : List Bool) (stuck : Stuck) → IsSearch p s → stuck.done.items ≡ line_of p s.greatest →
+pub search_end : (p : HeldRollout) (s : Position) (marks : List Bool) (stuck : Stuck) → IsSearch p s → stuck.done.items ≡ order_behind_first p s.greatest →
     marks ≡ marks_of p.rollout (is_one_of stuck.done.items) → AreBlockedIn p s.tested marks stuck.blocked.items → IsSearchEnd p.rollout p.held s.tested stuck
 search_end p s marks stuck is done same blocked = record {
   greatest = subst (λ (xs : List ℕ). IsGreatest p.rollout p.held s.tested xs) (sym done) is.most;
@@ -129,7 +131,7 @@ no_order_found p nodes w stuck rollout is all end = record {
 
 pub budget_spent : (p : HeldRollout) (nodes : ℕ) (w : Walk) (stuck : Stuck) → IsUnderWay p nodes w → length w.tested ≡ max 1 nodes →
     IsAnotherReached p.rollout p.held w.tested → IsSearchEnd p.rollout p.held w.tested stuck →
-    IsBudgetSpent p.rollout p.held nodes stuck × (nodes < 2 ^ length (steps_between p.rollout p.held))
+    IsStateBudgetSpent p.rollout p.held nodes stuck × (nodes < 2 ^ length (steps_between p.rollout p.held))
 budget_spent p nodes w stuck is spent another end = (
   record { tested = w.tested; are = is.walk.search.are; spent = spent; another = another; came = end },
   budget_short p.rollout p.held w.tested nodes is.walk.search.are spent another,

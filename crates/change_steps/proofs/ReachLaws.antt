@@ -19,7 +19,7 @@ use Rattle.change_steps.specs.Rollouts.{CostMoves, IsInterfaceCost, IsRollout, R
 use Rattle.change_steps.specs.Orders.{IsOnlyIn, costs_in, is_changed, is_one_of}
 use Rattle.change_steps.specs.States.{is_done_in}
 use Rattle.change_steps.specs.Search.{HasMore}
-use Rattle.change_steps.specs.Reaches.{AreAtLeast, AreDearerOver, AreLeastTo, IsHarmless, IsReach, at_least, edges_of_step, has_price, least_cost, least_costs, price_rises}
+use Rattle.change_steps.specs.Reaches.{AreAtLeast, AreDearerOver, AreLeastTo, IsHarmless, IsReach, least_from_to, edges_of_step, has_price, least_cost, least_costs, price_rises}
 use Rattle.change_steps.proofs.Keeping.{known_if, only_unless, paid, pays_more}
 use Rattle.change_steps.proofs.Passages.{costs_over}
 use Rattle.change_steps.proofs.StateCosts.{changed_if, cost_at, cost_changed, cost_left, costs_le, has_one_of, one_of_has, price_le}
@@ -169,12 +169,12 @@ least_point_fits r g p is graph same =
 pub dearer_over : (r : Rollout) (done : ℕ → Bool) (least : List (List ℕ)) (k e mine : ℕ) → IsRollout r →
     AreAtLeast r.graph (at_costs (least_costs r.moves)) least →
     mine ≡ cost r.graph (at_costs (costs_in r.moves done)) (request_at r.paths k).path.edges →
-    mine < at_least least (request_at r.paths k).path.start (edge_at r.graph e).from
-    + (paid r.graph (at_costs (costs_in r.moves done)) e + at_least least (edge_at r.graph e).to (request_at r.paths k).end) →
+    mine < least_from_to least (request_at r.paths k).path.start (edge_at r.graph e).from
+    + (paid r.graph (at_costs (costs_in r.moves done)) e + least_from_to least (edge_at r.graph e).to (request_at r.paths k).end) →
     AreDearerOver r done k e
 dearer_over r done least k e mine is are same less = λ other path has.
     let over = costs_over r.graph (at_costs (costs_in r.moves done)) (request_ends (request_at r.paths k)) e
-    (at_least least (request_at r.paths k).path.start (edge_at r.graph e).from) (at_least least (edge_at r.graph e).to (request_at r.paths k).end)
+    (least_from_to least (request_at r.paths k).path.start (edge_at r.graph e).from) (least_from_to least (edge_at r.graph e).to (request_at r.paths k).end)
     other is.graph path has
     (λ way is_way. let low = are (edge_at r.graph e).from (request_at r.paths k).path.start way is_way in let up = least_paid r done way in omega (arith, low, up))
     (λ way is_way. let low = are (request_at r.paths k).end (edge_at r.graph e).to way is_way in let up = least_paid r done way in omega (arith, low, up)) in

@@ -11,7 +11,7 @@ use Rattle.change_steps.specs.Orders.{AreHeld, IsSafe, IsSafeLine, is_one_of}
 use Rattle.change_steps.specs.Kinds.{first_steps, kind_of_step}
 use Rattle.change_steps.specs.States.{AreAllReached, AreTested, IsAnotherReached, IsReached, MayFollow, is_done_in, marks_of}
 use Rattle.change_steps.specs.Outcomes.{IsGreatest, done_count}
-use Rattle.change_steps.specs.Search.{AllLack, HeldRollout, IsExplored, IsNewStep, IsOnWay, IsSearch, Position, line_of, longer_of, way_state}
+use Rattle.change_steps.specs.Search.{AllLack, HeldRollout, IsExplored, IsNewStep, IsOnWay, IsSearch, Position, order_behind_first, longer_of, way_state}
 use Rattle.change_steps.proofs.MarkLaws.{done_count_of, marks_at, marks_push, marks_safe, safe_marks}
 use Rattle.change_steps.proofs.OrderLaws.{first_line, first_state_is, line_left, line_push}
 
@@ -85,26 +85,29 @@ explored_more p tested marks k explored here = λ i below follows. elim (cases_l
 -- where the search stands
 pub top_safe : (p : HeldRollout) (s : Position) → IsSearch p s → IsSafe p.rollout p.held (is_done_in (way_state p s.order))
 top_safe p s is =
-    marks_safe p.rollout p.held (is_one_of (line_of p s.order)) (way_state p s.order) refl
-    (subst (λ (xs : List ℕ). IsSafe p.rollout p.held (is_one_of xs)) (take_all (length (line_of p s.order)) (line_of p s.order) (omega arith))
-    (is.line.safe (length (line_of p s.order)) (omega arith)))
+    marks_safe p.rollout p.held (is_one_of (order_behind_first p s.order)) (way_state p s.order) refl
+    (subst (λ (xs : List ℕ). IsSafe p.rollout p.held (is_one_of xs))
+      (take_all (length (order_behind_first p s.order)) (order_behind_first p s.order) (omega arith))
+    (is.line.safe (length (order_behind_first p s.order)) (omega arith)))
 
 pub top_tested : (p : HeldRollout) (s : Position) → IsSearch p s → Contains s.tested (way_state p s.order)
 top_tested p s is = subst (λ (xs : List ℕ). Contains s.tested (way_state p xs)) (take_all (length s.order) s.order (omega arith)) (is.on_way (length s.order) (omega arith))
 
-line_push_is : (p : HeldRollout) (order : List ℕ) (k : ℕ) → line_of p (order ++ k ∷ []) ≡ line_of p order ++ k ∷ []
+line_push_is : (p : HeldRollout) (order : List ℕ) (k : ℕ) → order_behind_first p (order ++ k ∷ []) ≡ order_behind_first p order ++ k ∷ []
 line_push_is p order k = sym (append_assoc (first_steps p.rollout p.held) order (k ∷ []))
 
 -- the state after one step more
 pub way_push : (p : HeldRollout) (order : List ℕ) (k : ℕ) → k < step_count p.rollout → set (way_state p order) k true ≡ way_state p (order ++ k ∷ [])
-way_push p order k known = marks_push p.rollout (line_of p order) k known ∙ ap (λ (xs : List ℕ). marks_of p.rollout (is_one_of xs)) (sym (line_push_is p order k))
+way_push p order k known = marks_push p.rollout (order_behind_first p order) k known
+    ∙ ap (λ (xs : List ℕ). marks_of p.rollout (is_one_of xs)) (sym (line_push_is p order k))
 
 -- a step that may follow isn't on the way
-step_new : (p : HeldRollout) (order : List ℕ) (k : ℕ) → MayFollow p.rollout p.held (way_state p order) k → is_one_of (line_of p order) k ≡ false
-step_new p order k follows = sym (marks_at p.rollout (is_one_of (line_of p order)) k follows.known) ∙ follows.left
+step_new : (p : HeldRollout) (order : List ℕ) (k : ℕ) → MayFollow p.rollout p.held (way_state p order) k → is_one_of (order_behind_first p order) k ≡ false
+step_new p order k follows = sym (marks_at p.rollout (is_one_of (order_behind_first p order)) k follows.known) ∙ follows.left
 
-count_of : (p : HeldRollout) (order : List ℕ) → IsSafeLine p.rollout p.held (line_of p order) → done_count (way_state p order) ≡ length (line_of p order)
-count_of p order line = done_count_of p.rollout (line_of p order) line.known line.once
+count_of : (p : HeldRollout) (order : List ℕ) → IsSafeLine p.rollout p.held (order_behind_first p order) →
+    done_count (way_state p order) ≡ length (order_behind_first p order)
+count_of p order line = done_count_of p.rollout (order_behind_first p order) line.known line.once
 
 -- It begins with the first steps.
 
@@ -134,15 +137,15 @@ search_begins p is are = record {
     within = omega arith;
     same = refl;
     greatest = λ i within safe. let count = count_of p [] line in let first : i ≡ 0 = omega (arith, within) in
-        subst (λ (n : ℕ). done_count (get_or (way_state p [] ∷ []) n []) ≤ length (line_of p [])) (sym first) (omega (arith, count));
+        subst (λ (n : ℕ). done_count (get_or (way_state p [] ∷ []) n []) ≤ length (order_behind_first p [])) (sym first) (omega (arith, count));
     earliest = λ i less safe. absurd (omega arith);
   };
 }
   where
-    none : line_of p [] ≡ first_steps p.rollout p.held
+    none : order_behind_first p [] ≡ first_steps p.rollout p.held
     none = append-nil (first_steps p.rollout p.held)
 
-    line : IsSafeLine p.rollout p.held (line_of p [])
+    line : IsSafeLine p.rollout p.held (order_behind_first p [])
     line = subst (λ (xs : List ℕ). IsSafeLine p.rollout p.held xs) (sym none) (first_line p.rollout p.held is are)
 
     none_taken : (d : ℕ) → take {A = ℕ} d [] ≡ []
@@ -251,7 +254,7 @@ search_fails p s step is at new unsafe = search_moves p (record { order = s.orde
       on_way = λ d within. Contains-append_left s.tested (marks ∷ []) (way_state p (take d s.order)) (is.on_way d within);
       explored = λ d within. explored_push p s.tested marks (way_state p (take d s.order)) (get_or (s.order ++ s.next ∷ []) d 0) (is.explored d within);
       finished = finished_push p s.tested marks s.order is.finished (λ safe. absurd (unsafe safe));
-      most = greatest_stays p s.tested marks (line_of p s.greatest) is.most (λ safe. absurd (unsafe safe));
+      most = greatest_stays p s.tested marks (order_behind_first p s.greatest) is.most (λ safe. absurd (unsafe safe));
     })
     (explored_more p tested (way_state p s.order) step
     (explored_push p s.tested marks (way_state p s.order) step (subst (λ (n : ℕ). IsExplored p s.tested (way_state p s.order) n) at (top_explored p s is)))
@@ -265,16 +268,16 @@ search_fails p s step is at new unsafe = search_moves p (record { order = s.orde
 
 -- a safe state
 record Entered (p : HeldRollout) (s : Position) (step : ℕ) : Type 0 where
-  line : IsSafeLine p.rollout p.held (line_of p (s.order ++ step ∷ []))
+  line : IsSafeLine p.rollout p.held (order_behind_first p (s.order ++ step ∷ []))
   way : set (way_state p s.order) step true ≡ way_state p (s.order ++ step ∷ [])
 
 entered : (p : HeldRollout) (s : Position) (step : ℕ) → IsSearch p s → IsNewStep p s.tested (way_state p s.order) step →
     IsSafe p.rollout p.held (is_done_in (set (way_state p s.order) step true)) → Entered p s step
 entered p s step is new safe = record {
   line = subst (λ (xs : List ℕ). IsSafeLine p.rollout p.held xs) (sym (line_push_is p s.order step))
-      (line_push p.rollout p.held (line_of p s.order) step is.line new.follows.known (step_new p s.order step new.follows)
-      (safe_marks p.rollout p.held (is_one_of (line_of p s.order ++ step ∷ [])) (set (way_state p s.order) step true)
-      (marks_push p.rollout (line_of p s.order) step new.follows.known) safe));
+      (line_push p.rollout p.held (order_behind_first p s.order) step is.line new.follows.known (step_new p s.order step new.follows)
+      (safe_marks p.rollout p.held (is_one_of (order_behind_first p s.order ++ step ∷ [])) (set (way_state p s.order) step true)
+      (marks_push p.rollout (order_behind_first p s.order) step new.follows.known) safe));
   way = way_push p s.order step new.follows.known;
 }
 
@@ -282,9 +285,9 @@ entered p s step is new safe = record {
 greatest_enters : (p : HeldRollout) (s : Position) (step : ℕ) (longer : Bool) → longer ≡ nat_lt (length s.greatest) (length (s.order ++ step ∷ [])) →
     IsSearch p s → IsNewStep p s.tested (way_state p s.order) step → Entered p s step →
     IsGreatest p.rollout p.held (s.tested ++ set (way_state p s.order) step true ∷ [])
-    (line_of p (if longer then (s.order ++ step ∷ []) else s.greatest))
+    (order_behind_first p (if longer then (s.order ++ step ∷ []) else s.greatest))
 greatest_enters p s step false compared is new enters =
-    greatest_stays p s.tested (set (way_state p s.order) step true) (line_of p s.greatest) is.most (λ safe.
+    greatest_stays p s.tested (set (way_state p s.order) step true) (order_behind_first p s.greatest) is.most (λ safe.
     let fewer = ltb-false (length s.greatest) (length (s.order ++ step ∷ [])) (sym compared) in
     let count = ap done_count enters.way ∙ count_of p (s.order ++ step ∷ []) enters.line in
     let mine = length-append (first_steps p.rollout p.held) (s.order ++ step ∷ []) in
@@ -313,7 +316,7 @@ greatest_enters p s step true compared is new enters = record {
     marks = set (way_state p s.order) step true
 
     fewer : (i : ℕ) → i < length s.tested → IsSafe p.rollout p.held (is_done_in (get_or (s.tested ++ set (way_state p s.order) step true ∷ []) i [])) →
-        done_count (get_or (s.tested ++ set (way_state p s.order) step true ∷ []) i []) < length (line_of p (s.order ++ step ∷ []))
+        done_count (get_or (s.tested ++ set (way_state p s.order) step true ∷ []) i []) < length (order_behind_first p (s.order ++ step ∷ []))
     fewer i before safe =
         let at = get_or_append_left s.tested (set (way_state p s.order) step true ∷ []) [] i before in
         let was = is.most.greatest i before (subst (λ (m : List Bool). IsSafe p.rollout p.held (is_done_in m)) at safe) in
@@ -392,12 +395,12 @@ search_backs p s order step is same end = search_moves p back (step + 1) whole
     back : Position
     back = record { order = order; next = step; tested = s.tested; greatest = s.greatest }
 
-    line : IsSafeLine p.rollout p.held (line_of p order ++ step ∷ [])
-    line = subst (λ (xs : List ℕ). IsSafeLine p.rollout p.held xs) (ap (line_of p) same ∙ line_push_is p order step) is.line
+    line : IsSafeLine p.rollout p.held (order_behind_first p order ++ step ∷ [])
+    line = subst (λ (xs : List ℕ). IsSafeLine p.rollout p.held xs) (ap (order_behind_first p) same ∙ line_push_is p order step) is.line
 
     known : step < step_count p.rollout
-    known = subst (λ (k : ℕ). k < step_count p.rollout) (get_or_at (line_of p order) step [] 0 (length (line_of p order)) refl)
-        (line.known (length (line_of p order)) 0 (let count = length_push (line_of p order) step in omega (arith, count)))
+    known = subst (λ (k : ℕ). k < step_count p.rollout) (get_or_at (order_behind_first p order) step [] 0 (length (order_behind_first p order)) refl)
+        (line.known (length (order_behind_first p order)) 0 (let count = length_push (order_behind_first p order) step in omega (arith, count)))
 
     longer : length s.order ≡ length order + 1
     longer = ap length same ∙ length_push order step
@@ -414,7 +417,7 @@ search_backs p s order step is same end = search_moves p back (step + 1) whole
 
     whole : IsSearch p back
     whole = record {
-      line = line_left p.rollout p.held (line_of p order) (step ∷ []) line;
+      line = line_left p.rollout p.held (order_behind_first p order) (step ∷ []) line;
       between = All-left (λ k. kind_of_step p.rollout p.held k ≡ Between) order (step ∷ [])
           (subst (λ (xs : List ℕ). All (λ k. kind_of_step p.rollout p.held k ≡ Between) xs) same is.between);
       are = is.are;

@@ -13,8 +13,8 @@ use Rattle.change_steps.specs.Rollouts.{IsRollout, step_count}
 use Rattle.change_steps.specs.Orders.{AreHeld, IsSafe, is_one_of}
 use Rattle.change_steps.specs.Kinds.{first_steps}
 use Rattle.change_steps.specs.States.{MayFollow, is_done_in, marks_of}
-use Rattle.change_steps.specs.Search.{AllLack, HasMore, HeldRollout, IsExplored, IsNewStep, IsSearch, IsStateOf, Position, line_of, longer_of, way_state}
-use Rattle.change_steps.specs.Walks.{IsBegun, IsEnded, IsTurned, IsUnderWay, IsWalk, left_of, position_of}
+use Rattle.change_steps.specs.Search.{AllLack, HasMore, HeldRollout, IsExplored, IsNewStep, IsSearch, IsStateOf, Position, order_behind_first, longer_of, way_state}
+use Rattle.change_steps.specs.Walks.{IsBegun, IsEnded, IsWalkTurned, IsUnderWay, IsSearchWalk, left_of, position_of}
 use Rattle.change_steps.proofs.Keeping.{has_lacks}
 use Rattle.change_steps.proofs.StateCosts.{one_of_has}
 use Rattle.change_steps.proofs.StateLaws.{set_more}
@@ -30,8 +30,8 @@ position_same : (a b : Position) → a.order ≡ b.order → a.next ≡ b.next �
 position_same a b order next tested greatest = λ i. record { order = order i; next = next i; tested = tested i; greatest = greatest i }
 
 -- a walk that stands as another one
-pub walk_same : (p : HeldRollout) (w v : Walk) → IsWalk p w → IsStateOf p.rollout v.state → v.state.done.items ≡ w.state.done.items →
-    position_of v ≡ position_of w → v.room ≡ w.room → IsWalk p v
+pub walk_same : (p : HeldRollout) (w v : Walk) → IsSearchWalk p w → IsStateOf p.rollout v.state → v.state.done.items ≡ w.state.done.items →
+    position_of v ≡ position_of w → v.room ≡ w.room → IsSearchWalk p v
 walk_same p w v is state done position room = record {
   room = subst (IsRoomFor p.rollout.graph) (sym room) is.room;
   state = state;
@@ -40,8 +40,8 @@ walk_same p w v is state done position room = record {
 }
 
 -- a walk that goes on from another step
-pub walk_moves : (p : HeldRollout) (w : Walk) (k : ℕ) → IsWalk p w → IsExplored p w.tested (way_state p w.order.items) k →
-    IsWalk p (record { state = w.state; order = w.order; next = k; tested = w.tested; greatest = w.greatest; room = w.room })
+pub walk_moves : (p : HeldRollout) (w : Walk) (k : ℕ) → IsSearchWalk p w → IsExplored p w.tested (way_state p w.order.items) k →
+    IsSearchWalk p (record { state = w.state; order = w.order; next = k; tested = w.tested; greatest = w.greatest; room = w.room })
 walk_moves p w k is explored = record {
   room = is.room;
   state = is.state;
@@ -89,10 +89,11 @@ begun_under_way p nodes w k is follows = record {
 
 -- It tests a state.
 
-new_on_way : (p : HeldRollout) (w : Walk) (step : ℕ) → IsWalk p w → IsNewStep p w.tested w.state.done.items step → IsNewStep p w.tested (way_state p w.order.items) step
+new_on_way : (p : HeldRollout) (w : Walk) (step : ℕ) → IsSearchWalk p w →
+    IsNewStep p w.tested w.state.done.items step → IsNewStep p w.tested (way_state p w.order.items) step
 new_on_way p w step is new = subst (λ (m : List Bool). IsNewStep p w.tested m step) is.here new
 
-pub before_safe : (p : HeldRollout) (w : Walk) (step : ℕ) (marks : List Bool) → IsWalk p w → IsNewStep p w.tested w.state.done.items step →
+pub before_safe : (p : HeldRollout) (w : Walk) (step : ℕ) (marks : List Bool) → IsSearchWalk p w → IsNewStep p w.tested w.state.done.items step →
     marks ≡ set w.state.done.items step true → (f : ℕ → Bool) × HasMore p.rollout f (is_done_in marks) step × IsSafe p.rollout p.held f
 before_safe p w step marks is new same = (
   is_done_in w.state.done.items,
@@ -101,10 +102,10 @@ before_safe p w step marks is new same = (
   subst (λ (m : List Bool). IsSafe p.rollout p.held (is_done_in m)) (sym is.here) (top_safe p (position_of w) is.search),
 )
 
-pub walk_enters : (p : HeldRollout) (w v : Walk) (step : ℕ) → IsWalk p w → w.next ≡ step → IsNewStep p w.tested w.state.done.items step →
+pub walk_enters : (p : HeldRollout) (w v : Walk) (step : ℕ) → IsSearchWalk p w → w.next ≡ step → IsNewStep p w.tested w.state.done.items step →
     IsSafe p.rollout p.held (is_done_in (set w.state.done.items step true)) → IsRoomFor p.rollout.graph v.room → IsStateOf p.rollout v.state →
     v.state.done.items ≡ set w.state.done.items step true → v.order.items ≡ w.order.items ++ step ∷ [] → v.next ≡ 0 →
-    v.tested ≡ w.tested ++ set w.state.done.items step true ∷ [] → v.greatest.items ≡ longer_of w.greatest.items (w.order.items ++ step ∷ []) → IsWalk p v
+    v.tested ≡ w.tested ++ set w.state.done.items step true ∷ [] → v.greatest.items ≡ longer_of w.greatest.items (w.order.items ++ step ∷ []) → IsSearchWalk p v
 walk_enters p w v step is at new safe room state done order next tested greatest = record {
   room = room;
   state = state;
@@ -123,10 +124,10 @@ walk_enters p w v step is at new safe room state done order next tested greatest
       greatest = longer_of w.greatest.items (w.order.items ++ step ∷ []);
     }
 
-pub walk_fails : (p : HeldRollout) (w v : Walk) (step : ℕ) → IsWalk p w → w.next ≡ step → IsNewStep p w.tested w.state.done.items step →
+pub walk_fails : (p : HeldRollout) (w v : Walk) (step : ℕ) → IsSearchWalk p w → w.next ≡ step → IsNewStep p w.tested w.state.done.items step →
     (IsSafe p.rollout p.held (is_done_in (set w.state.done.items step true)) → ⊥) → IsRoomFor p.rollout.graph v.room → IsStateOf p.rollout v.state →
     v.state.done.items ≡ set (set w.state.done.items step true) step false → v.order.items ≡ w.order.items → v.next ≡ step + 1 →
-    v.tested ≡ w.tested ++ set w.state.done.items step true ∷ [] → v.greatest.items ≡ w.greatest.items → IsWalk p v
+    v.tested ≡ w.tested ++ set w.state.done.items step true ∷ [] → v.greatest.items ≡ w.greatest.items → IsSearchWalk p v
 walk_fails p w v step is at new unsafe room state done order next tested greatest = record {
   room = room;
   state = state;
@@ -142,36 +143,37 @@ walk_fails p w v step is at new unsafe room state done order next tested greates
 
 -- It goes back.
 
-pub popped_known : (p : HeldRollout) (w : Walk) (order : List ℕ) (step : ℕ) → IsWalk p w → w.order.items ≡ order ++ step ∷ [] → step < step_count p.rollout
+pub popped_known : (p : HeldRollout) (w : Walk) (order : List ℕ) (step : ℕ) → IsSearchWalk p w →
+    w.order.items ≡ order ++ step ∷ [] → step < step_count p.rollout
 popped_known p w order step is same =
-    subst (λ (k : ℕ). k < step_count p.rollout) (get_or_at (line_of p order) step [] 0 (length (line_of p order)) refl)
-    (line (length (line_of p order)) 0 (let count = length_push (line_of p order) step in omega (arith, count)))
+    subst (λ (k : ℕ). k < step_count p.rollout) (get_or_at (order_behind_first p order) step [] 0 (length (order_behind_first p order)) refl)
+    (line (length (order_behind_first p order)) 0 (let count = length_push (order_behind_first p order) step in omega (arith, count)))
   where
-    line : All (λ k. k < step_count p.rollout) (line_of p order ++ step ∷ [])
+    line : All (λ k. k < step_count p.rollout) (order_behind_first p order ++ step ∷ [])
     line = subst (λ (xs : List ℕ). All (λ k. k < step_count p.rollout) xs)
-        (ap (line_of p) same ∙ sym (append_assoc (first_steps p.rollout p.held) order (step ∷ []))) is.search.line.known
+        (ap (order_behind_first p) same ∙ sym (append_assoc (first_steps p.rollout p.held) order (step ∷ []))) is.search.line.known
 
-way_pop : (p : HeldRollout) (w : Walk) (order : List ℕ) (step : ℕ) → IsWalk p w → w.order.items ≡ order ++ step ∷ [] →
+way_pop : (p : HeldRollout) (w : Walk) (order : List ℕ) (step : ℕ) → IsSearchWalk p w → w.order.items ≡ order ++ step ∷ [] →
     set (way_state p w.order.items) step false ≡ way_state p order
 way_pop p w order step is same =
     ap (λ (xs : List ℕ). set (way_state p xs) step false) same
     ∙ ap (λ (m : List Bool). set m step false) (sym (way_push p order step known))
-    ∙ toggled (way_state p order) step (marks_at p.rollout (is_one_of (line_of p order)) step known ∙ new)
+    ∙ toggled (way_state p order) step (marks_at p.rollout (is_one_of (order_behind_first p order)) step known ∙ new)
   where
     known : step < step_count p.rollout
     known = popped_known p w order step is same
 
-    new : is_one_of (line_of p order) step ≡ false
-    new = elim (cases_Bool (is_one_of (line_of p order) step)) [
-      | inl has ↦ absurd (has_lacks (line_of p order) step (one_of_has (line_of p order) step has)
-          (none_twice_seam (line_of p order) step []
-          (subst NoneTwice (ap (line_of p) same ∙ sym (append_assoc (first_steps p.rollout p.held) order (step ∷ []))) is.search.line.once)))
+    new : is_one_of (order_behind_first p order) step ≡ false
+    new = elim (cases_Bool (is_one_of (order_behind_first p order) step)) [
+      | inl has ↦ absurd (has_lacks (order_behind_first p order) step (one_of_has (order_behind_first p order) step has)
+          (none_twice_seam (order_behind_first p order) step []
+          (subst NoneTwice (ap (order_behind_first p) same ∙ sym (append_assoc (first_steps p.rollout p.held) order (step ∷ []))) is.search.line.once)))
       | inr not ↦ not
     ]
 
-pub walk_backs : (p : HeldRollout) (w v : Walk) (step : ℕ) → IsWalk p w → w.next ≡ step_count p.rollout → w.order.items ≡ v.order.items ++ step ∷ [] →
+pub walk_backs : (p : HeldRollout) (w v : Walk) (step : ℕ) → IsSearchWalk p w → w.next ≡ step_count p.rollout → w.order.items ≡ v.order.items ++ step ∷ [] →
     IsStateOf p.rollout v.state → v.state.done.items ≡ set w.state.done.items step false → v.next ≡ step + 1 → v.tested ≡ w.tested →
-    v.greatest.items ≡ w.greatest.items → IsRoomFor p.rollout.graph v.room → IsWalk p v
+    v.greatest.items ≡ w.greatest.items → IsRoomFor p.rollout.graph v.room → IsSearchWalk p v
 walk_backs p w v step is end order state done next tested greatest room = record {
   room = room;
   state = state;
@@ -193,7 +195,7 @@ turn_spends p nodes w step is new full = (
   ),
 )
 
-pub turn_tests : (p : HeldRollout) (nodes : ℕ) (w v : Walk) (step : ℕ) → IsUnderWay p nodes w → length w.tested < nodes → IsWalk p v →
+pub turn_tests : (p : HeldRollout) (nodes : ℕ) (w v : Walk) (step : ℕ) → IsUnderWay p nodes w → length w.tested < nodes → IsSearchWalk p v →
     v.tested ≡ w.tested ++ set w.state.done.items step true ∷ [] → length v.order.items ≤ length w.order.items + 1 →
     (IsSafe p.rollout p.held (is_done_in (set w.state.done.items step true)) → (k : ℕ) × MayFollow p.rollout p.held (set w.state.done.items step true) k) →
     IsUnderWay p nodes v × (left_of nodes v < left_of nodes w)
@@ -206,7 +208,7 @@ turn_tests p nodes w v step is room walk tested order lacks = (
   (let count = ap length tested in let more = length_push w.tested (set w.state.done.items step true) in omega (arith, count, more, room, order)),
 )
 
-pub turn_backs : (p : HeldRollout) (nodes : ℕ) (w v : Walk) → IsUnderWay p nodes w → IsWalk p v → v.tested ≡ w.tested →
+pub turn_backs : (p : HeldRollout) (nodes : ℕ) (w v : Walk) → IsUnderWay p nodes w → IsSearchWalk p v → v.tested ≡ w.tested →
     length v.order.items + 1 ≡ length w.order.items → IsUnderWay p nodes v × (left_of nodes v < left_of nodes w)
 turn_backs p nodes w v is walk tested order = (
   record {
@@ -217,7 +219,7 @@ turn_backs p nodes w v is walk tested order = (
   (let count = ap length tested in omega (arith, count, order)),
 )
 
-pub turn_exhausts : (p : HeldRollout) (nodes : ℕ) (w v : Walk) → IsUnderWay p nodes w → IsWalk p v → v.tested ≡ w.tested → v.order.items ≡ [] →
+pub turn_exhausts : (p : HeldRollout) (nodes : ℕ) (w v : Walk) → IsUnderWay p nodes w → IsSearchWalk p v → v.tested ≡ w.tested → v.order.items ≡ [] →
     v.next ≡ step_count p.rollout → IsEnded p nodes v Exhausted
 turn_exhausts p nodes w v is walk tested order next = (
   record {
@@ -229,7 +231,7 @@ turn_exhausts p nodes w v is walk tested order next = (
 )
 
 -- a walk that looked for its next step
-pub under_way_same : (p : HeldRollout) (nodes : ℕ) (w v : Walk) → IsUnderWay p nodes w → IsWalk p v → v.tested ≡ w.tested → IsUnderWay p nodes v
+pub under_way_same : (p : HeldRollout) (nodes : ℕ) (w v : Walk) → IsUnderWay p nodes w → IsSearchWalk p v → v.tested ≡ w.tested → IsUnderWay p nodes v
 under_way_same p nodes w v is walk tested = record {
   walk = walk;
   lack = subst (AllLack p) (sym tested) is.lack;
@@ -237,7 +239,7 @@ under_way_same p nodes w v is walk tested = record {
 }
 
 pub turned_same : (p : HeldRollout) (nodes : ℕ) (w u v : Walk) (end : Option End) → u.tested ≡ w.tested → u.order.items ≡ w.order.items →
-    IsTurned p nodes u v end → IsTurned p nodes w v end
+    IsWalkTurned p nodes u v end → IsWalkTurned p nodes w v end
 turned_same p nodes w u v None tested order turned =
     (turned.0, (let count = ap length tested in let steps = ap length order in let less = turned.1 in omega (arith, count, steps, less)))
 turned_same p nodes w u v (Some end) tested order turned = turned

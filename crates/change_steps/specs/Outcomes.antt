@@ -66,7 +66,7 @@ pub record HasNoOrder (r : Rollout) (held : List ℕ) (nodes : ℕ) (stuck : Stu
   pub came : IsSearchEnd r held tested stuck
 
 -- exactly so many states were tested, and another would be
-pub record IsBudgetSpent (r : Rollout) (held : List ℕ) (nodes : ℕ) (stuck : Stuck) : Type 0 where
+pub record IsStateBudgetSpent (r : Rollout) (held : List ℕ) (nodes : ℕ) (stuck : Stuck) : Type 0 where
   pub tested : List (List Bool)
   pub are : AreTested r held tested
   pub spent : length tested ≡ max 1 nodes
@@ -77,7 +77,7 @@ pub record IsBudgetSpent (r : Rollout) (held : List ℕ) (nodes : ℕ) (stuck : 
 abbrev pub IsOutcome : Rollout → List ℕ → ℕ → Outcome → Type 0
 IsOutcome r held nodes (Order order) = IsSafeOrder r held order.items
 IsOutcome r held nodes (NoOrder stuck) = HasNoOrder r held nodes stuck
-IsOutcome r held nodes (Undecided stuck) = IsBudgetSpent r held nodes stuck × (nodes < 2 ^ length (steps_between r held))
+IsOutcome r held nodes (Undecided stuck) = IsStateBudgetSpent r held nodes stuck × (nodes < 2 ^ length (steps_between r held))
 
 -- what is found of a rollout: the held paths, and the outcome for them
 pub record AreStepsFound (r : Rollout) (nodes : ℕ) (steps : Steps) : Type 0 where

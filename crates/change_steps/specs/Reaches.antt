@@ -46,8 +46,8 @@ abbrev pub AreAtLeast : Area → Point → List (List ℕ) → Type 0
 AreAtLeast g p least = (target : ℕ) → AreLeastTo g p target (slice_index_or least target [])
 
 -- what a path costs at least from one vertex to another
-abbrev pub at_least : List (List ℕ) → ℕ → ℕ → ℕ
-at_least least start target = slice_index_or (slice_index_or least target []) start 0
+abbrev pub least_from_to : List (List ℕ) → ℕ → ℕ → ℕ
+least_from_to least start target = slice_index_or (slice_index_or least target []) start 0
 
 -- the edges of each step, and what paths cost at least at the least costs of the variables
 pub record IsReach (r : Rollout) (reach : Reach) : Type 0 where

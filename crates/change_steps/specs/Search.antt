@@ -51,12 +51,12 @@ pub record Position : Type 0 where
   pub greatest : List ℕ
 
 -- the first steps, and some steps behind them
-abbrev pub line_of : HeldRollout → List ℕ → List ℕ
-line_of p order = first_steps p.rollout p.held ++ order
+abbrev pub order_behind_first : HeldRollout → List ℕ → List ℕ
+order_behind_first p order = first_steps p.rollout p.held ++ order
 
 -- the state after them
 abbrev pub way_state : HeldRollout → List ℕ → List Bool
-way_state p order = marks_of p.rollout (is_one_of (line_of p order))
+way_state p order = marks_of p.rollout (is_one_of (order_behind_first p order))
 
 -- of the steps below some number each that may follow a state was tested after it
 abbrev pub IsExplored : HeldRollout → List (List Bool) → List Bool → ℕ → Type 0
@@ -69,14 +69,14 @@ IsOnWay p order marks = (d : ℕ) × (d ≤ length order) × (marks ≡ way_stat
 -- what a search keeps: its way is safe and tested; of each state on the way the steps before the one that was gone on with
 -- were tested; each other safe state was tested with all that may follow
 pub record IsSearch (p : HeldRollout) (s : Position) : Type 0 where
-  pub line : IsSafeLine p.rollout p.held (line_of p s.order)
+  pub line : IsSafeLine p.rollout p.held (order_behind_first p s.order)
   pub between : All (λ k. kind_of_step p.rollout p.held k ≡ Between) s.order
   pub are : AreTested p.rollout p.held s.tested
   pub on_way : (d : ℕ) → d ≤ length s.order → Contains s.tested (way_state p (take d s.order))
   pub explored : (d : ℕ) → d ≤ length s.order → IsExplored p s.tested (way_state p (take d s.order)) (slice_index_or (s.order ++ s.next ∷ []) d 0)
   pub finished : (marks : List Bool) → Contains s.tested marks → IsSafe p.rollout p.held (is_done_in marks) →
       IsOnWay p s.order marks ⊎ IsExplored p s.tested marks (step_count p.rollout)
-  pub most : IsGreatest p.rollout p.held s.tested (line_of p s.greatest)
+  pub most : IsGreatest p.rollout p.held s.tested (order_behind_first p s.greatest)
 
 -- each safe state that was tested lacks a step between
 abbrev pub AllLack : HeldRollout → List (List Bool) → Type 0

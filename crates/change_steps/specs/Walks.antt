@@ -12,7 +12,7 @@ abbrev pub position_of : Walk → Position
 position_of w = record { order = w.order.items; next = w.next; tested = w.tested; greatest = w.greatest.items }
 
 -- what a walk keeps: its state is that of its way
-pub record IsWalk (p : HeldRollout) (w : Walk) : Type 0 where
+pub record IsSearchWalk (p : HeldRollout) (w : Walk) : Type 0 where
   pub room : IsRoomFor p.rollout.graph w.room
   pub state : IsStateOf p.rollout w.state
   pub here : w.state.done.items ≡ way_state p w.order.items
@@ -20,19 +20,19 @@ pub record IsWalk (p : HeldRollout) (w : Walk) : Type 0 where
 
 -- a walk that stands at the state of the first steps, the one that was tested
 pub record IsBegun (p : HeldRollout) (w : Walk) : Type 0 where
-  pub walk : IsWalk p w
+  pub walk : IsSearchWalk p w
   pub order : w.order.items ≡ []
   pub tested : w.tested ≡ way_state p [] ∷ []
 
 -- a walk of which no tested safe state has all steps between, and whose tested states are within the budget
 pub record IsUnderWay (p : HeldRollout) (nodes : ℕ) (w : Walk) : Type 0 where
-  pub walk : IsWalk p w
+  pub walk : IsSearchWalk p w
   pub lack : AllLack p w.tested
   pub few : length w.tested ≤ max 1 nodes
 
 -- a walk whose state has all steps between
 pub record IsComplete (p : HeldRollout) (w : Walk) : Type 0 where
-  pub walk : IsWalk p w
+  pub walk : IsSearchWalk p w
   pub whole : (k : ℕ) → MayFollow p.rollout p.held w.state.done.items k → ⊥
 
 -- how a walk ended
@@ -46,6 +46,6 @@ abbrev pub left_of : ℕ → Walk → ℕ
 left_of nodes w = 2 * (max 1 nodes - length w.tested) + length w.order.items
 
 -- after a turn a walk is under way with less left, or it ended
-abbrev pub IsTurned : HeldRollout → ℕ → Walk → Walk → Option End → Type 0
-IsTurned p nodes old new None = IsUnderWay p nodes new × (left_of nodes new < left_of nodes old)
-IsTurned p nodes old new (Some end) = IsEnded p nodes new end
+abbrev pub IsWalkTurned : HeldRollout → ℕ → Walk → Walk → Option End → Type 0
+IsWalkTurned p nodes old new None = IsUnderWay p nodes new × (left_of nodes new < left_of nodes old)
+IsWalkTurned p nodes old new (Some end) = IsEnded p nodes new end

@@ -5,8 +5,8 @@ ghost use Rattle.change_steps.specs.Rollouts.{step_count};
 ghost use Rattle.change_steps.specs.Orders.{IsSafe};
 ghost use Rattle.change_steps.specs.States.{MayFollow, is_done_in};
 ghost use Rattle.change_steps.specs.Outcomes.{IsBarrier, IsOutcome, IsSearchEnd};
-ghost use Rattle.change_steps.specs.Search.{AreBlockedIn, IsStateOf, last_steps, line_of as way_of};
-ghost use Rattle.change_steps.specs.Walks.{IsEnded, IsWalk};
+ghost use Rattle.change_steps.specs.Search.{AreBlockedIn, IsStateOf, last_steps, order_behind_first as way_of};
+ghost use Rattle.change_steps.specs.Walks.{IsEnded, IsSearchWalk};
 
 use crate::found::{Barrier, Blocked, Outcome, Stuck};
 use crate::kinds::Kind;
@@ -106,7 +106,7 @@ fn blocked_in(
 
 /// How far a search came.
 fn stuck_of(alloc: Global, plan: &Plan, walk: &mut Walk) -> Result<Stuck, OutOfMemory>
-    requires { IsWalk plan.now walk.old }
+    requires { IsSearchWalk plan.now walk.old }
     ensures { IfOk result (IsSearchEnd plan.now.rollout plan.now.held walk.old.tested) }
 {
     let done = line_of(alloc, plan, &walk.greatest)?;

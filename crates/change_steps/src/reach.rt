@@ -6,7 +6,7 @@ ghost use Rattle.spf_ties.specs.Distances.{IsRoomFor};
 ghost use Rattle.change_steps.specs.Rollouts.{step_count};
 ghost use Rattle.change_steps.specs.States.{is_done_in};
 ghost use Rattle.change_steps.specs.Search.{IsStateOf};
-ghost use Rattle.change_steps.specs.Reaches.{AreAtLeast, AreDearerOver, AreLeastTo, IsHarmless, IsReach, at_least, edges_of_step, has_price, least_cost, least_costs, price_rises};
+ghost use Rattle.change_steps.specs.Reaches.{AreAtLeast, AreDearerOver, AreLeastTo, IsHarmless, IsReach, least_from_to, edges_of_step, has_price, least_cost, least_costs, price_rises};
 
 use crate::kinds::{Kind, is_kind, line_rises};
 use crate::marks::no_marks;
@@ -275,7 +275,7 @@ impl Reach {
 
     /// What a path costs at least from one vertex to another.
     fn at_least(&self, start: u32, target: u32) -> u128
-        ensures least { result ≡ at_least self.now.least start target }
+        ensures least { result ≡ least_from_to self.now.least start target }
         ensures below { result < 2 ^ 32 }
     {
         let least = self.least.as_slice();

@@ -5,7 +5,7 @@ ghost use Rattle.change_steps.specs.Rollouts.{step_count};
 ghost use Rattle.change_steps.specs.Orders.{IsSafe};
 ghost use Rattle.change_steps.specs.States.{MayFollow, is_done_in};
 ghost use Rattle.change_steps.specs.Search.{AllLack, IsNewStep, IsStateOf, longer_of};
-ghost use Rattle.change_steps.specs.Walks.{IsBegun, IsEnded, IsTurned, IsUnderWay, IsWalk, position_of};
+ghost use Rattle.change_steps.specs.Walks.{IsBegun, IsEnded, IsWalkTurned, IsUnderWay, IsSearchWalk, position_of};
 
 use crate::kinds::Kind;
 use crate::plan::Plan;
@@ -97,8 +97,8 @@ impl Walk {
 
     /// The next step whose state has to be tested.
     fn find_next(&mut self, plan: &Plan) -> Option<usize>
-        requires walk { IsWalk plan.now self.old }
-        ensures walk { IsWalk plan.now self.new }
+        requires walk { IsSearchWalk plan.now self.old }
+        ensures walk { IsSearchWalk plan.now self.new }
         ensures order { self.new.order.items ≡ self.old.order.items }
         ensures tested { self.new.tested ≡ self.old.tested }
         ensures next { MatchOption result (self.new.next ≡ step_count plan.now.rollout)
@@ -134,10 +134,10 @@ impl Walk {
 
     /// Tests the state after a step, and goes on from it where it is safe.
     fn test(&mut self, alloc: Global, plan: &Plan, step: usize) -> Result<bool, OutOfMemory>
-        requires walk { IsWalk plan.now self.old }
+        requires walk { IsSearchWalk plan.now self.old }
         requires next { self.old.next ≡ step }
         requires new { IsNewStep plan.now self.old.tested self.old.state.done.items step }
-        ensures walk { IfOk result (λ safe. IsWalk plan.now self.new) }
+        ensures walk { IfOk result (λ safe. IsSearchWalk plan.now self.new) }
         ensures tested { IfOk result (λ safe. self.new.tested ≡ self.old.tested ++ slice_set self.old.state.done.items step true ∷ []) }
         ensures safe { IfOk result (λ safe. IsTrue safe ↔ IsSafe plan.now.rollout plan.now.held (is_done_in (slice_set self.old.state.done.items step true))) }
         ensures here { IfOk result (λ safe. IsTrue safe → self.new.state.done.items ≡ slice_set self.old.state.done.items step true) }
@@ -157,9 +157,9 @@ impl Walk {
 
     /// Goes back to the state before the last step, if there is one.
     fn go_back(&mut self, plan: &Plan) -> bool
-        requires walk { IsWalk plan.now self.old }
+        requires walk { IsSearchWalk plan.now self.old }
         requires next { self.old.next ≡ step_count plan.now.rollout }
-        ensures walk { IsWalk plan.now self.new }
+        ensures walk { IsSearchWalk plan.now self.new }
         ensures tested { self.new.tested ≡ self.old.tested }
         ensures order { MatchBool result (length self.new.order.items + 1 ≡ length self.old.order.items) (self.new.order.items ≡ []) }
         ensures next { MatchBool result ⊤ (self.new.next ≡ step_count plan.now.rollout) }
@@ -186,7 +186,7 @@ impl Walk {
         requires walk { IsUnderWay plan.now nodes self.old }
         requires next { self.old.next ≡ step }
         requires new { IsNewStep plan.now self.old.tested self.old.state.done.items step }
-        ensures { IfOk result (IsTurned plan.now nodes self.old self.new) }
+        ensures { IfOk result (IsWalkTurned plan.now nodes self.old self.new) }
     {
         if nodes as usize <= self.tested.len() {
             return Ok(Some(End::Spent));
@@ -205,7 +205,7 @@ impl Walk {
     fn retreat(&mut self, plan: &Plan) -> Option<End>
         requires walk { (nodes : ℕ) × IsUnderWay plan.now nodes self.old }
         requires next { self.old.next ≡ step_count plan.now.rollout }
-        ensures { (nodes : ℕ) → IsUnderWay plan.now nodes self.old → IsTurned plan.now nodes self.old self.new result }
+        ensures { (nodes : ℕ) → IsUnderWay plan.now nodes self.old → IsWalkTurned plan.now nodes self.old self.new result }
     {
         if self.go_back(plan) {
             None
@@ -217,7 +217,7 @@ impl Walk {
     /// One turn of the search: tests a state, or goes back.
     fn turn(&mut self, alloc: Global, plan: &Plan, nodes: u32) -> Result<Option<End>, OutOfMemory>
         requires { IsUnderWay plan.now nodes self.old }
-        ensures { IfOk result (IsTurned plan.now nodes self.old self.new) }
+        ensures { IfOk result (IsWalkTurned plan.now nodes self.old self.new) }
     {
         match self.find_next(plan) {
             Some(step) => self.try_step(alloc, plan, nodes, step),

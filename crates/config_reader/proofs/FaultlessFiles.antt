@@ -11,10 +11,10 @@ use Rattle.text_lines.specs.Lines.{words, kind_of}
 use Rattle.config_reader.specs.declared.stop.ConfigFault.{ConfigFault}
 use Rattle.config_reader.specs.declared.stop.ConfigFault.TheVariants.{LongLine, BadName}
 use Rattle.config_reader.specs.Statements.{Statement, Block, Network}
-use Rattle.config_reader.specs.Settings.{Said, said, said_at, networks_said}
+use Rattle.config_reader.specs.Settings.{Said, said, said_at_place, networks_said}
 use Rattle.config_reader.specs.Configs.{first_heads}
-use Rattle.config_reader.specs.Faults.{router_name, is_router_name}
-use Rattle.config_reader.specs.FaultList.{Fault, at_line, long_line, is_short, read_line, read_lines, refused, second_address, area_twice, bad_name, faults_at, faults}
+use Rattle.config_reader.specs.Faults.{router_name_said, is_router_name}
+use Rattle.config_reader.specs.FaultList.{Fault, at_line, long_line, is_short, read_line, read_lines, refused, second_address, area_twice, bad_name, faults_of_place, faults}
 use Rattle.config_reader.specs.Reading.{open_block}
 use Rattle.config_reader.specs.Drafting.{earliest, name_fault, name_from}
 use Rattle.config_reader.specs.Hearing.{heard}
@@ -63,9 +63,9 @@ said_before file front more split =
     ∙ take_at (said front) parts.0 (length front) (length-said front)
 
 said_here : (file front : List (List ℕ)) (line : List ℕ) (rest : List (List ℕ)) → file ≡ front ++ line ∷ rest →
-    said_at file (length front) ≡ said_after front line
+    said_at_place file (length front) ≡ said_after front line
 said_here file front line rest split =
-    ap (λ f. said_at f (length front)) (split ∙ sym (append_assoc front (line ∷ []) rest))
+    ap (λ f. said_at_place f (length front)) (split ∙ sym (append_assoc front (line ∷ []) rest))
     ∙ said_at-append (front ++ line ∷ []) rest (length front) (omega (arith, length-append front (line ∷ [])))
     ∙ last_said front line
 
@@ -87,44 +87,44 @@ module _ (file_name : List ℕ) (file : List (List ℕ)) where
   line_faults read i line =
       filter_map (at_line (i + 1)) (
       long_line line
-      ∷ refused (said_at read i).statement
-      ∷ second_address (said read) (said_at read i).block (said_at read i).statement
-      ∷ area_twice (said read) (first_heads read) (networks_said (take i (said read))) (said_at read i).block (said_at read i).statement
-      ∷ bad_name (router_name file_name read) (i + 1)
+      ∷ refused (said_at_place read i).statement
+      ∷ second_address (said read) (said_at_place read i).block (said_at_place read i).statement
+      ∷ area_twice (said read) (first_heads read) (networks_said (take i (said read))) (said_at_place read i).block (said_at_place read i).statement
+      ∷ bad_name (router_name_said file_name read) (i + 1)
       ∷ []
       )
 
   no_long : (rest front : List (List ℕ)) → file ≡ front ++ rest →
-      flat_map (faults_at file_name file) (numbers_from (length front) (length rest)) ≡ [] →
+      flat_map (faults_of_place file_name file) (numbers_from (length front) (length rest)) ≡ [] →
       All (λ line. is_short line ≡ true) rest
   no_long [] front split none = All-nil (λ l. is_short l ≡ true)
   no_long (line ∷ rest) front split none =
-      let parts = append-none (faults_at file_name file (length front))
-      (flat_map (faults_at file_name file) (numbers_from (length front + 1) (length rest))) none in
+      let parts = append-none (faults_of_place file_name file (length front))
+      (flat_map (faults_of_place file_name file) (numbers_from (length front + 1) (length rest))) none in
       let read = read_lines file in
       let i = length front in
       let here =
-      five_none (i + 1) (long_line (get_or file i [])) (refused (said_at read i).statement)
-      (second_address (said read) (said_at read i).block (said_at read i).statement)
-      (area_twice (said read) (first_heads read) (networks_said (take i (said read))) (said_at read i).block
-      (said_at read i).statement) (bad_name (router_name file_name read) (i + 1)) parts.0 in
+      five_none (i + 1) (long_line (get_or file i [])) (refused (said_at_place read i).statement)
+      (second_address (said read) (said_at_place read i).block (said_at_place read i).statement)
+      (area_twice (said read) (first_heads read) (networks_said (take i (said read))) (said_at_place read i).block
+      (said_at_place read i).statement) (bad_name (router_name_said file_name read) (i + 1)) parts.0 in
       let is : get_or file i [] ≡ line = ap (λ f. get_or f i []) split ∙ get_or_at front line rest [] i refl in
       All-cons (λ l. is_short l ≡ true) line rest (short_by (is_short line) (ap long_line (sym is) ∙ here.0))
       (no_long rest (front ++ line ∷ []) (split ∙ sym (append_assoc front (line ∷ []) rest))
-      (ap (λ n. flat_map (faults_at file_name file) (numbers_from n (length rest))) (one_more front line)
+      (ap (λ n. flat_map (faults_of_place file_name file) (numbers_from n (length rest))) (one_more front line)
       ∙ parts.1))
 
   module _ (same : read_lines file ≡ file) where
     -- the faults of a line behind others
     here_faults : (front : List (List ℕ)) (line : List ℕ) (rest : List (List ℕ)) → file ≡ front ++ line ∷ rest →
-        faults_at file_name file (length front)
+        faults_of_place file_name file (length front)
         ≡ filter_map (at_line (length front + 1)) (
         long_line line
         ∷ refused (statement_by (kind_of line) (open_block front) (words line))
         ∷ second_address (said file) (block_by (kind_of line) (open_block front)) (statement_by (kind_of line) (open_block front) (words line))
         ∷ area_twice (said file) (first_heads file) (networks_said (said front)) (block_by (kind_of line) (open_block front))
         (statement_by (kind_of line) (open_block front) (words line))
-        ∷ bad_name (router_name file_name file) (length front + 1)
+        ∷ bad_name (router_name_said file_name file) (length front + 1)
         ∷ []
         )
     here_faults front line rest split =
@@ -142,49 +142,50 @@ module _ (file_name : List ℕ) (file : List (List ℕ)) where
             ∷ refused statement
             ∷ second_address (said file) block statement
             ∷ area_twice (said file) (first_heads file) (networks_said before) block statement
-            ∷ bad_name (router_name file_name file) (length front + 1)
+            ∷ bad_name (router_name_said file_name file) (length front + 1)
             ∷ []
             )
 
     -- without faults each line is fine
-    fine_from : (rest front : List (List ℕ)) → file ≡ front ++ rest → flat_map (faults_at file_name file) (numbers_from (length front) (length rest)) ≡ [] →
+    fine_from : (rest front : List (List ℕ)) → file ≡ front ++ rest →
+        flat_map (faults_of_place file_name file) (numbers_from (length front) (length rest)) ≡ [] →
         AllFine (second_address (said file)) (area_twice (said file) (first_heads file)) front rest
     fine_from [] front split none = tt
     fine_from (line ∷ rest) front split none =
-        let parts = append-none (faults_at file_name file (length front))
-        (flat_map (faults_at file_name file) (numbers_from (length front + 1) (length rest))) none in
+        let parts = append-none (faults_of_place file_name file (length front))
+        (flat_map (faults_of_place file_name file) (numbers_from (length front + 1) (length rest))) none in
         let here =
         five_none (length front + 1) (long_line line) (refused (statement_by (kind_of line) (open_block front) (words line)))
         (second_address (said file) (block_by (kind_of line) (open_block front)) (statement_by (kind_of line) (open_block front) (words line)))
         (area_twice (said file) (first_heads file) (networks_said (said front)) (block_by (kind_of line) (open_block front))
         (statement_by (kind_of line) (open_block front) (words line)))
-        (bad_name (router_name file_name file) (length front + 1)) (sym (here_faults front line rest split) ∙ parts.0) in (
+        (bad_name (router_name_said file_name file) (length front + 1)) (sym (here_faults front line rest split) ∙ parts.0) in (
           record { short = short_by (is_short line) here.0; own = here.1; address = here.2; area = here.3 },
           fine_from rest (front ++ line ∷ []) (split ∙ sym (append_assoc front (line ∷ []) rest))
-              (ap (λ n. flat_map (faults_at file_name file) (numbers_from n (length rest))) (one_more front line)
+              (ap (λ n. flat_map (faults_of_place file_name file) (numbers_from n (length rest))) (one_more front line)
               ∙ parts.1),
         )
 
-    good_name : is_router_name (router_name file_name file).0 ≡ true → (n : ℕ) → bad_name (router_name file_name file) n ≡ None
+    good_name : is_router_name (router_name_said file_name file).0 ≡ true → (n : ℕ) → bad_name (router_name_said file_name file) n ≡ None
     good_name good n = ap (λ b. cond b (Some BadName) None)
-        (and_right ((router_name file_name file).1 == n) (not (is_router_name (router_name file_name file).0))
+        (and_right ((router_name_said file_name file).1 == n) (not (is_router_name (router_name_said file_name file).0))
         (ap not good))
 
     -- where each line is fine there are no faults
-    none_from : is_router_name (router_name file_name file).0 ≡ true → (rest front : List (List ℕ)) → file ≡ front ++ rest →
+    none_from : is_router_name (router_name_said file_name file).0 ≡ true → (rest front : List (List ℕ)) → file ≡ front ++ rest →
         AllFine (second_address (said file)) (area_twice (said file) (first_heads file)) front rest →
-        flat_map (faults_at file_name file) (numbers_from (length front) (length rest)) ≡ []
+        flat_map (faults_of_place file_name file) (numbers_from (length front) (length rest)) ≡ []
     none_from good [] front split all = refl
     none_from good (line ∷ rest) front split all =
-        ap (λ found. found ++ flat_map (faults_at file_name file) (numbers_from (length front + 1) (length rest)))
+        ap (λ found. found ++ flat_map (faults_of_place file_name file) (numbers_from (length front + 1) (length rest)))
         (here_faults front line rest split
         ∙ none_five (length front + 1) (long_line line) (refused (statement_by (kind_of line) (open_block front) (words line)))
         (second_address (said file) (block_by (kind_of line) (open_block front)) (statement_by (kind_of line) (open_block front) (words line)))
         (area_twice (said file) (first_heads file) (networks_said (said front)) (block_by (kind_of line) (open_block front))
         (statement_by (kind_of line) (open_block front) (words line)))
-        (bad_name (router_name file_name file) (length front + 1))
+        (bad_name (router_name_said file_name file) (length front + 1))
         (ap (λ b. cond b None (Some LongLine)) all.0.short) all.0.own all.0.address all.0.area (good_name good (length front + 1)))
-        ∙ ap (λ n. flat_map (faults_at file_name file) (numbers_from n (length rest))) (sym (one_more front line))
+        ∙ ap (λ n. flat_map (faults_of_place file_name file) (numbers_from n (length rest))) (sym (one_more front line))
         ∙ none_from good rest (front ++ line ∷ []) (split ∙ sym (append_assoc front (line ∷ []) rest)) all.1
 
 no_first : {X : Type 0} (xs : List X) → first_of xs ≡ None → xs ≡ []
@@ -207,25 +208,25 @@ name_by false x e = absurd (cc)
 -- what holds of a file without a fault
 pub record Faultless (file_name : List ℕ) (file : List (List ℕ)) : Type 0 where
   pub fine : AllFine (second_address (said file)) (area_twice (said file) (first_heads file)) [] file
-  pub name : is_router_name (router_name file_name file).0 ≡ true
+  pub name : is_router_name (router_name_said file_name file).0 ≡ true
 
 pub faultless : (file_name : List ℕ) (file : List (List ℕ)) → first_of (faults file_name file) ≡ None → Faultless file_name file
 faultless file_name file none = record { fine = fine_from file_name file same file [] refl lines; name = name }
   where
-    parts : (filter_map (at_line 0) (bad_name (router_name file_name (read_lines file)) 0 ∷ []) ≡ [])
-        × (flat_map (faults_at file_name file) (numbers_from 0 (length file)) ≡ [])
-    parts = append-none (filter_map (at_line 0) (bad_name (router_name file_name (read_lines file)) 0 ∷ []))
-        (flat_map (faults_at file_name file) (numbers_from 0 (length file))) (no_first (faults file_name file) none)
+    parts : (filter_map (at_line 0) (bad_name (router_name_said file_name (read_lines file)) 0 ∷ []) ≡ [])
+        × (flat_map (faults_of_place file_name file) (numbers_from 0 (length file)) ≡ [])
+    parts = append-none (filter_map (at_line 0) (bad_name (router_name_said file_name (read_lines file)) 0 ∷ []))
+        (flat_map (faults_of_place file_name file) (numbers_from 0 (length file))) (no_first (faults file_name file) none)
 
-    lines : flat_map (faults_at file_name file) (numbers_from 0 (length file)) ≡ []
+    lines : flat_map (faults_of_place file_name file) (numbers_from 0 (length file)) ≡ []
     lines = parts.1
 
     same : read_lines file ≡ file
     same = read_same file (no_long file_name file file [] refl lines)
 
-    name : is_router_name (router_name file_name file).0 ≡ true
+    name : is_router_name (router_name_said file_name file).0 ≡ true
     name =
-        ap (λ f. is_router_name (router_name file_name f).0) (sym same)
+        ap (λ f. is_router_name (router_name_said file_name f).0) (sym same)
         ∙ ap (λ (p : List ℕ × ℕ). is_router_name p.0) (sym (named_law file_name file))
         ∙ name_by (is_router_name (name_from file_name (heard file).hostname).0) _
         (later_none _ (name_fault (name_from file_name (heard file).hostname)) (faults_law file_name file ∙ none))
@@ -240,9 +241,9 @@ short_all second twice (line ∷ rest) front all =
 pub no_faults : (file_name : List ℕ) (file : List (List ℕ)) → Faultless file_name file → first_of (faults file_name file) ≡ None
 no_faults file_name file fine =
     ap first_of
-    (ap (λ read. filter_map (at_line 0) (bad_name (router_name file_name read) 0 ∷ [])
-    ++ flat_map (faults_at file_name file) (numbers_from 0 (length file))) same
-    ∙ ap (λ o. filter_map (at_line 0) (o ∷ []) ++ flat_map (faults_at file_name file) (numbers_from 0 (length file)))
+    (ap (λ read. filter_map (at_line 0) (bad_name (router_name_said file_name read) 0 ∷ [])
+    ++ flat_map (faults_of_place file_name file) (numbers_from 0 (length file))) same
+    ∙ ap (λ o. filter_map (at_line 0) (o ∷ []) ++ flat_map (faults_of_place file_name file) (numbers_from 0 (length file)))
     (good_name file_name file same fine.name 0)
     ∙ none_from file_name file same fine.name file [] refl fine.fine)
   where

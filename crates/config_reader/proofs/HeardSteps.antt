@@ -18,7 +18,7 @@ use Rattle.text_lines.specs.declared.LineKind.TheVariants.{Blank, Comment, Head,
 use Rattle.config_reader.specs.declared.stop.ConfigFault.{ConfigFault}
 use Rattle.config_reader.specs.declared.stop.ConfigFault.TheVariants.{LongLine}
 use Rattle.config_reader.specs.Statements.{Statement, AddressIs, AreaIs, CostIs, KindIs, PriorityIs, PassiveIs, DownIs, RouterIdIs, NetworkIs, PassiveInterfaceIs, Refused, Unread, Block, OfOther, block_of, statement_in, head_statement, begin_with, word_at}
-use Rattle.config_reader.specs.Settings.{Said, said, said_at, said_by}
+use Rattle.config_reader.specs.Settings.{Said, said, said_at_place, said_by}
 use Rattle.config_reader.specs.Configs.{opened_at, name_with_line, name_opened}
 use Rattle.config_reader.specs.Faults.{is_hostname_head, last_hostname}
 use Rattle.config_reader.specs.FaultList.{at_line, long_line, refused, read_line, read_lines, is_short}
@@ -117,9 +117,10 @@ fault-push file line =
     before i within =
         let known : i < length (read_lines file) = omega (arith, within, length-read_lines file) in
         ap (λ (l : List ℕ). at_line (i + 1)
-        (option_or (long_line l) (refused (said_at (read_lines (file ++ line ∷ [])) i).statement)))
+        (option_or (long_line l) (refused (said_at_place (read_lines (file ++ line ∷ [])) i).statement)))
         (get_or_append_left file (line ∷ []) [] i within)
-        ∙ ap (λ (ls : List (List ℕ)). at_line (i + 1) (option_or (long_line (get_or file i [])) (refused (said_at ls i).statement))) (read_lines-push file line)
+        ∙ ap (λ (ls : List (List ℕ)). at_line (i + 1) (option_or (long_line (get_or file i [])) (refused (said_at_place ls i).statement)))
+          (read_lines-push file line)
         ∙ ap (λ (s : Said). at_line (i + 1) (option_or (long_line (get_or file i [])) (refused s.statement)))
         (said_at-append (read_lines file) (read_line line ∷ []) i known)
 
@@ -128,12 +129,12 @@ fault-push file line =
         (option_or (long_line line) (refused (said_after (read_lines file) (read_line line)).statement))
     here =
         ap (λ (l : List ℕ). at_line (length file + 1)
-        (option_or (long_line l) (refused (said_at (read_lines (file ++ line ∷ [])) (length file)).statement)))
+        (option_or (long_line l) (refused (said_at_place (read_lines (file ++ line ∷ [])) (length file)).statement)))
         (get_or_at file line [] [] (length file) refl)
         ∙ ap (λ (ls : List (List ℕ)). at_line (length file + 1)
-        (option_or (long_line line) (refused (said_at ls (length file)).statement))) (read_lines-push file line)
+        (option_or (long_line line) (refused (said_at_place ls (length file)).statement))) (read_lines-push file line)
         ∙ ap (λ (n : ℕ). at_line (length file + 1)
-        (option_or (long_line line) (refused (said_at (read_lines file ++ read_line line ∷ []) n).statement)))
+        (option_or (long_line line) (refused (said_at_place (read_lines file ++ read_line line ∷ []) n).statement)))
         (sym (length-read_lines file))
         ∙ ap (λ (s : Said). at_line (length file + 1) (option_or (long_line line) (refused s.statement))) (last_said (read_lines file) (read_line line))
 

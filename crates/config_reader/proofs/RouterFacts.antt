@@ -19,7 +19,7 @@ use Rattle.interface_model.specs.Records.{IsInterface, IsRouter}
 use Rattle.config_reader.specs.Statements.{Statement, AddressIs, AreaIs, CostIs, KindIs, PriorityIs, PassiveIs, DownIs, RouterIdIs, NetworkIs, PassiveInterfaceIs, Refused, Unread, Block, OfInterface, OfRouter, OfOther, block_of, head_statement, interface_statement, router_statement, address_statement, area_statement, cost_statement, priority_statement, network_statement, router_id_statement, alone, begin_with}
 use Rattle.config_reader.specs.Settings.{Said, said, said_by, about, is_of, interface_as_set, address_said, cost_set, length_part}
 use Rattle.config_reader.specs.Configs.{config_of, first_heads, opened_at, name_with_line, name_opened}
-use Rattle.config_reader.specs.Faults.{is_name_byte, is_router_name, router_name}
+use Rattle.config_reader.specs.Faults.{is_name_byte, is_router_name, router_name_said}
 use Rattle.config_reader.specs.Reading.{open_block}
 use Rattle.config_reader.proofs.SaidSteps.{said_after, said-push, opened_from}
 use Rattle.config_reader.proofs.SettingSteps.{about-push, said_where}
@@ -383,9 +383,9 @@ router_word name named =
 
 -- a configuration with no line too long and a router's name says a router
 pub router_kept : (file_name bytes : List ℕ) → list_all is_short (lines bytes) ≡ true →
-    is_router_name (router_name file_name (lines bytes)).0 ≡ true → IsRouter (config_of file_name bytes)
+    is_router_name (router_name_said file_name (lines bytes)).0 ≡ true → IsRouter (config_of file_name bytes)
 router_kept file_name bytes short named = record {
-  name = router_word (router_name file_name (lines bytes)).0 named;
+  name = router_word (router_name_said file_name (lines bytes)).0 named;
   interfaces = interfaces_kept (lines bytes) (first_heads (lines bytes)) (heads_words (lines bytes) (both (lines bytes) (lines_lack bytes) short));
   different = interfaces_apart (said (lines bytes)) (first_heads (lines bytes))
       (firsts-apart [] (filter_map (opened_at (lines bytes)) (numbers_from 0 (length (lines bytes)))));

@@ -7,9 +7,9 @@ use Rattle.cost_base.specs.Lists.{numbers_from, last_of}
 use Rattle.cost_base.proofs.ListLemmas.{length-push}
 use Rattle.text_lines.specs.Lines.{words, kind_of, is_head}
 use Rattle.config_reader.specs.Statements.{block_of, begin_with, word_at}
-use Rattle.config_reader.specs.Settings.{Said, said, said_at, said_by, block_by_head}
+use Rattle.config_reader.specs.Settings.{Said, said, said_at_place, said_by, block_by_head}
 use Rattle.config_reader.specs.Configs.{opened_at, name_with_line, name_opened}
-use Rattle.config_reader.specs.Faults.{is_hostname_head, last_hostname, name_and_line, router_name}
+use Rattle.config_reader.specs.Faults.{is_hostname_head, last_hostname, name_and_line, router_name_said}
 use Rattle.config_reader.proofs.LongerLists.{map-numbers_more, filter_map-numbers_more, filter-numbers_same, last_passing-lt}
 
 -- what a line says at a place, behind a head
@@ -21,7 +21,7 @@ abbrev pub said_after : List (List ℕ) → List ℕ → Said
 said_after file line = said_behind (length file) (last_of (filter is_head file)) line
 
 -- a line says the same whatever follows
-pub said_at-append : (file more : List (List ℕ)) (i : ℕ) → i < length file → said_at (file ++ more) i ≡ said_at file i
+pub said_at-append : (file more : List (List ℕ)) (i : ℕ) → i < length file → said_at_place (file ++ more) i ≡ said_at_place file i
 said_at-append file more i within =
     let line : get_or (file ++ more) i [] ≡ get_or file i [] = get_or_append_left file more [] i within in
     let before : take i (file ++ more) ≡ take i file = take-append-le i file more (omega arith) in
@@ -29,7 +29,7 @@ said_at-append file more i within =
     ∙ ap (λ (front : List (List ℕ)). said_behind i (last_of (filter is_head front)) (get_or file i [])) before
 
 -- what the last line of a file says
-pub last_said : (file : List (List ℕ)) (line : List ℕ) → said_at (file ++ line ∷ []) (length file) ≡ said_after file line
+pub last_said : (file : List (List ℕ)) (line : List ℕ) → said_at_place (file ++ line ∷ []) (length file) ≡ said_after file line
 last_said file line =
     ap (λ (l : List ℕ). said_behind (length file) (last_of (filter is_head (take (length file) (file ++ line ∷ [])))) l)
     (get_or_at file line [] [] (length file) refl)
@@ -38,8 +38,8 @@ last_said file line =
 -- one more line says one thing more
 pub said-push : (file : List (List ℕ)) (line : List ℕ) → said (file ++ line ∷ []) ≡ said file ++ said_after file line ∷ []
 said-push file line =
-    ap (λ n. map (said_at (file ++ line ∷ [])) (numbers_from 0 n)) (length-push file line)
-    ∙ map-numbers_more (said_at (file ++ line ∷ [])) (said_at file) (length file) (λ i within. said_at-append file (line ∷ []) i within)
+    ap (λ n. map (said_at_place (file ++ line ∷ [])) (numbers_from 0 n)) (length-push file line)
+    ∙ map-numbers_more (said_at_place (file ++ line ∷ [])) (said_at_place file) (length file) (λ i within. said_at-append file (line ∷ []) i within)
     ∙ ap (λ (s : Said). said file ++ s ∷ []) (last_said file line)
 
 -- the interface that a line opens at a place
@@ -63,7 +63,7 @@ names_router line = is_head line && begin_with (codes "hostname" ∷ []) (words 
 
 -- one more line that is no `hostname` head leaves the router's name
 pub router_name-push : (file_name : List ℕ) (file : List (List ℕ)) (line : List ℕ) → names_router line ≡ false →
-    router_name file_name (file ++ line ∷ []) ≡ router_name file_name file
+    router_name_said file_name (file ++ line ∷ []) ≡ router_name_said file_name file
 router_name-push file_name file line other = ap (name_and_line file_name (file ++ line ∷ [])) last
     ∙ at (last_hostname file) (λ i e. last_passing-lt (is_hostname_head file) 0 (length file) i e)
   where

@@ -8,7 +8,7 @@ use Rattle.config_reader.specs.declared.stop.ConfigFault.TheVariants.{SecondAddr
 use Rattle.config_reader.specs.Statements.{Statement, AddressIs, NetworkIs, Network, Block, OfInterface, OfRouter}
 use Rattle.config_reader.specs.Settings.{Said, said, about, about_router, setting, networks_said, network_said, address_said, area_set, interface_address, matches}
 use Rattle.config_reader.specs.Configs.{first_heads}
-use Rattle.config_reader.specs.Faults.{router_name, is_router_name}
+use Rattle.config_reader.specs.Faults.{router_name_said, is_router_name}
 use Rattle.config_reader.specs.FaultList.{is_given_area, differs, second_address, area_twice, is_other_area, address_by_networks}
 use Rattle.config_reader.proofs.LongerLists.{any-map}
 use Rattle.config_reader.proofs.BlockFacts.{head_names}
@@ -65,7 +65,7 @@ module _ (old new : List (List ℕ)) (same : SameTests old new) where
 -- where the lines of the new file are fine by the tests of the old one, it has no fault
 pub faultless_so : (file_name : List ℕ) (old new : List (List ℕ)) → SameTests old new →
     AllFine (second_address (said old)) (area_twice (said old) (first_heads old)) [] new →
-    is_router_name (router_name file_name new).0 ≡ true → Faultless file_name new
+    is_router_name (router_name_said file_name new).0 ≡ true → Faultless file_name new
 faultless_so file_name old new same fine name = record {
   fine =
       subst (λ f. AllFine f (area_twice (said new) (first_heads new)) [] new) (λ i block s. second_same old new same block s i)

@@ -15,7 +15,7 @@ use Rattle.interface_model.specs.Records.{Router}
 use Rattle.config_reader.specs.Statements.{CostIs, OfInterface, OfOther, block_of, cost_statement, interface_statement, statement_in}
 use Rattle.config_reader.specs.Settings.{Said, said, block_by_head, about_router, setting, router_id_said, interface_as_set, is_of, is_of_router}
 use Rattle.config_reader.specs.Configs.{config_of, first_heads, name_with_line, name_opened}
-use Rattle.config_reader.specs.Faults.{router_name}
+use Rattle.config_reader.specs.Faults.{router_name_said}
 use Rattle.config_reader.specs.Sections.{config_section_lines, with_cost, with_costs, IsSectionCost, name_line, section_cost_line}
 use Rattle.config_reader.proofs.SaidSteps.{said_after, said-push, names_router, router_name-push, opened_from}
 use Rattle.config_reader.proofs.SettingSteps.{interface_of-other, interface_of-cost, about_router-push, said_where}
@@ -35,7 +35,7 @@ router_by name all heads = record {
 
 -- what the lines of a configuration say
 pub router_of : List ℕ → List (List ℕ) → Router
-router_of file_name file = router_by (router_name file_name file).0 (said file) (first_heads file)
+router_of file_name file = router_by (router_name_said file_name file).0 (said file) (first_heads file)
 
 pub config_of-lines : (file_name bytes : List ℕ) → config_of file_name bytes ≡ router_of file_name (lines bytes)
 unfolding router_of router_by
@@ -88,7 +88,7 @@ router_of-silent file_name file line silent unnamed heads =
       ap (λ (p : List ℕ × ℕ). p.0) (router_name-push file_name file line unnamed),
       said-push file line,
       heads,
-      router_by-silent (router_name file_name file).0 (said file) (said_after file line) (first_heads file) silent,
+      router_by-silent (router_name_said file_name file).0 (said file) (said_after file line) (first_heads file) silent,
     )
 
 -- a cost line sets the cost of its interface
@@ -102,7 +102,7 @@ router_of-cost file_name file line interface n block cost unnamed heads =
       ap (λ (p : List ℕ × ℕ). p.0) (router_name-push file_name file line unnamed),
       said-push file line,
       heads,
-      router_by-cost (router_name file_name file).0 (said file) (said_after file line) (first_heads file) interface n block cost,
+      router_by-cost (router_name_said file_name file).0 (said file) (said_after file line) (first_heads file) interface n block cost,
     )
 
 -- the head of a section's interface leaves what a file says

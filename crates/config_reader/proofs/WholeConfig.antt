@@ -12,7 +12,7 @@ use Rattle.config_reader.specs.Settings.{Said}
 use Rattle.config_reader.specs.Configs.{firsts}
 use Rattle.config_reader.specs.FaultList.{Fault, config_fault}
 use Rattle.config_reader.specs.Hearing.{heard}
-use Rattle.config_reader.specs.Heards.{said_of, head_heard, fault_of}
+use Rattle.config_reader.specs.Heards.{said_of, head_heard, fault_heard}
 use Rattle.config_reader.specs.Parts.{IsParts}
 use Rattle.config_reader.specs.Gathered.{IsGathered}
 use Rattle.config_reader.specs.Drafting.{network_lines, new_draft, draft_after, first_second, first_clash, earliest, finished, id_after, name_from, name_fault}
@@ -28,7 +28,7 @@ pub record IsRead (file_name bytes : List ℕ) (p : Parts) (nets : List NetworkL
 -- the fault that is found among it
 abbrev pub found_among : Parts → List NetworkLine → Drafts → List ℕ × ℕ → Option Fault
 found_among p nets d name =
-    earliest (earliest (earliest (option_map fault_of p.fault) (first_second d.drafts.items (map said_of p.said.items)))
+    earliest (earliest (earliest (option_map fault_heard p.fault) (first_second d.drafts.items (map said_of p.said.items)))
     (first_clash nets None d.drafts.items)) (name_fault name)
 
 module _ (file_name bytes : List ℕ) (p : Parts) (nets : List NetworkLine) (d : Drafts) (name : List ℕ × ℕ) (read : IsRead file_name bytes p nets d name) where

@@ -19,10 +19,10 @@ use Rattle.config_reader.specs.declared.stop.ConfigFault.TheVariants.{SecondAddr
 use Rattle.config_reader.specs.declared.drafts.Draft.{Draft}
 use Rattle.config_reader.specs.declared.networks.NetworkLine.{NetworkLine}
 use Rattle.config_reader.specs.Statements.{Statement, AddressIs, Block, OfInterface}
-use Rattle.config_reader.specs.Settings.{Said, said, said_at, said_by, block_by_head, about, setting, area_set, address_said, interface_address, networks_said, matches, address_part, length_part}
+use Rattle.config_reader.specs.Settings.{Said, said, said_at_place, said_by, block_by_head, about, setting, area_set, address_said, interface_address, networks_said, matches, address_part, length_part}
 use Rattle.config_reader.specs.Configs.{first_heads}
-use Rattle.config_reader.specs.Faults.{router_name, name_and_line, last_hostname, is_hostname_head, is_router_name}
-use Rattle.config_reader.specs.FaultList.{Fault, at_line, long_line, refused, read_lines, is_given_area, differs, second_address, area_twice, bad_name, faults_at, faults}
+use Rattle.config_reader.specs.Faults.{router_name_said, name_and_line, last_hostname, is_hostname_head, is_router_name}
+use Rattle.config_reader.specs.FaultList.{Fault, at_line, long_line, refused, read_lines, is_given_area, differs, second_address, area_twice, bad_name, faults_of_place, faults}
 use Rattle.config_reader.specs.Hearing.{heard, sets, named_by}
 use Rattle.config_reader.specs.Drafting.{network_lines, covers, whole_address, at_place, find_draft, is_second, second_of, first_second, first_clash, earliest, name_from, name_fault}
 use Rattle.config_reader.proofs.FirstFaults.{firsts_at, bound, merge, agree, never, met_at, past_all, first_flat, first_five, first_front, first_filtered, filter_map-map}
@@ -105,7 +105,7 @@ unset_second drafts n (OfInterface name) (AddressIs p) quiet = absurd (false≢t
 unset_second drafts n _ _ quiet = refl
 
 -- what a line says has the line's number
-number_at : (file : List (List ℕ)) (i : ℕ) → (said_at file i).number ≡ i + 1
+number_at : (file : List (List ℕ)) (i : ℕ) → (said_at_place file i).number ≡ i + 1
 number_at file i = cases (kind_of (get_or file i []))
   where
     cases : (k : LineKind) → (said_by k (i + 1) (block_by_head (block_at file i)) (words (get_or file i []))).number ≡ i + 1
@@ -114,12 +114,12 @@ number_at file i = cases (kind_of (get_or file i []))
     cases Head = refl
     cases Indented = refl
 
-numbered : (file : List (List ℕ)) (a n : ℕ) → Numbered a (map (said_at file) (numbers_from a n))
+numbered : (file : List (List ℕ)) (a n : ℕ) → Numbered a (map (said_at_place file) (numbers_from a n))
 numbered file a zero = tt
 numbered file a (suc n) = (number_at file a, numbered file (a + 1) n)
 
 pub length-said : (file : List (List ℕ)) → length (said file) ≡ length file
-length-said file = length-map-numbers_from (said_at file) 0 (length file)
+length-said file = length-map-numbers_from (said_at_place file) 0 (length file)
 
 -- the name's fault, before or among the lines
 name_law : (name : List ℕ × ℕ) (n : ℕ) (o : Option Fault) → name.1 ≤ n → ((x : Fault) → o ≡ Some x → 0 < x.line) →
@@ -163,14 +163,14 @@ name_law name n o within past = cases (is_router_name name.0) refl
         ∙ ap (λ b. earliest o (cond b None (Some (record { line = name.1; fault = BadName })))) (sym e)
 
 -- the name's line is a line, or 0
-name_within : (file_name : List ℕ) (file : List (List ℕ)) → (router_name file_name file).1 ≤ length file
+name_within : (file_name : List ℕ) (file : List (List ℕ)) → (router_name_said file_name file).1 ≤ length file
 name_within file_name file = cases (last_hostname file) (λ i e. last_passing-lt (is_hostname_head file) 0 (length file) i e)
   where
     cases : (o : Option ℕ) → ((i : ℕ) → o ≡ Some i → i < 0 + length file) → (name_and_line file_name file o).1 ≤ length file
     cases None below = omega arith
     cases (Some i) below = let h = below i refl in omega (arith, h)
 
-pub named_law : (file_name : List ℕ) (file : List (List ℕ)) → name_from file_name (heard file).hostname ≡ router_name file_name (read_lines file)
+pub named_law : (file_name : List ℕ) (file : List (List ℕ)) → name_from file_name (heard file).hostname ≡ router_name_said file_name (read_lines file)
 named_law file_name file = cases (last_hostname (read_lines file))
   where
     cases : (o : Option ℕ) → name_from file_name (named_by (read_lines file) o) ≡ name_and_line file_name (read_lines file) o
@@ -204,11 +204,11 @@ faults_law file_name file =
     (merge (λ i. option_or (option_or (own i) (second i)) (twice i)) (λ i. bad_name name (i + 1)) 0
     (length file)))
     ∙ sym (ap (option_or (at_line 0 (bad_name name 0)))
-    (first_flat (faults_at file_name file)
+    (first_flat (faults_of_place file_name file)
     (λ i. option_or (option_or (option_or (own i) (second i)) (twice i)) (bad_name name (i + 1))) 0
-    (length file) (λ i. first_five (i + 1) (long_line (get_or file i [])) (refused (said_at read i).statement)
+    (length file) (λ i. first_five (i + 1) (long_line (get_or file i [])) (refused (said_at_place read i).statement)
     (second i) (twice i) (bad_name name (i + 1)))))
-    ∙ sym (first_front (bad_name name 0) (flat_map (faults_at file_name file) (numbers_from 0 (length file))))
+    ∙ sym (first_front (bad_name name 0) (flat_map (faults_of_place file_name file) (numbers_from 0 (length file))))
   where
     read : List (List ℕ)
     read = read_lines file
@@ -220,29 +220,31 @@ faults_law file_name file =
     heads = first_heads read
 
     name : List ℕ × ℕ
-    name = router_name file_name read
+    name = router_name_said file_name read
 
     own : ℕ → Option ConfigFault
-    own i = option_or (long_line (get_or file i [])) (refused (said_at read i).statement)
+    own i = option_or (long_line (get_or file i [])) (refused (said_at_place read i).statement)
 
     second : ℕ → Option ConfigFault
-    second i = second_address all (said_at read i).block (said_at read i).statement
+    second i = second_address all (said_at_place read i).block (said_at_place read i).statement
 
     twice : ℕ → Option ConfigFault
-    twice i = area_twice all heads (networks_said (take i all)) (said_at read i).block (said_at read i).statement
+    twice i = area_twice all heads (networks_said (take i all)) (said_at_place read i).block (said_at_place read i).statement
 
     seconds : first_second (file_drafts file) (heard file).said ≡ firsts_at second 0 (length file)
     seconds =
         ap first_of (first_filtered (λ (s : Said). sets s.statement)
         (λ (s : Said). second_of (file_drafts file) s.number s.block s.statement) all
         (λ s quiet. unset_second (file_drafts file) s.number s.block s.statement quiet))
-        ∙ ap first_of (filter_map-map (λ (s : Said). second_of (file_drafts file) s.number s.block s.statement) (said_at read) (numbers_from 0 (length read)))
+        ∙ ap first_of (filter_map-map (λ (s : Said). second_of (file_drafts file) s.number s.block s.statement)
+          (said_at_place read) (numbers_from 0 (length read)))
         ∙ ap (λ (f : ℕ → Option Fault). first_of (filter_map f (numbers_from 0 (length read)))) (λ j i. one i j)
         ∙ ap (firsts_at second 0) (length-read_lines file)
       where
-        one : (i : ℕ) → second_of (file_drafts file) (said_at read i).number (said_at read i).block (said_at read i).statement ≡ at_line (i + 1) (second i)
+        one : (i : ℕ) → second_of (file_drafts file) (said_at_place read i).number (said_at_place read i).block (said_at_place read i).statement
+            ≡ at_line (i + 1) (second i)
         one i =
-            second_same all heads (about-unheaded read) (said_at read i).number (said_at read i).block (said_at read i).statement
+            second_same all heads (about-unheaded read) (said_at_place read i).number (said_at_place read i).block (said_at_place read i).statement
             ∙ ap (λ n. at_line n (second i)) (number_at read i)
 
     twices : first_clash (network_lines all) None (file_drafts file) ≡ firsts_at twice 0 (length file)
@@ -253,8 +255,8 @@ faults_law file_name file =
         (λ i above below. ap (λ (s : Said). area_twice all heads (networks_said (take i all)) s.block s.statement)
         (at_number i (omega (arith, below, length-read_lines file))))
       where
-        at_number : (i : ℕ) → i < length read → get_or all i no_said ≡ said_at read i
-        at_number i within = get_or-map-numbers_from (said_at read) 0 (length read) i no_said within ∙ ap (said_at read) (from_zero i)
+        at_number : (i : ℕ) → i < length read → get_or all i no_said ≡ said_at_place read i
+        at_number i within = get_or-map-numbers_from (said_at_place read) 0 (length read) i no_said within ∙ ap (said_at_place read) (from_zero i)
           where
             from_zero : (k : ℕ) → 0 + k ≡ k
             from_zero k = omega arith

@@ -19,7 +19,7 @@ use Rattle.config_reader.specs.declared.networks.NetworkLine.{NetworkLine}
 use Rattle.config_reader.specs.Statements.{Statement, AddressIs, AreaIs, CostIs, KindIs, PriorityIs, PassiveIs, DownIs, RouterIdIs, NetworkIs, PassiveInterfaceIs, Refused, Unread, Network, Block, OfInterface, OfRouter, OfOther}
 use Rattle.config_reader.specs.Settings.{Said, said, about, about_router, setting, area_set, router_id_said, interface_address, matches, interface_as_set, area_by_networks}
 use Rattle.config_reader.specs.Configs.{first_heads, firsts, config_of}
-use Rattle.config_reader.specs.Faults.{router_name, is_router_name}
+use Rattle.config_reader.specs.Faults.{router_name_said, is_router_name}
 use Rattle.config_reader.specs.FaultList.{Fault, at_line, long_line, refused, read_line, read_lines, is_short, config_fault}
 use Rattle.config_reader.specs.Hearing.{heard, sets}
 use Rattle.config_reader.specs.Drafting.{network_line, network_lines, covers, area_among, area_for, finished, new_draft, draft_after, first_second, first_clash, earliest, router_id_set, id_after, name_from, name_fault}
@@ -172,7 +172,7 @@ named_good name none = cases (is_router_name name.0) refl none
 -- what the code makes of the lines
 abbrev pub records_of : List ℕ → List (List ℕ) → Router
 records_of file_name file = record {
-  name = (router_name file_name file).0;
+  name = (router_name_said file_name file).0;
   router_id = setting router_id_said (about_router (said file));
   interfaces = map (λ head. interface_as_set (said file) head.0 head.1) (first_heads file);
 }
@@ -254,8 +254,8 @@ made_law file_name bytes nets drafts found made none =
     whole : read_lines file ≡ file
     whole = read_same file short
 
-    named : is_router_name (router_name file_name file).0 ≡ true
-    named = ap (λ (ls : List (List ℕ)). is_router_name (router_name file_name ls).0) (sym whole)
+    named : is_router_name (router_name_said file_name file).0 ≡ true
+    named = ap (λ (ls : List (List ℕ)). is_router_name (router_name_said file_name ls).0) (sym whole)
         ∙ ap (λ (n : List ℕ × ℕ). is_router_name n.0) (sym (named_law file_name file))
         ∙ named_good (name_from file_name (heard file).hostname) outer.1
 
@@ -286,12 +286,12 @@ made_law file_name bytes nets drafts found made none =
           interfaces = map (finished nets) drafts;
         }) (named_law file_name file)
         ∙ ap (λ (o : Option ℕ). record {
-          name = (router_name file_name (read_lines file)).0;
+          name = (router_name_said file_name (read_lines file)).0;
           router_id = o;
           interfaces = map (finished nets) drafts;
         }) (ids_law (said (read_lines file)))
         ∙ ap (λ (is : List Interface). record {
-          name = (router_name file_name (read_lines file)).0;
+          name = (router_name_said file_name (read_lines file)).0;
           router_id = setting router_id_said (about_router (said (read_lines file)));
           interfaces =
               is;

@@ -9,9 +9,9 @@ use Rattle.config_reader.specs.declared.stop.ConfigFault.TheVariants.{LongLine, 
 use Rattle.config_reader.specs.declared.stop.ConfigStop.{ConfigStop}
 use Rattle.config_reader.specs.declared.stop.ConfigStop.TheVariants.{Refused as RefusedStop, OutOfMemory}
 use Rattle.config_reader.specs.Statements.{Statement, AddressIs, NetworkIs, Refused, Network, Block, OfInterface, OfRouter}
-use Rattle.config_reader.specs.Settings.{Said, said, said_at, about, setting, area_set, address_said, interface_address, networks_said, matches}
+use Rattle.config_reader.specs.Settings.{Said, said, said_at_place, about, setting, area_set, address_said, interface_address, networks_said, matches}
 use Rattle.config_reader.specs.Configs.{first_heads}
-use Rattle.config_reader.specs.Faults.{is_router_name, router_name}
+use Rattle.config_reader.specs.Faults.{is_router_name, router_name_said}
 
 -- a fault, and its line; a name that is taken from the file's name has line 0
 pub record Fault : Type 0 where
@@ -83,31 +83,31 @@ at_line n None = None
 at_line n (Some fault) = Some (record { line = n; fault = fault })
 
 -- the faults of the line at a place, from 0
-abbrev pub faults_at : List ℕ → List (List ℕ) → ℕ → List Fault
-faults_at file_name file i =
+abbrev pub faults_of_place : List ℕ → List (List ℕ) → ℕ → List Fault
+faults_of_place file_name file i =
     let read = read_lines file in
     let all = said read in
-    let s = said_at read i in
+    let s = said_at_place read i in
     filter_map (at_line (i + 1)) (
     long_line (slice_index_or file i [])
     ∷ refused s.statement
     ∷ second_address all s.block s.statement
     ∷ area_twice all (first_heads read) (networks_said (take i all)) s.block s.statement
-    ∷ bad_name (router_name file_name read) (i + 1)
+    ∷ bad_name (router_name_said file_name read) (i + 1)
     ∷ []
     )
 
 -- every fault of a file
 abbrev pub faults : List ℕ → List (List ℕ) → List Fault
 faults file_name file =
-    filter_map (at_line 0) (bad_name (router_name file_name (read_lines file)) 0 ∷ [])
-    ++ flat_map (faults_at file_name file) (numbers_from 0 (length file))
+    filter_map (at_line 0) (bad_name (router_name_said file_name (read_lines file)) 0 ∷ [])
+    ++ flat_map (faults_of_place file_name file) (numbers_from 0 (length file))
 
 -- the fault for which a configuration is refused: the first
 abbrev pub config_fault : List ℕ → List ℕ → Option Fault
 config_fault file_name bytes = first_of (faults file_name (lines bytes))
 
 -- a refusal tells the fault and its line; want of memory tells nothing
-abbrev pub Tells : Option Fault → ConfigStop → Type 0
-Tells found (RefusedStop fault line) = found ≡ Some (record { line = line; fault = fault })
-Tells found OutOfMemory = Unit {0}
+abbrev pub TellsConfigFault : Option Fault → ConfigStop → Type 0
+TellsConfigFault found (RefusedStop fault line) = found ≡ Some (record { line = line; fault = fault })
+TellsConfigFault found OutOfMemory = Unit {0}

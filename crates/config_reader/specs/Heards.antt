@@ -16,5 +16,5 @@ abbrev pub head_heard : NamedHead → List ℕ × ℕ
 head_heard h = (h.name.now, h.line)
 
 -- a fault that the reader keeps, with its line
-abbrev pub fault_of : LineFault → Fault
-fault_of f = record { line = f.line; fault = f.fault }
+abbrev pub fault_heard : LineFault → Fault
+fault_heard f = record { line = f.line; fault = f.fault }

@@ -8,7 +8,7 @@ use Rattle.text_lines.specs.declared.LineKind.{LineKind}
 use Rattle.text_lines.specs.declared.LineKind.TheVariants.{Head, Indented}
 use Rattle.config_reader.specs.declared.stop.ConfigFault.{ConfigFault}
 use Rattle.config_reader.specs.Statements.{Statement, Refused, Unread, Block, OfOther, block_of, statement_in, head_statement, begin_with, word_at}
-use Rattle.config_reader.specs.Settings.{Said, said, said_at}
+use Rattle.config_reader.specs.Settings.{Said, said, said_at_place}
 use Rattle.config_reader.specs.Configs.{opened_at, name_with_line, name_opened}
 use Rattle.config_reader.specs.Faults.{last_hostname}
 use Rattle.config_reader.specs.FaultList.{Fault, at_line, long_line, refused, read_lines}
@@ -66,7 +66,7 @@ named_by file (Some i) = Some (word_at (words (slice_index_or file i [])) 1, i +
 -- the fault of a line by itself
 abbrev pub own_fault : List (List ℕ) → ℕ → Option Fault
 own_fault file i =
-    at_line (i + 1) (option_or (long_line (slice_index_or file i [])) (refused (said_at (read_lines file) i).statement))
+    at_line (i + 1) (option_or (long_line (slice_index_or file i [])) (refused (said_at_place (read_lines file) i).statement))
 
 -- what is kept of a whole file
 abbrev pub heard : List (List ℕ) → Heard

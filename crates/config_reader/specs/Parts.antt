@@ -3,11 +3,11 @@ use Rattle.std.specs.Prelude.{◌≡◌, map}
 use Rattle.std.specs.Option.{option_map}
 use Rattle.config_reader.specs.declared.reader.Parts.{Parts}
 use Rattle.config_reader.specs.Hearing.{Heard}
-use Rattle.config_reader.specs.Heards.{said_of, head_heard, fault_of}
+use Rattle.config_reader.specs.Heards.{said_of, head_heard, fault_heard}
 
 -- the parts that the code hands on are those that were kept of the file
 pub record IsParts (h : Heard) (p : Parts) : Type 0 where
   pub said : map said_of p.said.items ≡ h.said
   pub heads : map head_heard p.heads.items ≡ h.heads
   pub hostname : option_map head_heard p.hostname ≡ h.hostname
-  pub fault : option_map fault_of p.fault ≡ h.fault
+  pub fault : option_map fault_heard p.fault ≡ h.fault

@@ -3,8 +3,8 @@ ghost use Rattle.std.specs.Prelude.{◌≡◌, ◌-◌, ◌^◌, ◌<◌, ℕ, N
 ghost use Rattle.std.specs.Option.{option_map};
 ghost use Rattle.interface_model.specs.Records.{IsRouter};
 ghost use Rattle.config_reader.specs.Configs.{config_of};
-ghost use Rattle.config_reader.specs.FaultList.{config_fault, Tells};
-ghost use Rattle.config_reader.specs.Heards.{said_of, head_heard, fault_of};
+ghost use Rattle.config_reader.specs.FaultList.{config_fault, TellsConfigFault};
+ghost use Rattle.config_reader.specs.Heards.{said_of, head_heard, fault_heard};
 ghost use Rattle.config_reader.specs.Drafting as drafting;
 ghost use Rattle.config_reader.specs.Gathered.{IsGathered};
 ghost use Rattle.config_reader.specs.Hearing as hearing;
@@ -28,9 +28,9 @@ fn first_fault<'a>(
     name: NamedHead<'a>,
 ) -> Option<LineFault>
     requires { drafts.now.names ≡ map (λ d. d.interface.name) drafts.now.drafts.items }
-    ensures { option_map fault_of result ≡ drafting.earliest
+    ensures { option_map fault_heard result ≡ drafting.earliest
         (drafting.earliest
-        (drafting.earliest (option_map fault_of parts.now.fault) (drafting.first_second drafts.now.drafts.items (map said_of parts.now.said.items)))
+        (drafting.earliest (option_map fault_heard parts.now.fault) (drafting.first_second drafts.now.drafts.items (map said_of parts.now.said.items)))
         (drafting.first_clash networks.now None drafts.now.drafts.items))
         (drafting.name_fault (head_heard name.entry)) }
 {
@@ -71,7 +71,7 @@ fn checked<'a>(
     ensures made { (bytes : List ℕ) → IsParts (hearing.heard (lines bytes)) parts.now →
         IfOk result (λ r. (config_fault file_name.now bytes ≡ None) × (r ≡ config_of file_name.now bytes)) }
     ensures refused { (bytes : List ℕ) → IsParts (hearing.heard (lines bytes)) parts.now →
-        IfErr result (Tells (config_fault file_name.now bytes)) }
+        IfErr result (TellsConfigFault (config_fault file_name.now bytes)) }
 {
     let name = router_name(parts.hostname, file_name.as_bytes());
     if let Some(fault) = first_fault(parts, networks, &drafts, name) {
@@ -94,7 +94,7 @@ fn gathered<'a>(
     ensures made { (bytes : List ℕ) → IsParts (hearing.heard (lines bytes)) parts.now →
         IfOk result (λ r. (config_fault file_name.now bytes ≡ None) × (r ≡ config_of file_name.now bytes)) }
     ensures refused { (bytes : List ℕ) → IsParts (hearing.heard (lines bytes)) parts.now →
-        IfErr result (Tells (config_fault file_name.now bytes)) }
+        IfErr result (TellsConfigFault (config_fault file_name.now bytes)) }
 {
     let networks = Networks::among(alloc, &parts.said)?;
     let drafts = Drafts::gather(alloc, &parts.heads, &parts.said, &networks)?;
@@ -110,7 +110,7 @@ fn gathered<'a>(
 pub fn read_config(alloc: Global, file_name: &str, bytes: &[u8]) -> Result<RouterConfig, ConfigStop>
     requires few { length bytes.now < 2 ^ 32 - 1 }
     ensures made { IfOk result (λ r. (config_fault file_name.now bytes.now ≡ None) × (r ≡ config_of file_name.now bytes.now)) }
-    ensures refused { IfErr result (Tells (config_fault file_name.now bytes.now)) }
+    ensures refused { IfErr result (TellsConfigFault (config_fault file_name.now bytes.now)) }
 {
     let parts = read_parts(alloc, bytes)?;
     gathered(alloc, file_name, &parts)

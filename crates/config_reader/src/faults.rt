@@ -2,7 +2,7 @@
 ghost use Rattle.std.specs.Prelude.{◌≡◌, None, map, Option};
 ghost use Rattle.std.specs.Option.{option_map};
 ghost use Rattle.config_reader.specs.Spoken.{statement_of, block_spoken, prefix_spoken};
-ghost use Rattle.config_reader.specs.Heards.{said_of, head_heard, fault_of};
+ghost use Rattle.config_reader.specs.Heards.{said_of, head_heard, fault_heard};
 ghost use Rattle.config_reader.specs.Drafting as drafting;
 
 use crate::ConfigFault;
@@ -14,7 +14,7 @@ use crate::statements::{AddressPrefix, Block, Statement};
 
 /// The fault of the lesser line, the first where there is one line.
 pub(crate) fn earliest(first: Option<LineFault>, second: Option<LineFault>) -> Option<LineFault>
-    ensures { option_map fault_of result ≡ drafting.earliest (option_map fault_of first) (option_map fault_of second) }
+    ensures { option_map fault_heard result ≡ drafting.earliest (option_map fault_heard first) (option_map fault_heard second) }
 {
     match (first, second) {
         (Some(one), Some(other)) if other.line < one.line => second,
@@ -51,7 +51,7 @@ fn is_second<'a>(drafts: &Drafts<'a>, said: &SaidLine<'a>) -> bool
 /// The first line that gives an interface with an area a different second address.
 pub(crate) fn second_address<'a>(drafts: &Drafts<'a>, said: &[SaidLine<'a>]) -> Option<LineFault>
     requires { drafts.now.names ≡ map (λ d. d.interface.name) drafts.now.drafts.items }
-    ensures { option_map fault_of result ≡ drafting.first_second drafts.now.drafts.items (map said_of said.now) }
+    ensures { option_map fault_heard result ≡ drafting.first_second drafts.now.drafts.items (map said_of said.now) }
 {
     for line in said {
         if is_second(drafts, line) {
@@ -66,7 +66,7 @@ pub(crate) fn second_address<'a>(drafts: &Drafts<'a>, said: &[SaidLine<'a>]) -> 
 
 /// The line that gives an interface without an area line a second area.
 fn clash_of(draft: &Draft, networks: &Networks) -> Option<LineFault>
-    ensures { option_map fault_of result ≡ drafting.clash_of networks.now draft.now }
+    ensures { option_map fault_heard result ≡ drafting.clash_of networks.now draft.now }
 {
     if draft.interface.area.is_some() {
         return None;
@@ -84,7 +84,7 @@ fn clash_of(draft: &Draft, networks: &Networks) -> Option<LineFault>
 
 /// The first line that gives some interface without an area line a second area.
 pub(crate) fn area_twice(drafts: &[Draft], networks: &Networks) -> Option<LineFault>
-    ensures { option_map fault_of result ≡ drafting.first_clash networks.now None drafts.now }
+    ensures { option_map fault_heard result ≡ drafting.first_clash networks.now None drafts.now }
 {
     let mut found: Option<LineFault> = None;
     for draft in drafts {
@@ -129,7 +129,7 @@ pub(crate) fn router_name<'a>(hostname: Option<NamedHead<'a>>, file_name: &'a [u
 
 /// The fault of the router's name.
 pub(crate) fn name_fault(name: NamedHead<'_>) -> Option<LineFault>
-    ensures { option_map fault_of result ≡ drafting.name_fault (head_heard name.entry) }
+    ensures { option_map fault_heard result ≡ drafting.name_fault (head_heard name.entry) }
 {
     if is_router_name(name.name) {
         return None;

@@ -53,7 +53,7 @@ impl<'a> Model for Reader<'a> {
     ghost use Rattle.std.specs.Prelude.{map};
     ghost use Rattle.std.specs.Option.{option_map};
     ghost use Rattle.config_reader.specs.Hearing.{Heard};
-    ghost use Rattle.config_reader.specs.Heards.{said_of, head_heard, fault_of};
+    ghost use Rattle.config_reader.specs.Heards.{said_of, head_heard, fault_heard};
     ghost use Rattle.config_reader.specs.Spoken.{block_spoken};
 
     ghost Value = { Heard };
@@ -62,7 +62,7 @@ impl<'a> Model for Reader<'a> {
       said = map said_of r.said.items;
       heads = map head_heard r.heads.items;
       hostname = option_map head_heard r.hostname;
-      fault = option_map fault_of r.fault;
+      fault = option_map fault_heard r.fault;
       block = block_spoken r.block;
     } };
 }

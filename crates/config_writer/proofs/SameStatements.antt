@@ -9,7 +9,7 @@ use Rattle.text_lines.specs.Lines.{words, kind_of, is_head, is_head_kind}
 use Rattle.text_lines.specs.declared.LineKind.TheVariants.{Indented}
 use Rattle.config_reader.specs.Statements.{OfInterface, block_of, begin_with, statement_in, word_at}
 use Rattle.config_reader.specs.Settings.{said, about, about_router, is_of, is_of_router}
-use Rattle.config_reader.specs.Faults.{is_hostname_head, last_hostname, name_and_line, router_name}
+use Rattle.config_reader.specs.Faults.{is_hostname_head, last_hostname, name_and_line, router_name_said}
 use Rattle.config_reader.specs.Reading.{open_block}
 use Rattle.config_reader.proofs.LongerLists.{filter-numbers_more}
 use Rattle.config_reader.proofs.SaidSteps.{said_after, said-push, names_router, router_name-push}
@@ -43,7 +43,7 @@ about_router-line file line =
 
 -- a `hostname` head gives the router's name
 named-push : (file_name : List ℕ) (file : List (List ℕ)) (line : List ℕ) → names_router line ≡ true →
-    router_name file_name (file ++ line ∷ []) ≡ (word_at (words line) 1, length file + 1)
+    router_name_said file_name (file ++ line ∷ []) ≡ (word_at (words line) 1, length file + 1)
 named-push file_name file line names =
     ap (name_and_line file_name (file ++ line ∷ [])) last
     ∙ ap (λ (l : List ℕ). (word_at (words l) 1, length file + 1)) (get_or_at file line [] [] (length file) refl)
@@ -63,7 +63,7 @@ pub record SameRest (file_name : List ℕ) (old new : List (List ℕ)) : Type 0 
   pub block : open_block new ≡ open_block old
   pub heads : headed new ≡ headed old
   pub router : about_router (said new) ≡ about_router (said old)
-  pub name : (router_name file_name new).0 ≡ (router_name file_name old).0
+  pub name : (router_name_said file_name new).0 ≡ (router_name_said file_name old).0
 
 -- the same line behind both
 pub rest_kept : (file_name : List ℕ) (old new : List (List ℕ)) (line : List ℕ) → SameRest file_name old new →
@@ -81,7 +81,7 @@ rest_kept file_name old new line same = record {
   name = by_name (names_router line) refl;
 }
   where
-    by_name : (b : Bool) → names_router line ≡ b → (router_name file_name (new ++ line ∷ [])).0 ≡ (router_name file_name (old ++ line ∷ [])).0
+    by_name : (b : Bool) → names_router line ≡ b → (router_name_said file_name (new ++ line ∷ [])).0 ≡ (router_name_said file_name (old ++ line ∷ [])).0
     by_name true names = ap (λ (p : List ℕ × ℕ). p.0) (named-push file_name new line names)
         ∙ ap (λ (p : List ℕ × ℕ). p.0) (sym (named-push file_name old line names))
     by_name false other = ap (λ (p : List ℕ × ℕ). p.0) (router_name-push file_name new line other) ∙ same.name

@@ -35,13 +35,13 @@ abbrev pub differences_of : Comparison → List Difference
 differences_of c = difference_lines (routers_of c.input.files) c.input.database (present_costs c.input) c.live
 
 -- the name of a router by its number
-abbrev pub router_name : Database → ℕ → List ℕ
-router_name d router = slice_index_or d.routers router []
+abbrev pub router_named : Database → ℕ → List ℕ
+router_named d router = slice_index_or d.routers router []
 
 -- the names of a link's router and of its interface
 abbrev pub router_of_linked : Database → Option Linked → List ℕ
 router_of_linked d None = []
-router_of_linked d (Some link) = router_name d link.router
+router_of_linked d (Some link) = router_named d link.router
 
 abbrev pub interface_of_linked : Option Linked → List ℕ
 interface_of_linked None = []
@@ -53,7 +53,7 @@ linked_words word d link further = word ∷ router_of_linked d (slice_get d.link
 
 -- the words of a line: routers and interfaces by their names, router IDs and addresses as dotted quads
 abbrev pub difference_words : Database → Difference → List (List ℕ)
-difference_words d (Absent router) = codes "absent" ∷ router_name d router ∷ []
+difference_words d (Absent router) = codes "absent" ∷ router_named d router ∷ []
 difference_words d (Cost link file live) = linked_words (codes "cost") d link (codes "file" ∷ decimal file ∷ codes "live" ∷ decimal live ∷ [])
 difference_words d (Missing link) = linked_words (codes "missing") d link []
 difference_words d (Stranger router) = codes "stranger" ∷ router_id_text router ∷ []

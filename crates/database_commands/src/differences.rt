@@ -2,7 +2,7 @@
 ghost use Rattle.std.specs.Prelude.{◌≡◌, [], ◌∷◌, IfOk, codes, slice_get};
 ghost use Rattle.cost_base.specs.Decimal.{decimal};
 ghost use Rattle.report_writer.specs.Texts.{line_of_words};
-ghost use Rattle.database_commands.specs.Compares.{difference_text, difference_words, interface_of_linked, router_name, router_of_linked};
+ghost use Rattle.database_commands.specs.Compares.{difference_text, difference_words, interface_of_linked, router_named, router_of_linked};
 ghost use Rattle.database_commands.specs.Quads.{router_id_text};
 
 use crate::quads::push_quad;
@@ -14,7 +14,7 @@ use text_lines::{push_bytes, push_number};
 
 /// The name of a router.
 fn router_name(lsdb: &Lsdb, router: u32) -> &[u8]
-    ensures { result.now ≡ router_name lsdb.now router }
+    ensures { result.now ≡ router_named lsdb.now router }
 {
     match lsdb.routers.as_slice().get(router as usize) {
         Some(name) => name.as_bytes(),

@@ -5,10 +5,11 @@ use Rattle.answer_lines.specs.Grammar.{AtHead}
 use Rattle.evidence_reader.specs.Laws.{IsNoValidText}
 use Rattle.evidence_reader.proofs.ValidAnswers.{invalid_stays, refused_invalid}
 use Rattle.report_writer.specs.declared.rejection.Rejection.{Rejection}
-use Rattle.evidence_commands.specs.Checks.{Claim, IsInvalid, IsOffGrammar, IsRejected}
+use Rattle.evidence_commands.specs.Checks.{Claim, IsInvalid, IsRejected}
+use Rattle.evidence_reader.specs.Refusals.{IsOffGrammar}
 
 -- a text that is off the grammar
-pub off_grammar_rejected : (p : DesignProblem) (bytes : List ℕ) (rejection : Rejection) → IsOffGrammar AtHead bytes rejection →
+pub off_grammar_rejected : (p : DesignProblem) (bytes : List ℕ) (rejection : Rejection) → IsOffGrammar AtHead bytes rejection.number rejection.place →
     IsRejected (record { problem = p; bytes = bytes }) rejection
 off_grammar_rejected p bytes rejection off = record { cause = inl off; never = refused_invalid p bytes off.fault rejection.place off.refused }
 

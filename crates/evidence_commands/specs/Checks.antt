@@ -8,9 +8,8 @@ use Rattle.design_problem.specs.Problems.{DesignProblem}
 use Rattle.design_problem.specs.Answers.{AnswerParts, IsValid}
 use Rattle.design_problem.specs.ProblemLaws.{IsTrueVerdict}
 use Rattle.design_problem.specs.Text.{text}
-use Rattle.answer_lines.specs.Grammar.{TextPlace, AtHead}
-use Rattle.evidence_reader.specs.declared.stop.AnswerFault.{AnswerFault}
-use Rattle.evidence_reader.specs.Refusals.{IsTextRefused, number_of}
+use Rattle.answer_lines.specs.Grammar.{AtHead}
+use Rattle.evidence_reader.specs.Refusals.{IsOffGrammar}
 use Rattle.evidence_text.specs.AnswerValues.{IsAnswerValue}
 use Rattle.evidence_reader.specs.Laws.{IsNoValidText}
 use Rattle.evidence_checker.specs.declared.stop.Accepted.{Accepted as Acceptance}
@@ -61,15 +60,9 @@ pub record IsInvalid (claim : Claim) (rejection : Rejection) : Type 0 where
   pub first : FirstOf (tests claim.problem answer) (record { number = rejection.number; place = rejection.place })
   pub invalid : IsValid claim.problem answer → ⊥
 
--- read from a place on, the bytes are off the grammar, by the first line that is at fault
-pub record IsOffGrammar (from : TextPlace) (bytes : List ℕ) (rejection : Rejection) : Type 0 where
-  pub fault : AnswerFault
-  pub refused : IsTextRefused from 0 bytes fault rejection.place
-  pub number : rejection.number ≡ number_of fault
-
 -- the bytes are no valid answer's text: they are off the grammar of answers, or their answer isn't valid
 pub record IsRejected (claim : Claim) (rejection : Rejection) : Type 0 where
-  pub cause : IsOffGrammar AtHead claim.bytes rejection ⊎ IsInvalid claim rejection
+  pub cause : IsOffGrammar AtHead claim.bytes rejection.number rejection.place ⊎ IsInvalid claim rejection
   pub never : IsNoValidText claim.problem claim.bytes
 
 -- what a check of these comes to

@@ -18,7 +18,7 @@ use Rattle.report_writer.specs.declared.report.Report.{Report}
 use Rattle.report_writer.specs.Texts.{rejected_line}
 use Rattle.report_writer.specs.Reports.{Reports}
 use Rattle.sections_reader.specs.Texts.{SaysCosts, start_of_bytes}
-use Rattle.evidence_commands.specs.Checks.{IsOffGrammar}
+use Rattle.evidence_reader.specs.Refusals.{IsOffGrammar}
 
 -- what a rewrite is made of: a configuration, and the bytes of a file with costs
 pub record Revision : Type 0 where
@@ -73,7 +73,8 @@ pub record NamesNoHead (r : Revision) (rejection : Rejection) : Type 0 where
 
 -- the bytes are off the grammar of texts with costs, or they give the configuration no costs
 abbrev pub IsUnfit : Revision → Rejection → Type 0
-IsUnfit r rejection = IsOffGrammar (start_of_bytes r.bytes) r.bytes rejection ⊎ HasNoCosts r rejection ⊎ NamesNoHead r rejection
+IsUnfit r rejection =
+    IsOffGrammar (start_of_bytes r.bytes) r.bytes rejection.number rejection.place ⊎ HasNoCosts r rejection ⊎ NamesNoHead r rejection
 
 -- what a rewrite of these comes to
 abbrev pub IsRevised : Revision → Revised → Type 0

@@ -7,7 +7,7 @@ use Rattle.answer_lines.specs.Grammar.{TextPlace, Next, AtHead, AtVerdict, AtCos
 use Rattle.text_lines.specs.Lines.{with_ends}
 use Rattle.evidence_text.specs.Lines.{AreShort}
 use Rattle.evidence_text.specs.Parts.{head_lines, floor_line, rows_lines, end_lines}
-use Rattle.answer_lines.specs.Lawful.{HasRoom, LeadOn, IsRead}
+use Rattle.answer_lines.specs.Lawful.{HasLineRoom, LeadOn, IsRead}
 use Rattle.evidence_reader.specs.Refusals.{IsReaderStop}
 use Rattle.evidence_text.specs.declared.TreePart.TheVariants.{Proof, Unfinished}
 use Rattle.evidence_reader.specs.declared.stop.AnswerStop.{AnswerStop}
@@ -49,7 +49,8 @@ IsOwn (AtUnread more) = ⊥
 IsOwn place = Unit {0}
 
 -- lines lead from such a place to another, and are read
-own-next : (place : TextPlace) (line : List ℕ) (next : TextPlace) → IsOwn place → Next place line next → HasRoom place line → IsOwn next × (length line ≤ 65536)
+own-next : (place : TextPlace) (line : List ℕ) (next : TextPlace) → IsOwn place → Next place line next → HasLineRoom place line →
+    IsOwn next × (length line ≤ 65536)
 own-next AtHead line next own is short = rw is.1 (tt, short)
 own-next AtVerdict line next own is short = rw is.leads (tt, short)
 own-next AtCosts line next own (inl none) short = rw none.1 (tt, short)

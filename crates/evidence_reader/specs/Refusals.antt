@@ -40,6 +40,12 @@ pub record IsTextRefused (from : TextPlace) (before : ℕ) (bytes : List ℕ) (k
   pub line_is : line ≡ before + length lines + 1
   pub fault : IsFault place rest kind
 
+-- read from a place on, bytes are off the grammar: their first line at fault is this one, and its fault has this number
+pub record IsOffGrammar (from : TextPlace) (bytes : List ℕ) (told line : ℕ) : Type 0 where
+  pub fault : AnswerFault
+  pub refused : IsTextRefused from 0 bytes fault line
+  pub number : told ≡ number_of fault
+
 -- a stop of a reader that begins at a place: a refusal is the text's own, and want of memory says nothing
 abbrev pub IsReaderStop : TextPlace → ℕ → List ℕ → AnswerStop → Type 0
 IsReaderStop from before bytes (Refused fault line) = IsTextRefused from before bytes fault line

@@ -10,7 +10,7 @@ use Rattle.live_area.specs.declared.links.LiveLink.{LiveLink}
 use Rattle.live_area.specs.declared.metrics.LinkName.{LinkName}
 use Rattle.live_area.specs.LiveLinks.{is_of_end, metric_at}
 use Rattle.live_area.specs.Differences.{is_end_of}
-use Rattle.live_area.specs.Indexes.{HasMetrics, is_end_named, is_link_named_so, metric_named, name_of_end, name_of_link, noted, same_link}
+use Rattle.live_area.specs.Indexes.{HasLinkMetrics, is_end_named, is_link_named_so, metric_named, name_of_end, name_of_link, metric_noted, same_link}
 
 -- the metric of a name, with one link more behind
 metric_push : (name : LinkName) (links : List LiveLink) (link : LiveLink) →
@@ -33,7 +33,7 @@ same_is name other same =
 
 -- what is noted of a name behind a link, by whether the link has the name and an end has it
 note_is : (b e : Bool) (found : Option ℕ) (metric : ℕ) →
-    cond b (noted (cond e (Some found) None) metric) (cond e (Some found) None) ≡ cond e (Some (option_or found (cond b (Some metric) None))) None
+    cond b (metric_noted (cond e (Some found) None) metric) (cond e (Some found) None) ≡ cond e (Some (option_or found (cond b (Some metric) None))) None
 note_is true true None metric = refl
 note_is true true (Some first) metric = refl
 note_is true false found metric = refl
@@ -42,49 +42,51 @@ note_is false true (Some first) metric = refl
 note_is false false found metric = refl
 
 metrics_added : {S : Type 0} (old new : IndexMap LinkName (Option ℕ) S) (ends : List LinkEnd) (links : List LiveLink) (link : LiveLink) →
-    HasMetrics old ends links →
-    ((name : LinkName) → get same_link new name ≡ cond (same_link (name_of_link link) name) (noted (get same_link old name) link.metric) (get same_link old name)) →
-    HasMetrics new ends (links ++ link ∷ [])
+    HasLinkMetrics old ends links →
+    ((name : LinkName) → get same_link new name
+        ≡ cond (same_link (name_of_link link) name) (metric_noted (get same_link old name) link.metric) (get same_link old name)) →
+    HasLinkMetrics new ends (links ++ link ∷ [])
 metrics_added old new ends links link has updates name =
     updates name
-    ∙ ap (λ (found : Option (Option ℕ)). cond (same_link (name_of_link link) name) (noted found link.metric) found) (has name)
+    ∙ ap (λ (found : Option (Option ℕ)). cond (same_link (name_of_link link) name) (metric_noted found link.metric) found) (has name)
     ∙ note_is (same_link (name_of_link link) name) (list_any (is_end_named name) ends) (metric_named name links) link.metric
     ∙ sym (ap (λ (found : Option ℕ). cond (list_any (is_end_named name) ends) (Some found) None) (metric_push name links link))
 
 -- the look-up with a metric noted
 pub metric_put : {S : Type 0} (old new : IndexMap LinkName (Option ℕ) S) (ends : List LinkEnd) (links : List LiveLink) (link : LiveLink) (metric : Option ℕ) →
-    noted (get same_link old (name_of_link link)) link.metric ≡ Some metric →
+    metric_noted (get same_link old (name_of_link link)) link.metric ≡ Some metric →
     ((name : LinkName) → get same_link new name ≡ cond (same_link (name_of_link link) name) (Some metric) (get same_link old name)) →
-    HasMetrics old ends links → HasMetrics new ends (links ++ link ∷ [])
+    HasLinkMetrics old ends links → HasLinkMetrics new ends (links ++ link ∷ [])
 metric_put old new ends links link metric is updates has =
     metrics_added old new ends links link has (λ name. updates name ∙ by_test name (same_link (name_of_link link) name) refl)
   where
     by_test : (name : LinkName) (b : Bool) → same_link (name_of_link link) name ≡ b →
-        cond b (Some metric) (get same_link old name) ≡ cond b (noted (get same_link old name) link.metric) (get same_link old name)
-    by_test name true same = sym is ∙ ap (λ (n : LinkName). noted (get same_link old n) link.metric) (same_is (name_of_link link) name same)
+        cond b (Some metric) (get same_link old name) ≡ cond b (metric_noted (get same_link old name) link.metric) (get same_link old name)
+    by_test name true same = sym is ∙ ap (λ (n : LinkName). metric_noted (get same_link old n) link.metric) (same_is (name_of_link link) name same)
     by_test name false other = refl
 
 -- and where nothing is noted
 pub nothing_put : {S : Type 0} (old : IndexMap LinkName (Option ℕ) S) (ends : List LinkEnd) (links : List LiveLink) (link : LiveLink) →
-    noted (get same_link old (name_of_link link)) link.metric ≡ None → HasMetrics old ends links → HasMetrics old ends (links ++ link ∷ [])
+    metric_noted (get same_link old (name_of_link link)) link.metric ≡ None → HasLinkMetrics old ends links → HasLinkMetrics old ends (links ++ link ∷ [])
 nothing_put old ends links link is has =
     metrics_added old old ends links link has (λ name. by_test name (same_link (name_of_link link) name) refl)
   where
-    unknown : (found : Option (Option ℕ)) → noted found link.metric ≡ None → found ≡ noted found link.metric
+    unknown : (found : Option (Option ℕ)) → metric_noted found link.metric ≡ None → found ≡ metric_noted found link.metric
     unknown None none = refl
     unknown (Some None) none = absurd (false≢true (subst (λ (o : Option (Option ℕ)). is_some o ≡ true) none refl))
     unknown (Some (Some first)) none = refl
 
     by_test : (name : LinkName) (b : Bool) → same_link (name_of_link link) name ≡ b →
-        get same_link old name ≡ cond b (noted (get same_link old name) link.metric) (get same_link old name)
+        get same_link old name ≡ cond b (metric_noted (get same_link old name) link.metric) (get same_link old name)
     by_test name true same =
-        unknown (get same_link old name) (sym (ap (λ (n : LinkName). noted (get same_link old n) link.metric) (same_is (name_of_link link) name same)) ∙ is)
+        unknown (get same_link old name)
+          (sym (ap (λ (n : LinkName). metric_noted (get same_link old n) link.metric) (same_is (name_of_link link) name same)) ∙ is)
     by_test name false other = refl
 
 -- the look-up with an end more
-pub end_put : {S : Type 0} (old new : IndexMap LinkName (Option ℕ) S) (ends : List LinkEnd) (end : LinkEnd) → HasMetrics old ends [] →
+pub end_put : {S : Type 0} (old new : IndexMap LinkName (Option ℕ) S) (ends : List LinkEnd) (end : LinkEnd) → HasLinkMetrics old ends [] →
     ((name : LinkName) → get same_link new name ≡ cond (same_link (name_of_end end) name) (Some None) (get same_link old name)) →
-    HasMetrics new (ends ++ end ∷ []) []
+    HasLinkMetrics new (ends ++ end ∷ []) []
 end_put old new ends end has updates name =
     updates name
     ∙ ap (λ (found : Option (Option ℕ)). cond (same_link (name_of_end end) name) (Some None) found) (has name)
@@ -107,7 +109,7 @@ metric_is end (link ∷ links) = ap (λ (found : Option ℕ). cond (is_of_end en
 
 -- what is found is there exactly where an end has the name
 pub found_end : {S : Type 0} (by_name : IndexMap LinkName (Option ℕ) S) (ends : List LinkEnd) (links : List LiveLink) (link : LiveLink) →
-    HasMetrics by_name ends links → is_some (get same_link by_name (name_of_link link)) ≡ list_any (is_end_of link) ends
+    HasLinkMetrics by_name ends links → is_some (get same_link by_name (name_of_link link)) ≡ list_any (is_end_of link) ends
 found_end by_name ends links link has =
     ap (λ (found : Option (Option ℕ)). is_some found) (has (name_of_link link)) ∙ by_test (list_any (is_end_of link) ends)
   where

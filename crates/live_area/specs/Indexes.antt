@@ -35,16 +35,16 @@ metric_named name [] = None
 metric_named name (link ∷ more) = if is_link_named_so name link then Some link.metric else metric_named name more
 
 -- what is noted of a name behind a link that it names: the first metric
-abbrev pub noted : Option (Option ℕ) → ℕ → Option (Option ℕ)
-noted None metric = None
-noted (Some None) metric = Some (Some metric)
-noted (Some (Some first)) metric = Some (Some first)
+abbrev pub metric_noted : Option (Option ℕ) → ℕ → Option (Option ℕ)
+metric_noted None metric = None
+metric_noted (Some None) metric = Some (Some metric)
+metric_noted (Some (Some first)) metric = Some (Some first)
 
 -- the look-up has the ends' names, and of each the metric of the first link of that name
-abbrev pub HasMetrics : {S : Type 0} → IndexMap LinkName (Option ℕ) S → List LinkEnd → List LiveLink → Type 0
-HasMetrics by_name ends links = (name : LinkName) →
+abbrev pub HasLinkMetrics : {S : Type 0} → IndexMap LinkName (Option ℕ) S → List LinkEnd → List LiveLink → Type 0
+HasLinkMetrics by_name ends links = (name : LinkName) →
     get same_link by_name name ≡ (if list_any (is_end_named name) ends then Some (metric_named name links) else None)
 
 -- the look-up has the data of these links
-abbrev pub HaveSeen : BTreeSet ℕ → List LiveLink → Type 0
-HaveSeen seen links = (address : ℕ) → contains nat_cmp seen address ≡ list_any (has_address address) links
+abbrev pub HaveAddresses : BTreeSet ℕ → List LiveLink → Type 0
+HaveAddresses seen links = (address : ℕ) → contains nat_cmp seen address ≡ list_any (has_address address) links

@@ -10,7 +10,7 @@ use crate::routers::push_router_lines;
 use cost_base::OutOfMemory;
 use interface_model::RouterConfig;
 use lsa_bytes::Database;
-use lsa_writer::ends_of;
+use lsa_writer::{CostedLinks, ends_of};
 use lsdb_build::Lsdb;
 use std::alloc::Global;
 
@@ -40,7 +40,12 @@ pub fn compare(
     let lsas = live.as_slice();
     let found = live_links(alloc, lsas)?;
     let metrics = EndMetrics::among(alloc, &ends, &found)?;
-    let interfaces = compare_interfaces(alloc, lsas, &metrics, links, &ends, costs)?;
+    let costed = CostedLinks {
+        links,
+        ends: &ends,
+        costs,
+    };
+    let interfaces = compare_interfaces(alloc, lsas, &metrics, costed)?;
     let mut lines = Vec::new(alloc);
     push_interface_lines(&mut lines, &interfaces)?;
     push_router_lines(alloc, &mut lines, configs, &metrics, lsas)?;

@@ -5,14 +5,14 @@ ghost use Rattle.std.specs.Ordering.{nat_cmp};
 ghost use Rattle.std.specs.BTreeSet.{contains};
 ghost use Rattle.lsa_bytes.specs.Databases.{is_router_of};
 ghost use Rattle.live_area.specs.declared.links.LiveLink.{LiveLink as OneLink};
-ghost use Rattle.live_area.specs.Indexes.{HasMetrics};
+ghost use Rattle.live_area.specs.Indexes.{HasLinkMetrics};
 ghost use Rattle.live_area.specs.Differences as definition;
 
 use crate::Difference;
 use crate::metrics::EndMetrics;
 use cost_base::OutOfMemory;
 use lsa_bytes::{Lsa, is_router};
-use lsa_writer::LinkEnd;
+use lsa_writer::CostedLinks;
 use lsdb_build::Linked;
 use std::alloc::Global;
 use std::collections::BTreeSet;
@@ -63,21 +63,19 @@ pub fn compare_interfaces(
     alloc: Global,
     lsas: &[Lsa],
     metrics: &EndMetrics,
-    links: &[Linked],
-    ends: &[LinkEnd],
-    costs: &[u16],
+    of: CostedLinks<'_>,
 ) -> Result<Vec<Compared>, OutOfMemory>
-    requires { length ends.now ≤ 4000 }
-    ensures { IfOk result (λ interfaces. (all : List OneLink) → HasMetrics metrics.now.by_name ends.now all →
-        interfaces.items ≡ definition.compared_from lsas.now all links.now costs.now 0 ends.now) }
+    requires { length of.ends.now ≤ 4000 }
+    ensures { IfOk result (λ interfaces. (all : List OneLink) → HasLinkMetrics metrics.now.by_name of.entry.ends.now all →
+        interfaces.items ≡ definition.compared_from lsas.now all of.entry.links.now of.entry.costs.now 0 of.entry.ends.now) }
 {
     let routers = router_ids(alloc, lsas)?;
     let mut interfaces = Vec::new(alloc);
-    for (link, end) in ends.iter().enumerate() {
+    for (link, end) in of.ends.iter().enumerate() {
         interfaces.push(Compared {
-            router: router_of(links, link),
+            router: router_of(of.links, link),
             link: link as u32,
-            cost: cost_at(costs, link),
+            cost: cost_at(of.costs, link),
             counts: routers.contains(&end.router),
             metric: metrics.at(*end),
         })?;

@@ -8,7 +8,7 @@ ghost use Rattle.live_area.specs.declared.metrics.LinkName.{LinkName as Key};
 ghost use Rattle.live_area.specs.LiveLinks.{metric_at};
 ghost use Rattle.live_area.specs.Differences.{is_end_of};
 ghost use Rattle.live_area.specs.Indexes as definition;
-ghost use Rattle.live_area.specs.Indexes.{HasMetrics, noted, same_link};
+ghost use Rattle.live_area.specs.Indexes.{HasLinkMetrics, metric_noted, same_link};
 
 use crate::links::LiveLink;
 use cost_base::OutOfMemory;
@@ -51,7 +51,7 @@ fn name_of_link(link: LiveLink) -> LinkName
 
 /// What is noted of a name behind a link that it names: the first metric.
 fn noted(found: Option<Option<u16>>, metric: u16) -> Option<Option<u16>>
-    ensures { result ≡ noted found metric }
+    ensures { result ≡ metric_noted found metric }
 {
     match found {
         Some(None) => Some(Some(metric)),
@@ -62,7 +62,7 @@ fn noted(found: Option<Option<u16>>, metric: u16) -> Option<Option<u16>>
 impl EndMetrics {
     /// No metric of the links of ends.
     fn of_ends(alloc: Global, ends: &[LinkEnd]) -> Result<EndMetrics, OutOfMemory>
-        ensures { IfOk result (λ metrics. HasMetrics metrics.by_name ends.now []) }
+        ensures { IfOk result (λ metrics. HasLinkMetrics metrics.by_name ends.now []) }
     {
         let mut metrics = EndMetrics {
             by_name: IndexMap::new(alloc),
@@ -79,7 +79,7 @@ impl EndMetrics {
         ends: &[LinkEnd],
         links: &[LiveLink],
     ) -> Result<EndMetrics, OutOfMemory>
-        ensures { IfOk result (λ metrics. HasMetrics metrics.by_name ends.now links.now) }
+        ensures { IfOk result (λ metrics. HasLinkMetrics metrics.by_name ends.now links.now) }
     {
         let mut metrics = EndMetrics::of_ends(alloc, ends)?;
         for link in links {
@@ -90,8 +90,8 @@ impl EndMetrics {
 
     /// Adds a link behind those that are there.
     fn add(&mut self, link: LiveLink) -> Result<(), OutOfMemory>
-        ensures { OnOk result ((ends : List OneEnd) (links : List OneLink) → HasMetrics self.old.by_name ends links →
-            HasMetrics self.new.by_name ends (links ++ link ∷ [])) }
+        ensures { OnOk result ((ends : List OneEnd) (links : List OneLink) → HasLinkMetrics self.old.by_name ends links →
+            HasLinkMetrics self.new.by_name ends (links ++ link ∷ [])) }
     {
         let name = name_of_link(link);
         if let Some(metric) = noted(self.of(name), link.metric) {
@@ -118,7 +118,7 @@ impl EndMetrics {
 
     /// The metric of the link of one of the ends.
     pub fn at(&self, end: LinkEnd) -> Option<u16>
-        ensures { (ends : List OneEnd) (links : List OneLink) → HasMetrics self.now.by_name ends links →
+        ensures { (ends : List OneEnd) (links : List OneLink) → HasLinkMetrics self.now.by_name ends links →
             list_any (definition.is_end_named (definition.name_of_end end)) ends ≡ true → result ≡ metric_at end links }
     {
         match self.of(name_of_end(end)) {
@@ -129,7 +129,7 @@ impl EndMetrics {
 
     /// Whether one of the ends has the router ID and the address of a link.
     pub fn has_end(&self, link: LiveLink) -> bool
-        ensures { (ends : List OneEnd) (links : List OneLink) → HasMetrics self.now.by_name ends links →
+        ensures { (ends : List OneEnd) (links : List OneLink) → HasLinkMetrics self.now.by_name ends links →
             result ≡ list_any (is_end_of link) ends }
     {
         self.of(name_of_link(link)).is_some()

@@ -3,7 +3,7 @@ ghost use Rattle.std.specs.Prelude.{◌≡◌, ◌&&◌, List, [], ◌∷◌, �
 ghost use Rattle.std.specs.List.{list_any};
 ghost use Rattle.lsa_writer.specs.declared.ends.LinkEnd.{LinkEnd as OneEnd};
 ghost use Rattle.live_area.specs.declared.links.LiveLink.{LiveLink as OneLink};
-ghost use Rattle.live_area.specs.Indexes.{HasMetrics, HaveSeen};
+ghost use Rattle.live_area.specs.Indexes.{HasLinkMetrics, HaveAddresses};
 ghost use Rattle.lsa_bytes.specs.Ids.{is_id};
 ghost use Rattle.live_area.specs.Differences as definition;
 
@@ -47,8 +47,8 @@ fn unknown_line(known: bool, first: bool, link: LiveLink) -> Option<Difference>
 
 /// Notes the data of a link behind others; tells whether none of them has these data.
 fn see(seen: &mut BTreeSet<u32>, link: LiveLink) -> Result<bool, OutOfMemory>
-    ensures first { IfOk result (λ first. (before : List OneLink) → HaveSeen seen.old before → first ≡ not (list_any (definition.has_address link.address) before)) }
-    ensures seen { OnOk result ((before : List OneLink) → HaveSeen seen.old before → HaveSeen seen.new (before ++ link ∷ [])) }
+    ensures first { IfOk result (λ first. (before : List OneLink) → HaveAddresses seen.old before → first ≡ not (list_any (definition.has_address link.address) before)) }
+    ensures seen { OnOk result ((before : List OneLink) → HaveAddresses seen.old before → HaveAddresses seen.new (before ++ link ∷ [])) }
 {
     Ok(seen.insert(link.address)?)
 }
@@ -60,7 +60,7 @@ fn push_unknown_lines(
     metrics: &EndMetrics,
     links: &[LiveLink],
 ) -> Result<(), OutOfMemory>
-    ensures { OnOk result ((ends : List OneEnd) (all : List OneLink) → HasMetrics metrics.now.by_name ends all →
+    ensures { OnOk result ((ends : List OneEnd) (all : List OneLink) → HasLinkMetrics metrics.now.by_name ends all →
         lines.new.items ≡ lines.old.items ++ definition.unknown_lines ends [] links.now) }
 {
     let mut seen = BTreeSet::new(alloc);
@@ -79,7 +79,7 @@ fn push_lsa_lines(
     metrics: &EndMetrics,
     lsa: &Lsa,
 ) -> Result<(), OutOfMemory>
-    ensures { OnOk result ((ends : List OneEnd) (all : List OneLink) → HasMetrics metrics.now.by_name ends all →
+    ensures { OnOk result ((ends : List OneEnd) (all : List OneLink) → HasLinkMetrics metrics.now.by_name ends all →
         lines.new.items ≡ lines.old.items ++ definition.lsa_lines configs.now ends lsa.now) }
 {
     if !is_router(lsa) {
@@ -101,7 +101,7 @@ pub fn push_router_lines(
     metrics: &EndMetrics,
     lsas: &[Lsa],
 ) -> Result<(), OutOfMemory>
-    ensures { OnOk result ((ends : List OneEnd) (all : List OneLink) → HasMetrics metrics.now.by_name ends all →
+    ensures { OnOk result ((ends : List OneEnd) (all : List OneLink) → HasLinkMetrics metrics.now.by_name ends all →
         lines.new.items ≡ lines.old.items ++ flat_map (definition.lsa_lines configs.now ends) lsas.now) }
 {
     for lsa in lsas {

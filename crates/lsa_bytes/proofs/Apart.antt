@@ -19,12 +19,12 @@ use Rattle.lsa_bytes.specs.declared.instances.Stamp.{Stamp}
 use Rattle.lsa_bytes.specs.declared.instances.Instance.{Instance}
 use Rattle.lsa_bytes.specs.Databases.{HaveNoFault, has_links, is_router_lsa, is_same, has_zero_metric}
 use Rattle.lsa_bytes.specs.Written.{type_of_body}
-use Rattle.lsa_bytes.specs.Instances.{counts_among, is_gone, is_named, lsas_of, name_of, newest, same_name, stamps_of, stands_at, those_that_count}
-use Rattle.lsa_bytes.specs.Faults.{fault_among, fault_behind, first_fault, placed}
+use Rattle.lsa_bytes.specs.Instances.{counts_among, is_gone, is_named, lsas_of, lsa_name_of, newest, same_name, stamps_of, stands_at, those_that_count}
+use Rattle.lsa_bytes.specs.Faults.{fault_among, lsa_fault_behind, first_fault, placed}
 use Rattle.lsa_bytes.proofs.NewestLaws.{same_is}
 
 -- LSAs of one name are the same
-names_same : (a b : Lsa) → name_of a ≡ name_of b → is_same b a ≡ true
+names_same : (a b : Lsa) → lsa_name_of a ≡ lsa_name_of b → is_same b a ≡ true
 names_same a b same = by_bodies a.body b.body (ap (λ (n : LsaName). n.kind) same)
   where
     by_bodies : (x y : Body) → type_of_body x ≡ type_of_body y →
@@ -37,17 +37,17 @@ names_same a b same = by_bodies a.body b.body (ap (λ (n : LsaName). n.kind) sam
 -- each of them is of another LSA than those behind it
 abbrev AreApart : List Instance → Type 0
 AreApart [] = Unit {0}
-AreApart (instance ∷ more) = (list_any (is_named (name_of instance.lsa)) more ≡ false) × AreApart more
+AreApart (instance ∷ more) = (list_any (is_named (lsa_name_of instance.lsa)) more ≡ false) × AreApart more
 
 apart : (all : List Instance) → AllPairs (λ earlier lsa. is_same lsa earlier ≡ false) (lsas_of all) → AreApart all
 apart [] different = tt
 apart (instance ∷ more) different = (
-  list_any_none (is_named (name_of instance.lsa)) more (λ k d below.
-      false_from_ne_true (is_named (name_of instance.lsa) (get_or more k d)) (λ same.
+  list_any_none (is_named (lsa_name_of instance.lsa)) more (λ k d below.
+      false_from_ne_true (is_named (lsa_name_of instance.lsa) (get_or more k d)) (λ same.
       (let long : length (lsas_of more) ≡ length more = length-map more (λ (i : Instance). i.lsa) in
       let at : get_or (lsas_of more) k d.lsa ≡ (get_or more k d).lsa = get_or-map (λ (i : Instance). i.lsa) more k d d.lsa below in
       let one : is_same (get_or more k d).lsa instance.lsa ≡ true =
-      names_same instance.lsa (get_or more k d).lsa (sym (same_is (name_of (get_or more k d).lsa) (name_of instance.lsa) same)) in
+      names_same instance.lsa (get_or more k d).lsa (sym (same_is (lsa_name_of (get_or more k d).lsa) (lsa_name_of instance.lsa) same)) in
       let other : is_same (get_or more k d).lsa instance.lsa ≡ false =
       ap (λ (lsa : Lsa). is_same lsa instance.lsa) (sym at)
       ∙ different 0 (suc k) d.lsa (omega arith) (omega (arith, below, long)) in
@@ -62,32 +62,32 @@ unnamed name (instance ∷ more) none =
     ap (λ (b : Bool). map (λ (i : Instance). i.stamp) (cond b (instance ∷ filter (is_named name) more) (filter (is_named name) more))) parts.0
     ∙ unnamed name more parts.1
 
-named_back : (a b : Instance) → is_named (name_of a.lsa) b ≡ false → is_named (name_of b.lsa) a ≡ false
-named_back a b none = false_from_ne_true (is_named (name_of b.lsa) a) (λ same.
-    (let names : name_of a.lsa ≡ name_of b.lsa = same_is (name_of a.lsa) (name_of b.lsa) same in
-    false≢true (sym none ∙ ap (λ (n : LsaName). same_name (name_of b.lsa) n) names ∙ itself (name_of b.lsa))))
+named_back : (a b : Instance) → is_named (lsa_name_of a.lsa) b ≡ false → is_named (lsa_name_of b.lsa) a ≡ false
+named_back a b none = false_from_ne_true (is_named (lsa_name_of b.lsa) a) (λ same.
+    (let names : lsa_name_of a.lsa ≡ lsa_name_of b.lsa = same_is (lsa_name_of a.lsa) (lsa_name_of b.lsa) same in
+    false≢true (sym none ∙ ap (λ (n : LsaName). same_name (lsa_name_of b.lsa) n) names ∙ itself (lsa_name_of b.lsa))))
   where
     itself : (name : LsaName) → same_name name name ≡ true
     itself name = both_true (eq-eqb name.kind name.kind refl) (both_true (eq-eqb name.id name.id refl) (eq-eqb name.router name.router refl))
 
-named_itself : (instance : Instance) → is_named (name_of instance.lsa) instance ≡ true
+named_itself : (instance : Instance) → is_named (lsa_name_of instance.lsa) instance ≡ true
 named_itself instance =
-    let name = name_of instance.lsa in
+    let name = lsa_name_of instance.lsa in
     both_true (eq-eqb name.kind name.kind refl) (both_true (eq-eqb name.id name.id refl) (eq-eqb name.router name.router refl))
 
 -- an instance among others of other LSAs is the only one of its own
 only_one : (before more : List Instance) (instance : Instance) → AreApart (before ++ instance ∷ more) →
-    stamps_of (name_of instance.lsa) (before ++ instance ∷ more) ≡ instance.stamp ∷ []
+    stamps_of (lsa_name_of instance.lsa) (before ++ instance ∷ more) ≡ instance.stamp ∷ []
 only_one [] more instance are =
-    ap (λ (b : Bool). map (λ (i : Instance). i.stamp) (cond b (instance ∷ filter (is_named (name_of instance.lsa)) more)
-    (filter (is_named (name_of instance.lsa)) more))) (named_itself instance)
-    ∙ ap (λ (stamps : List Stamp). instance.stamp ∷ stamps) (unnamed (name_of instance.lsa) more are.0)
+    ap (λ (b : Bool). map (λ (i : Instance). i.stamp) (cond b (instance ∷ filter (is_named (lsa_name_of instance.lsa)) more)
+    (filter (is_named (lsa_name_of instance.lsa)) more))) (named_itself instance)
+    ∙ ap (λ (stamps : List Stamp). instance.stamp ∷ stamps) (unnamed (lsa_name_of instance.lsa) more are.0)
 only_one (first ∷ before) more instance are =
-    let name = name_of instance.lsa in
+    let name = lsa_name_of instance.lsa in
     let all = before ++ instance ∷ more in
-    let later = or_parts (list_any (is_named (name_of first.lsa)) before) (list_any (is_named (name_of first.lsa)) (instance ∷ more))
-    (sym (list_any-append (is_named (name_of first.lsa)) before (instance ∷ more)) ∙ are.0) in
-    let other = named_back first instance (or_parts (is_named (name_of first.lsa) instance) (list_any (is_named (name_of first.lsa)) more) later.1).0 in
+    let later = or_parts (list_any (is_named (lsa_name_of first.lsa)) before) (list_any (is_named (lsa_name_of first.lsa)) (instance ∷ more))
+    (sym (list_any-append (is_named (lsa_name_of first.lsa)) before (instance ∷ more)) ∙ are.0) in
+    let other = named_back first instance (or_parts (is_named (lsa_name_of first.lsa) instance) (list_any (is_named (lsa_name_of first.lsa)) more) later.1).0 in
     ap (λ (b : Bool). map (λ (i : Instance). i.stamp) (cond b (first ∷ filter (is_named name) all) (filter (is_named name) all))) other
     ∙ only_one before more instance are.1
 
@@ -106,7 +106,7 @@ rest_count before (instance ∷ more) are young =
     (rest_count (before ++ instance ∷ []) more (subst AreApart (sym further) are) young.1))
 
 -- an LSA among others without a fault has none behind those before it
-no_fault_behind : (before : List Lsa) (lsa : Lsa) (more : List Lsa) → HaveNoFault (before ++ lsa ∷ more) → fault_behind before lsa ≡ None
+no_fault_behind : (before : List Lsa) (lsa : Lsa) (more : List Lsa) → HaveNoFault (before ++ lsa ∷ more) → lsa_fault_behind before lsa ≡ None
 no_fault_behind before lsa more none =
     let whole = before ++ lsa ∷ more in
     let within : length before < length whole = omega (arith, length-append before (lsa ∷ more)) in

@@ -12,7 +12,7 @@ use Rattle.lsa_bytes.specs.declared.Lsa.{Lsa}
 use Rattle.lsa_bytes.specs.declared.instances.Instance.{Instance}
 use Rattle.lsa_bytes.specs.Databases.{HaveNoFault, IsLsaDatabase, has_link_types, size_of_lsa}
 use Rattle.lsa_bytes.specs.Instances.{counts_among, lsas_of, those_that_count}
-use Rattle.lsa_bytes.specs.Faults.{Tells, fault_among, fault_behind, first_fault, placed}
+use Rattle.lsa_bytes.specs.Faults.{TellsLsaFault, fault_among, lsa_fault_behind, first_fault, placed}
 use Rattle.lsa_bytes.specs.Reading.{AreSmall}
 
 -- some of all instances are left, and those before them that count are these, without a fault
@@ -37,7 +37,7 @@ seen all rest instance b is = ap (λ (c : Bool). cond c (instance ∷ filter (co
 
 pub midway_counts : (all rest : List Instance) (instance : Instance) (before after : List Lsa) →
     IsMidway all (instance ∷ rest) before → counts_among all instance ≡ true →
-    fault_behind before instance.lsa ≡ None → after ≡ before ++ instance.lsa ∷ [] → IsMidway all rest after
+    lsa_fault_behind before instance.lsa ≡ None → after ≡ before ++ instance.lsa ∷ [] → IsMidway all rest after
 midway_counts all rest instance before after is counts none after_is =
     let first = seen all rest instance true counts in
     let later = filter (counts_among all) rest in
@@ -63,7 +63,7 @@ midway_passes all rest instance before is counts =
 -- the first of those that are left has a fault
 pub midway_told : (all rest : List Instance) (instance : Instance) (before : List Lsa) (stop : LsaStop) →
     IsMidway all (instance ∷ rest) before → counts_among all instance ≡ true →
-    Tells (placed instance.stamp.place (fault_behind before instance.lsa)) stop → Tells (fault_among all) stop
+    TellsLsaFault (placed instance.stamp.place (lsa_fault_behind before instance.lsa)) stop → TellsLsaFault (fault_among all) stop
 midway_told all rest instance before OutOfMemory is counts told = tt
 midway_told all rest instance before (Refused fault offset) is counts told =
     sym is.fault ∙ ap (first_fault before) (seen all rest instance true counts)

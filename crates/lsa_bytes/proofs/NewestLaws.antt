@@ -6,7 +6,7 @@ use Rattle.indexmap.specs.IndexMap.{IndexMap, get}
 use Rattle.lsa_bytes.specs.declared.instances.LsaName.{LsaName}
 use Rattle.lsa_bytes.specs.declared.instances.Stamp.{Stamp}
 use Rattle.lsa_bytes.specs.declared.instances.Instance.{Instance}
-use Rattle.lsa_bytes.specs.Instances.{is_named, name_of, newer_of, newest, newest_behind, same_name, stamps_of}
+use Rattle.lsa_bytes.specs.Instances.{is_named, lsa_name_of, newer_of, newest, newest_behind, same_name, stamps_of}
 use Rattle.lsa_bytes.specs.Newest.{HasNewest}
 
 newest_push : (found : Option Stamp) (stamps : List Stamp) (stamp : Stamp) →
@@ -41,7 +41,7 @@ same_is name other same =
 
 -- the look-up with what stands of one LSA written anew
 pub newest_added : {S : Type 0} (old new : IndexMap LsaName Stamp S) (all : List Instance) (instance : Instance) (stamp : Stamp) →
-    HasNewest old all → stamp ≡ newer_of (get same_name old (name_of instance.lsa)) instance.stamp →
+    HasNewest old all → stamp ≡ newer_of (get same_name old (lsa_name_of instance.lsa)) instance.stamp →
     ((name : LsaName) → get same_name new name ≡ cond (is_named name instance) (Some stamp) (get same_name old name)) → HasNewest new (all ++ instance ∷ [])
 newest_added old new all instance stamp has is updates name =
     updates name ∙ by_test (is_named name instance) refl ∙ sym (ap newest (stamps_push name all instance))
@@ -49,7 +49,7 @@ newest_added old new all instance stamp has is updates name =
     by_test : (b : Bool) → is_named name instance ≡ b → cond b (Some stamp) (get same_name old name)
         ≡ newest (stamps_of name all ++ cond b (instance.stamp ∷ []) [])
     by_test true same = ap Some (is
-        ∙ ap (λ (found : Option Stamp). newer_of found instance.stamp) (has (name_of instance.lsa)
-        ∙ ap (λ (n : LsaName). newest (stamps_of n all)) (same_is (name_of instance.lsa) name same)))
+        ∙ ap (λ (found : Option Stamp). newer_of found instance.stamp) (has (lsa_name_of instance.lsa)
+        ∙ ap (λ (n : LsaName). newest (stamps_of n all)) (same_is (lsa_name_of instance.lsa) name same)))
         ∙ sym (newest_push None (stamps_of name all) instance.stamp)
     by_test false other = has name ∙ ap newest (sym (append-nil (stamps_of name all)))

@@ -14,7 +14,7 @@ use Rattle.lsa_bytes.specs.declared.instances.Instance.{Instance}
 use Rattle.lsa_bytes.specs.Grammar.{length_of, said_at}
 use Rattle.lsa_bytes.specs.Databases.{has_link_types, size_of_lsa}
 use Rattle.lsa_bytes.specs.Instances.{lsas_of}
-use Rattle.lsa_bytes.specs.Faults.{Tells, length_fault, body_fault, form_fault, placed}
+use Rattle.lsa_bytes.specs.Faults.{TellsLsaFault, length_fault, body_fault, form_fault, placed}
 use Rattle.lsa_bytes.specs.Files.{IsLsa, instances_in}
 use Rattle.lsa_bytes.specs.Reading.{AreReadFrom, AreSmall, EndAt}
 use Rattle.lsa_bytes.proofs.BodyLaws.{said_fits}
@@ -142,7 +142,7 @@ broken_off bytes (byte ∷ more) instances place fault so_far some place_is foun
 }
 
 refused : (bytes rest : List ℕ) (instances : List Instance) (place : ℕ) (stop : LsaStop) → IsUnderway bytes rest instances →
-    0 < length rest → place ≡ length bytes - length rest → Tells (placed place (form_fault rest)) stop → EndAt bytes instances stop
+    0 < length rest → place ≡ length bytes - length rest → TellsLsaFault (placed place (form_fault rest)) stop → EndAt bytes instances stop
 refused bytes rest instances place (Refused fault offset) so_far some place_is told =
     by_found (form_fault rest) refl told
   where
@@ -153,7 +153,8 @@ refused bytes rest instances place (Refused fault offset) so_far some place_is t
         (broken_off bytes rest instances place other so_far some place_is is)
 refused bytes rest instances place OutOfMemory so_far some place_is told = tt
 
-length_told : (rest : List ℕ) (place : ℕ) (stop : LsaStop) → Tells (placed place (length_fault rest)) stop → Tells (placed place (form_fault rest)) stop
+length_told : (rest : List ℕ) (place : ℕ) (stop : LsaStop) →
+    TellsLsaFault (placed place (length_fault rest)) stop → TellsLsaFault (placed place (form_fault rest)) stop
 length_told rest place (Refused fault offset) told = by_found (length_fault rest) told
   where
     by_found : (found : Option LsaFault) → placed place found ≡ Some (fault, offset) →
@@ -163,13 +164,13 @@ length_told rest place (Refused fault offset) told = by_found (length_fault rest
 length_told rest place OutOfMemory told = tt
 
 pub length_refused : (bytes rest : List ℕ) (instances : List Instance) (place : ℕ) (stop : LsaStop) → IsUnderway bytes rest instances →
-    0 < length rest → place ≡ length bytes - length rest → Tells (placed place (length_fault rest)) stop → EndAt bytes instances stop
+    0 < length rest → place ≡ length bytes - length rest → TellsLsaFault (placed place (length_fault rest)) stop → EndAt bytes instances stop
 length_refused bytes rest instances place stop so_far some place_is told =
     refused bytes rest instances place stop so_far some place_is (length_told rest place stop told)
 
 pub body_refused : (bytes rest lsa behind : List ℕ) (instances : List Instance) (place : ℕ) (stop : LsaStop) →
     IsUnderway bytes rest instances → place ≡ length bytes - length rest → IsFirst rest lsa behind →
-    Tells (placed place (body_fault lsa)) stop → EndAt bytes instances stop
+    TellsLsaFault (placed place (body_fault lsa)) stop → EndAt bytes instances stop
 body_refused bytes rest lsa behind instances place stop so_far place_is is told =
     refused bytes rest instances place stop so_far (omega (arith, is.begins.header, is.begins.whole)) place_is
-    (subst (λ (found : Option LsaFault). Tells (placed place found) stop) (sym (first_fault_is rest lsa behind is)) told)
+    (subst (λ (found : Option LsaFault). TellsLsaFault (placed place found) stop) (sym (first_fault_is rest lsa behind is)) told)

@@ -37,8 +37,8 @@ rest_fault place [] = None
 rest_fault place (byte ∷ bytes) = placed place (form_fault (byte ∷ bytes))
 
 -- the fault of an LSA that counts, behind those before it that count
-abbrev pub fault_behind : List Lsa → Lsa → Option LsaFault
-fault_behind before lsa =
+abbrev pub lsa_fault_behind : List Lsa → Lsa → Option LsaFault
+lsa_fault_behind before lsa =
     if is_router_lsa lsa && nat_le 1000 (count_by is_router_lsa before) then Some TooManyRouters
     else if list_any (is_same lsa) before then Some LsaTwice
     else if has_zero_metric lsa.body then Some ZeroMetric
@@ -48,13 +48,13 @@ fault_behind before lsa =
 abbrev pub first_fault : List Lsa → List Instance → Option (LsaFault × ℕ)
 first_fault before [] = None
 first_fault before (instance ∷ more) =
-    option_or (placed instance.stamp.place (fault_behind before instance.lsa)) (first_fault (before ++ instance.lsa ∷ []) more)
+    option_or (placed instance.stamp.place (lsa_fault_behind before instance.lsa)) (first_fault (before ++ instance.lsa ∷ []) more)
 
 -- the first fault among instances, of which those that count may have one
 abbrev pub fault_among : List Instance → Option (LsaFault × ℕ)
 fault_among all = first_fault [] (those_that_count all)
 
 -- the refusal tells a fault and its place; want of memory says nothing
-abbrev pub Tells : Option (LsaFault × ℕ) → LsaStop → Type 0
-Tells found (Refused fault offset) = found ≡ Some (fault, offset)
-Tells found OutOfMemory = Unit {0}
+abbrev pub TellsLsaFault : Option (LsaFault × ℕ) → LsaStop → Type 0
+TellsLsaFault found (Refused fault offset) = found ≡ Some (fault, offset)
+TellsLsaFault found OutOfMemory = Unit {0}

@@ -8,8 +8,8 @@ use Rattle.lsa_bytes.specs.declared.instances.Instance.{Instance}
 use Rattle.lsa_bytes.specs.Written.{type_of_body}
 
 -- type, link state ID and advertising router name an LSA
-abbrev pub name_of : Lsa → LsaName
-name_of lsa = record { kind = type_of_body lsa.body; id = lsa.id; router = lsa.router }
+abbrev pub lsa_name_of : Lsa → LsaName
+lsa_name_of lsa = record { kind = type_of_body lsa.body; id = lsa.id; router = lsa.router }
 
 -- the names are those of one LSA
 abbrev pub same_name : LsaName → LsaName → Bool
@@ -46,7 +46,7 @@ newest stamps = newest_behind None stamps
 
 -- the instance is one of the LSA of this name
 abbrev pub is_named : LsaName → Instance → Bool
-is_named name instance = same_name (name_of instance.lsa) name
+is_named name instance = same_name (lsa_name_of instance.lsa) name
 
 -- the instances of an LSA, in order
 abbrev pub stamps_of : LsaName → List Instance → List Stamp
@@ -60,7 +60,7 @@ stands_at place (Some stamp) = stamp.place == place
 -- an instance counts where it is the newest of its LSA's and isn't of MaxAge
 abbrev pub counts_among : List Instance → Instance → Bool
 counts_among all instance =
-    not (is_gone instance.stamp) && stands_at instance.stamp.place (newest (stamps_of (name_of instance.lsa) all))
+    not (is_gone instance.stamp) && stands_at instance.stamp.place (newest (stamps_of (lsa_name_of instance.lsa) all))
 
 -- the instances that count, in order
 abbrev pub those_that_count : List Instance → List Instance

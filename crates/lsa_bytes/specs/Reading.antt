@@ -8,7 +8,7 @@ use Rattle.lsa_bytes.specs.declared.stop.LsaStop.TheVariants.{Refused, OutOfMemo
 use Rattle.lsa_bytes.specs.declared.instances.Instance.{Instance}
 use Rattle.lsa_bytes.specs.Databases.{has_link_types, size_of_lsa}
 use Rattle.lsa_bytes.specs.Instances.{lsas_of}
-use Rattle.lsa_bytes.specs.Faults.{Tells, fault_among, rest_fault}
+use Rattle.lsa_bytes.specs.Faults.{TellsLsaFault, fault_among, rest_fault}
 use Rattle.lsa_bytes.specs.Files.{FallInto, instances_in}
 
 -- instances of which a database may be made: links of types 1 to 4, and little enough of all
@@ -37,5 +37,5 @@ EndAt bytes instances OutOfMemory = Unit {0}
 
 -- behind instances comes one refusal: another tells the first fault among them, or else that one
 abbrev pub TellsFirst : List Instance → LsaStop → LsaStop → Type 0
-TellsFirst instances (Refused fault offset) stop = Tells (option_or (fault_among instances) (Some (fault, offset))) stop
+TellsFirst instances (Refused fault offset) stop = TellsLsaFault (option_or (fault_among instances) (Some (fault, offset))) stop
 TellsFirst instances OutOfMemory stop = stop ≡ OutOfMemory

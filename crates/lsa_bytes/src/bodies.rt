@@ -1,7 +1,7 @@
 //! What the bytes of one LSA say.
 ghost use Rattle.std.specs.Prelude.{◌≡◌, ◌≤◌, ◌+◌, None, IfOk, MatchResult, MatchOption, length, option_to_list};
 ghost use Rattle.lsa_bytes.specs.Grammar.{starts_link, link_length, link_at, links_of, links_of_router_lsa, attached_in, body_of, is_read, said_at, stamp_of};
-ghost use Rattle.lsa_bytes.specs.Faults.{Tells, body_fault, placed};
+ghost use Rattle.lsa_bytes.specs.Faults.{TellsLsaFault, body_fault, placed};
 
 use crate::fields::{number_16, number_32};
 use crate::instances::{Instance, Stamp};
@@ -123,7 +123,7 @@ fn stamp_of(lsa: &[u8], place: u32) -> Stamp
 /// What one LSA at a place says, or None where its type isn't read.
 pub fn said_at(alloc: Global, lsa: &[u8], place: u32) -> Result<Option<Instance>, LsaStop>
     requires { 20 ≤ length lsa.now }
-    ensures { MatchResult result (λ said. (body_fault lsa.now ≡ None) × (option_to_list said ≡ said_at place lsa.now)) (Tells (placed place (body_fault lsa.now))) }
+    ensures { MatchResult result (λ said. (body_fault lsa.now ≡ None) × (option_to_list said ≡ said_at place lsa.now)) (TellsLsaFault (placed place (body_fault lsa.now))) }
 {
     match body_of(alloc, lsa)? {
         None if is_read(lsa[3]) => Err(refusal(LsaFault::BadBody, place)),

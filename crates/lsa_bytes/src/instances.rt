@@ -1,6 +1,6 @@
 //! Instances of one LSA, and which of two is the newer.
 ghost use Rattle.std.specs.Prelude.{◌≡◌};
-ghost use Rattle.lsa_bytes.specs.Instances.{is_gone, is_newer, name_of, newer_of};
+ghost use Rattle.lsa_bytes.specs.Instances.{is_gone, is_newer, lsa_name_of, newer_of};
 
 use crate::{Body, Lsa, NETWORK_LSA, ROUTER_LSA};
 
@@ -42,7 +42,7 @@ pub struct Instance {
 
 /// What names an LSA.
 pub fn name_of(lsa: &Lsa) -> LsaName
-    ensures { result ≡ name_of lsa.now }
+    ensures { result ≡ lsa_name_of lsa.now }
 {
     LsaName {
         kind: match lsa.body {

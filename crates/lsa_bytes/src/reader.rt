@@ -2,7 +2,7 @@
 ghost use Rattle.std.specs.Prelude.{◌≡◌, ◌&&◌, [], ◌∷◌, ◌++◌, None, MatchResult, count_by, nat_le, true};
 ghost use Rattle.std.specs.List.{list_any};
 ghost use Rattle.lsa_bytes.specs.Databases.{HaveNoFault, has_link_types, has_zero_metric, is_router_lsa, is_zero_link};
-ghost use Rattle.lsa_bytes.specs.Faults.{Tells, fault_behind, placed};
+ghost use Rattle.lsa_bytes.specs.Faults.{TellsLsaFault, lsa_fault_behind, placed};
 
 use crate::seen::Seen;
 use crate::stop::refusal;
@@ -48,7 +48,7 @@ impl Reader {
     /// With one more LSA.
     pub fn with(self, lsa: Lsa, place: u32) -> Result<Reader, LsaStop>
         requires { has_link_types lsa.body ≡ true }
-        ensures { MatchResult result (λ reader. (fault_behind self lsa ≡ None) × (reader ≡ self ++ lsa ∷ [])) (Tells (placed place (fault_behind self lsa))) }
+        ensures { MatchResult result (λ reader. (lsa_fault_behind self lsa ≡ None) × (reader ≡ self ++ lsa ∷ [])) (TellsLsaFault (placed place (lsa_fault_behind self lsa))) }
     {
         if self.has_no_room(&lsa) {
             return Err(refusal(LsaFault::TooManyRouters, place));

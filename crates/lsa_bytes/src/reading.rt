@@ -3,7 +3,7 @@ ghost use Rattle.std.specs.Prelude.{◌≡◌, ◌<◌, ◌^◌, [], None, Ok, l
 ghost use Rattle.lsa_bytes.specs.declared.Lsa.{Lsa as OneLsa};
 ghost use Rattle.lsa_bytes.specs.declared.stop.LsaFault.{LsaFault as OneFault};
 ghost use Rattle.lsa_bytes.specs.Grammar.{length_of};
-ghost use Rattle.lsa_bytes.specs.Faults.{Tells, fault_among, length_fault, placed};
+ghost use Rattle.lsa_bytes.specs.Faults.{TellsLsaFault, fault_among, length_fault, placed};
 ghost use Rattle.lsa_bytes.specs.Databases.{HaveNoFault};
 ghost use Rattle.lsa_bytes.specs.Instances.{lsas_of, those_that_count};
 ghost use Rattle.lsa_bytes.specs.Files.{ComesTo, Refuses, Say};
@@ -22,7 +22,7 @@ use std::alloc::Global;
 
 /// The length of the LSA that begins the bytes, all of which they have.
 fn whole_length(rest: &[u8], offset: u32) -> Result<usize, LsaStop>
-    ensures { MatchResult result (λ length. (length_fault rest.now ≡ None) × (length ≡ length_of rest.now)) (Tells (placed offset (length_fault rest.now))) }
+    ensures { MatchResult result (λ length. (length_fault rest.now ≡ None) × (length ≡ length_of rest.now)) (TellsLsaFault (placed offset (length_fault rest.now))) }
 {
     if rest.len() < HEADER_LENGTH {
         return Err(refusal(LsaFault::ShortLsa, offset));
@@ -74,7 +74,7 @@ fn push_instances(alloc: Global, instances: &mut Vec<Instance>, bytes: &[u8]) ->
 pub fn database_of(alloc: Global, instances: Vec<Instance>) -> Result<Database, LsaStop>
     requires { AreSmall instances.items (2 ^ 32 - 2) }
     ensures { MatchResult result (λ database. (fault_among instances.items ≡ None) × (database ≡ lsas_of (those_that_count instances.items)))
-        (Tells (fault_among instances.items)) }
+        (TellsLsaFault (fault_among instances.items)) }
 {
     let newest = Newest::among(alloc, instances.as_slice())?;
     let mut reader = Reader::new(alloc);

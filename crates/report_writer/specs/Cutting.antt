@@ -9,13 +9,13 @@ use Rattle.report_writer.specs.declared.report.Text.{Text}
 use Rattle.report_writer.specs.declared.report.Text.TheVariants.{Made, Fixed, Lsas}
 
 -- the place behind the first LF, or the end where there is none
-abbrev pub line_end : Option ℕ → ℕ → ℕ
-line_end None all = all
-line_end (Some place) all = place + 1
+abbrev pub end_of_first_line : Option ℕ → ℕ → ℕ
+end_of_first_line None all = all
+end_of_first_line (Some place) all = place + 1
 
 -- how long the first line of a text is, with its LF
 abbrev pub line_size : List ℕ → ℕ
-line_size text = line_end (position (λ byte. byte == 10) text) (length text)
+line_size text = end_of_first_line (position (λ byte. byte == 10) text) (length text)
 
 -- how long the first of some LSAs is by its header (RFC 2328, A.4.1): no less than a header, and no more than is there
 abbrev pub lsa_size : List ℕ → ℕ

@@ -7,7 +7,7 @@ use Rattle.std.proofs.lemmas.List.Sums.{sum_by-append}
 use Rattle.cost_base.specs.Lists.{first_of}
 use Rattle.cost_base.proofs.ListLemmas.{append-none}
 use Rattle.text_lines.specs.Lines.{lines, words}
-use Rattle.text_lines.specs.LineFaults.{FaultyLine, fault_at, faults_at, line_faults}
+use Rattle.text_lines.specs.LineFaults.{FaultyLine, fault_at, faults_at, faults_by_line}
 use Rattle.request_reader.specs.declared.Item.{Item}
 use Rattle.request_reader.specs.declared.Directive.{Directive}
 use Rattle.request_reader.specs.declared.stop.RequestFault.{RequestFault}
@@ -15,7 +15,7 @@ use Rattle.request_reader.specs.declared.stop.RequestFault.TheVariants.{BadReque
 use Rattle.request_reader.specs.declared.reading.statement.Statement.{Statement}
 use Rattle.request_reader.specs.declared.reading.statement.Statement.TheVariants.{Passed, Header, Area, DefaultCost, Ask, Refused}
 use Rattle.request_reader.specs.Asked.{IsAsked, HasGoodBounds, is_path, is_path_directive}
-use Rattle.request_reader.specs.Reading.{Told, said_by, told_by, fault_said, fault_behind, fault_behind_header, end_faults, request_faults, request_fault, asked_by}
+use Rattle.request_reader.specs.Reading.{Told, said_by_request_line, told_by, fault_said, fault_behind, fault_behind_header, end_faults, request_faults, request_fault, asked_by}
 use Rattle.request_reader.specs.ReadingSteps.{told_with, KeepsRules}
 use Rattle.request_reader.proofs.ReadingLaws.{told_is, told_push}
 use Rattle.request_reader.proofs.ReadingRules.{statement_rules}
@@ -72,26 +72,28 @@ no_fault_in : (n : ℕ) (o : Option RequestFault) → faults_at n o ≡ [] → o
 no_fault_in n None none = refl
 no_fault_in n (Some fault) none = absurd (cc)
 
-kept_from : (rest front : List (List ℕ)) → ToldKeeps (told_by front) → line_faults fault_behind front rest ≡ [] →
+kept_from : (rest front : List (List ℕ)) → ToldKeeps (told_by front) → faults_by_line fault_behind front rest ≡ [] →
     ToldKeeps (told_by (front ++ rest))
 kept_from [] front kept none = subst (λ file. ToldKeeps (told_by file)) (sym (append-nil front)) kept
 kept_from (line ∷ rest) front kept none =
     let told = told_by front in
-    let parts = append-none (faults_at (length front + 1) (fault_behind front line)) (line_faults fault_behind (front ++ line ∷ []) rest) none in
-    let lawful : fault_said told (said_by line) ≡ None =
-    behind_header (nat_le (length line) 65536) (fault_said told (said_by line)) (no_fault_in (length front + 1) (fault_behind front line) parts.0) in
-    let here : told_with told (length front + 1) (said_by line) ≡ told_by (front ++ line ∷ [])
-    = told_is told.spoken told.area told.default_cost told.items (length front + 1) (said_by line) lawful ∙ sym (told_push front line) in
+    let parts = append-none (faults_at (length front + 1) (fault_behind front line)) (faults_by_line fault_behind (front ++ line ∷ []) rest) none in
+    let lawful : fault_said told (said_by_request_line line) ≡ None =
+    behind_header (nat_le (length line) 65536) (fault_said told (said_by_request_line line))
+      (no_fault_in (length front + 1) (fault_behind front line) parts.0) in
+    let here : told_with told (length front + 1) (said_by_request_line line) ≡ told_by (front ++ line ∷ [])
+    = told_is told.spoken told.area told.default_cost told.items (length front + 1) (said_by_request_line line) lawful ∙ sym (told_push front line) in
     subst (λ file. ToldKeeps (told_by file)) (append_assoc front (line ∷ []) rest)
     (kept_from rest (front ++ line ∷ [])
-    (subst ToldKeeps here (kept_more told (length front + 1) (said_by line) kept (statement_rules (words line) (said_by line) refl) lawful))
+    (subst ToldKeeps here
+      (kept_more told (length front + 1) (said_by_request_line line) kept (statement_rules (words line) (said_by_request_line line) refl) lawful))
     parts.1)
 
 -- a request file without a fault asks for lawful bounds, a positive default cost and at most 10,000 paths
 pub asked_keeps : (bytes : List ℕ) → request_fault bytes ≡ None → IsAsked (asked_by bytes)
 asked_keeps bytes none =
     let file = lines bytes in
-    let parts = append-none (line_faults fault_behind [] file) (end_faults file) (none_first (request_faults file) none) in
+    let parts = append-none (faults_by_line fault_behind [] file) (end_faults file) (none_first (request_faults file) none) in
     let kept = kept_from file []
     (record { bounds = All-nil (λ (i : Item). HasGoodBounds i.what); default = tt; paths = omega arith }) parts.0 in
     record { bounds = kept.bounds; default = kept.default; paths = kept.paths }

@@ -8,7 +8,7 @@ use Rattle.request_reader.specs.declared.Directive.TheVariants.{FreeAll, Free, F
 use Rattle.request_reader.specs.declared.stop.RequestFault.{RequestFault}
 use Rattle.request_reader.specs.declared.stop.RequestFault.TheVariants.{BadRequestLine, BadBounds}
 use Rattle.request_reader.specs.declared.reading.statement.Statement.TheVariants.{Passed, Ask, Refused}
-use Rattle.request_reader.specs.Reading.{asked_by, request_fault, said_by}
+use Rattle.request_reader.specs.Reading.{asked_by, request_fault, said_by_request_line}
 
 abbrev with_head : List (List ℕ) → List ℕ
 with_head ls = with_ends (codes "ospfcost request 1" ∷ codes "area 0" ∷ ls)
@@ -61,33 +61,33 @@ first_of_two : request_fault (with_head (codes "free all 0 5" ∷ codes "free al
 first_of_two = refl
 
 -- bounds
-too_high : said_by (codes "free all 1 65536") ≡ Refused BadBounds
+too_high : said_by_request_line (codes "free all 1 65536") ≡ Refused BadBounds
 too_high = refl
 
-crossed : said_by (codes "free R eth0 3 2") ≡ Refused BadBounds
+crossed : said_by_request_line (codes "free R eth0 3 2") ≡ Refused BadBounds
 crossed = refl
 
-ten_digits : said_by (codes "free all 1 0000000009") ≡ Refused BadRequestLine
+ten_digits : said_by_request_line (codes "free all 1 0000000009") ≡ Refused BadRequestLine
 ten_digits = refl
 
-router_all : said_by (codes "free all 1 2 3") ≡ Ask (Free (codes "all") (codes "1") 2 3)
+router_all : said_by_request_line (codes "free all 1 2 3") ≡ Ask (Free (codes "all") (codes "1") 2 3)
 router_all = refl
 
-wrong_word_first : said_by (codes "free R:eth0 eth0 0 5") ≡ Refused BadRequestLine
+wrong_word_first : said_by_request_line (codes "free R:eth0 eth0 0 5") ≡ Refused BadRequestLine
 wrong_word_first = refl
 
 -- words behind `without`
-without_nothing : said_by (codes "path A:eth0 B without") ≡ Refused BadRequestLine
+without_nothing : said_by_request_line (codes "path A:eth0 B without") ≡ Refused BadRequestLine
 without_nothing = refl
 
-router_without : said_by (codes "path without") ≡ Ask (Path (record { hops = []; last = codes "without" }) [])
+router_without : said_by_request_line (codes "path without") ≡ Ask (Path (record { hops = []; last = codes "without" }) [])
 router_without = refl
 
-ends_at_without : said_by (codes "path A:eth0 without") ≡ Refused BadRequestLine
+ends_at_without : said_by_request_line (codes "path A:eth0 without") ≡ Refused BadRequestLine
 ends_at_without = refl
 
-empty_part : said_by (codes "path A without :eth0") ≡ Refused BadRequestLine
+empty_part : said_by_request_line (codes "path A without :eth0") ≡ Refused BadRequestLine
 empty_part = refl
 
-comment_passed : said_by (codes "  #area 0") ≡ Passed
+comment_passed : said_by_request_line (codes "  #area 0") ≡ Passed
 comment_passed = refl

@@ -14,7 +14,7 @@ use Rattle.cost_base.specs.Lists.{same_bytes}
 use Rattle.text_lines.specs.Lines.{starts_comment}
 use Rattle.text_lines.specs.Numbers.{number, area}
 use Rattle.request_reader.specs.Routes.{route_of}
-use Rattle.request_reader.specs.ReadingLines.{off, header_line, area_read, area_line, default_cost_read, default_cost_line, bound, bounds_of, bounds_said, free_all, free_one, is_router_word, free_line, fix_line, symmetric_line, to_without, behind_without, taken_away, path_said, path_line, line_of, statement_of}
+use Rattle.request_reader.specs.ReadingLines.{off, header_line, area_line_by, area_line, default_cost_read, default_cost_line, bound, bounds_of, bounds_said, free_all, free_one, is_router_word, free_line, fix_line, symmetric_line, to_without, behind_without, taken_away, path_said, path_line, request_statement_by, request_statement_of}
 use Rattle.request_reader.specs.ReadingSteps.{KeepsRules}
 
 -- bounds from 1 on that don't cross
@@ -87,7 +87,7 @@ area_keeps : (ws : List (List ℕ)) → KeepsRules (area_line ws)
 area_keeps [] = tt
 area_keeps (word ∷ []) = said_keeps (area word)
   where
-    said_keeps : (n : Option ℕ) → KeepsRules (area_read n)
+    said_keeps : (n : Option ℕ) → KeepsRules (area_line_by n)
     said_keeps None = tt
     said_keeps (Some n) = tt
 area_keeps (a ∷ b ∷ more) = tt
@@ -107,7 +107,7 @@ path_keeps (word ∷ words) = said_keeps (route_of (word ∷ to_without words)) 
     said_keeps (Some route) None = tt
     said_keeps (Some route) (Some parts) = tt
 
-line_keeps : (word : List ℕ) (ws : List (List ℕ)) → KeepsRules (line_of word ws)
+line_keeps : (word : List ℕ) (ws : List (List ℕ)) → KeepsRules (request_statement_by word ws)
 line_keeps word ws =
     one_of (same_bytes word (codes "path")) (same_bytes word (codes "free")) (same_bytes word (codes "fix"))
     (same_bytes word (codes "symmetric")) (same_bytes word (codes "area"))
@@ -122,6 +122,6 @@ line_keeps word ws =
     one_of a b c d e f g p q r s t u v kp kq kr ks kt ku kv =
         either a p _ kp (either b q _ kq (either c r _ kr (either d s _ ks (either e t _ kt (either f u _ ku (either g v off kv tt))))))
 
-pub statement_rules : (ws : List (List ℕ)) (said : Statement) → said ≡ statement_of ws → KeepsRules said
+pub statement_rules : (ws : List (List ℕ)) (said : Statement) → said ≡ request_statement_of ws → KeepsRules said
 statement_rules [] said is = subst KeepsRules (sym is) tt
-statement_rules (word ∷ ws) said is = subst KeepsRules (sym is) (either (starts_comment word) Passed (line_of word ws) tt (line_keeps word ws))
+statement_rules (word ∷ ws) said is = subst KeepsRules (sym is) (either (starts_comment word) Passed (request_statement_by word ws) tt (line_keeps word ws))

@@ -3,7 +3,7 @@ use Rattle.std.specs.Prelude.{◌≡◌, ℕ, ◌+◌, List, [], ◌∷◌, ◌+
 use Rattle.std.specs.List.{filter_map, list_any}
 use Rattle.cost_base.specs.Lists.{first_of}
 use Rattle.text_lines.specs.Lines.{lines, words}
-use Rattle.text_lines.specs.LineFaults.{FaultyLine, fault_at, line_faults}
+use Rattle.text_lines.specs.LineFaults.{FaultyLine, fault_at, faults_by_line}
 use Rattle.request_reader.specs.declared.Item.{Item}
 use Rattle.request_reader.specs.declared.stop.RequestFault.{RequestFault}
 use Rattle.request_reader.specs.declared.stop.RequestFault.TheVariants.{BadRequestLine, TooManyPaths}
@@ -12,11 +12,11 @@ use Rattle.request_reader.specs.declared.reading.statement.Statement.TheVariants
 use Rattle.request_reader.specs.declared.stop.RequestStop.{RequestStop}
 use Rattle.request_reader.specs.declared.stop.RequestStop.TheVariants.{Refused as StopRefused, OutOfMemory}
 use Rattle.request_reader.specs.Asked.{Asked, is_path, is_path_directive}
-use Rattle.request_reader.specs.ReadingLines.{statement_of}
+use Rattle.request_reader.specs.ReadingLines.{request_statement_of}
 
 -- what a line says
-abbrev pub said_by : List ℕ → Statement
-said_by line = statement_of (words line)
+abbrev pub said_by_request_line : List ℕ → Statement
+said_by_request_line line = request_statement_of (words line)
 
 -- the line is neither blank nor a comment
 abbrev pub speaks : Statement → Bool
@@ -41,7 +41,7 @@ item_in n _ = []
 -- what the lines from number n on ask for
 abbrev pub items_from : ℕ → List (List ℕ) → List Item
 items_from n [] = []
-items_from n (line ∷ more) = item_in n (said_by line) ++ items_from (n + 1) more
+items_from n (line ∷ more) = item_in n (said_by_request_line line) ++ items_from (n + 1) more
 
 -- what some lines say together
 pub record Told : Type 0 where
@@ -53,9 +53,9 @@ pub record Told : Type 0 where
 -- whether one of the first lines is neither blank nor a comment, the first area and default cost, and what they ask for
 abbrev pub told_by : List (List ℕ) → Told
 told_by file = record {
-  spoken = list_any (λ line. speaks (said_by line)) file;
-  area = first_of (filter_map (λ line. area_in (said_by line)) file);
-  default_cost = first_of (filter_map (λ line. default_cost_in (said_by line)) file);
+  spoken = list_any (λ line. speaks (said_by_request_line line)) file;
+  area = first_of (filter_map (λ line. area_in (said_by_request_line line)) file);
+  default_cost = first_of (filter_map (λ line. default_cost_in (said_by_request_line line)) file);
   items = items_from 1 file;
 }
 
@@ -75,12 +75,12 @@ fault_said told Header = if told.spoken then Some BadRequestLine else None
 fault_said told statement = if told.spoken then fault_behind_header told statement else Some BadRequestLine
 
 -- the fault of a line of any length
-abbrev pub fault_of : Told → List ℕ → Option RequestFault
-fault_of told line = if nat_le (length line) 65536 then fault_said told (said_by line) else Some BadRequestLine
+abbrev pub fault_of_request_line : Told → List ℕ → Option RequestFault
+fault_of_request_line told line = if nat_le (length line) 65536 then fault_said told (said_by_request_line line) else Some BadRequestLine
 
 -- the fault of a line behind these lines
 abbrev pub fault_behind : List (List ℕ) → List ℕ → Option RequestFault
-fault_behind before line = fault_of (told_by before) line
+fault_behind before line = fault_of_request_line (told_by before) line
 
 -- the fault of a text that says no area, as of one that has no header: it stands behind the last line
 abbrev pub end_faults : List (List ℕ) → List (FaultyLine RequestFault)
@@ -88,7 +88,7 @@ end_faults file = if is_some (told_by file).area then [] else fault_at (length f
 
 -- the faults of a request file, in the order of its lines
 abbrev pub request_faults : List (List ℕ) → List (FaultyLine RequestFault)
-request_faults file = line_faults fault_behind [] file ++ end_faults file
+request_faults file = faults_by_line fault_behind [] file ++ end_faults file
 
 -- the fault for which a request file is refused
 abbrev pub request_fault : List ℕ → Option (FaultyLine RequestFault)
@@ -103,6 +103,6 @@ abbrev pub asked_by : List ℕ → Asked
 asked_by bytes = asked_of (told_by (lines bytes))
 
 -- a stop tells the fault; want of memory says nothing
-abbrev pub TellsReading : Option (FaultyLine RequestFault) → RequestStop → Type 0
-TellsReading faulty (StopRefused fault line) = faulty ≡ Some (fault_at line fault)
-TellsReading faulty OutOfMemory = Unit {0}
+abbrev pub TellsRequestFault : Option (FaultyLine RequestFault) → RequestStop → Type 0
+TellsRequestFault faulty (StopRefused fault line) = faulty ≡ Some (fault_at line fault)
+TellsRequestFault faulty OutOfMemory = Unit {0}

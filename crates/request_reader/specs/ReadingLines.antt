@@ -25,13 +25,13 @@ header_line (request ∷ version ∷ []) = if same_bytes request (codes "request
 header_line _ = off
 
 -- an `area` line, by the area that was read
-abbrev pub area_read : Option ℕ → Statement
-area_read None = off
-area_read (Some a) = Area a
+abbrev pub area_line_by : Option ℕ → Statement
+area_line_by None = off
+area_line_by (Some a) = Area a
 
 -- `area X`
 abbrev pub area_line : List (List ℕ) → Statement
-area_line (word ∷ []) = area_read (area word)
+area_line (word ∷ []) = area_line_by (area word)
 area_line _ = off
 
 -- a `default-cost` line, by the number that was read
@@ -132,8 +132,8 @@ path_line [] = off
 path_line (word ∷ words) = path_said (route_of (word ∷ to_without words)) (taken_away (behind_without words))
 
 -- what the words behind the first one say
-abbrev pub line_of : List ℕ → List (List ℕ) → Statement
-line_of word words =
+abbrev pub request_statement_by : List ℕ → List (List ℕ) → Statement
+request_statement_by word words =
     if same_bytes word (codes "path") then path_line words
     else if same_bytes word (codes "free") then free_line words
     else if same_bytes word (codes "fix") then fix_line words
@@ -144,6 +144,6 @@ line_of word words =
     else off
 
 -- what a line with these words says: nothing where it is blank or a comment
-abbrev pub statement_of : List (List ℕ) → Statement
-statement_of [] = Passed
-statement_of (word ∷ words) = if starts_comment word then Passed else line_of word words
+abbrev pub request_statement_of : List (List ℕ) → Statement
+request_statement_of [] = Passed
+request_statement_of (word ∷ words) = if starts_comment word then Passed else request_statement_by word words

@@ -1,7 +1,7 @@
 //! Reads a request file.
 ghost use Rattle.std.specs.Prelude.{◌≡◌, ◌-◌, ◌^◌, ◌<◌, None, length, IfOk, IfErr, OnOk};
 ghost use Rattle.text_lines.specs.LineFaults.{fault_in_line};
-ghost use Rattle.request_reader.specs.Reading.{asked_by, said_by, fault_said, request_fault, TellsReading};
+ghost use Rattle.request_reader.specs.Reading.{asked_by, said_by_request_line, fault_said, request_fault, TellsRequestFault};
 ghost use Rattle.request_reader.specs.ReadingSteps.{told_with};
 
 mod line;
@@ -31,7 +31,7 @@ const LONGEST_LINE: usize = 65_536;
 pub fn read_requests(alloc: Global, bytes: &[u8]) -> Result<RequestFile, RequestStop>
     requires few { length bytes.now < 2 ^ 32 - 1 }
     ensures made { IfOk result (λ r. (request_fault bytes.now ≡ None) × (r ≡ asked_by bytes.now)) }
-    ensures refused { IfErr result (TellsReading (request_fault bytes.now)) }
+    ensures refused { IfErr result (TellsRequestFault (request_fault bytes.now)) }
 {
     let mut lines = Lines::new(bytes, LONGEST_LINE);
     let mut reader = Reader::new(alloc);
@@ -51,9 +51,9 @@ fn read_line(
     number: u32,
     text: &[u8],
 ) -> Result<(), RequestStop>
-    ensures taken { OnOk result (fault_said reader.old (said_by text.now) ≡ None) }
-    ensures told { OnOk result (reader.new ≡ told_with reader.old number (said_by text.now)) }
-    ensures refused { IfErr result (TellsReading (fault_in_line number (fault_said reader.old (said_by text.now)))) }
+    ensures taken { OnOk result (fault_said reader.old (said_by_request_line text.now) ≡ None) }
+    ensures told { OnOk result (reader.new ≡ told_with reader.old number (said_by_request_line text.now)) }
+    ensures refused { IfErr result (TellsRequestFault (fault_in_line number (fault_said reader.old (said_by_request_line text.now)))) }
 {
     let said = statement_of(alloc, text)?;
     reader.take(number, said)

@@ -4,7 +4,7 @@ use Rattle.std.specs.List.{filter_map, list_any, concat, AllZip}
 use Rattle.std.specs.List.Sorted.{IsStrictlyIncreasing}
 use Rattle.cost_base.specs.Lists.{first_of, same_bytes}
 use Rattle.text_lines.specs.Lines.{lines}
-use Rattle.text_lines.specs.LineFaults.{FaultyLine, fault_at, line_faults}
+use Rattle.text_lines.specs.LineFaults.{FaultyLine, fault_at, faults_by_line}
 use Rattle.design_problem.specs.declared.problem.Request.{Request}
 use Rattle.design_problem.specs.Problems.{DesignProblem, request_at}
 use Rattle.set_reader.specs.declared.stop.SetFault.{SetFault}
@@ -101,7 +101,7 @@ end_faults_of_sets file = if (sets_told_by file).spoken then [] else fault_at (l
 
 -- the faults of a file of sets, in the order of its lines
 abbrev pub set_faults : List Request → List (List ℕ) → List (FaultyLine SetFault)
-set_faults requests file = line_faults (set_fault_behind requests) [] file ++ end_faults_of_sets file
+set_faults requests file = faults_by_line (set_fault_behind requests) [] file ++ end_faults_of_sets file
 
 -- the fault for which a file of sets is refused
 abbrev pub set_fault : DesignProblem → List ℕ → Option (FaultyLine SetFault)

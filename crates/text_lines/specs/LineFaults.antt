@@ -21,7 +21,7 @@ faults_at {F} n None = []
 faults_at {F} n (Some fault) = fault_at n fault ∷ []
 
 -- the faults of these lines, which follow some lines, where the fault of a line is told by the lines before it
-abbrev pub line_faults : {F : Type 0} → (List (List ℕ) → List ℕ → Option F) → List (List ℕ) → List (List ℕ) → List (FaultyLine F)
-line_faults {F} fault_behind before [] = []
-line_faults {F} fault_behind before (line ∷ more) =
-    faults_at (length before + 1) (fault_behind before line) ++ line_faults fault_behind (before ++ line ∷ []) more
+abbrev pub faults_by_line : {F : Type 0} → (List (List ℕ) → List ℕ → Option F) → List (List ℕ) → List (List ℕ) → List (FaultyLine F)
+faults_by_line {F} fault_behind before [] = []
+faults_by_line {F} fault_behind before (line ∷ more) =
+    faults_at (length before + 1) (fault_behind before line) ++ faults_by_line fault_behind (before ++ line ∷ []) more

@@ -35,7 +35,7 @@ const VERSION: &[u8] = b"1";
 
 /// What a line says.
 pub(crate) fn statement_of(alloc: Global, line: &[u8]) -> Result<Statement, OutOfMemory>
-    ensures { IfOk result (λ said. said ≡ definition.statement_of (words line.now)) }
+    ensures { IfOk result (λ said. said ≡ definition.request_statement_of (words line.now)) }
 {
     match first_word(line) {
         None => Ok(Statement::Passed),
@@ -46,7 +46,7 @@ pub(crate) fn statement_of(alloc: Global, line: &[u8]) -> Result<Statement, OutO
 
 /// What the words behind the first one say.
 fn line_of(alloc: Global, word: &[u8], rest: &[u8]) -> Result<Statement, OutOfMemory>
-    ensures { IfOk result (λ said. said ≡ definition.line_of word.now (words rest.now)) }
+    ensures { IfOk result (λ said. said ≡ definition.request_statement_by word.now (words rest.now)) }
 {
     if word == PATH {
         path_line(alloc, rest)

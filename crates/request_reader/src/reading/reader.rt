@@ -2,7 +2,7 @@
 ghost use Rattle.std.specs.Prelude.{◌≡◌, ◌+◌, ◌-◌, ◌^◌, ◌<◌, ◌++◌, ◌∷◌, [], Some, None, true, false, IfOk, IfErr, OnOk, OnErr, is_some};
 ghost use Rattle.text_lines.specs.LineFaults.{fault_at, fault_in_line};
 ghost use Rattle.request_reader.specs.Asked.{HasGoodBounds, is_path};
-ghost use Rattle.request_reader.specs.Reading.{told_by, fault_said, fault_behind_header, asked_of, TellsReading};
+ghost use Rattle.request_reader.specs.Reading.{told_by, fault_said, fault_behind_header, asked_of, TellsRequestFault};
 ghost use Rattle.request_reader.specs.ReadingSteps.{told_with, KeepsRules};
 ghost use Rattle.request_reader.specs.declared.stop.RequestFault.TheVariants.{BadRequestLine};
 ghost use Rattle.request_reader.specs.declared.reading.statement.Statement.TheVariants.{Area as AreaSaid, DefaultCost as DefaultCostSaid, Ask as AskSaid};
@@ -57,7 +57,7 @@ impl Reader {
         requires { KeepsRules said }
         ensures taken { OnOk result (fault_said self.old said ≡ None) }
         ensures told { OnOk result (self.new ≡ told_with self.old line said) }
-        ensures refused { IfErr result (TellsReading (fault_in_line line (fault_said self.old said))) }
+        ensures refused { IfErr result (TellsRequestFault (fault_in_line line (fault_said self.old said))) }
     {
         match (self.spoken, said) {
             (_, Statement::Passed) => Ok(()),
@@ -77,7 +77,7 @@ impl Reader {
     fn take_area(&mut self, line: u32, area: u32) -> Result<(), RequestStop>
         ensures taken { OnOk result (fault_behind_header self.old (AreaSaid area) ≡ None) }
         ensures told { OnOk result (self.new ≡ told_with self.old line (AreaSaid area)) }
-        ensures refused { IfErr result (TellsReading (fault_in_line line (fault_behind_header self.old (AreaSaid area)))) }
+        ensures refused { IfErr result (TellsRequestFault (fault_in_line line (fault_behind_header self.old (AreaSaid area)))) }
     {
         if self.area.is_some() {
             return Err(refusal(line, RequestFault::BadRequestLine));
@@ -91,7 +91,7 @@ impl Reader {
         requires { 0 < cost }
         ensures taken { OnOk result (fault_behind_header self.old (DefaultCostSaid cost) ≡ None) }
         ensures told { OnOk result (self.new ≡ told_with self.old line (DefaultCostSaid cost)) }
-        ensures refused { IfErr result (TellsReading (fault_in_line line (fault_behind_header self.old (DefaultCostSaid cost)))) }
+        ensures refused { IfErr result (TellsRequestFault (fault_in_line line (fault_behind_header self.old (DefaultCostSaid cost)))) }
     {
         if self.default_cost.is_some() {
             return Err(refusal(line, RequestFault::BadRequestLine));
@@ -105,7 +105,7 @@ impl Reader {
         requires { HasGoodBounds what }
         ensures taken { OnOk result (fault_behind_header self.old (AskSaid what) ≡ None) }
         ensures told { OnOk result (self.new ≡ told_with self.old line (AskSaid what)) }
-        ensures refused { IfErr result (TellsReading (fault_in_line line (fault_behind_header self.old (AskSaid what)))) }
+        ensures refused { IfErr result (TellsRequestFault (fault_in_line line (fault_behind_header self.old (AskSaid what)))) }
     {
         let item = Item { line, what };
         if is_path(&item) {
@@ -121,7 +121,7 @@ impl Reader {
         requires path { is_path path ≡ true }
         ensures taken { OnOk result (fault_behind_header self.old (AskSaid path.what) ≡ None) }
         ensures told { OnOk result (self.new ≡ told_with self.old path.line (AskSaid path.what)) }
-        ensures refused { IfErr result (TellsReading (fault_in_line path.line (fault_behind_header self.old (AskSaid path.what)))) }
+        ensures refused { IfErr result (TellsRequestFault (fault_in_line path.line (fault_behind_header self.old (AskSaid path.what)))) }
     {
         if self.paths >= MOST_PATHS {
             return Err(refusal(path.line, RequestFault::TooManyPaths));
@@ -135,7 +135,7 @@ impl Reader {
     pub(crate) fn finish(self, lines: u32) -> Result<RequestFile, RequestStop>
         requires { lines < 2 ^ 32 - 1 }
         ensures made { IfOk result (λ r. (is_some self.area ≡ true) × (r ≡ asked_of self)) }
-        ensures refused { IfErr result (λ stop. (is_some self.area ≡ false) × TellsReading (Some (fault_at (lines + 1) BadRequestLine)) stop) }
+        ensures refused { IfErr result (λ stop. (is_some self.area ≡ false) × TellsRequestFault (Some (fault_at (lines + 1) BadRequestLine)) stop) }
     {
         match self.area {
             Some(area) => Ok(RequestFile {
@@ -166,7 +166,7 @@ fn add_item(items: &mut Vec<Item>, item: Item) -> Result<(), OutOfMemory>
 
 /// The refusal of a line.
 pub(crate) fn refusal(line: u32, fault: RequestFault) -> RequestStop
-    ensures { TellsReading (Some (fault_at line fault)) result }
+    ensures { TellsRequestFault (Some (fault_at line fault)) result }
 {
     RequestStop::Refused { fault, line }
 }

@@ -1,6 +1,6 @@
 use Rattle.std.proofs.Common.{◌∙◌, ◌++◌, ℕ, List, ap, subst}
 use Rattle.change_steps.specs.declared.walk.End.{End}
-use Rattle.change_steps.specs.Search.{last_steps, line_of}
+use Rattle.change_steps.specs.Search.{last_steps, order_behind_first}
 use Rattle.change_steps.specs.Walks.{IsEnded}
 use Rattle.change_steps.proofs.EndLaws.{budget_spent, complete_order, no_order_found}
 use Rattle.change_steps.proofs.ending.outcome_of.Goals as goal
@@ -9,7 +9,7 @@ pub returns-in_ok-order_of-in-Complete : goal.returns-in_ok-order_of-in-Complete
 returns-in_ok-order_of-in-Complete c = λ nodes ended.
     complete_order c.args.plan.now c.args.walk.now c.in_ok-order_of-in-Complete.field-0.items c.keeps_conditions.ensures.rollout c.keeps_conditions.ensures.held
     (subst (λ (e : End). IsEnded c.args.plan.now nodes c.args.walk.now e) c.in-Complete.is ended)
-    (c.in_ok-order_of-in-Complete.ensures ∙ ap (λ (xs : List ℕ). line_of c.args.plan.now xs ++ last_steps c.args.plan.now) c.deref.ensures.value)
+    (c.in_ok-order_of-in-Complete.ensures ∙ ap (λ (xs : List ℕ). order_behind_first c.args.plan.now xs ++ last_steps c.args.plan.now) c.deref.ensures.value)
 
 pub returns-in_ok-stuck_of-in-Exhausted : goal.returns-in_ok-stuck_of-in-Exhausted
 returns-in_ok-stuck_of-in-Exhausted c = λ nodes ended.

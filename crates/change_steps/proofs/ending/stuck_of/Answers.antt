@@ -2,14 +2,14 @@ use Rattle.std.proofs.Common.{◌≡◌, ◌∙◌, ℕ, List, ap}
 use Rattle.change_steps.specs.Rollouts.{Rollout}
 use Rattle.change_steps.specs.Orders.{is_one_of}
 use Rattle.change_steps.specs.States.{marks_of}
-use Rattle.change_steps.specs.Search.{line_of}
+use Rattle.change_steps.specs.Search.{order_behind_first}
 use Rattle.change_steps.specs.Walks.{position_of}
 use Rattle.change_steps.proofs.EndLaws.{greatest_blocks, search_end}
 use Rattle.change_steps.proofs.ending.stuck_of.Goals as goal
 use Rattle.change_steps.proofs.ending.stuck_of.Goals.{In_ok-state}
 
-line_is : (c : In_ok-state) → c.in_ok-done.done.items ≡ line_of c.args.plan.now c.args.walk.now.greatest.items
-line_is c = c.in_ok-done.ensures ∙ ap (line_of c.args.plan.now) c.deref.ensures.value
+line_is : (c : In_ok-state) → c.in_ok-done.done.items ≡ order_behind_first c.args.plan.now c.args.walk.now.greatest.items
+line_is c = c.in_ok-done.ensures ∙ ap (order_behind_first c.args.plan.now) c.deref.ensures.value
 
 marks_are : (c : In_ok-state) → c.in_ok-state.state.done.items ≡ marks_of c.args.plan.now.rollout (is_one_of c.in_ok-done.done.items)
 marks_are c = c.in_ok-state.ensures.done ∙ ap (λ (r : Rollout). marks_of r (is_one_of c.deref-2.result.now)) c.scene.ensures

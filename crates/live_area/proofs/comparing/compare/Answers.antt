@@ -6,7 +6,7 @@ use Rattle.lsa_writer.specs.Ends.{end_of}
 use Rattle.live_area.specs.declared.Difference.{Difference}
 use Rattle.live_area.specs.declared.interfaces.Compared.{Compared}
 use Rattle.live_area.specs.Differences.{compared_lines, is_as_said}
-use Rattle.live_area.specs.Indexes.{HasMetrics}
+use Rattle.live_area.specs.Indexes.{HasLinkMetrics}
 use Rattle.live_area.proofs.AllLines.{all_lines}
 use Rattle.live_area.proofs.Counts.{compared_count}
 use Rattle.live_area.proofs.comparing.compare.Goals as goal
@@ -14,7 +14,7 @@ use Rattle.live_area.proofs.comparing.compare.Goals as goal
 pub same_count-requires : goal.same_count-requires
 same_count-requires c =
     let same_ends = c.deref.ensures.value ∙ sym c.deref-3.ensures.value in
-    let has = subst (λ (ends : List LinkEnd). HasMetrics c.in_ok-metrics.metrics.by_name ends c.deref-2.result.now) same_ends c.in_ok-metrics.ensures in
+    let has = subst (λ (ends : List LinkEnd). HasLinkMetrics c.in_ok-metrics.metrics.by_name ends c.deref-2.result.now) same_ends c.in_ok-metrics.ensures in
     omega (
       arith,
       ap length c.deref-5.ensures.value,
@@ -31,7 +31,7 @@ same_count-requires c =
 pub returns : goal.returns
 returns c =
     let same_ends = c.deref.ensures.value ∙ sym c.deref-3.ensures.value in
-    let has = subst (λ (ends : List LinkEnd). HasMetrics c.in_ok-metrics.metrics.by_name ends c.deref-2.result.now) same_ends c.in_ok-metrics.ensures in
+    let has = subst (λ (ends : List LinkEnd). HasLinkMetrics c.in_ok-metrics.metrics.by_name ends c.deref-2.result.now) same_ends c.in_ok-metrics.ensures in
     all_lines c.args.configs.now c.args.lsdb.now c.args.costs.now c.args.live.now c.as_slice-lsas.result.now c.deref-2.result.now
     c.as_slice-links.result.now c.deref-3.result.now c.in_ok-interfaces.interfaces.items c.same_count.result _
     c.push_interface_lines.new.lines.items c.push_router_lines.new.lines.items _
