@@ -87,7 +87,7 @@ pub top_safe : (p : HeldRollout) (s : Position) → IsSearch p s → IsSafe p.ro
 top_safe p s is =
     marks_safe p.rollout p.held (is_one_of (order_behind_first p s.order)) (way_state p s.order) refl
     (subst (λ (xs : List ℕ). IsSafe p.rollout p.held (is_one_of xs))
-      (take_all (length (order_behind_first p s.order)) (order_behind_first p s.order) (omega arith))
+    (take_all (length (order_behind_first p s.order)) (order_behind_first p s.order) (omega arith))
     (is.line.safe (length (order_behind_first p s.order)) (omega arith)))
 
 pub top_tested : (p : HeldRollout) (s : Position) → IsSearch p s → Contains s.tested (way_state p s.order)

@@ -120,7 +120,7 @@ fault-push file line =
         (option_or (long_line l) (refused (said_at_place (read_lines (file ++ line ∷ [])) i).statement)))
         (get_or_append_left file (line ∷ []) [] i within)
         ∙ ap (λ (ls : List (List ℕ)). at_line (i + 1) (option_or (long_line (get_or file i [])) (refused (said_at_place ls i).statement)))
-          (read_lines-push file line)
+        (read_lines-push file line)
         ∙ ap (λ (s : Said). at_line (i + 1) (option_or (long_line (get_or file i [])) (refused s.statement)))
         (said_at-append (read_lines file) (read_line line ∷ []) i known)
 

@@ -237,7 +237,7 @@ faults_law file_name file =
         (λ (s : Said). second_of (file_drafts file) s.number s.block s.statement) all
         (λ s quiet. unset_second (file_drafts file) s.number s.block s.statement quiet))
         ∙ ap first_of (filter_map-map (λ (s : Said). second_of (file_drafts file) s.number s.block s.statement)
-          (said_at_place read) (numbers_from 0 (length read)))
+        (said_at_place read) (numbers_from 0 (length read)))
         ∙ ap (λ (f : ℕ → Option Fault). first_of (filter_map f (numbers_from 0 (length read)))) (λ j i. one i j)
         ∙ ap (firsts_at second 0) (length-read_lines file)
       where

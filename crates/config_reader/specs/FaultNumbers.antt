@@ -4,12 +4,12 @@ use Rattle.config_reader.specs.declared.stop.ConfigFault.{ConfigFault}
 use Rattle.config_reader.specs.declared.stop.ConfigFault.TheVariants.{LongLine, BadAddress, BadNumber, BadArea, Unsupported, SecondAddress, AreaTwice, BadName}
 
 -- the number of a fault
-abbrev pub number_of : ConfigFault → ℕ
-number_of LongLine = 1
-number_of BadAddress = 2
-number_of BadNumber = 3
-number_of BadArea = 4
-number_of Unsupported = 5
-number_of SecondAddress = 6
-number_of AreaTwice = 7
-number_of BadName = 8
+abbrev pub config_fault_number : ConfigFault → ℕ
+config_fault_number LongLine = 1
+config_fault_number BadAddress = 2
+config_fault_number BadNumber = 3
+config_fault_number BadArea = 4
+config_fault_number Unsupported = 5
+config_fault_number SecondAddress = 6
+config_fault_number AreaTwice = 7
+config_fault_number BadName = 8

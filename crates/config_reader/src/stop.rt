@@ -1,6 +1,6 @@
 //! Why a configuration isn't taken.
 ghost use Rattle.std.specs.Prelude.{◌≡◌};
-ghost use Rattle.config_reader.specs.FaultNumbers.{number_of};
+ghost use Rattle.config_reader.specs.FaultNumbers.{config_fault_number};
 
 use cost_base::OutOfMemory;
 
@@ -28,7 +28,7 @@ pub enum ConfigFault {
 impl ConfigFault {
     /// The number by which the fault is written.
     pub fn number(self) -> u8
-        ensures { result ≡ number_of self }
+        ensures { result ≡ config_fault_number self }
     {
         match self {
             ConfigFault::LongLine => 1,

@@ -24,7 +24,7 @@ use Rattle.report_writer.specs.declared.report.Report.{Report}
 use Rattle.report_writer.specs.Reports.{Reports, bytes_in}
 use Rattle.lsa_bytes.specs.declared.ids.IdFault.{IdFault}
 use Rattle.lsa_bytes.specs.Ids.{first_id_fault}
-use Rattle.lsa_bytes.specs.Numbers.{number_of}
+use Rattle.lsa_bytes.specs.Numbers.{lsa_fault_number}
 use Rattle.lsa_bytes.specs.Written.{bytes_of_all}
 use Rattle.lsa_writer.specs.WrittenLsas.{written_lsas}
 use Rattle.lsa_writer.specs.OneGraph.{IsDatabaseOf, SayGraph}
@@ -76,9 +76,9 @@ are_written names network d costs bytes is costs_are written graph =
 
 -- router IDs that were tested
 pub ids_stop : (names : InputFiles) (d : Input) (found : IdFault) (stop : Stop) →
-    IsRefusal (record { number = number_of found.fault; file = file_of names found.config; line = 0 }) stop →
+    IsRefusal (record { number = lsa_fault_number found.fault; file = file_of names found.config; line = 0 }) stop →
     StopsAs (if_identified names d (Some found)) [] stop
-ids_stop names d found stop is = refusal_stops Input (record { number = number_of found.fault; file = file_of names found.config; line = 0 }) stop is
+ids_stop names d found stop is = refusal_stops Input (record { number = lsa_fault_number found.fault; file = file_of names found.config; line = 0 }) stop is
 
 -- whose IDs were tested
 pub ids_refused : (names : InputFiles) (d : Input) (configs : List Router) (stop : Stop) →

@@ -27,7 +27,7 @@ use Rattle.lsa_bytes.specs.declared.Lsa.{Lsa}
 use Rattle.lsa_bytes.specs.declared.stop.LsaFault.TheVariants.{NoRouterId}
 use Rattle.lsa_bytes.specs.AreaGraphs.{routers_among, networks_among, vertex_back, edge_if_found, far_end, link_edge, attached_edge, edges_from, edges_in_order, router_vertex_back, has_link, lsa_graph}
 use Rattle.lsa_bytes.specs.Databases.{is_router_lsa, is_router_of}
-use Rattle.lsa_bytes.specs.Numbers.{number_of}
+use Rattle.lsa_bytes.specs.Numbers.{lsa_fault_number}
 use Rattle.database_commands.specs.Routes.{unless_unknown, vertex_of_router, id_at, vertex_ids, route_end, hop_ids, IsRoute, MayRoute}
 use Rattle.database_commands.specs.Found.{EndsBy, IsFoundEnd}
 
@@ -40,15 +40,15 @@ refusal_stops A r stops.OutOfMemory is = absurd is
 -- a router without a router-LSA stops the rest
 pub unknown_stops : (file : List ℕ) (id place : ℕ) (lsas : List Lsa) (next : Reading (List Lsa)) (stop : Stop) →
     list_any (is_router_of id) lsas ≡ false →
-    IsRefusal (record { number = number_of NoRouterId; file = file; line = place }) stop
+    IsRefusal (record { number = lsa_fault_number NoRouterId; file = file; line = place }) stop
     → StopsAs (unless_unknown file id place lsas next) [] stop
 unknown_stops file id place lsas next stop unknown is =
-    subst (λ b. StopsAs (cond b next (Refused (record { number = number_of NoRouterId; file = file; line = place }))) [] stop) (sym unknown)
-    (refusal_stops (List Lsa) (record { number = number_of NoRouterId; file = file; line = place }) stop is)
+    subst (λ b. StopsAs (cond b next (Refused (record { number = lsa_fault_number NoRouterId; file = file; line = place }))) [] stop) (sym unknown)
+    (refusal_stops (List Lsa) (record { number = lsa_fault_number NoRouterId; file = file; line = place }) stop is)
 
 pub known_goes_on : (file : List ℕ) (id place : ℕ) (lsas : List Lsa) (next : Reading (List Lsa)) →
     list_any (is_router_of id) lsas ≡ true → unless_unknown file id place lsas next ≡ next
-known_goes_on file id place lsas next known = ap (λ b. cond b next (Refused (record { number = number_of NoRouterId; file = file; line = place }))) known
+known_goes_on file id place lsas next known = ap (λ b. cond b next (Refused (record { number = lsa_fault_number NoRouterId; file = file; line = place }))) known
 
 -- Each edge has a fixed price.
 
@@ -169,7 +169,7 @@ found_own lsas g ids from to start end bytes own graph ends same own_is is =
 
 pub unknown_start : (file : List ℕ) (from to : ℕ) (lsas slice : List Lsa) (stop : Stop) → slice ≡ lsas →
     (list_any (is_router_of from) slice ≡ false)
-    × IsRefusal (record { number = number_of NoRouterId; file = file; line = 0 }) stop →
+    × IsRefusal (record { number = lsa_fault_number NoRouterId; file = file; line = 0 }) stop →
     StopsAs (unless_unknown file from 0 lsas (unless_unknown file to 1 lsas (Ready lsas))) [] stop
 unknown_start file from to lsas slice stop same is =
     unknown_stops file from 0 lsas (unless_unknown file to 1 lsas (Ready lsas)) stop (sym (ap (list_any (is_router_of from)) same) ∙ is.0) is.1
@@ -177,7 +177,7 @@ unknown_start file from to lsas slice stop same is =
 pub unknown_end : (file : List ℕ) (from to : ℕ) (lsas slice other : List Lsa) (stop : Stop) → slice ≡ lsas →
     other ≡ lsas → list_any (is_router_of from) slice ≡ true →
     (list_any (is_router_of to) other ≡ false)
-    × IsRefusal (record { number = number_of NoRouterId; file = file; line = 1 }) stop →
+    × IsRefusal (record { number = lsa_fault_number NoRouterId; file = file; line = 1 }) stop →
     StopsAs (unless_unknown file from 0 lsas (unless_unknown file to 1 lsas (Ready lsas))) [] stop
 unknown_end file from to lsas slice other stop same also known is =
     subst (λ (m : Reading (List Lsa)). StopsAs m [] stop)

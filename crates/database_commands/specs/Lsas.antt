@@ -9,7 +9,7 @@ use Rattle.input_files.specs.Readings.{Reading, Refused, Ready, ◌>>=◌}
 use Rattle.input_files.specs.Outcomes.{Input, outcome, routers_of, file_of}
 use Rattle.lsa_bytes.specs.declared.ids.IdFault.{IdFault}
 use Rattle.lsa_bytes.specs.Ids.{first_id_fault}
-use Rattle.lsa_bytes.specs.Numbers.{number_of}
+use Rattle.lsa_bytes.specs.Numbers.{lsa_fault_number}
 use Rattle.lsa_bytes.specs.Written.{bytes_of_all}
 use Rattle.lsa_writer.specs.WrittenLsas.{written_lsas}
 use Rattle.lsa_writer.specs.OneGraph.{SayGraph}
@@ -17,7 +17,7 @@ use Rattle.lsa_writer.specs.OneGraph.{SayGraph}
 -- a configuration without a router ID of its own is refused, at no line
 abbrev pub if_identified : InputFiles → Input → Option IdFault → Reading Input
 if_identified names d None = Ready d
-if_identified names d (Some found) = Refused (record { number = number_of found.fault; file = file_of names found.config; line = 0 })
+if_identified names d (Some found) = Refused (record { number = lsa_fault_number found.fault; file = file_of names found.config; line = 0 })
 
 -- what the files of a network say at present costs, and then the router IDs, configuration by configuration
 abbrev pub identified_read : InputFiles → Reading Input

@@ -12,7 +12,7 @@ use Rattle.lsa_bytes.specs.declared.Lsa.{Lsa}
 use Rattle.lsa_bytes.specs.declared.stop.LsaFault.TheVariants.{NoRouterId}
 use Rattle.lsa_bytes.specs.AreaGraphs.{lsa_graph, routers_among, networks_among, router_vertex_back}
 use Rattle.lsa_bytes.specs.Databases.{is_router_of}
-use Rattle.lsa_bytes.specs.Numbers.{number_of}
+use Rattle.lsa_bytes.specs.Numbers.{lsa_fault_number}
 use Rattle.live_input.specs.LsaFiles.{lsas_read}
 use Rattle.database_commands.specs.Quads.{router_id_text}
 
@@ -20,7 +20,7 @@ use Rattle.database_commands.specs.Quads.{router_id_text}
 abbrev pub unless_unknown : List ℕ → ℕ → ℕ → List Lsa → Reading (List Lsa) → Reading (List Lsa)
 unless_unknown file id place lsas next =
     if list_any (is_router_of id) lsas then next
-    else Refused (record { number = number_of NoRouterId; file = file; line = place })
+    else Refused (record { number = lsa_fault_number NoRouterId; file = file; line = place })
 
 -- what a file of LSAs says that has both routers
 abbrev pub route_read : List ℕ → ℕ → ℕ → Reading (List Lsa)

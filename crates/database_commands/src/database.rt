@@ -4,7 +4,7 @@ ghost use Rattle.std.specs.List.{list_any};
 ghost use Rattle.lsa_bytes.specs.declared.Lsa.{Lsa as OneLsa};
 ghost use Rattle.lsa_bytes.specs.declared.stop.LsaFault.TheVariants.{NoRouterId};
 ghost use Rattle.lsa_bytes.specs.Databases.{is_router_of};
-ghost use Rattle.lsa_bytes.specs.Numbers.{number_of};
+ghost use Rattle.lsa_bytes.specs.Numbers.{lsa_fault_number};
 ghost use Rattle.input_files.specs.Stops.{IsRefusal};
 
 use input_files::Stop;
@@ -27,7 +27,7 @@ fn has_router(lsas: &[Lsa], id: u32) -> bool
 /// Tests that a router has a router-LSA. The place stands for a line where it has none.
 pub fn check_router<'a>(lsas: &[Lsa], id: u32, file: &'a str, place: u32) -> Result<(), Stop<'a>>
     ensures { MatchResult result (λ _. list_any (is_router_of id) lsas.now ≡ true)
-        (λ stop. (list_any (is_router_of id) lsas.now ≡ false) × IsRefusal (record { number = number_of NoRouterId; file = file.now; line = place }) stop) }
+        (λ stop. (list_any (is_router_of id) lsas.now ≡ false) × IsRefusal (record { number = lsa_fault_number NoRouterId; file = file.now; line = place }) stop) }
 {
     if has_router(lsas, id) {
         Ok(())

@@ -1,7 +1,7 @@
 //! The network of files whose configurations have router IDs of their own.
 ghost use Rattle.std.specs.Prelude.{◌≡◌, ◌<◌, ◌^◌, [], length};
 ghost use Rattle.lsa_bytes.specs.Ids.{first_id_fault};
-ghost use Rattle.lsa_bytes.specs.Numbers.{number_of};
+ghost use Rattle.lsa_bytes.specs.Numbers.{lsa_fault_number};
 ghost use Rattle.input_files.specs.Outcomes.{Input, file_of, routers_of};
 ghost use Rattle.input_files.specs.Readings.{Gave};
 ghost use Rattle.input_files.specs.Stops.{IsReadAs, IsRefusal, files_named};
@@ -16,7 +16,7 @@ use std::alloc::Global;
 
 /// The stop of a configuration that has no router ID, or that of an earlier one.
 fn stop_of_id(found: IdFault, words: FileWords<'_>) -> Stop<'_>
-    ensures { IsRefusal (record { number = number_of found.fault; file = file_of (files_named words.entry) found.config; line = 0 }) result }
+    ensures { IsRefusal (record { number = lsa_fault_number found.fault; file = file_of (files_named words.entry) found.config; line = 0 }) result }
 {
     Stop::Refused {
         number: found.fault.number(),

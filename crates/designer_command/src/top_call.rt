@@ -2,7 +2,7 @@
 ghost use Rattle.std.specs.Prelude.{◌≡◌, ℕ, List, MatchResult};
 ghost use Rattle.form_search.specs.Advised.{AreCalled};
 ghost use Rattle.text_lines.specs.Arguments.{texts};
-ghost use Rattle.report_writer.specs.Cutting.{PutsByPieces, PutsPieces, size_in};
+ghost use Rattle.report_writer.specs.Cutting.{PutsByPieces, PutsPieces, size_of_piece};
 ghost use Rattle.report_writer.specs.Reports.{IsWritten, Reports, bytes_in};
 ghost use Rattle.designer_command.specs.Runs.{RunMeets};
 ghost use Rattle.designer_command.specs.Usage.{usage};
@@ -50,7 +50,7 @@ fn write_made<K: Sink>(made: Result<Report, OutOfMemory>, out: &mut K) -> Status
         (K.handed out.old out.new) (K.faults out.old) (K.faults out.new) result)
         (λ _. (result ≡ Status.OutOfMemory) × (out.new ≡ out.old)) }
     ensures pieces { MatchResult made
-        (λ report. PutsPieces K.handed out.old out.new (size_in report.text) (bytes_in report.text) result)
+        (λ report. PutsPieces K.handed out.old out.new (size_of_piece report.text) (bytes_in report.text) result)
         (λ _. out.new ≡ out.old) }
 {
     match made {

@@ -27,7 +27,7 @@ use Rattle.design_problem.specs.Answers.{AnswerParts, Proves, ShowsLeastGreatest
 use Rattle.evidence_checker.specs.declared.stop.Accepted.{Accepted}
 use Rattle.evidence_checker.specs.declared.stop.CheckStop.{CheckStop}
 use Rattle.evidence_checker.specs.declared.stop.CheckStop.TheVariants.{Refused, OutOfMemory}
-use Rattle.evidence_checker.specs.Refusals.{Fault, AtNoPlace, AtFirstItem, StopsBy}
+use Rattle.evidence_checker.specs.Refusals.{MetTest, AtNoPlace, AtFirstItem, StopsBy}
 use Rattle.evidence_checker.specs.Laws.{IsAcceptedAs, RefusesInvalid, CostsHold, ProofHolds}
 use Rattle.evidence_checker.specs.Tests.{ClaimsNothing, ShapeOfLeast, ShapeOfClaim, HasWrongShape, NamesPlaces, IsFalseFloor, cost_tests, row_tests, line_tests, AtFirstLine, proof_tests, tests}
 use Rattle.design_problem.proofs.GivenCosts.{names_written}
@@ -170,7 +170,7 @@ costs_met p (Optimal k) None floor kept holds = tt
 costs_met p Impossible costs floor kept holds = tt
 costs_met p (Undecided cap) costs floor kept holds = tt
 
-rows_met : (p : DesignProblem) (place : ℕ) (rows : List Row) (f : Fault) → All (IsRow p) rows → AtFirstItem (row_tests p) place rows f → ⊥
+rows_met : (p : DesignProblem) (place : ℕ) (rows : List Row) (f : MetTest) → All (IsRow p) rows → AtFirstItem (row_tests p) place rows f → ⊥
 rows_met p place [] f true_rows met = met
 rows_met p place (row ∷ rows) f true_rows met =
     elim met [
@@ -178,7 +178,7 @@ rows_met p place (row ∷ rows) f true_rows met =
       | inr later ↦ rows_met p (place + 1) rows f (All-tail (IsRow p) row rows true_rows) later.1
     ]
 
-lines_met : (forms : List Form) (boxes : List CostBox) (place : ℕ) (entries : List Entry) (f : Fault) →
+lines_met : (forms : List Form) (boxes : List CostBox) (place : ℕ) (entries : List Entry) (f : MetTest) →
     Sound forms boxes entries → IsClosed entries → AtFirstLine forms boxes place entries f → ⊥
 lines_met forms [] place entries f sound closed met = met
 lines_met forms (box ∷ boxes) place [] f sound closed met = met
@@ -193,7 +193,7 @@ proof_met p rows None holds = tt
 proof_met p rows (Some proof) holds = (λ f met. lines_met (forms_of_rows p rows) (capped (box_of p) proof.cap ∷ []) 0 proof.tree f holds.0 holds.1 met, tt)
 
 -- the tests before those of the rows
-abbrev pub EarlyTests : DesignProblem → AnswerParts → List (Fault → Type 0)
+abbrev pub EarlyTests : DesignProblem → AnswerParts → List (MetTest → Type 0)
 EarlyTests p a = AtNoPlace 49 (ClaimsNothing a.verdict) ∷ AtNoPlace 51 (HasWrongShape p a) ∷ cost_tests p a.verdict a.costs a.floor
 
 early_met : (p : DesignProblem) (a : AnswerParts) → IsProblem p → (ClaimsNothing a.verdict → ⊥) →

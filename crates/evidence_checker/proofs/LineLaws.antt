@@ -14,7 +14,7 @@ use Rattle.design_problem.specs.Trees.{IsSmaller, SoundAt, TightensAt, is_undone
 use lib.Signed.{lt_z}
 use Rattle.evidence_checker.proofs.Sizes.{negative_iff}
 use Rattle.evidence_checker.specs.declared.fault.CheckFault.{CheckFault}
-use Rattle.evidence_checker.specs.Numbers.{number_of}
+use Rattle.evidence_checker.specs.Numbers.{check_fault_number}
 use Rattle.evidence_checker.specs.Tests.{line_tests}
 
 pub nothing_refuted : (forms : List Form) (box : CostBox) (parts : List (ℕ × ℕ)) →
@@ -46,11 +46,11 @@ sound_meets_none forms box Undone sound closed = absurd (true_false closed)
 -- a Refute, as it stands among the lines
 pub refute_line : (forms : List Form) (box : CostBox) (entry : Entry) (parts : List (ℕ × ℕ)) (r : Option CheckFault) →
     entry ≡ Refute parts → MatchOption r (Refutes forms parts box)
-    (λ f. FirstOf (line_tests forms box (Refute parts)) (number_of f)) →
+    (λ f. FirstOf (line_tests forms box (Refute parts)) (check_fault_number f)) →
     MatchOption r (SoundAt forms box entry × (is_undone entry ≡ false))
-    (λ f. FirstOf (line_tests forms box entry) (number_of f))
+    (λ f. FirstOf (line_tests forms box entry) (check_fault_number f))
 refute_line forms box entry parts None e met = subst (λ (x : Entry). SoundAt forms box x × (is_undone x ≡ false)) (sym e) (met, refl)
-refute_line forms box entry parts (Some f) e met = subst (λ (x : Entry). FirstOf (line_tests forms box x) (number_of f)) (sym e) met
+refute_line forms box entry parts (Some f) e met = subst (λ (x : Entry). FirstOf (line_tests forms box x) (check_fault_number f)) (sym e) met
 
 pub false_true : IsTrue false → ⊥
 false_true e = cc

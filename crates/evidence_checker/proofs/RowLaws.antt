@@ -10,7 +10,7 @@ use Rattle.design_problem.specs.declared.problem.Request.{Request}
 use Rattle.design_problem.specs.Problems.{DesignProblem}
 use Rattle.design_problem.specs.Rows.{IsRow, IsRivalOf, path_edges}
 use Rattle.design_problem.proofs.RowForms.{route_of_rival}
-use Rattle.evidence_checker.specs.Refusals.{Fault, AtFirstItem}
+use Rattle.evidence_checker.specs.Refusals.{MetTest, AtFirstItem}
 use Rattle.evidence_checker.specs.Tests.{row_tests}
 
 rival_is_other : (g : Area) (r : Option Request) (es : List ℕ) → IsRivalOf g r es → es ≡ path_edges r → ⊥
@@ -31,7 +31,7 @@ row_read rows k row k_in e =
 
 -- the first faulty row of all, by the rows that are left
 abbrev pub FirstIsLeft : DesignProblem → List Row → ℕ → Type 0
-FirstIsLeft p rows k = (f : Fault) → AtFirstItem (row_tests p) k (drop k rows) f → AtFirstItem (row_tests p) 0 rows f
+FirstIsLeft p rows k = (f : MetTest) → AtFirstItem (row_tests p) k (drop k rows) f → AtFirstItem (row_tests p) 0 rows f
 
 pub first_goes_on : (p : DesignProblem) (rows : List Row) (k : ℕ) (row : Row) → k < length rows →
     row ≡ get_or rows k row → IsRow p row → FirstIsLeft p rows k → FirstIsLeft p rows (k + 1)
@@ -42,7 +42,7 @@ pub first_is_here : (p : DesignProblem) (rows : List Row) (k number : ℕ) (row 
     row ≡ get_or rows k row → FirstOf (row_tests p row) number → FirstIsLeft p rows k →
     AtFirstItem (row_tests p) 0 rows (record { number = number; place = k })
 first_is_here p rows k number row k_in e met left =
-    let f : Fault = record { number = number; place = k } in
+    let f : MetTest = record { number = number; place = k } in
     left f (subst (λ (xs : List Row). AtFirstItem (row_tests p) k xs f) (sym (row_read rows k row k_in e)) (inl (refl, met)))
 
 -- one form more

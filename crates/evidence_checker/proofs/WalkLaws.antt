@@ -11,7 +11,7 @@ use Rattle.design_problem.specs.declared.form.CostBox.{CostBox}
 use Rattle.design_problem.specs.declared.tree.Entry.{Entry}
 use Rattle.design_problem.specs.declared.tree.Entry.TheVariants.{Tighten, Split, Halve, Refute, Undone}
 use Rattle.design_problem.specs.Trees.{Sound, SoundAt, IsClosed, AreSeveralTrees, subboxes, subtree_count, is_undone}
-use Rattle.evidence_checker.specs.Refusals.{Fault, StopsBy}
+use Rattle.evidence_checker.specs.Refusals.{MetTest, StopsBy}
 use Rattle.evidence_checker.specs.Tests.{line_tests, AtFirstLine}
 use Rattle.evidence_checker.proofs.LineLaws.{sound_meets_none}
 
@@ -20,7 +20,7 @@ pub record Walks (forms : List Form) (start : List CostBox) (whole : List Entry)
     (place : ℕ) (rest : List Entry) : Type 0 where
   pub sound : Sound forms (box ∷ boxes) rest → Sound forms start whole
   pub closed : IsClosed rest → IsClosed whole
-  pub first : (f : Fault) → AtFirstLine forms (box ∷ boxes) place rest f → AtFirstLine forms start 0 whole f
+  pub first : (f : MetTest) → AtFirstLine forms (box ∷ boxes) place rest f → AtFirstLine forms start 0 whole f
   pub trees : AreSeveralTrees (suc (length boxes)) rest
 
 pub walk_begins : (forms : List Form) (box : CostBox) (whole : List Entry) → AreSeveralTrees 1 whole → Walks forms (box ∷ []) whole box [] 0 whole

@@ -24,8 +24,8 @@ use Rattle.design_problem.specs.Rows.{HasRoute, path_edges, box_of, forms_of_row
 use Rattle.design_problem.specs.Answers.{AnswerParts, greatest_bound}
 use Rattle.design_problem.specs.GivenCosts.{GivesCost, costs_given}
 use Rattle.evidence_checker.specs.declared.fault.CheckFault.TheVariants.{NothingClaimed, WrongShape, WrongPlaces, UnequalEnds, OutOfBounds, WrongGreatest, NotOnlyCheapest, FalseFloor, NotAPath, NotARival, GreatMultipliers, NothingRefuted, WeakStep, OpenLeaf}
-use Rattle.evidence_checker.specs.Numbers.{number_of}
-use Rattle.evidence_checker.specs.Refusals.{Fault, AtNoPlace, AtFirst, OnItem, AtFirstItem}
+use Rattle.evidence_checker.specs.Numbers.{check_fault_number}
+use Rattle.evidence_checker.specs.Refusals.{MetTest, AtNoPlace, AtFirst, OnItem, AtFirstItem}
 
 -- 49: the verdict claims nothing
 abbrev pub ClaimsNothing : Verdict → Type 0
@@ -89,14 +89,14 @@ IsFalseFloor p k Empty = length p.low ≡ 0 → ⊥
 IsFalseFloor p k (Var v) = (v < length p.low) × (slice_index p.low v ≡ k) → ⊥
 
 -- the tests of the costs and the floor of an optimal answer; an impossible one has nothing to speak of
-abbrev pub cost_tests : DesignProblem → Verdict → Option Costs → Floor → List (Fault → Type 0)
+abbrev pub cost_tests : DesignProblem → Verdict → Option Costs → Floor → List (MetTest → Type 0)
 cost_tests p (Optimal k) (Some costs) floor =
-    AtNoPlace (number_of WrongPlaces) (NamesPlaces p.vars costs.lines → ⊥)
-    ∷ AtFirst (number_of UnequalEnds) (HasUnequalEnds p.vars costs.lines)
-    ∷ AtFirst (number_of OutOfBounds) (IsOutside p.low p.high (costs_given p costs.lines))
-    ∷ AtNoPlace (number_of WrongGreatest) (HasWrongGreatest k costs.greatest (costs_given p costs.lines))
-    ∷ AtFirst (number_of NotOnlyCheapest) (IsNotOnly p (costs_given p costs.lines))
-    ∷ AtNoPlace (number_of FalseFloor) (IsFalseFloor p k floor)
+    AtNoPlace (check_fault_number WrongPlaces) (NamesPlaces p.vars costs.lines → ⊥)
+    ∷ AtFirst (check_fault_number UnequalEnds) (HasUnequalEnds p.vars costs.lines)
+    ∷ AtFirst (check_fault_number OutOfBounds) (IsOutside p.low p.high (costs_given p costs.lines))
+    ∷ AtNoPlace (check_fault_number WrongGreatest) (HasWrongGreatest k costs.greatest (costs_given p costs.lines))
+    ∷ AtFirst (check_fault_number NotOnlyCheapest) (IsNotOnly p (costs_given p costs.lines))
+    ∷ AtNoPlace (check_fault_number FalseFloor) (IsFalseFloor p k floor)
     ∷ []
 cost_tests p (Optimal k) None floor = []
 cost_tests p Impossible costs floor = []
@@ -105,8 +105,8 @@ cost_tests p (Undecided cap) costs floor = []
 -- the tests of a row: 40, it is no simple path of a request; 41, it is the wanted path
 abbrev pub row_tests : DesignProblem → Row → List (ℕ → Type 0)
 row_tests p row =
-    OnItem (number_of NotAPath) (HasRoute p row → ⊥)
-    ∷ OnItem (number_of NotARival) (row.rival.edges ≡ path_edges (slice_get p.paths row.request))
+    OnItem (check_fault_number NotAPath) (HasRoute p row → ⊥)
+    ∷ OnItem (check_fault_number NotARival) (row.rival.edges ≡ path_edges (slice_get p.paths row.request))
     ∷ []
 
 -- 48: the sum of a Refute's multipliers is 2^100 or more
@@ -144,14 +144,14 @@ IsOpenLeaf Undone = Unit {0}
 -- the tests of a line of a tree, at its box
 abbrev pub line_tests : List Form → CostBox → Entry → List (ℕ → Type 0)
 line_tests forms box entry =
-    OnItem (number_of GreatMultipliers) (HasGreatSum entry)
-    ∷ OnItem (number_of NothingRefuted) (RefutesNothing forms box entry)
-    ∷ OnItem (number_of WeakStep) (IsWeakStep forms box entry)
-    ∷ OnItem (number_of OpenLeaf) (IsOpenLeaf entry)
+    OnItem (check_fault_number GreatMultipliers) (HasGreatSum entry)
+    ∷ OnItem (check_fault_number NothingRefuted) (RefutesNothing forms box entry)
+    ∷ OnItem (check_fault_number WeakStep) (IsWeakStep forms box entry)
+    ∷ OnItem (check_fault_number OpenLeaf) (IsOpenLeaf entry)
     ∷ []
 
 -- the first line of a tree that meets a test, where each next line speaks of the first box that is still open
-abbrev pub AtFirstLine : List Form → List CostBox → ℕ → List Entry → Fault → Type 0
+abbrev pub AtFirstLine : List Form → List CostBox → ℕ → List Entry → MetTest → Type 0
 AtFirstLine forms [] place entries f = ⊥
 AtFirstLine forms (box ∷ boxes) place [] f = ⊥
 AtFirstLine forms (box ∷ boxes) place (entry ∷ entries) f =
@@ -159,15 +159,15 @@ AtFirstLine forms (box ∷ boxes) place (entry ∷ entries) f =
     ⊎ (NoneOf (line_tests forms box entry) × AtFirstLine forms (subboxes box entry ++ boxes) (place + 1) entries f)
 
 -- the tests of the proof, where there is one: those of its lines, over the box at its cap
-abbrev pub proof_tests : DesignProblem → List Row → Option CapTree → List (Fault → Type 0)
+abbrev pub proof_tests : DesignProblem → List Row → Option CapTree → List (MetTest → Type 0)
 proof_tests p rows None = []
 proof_tests p rows (Some proof) = AtFirstLine (forms_of_rows p rows) (capped (box_of p) proof.cap ∷ []) 0 proof.tree ∷ []
 
 -- all tests, in their order
-abbrev pub tests : DesignProblem → AnswerParts → List (Fault → Type 0)
+abbrev pub tests : DesignProblem → AnswerParts → List (MetTest → Type 0)
 tests p a =
-    AtNoPlace (number_of NothingClaimed) (ClaimsNothing a.verdict)
-    ∷ AtNoPlace (number_of WrongShape) (HasWrongShape p a)
+    AtNoPlace (check_fault_number NothingClaimed) (ClaimsNothing a.verdict)
+    ∷ AtNoPlace (check_fault_number WrongShape) (HasWrongShape p a)
     ∷ cost_tests p a.verdict a.costs a.floor
     ++ AtFirstItem (row_tests p) 0 a.rows
     ∷ proof_tests p a.rows a.proof

@@ -1,6 +1,6 @@
 //! The checker.
 ghost use Rattle.evidence_checker.specs.declared.fault.CheckFault.TheVariants.{WrongShape};
-ghost use Rattle.evidence_checker.specs.Numbers.{number_of};
+ghost use Rattle.evidence_checker.specs.Numbers.{check_fault_number};
 ghost use Rattle.std.specs.Prelude.{◌≡◌, [], ◌∷◌, All, IfOk, IfErr};
 ghost use Rattle.std.specs.Option.{option_copied};
 ghost use Rattle.design_problem.specs.Answers.{IsValid};
@@ -23,7 +23,7 @@ use std::alloc::Global;
 fn check_shape(problem: &Problem, answer: &Answer) -> Result<(), CheckStop>
     ensures shape { IfOk result (λ _.
         ShapeOfClaim problem.now answer.now.verdict answer.now.costs answer.now.floor answer.now.proof × (answer.now.unfinished ≡ None)) }
-    ensures first { IfErr result (StopsBy (AtNoPlace (number_of WrongShape) (HasWrongShape problem.now answer.now) ∷ [])) }
+    ensures first { IfErr result (StopsBy (AtNoPlace (check_fault_number WrongShape) (HasWrongShape problem.now answer.now) ∷ [])) }
 {
     let costs = answer.costs.as_ref();
     let proof = answer.proof.as_ref();

@@ -1,7 +1,7 @@
 //! The tests of the costs and the floor of an optimal answer, each with its refusal.
 ghost use Rattle.evidence_checker.specs.declared.fault.CheckFault.TheVariants.{FalseFloor, NotOnlyCheapest, OutOfBounds, UnequalEnds, WrongGreatest};
 ghost use Rattle.evidence_checker.specs.declared.fault.CheckFault.TheVariants.{WrongPlaces};
-ghost use Rattle.evidence_checker.specs.Numbers.{number_of};
+ghost use Rattle.evidence_checker.specs.Numbers.{check_fault_number};
 ghost use Rattle.std.specs.Prelude.{◌≡◌, ℕ, ◌≤◌, [], ◌∷◌, length, All, IfOk, IfErr};
 ghost use Rattle.design_problem.specs.Answers.{Names, GivesCosts};
 ghost use Rattle.design_problem.specs.Boxes.{IsInBox};
@@ -24,7 +24,7 @@ use std::alloc::Global;
 /// Tests that the lines name the free interfaces, each once, in their order.
 fn check_places(problem: &Problem, lines: &[CostLine]) -> Result<(), CheckStop>
     ensures named { IfOk result (λ _. NamesPlaces problem.now.vars lines.now) }
-    ensures first { IfErr result (StopsBy (AtNoPlace (number_of WrongPlaces) (NamesPlaces problem.now.vars lines.now → ⊥) ∷ [])) }
+    ensures first { IfErr result (StopsBy (AtNoPlace (check_fault_number WrongPlaces) (NamesPlaces problem.now.vars lines.now → ⊥) ∷ [])) }
 {
     if names_places(names_of(problem), lines) {
         return Ok(());
@@ -49,7 +49,7 @@ fn check_ends(problem: &Problem, lines: &[CostLine], costs: &[u16]) -> Result<()
     requires named { NamesPlaces problem.now.vars lines.now }
     requires given { costs.now ≡ costs_given problem.now lines.now }
     ensures names { IfOk result (λ _. Names problem.now lines.now costs.now) }
-    ensures first { IfErr result (StopsBy (AtFirst (number_of UnequalEnds) (HasUnequalEnds problem.now.vars lines.now) ∷ [])) }
+    ensures first { IfErr result (StopsBy (AtFirst (check_fault_number UnequalEnds) (HasUnequalEnds problem.now.vars lines.now) ∷ [])) }
 {
     keeps(problem);
     match first_unequal(names_of(problem), lines, costs) {
@@ -65,7 +65,7 @@ fn check_ends(problem: &Problem, lines: &[CostLine], costs: &[u16]) -> Result<()
 fn check_bounds(problem: &Problem, costs: &[u16]) -> Result<(), CheckStop>
     requires { length costs.now ≡ length problem.now.low }
     ensures within { IfOk result (λ _. IsInBox (box_of problem.now) costs.now) }
-    ensures first { IfErr result (StopsBy (AtFirst (number_of OutOfBounds) (IsOutside problem.now.low problem.now.high costs.now) ∷ [])) }
+    ensures first { IfErr result (StopsBy (AtFirst (check_fault_number OutOfBounds) (IsOutside problem.now.low problem.now.high costs.now) ∷ [])) }
 {
     keeps(problem);
     match first_outside(low_of(problem), high_of(problem), costs) {
@@ -80,7 +80,7 @@ fn check_bounds(problem: &Problem, costs: &[u16]) -> Result<(), CheckStop>
 /// Tests that the claimed, the printed and the true greatest cost are one number.
 fn check_greatest(greatest: u16, printed: u16, costs: &[u16]) -> Result<(), CheckStop>
     ensures same { IfOk result (λ _. (printed ≡ greatest) × (greatest_cost costs.now ≡ greatest)) }
-    ensures first { IfErr result (StopsBy (AtNoPlace (number_of WrongGreatest) (HasWrongGreatest greatest printed costs.now) ∷ [])) }
+    ensures first { IfErr result (StopsBy (AtNoPlace (check_fault_number WrongGreatest) (HasWrongGreatest greatest printed costs.now) ∷ [])) }
 {
     if printed == greatest && greatest_of(costs) == greatest {
         return Ok(());
@@ -95,7 +95,7 @@ fn check_greatest(greatest: u16, printed: u16, costs: &[u16]) -> Result<(), Chec
 fn check_paths(alloc: Global, problem: &Problem, costs: &[u16]) -> Result<(), CheckStop>
     requires { IsInBox (box_of problem.now) costs.now }
     ensures only { IfOk result (λ _. All (IsOnlyAt problem.now.graph costs.now) problem.now.paths) }
-    ensures first { IfErr result (StopsBy (AtFirst (number_of NotOnlyCheapest) (IsNotOnly problem.now costs.now) ∷ [])) }
+    ensures first { IfErr result (StopsBy (AtFirst (check_fault_number NotOnlyCheapest) (IsNotOnly problem.now costs.now) ∷ [])) }
 {
     match first_not_only(alloc, &problem.graph, problem.paths.as_slice(), costs)? {
         Some(place) => Err(CheckStop::Refused {
@@ -109,7 +109,7 @@ fn check_paths(alloc: Global, problem: &Problem, costs: &[u16]) -> Result<(), Ch
 /// Tests the floor.
 fn check_floor(problem: &Problem, greatest: u16, floor: Floor) -> Result<(), CheckStop>
     ensures true_floor { IfOk result (λ _. IsFalseFloor problem.now greatest floor → ⊥) }
-    ensures first { IfErr result (StopsBy (AtNoPlace (number_of FalseFloor) (IsFalseFloor problem.now greatest floor) ∷ [])) }
+    ensures first { IfErr result (StopsBy (AtNoPlace (check_fault_number FalseFloor) (IsFalseFloor problem.now greatest floor) ∷ [])) }
 {
     if is_false_floor(problem, greatest, floor) {
         return Err(CheckStop::Refused {

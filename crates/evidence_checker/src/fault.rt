@@ -1,6 +1,6 @@
 //! What an answer can be refused for.
 ghost use Rattle.std.specs.Prelude.{◌≡◌};
-ghost use Rattle.evidence_checker.specs.Numbers.{number_of};
+ghost use Rattle.evidence_checker.specs.Numbers.{check_fault_number};
 
 /// The tests of an answer, in their order. Each has its number in the output of `check`.
 #[derive(Clone, Copy, Debug, PartialEq, Eq)]
@@ -38,7 +38,7 @@ pub enum CheckFault {
 impl CheckFault {
     /// The number of the test, 40 to 53.
     pub fn number(self) -> u8
-        ensures { result ≡ number_of self }
+        ensures { result ≡ check_fault_number self }
     {
         match self {
             CheckFault::NothingClaimed => 49,

@@ -5,7 +5,7 @@ ghost use Rattle.design_problem.specs.declared.tree.Entry.TheVariants.{Refute};
 ghost use Rattle.design_problem.specs.Boxes.{Refutes};
 ghost use Rattle.design_problem.specs.Forms.{IsSmallForm};
 ghost use Rattle.design_problem.specs.Trees.{CutsAt, IsSmaller, TightensAt, SoundAt, is_undone};
-ghost use Rattle.evidence_checker.specs.Numbers.{number_of};
+ghost use Rattle.evidence_checker.specs.Numbers.{check_fault_number};
 ghost use Rattle.evidence_checker.specs.Tests.{line_tests};
 
 use crate::CheckFault;
@@ -65,7 +65,7 @@ fn refute_fault(
     requires positive { All (λ part. 0 < part.1) parts.now }
     ensures { MatchOption result
         (Refutes forms.now parts.now costs.now)
-        (λ f. FirstOf (line_tests forms.now costs.now (Refute parts.now)) (number_of f)) }
+        (λ f. FirstOf (line_tests forms.now costs.now (Refute parts.now)) (check_fault_number f)) }
 {
     if !sum_is_small(parts) {
         return Some(CheckFault::GreatMultipliers);
@@ -91,7 +91,7 @@ pub(crate) fn line_fault(
     requires forms { All (IsSmallForm (length sums.old)) forms.now }
     ensures { MatchOption result
         (SoundAt forms.now costs.now entry.now × (is_undone entry.now ≡ false))
-        (λ f. FirstOf (line_tests forms.now costs.now entry.now) (number_of f)) }
+        (λ f. FirstOf (line_tests forms.now costs.now entry.now) (check_fault_number f)) }
 {
     let sound = match entry {
         Entry::Tighten {

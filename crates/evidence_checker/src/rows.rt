@@ -6,7 +6,7 @@ ghost use Rattle.design_problem.specs.Forms.{IsSmallForm};
 ghost use Rattle.design_problem.specs.Problems.{request_ends};
 ghost use Rattle.design_problem.specs.Rows.{IsRow, forms_of_rows, form_of_row};
 ghost use Rattle.evidence_checker.specs.Refusals.{StopsBy, AtFirstItem};
-ghost use Rattle.evidence_checker.specs.Numbers.{number_of};
+ghost use Rattle.evidence_checker.specs.Numbers.{check_fault_number};
 ghost use Rattle.evidence_checker.specs.Tests.{row_tests};
 ghost use Rattle.evidence_checker.specs.Routes.{route_tests, IsRivalRoute};
 
@@ -47,7 +47,7 @@ fn route_fault(
 ) -> Result<Option<CheckFault>, OutOfMemory>
     ensures { IfOk result (λ fault. MatchOption fault
         (IsRivalRoute graph.now request.now edges.now)
-        (λ f. FirstOf (route_tests graph.now request.now edges.now) (number_of f))) }
+        (λ f. FirstOf (route_tests graph.now request.now edges.now) (check_fault_number f))) }
 {
     if !is_route(alloc, graph, request, edges)? {
         return Ok(Some(CheckFault::NotAPath));
@@ -60,7 +60,7 @@ fn route_fault(
 
 /// The first test that a row meets.
 fn row_fault(alloc: Global, problem: &Problem, row: &Row) -> Result<Option<CheckFault>, OutOfMemory>
-    ensures { IfOk result (λ fault. MatchOption fault (IsRow problem.now row.now) (λ f. FirstOf (row_tests problem.now row.now) (number_of f))) }
+    ensures { IfOk result (λ fault. MatchOption fault (IsRow problem.now row.now) (λ f. FirstOf (row_tests problem.now row.now) (check_fault_number f))) }
 {
     match problem.paths.as_slice().get(row.request as usize) {
         Some(request) => route_fault(alloc, &problem.graph, request, row.rival.edges.as_slice()),

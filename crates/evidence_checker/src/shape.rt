@@ -1,6 +1,6 @@
 //! The shape of an answer: which parts stand for which verdict.
 ghost use Rattle.evidence_checker.specs.declared.fault.CheckFault.TheVariants.{NothingClaimed};
-ghost use Rattle.evidence_checker.specs.Numbers.{number_of};
+ghost use Rattle.evidence_checker.specs.Numbers.{check_fault_number};
 ghost use Rattle.std.specs.Prelude.{◌≡◌, ◌↔◌, [], ◌∷◌, ◌≤◌, All, IsTrue, IfOk, IfErr};
 ghost use Rattle.std.specs.Option.{option_copied};
 ghost use Rattle.design_problem.specs.Answers.{greatest_bound};
@@ -14,7 +14,7 @@ use design_problem::{CapTree, Costs, Floor, Problem, Verdict, greatest_of};
 /// What a verdict claims.
 pub(crate) fn claimed(verdict: Verdict) -> Result<Accepted, CheckStop>
     ensures claim { IfOk result (IsAcceptedAs verdict) }
-    ensures first { IfErr result (StopsBy (AtNoPlace (number_of NothingClaimed) (ClaimsNothing verdict) ∷ [])) }
+    ensures first { IfErr result (StopsBy (AtNoPlace (check_fault_number NothingClaimed) (ClaimsNothing verdict) ∷ [])) }
 {
     match verdict {
         Verdict::Optimal(greatest) => Ok(Accepted::Optimal(greatest)),

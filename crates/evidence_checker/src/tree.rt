@@ -5,7 +5,7 @@ ghost use Rattle.design_problem.specs.Forms.{Form, IsSmallForm};
 ghost use Rattle.design_problem.specs.Trees.{IsSoundTree, IsClosed, IsSingleTree, SoundAt, is_undone, subboxes};
 ghost use Rattle.evidence_checker.specs.Refusals.{StopsBy};
 ghost use Rattle.cost_base.specs.Order.{FirstOf};
-ghost use Rattle.evidence_checker.specs.Numbers.{number_of};
+ghost use Rattle.evidence_checker.specs.Numbers.{check_fault_number};
 ghost use Rattle.evidence_checker.specs.Tests.{AtFirstLine, line_tests};
 
 use crate::lines::line_fault;
@@ -54,7 +54,7 @@ fn fault_at(
     requires forms { All (IsSmallForm (length sums.old.items)) forms.now }
     ensures first { MatchOption result
         (SoundAt forms.now costs.now entry.now × (is_undone entry.now ≡ false))
-        (λ f. FirstOf (line_tests forms.now costs.now entry.now) (number_of f)) }
+        (λ f. FirstOf (line_tests forms.now costs.now entry.now) (check_fault_number f)) }
     ensures sums { length sums.new.items ≡ length sums.old.items }
 {
     line_fault(forms, costs, sums, entry)

@@ -7,7 +7,7 @@ use Rattle.cost_base.specs.Lists.{same_bytes}
 use Rattle.config_reader.specs.Configs.{config_of}
 use Rattle.design_problem.specs.declared.answer.CostLine.{CostLine}
 use Rattle.evidence_checker.specs.declared.fault.CheckFault.TheVariants.{NothingClaimed, WrongPlaces}
-use Rattle.evidence_checker.specs.Numbers.{number_of}
+use Rattle.evidence_checker.specs.Numbers.{check_fault_number}
 use Rattle.config_writer.specs.Rewriting.{costs_of, rewritten, first_missing, ReadsBack}
 use Rattle.evidence_commands.specs.declared.rewrite.Revised.{Revised}
 use Rattle.evidence_commands.specs.declared.rewrite.Revised.TheVariants.{Written, Rejected}
@@ -60,7 +60,7 @@ pub record IsRewritten (r : Revision) (text : List ℕ) : Type 0 where
 -- the bytes say that there are no costs: they claim nothing that a configuration could take
 pub record HasNoCosts (r : Revision) (rejection : Rejection) : Type 0 where
   pub none : SaysCosts r.bytes None
-  pub number : rejection.number ≡ number_of NothingClaimed
+  pub number : rejection.number ≡ check_fault_number NothingClaimed
   pub place : rejection.place ≡ 0
 
 -- a cost line of the configuration's router names an interface that has no head in the configuration
@@ -68,7 +68,7 @@ pub record NamesNoHead (r : Revision) (rejection : Rejection) : Type 0 where
   pub costs : List CostLine
   pub said : SaysCosts r.bytes (Some costs)
   pub missing : first_missing (new_costs r.config costs) r.config.bytes ≡ None → ⊥
-  pub number : rejection.number ≡ number_of WrongPlaces
+  pub number : rejection.number ≡ check_fault_number WrongPlaces
   pub place : rejection.place ≡ 0
 
 -- the bytes are off the grammar of texts with costs, or they give the configuration no costs

@@ -9,10 +9,10 @@ use Rattle.evidence_reader.specs.declared.stop.AnswerStop.{AnswerStop}
 use Rattle.evidence_reader.specs.declared.stop.AnswerStop.TheVariants.{Refused, OutOfMemory}
 
 -- the numbers of the faults
-abbrev pub number_of : AnswerFault → ℕ
-number_of BadAnswerLine = 30
-number_of EarlyEnd = 31
-number_of BehindEnd = 32
+abbrev pub text_fault_number : AnswerFault → ℕ
+text_fault_number BadAnswerLine = 30
+text_fault_number EarlyEnd = 31
+text_fault_number BehindEnd = 32
 
 -- a line with its LF that isn't lawful, or a last line without an LF that no lawful line begins with
 abbrev pub IsBadLine : TextPlace → List ℕ → Type 0
@@ -44,7 +44,7 @@ pub record IsTextRefused (from : TextPlace) (before : ℕ) (bytes : List ℕ) (k
 pub record IsOffGrammar (from : TextPlace) (bytes : List ℕ) (told line : ℕ) : Type 0 where
   pub fault : AnswerFault
   pub refused : IsTextRefused from 0 bytes fault line
-  pub number : told ≡ number_of fault
+  pub number : told ≡ text_fault_number fault
 
 -- a stop of a reader that begins at a place: a refusal is the text's own, and want of memory says nothing
 abbrev pub IsReaderStop : TextPlace → ℕ → List ℕ → AnswerStop → Type 0

@@ -1,6 +1,6 @@
 //! Why a text wasn't read as an answer.
 ghost use Rattle.std.specs.Prelude.{◌≡◌};
-ghost use Rattle.evidence_reader.specs.Refusals.{number_of};
+ghost use Rattle.evidence_reader.specs.Refusals.{text_fault_number};
 
 use cost_base::OutOfMemory;
 use std::alloc::AllocFailed;
@@ -19,7 +19,7 @@ pub enum AnswerFault {
 impl AnswerFault {
     /// The number that `rejected` tells for the fault.
     pub fn number(self) -> u8
-        ensures { result ≡ number_of self }
+        ensures { result ≡ text_fault_number self }
     {
         match self {
             AnswerFault::BadAnswerLine => 30,

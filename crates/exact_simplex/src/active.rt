@@ -8,7 +8,7 @@ ghost use Rattle.design_problem.specs.Forms.{AreMet};
 ghost use Rattle.fraction_rows.specs.TableRows.{blank_row};
 ghost use Rattle.fraction_table.specs.declared.stage.Stage.{Stage};
 ghost use Rattle.fraction_table.specs.declared.stage.Stage.TheVariants.{Ended, Open};
-ghost use Rattle.fraction_table.specs.Multipliers.{IsToldOf};
+ghost use Rattle.fraction_table.specs.Multipliers.{IsWideAtBasis};
 ghost use Rattle.fraction_table.specs.Pivots.{AreHigh, KeepsBoxAndRows, line_at};
 ghost use Rattle.fraction_table.specs.Tableaus.{FitsBox, IsRebased, starting, wide_at};
 ghost use Rattle.fraction_table.specs.ValidTables.{HasRoom, IsShown, held_of};
@@ -213,7 +213,7 @@ impl ActiveTable {
         requires stuck { IsStuck self.now.kernel.table.basis.items (line_at (table_of self.now) line) }
         ensures refutes { IfOk result (λ parts. Refutes self.now.kernel.table.rows.items parts self.now.kernel.table.costs) }
         ensures few { IfOk result (λ parts. length parts ≤ suc (length self.now.kernel.table.costs.low)) }
-        ensures told { IfErr result (IsToldOf self.now.kernel.table) }
+        ensures told { IfErr result (IsWideAtBasis self.now.kernel.table) }
     {
         if self.in_kernel {
             return self.kernel.multipliers(alloc, line);

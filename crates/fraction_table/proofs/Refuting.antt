@@ -28,7 +28,7 @@ use Rattle.fraction_table.specs.declared.table.Table.{Table}
 use Rattle.fraction_table.specs.declared.stage.SimplexStop.{SimplexStop}
 use Rattle.fraction_table.specs.declared.stage.SimplexStop.TheVariants.{TooWide, OutOfMemory}
 use Rattle.fraction_rows.specs.Entries.{IsPassing}
-use Rattle.fraction_table.specs.Multipliers.{AreParts, Different, IsMultiplierStep, IsMultiplier, IsTallyStep, IsToldOf, IsWideMultiplier, columns_numbered, common_of, fractions, fractions_of, numbered, whole_part, whole_parts}
+use Rattle.fraction_table.specs.Multipliers.{AreParts, Different, IsMultiplierStep, IsMultiplier, IsTallyStep, IsWideAtBasis, IsWideMultiplier, columns_numbered, common_of, fractions, fractions_of, numbered, whole_part, whole_parts}
 use Rattle.fraction_table.specs.Multipliers.IsMultiplierStep.{multiple, product, tally}
 use Rattle.fraction_table.specs.Multipliers.IsTallyStep.{sum, scale}
 use Rattle.fraction_rows.specs.TableRows.{AreTableNumbers}
@@ -329,7 +329,7 @@ multipliers_wide t line wide s made passes =
 
 -- the same, where the steps stand beside want of memory
 pub multipliers_told : (t : Table) (line : ℕ) (stop : SimplexStop) → IsStuckLine t line →
-    IsWideMultiplier t.top (fractions (parts_at t line)) stop → IsToldOf t stop
+    IsWideMultiplier t.top (fractions (parts_at t line)) stop → IsWideAtBasis t stop
 multipliers_told t line (TooWide wide) s told = multipliers_wide t line wide s told.0 told.1
 multipliers_told t line OutOfMemory s told = tt
 
@@ -357,7 +357,7 @@ made_few t line parts (Ok made) s parts_are moved =
 
 pub made_told : (t : Table) (line : ℕ) (parts : List (ℕ × Fraction)) (r : Result (List (ℕ × ℕ)) SimplexStop) →
     IsStuckLine t line → parts ≡ parts_at t line → IfErr r (IsWideMultiplier t.top (fractions parts)) →
-    IfErr r (IsToldOf t)
+    IfErr r (IsWideAtBasis t)
 made_told t line parts (Ok made) s parts_are told = tt
 made_told t line parts (Err stop) s parts_are told =
     multipliers_told t line stop s (subst (λ (ps : List (ℕ × Fraction)). IsWideMultiplier t.top (fractions ps) stop) parts_are told)

@@ -70,9 +70,9 @@ IsWideMultiplier top qs (TooWide wide) = IsMultiplierStep qs wide × IsPassing t
 IsWideMultiplier top qs OutOfMemory = Unit {0}
 
 -- a step at the table's basis
-abbrev pub IsToldOf : Table → SimplexStop → Type 0
-IsToldOf t (TooWide wide) = IsStepTooWide t.top t.costs t.rows.items (wide_at wide t.basis.items)
-IsToldOf t OutOfMemory = Unit {0}
+abbrev pub IsWideAtBasis : Table → SimplexStop → Type 0
+IsWideAtBasis t (TooWide wide) = IsStepTooWide t.top t.costs t.rows.items (wide_at wide t.basis.items)
+IsWideAtBasis t OutOfMemory = Unit {0}
 
 -- no two pairs have the same number
 abbrev pub Different : {X : Type 0} → List (ℕ × X) → Type 0

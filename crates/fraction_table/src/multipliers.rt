@@ -6,7 +6,7 @@ ghost use Rattle.wide_fraction.specs.Widths.{IsWithin};
 ghost use Rattle.design_problem.specs.Boxes.{Refutes};
 ghost use Rattle.design_problem.specs.Steps.{IsStuck, unless_zero};
 ghost use Rattle.fraction_rows.specs.Entries.{AllNumbers, IsPassing};
-ghost use Rattle.fraction_table.specs.Multipliers.{AreParts, IsMultiplierStep, IsTallyStep, IsToldOf, IsWideMultiplier, common_of};
+ghost use Rattle.fraction_table.specs.Multipliers.{AreParts, IsMultiplierStep, IsTallyStep, IsWideAtBasis, IsWideMultiplier, common_of};
 ghost use Rattle.fraction_table.specs.Multipliers.{fractions, fractions_of, numbered, whole_parts, wholes};
 ghost use Rattle.fraction_table.specs.Pivots.{line_at, member_at};
 ghost use Rattle.fraction_table.specs.ValidTables.{HasRoom, IsTableau};
@@ -200,7 +200,7 @@ impl Table {
         requires stuck { IsStuck self.now.basis.items (line_at self.now line) }
         ensures refutes { IfOk result (λ parts. Refutes self.now.rows.items parts self.now.costs) }
         ensures few { IfOk result (λ parts. length parts ≤ suc (length self.now.costs.low)) }
-        ensures told { IfErr result (IsToldOf self.now) }
+        ensures told { IfErr result (IsWideAtBasis self.now) }
     {
         let fractions = self.fractions(alloc, line)?;
         whole_multipliers(alloc, fractions.as_slice(), self.top)

@@ -4,5 +4,5 @@ use Rattle.input_files.specs.declared.stop.FileFault.{FileFault}
 use Rattle.input_files.specs.declared.stop.FileFault.TheVariants.{TooLong}
 
 -- the number of a fault
-abbrev pub number_of : FileFault → ℕ
-number_of TooLong = 9
+abbrev pub file_fault_number : FileFault → ℕ
+file_fault_number TooLong = 9

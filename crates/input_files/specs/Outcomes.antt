@@ -2,22 +2,22 @@
 use Rattle.std.specs.Prelude.{ℕ, List, [], ◌∷◌, Option, Some, None, map, slice_get, slice_index_or}
 use Rattle.interface_model.specs.Records.{Router}
 use Rattle.config_reader.specs.Configs.{config_of}
-use Rattle.config_reader.specs.FaultNumbers.{number_of as number_of_config}
+use Rattle.config_reader.specs.FaultNumbers.{config_fault_number}
 use Rattle.config_reader.specs.FaultList.{Fault, config_fault}
 use Rattle.lsdb_build.specs.declared.Linked.{Linked}
 use Rattle.lsdb_build.specs.Graphs.{Database}
-use Rattle.lsdb_build.specs.FaultNumbers.{number_of as number_of_topology}
+use Rattle.lsdb_build.specs.FaultNumbers.{topology_fault_number}
 use Rattle.lsdb_build.specs.Topology.{FaultyPlace, topology_fault, database_of}
 use Rattle.design_problem.specs.Problems.{DesignProblem}
 use Rattle.text_lines.specs.LineFaults.{FaultyLine}
 use Rattle.request_reader.specs.declared.stop.RequestFault.{RequestFault}
 use Rattle.request_reader.specs.Asked.{Asked}
 use Rattle.path_requests.specs.Meaning.{problem_of}
-use Rattle.request_reader.specs.FaultNumbers.{number_of as number_of_request}
+use Rattle.request_reader.specs.FaultNumbers.{request_fault_number}
 use Rattle.request_reader.specs.Reading.{request_fault, asked_by}
 use Rattle.wanted_paths.specs.declared.stop.ResolutionFault.{ResolutionFault}
 use Rattle.wanted_paths.specs.declared.stop.ResolutionFault.TheVariants.{UnknownRouter, UnknownInterface, NotALink, BrokenPath, LoopPath, PathExcluded, EndsDiffer, TooManyVariables, NoCost}
-use Rattle.wanted_paths.specs.FaultNumbers.{number_of}
+use Rattle.wanted_paths.specs.FaultNumbers.{resolution_fault_number}
 use Rattle.path_requests.specs.Resolving.{resolution_fault, present_fault, present_problem_of}
 use Rattle.present_costs.specs.PresentCosts.{fault_beside_present}
 use Rattle.input_files.specs.declared.problem.View.{View}
@@ -52,7 +52,7 @@ file_read most name = Take name most (λ bytes. Ready bytes)
 -- what a request file asks for, or its first fault
 abbrev pub if_asked : List ℕ → List ℕ → Option (FaultyLine RequestFault) → Reading Asked
 if_asked name bytes None = Ready (asked_by bytes)
-if_asked name bytes (Some faulty) = Refused (record { number = number_of_request faulty.fault; file = name; line = faulty.line })
+if_asked name bytes (Some faulty) = Refused (record { number = request_fault_number faulty.fault; file = name; line = faulty.line })
 
 -- the request: its file's size, and then its lines
 abbrev pub request_read : List ℕ → Reading Asked
@@ -61,7 +61,7 @@ request_read name = file_read longest_file name >>= λ bytes. if_asked name byte
 -- a configuration without a fault, or its first fault
 abbrev pub if_config : List ℕ → List ℕ → Option Fault → Reading ConfigFile
 if_config name bytes None = Ready (record { name = name; bytes = bytes })
-if_config name bytes (Some fault) = Refused (record { number = number_of_config fault.fault; file = name; line = fault.line })
+if_config name bytes (Some fault) = Refused (record { number = config_fault_number fault.fault; file = name; line = fault.line })
 
 -- a configuration: its file's size, and then its lines
 abbrev pub config_read : List ℕ → Reading ConfigFile
@@ -84,7 +84,7 @@ file_of names router = slice_index_or names.configs router names.request
 -- the database of an area, or the first fault of its topology
 abbrev pub if_faultless : InputFiles → Database → Option FaultyPlace → Reading Database
 if_faultless names d None = Ready d
-if_faultless names d (Some place) = Refused (record { number = number_of_topology place.fault; file = file_of names place.config; line = place.line })
+if_faultless names d (Some place) = Refused (record { number = topology_fault_number place.fault; file = file_of names place.config; line = place.line })
 
 -- the topology
 abbrev pub topology_read : InputFiles → ℕ → List Router → Reading Database
@@ -115,7 +115,7 @@ resolution_place names d TooManyVariables = record { file = names.request; line 
 -- how a fault of resolution is written
 abbrev pub resolution_refusal : InputFiles → Database → ResolutionFault → Refusal
 resolution_refusal names d fault =
-    record { number = number_of fault; file = (resolution_place names d fault).file; line = (resolution_place names d fault).line }
+    record { number = resolution_fault_number fault; file = (resolution_place names d fault).file; line = (resolution_place names d fault).line }
 
 -- the problem, or the first fault of resolution
 abbrev pub if_resolved : InputFiles → Database → DesignProblem → Option ResolutionFault → Reading DesignProblem

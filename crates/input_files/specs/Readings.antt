@@ -4,7 +4,7 @@ use Rattle.cost_base.specs.declared.ShelfStop.{ShelfStop}
 use Rattle.cost_base.specs.declared.ShelfStop.TheVariants as stop
 use Rattle.cost_base.specs.Histories.{Taken}
 use Rattle.input_files.specs.declared.stop.FileFault.TheVariants.{TooLong}
-use Rattle.input_files.specs.FaultNumbers.{number_of}
+use Rattle.input_files.specs.FaultNumbers.{file_fault_number}
 
 -- a refusal of input: its number, the file and the line
 pub record Refusal : Type 0 where
@@ -34,7 +34,7 @@ pub data End (A : Type 0) : Type 0 where
 
 -- a file is longer than its limit
 abbrev pub too_long : List ℕ → Refusal
-too_long file = record { number = number_of TooLong; file = file; line = 0 }
+too_long file = record { number = file_fault_number TooLong; file = file; line = 0 }
 
 -- of what came of a file: this of its bytes, this where it was too long, and this where it failed
 abbrev pub OnCame : Result (List ℕ) ShelfStop → (List ℕ → Type 0) → Type 0 → Type 0 → Type 0

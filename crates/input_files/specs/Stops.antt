@@ -14,10 +14,10 @@ use Rattle.request_reader.specs.declared.stop.RequestStop.TheVariants.{Refused a
 use Rattle.wanted_paths.specs.declared.stop.ResolutionStop.{ResolutionStop}
 use Rattle.wanted_paths.specs.declared.stop.ResolutionStop.TheVariants.{Refused as ResolutionRefused, OutOfMemory as NoMemoryForResolution}
 use Rattle.input_files.specs.declared.stop.FileFault.TheVariants.{TooLong as FileTooLong}
-use Rattle.input_files.specs.FaultNumbers.{number_of as number_of_file}
-use Rattle.config_reader.specs.FaultNumbers.{number_of as number_of_config}
-use Rattle.lsdb_build.specs.FaultNumbers.{number_of as number_of_topology}
-use Rattle.request_reader.specs.FaultNumbers.{number_of as number_of_request}
+use Rattle.input_files.specs.FaultNumbers.{file_fault_number}
+use Rattle.config_reader.specs.FaultNumbers.{config_fault_number}
+use Rattle.lsdb_build.specs.FaultNumbers.{topology_fault_number}
+use Rattle.request_reader.specs.FaultNumbers.{request_fault_number}
 use Rattle.text_lines.specs.Arguments.{texts}
 use Rattle.input_files.specs.declared.stop.Stop.{Stop}
 use Rattle.input_files.specs.declared.stop.Stop.TheVariants.{Refused, ReadFault, OutOfMemory}
@@ -54,17 +54,17 @@ IsReadAs reading came Fits (Err stop) = StopsAs reading came stop
 -- the stop of a file that wasn't read
 abbrev pub file_stop : ShelfStop → Bor (List ℕ) → Stop
 file_stop NotRead file = ReadFault file
-file_stop TooLong file = Refused (number_of_file FileTooLong) file 0
+file_stop TooLong file = Refused (file_fault_number FileTooLong) file 0
 file_stop NoMemory file = OutOfMemory
 
 -- the stop of a request that is refused by itself
 abbrev pub request_stop : RequestStop → Bor (List ℕ) → Stop
-request_stop (RequestRefused fault line) file = Refused (number_of_request fault) file line
+request_stop (RequestRefused fault line) file = Refused (request_fault_number fault) file line
 request_stop NoMemoryForRequest file = OutOfMemory
 
 -- the stop of a configuration that is refused
 abbrev pub config_stop : ConfigStop → Bor (List ℕ) → Stop
-config_stop (ConfigRefused fault line) file = Refused (number_of_config fault) file line
+config_stop (ConfigRefused fault line) file = Refused (config_fault_number fault) file line
 config_stop NoMemoryForConfig file = OutOfMemory
 
 -- a stop that is a refusal of these parts
@@ -76,7 +76,7 @@ IsRefusal r OutOfMemory = ⊥
 -- the stop of a topology that is refused
 abbrev pub topology_stop : TopologyStop → InputFiles → Stop → Type 0
 topology_stop (TopologyRefused fault config line) names stop =
-    IsRefusal (record { number = number_of_topology fault; file = file_of names config; line = line }) stop
+    IsRefusal (record { number = topology_fault_number fault; file = file_of names config; line = line }) stop
 topology_stop NoMemoryForTopology names stop = stop ≡ OutOfMemory
 
 -- the stop of requests that aren't resolved

@@ -1,6 +1,6 @@
 //! What ends the reading of files.
 ghost use Rattle.std.specs.Prelude.{◌≡◌};
-ghost use Rattle.input_files.specs.FaultNumbers.{number_of};
+ghost use Rattle.input_files.specs.FaultNumbers.{file_fault_number};
 
 use cost_base::OutOfMemory;
 
@@ -14,7 +14,7 @@ pub enum FileFault {
 impl FileFault {
     /// The number by which the fault is written.
     pub fn number(self) -> u8
-        ensures { result ≡ number_of self }
+        ensures { result ≡ file_fault_number self }
     {
         match self {
             FileFault::TooLong => 9,

@@ -44,7 +44,7 @@ note_is false false found metric = refl
 metrics_added : {S : Type 0} (old new : IndexMap LinkName (Option ℕ) S) (ends : List LinkEnd) (links : List LiveLink) (link : LiveLink) →
     HasLinkMetrics old ends links →
     ((name : LinkName) → get same_link new name
-        ≡ cond (same_link (name_of_link link) name) (metric_noted (get same_link old name) link.metric) (get same_link old name)) →
+    ≡ cond (same_link (name_of_link link) name) (metric_noted (get same_link old name) link.metric) (get same_link old name)) →
     HasLinkMetrics new ends (links ++ link ∷ [])
 metrics_added old new ends links link has updates name =
     updates name
@@ -80,7 +80,7 @@ nothing_put old ends links link is has =
         get same_link old name ≡ cond b (metric_noted (get same_link old name) link.metric) (get same_link old name)
     by_test name true same =
         unknown (get same_link old name)
-          (sym (ap (λ (n : LinkName). metric_noted (get same_link old n) link.metric) (same_is (name_of_link link) name same)) ∙ is)
+        (sym (ap (λ (n : LinkName). metric_noted (get same_link old n) link.metric) (same_is (name_of_link link) name same)) ∙ is)
     by_test name false other = refl
 
 -- the look-up with an end more

@@ -8,7 +8,7 @@ use Rattle.live_reader.specs.declared.stop.LiveFault.{LiveFault}
 use Rattle.live_reader.specs.declared.stop.LiveFault.TheVariants.{BadJson}
 use Rattle.live_reader.specs.declared.stop.LiveStop.{LiveStop}
 use Rattle.live_reader.specs.declared.stop.LiveStop.TheVariants.{Refused as LiveRefused, OutOfMemory as NoMemoryForLive}
-use Rattle.live_reader.specs.FaultNumbers.{number_of}
+use Rattle.live_reader.specs.FaultNumbers.{live_fault_number}
 use Rattle.live_reader.specs.LiveFiles.{begins_object, said_by_json, as_live}
 use Rattle.live_reader.specs.Texts.{line_of_offset}
 use Rattle.input_files.specs.declared.stop.Stop.{Stop}
@@ -28,7 +28,7 @@ live_in area bytes = if begins_object bytes then json_in area bytes else as_live
 -- a fault is written with its place, a line of JSON or an offset in LSA bytes
 abbrev pub if_live : List ℕ → Result (List Lsa) (LiveFault × ℕ) → Reading (List Lsa)
 if_live file (Ok lsas) = Ready lsas
-if_live file (Err fault) = Refused (record { number = number_of fault.0; file = file; line = fault.1 })
+if_live file (Err fault) = Refused (record { number = live_fault_number fault.0; file = file; line = fault.1 })
 
 -- a live file: its size, and then the LSAs of an area up to the first fault
 abbrev pub live_read : List ℕ → ℕ → Reading (List Lsa)
@@ -36,5 +36,5 @@ live_read file area = file_read longest_database file >>= λ bytes. if_live file
 
 -- the stop of a live file that is refused
 abbrev pub live_stop : LiveStop → Bor (List ℕ) → Stop
-live_stop (LiveRefused fault place) file = StopRefused (number_of fault) file place
+live_stop (LiveRefused fault place) file = StopRefused (live_fault_number fault) file place
 live_stop NoMemoryForLive file = StopOutOfMemory

@@ -13,7 +13,7 @@ use Rattle.lsa_bytes.specs.declared.instances.Instance.{Instance}
 use Rattle.lsa_bytes.specs.Faults.{form_fault}
 use Rattle.lsa_bytes.specs.Files.{decided}
 use Rattle.lsa_bytes.specs.Grammar.{length_of, said_at}
-use Rattle.lsa_bytes.specs.Numbers.{number_of}
+use Rattle.lsa_bytes.specs.Numbers.{lsa_fault_number}
 
 -- 64 MiB: the greatest length of a file of LSAs, and of a live file
 abbrev pub longest_database : ℕ
@@ -40,7 +40,7 @@ lsas_in bytes = lsas_behind (length bytes) [] 0 bytes
 -- a fault is written with its offset in place of a line
 abbrev pub if_lsas : List ℕ → Result (List Lsa) (LsaFault × ℕ) → Reading (List Lsa)
 if_lsas file (Ok lsas) = Ready lsas
-if_lsas file (Err fault) = Refused (record { number = number_of fault.0; file = file; line = fault.1 })
+if_lsas file (Err fault) = Refused (record { number = lsa_fault_number fault.0; file = file; line = fault.1 })
 
 -- a file of LSAs: its size, and then its LSAs up to the first fault
 abbrev pub lsas_read : List ℕ → Reading (List Lsa)
@@ -48,5 +48,5 @@ lsas_read file = file_read longest_database file >>= λ bytes. if_lsas file (lsa
 
 -- the stop of LSAs that are refused
 abbrev pub lsa_stop : LsaStop → Bor (List ℕ) → Stop
-lsa_stop (LsaRefused fault offset) file = StopRefused (number_of fault) file offset
+lsa_stop (LsaRefused fault offset) file = StopRefused (lsa_fault_number fault) file offset
 lsa_stop NoMemoryForLsas file = StopOutOfMemory

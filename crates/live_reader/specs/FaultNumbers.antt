@@ -5,7 +5,7 @@ use Rattle.live_reader.specs.declared.stop.LiveFault.{LiveFault}
 use Rattle.live_reader.specs.declared.stop.LiveFault.TheVariants.{BadJson, BadLive, Lsas}
 
 -- the number of a fault
-abbrev pub number_of : LiveFault → ℕ
-number_of BadJson = 81
-number_of BadLive = 82
-number_of (Lsas fault) = lsas.number_of fault
+abbrev pub live_fault_number : LiveFault → ℕ
+live_fault_number BadJson = 81
+live_fault_number BadLive = 82
+live_fault_number (Lsas fault) = lsas.lsa_fault_number fault

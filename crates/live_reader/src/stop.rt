@@ -1,6 +1,6 @@
 //! Why a live file is refused.
 ghost use Rattle.std.specs.Prelude.{◌≡◌};
-ghost use Rattle.live_reader.specs.FaultNumbers.{number_of};
+ghost use Rattle.live_reader.specs.FaultNumbers.{live_fault_number};
 
 use cost_base::OutOfMemory;
 use lsa_bytes::LsaFault;
@@ -20,7 +20,7 @@ pub enum LiveFault {
 impl LiveFault {
     /// The number by which the fault is written.
     pub fn number(self) -> u8
-        ensures { result ≡ number_of self }
+        ensures { result ≡ live_fault_number self }
     {
         match self {
             LiveFault::BadJson => 81,

@@ -4,12 +4,12 @@ use Rattle.lsa_bytes.specs.declared.stop.LsaFault.{LsaFault}
 use Rattle.lsa_bytes.specs.declared.stop.LsaFault.TheVariants.{ShortLsa, BadLength, BadBody, LsaTwice, ZeroMetric, NoRouterId, RouterIdTwice, TooManyRouters}
 
 -- the number of a fault
-abbrev pub number_of : LsaFault → ℕ
-number_of ShortLsa = 73
-number_of BadLength = 74
-number_of BadBody = 75
-number_of LsaTwice = 76
-number_of ZeroMetric = 77
-number_of NoRouterId = 78
-number_of RouterIdTwice = 79
-number_of TooManyRouters = 80
+abbrev pub lsa_fault_number : LsaFault → ℕ
+lsa_fault_number ShortLsa = 73
+lsa_fault_number BadLength = 74
+lsa_fault_number BadBody = 75
+lsa_fault_number LsaTwice = 76
+lsa_fault_number ZeroMetric = 77
+lsa_fault_number NoRouterId = 78
+lsa_fault_number RouterIdTwice = 79
+lsa_fault_number TooManyRouters = 80

@@ -1,6 +1,6 @@
 //! Why LSAs or router IDs are refused.
 ghost use Rattle.std.specs.Prelude.{◌≡◌};
-ghost use Rattle.lsa_bytes.specs.Numbers.{number_of};
+ghost use Rattle.lsa_bytes.specs.Numbers.{lsa_fault_number};
 
 use cost_base::OutOfMemory;
 use std::alloc::AllocFailed;
@@ -30,7 +30,7 @@ pub enum LsaFault {
 impl LsaFault {
     /// The number by which the fault is written.
     pub fn number(self) -> u8
-        ensures { result ≡ number_of self }
+        ensures { result ≡ lsa_fault_number self }
     {
         match self {
             LsaFault::ShortLsa => 73,

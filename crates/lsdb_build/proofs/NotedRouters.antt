@@ -6,7 +6,7 @@ use Rattle.lsdb_build.specs.declared.port.Subnet.{Subnet}
 use Rattle.lsdb_build.specs.declared.owners.Owner.{Owner}
 use Rattle.lsdb_build.specs.declared.owners.Owner.TheVariants.{One, Several}
 use Rattle.lsdb_build.specs.Tallies.{same_subnet}
-use Rattle.lsdb_build.specs.Owners.{joined_owner, has_router, has_other, IsNoted}
+use Rattle.lsdb_build.specs.Owners.{joined_owner, has_router, has_other, IsOwnerNoted}
 use Rattle.lsdb_build.proofs.Placing.{same_subnets}
 
 joined_has : (found : Option Owner) (router : ℕ) → has_router (Some (joined_owner found router)) router ≡ true
@@ -36,10 +36,10 @@ other_noted (Some Several) router other has apart = refl
 module _ {S : Type 0} (old new : IndexMap Subnet Owner S) (router : ℕ) (prefix : Subnet) (owner : Owner)
     (owner_is : owner ≡ joined_owner (get same_subnet old prefix) router)
     (updates : Updates same_subnet old new prefix (Some owner)) where
-  pub noted_there : IsNoted new router prefix
+  pub noted_there : IsOwnerNoted new router prefix
   noted_there = ap (λ found. has_router found router) (updates.1 ∙ ap Some owner_is) ∙ joined_has (get same_subnet old prefix) router
 
-  pub noted_kept : (other : ℕ) (key : Subnet) → IsNoted old other key → IsNoted new other key
+  pub noted_kept : (other : ℕ) (key : Subnet) → IsOwnerNoted old other key → IsOwnerNoted new other key
   noted_kept other key has =
       elim (cases_Bool (same_subnet prefix key)) [
         | inl same ↦

@@ -4,12 +4,12 @@ use Rattle.lsdb_build.specs.declared.stop.TopologyFault.{TopologyFault}
 use Rattle.lsdb_build.specs.declared.stop.TopologyFault.TheVariants.{NameTwice, AddressTwice, TypeMismatch, CrowdedLink, SameRouterTwice, NoDesignated, OverlapPrefix, TooMany}
 
 -- the number of a fault
-abbrev pub number_of : TopologyFault → ℕ
-number_of NameTwice = 10
-number_of AddressTwice = 11
-number_of TypeMismatch = 12
-number_of CrowdedLink = 13
-number_of SameRouterTwice = 14
-number_of NoDesignated = 15
-number_of OverlapPrefix = 16
-number_of TooMany = 17
+abbrev pub topology_fault_number : TopologyFault → ℕ
+topology_fault_number NameTwice = 10
+topology_fault_number AddressTwice = 11
+topology_fault_number TypeMismatch = 12
+topology_fault_number CrowdedLink = 13
+topology_fault_number SameRouterTwice = 14
+topology_fault_number NoDesignated = 15
+topology_fault_number OverlapPrefix = 16
+topology_fault_number TooMany = 17

@@ -26,13 +26,13 @@ has_other (Some (One first)) router = not (first == router)
 has_other (Some Several) router = true
 
 -- the router is noted at a prefix
-abbrev pub IsNoted : {S : Type 0} → IndexMap Subnet Owner S → ℕ → Subnet → Type 0
-IsNoted owners router prefix = has_router (get same_subnet owners prefix) router ≡ true
+abbrev pub IsOwnerNoted : {S : Type 0} → IndexMap Subnet Owner S → ℕ → Subnet → Type 0
+IsOwnerNoted owners router prefix = has_router (get same_subnet owners prefix) router ≡ true
 
 -- an interface's router is noted at its subnet
 abbrev pub HasSubnet : {S : Type 0} → IndexMap Subnet Owner S → Port → Type 0
-HasSubnet owners p = IsNoted owners p.router (subnet_of p)
+HasSubnet owners p = IsOwnerNoted owners p.router (subnet_of p)
 
 -- an interface's router is noted at the shorter prefixes in which its subnet lies
 abbrev pub HasPrefixes : {S : Type 0} → IndexMap Subnet Owner S → Port → Type 0
-HasPrefixes owners p = (length : ℕ) → length < p.interface.length → IsNoted owners p.router (subnet_of_length p length)
+HasPrefixes owners p = (length : ℕ) → length < p.interface.length → IsOwnerNoted owners p.router (subnet_of_length p length)

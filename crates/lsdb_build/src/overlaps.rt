@@ -3,7 +3,7 @@ ghost use Rattle.std.specs.Prelude.{◌&&◌, ◌||◌, ◌==◌, not, ◌≡◌
 ghost use Rattle.lsdb_build.specs.Neighbours.{Port, shares_subnet};
 ghost use Rattle.indexmap.specs.IndexMap.{get};
 ghost use Rattle.lsdb_build.specs.Tallies.{same_subnet, subnet_of_length};
-ghost use Rattle.lsdb_build.specs.Owners.{has_other, IsNoted, HasSubnet, HasPrefixes};
+ghost use Rattle.lsdb_build.specs.Owners.{has_other, IsOwnerNoted, HasSubnet, HasPrefixes};
 ghost use Rattle.lsdb_build.specs.Topology.{holds, is_overlap, first_where, at_port, Tells};
 ghost use Rattle.lsdb_build.specs.declared.stop.TopologyFault.TheVariants.{OverlapPrefix};
 
@@ -67,7 +67,7 @@ fn is_inside(seen: &Owners, port: &Port) -> bool
 /// Notes an interface's router at the shorter prefixes in which its subnet lies.
 fn note_prefixes(enclosing: &mut Owners, port: &Port) -> Result<(), OutOfMemory>
     ensures noted { OnOk result (HasPrefixes enclosing.new.by_prefix port.now) }
-    ensures kept { OnOk result ((router : ℕ) (key : Subnet) → IsNoted enclosing.old.by_prefix router key → IsNoted enclosing.new.by_prefix router key) }
+    ensures kept { OnOk result ((router : ℕ) (key : Subnet) → IsOwnerNoted enclosing.old.by_prefix router key → IsOwnerNoted enclosing.new.by_prefix router key) }
 {
     for length in 0..port.interface.length {
         enclosing.note(port.router, prefix_of(port, length))?;

@@ -3,7 +3,7 @@ ghost use Rattle.std.specs.Prelude.{◌≡◌, ℕ, None, OnOk};
 ghost use Rattle.indexmap.specs.IndexMap.{get};
 ghost use Rattle.lsdb_build.specs.declared.port.Subnet.{Subnet as Key};
 ghost use Rattle.lsdb_build.specs.Tallies.{same_subnet};
-ghost use Rattle.lsdb_build.specs.Owners.{joined_owner, has_other, IsNoted};
+ghost use Rattle.lsdb_build.specs.Owners.{joined_owner, has_other, IsOwnerNoted};
 
 use crate::port::Subnet;
 use cost_base::OutOfMemory;
@@ -57,8 +57,8 @@ impl Owners {
 
     /// Notes a router at a prefix.
     pub fn note(&mut self, router: u32, prefix: Subnet) -> Result<(), OutOfMemory>
-        ensures noted { OnOk result (IsNoted self.new.by_prefix router prefix) }
-        ensures kept { OnOk result ((other : ℕ) (key : Key) → IsNoted self.old.by_prefix other key → IsNoted self.new.by_prefix other key) }
+        ensures noted { OnOk result (IsOwnerNoted self.new.by_prefix router prefix) }
+        ensures kept { OnOk result ((other : ℕ) (key : Key) → IsOwnerNoted self.old.by_prefix other key → IsOwnerNoted self.new.by_prefix other key) }
     {
         let owner = joined(self.by_prefix.get(&prefix).copied(), router);
         self.by_prefix.insert(prefix, owner)?;

@@ -1,6 +1,6 @@
 //! Why configurations make no topology.
 ghost use Rattle.std.specs.Prelude.{◌≡◌};
-ghost use Rattle.lsdb_build.specs.FaultNumbers.{number_of};
+ghost use Rattle.lsdb_build.specs.FaultNumbers.{topology_fault_number};
 
 use cost_base::OutOfMemory;
 
@@ -28,7 +28,7 @@ pub enum TopologyFault {
 impl TopologyFault {
     /// The number by which the fault is written.
     pub fn number(self) -> u8
-        ensures { result ≡ number_of self }
+        ensures { result ≡ topology_fault_number self }
     {
         match self {
             TopologyFault::NameTwice => 10,

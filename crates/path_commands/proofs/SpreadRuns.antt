@@ -9,7 +9,7 @@ use Rattle.text_lines.specs.LineFaults.{FaultyLine}
 use Rattle.set_reader.specs.declared.stop.SetFault.{SetFault}
 use Rattle.set_reader.specs.declared.stop.SetStop.{SetStop}
 use Rattle.set_reader.specs.declared.stop.SetStop.TheVariants as stops
-use Rattle.set_reader.specs.FaultNumbers.{number_of}
+use Rattle.set_reader.specs.FaultNumbers.{set_fault_number}
 use Rattle.set_reader.specs.Reading.{AreSaid, TellsReading, set_fault}
 use Rattle.set_reader.specs.SpreadSets.{AreSetsOf}
 use Rattle.command_words.specs.Jobs.{Bounds}
@@ -73,7 +73,7 @@ pub sets_stop : (file : Bor (List ℕ)) (d : Input) (p : DesignProblem) (bytes :
     TellsReading (set_fault p bytes) stop →
     StopsAs (if_sets file.now d bytes (set_fault d.problem bytes)) [] (set_stop stop file)
 sets_stop file d p bytes (stops.Refused fault line) is tells =
-    subst (λ (f : Option (FaultyLine SetFault)). EndsAs (if_sets file.now d bytes f) [] (Faulty (refusal_in (number_of fault) file line)))
+    subst (λ (f : Option (FaultyLine SetFault)). EndsAs (if_sets file.now d bytes f) [] (Faulty (refusal_in (set_fault_number fault) file line)))
     (sym (ap (λ (q : DesignProblem). set_fault q bytes) is ∙ tells)) refl
 sets_stop file d p bytes stops.OutOfMemory is tells = tt
 

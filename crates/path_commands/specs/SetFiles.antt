@@ -5,7 +5,7 @@ use Rattle.text_lines.specs.LineFaults.{FaultyLine}
 use Rattle.set_reader.specs.declared.stop.SetFault.{SetFault}
 use Rattle.set_reader.specs.declared.stop.SetStop.{SetStop}
 use Rattle.set_reader.specs.declared.stop.SetStop.TheVariants.{Refused as SetsRefused, OutOfMemory as NoMemoryForSets}
-use Rattle.set_reader.specs.FaultNumbers.{number_of}
+use Rattle.set_reader.specs.FaultNumbers.{set_fault_number}
 use Rattle.set_reader.specs.Reading.{AreSaid, set_fault}
 use Rattle.set_reader.specs.SpreadSets.{AreSetsOf}
 use Rattle.input_files.specs.declared.stop.Stop.{Stop}
@@ -32,7 +32,7 @@ pub record AreSetsIn (sets : List (List ℕ)) (sharing : Sharing) : Type 0 where
 -- the first faulty line of a file of sets is refused by its number
 abbrev pub if_sets : List ℕ → Input → List ℕ → Option (FaultyLine SetFault) → Reading Sharing
 if_sets file d bytes None = Ready (record { input = d; bytes = bytes })
-if_sets file d bytes (Some faulty) = Refused (record { number = number_of faulty.fault; file = file; line = faulty.line })
+if_sets file d bytes (Some faulty) = Refused (record { number = set_fault_number faulty.fault; file = file; line = faulty.line })
 
 -- a file of sets: its size, and then its lines
 abbrev pub sets_read : List ℕ → Input → Reading Sharing
@@ -44,5 +44,5 @@ spread_read names file = outcome AsRequested names >>= λ d. sets_read file d
 
 -- the stop of a file of sets that is refused
 abbrev pub set_stop : SetStop → Bor (List ℕ) → Stop
-set_stop (SetsRefused fault line) file = StopRefused (number_of fault) file line
+set_stop (SetsRefused fault line) file = StopRefused (set_fault_number fault) file line
 set_stop NoMemoryForSets file = StopOutOfMemory

@@ -9,7 +9,7 @@ use Rattle.report_writer.specs.declared.report.Report.{Report}
 use Rattle.report_writer.specs.declared.report.Text.{Text}
 use Rattle.report_writer.specs.declared.report.Text.TheVariants.{Made, Fixed, Lsas}
 use Rattle.report_writer.specs.Reports.{bytes_in}
-use Rattle.report_writer.specs.Cutting.{AreCutOff, AreHanded, ArePutOf, IsPutInPieces, PutsPieces, PutsByPieces, size_in}
+use Rattle.report_writer.specs.Cutting.{AreCutOff, AreHanded, ArePutOf, IsPutInPieces, PutsPieces, PutsByPieces, size_of_piece}
 
 cut_more : (size : List ℕ → ℕ) (pieces : List (List ℕ)) (text left : List ℕ) → AreCutOff size pieces text left →
     AreCutOff size (pieces ++ take (size left) left ∷ []) text (drop (size left) left)
@@ -60,7 +60,7 @@ put_short handed before middle now size text left n piece (Err e) err sized fron
 
 -- a report's text was put line by line, or LSA by LSA
 pub text_by_pieces : {K : Type 0} (handed : K → K → List ℕ → Type 0) (before now : K) (text : Text) (end : Status) →
-    PutsPieces handed before now (size_in text) (bytes_in text) end → PutsByPieces handed before now end
+    PutsPieces handed before now (size_of_piece text) (bytes_in text) end → PutsByPieces handed before now end
 text_by_pieces handed before now (Made bytes) end h = (bytes.items, inl h)
 text_by_pieces handed before now (Fixed text) end h = (text.now, inl h)
 text_by_pieces handed before now (Lsas bytes) end h = (bytes.items, inr h)
@@ -72,7 +72,7 @@ none_by_pieces handed before now end same = ([], inl (inl (record { pieces = [];
 
 -- what was put of a report that memory sufficed for, or not
 pub made_by_pieces : {K : Type 0} (handed : K → K → List ℕ → Type 0) (before now : K) (made : Result Report OutOfMemory)
-    (end : Status) → MatchResult made (λ report. PutsPieces handed before now (size_in report.text) (bytes_in report.text) end)
+    (end : Status) → MatchResult made (λ report. PutsPieces handed before now (size_of_piece report.text) (bytes_in report.text) end)
     (λ e. now ≡ before) → PutsByPieces handed before now end
 made_by_pieces handed before now (Ok report) end h = text_by_pieces handed before now report.text end h
 made_by_pieces handed before now (Err e) end h = none_by_pieces handed before now end h

@@ -26,10 +26,10 @@ abbrev pub piece_size : Pieces → List ℕ → ℕ
 piece_size kind.Lines = line_size
 piece_size kind.Lsas = lsa_size
 
-abbrev pub size_in : Text → List ℕ → ℕ
-size_in (Made bytes) = line_size
-size_in (Fixed text) = line_size
-size_in (Lsas bytes) = lsa_size
+abbrev pub size_of_piece : Text → List ℕ → ℕ
+size_of_piece (Made bytes) = line_size
+size_of_piece (Fixed text) = line_size
+size_of_piece (Lsas bytes) = lsa_size
 
 -- pieces cut off the front of a text, each of the size of its first piece, and what is left behind them
 abbrev pub AreCutOff : (List ℕ → ℕ) → List (List ℕ) → List ℕ → List ℕ → Type 0

@@ -1,6 +1,6 @@
 //! What a command reports: a status, and the text that goes with it.
 ghost use Rattle.std.specs.Prelude.{◌≡◌};
-ghost use Rattle.report_writer.specs.Cutting.{piece_size, size_in};
+ghost use Rattle.report_writer.specs.Cutting.{piece_size, size_of_piece};
 ghost use Rattle.report_writer.specs.Reports.{Reports, ReportsAny, ReportsStop, bytes_in};
 
 use crate::lines::{read_fault_line_of, refused_line_of};
@@ -42,7 +42,7 @@ impl Text {
 
     /// What pieces the text is put in.
     pub(crate) fn pieces(&self) -> Pieces
-        ensures { piece_size result ≡ size_in self.now }
+        ensures { piece_size result ≡ size_of_piece self.now }
     {
         match self {
             Text::Made(_) => Pieces::Lines,

@@ -1,7 +1,7 @@
 //! The one writer of reports.
 ghost use Rattle.std.specs.Prelude.{◌≡◌, ◌<◌, ◌≤◌, ◌+◌, ◌*◌, ◌==◌, length, slice_index, IfSome};
 ghost use Rattle.std.specs.List.{position};
-ghost use Rattle.report_writer.specs.Cutting.{IsPutInPieces, PutsPieces, line_size, lsa_size, piece_size, size_in};
+ghost use Rattle.report_writer.specs.Cutting.{IsPutInPieces, PutsPieces, line_size, lsa_size, piece_size, size_of_piece};
 ghost use Rattle.report_writer.specs.Reports.{IsHanded, IsWritten, bytes_in};
 
 use crate::report::{Pieces, Report};
@@ -84,7 +84,7 @@ fn put_text<K: Sink>(pieces: Pieces, text: &[u8], out: &mut K) -> Result<(), Put
 pub fn write_report<K: Sink>(report: &Report, out: &mut K) -> Status
     ensures written { IsWritten report.now.status (bytes_in report.now.text)
         (K.handed out.old out.new) (K.faults out.old) (K.faults out.new) result }
-    ensures pieces { PutsPieces K.handed out.old out.new (size_in report.now.text)
+    ensures pieces { PutsPieces K.handed out.old out.new (size_of_piece report.now.text)
         (bytes_in report.now.text) result }
 {
     match put_text(report.text.pieces(), report.text.as_bytes(), out) {

@@ -80,13 +80,13 @@ kept_from (line ∷ rest) front kept none =
     let parts = append-none (faults_at (length front + 1) (fault_behind front line)) (faults_by_line fault_behind (front ++ line ∷ []) rest) none in
     let lawful : fault_said told (said_by_request_line line) ≡ None =
     behind_header (nat_le (length line) 65536) (fault_said told (said_by_request_line line))
-      (no_fault_in (length front + 1) (fault_behind front line) parts.0) in
+    (no_fault_in (length front + 1) (fault_behind front line) parts.0) in
     let here : told_with told (length front + 1) (said_by_request_line line) ≡ told_by (front ++ line ∷ [])
     = told_is told.spoken told.area told.default_cost told.items (length front + 1) (said_by_request_line line) lawful ∙ sym (told_push front line) in
     subst (λ file. ToldKeeps (told_by file)) (append_assoc front (line ∷ []) rest)
     (kept_from rest (front ++ line ∷ [])
     (subst ToldKeeps here
-      (kept_more told (length front + 1) (said_by_request_line line) kept (statement_rules (words line) (said_by_request_line line) refl) lawful))
+    (kept_more told (length front + 1) (said_by_request_line line) kept (statement_rules (words line) (said_by_request_line line) refl) lawful))
     parts.1)
 
 -- a request file without a fault asks for lawful bounds, a positive default cost and at most 10,000 paths

@@ -55,7 +55,7 @@ items_push n (first ∷ more) line =
 pub told_push : (file : List (List ℕ)) (line : List ℕ) → told_by (file ++ line ∷ []) ≡ told_more (told_by file) (length file + 1) (said_by_request_line line)
 told_push file line =
     let spoken : list_any (λ l. speaks (said_by_request_line l)) (file ++ line ∷ [])
-        ≡ (list_any (λ l. speaks (said_by_request_line l)) file || speaks (said_by_request_line line)) =
+    ≡ (list_any (λ l. speaks (said_by_request_line l)) file || speaks (said_by_request_line line)) =
     list_any-append (λ l. speaks (said_by_request_line l)) file (line ∷ [])
     ∙ ap (λ (b : Bool). list_any (λ l. speaks (said_by_request_line l)) file || b) (or-false (speaks (said_by_request_line line))) in
     let area = first_push area_in file line in
@@ -110,7 +110,7 @@ read_more bytes left next told after line so_far read lawful is =
     record {
       file = so_far.file ++ text ∷ [];
       to = one_more_read fault_behind bytes left next so_far.file line so_far.to read
-        (ap (λ (t : Told). fault_of_request_line t text) (sym so_far.told_is) ∙ found);
+          (ap (λ (t : Told). fault_of_request_line t text) (sym so_far.told_is) ∙ found);
       told_is =
           is ∙ told_is told.spoken told.area told.default_cost told.items line.number (said_by_request_line text) lawful
           ∙ ap (λ (t : Told). told_more t line.number (said_by_request_line text)) so_far.told_is
@@ -138,7 +138,7 @@ pub read_refused : (bytes : List ℕ) (left next : TextLeft) (told : Told) (line
     TellsRequestFault (request_fault bytes) stop
 read_refused bytes left next told line stop so_far read tells =
     refused_at bytes left told line.text.now (lines next.bytes)
-      (fault_said told (said_by_request_line line.text.now)) line.number stop so_far read.0.first.first
+    (fault_said told (said_by_request_line line.text.now)) line.number stop so_far read.0.first.first
     (short_fault told line.text.now (omega (arith, read.1.within, so_far.to.longest))) read.1.counted tells
 
 -- a line is refused for its length

@@ -4,7 +4,7 @@ use Rattle.request_reader.specs.declared.stop.RequestFault.{RequestFault}
 use Rattle.request_reader.specs.declared.stop.RequestFault.TheVariants.{BadRequestLine, BadBounds, TooManyPaths}
 
 -- the number of a fault
-abbrev pub number_of : RequestFault → ℕ
-number_of BadRequestLine = 20
-number_of BadBounds = 25
-number_of TooManyPaths = 27
+abbrev pub request_fault_number : RequestFault → ℕ
+request_fault_number BadRequestLine = 20
+request_fault_number BadBounds = 25
+request_fault_number TooManyPaths = 27

@@ -1,6 +1,6 @@
 //! Why a request file isn't taken.
 ghost use Rattle.std.specs.Prelude.{◌≡◌};
-ghost use Rattle.request_reader.specs.FaultNumbers.{number_of};
+ghost use Rattle.request_reader.specs.FaultNumbers.{request_fault_number};
 
 use cost_base::OutOfMemory;
 
@@ -18,7 +18,7 @@ pub enum RequestFault {
 impl RequestFault {
     /// The number by which the fault is written.
     pub fn number(self) -> u8
-        ensures { result ≡ number_of self }
+        ensures { result ≡ request_fault_number self }
     {
         match self {
             RequestFault::BadRequestLine => 20,

@@ -4,6 +4,6 @@ use Rattle.set_reader.specs.declared.stop.SetFault.{SetFault}
 use Rattle.set_reader.specs.declared.stop.SetFault.TheVariants.{BadSetLine, WrongSet}
 
 -- the number of a fault
-abbrev pub number_of : SetFault → ℕ
-number_of BadSetLine = 71
-number_of WrongSet = 72
+abbrev pub set_fault_number : SetFault → ℕ
+set_fault_number BadSetLine = 71
+set_fault_number WrongSet = 72

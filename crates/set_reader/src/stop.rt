@@ -1,6 +1,6 @@
 //! Why a file of sets isn't taken.
 ghost use Rattle.std.specs.Prelude.{◌≡◌};
-ghost use Rattle.set_reader.specs.FaultNumbers.{number_of};
+ghost use Rattle.set_reader.specs.FaultNumbers.{set_fault_number};
 
 use cost_base::OutOfMemory;
 
@@ -17,7 +17,7 @@ pub enum SetFault {
 impl SetFault {
     /// The number by which the fault is written.
     pub fn number(self) -> u8
-        ensures { result ≡ number_of self }
+        ensures { result ≡ set_fault_number self }
     {
         match self {
             SetFault::BadSetLine => 71,

@@ -23,7 +23,7 @@ use Rattle.rival_separation.proofs.OfferLemmas.{OffersOnce}
 use Rattle.rival_separation.proofs.RivalLemmas.{is_least, some_least}
 use Rattle.set_separation.specs.declared.prefix_tree.Step.{Step}
 use Rattle.set_separation.specs.Outsiders.{CostAtLeast, IsCheapestOutsider, IsOutsider}
-use Rattle.set_separation.specs.PrefixTrees.{BeginsOneOf, HasStep, IsTreeOf, no_step, prefix_of_place, step_at}
+use Rattle.set_separation.specs.PrefixTrees.{BeginsOneOf, HasStep, IsPrefixTree, no_step, prefix_of_place, step_at}
 use Rattle.set_separation.specs.Departures.{ArePlaceCosts, Departs, place_vertex}
 use Rattle.set_separation.proofs.PrefixLemmas.{any_step, is_step}
 
@@ -62,7 +62,7 @@ ends_visited g u (e ∷ es) t joins lacks = ends_visited g (edge_at g e).to es t
 
 -- The places of a tree.
 
-module _ (g : Area) (ends : Ends) (wanted : List (List ℕ)) (steps : List Step) (tree : IsTreeOf g ends wanted steps) where
+module _ (g : Area) (ends : Ends) (wanted : List (List ℕ)) (steps : List Step) (tree : IsPrefixTree g ends wanted steps) where
   abbrev prefix : ℕ → List ℕ
   prefix k = prefix_of_place tree.grown.prefixes k
 
@@ -174,7 +174,7 @@ record Departed (g : Area) (p : Point) (ends : Ends) (room : Findings) (steps : 
   within : total ≤ most
 
 module _ (g : Area) (p : Point) (ends : Ends) (limit : ℕ) (room : Findings) (wanted : List (List ℕ)) (steps : List Step)
-    (costs : List ℕ) (graph : FitsGraph g) (found : HasDistancesBelow g p ends limit room) (tree : IsTreeOf g ends wanted steps)
+    (costs : List ℕ) (graph : FitsGraph g) (found : HasDistancesBelow g p ends limit room) (tree : IsPrefixTree g ends wanted steps)
     (are : ArePlaceCosts g p steps (length steps) costs) where
   abbrev place_prefix : ℕ → List ℕ
   place_prefix k = prefix_of_place tree.grown.prefixes k

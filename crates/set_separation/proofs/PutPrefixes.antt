@@ -6,7 +6,7 @@ use Rattle.area_graph.specs.Area.{Area, FitsGraph}
 use Rattle.area_graph.specs.Paths.{Ends}
 use Rattle.spf_ties.specs.Distances.{Findings}
 use Rattle.set_separation.specs.declared.prefix_tree.Step.{Step}
-use Rattle.set_separation.specs.PrefixTrees.{IsGrown, IsTreeOf, prefix_of_place, step_at}
+use Rattle.set_separation.specs.PrefixTrees.{IsGrown, IsPrefixTree, prefix_of_place, step_at}
 use Rattle.set_separation.proofs.DepartureLemmas.{place_short}
 
 -- the edges, last first, from an earlier place to a place
@@ -27,7 +27,7 @@ stepped wanted done steps tree earlier known other =
     ∙ tree.grown (earlier - 1) (omega (arith, other))
 
 -- so that there is a place for one more
-pub put_short : (g : Area) (ends : Ends) (wanted : List (List ℕ)) (steps : List Step) → IsTreeOf g ends wanted steps →
+pub put_short : (g : Area) (ends : Ends) (wanted : List (List ℕ)) (steps : List Step) → IsPrefixTree g ends wanted steps →
     FitsGraph g → (place earlier : ℕ) (path : List ℕ) → place ≤ length steps → earlier ≢ 0 →
     IsPutBack steps place earlier path → length path < length g.vertices
 put_short g ends wanted steps tree graph place earlier path within other put =

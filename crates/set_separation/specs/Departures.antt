@@ -7,7 +7,7 @@ use Rattle.area_graph.specs.Costs.{cost, price_at}
 use Rattle.spf_ties.specs.Distances.{Findings}
 use Rattle.rival_separation.specs.Offers.{IsOnward}
 use Rattle.set_separation.specs.declared.prefix_tree.Step.{Step}
-use Rattle.set_separation.specs.PrefixTrees.{HasStep, IsTreeOf, step_at}
+use Rattle.set_separation.specs.PrefixTrees.{HasStep, IsPrefixTree, step_at}
 
 -- the vertex of a place: the start, or the end of its step's edge
 abbrev pub place_vertex : Area → Ends → List Step → ℕ → ℕ
@@ -22,7 +22,7 @@ pub record ArePlaceCosts (g : Area) (p : Point) (steps : List Step) (n : ℕ) (c
 
 -- A tree of the prefixes of some paths of a request that cost the same at the point.
 pub record IsTiedTree (g : Area) (p : Point) (ends : Ends) (most : ℕ) (wanted : List (List ℕ)) (steps : List Step) : Type 0 where
-  pub tree : IsTreeOf g ends wanted steps
+  pub tree : IsPrefixTree g ends wanted steps
   pub tied : All (λ w. cost g p w ≡ most) wanted
 
 -- at its vertex the place may be left by an edge that leads to no place, and with the cheapest way on from there it costs so much

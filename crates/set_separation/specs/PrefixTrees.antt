@@ -47,7 +47,7 @@ pub record IsGrown (wanted done : List (List ℕ)) (steps : List Step) : Type 0 
   pub passed : (path : List ℕ) → Contains done path → (k e : ℕ) (rest : List ℕ) → k ≤ length steps → path ≡ prefix_of_place prefixes k ++ e ∷ rest → HasStep steps k e
 
 -- the tree of the prefixes of wanted paths of a request
-pub record IsTreeOf (g : Area) (ends : Ends) (wanted : List (List ℕ)) (steps : List Step) : Type 0 where
+pub record IsPrefixTree (g : Area) (ends : Ends) (wanted : List (List ℕ)) (steps : List Step) : Type 0 where
   pub grown : IsGrown wanted wanted steps
   pub paths : All (IsPathOf g ends) wanted
 

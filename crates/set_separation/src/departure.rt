@@ -7,7 +7,7 @@ ghost use Rattle.design_problem.specs.Problems.{request_ends};
 ghost use Rattle.rival_separation.specs.Offers.{IsBestOffer};
 ghost use Rattle.rival_separation.specs.Rivals.{HasDistancesBelow};
 ghost use Rattle.set_separation.specs.Departures.{ArePlaceCosts, Departs, place_vertex};
-ghost use Rattle.set_separation.specs.PrefixTrees.{IsTreeOf};
+ghost use Rattle.set_separation.specs.PrefixTrees.{IsPrefixTree};
 
 use crate::PrefixTree;
 use area_graph::{Graph, Point, edge_of, price_of};
@@ -24,7 +24,7 @@ pub(crate) fn put_place_costs(
     costs: &mut [u128],
 )
     requires fits { FitsPoint graph.now point.now }
-    requires tree { (wanted : List (List ℕ)) × IsTreeOf graph.now (request_ends request.now) wanted tree.now }
+    requires tree { (wanted : List (List ℕ)) × IsPrefixTree graph.now (request_ends request.now) wanted tree.now }
     requires enough { length tree.now + 1 ≤ length costs.old }
     ensures costs { ArePlaceCosts graph.now point.now tree.now (length tree.now) costs.new }
     ensures count { length costs.new ≡ length costs.old }
@@ -38,7 +38,7 @@ pub(crate) fn put_place_costs(
 
 /// The vertex of a place.
 fn vertex_of(graph: &Graph, request: &Request, tree: &PrefixTree, place: usize) -> u32
-    requires tree { (wanted : List (List ℕ)) × IsTreeOf graph.now (request_ends request.now) wanted tree.now }
+    requires tree { (wanted : List (List ℕ)) × IsPrefixTree graph.now (request_ends request.now) wanted tree.now }
     requires place { place ≤ length tree.now }
     ensures { result ≡ place_vertex graph.now (request_ends request.now) tree.now place }
 {
@@ -62,7 +62,7 @@ fn departure(
 ) -> Option<u128>
     requires fits { FitsPoint graph.now point.now }
     requires found { (limit : ℕ) × HasDistancesBelow graph.now point.now (request_ends request.now) limit room.now }
-    requires tree { (wanted : List (List ℕ)) × IsTreeOf graph.now (request_ends request.now) wanted tree.now }
+    requires tree { (wanted : List (List ℕ)) × IsPrefixTree graph.now (request_ends request.now) wanted tree.now }
     requires costs { ArePlaceCosts graph.now point.now tree.now (length tree.now) costs.now }
     requires place { place ≤ length tree.now }
     requires known { number < length graph.now.edges }
@@ -94,7 +94,7 @@ fn best_at(
 ) -> Option<Deviation>
     requires fits { FitsPoint graph.now point.now }
     requires found { (limit : ℕ) × HasDistancesBelow graph.now point.now (request_ends request.now) limit room.now }
-    requires tree { (wanted : List (List ℕ)) × IsTreeOf graph.now (request_ends request.now) wanted tree.now }
+    requires tree { (wanted : List (List ℕ)) × IsPrefixTree graph.now (request_ends request.now) wanted tree.now }
     requires costs { ArePlaceCosts graph.now point.now tree.now (length tree.now) costs.now }
     requires place { place ≤ length tree.now }
     requires best { IsBestOffer (Departs graph.now point.now (request_ends request.now) room.now tree.now costs.now) (λ earlier e. earlier < place) best }
@@ -121,7 +121,7 @@ pub(crate) fn least_departure(
 ) -> Option<Deviation>
     requires fits { FitsPoint graph.now point.now }
     requires found { (limit : ℕ) × HasDistancesBelow graph.now point.now (request_ends request.now) limit room.now }
-    requires tree { (wanted : List (List ℕ)) × IsTreeOf graph.now (request_ends request.now) wanted tree.now }
+    requires tree { (wanted : List (List ℕ)) × IsPrefixTree graph.now (request_ends request.now) wanted tree.now }
     requires costs { ArePlaceCosts graph.now point.now tree.now (length tree.now) costs.now }
     ensures { IsBestOffer (Departs graph.now point.now (request_ends request.now) room.now tree.now costs.now) (λ place e. place ≤ length tree.now) result }
 {

@@ -10,7 +10,7 @@ ghost use Rattle.rival_separation.specs.declared.deviation.Deviation.{Deviation}
 ghost use Rattle.spf_ties.specs.Distances.{IsRoomFor};
 ghost use Rattle.set_separation.specs.Departures.{ArePlaceCosts, Departs, IsTiedTree};
 ghost use Rattle.set_separation.specs.Outsiders.{CostAtLeast, IsCheapestOutsider};
-ghost use Rattle.set_separation.specs.PrefixTrees.{IsGrown, IsTreeOf, prefix_of_place};
+ghost use Rattle.set_separation.specs.PrefixTrees.{IsGrown, IsPrefixTree, prefix_of_place};
 
 use crate::PrefixTree;
 use crate::departure::{least_departure, put_place_costs};
@@ -23,7 +23,7 @@ use spf_ties::Room;
 /// the path is turned around.
 fn put_prefix(graph: &Graph, request: &Request, tree: &PrefixTree, place: usize, room: &mut Room)
     requires room { IsRoomFor graph.now room.old }
-    requires tree { (wanted : List (List ℕ)) × IsTreeOf graph.now (request_ends request.now) wanted tree.now }
+    requires tree { (wanted : List (List ℕ)) × IsPrefixTree graph.now (request_ends request.now) wanted tree.now }
     requires place { place ≤ length tree.now }
     ensures { (wanted done : List (List ℕ)) (tree : IsGrown wanted done tree.now) → room.new ≡ record room.old { path = prefix_of_place tree.prefixes place } }
 {

@@ -13,7 +13,7 @@ use Rattle.integer_pivots.specs.declared.line.Line.{Line}
 use Rattle.integer_pivots.specs.Lines.{IsLine, no_line, rows_of}
 use Rattle.integer_pivots.specs.Numbers.{greatest_of}
 use Rattle.integer_pivots.proofs.Sizes.{difference_small, sum_small}
-use Rattle.table_kernel.specs.Moves.{LineMayMove, lines_after_high, lines_after_low, raised_line, step_of, with_constant}
+use Rattle.table_kernel.specs.Moves.{LineMayMove, lines_after_high, lines_after_low, raised_kernel_line, step_of, with_constant}
 use Rattle.table_kernel.specs.Numbers.{scaled_line, share_of}
 use Rattle.table_kernel.proofs.Columns.{scaled_at}
 
@@ -39,7 +39,7 @@ number_step line c =
     let more = le-max_left (greatest_of line.numbers) (nat_abs line.denominator) in
     omega (arith, one, more)
 
-raised_line_moved : (column far : ℕ) (fall : ℤ) (line : Line) → nat_abs fall ≡ far → IsLineMoved far line (raised_line column fall line)
+raised_line_moved : (column far : ℕ) (fall : ℤ) (line : Line) → nat_abs fall ≡ far → IsLineMoved far line (raised_kernel_line column fall line)
 raised_line_moved column far fall line far_is =
     let times : nat_abs (fall *ℤ number_at line.numbers column) ≡ nat_abs fall * nat_abs (number_at line.numbers column) =
     unsigned_abs-mul fall (number_at line.numbers column) in
@@ -81,11 +81,11 @@ set_moved far v olds news line v_in are here = record {
   ]);
 }
 
-raised_moved : (column far : ℕ) (fall : ℤ) (lines : List Line) → nat_abs fall ≡ far → AreLinesMoved far lines (map (raised_line column fall) lines)
+raised_moved : (column far : ℕ) (fall : ℤ) (lines : List Line) → nat_abs fall ≡ far → AreLinesMoved far lines (map (raised_kernel_line column fall) lines)
 raised_moved column far fall lines far_is = record {
-  count = length-map lines (raised_line column fall);
+  count = length-map lines (raised_kernel_line column fall);
   each = λ v v_in.
-      subst (IsLineMoved far (slice_index_or lines v no_line)) (sym (get_or-map (raised_line column fall) lines v no_line no_line v_in))
+      subst (IsLineMoved far (slice_index_or lines v no_line)) (sym (get_or-map (raised_kernel_line column fall) lines v no_line no_line v_in))
       (raised_line_moved column far fall (slice_index_or lines v no_line) far_is);
 }
 
@@ -97,7 +97,7 @@ pub low_lines_moved : (far v : ℕ) (lines : List Line) (column : Option ℕ) (f
 low_lines_moved far v lines None fall v_in far_is =
     set_moved far v lines lines _ v_in (none_moved far lines) (lowered_line_moved far fall (slice_index_or lines v no_line) far_is)
 low_lines_moved far v lines (Some j) fall v_in far_is =
-    set_moved far v lines (map (raised_line j fall) lines) _ v_in (raised_moved j far fall lines far_is) (zero_line_moved far (slice_index_or lines v no_line))
+    set_moved far v lines (map (raised_kernel_line j fall) lines) _ v_in (raised_moved j far fall lines far_is) (zero_line_moved far (slice_index_or lines v no_line))
 
 pub high_lines_moved : (far : ℕ) (lines : List Line) (column : Option ℕ) (fall : ℤ) → nat_abs fall ≡ far →
     AreLinesMoved far lines (lines_after_high lines column fall)
@@ -151,7 +151,7 @@ room_less D far more line may =
     omega (arith, product, may)
 
 -- a line whose constant rises, over the common denominator
-raised_scaled : (D column : ℕ) (fall : ℤ) (line : Line) → scaled_line D (raised_line column fall line) ≡ raised column fall (scaled_line D line)
+raised_scaled : (D column : ℕ) (fall : ℤ) (line : Line) → scaled_line D (raised_kernel_line column fall line) ≡ raised column fall (scaled_line D line)
 raised_scaled D column fall line =
     let s = pos (share_of D line) in
     let ms = map (λ z. z *ℤ s) line.numbers in
@@ -160,10 +160,10 @@ raised_scaled D column fall line =
     ((var 0 ⊕ var 1 ⊗ var 2) ⊗ var 3) (var 0 ⊗ var 3 ⊕ (var 2 ⊗ var 3) ⊗ var 1) refl
     ∙ ap (λ (z : ℤ). (line.constant *ℤ s) +ℤ (z *ℤ fall)) (sym (scaled_at s line.numbers column)))
 
-raised_all : (D column : ℕ) (fall : ℤ) (lines : List Line) → map (scaled_line D) (map (raised_line column fall) lines) ≡ map (raised column fall) (map (scaled_line D) lines)
+raised_all : (D column : ℕ) (fall : ℤ) (lines : List Line) → map (scaled_line D) (map (raised_kernel_line column fall) lines) ≡ map (raised column fall) (map (scaled_line D) lines)
 raised_all D column fall [] = refl
 raised_all D column fall (line ∷ lines) =
-    ap (λ (ts : List ℤ). ts ∷ map (scaled_line D) (map (raised_line column fall) lines)) (raised_scaled D column fall line)
+    ap (λ (ts : List ℤ). ts ∷ map (scaled_line D) (map (raised_kernel_line column fall) lines)) (raised_scaled D column fall line)
     ∙ ap (λ (rows : List (List ℤ)). raised column fall (scaled_line D line) ∷ rows) (raised_all D column fall lines)
 
 -- one whose own form falls
@@ -206,7 +206,7 @@ low_lows D v lines (Some j) fall v_in whole own =
     let rows = map (scaled_line D) lines in
     let many : length rows ≡ length lines = length-map lines (scaled_line D) in
     let is = own j refl in
-    map-set (scaled_line D) (map (raised_line j fall) lines) v (with_constant line (pos 0))
+    map-set (scaled_line D) (map (raised_kernel_line j fall) lines) v (with_constant line (pos 0))
     ∙ ap (λ (rs : List (List ℤ)). slice_set rs v (scaled_line D (with_constant line (pos 0)))) (raised_all D j fall lines)
     ∙ ap (slice_set (map (raised j fall) rows) v)
     (own_scaled D j fall line is.0 is.1

@@ -15,8 +15,8 @@ abbrev pub with_constant : Line → ℤ → Line
 with_constant line constant = record { denominator = line.denominator; constant = constant; numbers = line.numbers; reach = line.reach }
 
 -- the line whose constant rises by its number at a column times the fall
-abbrev pub raised_line : ℕ → ℤ → Line → Line
-raised_line column fall line = with_constant line (line.constant +ℤ (fall *ℤ number_at line.numbers column))
+abbrev pub raised_kernel_line : ℕ → ℤ → Line → Line
+raised_kernel_line column fall line = with_constant line (line.constant +ℤ (fall *ℤ number_at line.numbers column))
 
 -- The lines of x - low after the form x - low of a variable fell: its own constant is less by that many times its
 -- denominator, where the form isn't in the basis; else each other rises by its number at that column times the fall, and
@@ -26,13 +26,13 @@ lines_after_low lines None var fall =
     slice_set lines var (with_constant (slice_index_or lines var no_line)
     ((slice_index_or lines var no_line).constant -ℤ ((slice_index_or lines var no_line).denominator *ℤ fall)))
 lines_after_low lines (Some column) var fall =
-    slice_set (map (raised_line column fall) lines) var (with_constant (slice_index_or lines var no_line) (pos 0))
+    slice_set (map (raised_kernel_line column fall) lines) var (with_constant (slice_index_or lines var no_line) (pos 0))
 
 -- The lines of x - low after the form high - x of a variable fell: they stay where the form isn't in the basis; else each
 -- rises by its number at that column times the fall.
 abbrev pub lines_after_high : List Line → Option ℕ → ℤ → List Line
 lines_after_high lines None fall = lines
-lines_after_high lines (Some column) fall = map (raised_line column fall) lines
+lines_after_high lines (Some column) fall = map (raised_kernel_line column fall) lines
 
 -- what a bound that moves leaves, but for the box, the basis and the constants of lines
 pub record KeepsInMove (old new : Kernel) : Type 0 where

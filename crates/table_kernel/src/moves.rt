@@ -5,7 +5,7 @@ ghost use Rattle.fraction_table.specs.Moves.{IsMoved, KeepsTableRows};
 ghost use Rattle.fraction_table.specs.Tableaus.{FitsBox};
 ghost use Rattle.integer_pivots.specs.Lines.{IsLine};
 ghost use Rattle.table_kernel.specs.Kernels.{IsKernel, IsMoving, stated, width_of};
-ghost use Rattle.table_kernel.specs.Moves.{IsBasisMoved, KeepsInMove, KeepsOfBox, LineMayMove, MayMove, box_distance, distance_of, lines_after_high, lines_after_low, raised_line, step_of};
+ghost use Rattle.table_kernel.specs.Moves.{IsBasisMoved, KeepsInMove, KeepsOfBox, LineMayMove, MayMove, box_distance, distance_of, lines_after_high, lines_after_low, raised_kernel_line, step_of};
 ghost use Rattle.table_kernel.specs.Turns.{line_of};
 
 use crate::Kernel;
@@ -48,7 +48,7 @@ fn raise(lines: &mut [Line], column: usize, fall: i64)
     requires lines { All IsLine lines.old }
     requires constants { All (λ line. nat_abs line.constant ≤ 2 ^ 44) lines.old }
     requires fall { nat_abs fall < 2 ^ 16 }
-    ensures { lines.new ≡ map (raised_line column fall) lines.old }
+    ensures { lines.new ≡ map (raised_kernel_line column fall) lines.old }
 {
     for var in 0..lines.len() {
         let number = lines[var].numbers.as_slice()[column];

@@ -2,7 +2,7 @@
 ghost use Rattle.std.specs.Prelude.{◌≡◌, suc, ◌<◌, ◌≤◌, length, IfErr, IfOk};
 ghost use Rattle.design_problem.specs.Boxes.{Refutes};
 ghost use Rattle.design_problem.specs.Steps.{IsStuck};
-ghost use Rattle.fraction_table.specs.Multipliers.{IsToldOf, fractions_of};
+ghost use Rattle.fraction_table.specs.Multipliers.{IsWideAtBasis, fractions_of};
 ghost use Rattle.fraction_table.specs.Pivots.{line_at, member_at};
 ghost use Rattle.table_kernel.specs.Kernels.{IsKernel, stated, width_of};
 
@@ -43,7 +43,7 @@ impl Kernel {
         requires stuck { IsStuck self.now.table.basis.items (line_at (stated self.now) place) }
         ensures refutes { IfOk result (λ parts. Refutes self.now.table.rows.items parts self.now.table.costs) }
         ensures few { IfOk result (λ parts. length parts ≤ suc (width_of self.now)) }
-        ensures told { IfErr result (IsToldOf (stated self.now)) }
+        ensures told { IfErr result (IsWideAtBasis (stated self.now)) }
     {
         let fractions = self.fractions(alloc, place)?;
         whole_multipliers(alloc, fractions.as_slice(), self.table.top)

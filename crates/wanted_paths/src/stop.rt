@@ -1,6 +1,6 @@
 //! Why requests don't resolve in a topology.
 ghost use Rattle.std.specs.Prelude.{◌≡◌};
-ghost use Rattle.wanted_paths.specs.FaultNumbers.{number_of, line_of};
+ghost use Rattle.wanted_paths.specs.FaultNumbers.{resolution_fault_number, line_of_fault};
 
 use cost_base::OutOfMemory;
 
@@ -30,7 +30,7 @@ pub enum ResolutionFault {
 impl ResolutionFault {
     /// The number by which the fault is written.
     pub fn number(self) -> u8
-        ensures { result ≡ number_of self }
+        ensures { result ≡ resolution_fault_number self }
     {
         match self {
             ResolutionFault::UnknownRouter { .. } => 21,
@@ -47,7 +47,7 @@ impl ResolutionFault {
 
     /// The line of the request file at which the fault stands, 0 where it is none of one line.
     pub fn line(self) -> u32
-        ensures { result ≡ line_of self }
+        ensures { result ≡ line_of_fault self }
     {
         match self {
             ResolutionFault::UnknownRouter { line } => line,

@@ -3,13 +3,13 @@ use Rattle.std.specs.Prelude.{All, List}
 use Rattle.std.proofs.lemmas.List.Elements.{All-push}
 use Rattle.design_problem.specs.Rows.{IsRow, form_of_row}
 use Rattle.design_problem.specs.Forms.{Form, IsSmallForm}
-use Rattle.evidence_checker.specs.Numbers.{number_of}
+use Rattle.evidence_checker.specs.Numbers.{check_fault_number}
 use Rattle.evidence_checker.proofs.RowLaws.{first_goes_on, first_is_here, forms_more, rows_more, at_none, at_some}
 use Rattle.evidence_checker.proofs.rows.forms_of.Goals as goal
 
 pub returns-in-Some-clause-first : goal.returns-in-Some-clause-first
 returns-in-Some-clause-first c =
-    inl (first_is_here c.args.problem.now c.args.rows.now c.loop-index.index (number_of c.in-Some.fault)
+    inl (first_is_here c.args.problem.now c.args.rows.now c.loop-index.index (check_fault_number c.in-Some.fault)
     c.index-rows-index.result c.loop-index-test.true c.index-rows-index.is
     (at_some _ _ c.in_ok-fault.field-0 c.in-Some.fault c.in-Some.is c.in_ok-fault.ensures) c.loop-index.invariant.first)
 

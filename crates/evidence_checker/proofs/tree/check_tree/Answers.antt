@@ -7,7 +7,7 @@ use Rattle.design_problem.specs.Stack.{OpenBoxes}
 use Rattle.design_problem.specs.declared.form.CostBox.{CostBox}
 use Rattle.design_problem.specs.declared.tree.Entry.{Entry}
 use Rattle.design_problem.specs.Trees.{SoundAt, is_undone}
-use Rattle.evidence_checker.specs.Numbers.{number_of}
+use Rattle.evidence_checker.specs.Numbers.{check_fault_number}
 use Rattle.evidence_checker.specs.Tests.{line_tests}
 use Rattle.evidence_checker.proofs.Choices.{when_true, when_false}
 use Rattle.evidence_checker.proofs.WalkLaws.{HaveEnds, Walks, line_read, next_have_ends, walk_begins, walk_ends, walk_goes_on, walk_stops}
@@ -67,8 +67,8 @@ returns-in-Some-clause-first c =
     let boxes = c.loop-line.boxes in
     let entry = c.index-entries-line.result in
     let walks = walks_here (goal.at.returns-in-Some-clause-first c).After-index-entries-line in
-    inl (walk_stops forms (c.args.costs ∷ []) c.args.entries.now boxes.present boxes.behind c.loop-line.line entry _ (number_of c.in-Some.fault) walks
-    (subst (λ (box : CostBox). FirstOf (line_tests forms box entry) (number_of c.in-Some.fault)) c.present.ensures.present c.in-Some.ensures.first))
+    inl (walk_stops forms (c.args.costs ∷ []) c.args.entries.now boxes.present boxes.behind c.loop-line.line entry _ (check_fault_number c.in-Some.fault) walks
+    (subst (λ (box : CostBox). FirstOf (line_tests forms box entry) (check_fault_number c.in-Some.fault)) c.present.ensures.present c.in-Some.ensures.first))
 
 pub returns-then-not-branch-clause-sound : goal.returns-then-not-branch-clause-sound
 returns-then-not-branch-clause-sound c =

@@ -8,4 +8,4 @@ use Rattle.live_area.proofs.interfaces.compare_interfaces.Given as goal
 abbrev pub invariant-loop-link : goal.invariant-loop-link
 invariant-loop-link l = (all : List LiveLink) → HasLinkMetrics l.metrics.by_name l.of.ends.now all →
     l.interfaces.items ++ compared_from l.lsas all l.of.links.now l.of.costs.now l.link (drop l.link l.of.ends.now)
-        ≡ compared_from l.lsas all l.of.links.now l.of.costs.now 0 l.of.ends.now
+    ≡ compared_from l.lsas all l.of.links.now l.of.costs.now 0 l.of.ends.now

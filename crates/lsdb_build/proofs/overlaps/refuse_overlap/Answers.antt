@@ -4,7 +4,7 @@ use Rattle.std.proofs.lemmas.List.Elements.{All-cons, All-weaker}
 use Rattle.lsdb_build.specs.declared.port.Subnet.{Subnet}
 use Rattle.lsdb_build.specs.Neighbours.{Port}
 use Rattle.lsdb_build.specs.Tallies.{subnet_of, subnet_of_length}
-use Rattle.lsdb_build.specs.Owners.{IsNoted, HasSubnet, HasPrefixes}
+use Rattle.lsdb_build.specs.Owners.{IsOwnerNoted, HasSubnet, HasPrefixes}
 use Rattle.lsdb_build.specs.Topology.{is_overlap, at_port}
 use Rattle.lsdb_build.proofs.FirstPlaces.{left_on, first_met, none_met, list_any-reverse, reverse_more}
 use Rattle.lsdb_build.proofs.overlaps.refuse_overlap.Goals as goal
@@ -21,8 +21,8 @@ loop-i-preserved c =
     let more = HasSubnet c.note.new.self.by_prefix in
     let old = HasPrefixes c.loop-i.enclosing.by_prefix in
     let new = HasPrefixes c.note_prefixes.new.enclosing.by_prefix in
-    let here : more p = subst (λ (s : Subnet). IsNoted c.note.new.self.by_prefix p.router s) c.subnet_of.ensures
-    (subst (λ (q : Port). IsNoted c.note.new.self.by_prefix q.router c.subnet_of.result) c.port.view_is c.in_ok-note.ensures.noted) in
+    let here : more p = subst (λ (s : Subnet). IsOwnerNoted c.note.new.self.by_prefix p.router s) c.subnet_of.ensures
+    (subst (λ (q : Port). IsOwnerNoted c.note.new.self.by_prefix q.router c.subnet_of.result) c.port.view_is c.in_ok-note.ensures.noted) in
     let fails : is_overlap before p ≡ false = elim c.else-may_overlap.branch [
       | else-may_overlap-via-then-may_overlap+else-is_overlap w ↦ list_any-reverse _ (take i ports) ∙ sym w.is_overlap.ensures ∙ w.if-is_overlap.false
       | else-may_overlap-via-else-may_overlap w ↦ false_from_ne_true (is_overlap before p)

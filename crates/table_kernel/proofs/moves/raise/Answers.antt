@@ -7,7 +7,7 @@ use Rattle.integer_pivots.specs.declared.line.Line.{Line}
 use Rattle.integer_pivots.specs.Lines.{no_line}
 use Rattle.integer_pivots.proofs.Sizes.{read, read_number}
 use Rattle.integer_pivots.proofs.WrittenPlaces.{rest_more, written_more}
-use Rattle.table_kernel.specs.Moves.{raised_line, with_constant}
+use Rattle.table_kernel.specs.Moves.{raised_kernel_line, with_constant}
 use Rattle.table_kernel.proofs.Columns.{number_small}
 use Rattle.table_kernel.proofs.MoveReads.{IsReadRight, raised_read}
 use Rattle.table_kernel.proofs.moves.raise.Goals.{After-as_slice}
@@ -58,13 +58,13 @@ loop-var-preserved c =
     let i_in : i < length c.loop-var.lines = omega (arith, inside a, v.count) in
     let z = read ((read (slice_index_or c.loop-var.lines i c.index-lines-var-in-loop-var.result).constant)
     +ℤ read (read c.args.fall *ℤ read (slice_index_or c.as_slice.result.now c.args.column (pos 0)))) in
-    let here : with_constant (slice_index_or c.loop-var.lines i c.index-lines-var-in-loop-var-2.result) z ≡ raised_line c.args.column (read c.args.fall) (old a) =
+    let here : with_constant (slice_index_or c.loop-var.lines i c.index-lines-var-in-loop-var-2.result) z ≡ raised_kernel_line c.args.column (read c.args.fall) (old a) =
     ap (λ (line : Line). with_constant line z) (there a c.index-lines-var-in-loop-var-2.result)
     ∙ ap (with_constant (old a)) ((right a c.index-lines-var-in-loop-var.result).value
     ∙ ap (λ (y : ℤ). (old a).constant +ℤ (y *ℤ number_at (old a).numbers c.args.column)) (sym f)) in
     record {
       count = length-set c.loop-var.lines i _ ∙ v.count;
-      done = written_more (λ u line. line ≡ raised_line c.args.column (read c.args.fall) (slice_index_or c.args.lines.now u no_line)) no_line
+      done = written_more (λ u line. line ≡ raised_kernel_line c.args.column (read c.args.fall) (slice_index_or c.args.lines.now u no_line)) no_line
           c.loop-var.lines i _ i_in v.done here;
       rest = rest_more no_line c.args.lines.now c.loop-var.lines i _ v.rest;
     }
@@ -73,10 +73,10 @@ pub returns : goal.returns
 returns c =
     let v = c.loop-var.invariant in
     let f = read_number c.args.fall (omega (arith, c.requires.fall)) in
-    ext_get_or no_line c.loop-var.lines (map (raised_line c.args.column c.args.fall) c.args.lines.now)
-    (v.count ∙ sym (length-map c.args.lines.now (raised_line c.args.column c.args.fall)))
+    ext_get_or no_line c.loop-var.lines (map (raised_kernel_line c.args.column c.args.fall) c.args.lines.now)
+    (v.count ∙ sym (length-map c.args.lines.now (raised_kernel_line c.args.column c.args.fall)))
     (λ u u_in. (
     let there : u < length c.args.lines.now = omega (arith, u_in, v.count) in
     v.done u (omega (arith, u_in, c.loop-var-test.false, v.count, c.loop-var.auto.var-end))
-    ∙ ap (λ (y : ℤ). raised_line c.args.column y (slice_index_or c.args.lines.now u no_line)) f
-    ∙ sym (get_or-map (raised_line c.args.column c.args.fall) c.args.lines.now u no_line no_line there)))
+    ∙ ap (λ (y : ℤ). raised_kernel_line c.args.column y (slice_index_or c.args.lines.now u no_line)) f
+    ∙ sym (get_or-map (raised_kernel_line c.args.column c.args.fall) c.args.lines.now u no_line no_line there)))

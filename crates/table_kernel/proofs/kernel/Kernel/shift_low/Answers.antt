@@ -8,7 +8,7 @@ use Rattle.integer_pivots.specs.declared.line.Line.{Line}
 use Rattle.integer_pivots.specs.Lines.{no_line}
 use Rattle.integer_pivots.proofs.Sizes.{read, read_number, size_most}
 use Rattle.integer_pivots.proofs.WrittenPlaces.{written}
-use Rattle.table_kernel.specs.Moves.{raised_line, with_constant}
+use Rattle.table_kernel.specs.Moves.{raised_kernel_line, with_constant}
 use Rattle.table_kernel.specs.Turns.{line_of}
 use Rattle.table_kernel.proofs.MoveReads.{IsReadRight, lowered_read}
 use Rattle.table_kernel.proofs.Shares.{constants_short}
@@ -76,18 +76,18 @@ returns-in-None-clause-shifted c =
 
 -- the lines that rose are written, and then the variable's own
 own_put : (n : ℕ) (olds lent news : List Line) (column v : ℕ) (fall seen : ℤ) (x : Line) → n ≡ length olds → lent ≡ olds → seen ≡ fall →
-    news ≡ map (raised_line column seen) lent → v < length olds → x ≡ slice_index_or (take n (news ++ drop (length news) olds)) v x →
+    news ≡ map (raised_kernel_line column seen) lent → v < length olds → x ≡ slice_index_or (take n (news ++ drop (length news) olds)) v x →
     slice_set (take n (news ++ drop (length news) olds)) v (with_constant x (pos 0))
-    ≡ slice_set (map (raised_line column fall) olds) v (with_constant (slice_index_or olds v no_line) (pos 0))
+    ≡ slice_set (map (raised_kernel_line column fall) olds) v (with_constant (slice_index_or olds v no_line) (pos 0))
 own_put n olds lent news column v fall seen x counted same read_is rose v_in x_is =
-    let all : news ≡ map (raised_line column fall) olds =
-    rose ∙ ap (λ (z : ℤ). map (raised_line column z) lent) read_is ∙ ap (map (raised_line column fall)) same in
-    let whole : take n (news ++ drop (length news) olds) ≡ map (raised_line column fall) olds =
-    written n news olds (ap length all ∙ length-map olds (raised_line column fall)) counted ∙ all in
-    let own : x ≡ raised_line column fall (slice_index_or olds v no_line) =
-    x_is ∙ ap (λ (lines : List Line). slice_index_or lines v x) whole ∙ get_or-map (raised_line column fall) olds v no_line x v_in in
+    let all : news ≡ map (raised_kernel_line column fall) olds =
+    rose ∙ ap (λ (z : ℤ). map (raised_kernel_line column z) lent) read_is ∙ ap (map (raised_kernel_line column fall)) same in
+    let whole : take n (news ++ drop (length news) olds) ≡ map (raised_kernel_line column fall) olds =
+    written n news olds (ap length all ∙ length-map olds (raised_kernel_line column fall)) counted ∙ all in
+    let own : x ≡ raised_kernel_line column fall (slice_index_or olds v no_line) =
+    x_is ∙ ap (λ (lines : List Line). slice_index_or lines v x) whole ∙ get_or-map (raised_kernel_line column fall) olds v no_line x v_in in
     ap (λ (lines : List Line). slice_set lines v (with_constant x (pos 0))) whole
-    ∙ ap (λ (line : Line). slice_set (map (raised_line column fall) olds) v (with_constant line (pos 0))) own
+    ∙ ap (λ (line : Line). slice_set (map (raised_kernel_line column fall) olds) v (with_constant line (pos 0))) own
 
 pub returns-in-Some-clause-shifted : goal.returns-in-Some-clause-shifted
 returns-in-Some-clause-shifted c =
