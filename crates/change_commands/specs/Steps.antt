@@ -28,7 +28,7 @@ use Rattle.report_writer.specs.Texts.{rejected_line}
 use Rattle.change_commands.specs.declared.plan.LineFault.{LineFault}
 use Rattle.change_commands.specs.Plans.{Plan, first_line_fault, moves_of, number_of_line, rollout_of}
 
--- the names of a link: its router and its interface
+-- the name of the router that a link leaves
 abbrev pub link_router : Database → ℕ → List ℕ
 link_router d l = name_of (slice_get d.links l)
   where
@@ -36,6 +36,7 @@ link_router d l = name_of (slice_get d.links l)
     name_of None = []
     name_of (Some link) = slice_index_or d.routers link.router []
 
+-- the name of the interface by which a link leaves its router
 abbrev pub link_interface : Database → ℕ → List ℕ
 link_interface d l = name_of (slice_get d.links l)
   where

@@ -35,16 +35,19 @@ kind_of_step r held k =
     if list_all (rises_off_held r held) (lines_of_step r.moves k) then First
     else (if list_all (falls_off_held r held) (lines_of_step r.moves k) then Last else Between)
 
+-- whether a step of that kind is tried before all others
 abbrev pub comes_first : Kind → Bool
 comes_first First = true
 comes_first Between = false
 comes_first Last = false
 
+-- whether a step of that kind is tried behind the first and before the last ones
 abbrev pub comes_between : Kind → Bool
 comes_between First = false
 comes_between Between = true
 comes_between Last = false
 
+-- whether a step of that kind is tried behind all others
 abbrev pub comes_last : Kind → Bool
 comes_last First = false
 comes_last Between = false

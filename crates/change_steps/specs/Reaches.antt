@@ -33,6 +33,7 @@ edges_of_step r k = filter (λ e. has_price (lines_of_step r.moves k) (edge_at r
 abbrev pub least_cost : CostMoves → ℕ → ℕ
 least_cost m v = cond (nat_lt (slice_index m.present v) (slice_index m.wanted v)) (slice_index m.present v) (slice_index m.wanted v)
 
+-- the least cost of each variable in any state
 unfoldable pub least_costs : CostMoves → List ℕ
 least_costs m = map (least_cost m) (numbers_from 0 (length m.present))
 

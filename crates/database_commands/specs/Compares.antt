@@ -38,11 +38,12 @@ differences_of c = difference_lines (routers_of c.input.files) c.input.database 
 abbrev pub router_named : Database → ℕ → List ℕ
 router_named d router = slice_index_or d.routers router []
 
--- the names of a link's router and of its interface
+-- the name of a link's router
 abbrev pub router_of_linked : Database → Option Linked → List ℕ
 router_of_linked d None = []
 router_of_linked d (Some link) = router_named d link.router
 
+-- the name of a link's interface
 abbrev pub interface_of_linked : Option Linked → List ℕ
 interface_of_linked None = []
 interface_of_linked (Some link) = link.interface

@@ -19,14 +19,15 @@ abbrev pub payments_of : Area → Bool → List ℕ → List Payment
 payments_of g by_rival [] = []
 payments_of g by_rival (e ∷ es) = payment_of by_rival (edge_at g e).price ++ payments_of g by_rival es
 
--- how often the rival, and how often the wanted path, pays a variable
+-- how often the rival pays a variable
 abbrev pub times_paid : List Payment → ℕ → ℕ
 times_paid ps v = count_by (λ p. p.by_rival && (p.var == v)) ps
 
+-- how often the wanted path pays a variable
 abbrev pub times_saved : List Payment → ℕ → ℕ
 times_saved ps v = count_by (λ p. not p.by_rival && (p.var == v)) ps
 
--- how much more often the rival pays it
+-- how much more often the rival pays a variable than the wanted path does
 abbrev pub balance_of : List Payment → ℕ → ℤ
 balance_of ps v = pos (times_paid ps v) -ℤ pos (times_saved ps v)
 

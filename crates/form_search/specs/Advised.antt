@@ -109,6 +109,7 @@ IsAskedNext IsHere Picks box (Ok (ByCosts w)) old new = new ≡ old
 IsAskedNext IsHere Picks box (Ok (ByEntry entry)) old new = AreReadyFor IsHere Picks box entry old new
 IsAskedNext IsHere Picks box (Err e) old new = new ≡ old
 
+-- the same of advisors by their rules: a pick is by what each would pick, and leaves it as its rules say
 abbrev pub AreAskedNext : {A V : Type 0} {X : V → Type 0} → ((rules : V) → Ghosts (X rules)) → (A → V) → (A → List ℕ) →
     (CostBox → Point → Type 0) → CostBox → Result Next OutOfMemory → List A → List A → Type 0
 AreAskedNext members rules state IsHere box result old new =
@@ -137,6 +138,7 @@ IsToldNext Tells next (Ok (Continue tree)) old new = IsToldOf Tells next old new
 IsToldNext Tells next (Ok (Break found)) old new = new ≡ old
 IsToldNext Tells next (Err e) old new = (new ≡ old) ⊎ IsToldOf Tells next old new
 
+-- the same of advisors by their rules: each that is told stands as its rules say
 abbrev pub AreToldNext : {A V : Type 0} {X : V → Type 0} → ((rules : V) → Ghosts (X rules)) → (A → V) → (A → List ℕ) →
     Next → Result (ControlFlow Found Growing) OutOfMemory → List A → List A → Type 0
 AreToldNext members rules state next result old new =

@@ -19,8 +19,8 @@ pub data Reading (A : Type 0) : Type 0 where
   Refused : Refusal → Reading A
   Ready : A → Reading A
 
--- one reading after another
 infixl 10 ◌>>=◌
+-- one reading after another: the second goes on with what the first one says
 abbrev pub ◌>>=◌ : {A B : Type 0} → Reading A → (A → Reading B) → Reading B
 (Take name most next) >>= f = Take name most (λ bytes. next bytes >>= f)
 (Refused r) >>= f = Refused r

@@ -55,10 +55,11 @@ lsa_read around place (Some members) = lsa_with place (head_of members) (inner (
 abbrev pub instances_of_values : ℕ → List Placed → Result (List Instance) ℕ
 instances_of_values around values = each_read (λ lsa. lsa ∷ []) (lsa_read around) values
 
--- whether a name is a dotted quad, and whether it is that of an area
+-- whether a member's name is a dotted quad
 abbrev pub is_quad : Member → Bool
 is_quad m = is_some (quad m.name)
 
+-- whether a member's name is that of an area, as a dotted quad (RFC 2328, C.2)
 abbrev pub names_area : ℕ → Member → Bool
 names_area area m = option_eq nat_eq (quad m.name) (Some area)
 

@@ -26,6 +26,7 @@ abbrev pub piece_size : Pieces → List ℕ → ℕ
 piece_size kind.Lines = line_size
 piece_size kind.Lsas = lsa_size
 
+-- how long the first piece of a report's text is: of LSAs an LSA, else a line
 abbrev pub size_of_piece : Text → List ℕ → ℕ
 size_of_piece (Made bytes) = line_size
 size_of_piece (Fixed text) = line_size
@@ -57,6 +58,7 @@ pub record IsCutShort {K : Type 0} (handed : K → K → List ℕ → Type 0) (b
   pub length : ℕ
   pub part : handed middle now (take length (take (size left) left))
 
+-- a text was handed over whole, or cut short by a fault
 abbrev pub IsPutInPieces : {K T E : Type 0} → (K → K → List ℕ → Type 0) → K → K → (List ℕ → ℕ) → List ℕ → Result T E → Type 0
 IsPutInPieces handed before now size text (Ok x) = ArePutOf handed before now size text []
 IsPutInPieces handed before now size text (Err e) = IsCutShort handed before now size text
