@@ -1,5 +1,5 @@
 -- A configuration with new costs: which lines are taken out, and where the new lines stand.
-use Rattle.std.specs.Prelude.{◌≡◌, ℕ, List, [], ◌∷◌, ◌++◌, ◌==◌, ◌&&◌, not, if◌then◌else◌, Bool, true, false, Option, Some, None, length, map, take, position, is_some, slice_index_or, codes}
+use Rattle.std.specs.Prelude.{◌≡◌, ◌≢◌, ◌≤◌, ℕ, List, [], ◌∷◌, ◌++◌, ◌==◌, ◌&&◌, not, if◌then◌else◌, Bool, true, false, Option, Some, None, length, map, take, position, is_some, slice_index_or, codes, All, AllPairs}
 use Rattle.std.specs.List.{concat, list_any}
 use Rattle.cost_base.specs.Lists.{numbers_from, same_bytes}
 use Rattle.text_lines.specs.Lines.{lines, words, grow, kind_of, is_head, ended}
@@ -19,6 +19,12 @@ use Rattle.config_writer.specs.declared.RewriteStop.TheVariants.{NoInterface, Ou
 -- interfaces with their new costs
 abbrev pub costs_of : List CostLine → List (List ℕ × ℕ)
 costs_of costs = map (λ line. (line.interface, line.cost)) costs
+
+-- new costs of interfaces of a router, from 1 on, and of none of them twice
+pub record AreNewCosts (router : List ℕ) (costs : List CostLine) : Type 0 where
+  pub own : All (λ line. line.router ≡ router) costs
+  pub from : All (λ line. 1 ≤ line.cost) costs
+  pub apart : AllPairs (λ a b. a.interface ≢ b.interface) costs
 
 -- the new cost of the interface of a block
 abbrev pub new_cost : List (List ℕ × ℕ) → Block → Option ℕ

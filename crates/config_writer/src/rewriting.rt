@@ -1,12 +1,12 @@
 //! Rewriting a whole configuration.
-ghost use Rattle.std.specs.Prelude.{◌≡◌, ◌≢◌, ◌↔◌, ◌-◌, ◌^◌, ◌<◌, ◌≤◌, [], None, not, position, length, All, AllPairs, IfOk, IfErr, IsNone, IfSome};
+ghost use Rattle.std.specs.Prelude.{◌≡◌, ◌↔◌, ◌-◌, ◌^◌, ◌<◌, ◌≤◌, [], None, not, position, length, All, IfOk, IfErr, IsNone, IfSome};
 ghost use Rattle.std.specs.List.{list_any};
 ghost use Rattle.cost_base.specs.Lists.{same_bytes};
 ghost use Rattle.text_lines.specs.Lines as text;
 ghost use Rattle.text_lines.specs.Reading.{IsLineRead};
 ghost use Rattle.config_reader.specs.Configs.{config_of};
 ghost use Rattle.config_reader.specs.FaultList.{config_fault};
-ghost use Rattle.config_writer.specs.Rewriting.{costs_of, rewritten, headed, first_missing, TellsMissing, ReadsBack};
+ghost use Rattle.config_writer.specs.Rewriting.{AreNewCosts, costs_of, rewritten, headed, first_missing, TellsMissing, ReadsBack};
 
 use crate::RewriteStop;
 use crate::new_costs::NewCosts;
@@ -35,9 +35,7 @@ pub fn rewrite(
     requires few { length bytes.now < 2 ^ 32 - 1 }
     requires numbered { length lines.now < 2 ^ 32 }
     requires accepted { config_fault file_name.now bytes.now ≡ None }
-    requires router { All (λ line. line.router ≡ (config_of file_name.now bytes.now).name) lines.now }
-    requires from { All (λ line. 1 ≤ line.cost) lines.now }
-    requires apart { AllPairs (λ a b. a.interface ≢ b.interface) lines.now }
+    requires lines { AreNewCosts (config_of file_name.now bytes.now).name lines.now }
     ensures written { IfOk result (λ out. out.items ≡ rewritten (costs_of lines.now) bytes.now) }
     ensures headed { IfOk result (λ out. first_missing (costs_of lines.now) bytes.now ≡ None) }
     ensures read_back { IfOk result (λ out. ReadsBack file_name.now (costs_of lines.now) bytes.now out.items) }

@@ -11,7 +11,7 @@ use Rattle.design_problem.specs.Basis.{entry}
 use Rattle.fraction_rows.specs.TableRows.{AreTableNumbers, IsCrossStep, IsDivideStep, IsTableNumber, IsWideStep, Rises, crossed_by, divided_without, filled, fraction_at, nothing}
 use Rattle.fraction_rows.specs.TableRows.IsCrossStep.{product, difference}
 use Rattle.fraction_rows.specs.TableRows.IsDivideStep.{quotient}
-use Rattle.fraction_rows.specs.Entries.{AllNumbers, IsMade, IsPassing, IsQuotientStep, IsTermStep, crossed_at, divided_at}
+use Rattle.fraction_rows.specs.Entries.{AllNumbers, IsCrossingTooWide, IsDivisionTooWide, IsMade, IsQuotientStep, IsTermStep, crossed_at, divided_at}
 use Rattle.fraction_rows.proofs.ZeroFractions.{nothing_number}
 use Rattle.fraction_rows.proofs.Columns.{fraction_here, fraction_there, test_cases}
 
@@ -147,37 +147,35 @@ same_width c d v w es fs now other view other_view same =
 pub crossed_wide : {X : Type 0} (r : Result X Wide) (top : ℕ) (factor c t : Fraction) (w v : ℕ)
     (es ts olds others : List (ℕ × Fraction)) (now other : List Fraction) → v ≡ w → olds ≡ es → others ≡ ts →
     c ∷ filled w es ≡ now → t ∷ filled v ts ≡ other →
-    IfErr r (λ wide. (k : ℕ) × (k < w) × IsTermStep (fraction_at olds k) factor (fraction_at others k) wide) →
-    IfErr r (λ wide. IsPassing top wide) →
+    IfErr r (IsCrossingTooWide w top factor olds others) →
     IfErr r (λ wide. IsWideStep top (IsCrossStep factor now other) wide.step wide.left wide.right)
-crossed_wide (Ok x) top factor c t w v es ts olds others now other same olds_are others_are view other_view steps passes = tt
-crossed_wide (Err wide) top factor c t w v es ts olds others now other same olds_are others_are view other_view steps passes =
-    let k = steps.0 in
-    let k_in : k < w = steps.1 in
+crossed_wide (Ok x) top factor c t w v es ts olds others now other same olds_are others_are view other_view told = tt
+crossed_wide (Err wide) top factor c t w v es ts olds others now other same olds_are others_are view other_view told =
+    let k = told.column in
+    let k_in : k < w = told.within in
     let k_there : k < v = omega arith in
     let place_in : suc k < length now = omega (arith, width_is c w es now view) in (
       term_step factor (fraction_at olds k) (fraction_at others k) now other (suc k) wide place_in
           (ap (λ (l : List Fraction). entry l (suc k)) (sym view) ∙ row_entry c w es k k_in ∙ ap (λ (l : List (ℕ × Fraction)). fraction_at l k) (sym olds_are))
           (ap (λ (l : List Fraction). entry l (suc k)) (sym other_view) ∙ row_entry t v ts k k_there
           ∙ ap (λ (l : List (ℕ × Fraction)). fraction_at l k) (sym others_are))
-          steps.2,
-      passes,
+          told.step,
+      told.passes,
     )
 
 pub divided_wide : {X : Type 0} (r : Result X Wide) (top : ℕ) (divisor c : Fraction) (w : ℕ)
     (es olds : List (ℕ × Fraction)) (now : List Fraction) → olds ≡ es → c ∷ filled w es ≡ now →
-    IfErr r (λ wide. (k : ℕ) × (k < w) × IsQuotientStep (fraction_at olds k) divisor wide) →
-    IfErr r (λ wide. IsPassing top wide) →
+    IfErr r (IsDivisionTooWide w top divisor olds) →
     IfErr r (λ wide. IsWideStep top (IsDivideStep divisor now) wide.step wide.left wide.right)
-divided_wide (Ok x) top divisor c w es olds now olds_are view steps passes = tt
-divided_wide (Err wide) top divisor c w es olds now olds_are view steps passes =
-    let k = steps.0 in
-    let k_in : k < w = steps.1 in
+divided_wide (Ok x) top divisor c w es olds now olds_are view told = tt
+divided_wide (Err wide) top divisor c w es olds now olds_are view told =
+    let k = told.column in
+    let k_in : k < w = told.within in
     let place_in : suc k < length now = omega (arith, width_is c w es now view) in (
       quotient_step divisor (fraction_at olds k) now (suc k) wide place_in
           (ap (λ (l : List Fraction). entry l (suc k)) (sym view) ∙ row_entry c w es k k_in ∙ ap (λ (l : List (ℕ × Fraction)). fraction_at l k) (sym olds_are))
-          steps.2,
-      passes,
+          told.step,
+      told.passes,
     )
 
 -- the row of crossed lists, with each view as it is known

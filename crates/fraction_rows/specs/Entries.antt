@@ -1,5 +1,6 @@
 -- Words on lists of columns that the work on a row goes along.
-use Rattle.std.specs.Prelude.{◌≡◌, ◌≢◌, ◌⊎◌, ℕ, ◌==◌, ◌<◌, ◌≤◌, List, [], ◌∷◌, ◌++◌, length, pos, if◌then◌else◌, All, Any}
+use Rattle.std.specs.declared.alloc.Global.{Global}
+use Rattle.std.specs.Prelude.{◌≡◌, ◌≢◌, ◌⊎◌, ℕ, ◌==◌, ◌<◌, ◌≤◌, Vec, List, [], ◌∷◌, ◌++◌, length, pos, if◌then◌else◌, vec_capacity, All, Any}
 use Rattle.std.specs.List.{AllByRecursion}
 use Rattle.cost_base.specs.declared.StepName.TheVariants.{Sub, Mul, Div}
 use Rattle.whole_numbers.specs.Fractions.{Fraction, minus, times, divided, numbers_of_step}
@@ -39,6 +40,16 @@ IsQuotientStep value divisor wide = wide ≡ record { step = Div; left = value; 
 abbrev pub AllNumbers : ℕ → List (ℕ × Fraction) → Type 0
 AllNumbers top es = AllByRecursion (λ e. IsTableNumber top e.1) es
 
+-- the columns rise below the width, and each fraction is a number of the table
+pub record AreRowEntries (width top : ℕ) (es : List (ℕ × Fraction)) : Type 0 where
+  pub rises : Rises 0 width es
+  pub numbers : AllNumbers top es
+
+-- a row's columns and fractions, in a list with room for all columns
+pub record HasRowEntries (width top : ℕ) (es : Vec (ℕ × Fraction) Global) : Type 0 where
+  pub entries : AreRowEntries width top es.items
+  pub room : width ≤ vec_capacity es
+
 -- the new list has at each column what the target makes of the fractions that the two have there
 abbrev pub IsMade : ℕ → (ℕ → Fraction → Fraction → Fraction) → List (ℕ × Fraction) → List (ℕ × Fraction) → List (ℕ × Fraction) → Type 0
 IsMade width target first second new =
@@ -55,6 +66,20 @@ divided_at left_out divisor column value other = if column == left_out then noth
 -- the step makes a whole number that passes the top
 abbrev pub IsPassing : ℕ → Wide → Type 0
 IsPassing top wide = Any (λ n. top < n) (numbers_of_step wide.step wide.left wide.right)
+
+-- a step by which the two are crossed at some column makes a whole number that passes the top
+pub record IsCrossingTooWide (width top : ℕ) (factor : Fraction) (olds quotients : List (ℕ × Fraction)) (wide : Wide) : Type 0 where
+  pub column : ℕ
+  pub within : column < width
+  pub step : IsTermStep (fraction_at olds column) factor (fraction_at quotients column) wide
+  pub passes : IsPassing top wide
+
+-- the step by which some column is divided makes a whole number that passes the top
+pub record IsDivisionTooWide (width top : ℕ) (divisor : Fraction) (olds : List (ℕ × Fraction)) (wide : Wide) : Type 0 where
+  pub column : ℕ
+  pub within : column < width
+  pub step : IsQuotientStep (fraction_at olds column) divisor wide
+  pub passes : IsPassing top wide
 
 -- the columns rise, and none is 0
 abbrev pub AreRising : List (ℕ × Fraction) → Type 0

@@ -1,10 +1,11 @@
 -- The sum of a row's terms at a place.
-use Rattle.std.specs.Prelude.{◌≡◌, ◌⊎◌, ℕ, ◌<◌, List, [], ℤ, pos, length, take, slice_get, slice_index_or, fold, Some}
+use Rattle.std.specs.Prelude.{◌≡◌, ◌⊎◌, ℕ, ◌<◌, ◌≤◌, List, [], ℤ, pos, length, take, slice_get, slice_index_or, fold, Some}
 use Rattle.cost_base.specs.declared.StepName.TheVariants.{Add, Mul}
 use Rattle.whole_numbers.specs.Fractions.{Fraction, plus, times, whole}
 use Rattle.wide_fraction.specs.declared.steps.Wide.{Wide}
 use Rattle.design_problem.specs.Basis.{entry}
 use Rattle.design_problem.specs.Steps.{terms}
+use Rattle.fraction_rows.specs.Turns.{AreTableRows}
 
 -- the steps by which a coefficient's term is put to a sum
 abbrev pub IsTermSum : Fraction → ℤ → Fraction → Wide → Type 0
@@ -26,6 +27,11 @@ pub data IsSumStep (start : Fraction) (cs : List ℤ) (lines : List (List Fracti
   sum : (k : ℕ) (next : Fraction) → slice_get (terms cs lines place) k ≡ Some next →
       wide ≡ record { step = Add; left = fold plus start (take k (terms cs lines place)); right = next } →
       IsSumStep start cs lines place wide
+
+-- the lines of so many variables at least, each of so many numbers of the table
+pub record AreVariableLines (top count variables : ℕ) (lines : List (List Fraction)) : Type 0 where
+  pub rows : AreTableRows top count lines
+  pub many : variables ≤ length lines
 
 -- a multiple of a line is put to a row, place by place
 abbrev pub ArePut : Fraction → List Fraction → List Fraction → List Fraction → Type 0

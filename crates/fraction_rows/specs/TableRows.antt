@@ -1,5 +1,5 @@
 -- A row of the table: its constant at place 0, and at each place after it the entry of a column.
-use Rattle.std.specs.Prelude.{◌≢◌, ℕ, suc, ◌<◌, ◌≤◌, ◌==◌, List, [], ◌∷◌, pos, map, length, if◌then◌else◌, Any}
+use Rattle.std.specs.Prelude.{◌≡◌, ◌≢◌, ℕ, suc, ◌<◌, ◌≤◌, ◌==◌, List, [], ◌∷◌, pos, map, length, if◌then◌else◌, Any}
 use Rattle.std.specs.List.{AllByRecursion}
 use Rattle.cost_base.specs.Lists.{numbers_from}
 use Rattle.cost_base.specs.declared.StepName.{StepName}
@@ -20,6 +20,11 @@ pub record IsTableNumber (top : ℕ) (q : Fraction) : Type 0 where
 -- each fraction of a row is a number of the table
 abbrev pub AreTableNumbers : ℕ → List Fraction → Type 0
 AreTableNumbers top qs = AllByRecursion (IsTableNumber top) qs
+
+-- a row of so many numbers of the table
+pub record IsTableRow (top count : ℕ) (qs : List Fraction) : Type 0 where
+  pub counted : length qs ≡ count
+  pub numbers : AreTableNumbers top qs
 
 -- the fraction that a list of pairs gives a column, and 0 where it gives none
 abbrev pub fraction_at : List (ℕ × Fraction) → ℕ → Fraction

@@ -1,10 +1,10 @@
 -- How a pivot turns one row of the table.
-use Rattle.std.specs.Prelude.{◌≡◌, ℕ, zero, suc, ◌<◌, List, [], ◌∷◌, ℤ, pos, negsuc, length, slice_index_or, slice_set}
+use Rattle.std.specs.Prelude.{◌≡◌, ◌≢◌, ℕ, zero, suc, ◌<◌, List, [], ◌∷◌, ℤ, pos, negsuc, length, slice_index_or, slice_set}
 use Rattle.cost_base.specs.declared.StepName.{StepName}
 use Rattle.cost_base.specs.declared.StepName.TheVariants.{Div, Mul}
-use Rattle.whole_numbers.specs.Fractions.{Fraction, times, whole}
+use Rattle.whole_numbers.specs.Fractions.{Fraction, divided, times, whole}
 use Rattle.design_problem.specs.Basis.{entry}
-use Rattle.fraction_rows.specs.TableRows.{AreTableNumbers, IsCrossStep, IsDivideStep, IsWideStep, crossed_by}
+use Rattle.fraction_rows.specs.TableRows.{AreTableNumbers, IsCrossStep, IsDivideStep, IsTableNumber, IsTableRow, IsWideStep, crossed_by, divided_without, nothing}
 
 -- one list where a number is 0, and another where it isn't
 abbrev pub unless_none : ℤ → List Fraction → List Fraction → List Fraction
@@ -27,6 +27,21 @@ pub data IsTurnStep (fs ts : List Fraction) (place : ℕ) (inverse : Fraction) :
 pub data IsQuotientStepOf (rs : List Fraction) (place : ℕ) : StepName → Fraction → Fraction → Type 0 where
   dividing : (step : StepName) (left right : Fraction) → IsDivideStep (entry rs place) rs step left right → IsQuotientStepOf rs place step left right
   inverting : IsQuotientStepOf rs place Div (whole (pos 1)) (entry rs place)
+
+-- The quotients of a pivot's row by its entry at the place, with 0 there, and the inverse of that entry.
+pub record IsPivotDivided (top place : ℕ) (rs quotients : List Fraction) (inverse : Fraction) : Type 0 where
+  pub row_is : quotients ≡ divided_without place (entry rs place) rs 0
+  pub numbers : AreTableNumbers top quotients
+  pub inverse_is : inverse ≡ divided (whole (pos 1)) (entry rs place)
+  pub inverse_number : IsTableNumber top inverse
+
+-- Quotients with 0 at the place and an inverse that isn't 0, by which a pivot turns rows of so many numbers.
+pub record TurnsRows (top count place : ℕ) (quotients : List Fraction) (inverse : Fraction) : Type 0 where
+  pub place_in : place < count
+  pub row : IsTableRow top count quotients
+  pub none_there : entry quotients place ≡ nothing
+  pub inverse_number : IsTableNumber top inverse
+  pub not_zero : inverse.numerator ≢ pos 0
 
 -- rows of one length, of numbers of the table
 abbrev pub AreTableRows : ℕ → ℕ → List (List Fraction) → Type 0

@@ -2,11 +2,21 @@
 ghost use Rattle.std.specs.Prelude.{◌≡◌, ◌≢◌, ℕ, ◌<◌, ◌≤◌, [], length, map, min, nat_abs, pos, ◌-ℤ◌, ◌*ℤ◌, vec_len, IfOk, IfErr, IfSome, OnOk};
 ghost use Rattle.std.specs.Vec.{vec_capacity};
 ghost use Rattle.whole_numbers.specs.Fractions.{minus, times, whole};
-ghost use Rattle.fraction_rows.specs.TableRows.{IsTableNumber, Rises, fraction_at, nothing};
-ghost use Rattle.fraction_rows.specs.Entries.{AllNumbers, AreRising, IsHalfOf, IsMade, IsPassing, IsPlaceOf, IsPutAtEnd, IsQuotientStep, IsTermStep, after_column};
+ghost use Rattle.fraction_rows.specs.TableRows.{IsTableNumber, fraction_at, nothing};
+ghost use Rattle.fraction_rows.specs.Entries.{AreRising, AreRowEntries, HasRowEntries, IsCrossingTooWide, IsDivisionTooWide, IsHalfOf, IsMade};
+ghost use Rattle.fraction_rows.specs.Entries.{IsPassing, IsPlaceOf, IsPutAtEnd, IsQuotientStep, IsTermStep, after_column};
 ghost use Rattle.fraction_rows.specs.Entries.{crossed_at, divided_at, head_column, head_fraction, replaced};
 
 use wide_fraction::{Frac, Top, Wide, div, mul, sub};
+
+/// How far a row goes: its columns are below the width, and its numbers are within the top.
+#[derive(Clone, Copy)]
+pub struct Extent {
+    /// How many columns a row has.
+    pub width: u32,
+    /// The greatest size of a whole number of a step.
+    pub top: Top,
+}
 
 /// Puts a fraction at the end, unless it is 0. There is room for it.
 pub fn put_entry(entries: &mut Vec<(u32, Frac)>, column: u32, value: Frac)
@@ -146,25 +156,20 @@ pub fn cross_entries(
     olds: &[(u32, Frac)],
     factor: Frac,
     quotients: &[(u32, Frac)],
-    width: u32,
+    extent: Extent,
     made: &mut Vec<(u32, Frac)>,
-    top: Top,
 ) -> Result<(), Wide>
-    requires olds { Rises 0 width olds.now }
-    requires quotients { Rises 0 width quotients.now }
-    requires old_numbers { AllNumbers top olds.now }
-    requires quotient_numbers { AllNumbers top quotients.now }
-    requires factor { IsTableNumber top factor }
+    requires olds { AreRowEntries extent.width extent.top olds.now }
+    requires quotients { AreRowEntries extent.width extent.top quotients.now }
+    requires factor { IsTableNumber extent.top factor }
     requires empty { made.old.items ≡ [] }
-    requires room { width ≤ vec_capacity made.old }
-    ensures made { OnOk result (IsMade width (crossed_at factor) olds.now quotients.now made.new.items) }
-    ensures rises { Rises 0 width made.new.items }
-    ensures numbers { AllNumbers top made.new.items }
-    ensures room { width ≤ vec_capacity made.new }
-    ensures step { IfErr result (λ wide. (column : ℕ) × (column < width) ×
-        IsTermStep (fraction_at olds.now column) factor (fraction_at quotients.now column) wide) }
-    ensures passes { IfErr result (λ wide. IsPassing top wide) }
+    requires room { extent.width ≤ vec_capacity made.old }
+    ensures made { OnOk result (IsMade extent.width (crossed_at factor) olds.now quotients.now made.new.items) }
+    ensures entries { HasRowEntries extent.width extent.top made.new }
+    ensures wide { IfErr result (IsCrossingTooWide extent.width extent.top factor olds.now quotients.now) }
 {
+    let width = extent.width;
+    let top = extent.top;
     let mut olds_left = olds;
     let mut quotients_left = quotients;
     'columns: loop {
@@ -213,23 +218,20 @@ pub fn divide_entries(
     olds: &[(u32, Frac)],
     divisor: Frac,
     left_out: u32,
-    width: u32,
+    extent: Extent,
     made: &mut Vec<(u32, Frac)>,
-    top: Top,
 ) -> Result<(), Wide>
-    requires olds { Rises 0 width olds.now }
-    requires old_numbers { AllNumbers top olds.now }
-    requires divisor { IsTableNumber top divisor }
+    requires olds { AreRowEntries extent.width extent.top olds.now }
+    requires divisor { IsTableNumber extent.top divisor }
     requires not_zero { divisor.numerator ≢ pos 0 }
     requires empty { made.old.items ≡ [] }
-    requires room { width ≤ vec_capacity made.old }
-    ensures made { OnOk result (IsMade width (divided_at left_out divisor) olds.now [] made.new.items) }
-    ensures rises { Rises 0 width made.new.items }
-    ensures numbers { AllNumbers top made.new.items }
-    ensures room { width ≤ vec_capacity made.new }
-    ensures step { IfErr result (λ wide. (column : ℕ) × (column < width) × IsQuotientStep (fraction_at olds.now column) divisor wide) }
-    ensures passes { IfErr result (λ wide. IsPassing top wide) }
+    requires room { extent.width ≤ vec_capacity made.old }
+    ensures made { OnOk result (IsMade extent.width (divided_at left_out divisor) olds.now [] made.new.items) }
+    ensures entries { HasRowEntries extent.width extent.top made.new }
+    ensures wide { IfErr result (IsDivisionTooWide extent.width extent.top divisor olds.now) }
 {
+    let width = extent.width;
+    let top = extent.top;
     let mut left = olds;
     'columns: loop {
         let column = next_column(left, width);

@@ -2,11 +2,11 @@
 ghost use Rattle.std.specs.Prelude.{◌≡◌, ◌≢◌, ℕ, suc, true, ◌<◌, ◌≤◌, ◌-◌, ◌∷◌, length, pos, slice_set, IfOk, IfErr, OnOk};
 ghost use Rattle.whole_numbers.specs.Fractions.{IsLowest};
 ghost use Rattle.design_problem.specs.Basis.{entry};
-ghost use Rattle.fraction_rows.specs.TableRows.{AreTableNumbers, IsCrossStep, IsDivideStep, IsTableNumber, IsWideStep, Rises, crossed_by, divided_without, filled};
-ghost use Rattle.fraction_rows.specs.TableRows.{blank_row, nothing};
+ghost use Rattle.fraction_rows.specs.TableRows.{AreTableNumbers, IsCrossStep, IsDivideStep, IsTableNumber, IsTableRow, IsWideStep, Rises};
+ghost use Rattle.fraction_rows.specs.TableRows.{blank_row, crossed_by, divided_without, filled, nothing};
 
 use crate::entries::{
-    cross_entries, crossed, divide_entries, find_fraction, put_entry, replace_fraction,
+    Extent, cross_entries, crossed, divide_entries, find_fraction, put_entry, replace_fraction,
 };
 use crate::marks::{Marks, is_marked, marked, marks_of, no_marks};
 use cost_base::OutOfMemory;
@@ -158,10 +158,9 @@ impl TableRow {
         into: &mut TableRow,
         top: Top,
     ) -> Result<(), Wide>
-        requires quotients { length quotients.now ≡ length self.now }
+        requires quotients { IsTableRow top (length self.now) quotients.now }
         requires into { length into.old ≡ length self.now }
         requires numbers { AreTableNumbers top self.now }
-        requires quotient_numbers { AreTableNumbers top quotients.now }
         requires factor { IsTableNumber top factor }
         ensures crossed { OnOk result (into.new ≡ crossed_by factor self.now quotients.now) }
         ensures numbers { OnOk result (AreTableNumbers top into.new) }
@@ -174,9 +173,11 @@ impl TableRow {
             self.entries.as_slice(),
             factor,
             quotients.entries.as_slice(),
-            self.width,
+            Extent {
+                width: self.width,
+                top,
+            },
             &mut into.entries,
-            top,
         );
         into.marks = marks_of(into.entries.as_slice());
         made
@@ -210,9 +211,11 @@ impl TableRow {
             self.entries.as_slice(),
             divisor,
             left_out,
-            self.width,
+            Extent {
+                width: self.width,
+                top,
+            },
             &mut into.entries,
-            top,
         );
         into.marks = marks_of(into.entries.as_slice());
         made

@@ -3,8 +3,8 @@ ghost use Rattle.std.specs.Prelude.{◌≡◌, ℕ, ◌^◌, ◌<◌, ◌≤◌,
 ghost use Rattle.whole_numbers.specs.Fractions.{plus, times, whole};
 ghost use Rattle.design_problem.specs.Basis.{entry};
 ghost use Rattle.fraction_rows.specs.Entries.{IsPassing};
-ghost use Rattle.fraction_rows.specs.Sums.{ArePut, IsSumStep, IsTermSum, sum_of_terms};
-ghost use Rattle.fraction_rows.specs.TableRows.{AreTableNumbers, IsTableNumber};
+ghost use Rattle.fraction_rows.specs.Sums.{ArePut, AreVariableLines, IsSumStep, IsTermSum, sum_of_terms};
+ghost use Rattle.fraction_rows.specs.TableRows.{AreTableNumbers, IsTableNumber, IsTableRow};
 ghost use Rattle.fraction_rows.specs.Turns.{AreTableRows};
 
 use crate::row::TableRow;
@@ -83,10 +83,9 @@ fn put_line(
     scratch: &mut TableRow,
     top: Top,
 ) -> Result<(), Wide>
-    requires line { length line.now ≡ length row.old }
+    requires line { IsTableRow top (length row.old) line.now }
     requires scratch { length scratch.old ≡ length row.old }
     requires numbers { AreTableNumbers top row.old }
-    requires line_numbers { AreTableNumbers top line.now }
     requires small { nat_abs coefficient ≤ 2 ^ 26 }
     ensures sums { OnOk result (ArePut (whole coefficient) line.now row.old row.new) }
     ensures numbers { OnOk result (AreTableNumbers top row.new) }
@@ -113,8 +112,7 @@ pub fn sum_lines(
     top: Top,
 ) -> Result<(), Wide>
     requires small { All (λ c. nat_abs c ≤ 2 ^ 26) form.now.coefficients }
-    requires lines { AreTableRows top (length row.old) lines.now }
-    requires many { length form.now.coefficients ≤ length lines.now }
+    requires lines { AreVariableLines top (length row.old) (length form.now.coefficients) lines.now }
     requires scratch { length scratch.old ≡ length row.old }
     requires numbers { AreTableNumbers top row.old }
     ensures sums { OnOk result ((place : ℕ) → place < length row.old →

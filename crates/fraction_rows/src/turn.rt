@@ -1,13 +1,21 @@
 //! One row's part in a pivot.
 ghost use Rattle.std.specs.Prelude.{◌≡◌, ◌≢◌, suc, ◌<◌, length, map, pos, IfErr, IfOk, OnOk};
-ghost use Rattle.whole_numbers.specs.Fractions.{divided, whole};
 ghost use Rattle.design_problem.specs.Basis.{entry};
-ghost use Rattle.fraction_rows.specs.TableRows.{AreTableNumbers, IsTableNumber, IsWideStep, divided_without, nothing};
-ghost use Rattle.fraction_rows.specs.Turns.{AreTableRows, IsQuotientStepOf, IsTurnStep, TurnsWide, turned_by};
+ghost use Rattle.fraction_rows.specs.TableRows.{AreTableNumbers, IsWideStep};
+ghost use Rattle.fraction_rows.specs.Turns.{AreTableRows, IsPivotDivided, IsQuotientStepOf, IsTurnStep, TurnsRows, TurnsWide, turned_by};
 
 use crate::row::TableRow;
 use std::mem;
 use wide_fraction::{Frac, Top, Wide, div, mul};
+
+/// The pivot's column, and the inverse of the pivot's row's entry there.
+#[derive(Clone, Copy)]
+pub struct PivotColumn {
+    /// The column.
+    pub column: u32,
+    /// 1 over the entry there.
+    pub inverse: Frac,
+}
 
 /// Turns a row at the pivot's column, by the quotients of the pivot's row, which have 0 there, and the inverse of its
 /// entry there. The steps are taken by the places, the constant first, and the pivot's column last; none is taken
@@ -18,36 +26,30 @@ use wide_fraction::{Frac, Top, Wide, div, mul};
 /// `Wide` where one of these steps makes a whole number that passes `top`. Then the row is as before.
 pub fn turn_row(
     row: &mut TableRow,
-    column: u32,
+    pivot: &PivotColumn,
     quotients: &TableRow,
-    inverse: Frac,
     scratch: &mut TableRow,
     top: Top,
 ) -> Result<(), Wide>
-    requires column { suc column < length row.old }
-    requires quotients { length quotients.now ≡ length row.old }
+    requires pivot { TurnsRows top (length row.old) (suc pivot.now.column) quotients.now pivot.now.inverse }
     requires scratch { length scratch.old ≡ length row.old }
     requires numbers { AreTableNumbers top row.old }
-    requires quotient_numbers { AreTableNumbers top quotients.now }
-    requires none_there { entry quotients.now (suc column) ≡ nothing }
-    requires inverse { IsTableNumber top inverse }
-    requires not_zero { inverse.numerator ≢ pos 0 }
-    ensures turned { OnOk result (row.new ≡ turned_by row.old quotients.now (suc column) inverse) }
+    ensures turned { OnOk result (row.new ≡ turned_by row.old quotients.now (suc pivot.now.column) pivot.now.inverse) }
     ensures numbers { OnOk result (AreTableNumbers top row.new) }
     ensures width { length row.new ≡ length row.old }
     ensures scratch_width { length scratch.new ≡ length scratch.old }
-    ensures wide { IfErr result (λ wide. IsWideStep top (IsTurnStep row.old quotients.now (suc column) inverse) wide.step wide.left wide.right) }
+    ensures wide { IfErr result (λ wide. IsWideStep top (IsTurnStep row.old quotients.now (suc pivot.now.column) pivot.now.inverse) wide.step wide.left wide.right) }
 {
-    if row.lacks(column) {
+    if row.lacks(pivot.column) {
         return Ok(());
     }
-    let own = row.entry(column);
+    let own = row.entry(pivot.column);
     if own.is_zero() {
         return Ok(());
     }
     row.cross(own, quotients, scratch, top)?;
-    let entered = mul(own, inverse, top)?;
-    scratch.replace(column, entered);
+    let entered = mul(own, pivot.inverse, top)?;
+    scratch.replace(pivot.column, entered);
     mem::swap(row, scratch);
     Ok(())
 }
@@ -68,10 +70,7 @@ pub fn take_quotients(
     requires width { length quotients.old ≡ length row.now }
     requires numbers { AreTableNumbers top row.now }
     requires not_zero { (entry row.now (suc column)).numerator ≢ pos 0 }
-    ensures quotients { OnOk result (quotients.new ≡ divided_without (suc column) (entry row.now (suc column)) row.now 0) }
-    ensures quotient_numbers { OnOk result (AreTableNumbers top quotients.new) }
-    ensures inverse { IfOk result (λ inverse. inverse ≡ divided (whole (pos 1)) (entry row.now (suc column))) }
-    ensures number { IfOk result (λ inverse. IsTableNumber top inverse) }
+    ensures divided { IfOk result (IsPivotDivided top (suc column) row.now quotients.new) }
     ensures width { length quotients.new ≡ length quotients.old }
     ensures wide { IfErr result (λ wide. IsWideStep top (IsQuotientStepOf row.now (suc column)) wide.step wide.left wide.right) }
 {
@@ -87,26 +86,21 @@ pub fn take_quotients(
 /// `Wide` where a step of some row makes a whole number that passes `top`.
 pub fn turn_rows(
     rows: &mut [TableRow],
-    column: u32,
+    pivot: &PivotColumn,
     quotients: &TableRow,
-    inverse: Frac,
     scratch: &mut TableRow,
     top: Top,
 ) -> Result<(), Wide>
-    requires column { suc column < length quotients.now }
+    requires pivot { TurnsRows top (length quotients.now) (suc pivot.now.column) quotients.now pivot.now.inverse }
     requires rows { AreTableRows top (length quotients.now) rows.old }
     requires scratch { length scratch.old ≡ length quotients.now }
-    requires quotient_numbers { AreTableNumbers top quotients.now }
-    requires none_there { entry quotients.now (suc column) ≡ nothing }
-    requires inverse { IsTableNumber top inverse }
-    requires not_zero { inverse.numerator ≢ pos 0 }
-    ensures turned { OnOk result (rows.new ≡ map (λ fs. turned_by fs quotients.now (suc column) inverse) rows.old) }
+    ensures turned { OnOk result (rows.new ≡ map (λ fs. turned_by fs quotients.now (suc pivot.now.column) pivot.now.inverse) rows.old) }
     ensures numbers { OnOk result (AreTableRows top (length quotients.now) rows.new) }
     ensures scratch_width { length scratch.new ≡ length scratch.old }
-    ensures wide { IfErr result (λ wide. TurnsWide top rows.old quotients.now (suc column) inverse wide.step wide.left wide.right) }
+    ensures wide { IfErr result (λ wide. TurnsWide top rows.old quotients.now (suc pivot.now.column) pivot.now.inverse wide.step wide.left wide.right) }
 {
     for row in rows.iter_mut() {
-        turn_row(row, column, quotients, inverse, scratch, top)?;
+        turn_row(row, pivot, quotients, scratch, top)?;
     }
     Ok(())
 }

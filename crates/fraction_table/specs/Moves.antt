@@ -15,6 +15,11 @@ use Rattle.fraction_rows.specs.Turns.{AreTableRows}
 use Rattle.fraction_table.specs.Tableaus.{IsShiftStep, Shift, moved_basis}
 use Rattle.fraction_table.specs.ValidTables.{HasRoom, members_of_box}
 
+-- the box has so many lower bounds, and as many upper ones
+pub record HasBoundCounts (count : ℕ) (costs : CostBox) : Type 0 where
+  pub low_count : length costs.low ≡ count
+  pub high_count : length costs.high ≡ count
+
 -- a form that is less by a number
 abbrev pub fallen : Form → ℤ → Form
 fallen f fall = record { constant = f.constant -ℤ fall; coefficients = f.coefficients }

@@ -53,6 +53,12 @@ numbers_of_line t w line = numbers_of_form (length t.costs.low) w.unboxed.common
 abbrev pub IsLeastIn : Table → ℕ → ℕ → Type 0
 IsLeastIn t line column = (w : IsTableau t) → IsLeastColumn (length t.costs.low) w.unboxed.lows (numbers_of_line t w line) column
 
+-- a pivot on a line of the table, at a column that is the least for the line's form
+pub record IsLeastPivot (t : Table) (line column : ℕ) : Type 0 where
+  pub line_in : line < length t.lines.items
+  pub pivot : IsPivot t.basis.items (line_at t line) (suc column)
+  pub least : IsLeastIn t line column
+
 -- the two tables are of one box and of the same rows
 pub record KeepsBoxAndRows (old new : Table) : Type 0 where
   pub top : new.top ≡ old.top

@@ -9,7 +9,8 @@ use Rattle.design_problem.specs.Steps.{start_of_sum}
 use Rattle.fraction_table.specs.declared.table.Table.{Table}
 use Rattle.fraction_rows.specs.Entries.{IsPassing}
 use Rattle.fraction_rows.specs.Sums.{IsSumStep, sum_of_terms}
-use Rattle.fraction_rows.specs.TableRows.{AreTableNumbers}
+use Rattle.fraction_rows.specs.TableRows.{AreTableNumbers, blank_row}
+use Rattle.fraction_table.specs.Tableaus.{FitsBox}
 
 -- the sum of the form's terms at a place, by the lines of x - low for each variable
 abbrev pub sum_at_place : CostBox → Form → List (List Fraction) → ℕ → Fraction
@@ -20,6 +21,11 @@ pub record IsAddedLine (top : ℕ) (costs : CostBox) (form : Form) (lines : List
   pub long : length line ≡ suc (length costs.low)
   pub sums : (place : ℕ) → place < suc (length costs.low) → entry line place ≡ sum_at_place costs form lines place
   pub numbers : AreTableNumbers top line
+
+-- a form that fits the box, with a line of zeros
+pub record IsBlankRow (costs : CostBox) (form : Form) (line : List Fraction) : Type 0 where
+  pub fits : FitsBox costs form
+  pub blank : line ≡ blank_row (length costs.low)
 
 -- a step of the form's sum at some place makes a whole number that passes the top
 pub record IsRowStep (top : ℕ) (costs : CostBox) (form : Form) (lines : List (List Fraction)) (wide : Wide) : Type 0 where

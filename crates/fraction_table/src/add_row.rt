@@ -2,7 +2,8 @@
 ghost use Rattle.std.specs.Prelude.{◌≡◌, suc, ◌^◌, ◌<◌, ◌≤◌, [], ◌∷◌, ◌++◌, ◌*ℤ◌, ◌+ℤ◌, ◌≤ℤ◌, length, nat_abs, pos, All, IfErr, IfOk, OnOk};
 ghost use Rattle.design_problem.specs.Forms.{value_for_costs};
 ghost use Rattle.design_problem.specs.Steps.{IsStepTooWide, start_of_sum};
-ghost use Rattle.fraction_table.specs.RowLines.{HasPlace, HoldsRow, HoldsSame, IsAddedLine, IsRowStep, sum_at_place};
+ghost use Rattle.fraction_table.specs.RowLines.{HasPlace, HoldsRow, HoldsSame, IsAddedLine, IsBlankRow, IsRowStep, sum_at_place};
+ghost use Rattle.fraction_rows.specs.Sums.{AreVariableLines};
 ghost use Rattle.fraction_rows.specs.TableRows.{IsTableNumber, blank_row};
 ghost use Rattle.fraction_table.specs.Tableaus.{FitsBox, wide_at};
 ghost use Rattle.fraction_rows.specs.Turns.{AreTableRows};
@@ -121,62 +122,58 @@ fn fill_in_order(
     Ok(())
 }
 
-/// Puts the form's line in place of a line of zeros, variable by variable. `scratch` is a line of the same width.
+/// Puts the line of the row's form in place of its line of zeros, variable by variable. `scratch` is a line of the same width.
 ///
 /// # Errors
 ///
 /// `Wide` where a step of one of the sums makes a whole number that passes `top`; which one is found first depends on
 /// the order.
 fn gather_line(
-    line: &mut TableRow,
-    form: &Form,
+    row: &mut BlankRow,
     costs: &CostBox,
     lines: &[TableRow],
     scratch: &mut TableRow,
     top: Top,
 ) -> Result<(), Wide>
-    requires fits { FitsBox costs.now form.now }
-    requires lines { AreTableRows top (suc (length costs.now.low)) lines.now }
-    requires many { length costs.now.low ≤ length lines.now }
-    requires blank { line.old ≡ blank_row (length costs.now.low) }
+    requires row { IsBlankRow costs.now row.old.form row.old.line }
+    requires lines { AreVariableLines top (suc (length costs.now.low)) (length costs.now.low) lines.now }
     requires scratch { length scratch.old ≡ suc (length costs.now.low) }
-    ensures line { OnOk result (IsAddedLine top costs.now form.now lines.now line.new) }
-    ensures width { length line.new ≡ length line.old }
+    ensures form { row.new.form ≡ row.old.form }
+    ensures line { OnOk result (IsAddedLine top costs.now row.old.form lines.now row.new.line) }
+    ensures width { length row.new.line ≡ length row.old.line }
     ensures scratch_width { length scratch.new ≡ length scratch.old }
 {
-    line.set_constant(start_at(form, costs, 0, top));
-    sum_lines(line, form, lines, scratch, top)
+    row.line.set_constant(start_at(&row.form, costs, 0, top));
+    sum_lines(&mut row.line, &row.form, lines, scratch, top)
 }
 
-/// Puts the form's line in place of a line of zeros. Where a step is too wide, the line is made in order, so that the
+/// Puts the line of the row's form in place of its line of zeros. Where a step is too wide, the line is made in order, so that the
 /// step that is named is the first one in that order. `scratch` is a line of the same width.
 ///
 /// # Errors
 ///
 /// `Wide` where a step of one of the sums makes a whole number that passes `top`.
 fn fill_line(
-    line: &mut TableRow,
-    form: &Form,
+    row: &mut BlankRow,
     costs: &CostBox,
     lines: &[TableRow],
     scratch: &mut TableRow,
     top: Top,
 ) -> Result<(), Wide>
-    requires fits { FitsBox costs.now form.now }
+    requires row { IsBlankRow costs.now row.old.form row.old.line }
     requires few { length costs.now.low < 2 ^ 32 }
-    requires lines { AreTableRows top (suc (length costs.now.low)) lines.now }
-    requires many { length costs.now.low ≤ length lines.now }
-    requires blank { line.old ≡ blank_row (length costs.now.low) }
+    requires lines { AreVariableLines top (suc (length costs.now.low)) (length costs.now.low) lines.now }
     requires scratch { length scratch.old ≡ suc (length costs.now.low) }
-    ensures line { OnOk result (IsAddedLine top costs.now form.now lines.now line.new) }
-    ensures wide { IfErr result (IsRowStep top costs.now form.now lines.now) }
+    ensures form { row.new.form ≡ row.old.form }
+    ensures line { OnOk result (IsAddedLine top costs.now row.old.form lines.now row.new.line) }
+    ensures wide { IfErr result (IsRowStep top costs.now row.old.form lines.now) }
     ensures scratch_width { length scratch.new ≡ length scratch.old }
 {
-    match gather_line(line, form, costs, lines, scratch, top) {
+    match gather_line(row, costs, lines, scratch, top) {
         Ok(()) => Ok(()),
         Err(_) => {
-            line.clear();
-            fill_in_order(line, form, costs, lines, top)
+            row.line.clear();
+            fill_in_order(&mut row.line, &row.form, costs, lines, top)
         }
     }
 }
@@ -216,10 +213,11 @@ impl Table {
         ensures whole { OnOk result (IsTableau self.new) }
         ensures wide { IfErr result (λ wide. IsStepTooWide self.new.top self.new.costs self.new.rows.items (wide_at wide self.new.basis.items)) }
     {
-        let BlankRow { form, mut line } = row;
+        let mut row = row;
         let lines = self.lines.as_slice();
         let scratch = &mut self.scratch;
-        let filled = fill_line(&mut line, &form, &self.costs, lines, scratch, self.top);
+        let filled = fill_line(&mut row, &self.costs, lines, scratch, self.top);
+        let BlankRow { form, line } = row;
         self.rows.push_reserved(form);
         self.lines.push_reserved(line);
         filled

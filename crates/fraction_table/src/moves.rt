@@ -1,6 +1,6 @@
 //! The move of a table to another box, bound by bound.
 ghost use Rattle.std.specs.Prelude.{◌≡◌, ℕ, suc, ◌^◌, ◌<◌, length, map, nat_abs, slice_set, IfErr, IfSome, OnErr, OnOk};
-ghost use Rattle.fraction_table.specs.Moves.{HasShape, IsColumnOf, IsMoved, IsRaiseStep, IsTableShifted, IsShiftedWide, IsWideShift, KeepsTableRows, RaisesWide};
+ghost use Rattle.fraction_table.specs.Moves.{HasBoundCounts, HasShape, IsColumnOf, IsMoved, IsRaiseStep, IsTableShifted, IsShiftedWide, IsWideShift, KeepsTableRows, RaisesWide};
 ghost use Rattle.fraction_table.specs.Moves.{ShiftsWide, high_shift_of, low_shift_of, put_at, raised_line, shifted_lines};
 ghost use Rattle.fraction_table.specs.Pivots.{KeepsBoxAndRows};
 ghost use Rattle.fraction_rows.specs.TableRows.{AreTableNumbers, IsTableNumber, IsWideStep};
@@ -229,8 +229,7 @@ impl Table {
     pub fn move_bounds(&mut self, costs: &CostBox) -> Result<(), Wide>
         requires unboxed { IsUnboxedTable self.old }
         requires room { HasRoom self.old }
-        requires low { length costs.now.low ≡ length self.old.costs.low }
-        requires high { length costs.now.high ≡ length self.old.costs.low }
+        requires bounds { HasBoundCounts (length self.old.costs.low) costs.now }
         ensures unboxed { OnOk result (IsUnboxedTable self.new) }
         ensures moved { OnOk result (IsMoved self.old costs.now self.new) }
         ensures shape { HasShape self.new }

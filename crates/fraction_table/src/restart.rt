@@ -12,7 +12,7 @@ ghost use Rattle.fraction_table.specs.Tableaus.{FitsBox, IsRebased, starting};
 ghost use Rattle.fraction_table.specs.ValidTables.{HasRoom, IsTableau, held_of, members_of_box, starting_line};
 
 use crate::add_row::corner_value;
-use crate::start::{put_unit_line, range_of};
+use crate::start::{UnitForm, put_unit_line, range_of};
 use crate::table::Table;
 use cost_base::Listed;
 use design_problem::{CostBox, Form, Member};
@@ -49,10 +49,22 @@ fn put_line(line: &mut TableRow, member: Member, costs: &CostBox, rows: &[Form],
     let low = costs.low.as_slice();
     let width = low.len() as u32;
     match member {
-        Member::Low(var, _) => put_unit_line(line, width, var, 0, 1, top),
+        Member::Low(var, _) => {
+            let form = UnitForm {
+                var,
+                constant: 0,
+                coefficient: 1,
+            };
+            put_unit_line(line, width, form, top);
+        }
         Member::High(var, bound) => {
             let range = range_of(low[var as usize], bound);
-            put_unit_line(line, width, var, range, -1, top);
+            let form = UnitForm {
+                var,
+                constant: range,
+                coefficient: -1,
+            };
+            put_unit_line(line, width, form, top);
         }
         Member::Row(row) => put_form_line(line, &rows[row as usize], costs, top),
     }

@@ -46,46 +46,43 @@ pub fn starting_basis(alloc: Global, low: &[u16]) -> Result<Vec<Member>, OutOfMe
     Ok(basis)
 }
 
+/// A form with one coefficient.
+#[derive(Clone, Copy)]
+pub struct UnitForm {
+    /// Its variable.
+    pub var: u32,
+    /// Its constant.
+    pub constant: i64,
+    /// The coefficient of its variable.
+    pub coefficient: i64,
+}
+
 /// Makes the line the starting one of a form with one coefficient: its constant there, and the coefficient in its
 /// column.
-pub fn put_unit_line(
-    line: &mut TableRow,
-    width: u32,
-    var: u32,
-    constant: i64,
-    coefficient: i64,
-    top: Top,
-)
+pub fn put_unit_line(line: &mut TableRow, width: u32, form: UnitForm, top: Top)
     requires width { length line.old ≡ suc width }
-    requires var { var < width }
-    requires constant_small { nat_abs constant < 2 ^ 27 }
-    requires coefficient_small { nat_abs coefficient < 2 ^ 27 }
-    ensures line { line.new ≡ whole constant ∷ map whole (unit width var coefficient) }
+    requires var { form.var < width }
+    requires constant_small { nat_abs form.constant < 2 ^ 27 }
+    requires coefficient_small { nat_abs form.coefficient < 2 ^ 27 }
+    ensures line { line.new ≡ whole form.constant ∷ map whole (unit width form.var form.coefficient) }
     ensures numbers { AreTableNumbers top line.new }
 {
     let _ = top.value();
     line.clear();
-    line.set_constant(Frac::whole(constant));
-    line.push(var, Frac::whole(coefficient));
+    line.set_constant(Frac::whole(form.constant));
+    line.push(form.var, Frac::whole(form.coefficient));
 }
 
 /// The starting line of a form with one coefficient: its constant there, and the coefficient in its column.
-fn bound_row(
-    alloc: Global,
-    width: u32,
-    var: u32,
-    constant: i64,
-    coefficient: i64,
-    top: Top,
-) -> Result<TableRow, OutOfMemory>
-    requires var { var < width }
-    requires constant_small { nat_abs constant < 2 ^ 27 }
-    requires coefficient_small { nat_abs coefficient < 2 ^ 27 }
-    ensures row { IfOk result (λ row. row ≡ whole constant ∷ map whole (unit width var coefficient)) }
+fn bound_row(alloc: Global, width: u32, form: UnitForm, top: Top) -> Result<TableRow, OutOfMemory>
+    requires var { form.var < width }
+    requires constant_small { nat_abs form.constant < 2 ^ 27 }
+    requires coefficient_small { nat_abs form.coefficient < 2 ^ 27 }
+    ensures row { IfOk result (λ row. row ≡ whole form.constant ∷ map whole (unit width form.var form.coefficient)) }
     ensures numbers { IfOk result (λ row. AreTableNumbers top row) }
 {
     let mut row = TableRow::zero(alloc, width)?;
-    put_unit_line(&mut row, width, var, constant, coefficient, top);
+    put_unit_line(&mut row, width, form, top);
     Ok(row)
 }
 
@@ -107,7 +104,12 @@ fn push_low_rows(
     ensures numbers { OnOk result (AreTableRows top (suc width) rows.new.items) }
 {
     for var in 0..width {
-        push_row(rows, bound_row(alloc, width, var, 0, 1, top)?)?;
+        let form = UnitForm {
+            var,
+            constant: 0,
+            coefficient: 1,
+        };
+        push_row(rows, bound_row(alloc, width, form, top)?)?;
     }
     Ok(())
 }
@@ -139,7 +141,12 @@ fn push_high_rows(
     let width = low.len() as u32;
     for var in 0..width {
         let range = range_of(low[var as usize], high[var as usize]);
-        push_row(rows, bound_row(alloc, width, var, range, -1, top)?)?;
+        let form = UnitForm {
+            var,
+            constant: range,
+            coefficient: -1,
+        };
+        push_row(rows, bound_row(alloc, width, form, top)?)?;
     }
     Ok(())
 }

@@ -1,13 +1,13 @@
 //! The table of a box and of rows at a basis.
-ghost use Rattle.std.specs.Prelude.{◌≡◌, ℕ, suc, ◌<◌, length, IfErr, OnOk};
-ghost use Rattle.design_problem.specs.Steps.{IsPivot, IsStepTooWide};
-ghost use Rattle.fraction_table.specs.Pivots.{IsLeastIn, KeepsBoxAndRows, line_at, member_at};
+ghost use Rattle.std.specs.Prelude.{◌≡◌, ◌<◌, length, IfErr, OnOk};
+ghost use Rattle.design_problem.specs.Steps.{IsStepTooWide};
+ghost use Rattle.fraction_table.specs.Pivots.{IsLeastPivot, KeepsBoxAndRows, member_at};
 ghost use Rattle.fraction_table.specs.Ranks.{rank};
 ghost use Rattle.fraction_table.specs.Tableaus.{wide_at};
 ghost use Rattle.fraction_table.specs.ValidTables.{HasRoom, IsTableau, members_of_box};
 
 use design_problem::{CostBox, Form, Member};
-use fraction_rows::{TableRow, take_quotients, turn_rows};
+use fraction_rows::{PivotColumn, TableRow, take_quotients, turn_rows};
 use wide_fraction::{Top, Wide};
 
 /// A box with the forms of rows, at a basis, and the entries of each form of the box over that basis: those of x - low
@@ -60,9 +60,7 @@ impl Table {
     pub fn pivot(&mut self, line: usize, column: u32) -> Result<(), Wide>
         requires whole { IsTableau self.old }
         requires room { HasRoom self.old }
-        requires line { line < length self.old.lines.items }
-        requires pivot { IsPivot self.old.basis.items (line_at self.old line) (suc column) }
-        requires least { IsLeastIn self.old line column }
+        requires pivot { IsLeastPivot self.old line column }
         ensures whole { OnOk result (IsTableau self.new) }
         ensures rises { OnOk result (rank self.old < rank self.new) }
         ensures keeps { KeepsBoxAndRows self.old self.new }
@@ -73,9 +71,8 @@ impl Table {
         let inverse = take_quotients(&self.lines[line], column, &mut self.quotients, self.top)?;
         turn_rows(
             self.lines.as_mut_slice(),
-            column,
+            &PivotColumn { column, inverse },
             &self.quotients,
-            inverse,
             &mut self.scratch,
             self.top,
         )?;

@@ -1,7 +1,8 @@
 //! Steps of fractions, each exact or refused.
-ghost use Rattle.std.specs.Prelude.{◌≡◌, ◌≢◌, ℕ, ◌*◌, ◌^◌, ◌<◌, ◌≤◌, ◌<ℤ◌, ◌≤ℤ◌, pos, ◌*ℤ◌, nat_abs, MatchOption, IfOk, IfErr, OnOk, OnErr};
+ghost use Rattle.std.specs.Prelude.{◌≡◌, ◌≢◌, ℕ, ◌*◌, ◌^◌, ◌<◌, ◌≤◌, ◌<ℤ◌, ◌≤ℤ◌, pos, ◌*ℤ◌, nat_abs, MatchOption, IfOk, IfErr, OnOk};
 ghost use Rattle.whole_numbers.specs.Fractions.{plus, minus, times, divided, whole, lcm, numbers_of_sum, numbers_of_product};
-ghost use Rattle.wide_fraction.specs.Widths.{IsWithin, Fits, Passes, IsExactOrTooWide};
+ghost use Rattle.wide_fraction.specs.Widths.{Fits, IsExactOrTooWide, IsWithin};
+ghost use Rattle.wide_fraction.specs.WideSteps.{IsTooWide};
 
 use crate::words::{
     bounded_cross_sum, bounded_product, bounded_signed_product, bounded_sum, quotient,
@@ -33,8 +34,7 @@ pub fn add(left: Frac, right: Frac, top: Top) -> Result<Frac, Wide>
     ensures exact { IfOk result (λ q. q ≡ plus left right) }
     ensures within { IfOk result (λ q. IsWithin top q) }
     ensures fits { OnOk result (Fits top StepName.Add left right) }
-    ensures passes { OnErr result (Passes top StepName.Add left right) }
-    ensures named { IfErr result (λ wide. wide ≡ record { step = StepName.Add; left = left; right = right }) }
+    ensures wide { IfErr result (IsTooWide top StepName.Add left right) }
 {
     sum(left, right, top).ok_or(Wide {
         step: StepName::Add,
@@ -51,8 +51,7 @@ pub fn sub(left: Frac, right: Frac, top: Top) -> Result<Frac, Wide>
     ensures exact { IfOk result (λ q. q ≡ minus left right) }
     ensures within { IfOk result (λ q. IsWithin top q) }
     ensures fits { OnOk result (Fits top StepName.Sub left right) }
-    ensures passes { OnErr result (Passes top StepName.Sub left right) }
-    ensures named { IfErr result (λ wide. wide ≡ record { step = StepName.Sub; left = left; right = right }) }
+    ensures wide { IfErr result (IsTooWide top StepName.Sub left right) }
 {
     sum(left, right.negated(), top).ok_or(Wide {
         step: StepName::Sub,
@@ -68,8 +67,7 @@ pub fn mul(left: Frac, right: Frac, top: Top) -> Result<Frac, Wide>
     ensures exact { IfOk result (λ q. q ≡ times left right) }
     ensures within { IfOk result (λ q. IsWithin top q) }
     ensures fits { OnOk result (Fits top StepName.Mul left right) }
-    ensures passes { OnErr result (Passes top StepName.Mul left right) }
-    ensures named { IfErr result (λ wide. wide ≡ record { step = StepName.Mul; left = left; right = right }) }
+    ensures wide { IfErr result (IsTooWide top StepName.Mul left right) }
 {
     product(left, right, top).ok_or(Wide {
         step: StepName::Mul,
@@ -87,8 +85,7 @@ pub fn div(left: Frac, right: Frac, top: Top) -> Result<Frac, Wide>
     ensures exact { IfOk result (λ q. q ≡ divided left right) }
     ensures within { IfOk result (λ q. IsWithin top q) }
     ensures fits { OnOk result (Fits top StepName.Div left right) }
-    ensures passes { OnErr result (Passes top StepName.Div left right) }
-    ensures named { IfErr result (λ wide. wide ≡ record { step = StepName.Div; left = left; right = right }) }
+    ensures wide { IfErr result (IsTooWide top StepName.Div left right) }
 {
     product(left, right.inverted(), top).ok_or(Wide {
         step: StepName::Div,
@@ -212,8 +209,7 @@ pub fn lcm(left: i128, right: i128, top: Top) -> Result<i128, Wide>
     ensures exact { IfOk result (λ n. n ≡ pos (lcm (nat_abs left) (nat_abs right))) }
     ensures within { IfOk result (λ n. nat_abs n ≤ top) }
     ensures fits { OnOk result (Fits top StepName.Lcm (whole left) (whole right)) }
-    ensures passes { OnErr result (Passes top StepName.Lcm (whole left) (whole right)) }
-    ensures named { IfErr result (λ wide. wide ≡ record { step = StepName.Lcm; left = whole left; right = whole right }) }
+    ensures wide { IfErr result (IsTooWide top StepName.Lcm (whole left) (whole right)) }
 {
     match multiple(left as u128, right as u128, top.size()) {
         Some(multiple) => Ok(multiple as i128),
@@ -241,8 +237,7 @@ pub fn scale(value: i128, top: Top) -> Result<i128, Wide>
     ensures exact { IfOk result (λ n. n ≡ (value *ℤ pos (2 ^ 27))) }
     ensures within { IfOk result (λ n. nat_abs n ≤ top) }
     ensures fits { OnOk result (Fits top StepName.Scale (whole value) (whole (pos (2 ^ 27)))) }
-    ensures passes { OnErr result (Passes top StepName.Scale (whole value) (whole (pos (2 ^ 27)))) }
-    ensures named { IfErr result (λ wide. wide ≡ record { step = StepName.Scale; left = whole value; right = whole (pos (2 ^ 27)) }) }
+    ensures wide { IfErr result (IsTooWide top StepName.Scale (whole value) (whole (pos (2 ^ 27)))) }
 {
     match bounded_signed_product(value, SCALE, top.size()) {
         Some(scaled) => Ok(scaled),

@@ -12,4 +12,4 @@ returns-clause-read_back c =
     subst (ReadsBack c.args.file_name.now (costs_of c.args.lines.now) c.args.bytes.now) (sym written)
     (reads_back c.args.file_name.now c.args.bytes.now (costs_of c.args.lines.now) c.requires.accepted
     (All-map (λ (cost : List ℕ × ℕ). (1 ≤ cost.1) × (cost.1 ≤ 65535)) (λ (line : CostLine). (line.interface, line.cost))
-    c.args.lines.now (λ k d below. (c.requires.from k d below, within k d below)))))
+    c.args.lines.now (λ k d below. (c.requires.lines.from k d below, within k d below)))))

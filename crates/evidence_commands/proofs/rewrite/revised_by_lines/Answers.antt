@@ -17,17 +17,16 @@ name_of : (said : Router) (name asked bytes read : List ℕ) → said ≡ config
 name_of said name asked bytes read says named text =
     ap (λ (r : Router). r.name) says ∙ ap (λ (n : List ℕ). (config_of n bytes).name) (sym named) ∙ ap (λ (b : List ℕ). (config_of asked b).name) (sym text)
 
-pub rewrite-requires-clause-router : goal.rewrite-requires-clause-router
-rewrite-requires-clause-router c =
+pub rewrite-requires-clause-lines : goal.rewrite-requires-clause-lines
+rewrite-requires-clause-lines c =
     let named = ap (λ (file : ConfigFile). file.name) c.config.view_is in
     let text = c.deref.ensures.value ∙ ap (λ (file : ConfigFile). file.bytes) c.config.view_is in
-    routers_own _ _ c.args.lines.now _ (c.deref-2.ensures.value ∙ c.in_ok-own.ensures) (name_of _ _ _ _ _ (c.behind-config.view_is ∙ c.said.ensures) named text)
-
-pub rewrite-requires-clause-from : goal.rewrite-requires-clause-from
-rewrite-requires-clause-from c = costs_own _ c.args.lines.now _ (c.deref-2.ensures.value ∙ c.in_ok-own.ensures) c.requires.fit
-
-pub rewrite-requires-clause-apart : goal.rewrite-requires-clause-apart
-rewrite-requires-clause-apart c = interfaces_own _ c.args.lines.now _ (c.deref-2.ensures.value ∙ c.in_ok-own.ensures)
+    let own_are = c.deref-2.ensures.value ∙ c.in_ok-own.ensures in
+    record {
+      own = routers_own _ _ c.args.lines.now _ own_are (name_of _ _ _ _ _ (c.behind-config.view_is ∙ c.said.ensures) named text);
+      from = costs_own _ c.args.lines.now _ own_are c.requires.fit;
+      apart = interfaces_own _ c.args.lines.now _ own_are;
+    }
 
 pub returns-in-Ok : goal.returns-in-Ok
 returns-in-Ok c bytes said =

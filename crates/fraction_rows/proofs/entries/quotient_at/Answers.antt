@@ -5,4 +5,4 @@ use Rattle.fraction_rows.proofs.entries.quotient_at.Goals as goal
 
 pub returns-clause-passes : goal.returns-clause-passes
 returns-clause-passes c =
-    named_passes c.div.result c.args.top Div c.args.value c.args.divisor c.div.ensures.named c.div.ensures.passes
+    named_passes c.div.result c.args.top Div c.args.value c.args.divisor c.div.ensures.wide

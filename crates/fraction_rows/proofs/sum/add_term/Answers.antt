@@ -27,11 +27,11 @@ mul-requires-clause-right_within c =
 pub returns-in_err-term-clause-passes : goal.returns-in_err-term-clause-passes
 returns-in_err-term-clause-passes c =
     let p = err_from_is_err_and c.from_residual.result c.from_residual.ensures.1 in
-    rw (p.1, p.2) (subst (IsPassing c.args.top) (sym c.in_err-term.ensures.named) c.in_err-term.ensures.passes)
+    rw (p.1, p.2) (subst (IsPassing c.args.top) (sym c.in_err-term.ensures.wide.named) c.in_err-term.ensures.wide.passes)
 
 pub returns-clause-passes : goal.returns-clause-passes
 returns-clause-passes c =
-    named_passes {X = Fraction} c.add.result c.args.top Add c.args.sum c.in_ok-term.term c.add.ensures.named c.add.ensures.passes
+    named_passes {X = Fraction} c.add.result c.args.top Add c.args.sum c.in_ok-term.term c.add.ensures.wide
 
 pub returns-then-is_zero-clause-exact : goal.returns-then-is_zero-clause-exact
 returns-then-is_zero-clause-exact c =

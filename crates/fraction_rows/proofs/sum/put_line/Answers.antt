@@ -30,4 +30,4 @@ pub returns-clause-sums : goal.returns-clause-sums
 returns-clause-sums c =
     let z = c.args.coefficient in
     crossed_put c.whole.result z c.args.row.now c.args.line.now c.swap.new.x (c.whole.ensures ∙ ap whole (negated_read z c.requires.small))
-    c.requires.line (c.swap.ensures.x_after ∙ c.in_ok-cross.ensures.crossed)
+    c.requires.line.counted (c.swap.ensures.x_after ∙ c.in_ok-cross.ensures.crossed)

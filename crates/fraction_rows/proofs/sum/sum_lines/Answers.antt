@@ -14,15 +14,12 @@ known : (c : After-index-lines-var) →
 known c =
     line_read c.args.top (length c.args.row.now) c.args.form.now.coefficients c.args.lines.now
     c.terms-terms.result.now c.loop-term.term-index c.index-lines-var.result c.terms-terms.ensures.terms
-    c.requires.small c.requires.lines c.requires.many c.loop-term-test.true c.index-lines-var.is
+    c.requires.small c.requires.lines.rows c.requires.lines.many c.loop-term-test.true c.index-lines-var.is
 
 pub put_line-requires-clause-line : goal.put_line-requires-clause-line
 put_line-requires-clause-line c =
-    (known (goal.at.put_line-requires-clause-line c).After-index-lines-var).counted ∙ sym c.loop-term.invariant.width
-
-pub put_line-requires-clause-line_numbers : goal.put_line-requires-clause-line_numbers
-put_line-requires-clause-line_numbers c =
-    (known (goal.at.put_line-requires-clause-line_numbers c).After-index-lines-var).numbers
+    let here = known (goal.at.put_line-requires-clause-line c).After-index-lines-var in
+    record { counted = here.counted ∙ sym c.loop-term.invariant.width; numbers = here.numbers }
 
 pub put_line-requires-clause-small : goal.put_line-requires-clause-small
 put_line-requires-clause-small c =
@@ -40,7 +37,7 @@ loop-term-preserved c =
           sum_next (entry c.args.row.now place) (entry c.loop-term.row place) (entry c.put_line.new.row place)
           (entry c.index-lines-var.result place) _ c.args.form.now.coefficients c.args.lines.now place ts
           c.loop-term.term-index
-          c.terms-terms.ensures.terms c.requires.many c.loop-term-test.true (small_read t.coefficient here.small)
+          c.terms-terms.ensures.terms c.requires.lines.many c.loop-term-test.true (small_read t.coefficient here.small)
           (ap (λ (qs : List Fraction). entry qs place) here.line_is) (c.loop-term.invariant.sums place place_in)
           (c.in_ok-put_line.ensures.sums place (omega (arith, place_in, c.loop-term.invariant.width)));
       numbers = c.in_ok-put_line.ensures.numbers;
@@ -51,5 +48,5 @@ loop-term-preserved c =
 pub returns-clause-sums : goal.returns-clause-sums
 returns-clause-sums c place place_in =
     sum_whole (entry c.args.row.now place) (entry c.loop-term.row place) c.args.form.now.coefficients c.args.lines.now
-    place c.terms-terms.result.now c.loop-term.term-index c.terms-terms.ensures.terms c.requires.many
+    place c.terms-terms.result.now c.loop-term.term-index c.terms-terms.ensures.terms c.requires.lines.many
     (omega (arith, c.loop-term-test.false)) (c.loop-term.invariant.sums place place_in)

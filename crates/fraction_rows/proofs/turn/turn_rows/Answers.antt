@@ -1,12 +1,12 @@
 -- One more row is turned.
-use Rattle.std.proofs.Common.{suc, ◌∙◌, [], ap, sym, subst, List, length, arith}
+use Rattle.std.proofs.Common.{ℕ, suc, ◌∙◌, [], ap, sym, subst, List, length}
 use Rattle.std.specs.Prelude.{slice_set}
 use Rattle.std.proofs.lemmas.List.Edits.{map_over_more}
 use Rattle.std.proofs.lemmas.List.{get_or_default}
 use Rattle.std.proofs.lemmas.Result.{err_from_is_err_and}
 use Rattle.whole_numbers.specs.Fractions.{Fraction}
 use Rattle.fraction_rows.specs.TableRows.{IsWideStep}
-use Rattle.fraction_rows.specs.Turns.{IsTurnStep, turned_by}
+use Rattle.fraction_rows.specs.Turns.{IsTurnStep, TurnsRows, turned_by}
 use Rattle.fraction_rows.proofs.RowLaws.{rows_at, rows_set, later_same}
 use Rattle.fraction_rows.proofs.turn.turn_rows.Goals as goal
 
@@ -14,33 +14,29 @@ pub turn_row-requires : goal.turn_row-requires
 turn_row-requires c =
     let i = c.loop-row.row-index in
     let d = c.row-item.result in
-    let same = later_same (λ fs. turned_by fs c.args.quotients.now (suc c.args.column) c.args.inverse) c.args.rows.now
+    let same = later_same (λ fs. turned_by fs c.args.quotients.now (suc c.args.pivot.now.column) c.args.pivot.now.inverse) c.args.rows.now
     c.loop-row.rows i d c.loop-row.invariant.turned in
     let here = rows_at c.args.top _ c.args.rows.now i d c.requires.rows c.loop-row-test.true in
     rw same
     (record {
-      column = omega (arith, here.0, c.requires.column);
-      quotients = sym here.0;
+      pivot = subst (λ (count : ℕ). TurnsRows c.args.top count (suc c.args.pivot.now.column) c.args.quotients.now c.args.pivot.now.inverse)
+          (sym here.0) c.requires.pivot;
       scratch = c.loop-row.invariant.scratch ∙ sym here.0;
       numbers = here.1;
-      quotient_numbers = c.requires.quotient_numbers;
-      none_there = c.requires.none_there;
-      inverse = c.requires.inverse;
-      not_zero = c.requires.not_zero;
     })
 
 pub loop-row-preserved : goal.loop-row-preserved
 loop-row-preserved c =
     let i = c.loop-row.row-index in
     let d = c.row-item.result in
-    let same = later_same (λ fs. turned_by fs c.args.quotients.now (suc c.args.column) c.args.inverse) c.args.rows.now
+    let same = later_same (λ fs. turned_by fs c.args.quotients.now (suc c.args.pivot.now.column) c.args.pivot.now.inverse) c.args.rows.now
     c.loop-row.rows i d c.loop-row.invariant.turned in
     let here = rows_at c.args.top (length c.args.quotients.now) c.args.rows.now i d c.requires.rows c.loop-row-test.true in
     record {
       turned =
           ap (λ (r : List Fraction). slice_set c.loop-row.rows i r) c.in_ok-turn_row.ensures.turned
-          ∙ ap (λ (r : List Fraction). slice_set c.loop-row.rows i (turned_by r c.args.quotients.now (suc c.args.column) c.args.inverse)) (sym c.row-item.is)
-          ∙ map_over_more (λ fs. turned_by fs c.args.quotients.now (suc c.args.column) c.args.inverse) c.args.rows.now
+          ∙ ap (λ (r : List Fraction). slice_set c.loop-row.rows i (turned_by r c.args.quotients.now (suc c.args.pivot.now.column) c.args.pivot.now.inverse)) (sym c.row-item.is)
+          ∙ map_over_more (λ fs. turned_by fs c.args.quotients.now (suc c.args.pivot.now.column) c.args.pivot.now.inverse) c.args.rows.now
           c.loop-row.rows i c.row-item.result c.loop-row-test.true c.loop-row.invariant.turned c.row-item.is;
       numbers =
           rows_set c.args.top (length c.args.quotients.now) c.loop-row.rows i c.turn_row.new.row c.loop-row.invariant.numbers
@@ -56,13 +52,13 @@ returns-in_err-turn_row-clause-wide c =
     let d = c.row-item.result in
     let wide = c.in_err-turn_row.field-0.0 in
     let same =
-    later_same (λ fs. turned_by fs c.args.quotients.now (suc c.args.column) c.args.inverse) c.args.rows.now c.loop-row.rows i d c.loop-row.invariant.turned
+    later_same (λ fs. turned_by fs c.args.quotients.now (suc c.args.pivot.now.column) c.args.pivot.now.inverse) c.args.rows.now c.loop-row.rows i d c.loop-row.invariant.turned
     ∙ get_or_default c.args.rows.now i d [] c.loop-row-test.true in
     rw (p.1, p.2)
     (record {
       row = i;
       row_in = c.loop-row-test.true;
       wide = subst (λ (fs : List Fraction).
-          IsWideStep c.args.top (IsTurnStep fs c.args.quotients.now (suc c.args.column) c.args.inverse) wide.step
+          IsWideStep c.args.top (IsTurnStep fs c.args.quotients.now (suc c.args.pivot.now.column) c.args.pivot.now.inverse) wide.step
           wide.left wide.right) same c.in_err-turn_row.ensures.wide;
     })

@@ -5,7 +5,7 @@ use Rattle.fraction_rows.proofs.turn.turn_rows.Given as goal
 
 abbrev pub invariant-loop-row : goal.invariant-loop-row
 invariant-loop-row l = record {
-  turned : l.rows ≡ map (λ fs. turned_by fs l.quotients (suc l.column) l.inverse) (take l.row-index l.initial.rows) ++ drop l.row-index l.initial.rows;
+  turned : l.rows ≡ map (λ fs. turned_by fs l.quotients (suc l.pivot.column) l.pivot.inverse) (take l.row-index l.initial.rows) ++ drop l.row-index l.initial.rows;
   numbers : AreTableRows l.top (length l.quotients) l.rows;
   scratch : length l.scratch ≡ length l.quotients;
 }

@@ -5,5 +5,5 @@ use Rattle.fraction_table.proofs.add_row.fill_line.Goals as goal
 
 pub fill_in_order-requires-clause-blank : goal.fill_in_order-requires-clause-blank
 fill_in_order-requires-clause-blank c =
-    cleared_is c.gather_line.new.line c.clear.new.self (length c.args.costs.now.low)
-    (c.gather_line.ensures.width ∙ blank_long c.args.line.now (length c.args.costs.now.low) c.requires.blank) c.clear.ensures
+    cleared_is c.gather_line.new.row.line c.clear.new.self (length c.args.costs.now.low)
+    (c.gather_line.ensures.width ∙ blank_long c.args.row.now.line (length c.args.costs.now.low) c.requires.row.blank) c.clear.ensures

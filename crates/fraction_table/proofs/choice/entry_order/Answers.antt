@@ -18,7 +18,7 @@ mul-requires-clause-left_within c =
 pub returns-in_err-multiple-clause-passes : goal.returns-in_err-multiple-clause-passes
 returns-in_err-multiple-clause-passes c =
     let p = err_from_is_err_and c.from_residual.result c.from_residual.ensures.1 in
-    rw (p.1, p.2) (subst (IsPassing c.args.top) (sym c.in_err-multiple.ensures.named) c.in_err-multiple.ensures.passes)
+    rw (p.1, p.2) (subst (IsPassing c.args.top) (sym c.in_err-multiple.ensures.wide.named) c.in_err-multiple.ensures.wide.passes)
 
 pub returns-then-lacks-2-clause-order : goal.returns-then-lacks-2-clause-order
 returns-then-lacks-2-clause-order c =

@@ -19,4 +19,4 @@ div-requires-clause-right_within c =
 
 pub returns-clause-passes : goal.returns-clause-passes
 returns-clause-passes c =
-    named_passes {X = Fraction} c.div.result c.args.top Div c.entry.result c.entry-2.result c.div.ensures.named c.div.ensures.passes
+    named_passes {X = Fraction} c.div.result c.args.top Div c.entry.result c.entry-2.result c.div.ensures.wide

@@ -34,25 +34,25 @@ pub returns-in_err-product-clause-wide : goal.returns-in_err-product-clause-wide
 returns-in_err-product-clause-wide c =
     let p = err_from_is_err_and c.from_residual.result c.from_residual.ensures.1 in
     let wide = c.in_err-product.field-0.0 in
-    let named = c.in_err-product.ensures.named in
+    let refused = c.in_err-product.ensures.wide in
     rw (p.1, p.2) (
-      subst (λ (w : Wide). IsRaiseStep c.args.line.now c.args.column c.args.fall w.step w.left w.right) (sym named)
+      subst (λ (w : Wide). IsRaiseStep c.args.line.now c.args.column c.args.fall w.step w.left w.right) (sym refused.named)
           (subst (λ (q : Fraction). IsRaiseStep c.args.line.now c.args.column c.args.fall Mul q c.args.fall) (sym c.entry-entry.ensures) product),
-      named_passes {X = Fraction} (Err wide) c.args.top Mul c.entry-entry.result c.args.fall named c.in_err-product.ensures.passes,
+      named_passes {X = Fraction} (Err wide) c.args.top Mul c.entry-entry.result c.args.fall refused,
     )
 
 pub returns-in_err-raised-clause-wide : goal.returns-in_err-raised-clause-wide
 returns-in_err-raised-clause-wide c =
     let p = err_from_is_err_and c.from_residual-in_err-raised.result c.from_residual-in_err-raised.ensures.1 in
     let wide = c.in_err-raised.field-0.0 in
-    let named = c.in_err-raised.ensures.named in
+    let refused = c.in_err-raised.ensures.wide in
     let product_is : c.in_ok-product.product ≡ times (entry c.args.line.now (suc c.args.column)) c.args.fall =
     c.in_ok-product.ensures.exact ∙ ap (λ (q : Fraction). times q c.args.fall) c.entry-entry.ensures in
     rw (p.1, p.2) (
-      subst (λ (w : Wide). IsRaiseStep c.args.line.now c.args.column c.args.fall w.step w.left w.right) (sym named)
+      subst (λ (w : Wide). IsRaiseStep c.args.line.now c.args.column c.args.fall w.step w.left w.right) (sym refused.named)
           (subst (λ (q : Fraction). IsRaiseStep c.args.line.now c.args.column c.args.fall Add q c.in_ok-product.product) (sym c.constant.ensures)
           (subst (λ (q : Fraction). IsRaiseStep c.args.line.now c.args.column c.args.fall Add (entry c.args.line.now 0) q) (sym product_is) sum)),
-      named_passes {X = Fraction} (Err wide) c.args.top Add c.constant.result c.in_ok-product.product named c.in_err-raised.ensures.passes,
+      named_passes {X = Fraction} (Err wide) c.args.top Add c.constant.result c.in_ok-product.product refused,
     )
 
 pub returns-clause-raised : goal.returns-clause-raised

@@ -37,7 +37,7 @@ returns-in_err-scale-clause-step c =
     let p = err_from_is_err_and c.from_residual-in_err-scale.result c.from_residual-in_err-scale.ensures.1 in
     rw (p.1, p.2)
     (scale_wide c.args.parts.now c.in_ok-sum.sum c.in_err-scale.field-0.0 c.in_ok-sum.ensures.exact
-    (c.in_err-scale.ensures.named ∙ ap {B = Wide}
+    (c.in_err-scale.ensures.wide.named ∙ ap {B = Wide}
     (λ (z : ℤ). record { step = Scale; left = whole z; right = whole (pos (2 ^ 27)) })
     (numerator_read (goal.at.returns-in_err-scale-clause-step c).After-numerator)))
 

@@ -29,7 +29,7 @@ returns-in_err-multiple-clause-step c =
     rw (p.1, p.2)
     (multiple_wide c.args.parts.now c.loop-index.index c.index-parts-index.result _ _ c.in_err-multiple.field-0.0
     c.loop-index-test.true c.loop-index.invariant.so_far (read ∙ c.denominator.ensures.value)
-    c.in_err-multiple.ensures.named)
+    c.in_err-multiple.ensures.wide.named)
 
 pub loop-index-preserved : goal.loop-index-preserved
 loop-index-preserved c =

@@ -24,7 +24,7 @@ returns-in_err-product-clause-wide c =
     rw (p.1, p.2)
     (wide_multiplier c.args.top (fractions c.args.parts.now) wide
     (made_wide c.args.parts.now c.loop-index.index c.index-parts-index-in-loop-index.result c.args.multiple wide c.loop-index-test.true c.requires.multiple
-    (c.in_err-product.ensures.named
+    (c.in_err-product.ensures.wide.named
     ∙ ap {B = Wide} (λ (q : Fraction).
     record {
       step = Mul;
@@ -33,7 +33,7 @@ returns-in_err-product-clause-wide c =
       right =
           q;
     }) (c.whole_wide.ensures ∙ ap whole (to_z-of_z w128 c.args.multiple c.ranges.multiple))))
-    (subst (IsPassing c.args.top) (sym c.in_err-product.ensures.named) c.in_err-product.ensures.passes))
+    (subst (IsPassing c.args.top) (sym c.in_err-product.ensures.wide.named) c.in_err-product.ensures.wide.passes))
 
 pub loop-index-preserved : goal.loop-index-preserved
 loop-index-preserved c =

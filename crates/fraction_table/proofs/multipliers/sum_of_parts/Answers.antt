@@ -33,12 +33,12 @@ returns-in_err-sum-clause-step c =
     (omega (arith, small, top_small c.args.top c.value.ensures.width))) in
     rw (p.1, p.2)
     (sum_wide c.args.parts.now c.loop-index.index (0, 0) c.loop-index.sum c.whole_wide.result c.in_err-sum.field-0.0
-    c.loop-index-test.true c.loop-index.invariant.so_far is c.in_err-sum.ensures.named)
+    c.loop-index-test.true c.loop-index.invariant.so_far is c.in_err-sum.ensures.wide.named)
 
 pub returns-in_err-sum-clause-passes : goal.returns-in_err-sum-clause-passes
 returns-in_err-sum-clause-passes c =
     let p = err_from_is_err_and c.from_residual.result c.from_residual.ensures.1 in
-    rw (p.1, p.2) (subst (IsPassing c.args.top) (sym c.in_err-sum.ensures.named) c.in_err-sum.ensures.passes)
+    rw (p.1, p.2) (subst (IsPassing c.args.top) (sym c.in_err-sum.ensures.wide.named) c.in_err-sum.ensures.wide.passes)
 
 pub loop-index-preserved : goal.loop-index-preserved
 loop-index-preserved c =

@@ -13,7 +13,7 @@ returns-clause-fits c =
     let answer = told (goal.at.returns-clause-fits c).After-sum in
     search rules
 
-pub returns-clause-passes : goal.returns-clause-passes
-returns-clause-passes c =
-    let answer = told (goal.at.returns-clause-passes c).After-sum in
+pub returns-clause-wide : goal.returns-clause-wide
+returns-clause-wide c =
+    let answer = told (goal.at.returns-clause-wide c).After-sum in
     search rules

@@ -24,7 +24,7 @@ quotients_width c =
     let s = c.self.inside in
     let q = c.quotients.inside in
     same_width q.constant s.constant q.width s.width q.entries.items s.entries.items c.args.quotients.now
-    c.args.self.now c.quotients.view_is c.self.view_is c.requires.quotients
+    c.args.self.now c.quotients.view_is c.self.view_is c.requires.quotients.counted
 
 pub returns-in_err-into-inside-clause-wide : goal.returns-in_err-into-inside-clause-wide
 returns-in_err-into-inside-clause-wide c =
@@ -43,21 +43,22 @@ pub cross_entries-made-requires-clause-quotients : goal.cross_entries-made-requi
 cross_entries-made-requires-clause-quotients c =
     let q = c.quotients.inside in
     let width = quotients_width (goal.at.cross_entries-made-requires-clause-quotients c).After-quotients in
-    rw c.as_slice-2.ensures.value (subst (λ (w : ℕ). Rises 0 w q.entries.items) width c.quotients.invariant.rises)
+    rw c.as_slice-2.ensures.value
+    (record {
+      rises = subst (λ (w : ℕ). Rises 0 w q.entries.items) width c.quotients.invariant.rises;
+      numbers = entry_numbers c.args.top q.constant q.width q.entries.items c.quotients.invariant.rises
+          (subst (AreTableNumbers c.args.top) (sym c.quotients.view_is) c.requires.quotients.numbers);
+    })
 
-pub cross_entries-made-requires-clause-old_numbers : goal.cross_entries-made-requires-clause-old_numbers
-cross_entries-made-requires-clause-old_numbers c =
+pub cross_entries-made-requires-clause-olds : goal.cross_entries-made-requires-clause-olds
+cross_entries-made-requires-clause-olds c =
     let s = c.self.inside in
-    rw c.as_slice.ensures.value (entry_numbers c.args.top s.constant s.width s.entries.items c.self.invariant.rises
-    (subst (AreTableNumbers c.args.top) (sym c.self.view_is) c.requires.numbers))
-
-pub cross_entries-made-requires-clause-quotient_numbers :
-    goal.cross_entries-made-requires-clause-quotient_numbers
-cross_entries-made-requires-clause-quotient_numbers c =
-    let q = c.quotients.inside in
-    rw c.as_slice-2.ensures.value (entry_numbers c.args.top q.constant q.width q.entries.items
-    c.quotients.invariant.rises
-    (subst (AreTableNumbers c.args.top) (sym c.quotients.view_is) c.requires.quotient_numbers))
+    rw c.as_slice.ensures.value
+    (record {
+      rises = c.self.invariant.rises;
+      numbers = entry_numbers c.args.top s.constant s.width s.entries.items c.self.invariant.rises
+          (subst (AreTableNumbers c.args.top) (sym c.self.view_is) c.requires.numbers);
+    })
 
 pub cross_entries-made-requires-clause-room : goal.cross_entries-made-requires-clause-room
 cross_entries-made-requires-clause-room c =
@@ -68,8 +69,8 @@ pub invariant_of-into-2 : goal.invariant_of-into-2
 invariant_of-into-2 c =
     let width = into_width (goal.at.invariant_of-into-2 c).After-quotients in
     record {
-      rises = subst (λ (w : ℕ). Rises 0 w c.cross_entries-made.new.made.items) (sym width) c.cross_entries-made.ensures.rises;
-      room = omega (arith, c.cross_entries-made.ensures.room);
+      rises = subst (λ (w : ℕ). Rises 0 w c.cross_entries-made.new.made.items) (sym width) c.cross_entries-made.ensures.entries.entries.rises;
+      room = omega (arith, c.cross_entries-made.ensures.entries.room);
       marked = subst (AllMarked c.marks_of-into-inside.result) c.as_slice-3.ensures.value c.marks_of-into-inside.ensures;
     }
 
@@ -94,7 +95,7 @@ returns-clause-numbers c =
     let i = c.into.inside in
     always_ok c.cross_entries-made.result (AreTableNumbers c.args.top (c.in_ok-into-inside.field-0 ∷ filled i.width c.cross_entries-made.new.made.items))
     (row_numbers c.args.top c.in_ok-into-inside.field-0 i.width c.cross_entries-made.new.made.items
-    c.in_ok-into-inside.ensures.number c.cross_entries-made.ensures.numbers)
+    c.in_ok-into-inside.ensures.number c.cross_entries-made.ensures.entries.entries.numbers)
 
 pub returns-clause-wide : goal.returns-clause-wide
 returns-clause-wide c =
@@ -105,4 +106,4 @@ returns-clause-wide c =
     s.entries.items q.entries.items c.as_slice.result.now c.as_slice-2.result.now c.args.self.now
     c.args.quotients.now
     width c.as_slice.ensures.value c.as_slice-2.ensures.value c.self.view_is c.quotients.view_is
-    c.cross_entries-made.ensures.step c.cross_entries-made.ensures.passes
+    c.cross_entries-made.ensures.wide

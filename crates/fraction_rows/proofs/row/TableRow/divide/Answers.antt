@@ -29,15 +29,19 @@ returns-in_err-into-inside-clause-wide c =
     let place_in : 0 < length c.args.self.now = omega (arith, width_is s.constant s.width s.entries.items c.args.self.now c.self.view_is) in
     rw (p.1, p.2) (
       quotient_step c.args.divisor s.constant c.args.self.now 0 wide place_in
-          (ap (λ (l : List Fraction). entry l 0) (sym c.self.view_is)) c.in_err-into-inside.ensures.named,
-      named_passes {X = Fraction} (Err wide) c.args.top Div s.constant c.args.divisor c.in_err-into-inside.ensures.named c.in_err-into-inside.ensures.passes,
+          (ap (λ (l : List Fraction). entry l 0) (sym c.self.view_is)) c.in_err-into-inside.ensures.wide.named,
+      named_passes {X = Fraction} (Err wide) c.args.top Div s.constant c.args.divisor c.in_err-into-inside.ensures.wide,
     )
 
-pub divide_entries-made-requires-clause-old_numbers : goal.divide_entries-made-requires-clause-old_numbers
-divide_entries-made-requires-clause-old_numbers c =
+pub divide_entries-made-requires-clause-olds : goal.divide_entries-made-requires-clause-olds
+divide_entries-made-requires-clause-olds c =
     let s = c.self.inside in
-    rw c.as_slice.ensures.value (entry_numbers c.args.top s.constant s.width s.entries.items c.self.invariant.rises
-    (subst (AreTableNumbers c.args.top) (sym c.self.view_is) c.requires.numbers))
+    rw c.as_slice.ensures.value
+    (record {
+      rises = c.self.invariant.rises;
+      numbers = entry_numbers c.args.top s.constant s.width s.entries.items c.self.invariant.rises
+          (subst (AreTableNumbers c.args.top) (sym c.self.view_is) c.requires.numbers);
+    })
 
 pub divide_entries-made-requires-clause-room : goal.divide_entries-made-requires-clause-room
 divide_entries-made-requires-clause-room c =
@@ -48,8 +52,8 @@ pub invariant_of-into-2 : goal.invariant_of-into-2
 invariant_of-into-2 c =
     let width = into_width (goal.at.invariant_of-into-2 c).After-self in
     record {
-      rises = subst (λ (w : ℕ). Rises 0 w c.divide_entries-made.new.made.items) (sym width) c.divide_entries-made.ensures.rises;
-      room = omega (arith, c.divide_entries-made.ensures.room);
+      rises = subst (λ (w : ℕ). Rises 0 w c.divide_entries-made.new.made.items) (sym width) c.divide_entries-made.ensures.entries.entries.rises;
+      room = omega (arith, c.divide_entries-made.ensures.entries.room);
       marked = subst (AllMarked c.marks_of-into-inside.result) c.as_slice-2.ensures.value c.marks_of-into-inside.ensures;
     }
 
@@ -75,10 +79,10 @@ returns-clause-numbers c =
     divided_number c.args.top s.constant c.args.divisor c.in_ok-into-inside.field-0 first.0.lowest.positive
     c.in_ok-into-inside.ensures.exact c.in_ok-into-inside.ensures.within in
     always_ok c.divide_entries-made.result (AreTableNumbers c.args.top (c.in_ok-into-inside.field-0 ∷ filled i.width c.divide_entries-made.new.made.items))
-    (row_numbers c.args.top c.in_ok-into-inside.field-0 i.width c.divide_entries-made.new.made.items value_is c.divide_entries-made.ensures.numbers)
+    (row_numbers c.args.top c.in_ok-into-inside.field-0 i.width c.divide_entries-made.new.made.items value_is c.divide_entries-made.ensures.entries.entries.numbers)
 
 pub returns-clause-wide : goal.returns-clause-wide
 returns-clause-wide c =
     let s = c.self.inside in
     divided_wide c.divide_entries-made.result c.args.top c.args.divisor s.constant s.width s.entries.items c.as_slice.result.now c.args.self.now
-    c.as_slice.ensures.value c.self.view_is c.divide_entries-made.ensures.step c.divide_entries-made.ensures.passes
+    c.as_slice.ensures.value c.self.view_is c.divide_entries-made.ensures.wide

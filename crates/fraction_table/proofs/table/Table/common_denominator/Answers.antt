@@ -51,8 +51,8 @@ returns-in_err-multiple-clause-wide c =
     c.denominator-denominator.ensures.value c.denominator-denominator.ensures.kept.denominator in
     rw (p.1, p.2)
     (multiple_wide t c.requires.whole c.loop-var.var _ _ c.in_err-multiple.field-0.0 var_in c.loop-var.invariant.so_far
-    (read ∙ ap (λ (q : Fraction). pos q.denominator) constant_is) c.in_err-multiple.ensures.named
-    (subst (IsPassing t.top) (sym c.in_err-multiple.ensures.named) c.in_err-multiple.ensures.passes))
+    (read ∙ ap (λ (q : Fraction). pos q.denominator) constant_is) c.in_err-multiple.ensures.wide.named
+    (subst (IsPassing t.top) (sym c.in_err-multiple.ensures.wide.named) c.in_err-multiple.ensures.wide.passes))
 
 pub loop-var-preserved : goal.loop-var-preserved
 loop-var-preserved c =

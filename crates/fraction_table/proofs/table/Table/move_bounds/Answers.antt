@@ -11,11 +11,11 @@ use Rattle.fraction_table.proofs.table.Table.move_bounds.Goals as goal
 
 -- the two boxes have as many bounds
 alike : (c : After-as_slice-high) → AreAlike c.args.self.now.costs c.args.costs.now
-alike c = record { high = c.requires.unboxed.high_count; new_low = c.requires.low; new_high = c.requires.high }
+alike c = record { high = c.requires.unboxed.high_count; new_low = c.requires.bounds.low_count; new_high = c.requires.bounds.high_count }
 
 -- the loop's variable is one of the box's
 v_in : (c : After-move_low) → c.loop-var.var < length c.args.self.now.costs.low
-v_in c = omega (arith, c.loop-var-test.true, ap length c.as_slice-low.ensures, c.requires.low)
+v_in c = omega (arith, c.loop-var-test.true, ap length c.as_slice-low.ensures, c.requires.bounds.low_count)
 
 -- the table between the variable's two moves
 middle : (c : After-move_high) → AreAlike c.args.self.now.costs c.args.costs.now → c.loop-var.var < length c.args.self.now.costs.low →
@@ -63,7 +63,7 @@ move_low-requires c =
     record {
       unboxed = c.loop-var.invariant.unboxed;
       room = c.loop-var.invariant.room;
-      var = omega (arith, c.loop-var-test.true, ap length c.as_slice-low.ensures, c.requires.low, c.loop-var.invariant.keeps.width);
+      var = omega (arith, c.loop-var-test.true, ap length c.as_slice-low.ensures, c.requires.bounds.low_count, c.loop-var.invariant.keeps.width);
     }
 
 pub move_high-requires : goal.move_high-requires
@@ -75,7 +75,7 @@ move_high-requires c =
         arith,
         c.loop-var-test.true,
         ap length c.as_slice-low.ensures,
-        c.requires.low,
+        c.requires.bounds.low_count,
         c.loop-var.invariant.keeps.width,
         c.move_low.ensures.keeps.width,
       );
@@ -130,7 +130,7 @@ returns-clause-moved c =
       c.loop-var-test.false,
       c.loop-var.auto.var-end,
       ap length c.as_slice-low.ensures,
-      c.requires.low,
+      c.requires.bounds.low_count,
     )) c.loop-var.invariant.moved
 
 pub returns-clause-shape : goal.returns-clause-shape

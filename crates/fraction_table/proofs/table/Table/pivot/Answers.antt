@@ -1,5 +1,5 @@
 -- The quotients are made, each line is turned, and the line's form enters the basis.
-use Rattle.std.proofs.Common.{◌<◌, ◌≡◌, ℕ, suc, Vec, ◌∙◌, ap, sym, subst, List, map, length, arith}
+use Rattle.std.proofs.Common.{◌<◌, ◌≡◌, ℕ, suc, Vec, refl, ◌∙◌, ap, sym, subst, List, map, length, arith}
 use Rattle.std.specs.Prelude.{pos, slice_set}
 use Rattle.std.specs.Vec.{with_items}
 use Rattle.std.proofs.lemmas.List.{with_items_is, length-map}
@@ -25,18 +25,18 @@ lines_kept : {X Z : Type 0} (rows : Vec X Z) (news : List X) → length news ≡
 lines_kept rows news counted = with_items_is rows news (omega (arith, counted, rows.ok.0))
 
 pub member_at-member-requires-clause-line : goal.member_at-member-requires-clause-line
-member_at-member-requires-clause-line c = member_in c.args.self.now c.requires.whole c.args.line c.requires.line
+member_at-member-requires-clause-line c = member_in c.args.self.now c.requires.whole c.args.line c.requires.pivot.line_in
 
 pub take_quotients-requires-clause-width : goal.take_quotients-requires-clause-width
 take_quotients-requires-clause-width c =
-    c.requires.room.quotients ∙ sym (line_long c.args.self.now c.requires.whole c.args.line c.requires.line)
-    ∙ ap length (sym (line_read c.args.self.now c.args.line c.index.result.now c.index.ensures c.requires.line))
+    c.requires.room.quotients ∙ sym (line_long c.args.self.now c.requires.whole c.args.line c.requires.pivot.line_in)
+    ∙ ap length (sym (line_read c.args.self.now c.args.line c.index.result.now c.index.ensures c.requires.pivot.line_in))
 
 pub take_quotients-requires-clause-numbers : goal.take_quotients-requires-clause-numbers
 take_quotients-requires-clause-numbers c =
     let t = c.args.self.now in
-    subst (AreTableNumbers t.top) (sym (line_read t c.args.line c.index.result.now c.index.ensures c.requires.line))
-    (whole_line t c.requires.whole c.args.line c.requires.line).numbers
+    subst (AreTableNumbers t.top) (sym (line_read t c.args.line c.index.result.now c.index.ensures c.requires.pivot.line_in))
+    (whole_line t c.requires.whole c.args.line c.requires.pivot.line_in).numbers
 
 pub returns-in_err-inverse-clause-wide : goal.returns-in_err-inverse-clause-wide
 returns-in_err-inverse-clause-wide c =
@@ -44,9 +44,9 @@ returns-in_err-inverse-clause-wide c =
     let t = c.args.self.now in
     let wide = c.in_err-inverse.field-0.0 in
     rw (p.1, p.2)
-    (quotients_wide t c.requires.whole c.args.line c.args.column c.requires.line c.requires.pivot wide
+    (quotients_wide t c.requires.whole c.args.line c.args.column c.requires.pivot.line_in c.requires.pivot.pivot wide
     (subst (λ (row : List Fraction). IsWideStep t.top (IsQuotientStepOf row (suc c.args.column)) wide.step wide.left
-    wide.right) (line_read t c.args.line c.index.result.now c.index.ensures c.requires.line)
+    wide.right) (line_read t c.args.line c.index.result.now c.index.ensures c.requires.pivot.line_in)
     c.in_err-inverse.ensures.wide))
 
 pub turn_rows-requires-clause-rows : goal.turn_rows-requires-clause-rows
@@ -55,47 +55,40 @@ turn_rows-requires-clause-rows c =
     subst (λ (count : ℕ). AreTableRows t.top count c.as_mut_slice.result.now) (sym (c.take_quotients.ensures.width ∙ c.requires.room.quotients))
     (subst (AreTableRows t.top (suc (length t.costs.low))) (sym c.as_mut_slice.ensures.value) (whole_rows t c.requires.whole))
 
-pub turn_rows-requires-clause-none_there : goal.turn_rows-requires-clause-none_there
-turn_rows-requires-clause-none_there c =
+pub turn_rows-requires-clause-pivot : goal.turn_rows-requires-clause-pivot
+turn_rows-requires-clause-pivot c =
     let t = c.args.self.now in
     let row = c.index.result.now in
-    let row_is = line_read t c.args.line row c.index.ensures c.requires.line in
-    ap (λ (qs : List Fraction). entry qs (suc c.args.column)) c.in_ok-inverse.ensures.quotients
-    ∙ quotient_own (suc c.args.column) (entry row (suc c.args.column)) row
-    (omega (
-      arith,
-      ap length row_is,
-      line_long t c.requires.whole c.args.line c.requires.line,
-      c.requires.pivot.column,
-      c.requires.whole.unboxed.count,
-    ))
-
-pub turn_rows-requires-clause-not_zero : goal.turn_rows-requires-clause-not_zero
-turn_rows-requires-clause-not_zero c none =
-    let t = c.args.self.now in
-    let row_is = line_read t c.args.line c.index.result.now c.index.ensures c.requires.line in
+    let row_is = line_read t c.args.line row c.index.ensures c.requires.pivot.line_in in
+    let long = line_long t c.requires.whole c.args.line c.requires.pivot.line_in in
+    let counted = c.requires.whole.unboxed.count in
     let here = number_there t.top (line_at t c.args.line) (suc c.args.column)
-    (whole_line t c.requires.whole c.args.line c.requires.line).numbers
-    (omega (
-      arith,
-      line_long t c.requires.whole c.args.line c.requires.line,
-      c.requires.pivot.column,
-      c.requires.whole.unboxed.count,
-    )) in
-    inverse_not_zero (entry (line_at t c.args.line) (suc c.args.column)) here.lowest.positive c.requires.pivot.above
-    (ap (λ (row : List Fraction). (divided (whole (pos 1)) (entry row (suc c.args.column))).numerator) (sym row_is)
-    ∙ ap (λ (q : Fraction). q.numerator) (sym c.in_ok-inverse.ensures.inverse) ∙ none)
+    (whole_line t c.requires.whole c.args.line c.requires.pivot.line_in).numbers
+    (omega (arith, long, c.requires.pivot.pivot.column, counted)) in
+    record {
+      place_in = omega (arith, c.take_quotients.ensures.width, c.requires.room.quotients, c.requires.pivot.pivot.column, counted);
+      row = record { counted = refl; numbers = c.in_ok-inverse.ensures.divided.numbers };
+      none_there =
+          ap (λ (qs : List Fraction). entry qs (suc c.args.column)) c.in_ok-inverse.ensures.divided.row_is
+          ∙ quotient_own (suc c.args.column) (entry row (suc c.args.column)) row
+          (omega (arith, ap length row_is, long, c.requires.pivot.pivot.column, counted));
+      inverse_number = c.in_ok-inverse.ensures.divided.inverse_number;
+      not_zero = λ none.
+          inverse_not_zero (entry (line_at t c.args.line) (suc c.args.column)) here.lowest.positive c.requires.pivot.pivot.above
+          (ap (λ (r : List Fraction). (divided (whole (pos 1)) (entry r (suc c.args.column))).numerator) (sym row_is)
+          ∙ ap (λ (q : Fraction). q.numerator) (sym c.in_ok-inverse.ensures.divided.inverse_is) ∙ none);
+    }
 
 pub returns-in_err-turn_rows-clause-wide : goal.returns-in_err-turn_rows-clause-wide
 returns-in_err-turn_rows-clause-wide c =
     let p = err_from_is_err_and c.from_residual-in_err-turn_rows.result c.from_residual-in_err-turn_rows.ensures.1 in
     let t = c.args.self.now in
     let wide = c.in_err-turn_rows.field-0.0 in
-    let row_is = line_read t c.args.line c.index.result.now c.index.ensures c.requires.line in
+    let row_is = line_read t c.args.line c.index.result.now c.index.ensures c.requires.pivot.line_in in
     rw (p.1, p.2)
-    (turning_wide t c.requires.whole c.args.line c.args.column c.take_quotients.new.quotients c.in_ok-inverse.inverse c.requires.line c.requires.pivot
-    (c.in_ok-inverse.ensures.quotients ∙ ap (λ (row : List Fraction). divided_without (suc c.args.column) (entry row (suc c.args.column)) row 0) row_is)
-    (c.in_ok-inverse.ensures.inverse ∙ ap (λ (row : List Fraction). divided (whole (pos 1)) (entry row (suc c.args.column))) row_is)
+    (turning_wide t c.requires.whole c.args.line c.args.column c.take_quotients.new.quotients c.in_ok-inverse.inverse c.requires.pivot.line_in c.requires.pivot.pivot
+    (c.in_ok-inverse.ensures.divided.row_is ∙ ap (λ (row : List Fraction). divided_without (suc c.args.column) (entry row (suc c.args.column)) row 0) row_is)
+    (c.in_ok-inverse.ensures.divided.inverse_is ∙ ap (λ (row : List Fraction). divided (whole (pos 1)) (entry row (suc c.args.column))) row_is)
     wide
     (subst (λ (lines : List (List Fraction)). TurnsWide t.top lines c.take_quotients.new.quotients
     (suc c.args.column) c.in_ok-inverse.inverse wide.step wide.left wide.right) c.as_mut_slice.ensures.value
@@ -109,8 +102,8 @@ news_are c =
     let t = c.args.self.now in
     news_turned (line_at t c.args.line) c.index.result.now c.take_quotients.new.quotients
     (suc c.args.column) c.in_ok-inverse.inverse c.turn_rows.new.rows c.as_mut_slice.result.now t.lines.items
-    c.in_ok-turn_rows.ensures.turned c.as_mut_slice.ensures.value c.in_ok-inverse.ensures.quotients
-    c.in_ok-inverse.ensures.inverse (line_read t c.args.line c.index.result.now c.index.ensures c.requires.line)
+    c.in_ok-turn_rows.ensures.turned c.as_mut_slice.ensures.value c.in_ok-inverse.ensures.divided.row_is
+    c.in_ok-inverse.ensures.divided.inverse_is (line_read t c.args.line c.index.result.now c.index.ensures c.requires.pivot.line_in)
 
 news_kept : (c : In_ok-turn_rows) → (with_items c.args.self.now.lines c.turn_rows.new.rows).items ≡ c.turn_rows.new.rows
 news_kept c =
@@ -132,7 +125,7 @@ returns-clause-whole c =
     (subst (λ (lines : List (List Fraction)).
     IsTableauOf t.top t.costs t.rows.items (slice_set t.basis.items c.args.column (member_at t c.args.line)) lines)
     (sym (news_kept turned))
-    (pivot_whole t c.requires.whole c.args.line c.args.column news c.requires.line c.requires.pivot c.requires.least (news_are turned) (news_numbers turned)))
+    (pivot_whole t c.requires.whole c.args.line c.args.column news c.requires.pivot.line_in c.requires.pivot.pivot c.requires.pivot.least (news_are turned) (news_numbers turned)))
 
 pub returns-clause-rises : goal.returns-clause-rises
 returns-clause-rises c =
@@ -140,4 +133,4 @@ returns-clause-rises c =
     let news = c.turn_rows.new.rows in
     let turned = (goal.at.returns-clause-rises c).In_ok-turn_rows in
     subst (λ (lines : List (List Fraction)). rank t < digits_number (past_heights t.top) (heights t.top (length t.costs.low) lines)) (sym (news_kept turned))
-    (rank_rises t c.requires.whole c.args.line c.args.column news c.requires.line c.requires.pivot c.requires.least (news_are turned) (news_numbers turned))
+    (rank_rises t c.requires.whole c.args.line c.args.column news c.requires.pivot.line_in c.requires.pivot.pivot c.requires.pivot.least (news_are turned) (news_numbers turned))

@@ -1,5 +1,6 @@
 -- The table is whole with the row and its line; a step that stopped the line is too wide.
-use Rattle.std.proofs.Common.{suc, ap, sym, subst, length, arith}
+use Rattle.std.proofs.Common.{suc, ◌∙◌, ap, sym, subst, [], ◌∷◌, ◌++◌, length, arith}
+use Rattle.design_problem.specs.declared.form.Form.{Form}
 use Rattle.fraction_rows.specs.Turns.{AreTableRows}
 use Rattle.fraction_table.proofs.Bases.{table_long}
 use Rattle.fraction_table.proofs.Pivots.{whole_rows}
@@ -9,20 +10,23 @@ use Rattle.fraction_table.proofs.table.Table.put_row.Goals as goal
 pub fill_line-filled-requires-clause-lines : goal.fill_line-filled-requires-clause-lines
 fill_line-filled-requires-clause-lines c =
     let t = c.args.self.now in
-    subst (AreTableRows t.top (suc (length t.costs.low))) (sym c.as_slice-lines.ensures.value) (whole_rows t c.requires.whole)
-
-pub fill_line-filled-requires-clause-many : goal.fill_line-filled-requires-clause-many
-fill_line-filled-requires-clause-many c =
-    let t = c.args.self.now in
-    omega (arith, ap length c.as_slice-lines.ensures.value, table_long t.top t.costs t.rows.items t.basis.items t.lines.items c.requires.whole)
+    record {
+      rows = subst (AreTableRows t.top (suc (length t.costs.low))) (sym c.as_slice-lines.ensures.value) (whole_rows t c.requires.whole);
+      many = omega (
+        arith,
+        ap length c.as_slice-lines.ensures.value,
+        table_long t.top t.costs t.rows.items t.basis.items t.lines.items c.requires.whole,
+      );
+    }
 
 pub returns-clause-whole : goal.returns-clause-whole
 returns-clause-whole c =
     let t = c.args.self.now in
     put_whole {X = Unit {0}} c.fill_line-filled.result t.top t.costs t.rows.items c.push_reserved.new.self.items
     t.basis.items t.lines.items c.as_slice-lines.result.now c.push_reserved-2.new.self.items c.args.row.form
-    c.fill_line-filled.new.line
-    c.requires.whole c.requires.fits c.as_slice-lines.ensures.value c.push_reserved.ensures.items
+    c.fill_line-filled.new.row.line
+    c.requires.whole c.requires.fits c.as_slice-lines.ensures.value
+    (c.push_reserved.ensures.items ∙ ap (λ (f : Form). t.rows.items ++ f ∷ []) c.fill_line-filled.ensures.form)
     c.push_reserved-2.ensures.items c.fill_line-filled.ensures.line
 
 pub returns-clause-wide : goal.returns-clause-wide
@@ -30,4 +34,6 @@ returns-clause-wide c =
     let t = c.args.self.now in
     put_wide {X = Unit {0}} c.fill_line-filled.result t.top t.costs t.rows.items c.push_reserved.new.self.items
     t.basis.items t.lines.items c.as_slice-lines.result.now c.args.row.form
-    c.requires.whole c.requires.fits c.as_slice-lines.ensures.value c.push_reserved.ensures.items c.fill_line-filled.ensures.wide
+    c.requires.whole c.requires.fits c.as_slice-lines.ensures.value
+    (c.push_reserved.ensures.items ∙ ap (λ (f : Form). t.rows.items ++ f ∷ []) c.fill_line-filled.ensures.form)
+    c.fill_line-filled.ensures.wide

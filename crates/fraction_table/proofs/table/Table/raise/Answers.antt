@@ -14,8 +14,9 @@ choose-requires-clause-below c =
     let t = c.args.self.now in
     pivot_negative (length t.costs.low) t.rows.items (sign_at t) c.args.line c.requires.due
 
-pub pivot-requires-clause-least : goal.pivot-requires-clause-least
-pivot-requires-clause-least c =
+pub pivot-requires-clause-pivot : goal.pivot-requires-clause-pivot
+pivot-requires-clause-pivot c =
     let t = c.args.self.now in
-    best_least t c.args.line c.in-Some.column (pivot_line_in t c.requires.whole c.args.line c.requires.due)
-    (subst (IsBestBelow t c.args.line (length t.costs.low)) c.in-Some.is c.in_ok-choose.ensures.best)
+    let inside = pivot_line_in t c.requires.whole c.args.line c.requires.due in
+    let best = subst (IsBestBelow t c.args.line (length t.costs.low)) c.in-Some.is c.in_ok-choose.ensures.best in
+    record { line_in = inside; pivot = best.0; least = best_least t c.args.line c.in-Some.column inside best }

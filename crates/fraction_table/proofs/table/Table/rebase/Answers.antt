@@ -14,8 +14,7 @@ move_bounds-requires c =
     record {
       unboxed = c.requires.whole.unboxed;
       room = c.requires.room;
-      low = c.requires.ranges.low_count;
-      high = c.requires.ranges.high_count;
+      bounds = record { low_count = c.requires.ranges.low_count; high_count = c.requires.ranges.high_count };
     }
 
 pub restart-requires : goal.restart-requires
