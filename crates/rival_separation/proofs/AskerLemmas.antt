@@ -11,6 +11,7 @@ use Rattle.design_problem.specs.Problems.{no_request, request_at, request_ends}
 use Rattle.spf_ties.specs.Distances.{Findings}
 use Rattle.rival_separation.specs.Askers.{Asking, IsAskerFor, IsShared, RequestLeads}
 use Rattle.rival_separation.specs.declared.asker.Shared.{Shared}
+use Rattle.rival_separation.specs.declared.asker.Survey.{Survey}
 use Rattle.rival_separation.proofs.RivalLemmas.{found_kept}
 
 -- the numbers below n, and n
@@ -48,11 +49,12 @@ asker_kept g requests old new same is = subst (IsAskerFor g requests) (sym same)
     (record { room = record { vertices = is.room.vertices; edges = is.room.edges }; known = is.known; each = is.each })
 
 -- a room of which the path alone changed still has the distances
-pub shared_kept : (g : Area) (p : Point) (requests : List Request) (old new : Findings) (shared : Shared) →
-    new ≡ record old { path = new.path } → IsShared g p requests old shared → IsShared g p requests new shared
-shared_kept g p requests old new shared same is = record {
+pub shared_kept : (s : Survey) (old new : Findings) (shared : Shared) →
+    new ≡ record old { path = new.path } → IsShared s old shared → IsShared s new shared
+shared_kept s old new shared same is = record {
   known = is.known;
-  found = found_kept g p (request_ends (request_at requests shared.request)) shared.limit old new.path new same is.found;
+  found = found_kept s.graph.now s.point.now (request_ends (request_at s.requests.now shared.request)) shared.limit old
+      new.path new same is.found;
 }
 
 -- so each path leads where that of each number in the order does

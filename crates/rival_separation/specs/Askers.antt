@@ -1,5 +1,5 @@
 -- What asks for the rivals of several requests.
-use Rattle.std.specs.Prelude.{◌≡◌, ℕ, ◌+◌, ◌<◌, ◌≤◌, List, length, slice_index_or, All, Contains, Option, None, Some}
+use Rattle.std.specs.Prelude.{◌≡◌, ℕ, ◌+◌, ◌<◌, ◌≤◌, List, length, slice_index, slice_index_or, All, Contains, Option, None, Some}
 use Rattle.area_graph.specs.declared.Point.{Point}
 use Rattle.area_graph.specs.Area.{Area}
 use Rattle.area_graph.specs.Costs.{LeadsBy, cost}
@@ -8,7 +8,8 @@ use Rattle.design_problem.specs.declared.problem.Request.{Request}
 use Rattle.design_problem.specs.Problems.{request_ends, request_at}
 use Rattle.spf_ties.specs.Distances.{Findings, IsRoomFor}
 use Rattle.rival_separation.specs.declared.asker.Shared.{Shared}
-use Rattle.rival_separation.specs.Rivals.{HasDistancesBelow, IsCheapestRival}
+use Rattle.rival_separation.specs.declared.asker.Survey.{Survey}
+use Rattle.rival_separation.specs.Rivals.{HasDistancesBelow, HasDistancesTo, IsCheapestRival}
 
 -- what an asker shows: its room, and the requests' numbers in the order in which they are looked at
 pub record Asking : Type 0 where
@@ -43,18 +44,27 @@ pub record AreCheapestRivals (g : Area) (p : Point) (requests : List Request) (r
   pub count : length rivals ≡ length requests
   pub each : (k : ℕ) → k < length requests → IsCheapestIfAny g p (request_at requests k) (slice_index_or rivals k None)
 
--- the room has the distances to the end of a request without the edges that it takes away, those below a limit
-pub record IsShared (g : Area) (p : Point) (requests : List Request) (room : Findings) (shared : Shared) : Type 0 where
-  pub known : shared.request < length requests
-  pub found : HasDistancesBelow g p (request_ends (request_at requests shared.request)) shared.limit room
-
--- nothing is known of what the room has, or such distances
-abbrev pub MayShare : Area → Point → List Request → Findings → Option Shared → Type 0
-MayShare g p requests room None = Unit {0}
-MayShare g p requests room (Some shared) = IsShared g p requests room shared
+-- the request at a place of an asker's order
+abbrev pub request_seen : Survey → Asking → ℕ → Request
+request_seen s asker place = request_at s.requests.now (slice_index asker.order place)
 
 -- the room has the distances up to what the path of a request is compared with
-pub record IsReadyToCompare (g : Area) (p : Point) (requests : List Request) (room : Findings) (k : ℕ) (shared : Shared) : Type 0 where
+abbrev pub CanCompareWith : Survey → Request → Findings → Type 0
+CanCompareWith s r room =
+    HasDistancesTo s.graph.now s.point.now (request_ends r) (lead_at s.graph.now s.point.now r) room
+
+-- the room has the distances to the end of a request without the edges that it takes away, those below a limit
+pub record IsShared (s : Survey) (room : Findings) (shared : Shared) : Type 0 where
+  pub known : shared.request < length s.requests.now
+  pub found : HasDistancesBelow s.graph.now s.point.now (request_ends (request_at s.requests.now shared.request)) shared.limit room
+
+-- nothing is known of what the room has, or such distances
+abbrev pub MayShare : Survey → Findings → Option Shared → Type 0
+MayShare s room None = Unit {0}
+MayShare s room (Some shared) = IsShared s room shared
+
+-- the room has the distances up to what the path of a request is compared with, which others may share
+pub record IsReadyToCompare (s : Survey) (room : Findings) (k : ℕ) (shared : Shared) : Type 0 where
   pub of_request : shared.request ≡ k
-  pub shares : IsShared g p requests room shared
-  pub above : lead_at g p (request_at requests k) ≤ shared.limit
+  pub shares : IsShared s room shared
+  pub above : lead_at s.graph.now s.point.now (request_at s.requests.now k) ≤ shared.limit

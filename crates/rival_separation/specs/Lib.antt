@@ -2,3 +2,4 @@ pub mod Rivals
 pub mod Offers
 pub mod Answers
 pub mod Askers
+pub mod Outlooks

@@ -30,10 +30,6 @@ abbrev pub IsBestOffer : (ℕ → ℕ → ℕ → Type 0) → (ℕ → ℕ → T
 IsBestOffer Offer Seen None = (place e total : ℕ) → Seen place e → Offer place e total → ⊥
 IsBestOffer Offer Seen (Some best) = Offer best.place best.edge best.cost × ((place e total : ℕ) → Seen place e → Offer place e total → best.cost ≤ total)
 
--- the best of the offers that were seen to leave a path, if one was made
-abbrev pub IsBestDeviation : Area → Point → List ℕ → Findings → List ℕ → (ℕ → ℕ → Type 0) → Option Deviation → Type 0
-IsBestDeviation g p excluded room path Seen best = IsBestOffer (Offers g p excluded room path) Seen best
-
 -- the better of the best deviation so far and a later one: the first, unless the later one costs less
 abbrev pub IsBetter : Option Deviation → Deviation → Deviation → Type 0
 IsBetter best later result = MatchOption best (result ≡ later) (λ first. ((result ≡ later) × (later.cost < first.cost))

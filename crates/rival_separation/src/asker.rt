@@ -1,19 +1,29 @@
 //! What asks for the rivals of several requests at one point.
 
-ghost use Rattle.std.specs.Prelude.{◌≡◌, ◌↔◌, ◌<◌, ◌≤◌, ℕ, All, Contains, IfOk, IsTrue, MatchBool, Some, length, slice_index, slice_set};
+ghost use Rattle.std.specs.Prelude.{◌≡◌, ◌↔◌, ◌<◌, ◌≤◌, ℕ, All, Contains, IfOk, IsTrue, MatchBool, Some, length, slice_index};
 ghost use Rattle.area_graph.specs.Costs.{FitsPoint};
-ghost use Rattle.area_graph.specs.Paths.{IsPathOf};
-ghost use Rattle.design_problem.specs.Problems.{request_ends, request_at};
-ghost use Rattle.rival_separation.specs.Askers.{AreCheapestRivals, ArePathsOf, IsAskerFor, IsCheapestIfAny, IsReadyToCompare, IsShared, MayShare, RequestLeads, lead_at};
-ghost use Rattle.rival_separation.specs.Rivals.{HasDistancesTo};
+ghost use Rattle.design_problem.specs.Problems.{request_at};
+ghost use Rattle.rival_separation.specs.Askers.{AreCheapestRivals, ArePathsOf, CanCompareWith, IsAskerFor, IsCheapestIfAny};
+ghost use Rattle.rival_separation.specs.Askers.{IsReadyToCompare, IsShared, MayShare, RequestLeads, lead_at, request_seen};
+ghost use Rattle.rival_separation.specs.Outlooks.{CanCompare, FitsOutlook, HasItsPath};
 
-use crate::rival::{cheap_deviation, find_rival_at_hand, least_lead};
+use crate::outlook::Outlook;
+use crate::rival::{cheap_deviation, find_distances, find_rival_at_hand, least_lead};
+use crate::told::{nothing_told, tell};
 use area_graph::{Graph, Point};
 use cost_base::{Listed, OutOfMemory};
 use design_problem::Request;
 use spf_ties::Room;
 use std::alloc::Global;
 use std::marker::Model;
+
+/// Several requests of a graph, at a point.
+#[derive(Clone, Copy)]
+struct Survey<'a> {
+    graph: &'a Graph,
+    requests: &'a [Request],
+    point: &'a Point,
+}
 
 /// What a room has: the distances that serve this request, those below the limit.
 #[derive(Clone, Copy)]
@@ -79,35 +89,17 @@ fn share(first: &Request, other: &Request) -> bool
     first.end == other.end && first.excluded.as_slice() == other.excluded.as_slice()
 }
 
-/// So many places, and nothing told at any of them.
-fn nothing_told(alloc: Global, count: usize) -> Result<Vec<Option<Listed<u32>>>, OutOfMemory>
-    ensures { IfOk result (λ rivals. length rivals.items ≡ count) }
-{
-    let mut rivals = Vec::new(alloc);
-    for place in 0..count {
-        let _ = place;
-        rivals.push(None)?;
-    }
-    Ok(rivals)
-}
-
-/// Puts what is told of the request of that number to its place.
-fn tell(rivals: &mut Vec<Option<Listed<u32>>>, number: u32, rival: Option<Listed<u32>>)
-    requires { number < length rivals.old.items }
-    ensures { rivals.new.items ≡ slice_set rivals.old.items number rival }
-{
-    rivals[number as usize] = rival;
-}
-
 /// Whether a request has a rival that costs less than its path and the scale. The room has the distances below that.
-fn is_beaten(graph: &Graph, request: &Request, point: &Point, room: &Room) -> bool
-    requires fits { FitsPoint graph.now point.now }
-    requires path { IsPathOf graph.now (request_ends request.now) request.now.path.edges }
-    requires found { HasDistancesTo graph.now point.now (request_ends request.now) (lead_at graph.now point.now request.now) room.now }
-    ensures { MatchBool result (RequestLeads graph.now point.now request.now → ⊥) (RequestLeads graph.now point.now request.now) }
+fn is_beaten(outlook: &Outlook<'_>, room: &Room) -> bool
+    requires fits { FitsOutlook outlook.now }
+    requires path { HasItsPath outlook.now }
+    requires found { CanCompare outlook.now room.now }
+    ensures { MatchBool result
+        (RequestLeads outlook.now.graph.now outlook.now.point.now outlook.now.request.now → ⊥)
+        (RequestLeads outlook.now.graph.now outlook.now.point.now outlook.now.request.now) }
 {
-    graph.keeps_conditions();
-    match cheap_deviation(graph, request, point, room) {
+    outlook.graph.keeps_conditions();
+    match cheap_deviation(outlook, room) {
         Some(_) => true,
         None => false,
     }
@@ -143,56 +135,56 @@ impl Asker {
         self.order[place]
     }
 
-    /// The request at a place of the order.
-    fn request_at<'a>(&self, requests: &'a [Request], place: usize) -> &'a Request
-        requires known { All (λ k. k < length requests.now) self.now.order }
+    /// The request at a place of the order, as a part of a survey.
+    fn outlook_at<'a>(&self, survey: &Survey<'a>, place: usize) -> Outlook<'a>
+        requires known { All (λ k. k < length survey.now.requests.now) self.now.order }
         requires place { place < length self.now.order }
-        ensures { result.now ≡ request_at requests.now (slice_index self.now.order place) }
+        ensures graph { result.graph.now ≡ survey.now.graph.now }
+        ensures request { result.request.now ≡ request_seen survey.now self.now place }
+        ensures point { result.point.now ≡ survey.now.point.now }
     {
-        request_of(requests, self.number_at(place))
+        Outlook {
+            graph: survey.graph,
+            request: request_of(survey.requests, self.number_at(place)),
+            point: survey.point,
+        }
     }
 
     /// Up to which limit distances serve the request at a place of the order, and those behind it that share them: each of
     /// their rivals that is too cheap costs less.
-    fn limit_at(&self, graph: &Graph, requests: &[Request], point: &Point, place: usize) -> u128
-        requires asker { IsAskerFor graph.now requests.now self.now }
-        requires fits { FitsPoint graph.now point.now }
-        requires paths { ArePathsOf graph.now requests.now }
+    fn limit_at(&self, survey: &Survey<'_>, place: usize) -> u128
+        requires asker { IsAskerFor survey.now.graph.now survey.now.requests.now self.now }
+        requires fits { FitsPoint survey.now.graph.now survey.now.point.now }
+        requires paths { ArePathsOf survey.now.graph.now survey.now.requests.now }
         requires place { place < length self.now.order }
-        ensures { lead_at graph.now point.now (request_at requests.now (slice_index self.now.order place)) ≤ result }
+        ensures { lead_at survey.now.graph.now survey.now.point.now (request_seen survey.now self.now place) ≤ result }
     {
-        let first = self.request_at(requests, place);
-        let mut limit = least_lead(graph, first, point);
+        let first = self.outlook_at(survey, place);
+        let mut limit = least_lead(&first);
         for later in place..self.places() {
-            let other = self.request_at(requests, later);
-            if !share(first, other) {
+            let other = self.outlook_at(survey, later);
+            if !share(first.request, other.request) {
                 return limit;
             }
-            limit = limit.max(least_lead(graph, other, point));
+            limit = limit.max(least_lead(&other));
         }
         limit
     }
 
     /// Looks for the distances that serve the request at a place of the order, and those behind it that share them.
-    fn look(&mut self, graph: &Graph, requests: &[Request], point: &Point, place: usize) -> Shared
-        requires asker { IsAskerFor graph.now requests.now self.old }
-        requires fits { FitsPoint graph.now point.now }
-        requires paths { ArePathsOf graph.now requests.now }
+    fn look(&mut self, survey: &Survey<'_>, place: usize) -> Shared
+        requires asker { IsAskerFor survey.now.graph.now survey.now.requests.now self.old }
+        requires fits { FitsPoint survey.now.graph.now survey.now.point.now }
+        requires paths { ArePathsOf survey.now.graph.now survey.now.requests.now }
         requires place { place < length self.old.order }
-        ensures asker { IsAskerFor graph.now requests.now self.new }
+        ensures asker { IsAskerFor survey.now.graph.now survey.now.requests.now self.new }
         ensures same { self.new ≡ record self.old { room = self.new.room } }
-        ensures ready { IsReadyToCompare graph.now point.now requests.now self.new.room (slice_index self.old.order place) result }
+        ensures ready { IsReadyToCompare survey.now self.new.room (slice_index self.old.order place) result }
     {
-        let limit = self.limit_at(graph, requests, point, place);
-        let request = self.request_at(requests, place);
+        let limit = self.limit_at(survey, place);
+        let outlook = self.outlook_at(survey, place);
         let number = self.number_at(place);
-        self.room.distances_within(
-            graph,
-            point,
-            request.end,
-            request.excluded.as_slice(),
-            limit,
-        );
+        find_distances(&outlook, limit, &mut self.room);
         Shared {
             request: number,
             limit,
@@ -200,72 +192,57 @@ impl Asker {
     }
 
     /// Whether what the room has serves the request at a place of the order.
-    fn serves(
-        &self,
-        graph: &Graph,
-        requests: &[Request],
-        point: &Point,
-        place: usize,
-        shared: Shared,
-    ) -> bool
-        requires asker { IsAskerFor graph.now requests.now self.now }
-        requires fits { FitsPoint graph.now point.now }
-        requires paths { ArePathsOf graph.now requests.now }
+    fn serves(&self, survey: &Survey<'_>, place: usize, shared: Shared) -> bool
+        requires asker { IsAskerFor survey.now.graph.now survey.now.requests.now self.now }
+        requires fits { FitsPoint survey.now.graph.now survey.now.point.now }
+        requires paths { ArePathsOf survey.now.graph.now survey.now.requests.now }
         requires place { place < length self.now.order }
-        requires shared { IsShared graph.now point.now requests.now self.now.room shared }
-        ensures { IsTrue result → IsReadyToCompare graph.now point.now requests.now self.now.room (slice_index self.now.order place)
+        requires shared { IsShared survey.now self.now.room shared }
+        ensures { IsTrue result → IsReadyToCompare survey.now self.now.room (slice_index self.now.order place)
             (record { request = slice_index self.now.order place; limit = shared.limit }) }
     {
-        let request = self.request_at(requests, place);
-        if !share(request_of(requests, shared.request), request) {
+        let outlook = self.outlook_at(survey, place);
+        if !share(request_of(survey.requests, shared.request), outlook.request) {
             return false;
         }
-        least_lead(graph, request, point) <= shared.limit
+        least_lead(&outlook) <= shared.limit
     }
 
     /// Sees to it that the room has the distances that serve the request at a place of the order. It keeps those that it
     /// has where they serve that one too.
-    fn prepare(
-        &mut self,
-        graph: &Graph,
-        requests: &[Request],
-        point: &Point,
-        place: usize,
-        shared: Option<Shared>,
-    ) -> Shared
-        requires asker { IsAskerFor graph.now requests.now self.old }
-        requires fits { FitsPoint graph.now point.now }
-        requires paths { ArePathsOf graph.now requests.now }
+    fn prepare(&mut self, survey: &Survey<'_>, place: usize, shared: Option<Shared>) -> Shared
+        requires asker { IsAskerFor survey.now.graph.now survey.now.requests.now self.old }
+        requires fits { FitsPoint survey.now.graph.now survey.now.point.now }
+        requires paths { ArePathsOf survey.now.graph.now survey.now.requests.now }
         requires place { place < length self.old.order }
-        requires shared { MayShare graph.now point.now requests.now self.old.room shared }
-        ensures asker { IsAskerFor graph.now requests.now self.new }
+        requires shared { MayShare survey.now self.old.room shared }
+        ensures asker { IsAskerFor survey.now.graph.now survey.now.requests.now self.new }
         ensures same { self.new ≡ record self.old { room = self.new.room } }
-        ensures ready { IsReadyToCompare graph.now point.now requests.now self.new.room (slice_index self.old.order place) result }
+        ensures ready { IsReadyToCompare survey.now self.new.room (slice_index self.old.order place) result }
     {
         if let Some(shared) = shared {
-            if self.serves(graph, requests, point, place, shared) {
+            if self.serves(survey, place, shared) {
                 return Shared {
                     request: self.number_at(place),
                     limit: shared.limit,
                 };
             }
         }
-        self.look(graph, requests, point, place)
+        self.look(survey, place)
     }
 
     /// Whether the request at a place of the order is beaten; the room has the distances that serve it.
-    fn is_beaten_at(&self, graph: &Graph, requests: &[Request], point: &Point, place: usize) -> bool
-        requires asker { IsAskerFor graph.now requests.now self.now }
-        requires fits { FitsPoint graph.now point.now }
-        requires paths { ArePathsOf graph.now requests.now }
+    fn is_beaten_at(&self, survey: &Survey<'_>, place: usize) -> bool
+        requires asker { IsAskerFor survey.now.graph.now survey.now.requests.now self.now }
+        requires fits { FitsPoint survey.now.graph.now survey.now.point.now }
+        requires paths { ArePathsOf survey.now.graph.now survey.now.requests.now }
         requires place { place < length self.now.order }
-        requires found { HasDistancesTo graph.now point.now (request_ends (request_at requests.now (slice_index self.now.order place)))
-            (lead_at graph.now point.now (request_at requests.now (slice_index self.now.order place))) self.now.room }
+        requires found { CanCompareWith survey.now (request_seen survey.now self.now place) self.now.room }
         ensures { MatchBool result
-            (RequestLeads graph.now point.now (request_at requests.now (slice_index self.now.order place)) → ⊥)
-            (RequestLeads graph.now point.now (request_at requests.now (slice_index self.now.order place))) }
+            (RequestLeads survey.now.graph.now survey.now.point.now (request_seen survey.now self.now place) → ⊥)
+            (RequestLeads survey.now.graph.now survey.now.point.now (request_seen survey.now self.now place)) }
     {
-        is_beaten(graph, self.request_at(requests, place), point, &self.room)
+        is_beaten(&self.outlook_at(survey, place), &self.room)
     }
 
     /// The cheapest rival of the request at a place of the order, None where its path leads. The room has the distances that
@@ -273,22 +250,19 @@ impl Asker {
     fn rival_at(
         &mut self,
         alloc: Global,
-        graph: &Graph,
-        requests: &[Request],
-        point: &Point,
+        survey: &Survey<'_>,
         place: usize,
     ) -> Result<Option<Listed<u32>>, OutOfMemory>
-        requires asker { IsAskerFor graph.now requests.now self.old }
-        requires fits { FitsPoint graph.now point.now }
-        requires paths { ArePathsOf graph.now requests.now }
+        requires asker { IsAskerFor survey.now.graph.now survey.now.requests.now self.old }
+        requires fits { FitsPoint survey.now.graph.now survey.now.point.now }
+        requires paths { ArePathsOf survey.now.graph.now survey.now.requests.now }
         requires place { place < length self.old.order }
-        requires found { HasDistancesTo graph.now point.now (request_ends (request_at requests.now (slice_index self.old.order place)))
-            (lead_at graph.now point.now (request_at requests.now (slice_index self.old.order place))) self.old.room }
+        requires found { CanCompareWith survey.now (request_seen survey.now self.old place) self.old.room }
         ensures same { self.new ≡ record self.old { room = record self.old.room { path = self.new.room.path } } }
-        ensures rival { IfOk result (IsCheapestIfAny graph.now point.now (request_at requests.now (slice_index self.old.order place))) }
+        ensures rival { IfOk result (IsCheapestIfAny survey.now.graph.now survey.now.point.now (request_seen survey.now self.old place)) }
     {
-        let request = self.request_at(requests, place);
-        if !find_rival_at_hand(graph, request, point, &mut self.room) {
+        let outlook = self.outlook_at(survey, place);
+        if !find_rival_at_hand(&outlook, &mut self.room) {
             return Ok(None);
         }
         let edges = Listed::from_slice(alloc, self.room.path())?;
@@ -315,12 +289,17 @@ impl Asker {
         ensures asker { IsAskerFor graph.now requests.now self.new }
         ensures rivals { IfOk result (λ rivals. AreCheapestRivals graph.now point.now requests.now rivals.items) }
     {
+        let survey = Survey {
+            graph,
+            requests,
+            point,
+        };
         let mut rivals = nothing_told(alloc, requests.len())?;
         let mut shared = None;
         for place in 0..self.places() {
-            let ready = self.prepare(graph, requests, point, place, shared);
-            let rival = self.rival_at(alloc, graph, requests, point, place)?;
-            tell(&mut rivals, self.number_at(place), rival);
+            let ready = self.prepare(&survey, place, shared);
+            let rival = self.rival_at(alloc, &survey, place)?;
+            tell(&mut rivals, self.number_at(place) as usize, rival);
             shared = Some(ready);
         }
         Ok(rivals)
@@ -335,10 +314,15 @@ impl Asker {
         ensures asker { IsAskerFor graph.now requests.now self.new }
         ensures leads { IsTrue result ↔ All (RequestLeads graph.now point.now) requests.now }
     {
+        let survey = Survey {
+            graph,
+            requests,
+            point,
+        };
         let mut shared = None;
         for place in 0..self.places() {
-            let ready = self.prepare(graph, requests, point, place, shared);
-            if self.is_beaten_at(graph, requests, point, place) {
+            let ready = self.prepare(&survey, place, shared);
+            if self.is_beaten_at(&survey, place) {
                 return false;
             }
             shared = Some(ready);

@@ -2,14 +2,12 @@
 
 ghost use Rattle.std.specs.Prelude.{◌≡◌, ◌+◌, ◌<◌, ◌≤◌, ◌*◌, ◌^◌, ℕ, IfSome, MatchOption, Some, length, slice_index, take};
 ghost use Rattle.area_graph.specs.Area.{edge_at};
-ghost use Rattle.area_graph.specs.Costs.{FitsPoint, cost};
-ghost use Rattle.area_graph.specs.Paths.{IsPathOf};
-ghost use Rattle.design_problem.specs.Problems.{request_ends};
-ghost use Rattle.rival_separation.specs.Offers.{IsBestDeviation, IsBetter, IsBetterBy, IsOnward, Offers};
-ghost use Rattle.rival_separation.specs.Rivals.{HasDistancesBelow};
+ghost use Rattle.area_graph.specs.Costs.{cost};
+ghost use Rattle.rival_separation.specs.Offers.{IsBetter, IsBetterBy, IsOnward, Offers};
+ghost use Rattle.rival_separation.specs.Outlooks.{FitsOutlook, HasDistances, HasItsPath, IsBestDeviation};
 
-use area_graph::{Graph, Point, edge_of, price_of};
-use design_problem::Request;
+use crate::outlook::Outlook;
+use area_graph::{edge_of, price_of};
 use spf_ties::Room;
 
 /// A walk that leaves a path, or the common beginnings of several, at a place by an edge, and costs so much.
@@ -25,28 +23,24 @@ pub struct Deviation {
 
 /// What the cheapest walk costs that begins with an edge and goes on to the end of the request; None where the edge is
 /// taken away, or where no path leads on from it. The room has the distances to that end.
-pub fn onward(
-    graph: &Graph,
-    request: &Request,
-    point: &Point,
-    room: &Room,
-    number: u32,
-) -> Option<u128>
-    requires fits { FitsPoint graph.now point.now }
-    requires found { (limit : ℕ) × HasDistancesBelow graph.now point.now (request_ends request.now) limit room.now }
-    requires known { number < length graph.now.edges }
+pub fn onward(outlook: &Outlook<'_>, room: &Room, number: u32) -> Option<u128>
+    requires fits { FitsOutlook outlook.now }
+    requires found { HasDistances outlook.now room.now }
+    requires known { number < length outlook.now.graph.now.edges }
     ensures onward { MatchOption result
-        ((total : ℕ) → IsOnward graph.now point.now request.now.excluded room.now number total → ⊥)
-        (λ total. IsOnward graph.now point.now request.now.excluded room.now number total) }
-    ensures below { IfSome result (λ total. total < 2 ^ 27 * point.now.scale) }
+        ((total : ℕ) → IsOnward outlook.now.graph.now outlook.now.point.now outlook.now.request.now.excluded
+        room.now number total → ⊥)
+        (λ total. IsOnward outlook.now.graph.now outlook.now.point.now outlook.now.request.now.excluded
+        room.now number total) }
+    ensures below { IfSome result (λ total. total < 2 ^ 27 * outlook.now.point.now.scale) }
 {
-    graph.keeps_conditions();
+    outlook.graph.keeps_conditions();
     if !room.leaves(number) {
         return None;
     }
-    let edge = edge_of(graph, number);
+    let edge = edge_of(outlook.graph, number);
     match room.distance(edge.to) {
-        Some(rest) => Some(price_of(edge.price, point) + rest),
+        Some(rest) => Some(price_of(edge.price, outlook.point) + rest),
         None => None,
     }
 }
@@ -54,29 +48,30 @@ pub fn onward(
 /// What the cheapest walk costs that leaves the path at a place by an edge; None where the edge is the path's own or is
 /// taken away, or where no path leads on from it. `before` is what the path costs up to the place.
 fn offer(
-    graph: &Graph,
-    request: &Request,
-    point: &Point,
+    outlook: &Outlook<'_>,
     room: &Room,
     place: usize,
     before: u128,
     number: u32,
 ) -> Option<u128>
-    requires fits { FitsPoint graph.now point.now }
-    requires found { (limit : ℕ) × HasDistancesBelow graph.now point.now (request_ends request.now) limit room.now }
-    requires place { place < length request.now.path.edges }
-    requires before { before ≡ cost graph.now point.now (take place request.now.path.edges) }
-    requires near { before < 2 ^ 26 * point.now.scale }
-    requires known { number < length graph.now.edges }
-    requires from { (edge_at graph.now number).from ≡ (edge_at graph.now (slice_index request.now.path.edges place)).from }
+    requires fits { FitsOutlook outlook.now }
+    requires found { HasDistances outlook.now room.now }
+    requires place { place < length outlook.now.request.now.path.edges }
+    requires before { before ≡ cost outlook.now.graph.now outlook.now.point.now (take place outlook.now.request.now.path.edges) }
+    requires near { before < 2 ^ 26 * outlook.now.point.now.scale }
+    requires known { number < length outlook.now.graph.now.edges }
+    requires from { (edge_at outlook.now.graph.now number).from ≡
+        (edge_at outlook.now.graph.now (slice_index outlook.now.request.now.path.edges place)).from }
     ensures { MatchOption result
-        ((total : ℕ) → Offers graph.now point.now request.now.excluded room.now request.now.path.edges place number total → ⊥)
-        (λ total. Offers graph.now point.now request.now.excluded room.now request.now.path.edges place number total) }
+        ((total : ℕ) → Offers outlook.now.graph.now outlook.now.point.now outlook.now.request.now.excluded
+        room.now outlook.now.request.now.path.edges place number total → ⊥)
+        (λ total. Offers outlook.now.graph.now outlook.now.point.now outlook.now.request.now.excluded
+        room.now outlook.now.request.now.path.edges place number total) }
 {
-    if number == request.path.edges.as_slice()[place] {
+    if number == outlook.request.path.edges.as_slice()[place] {
         return None;
     }
-    match onward(graph, request, point, room, number) {
+    match onward(outlook, room, number) {
         Some(rest) => Some(before + rest),
         None => None,
     }
@@ -115,28 +110,26 @@ pub fn better_by(
 
 /// The best of the deviations before a place and at it; `best` is the best of those before it.
 fn better_at(
-    graph: &Graph,
-    request: &Request,
-    point: &Point,
+    outlook: &Outlook<'_>,
     room: &Room,
     place: usize,
     before: u128,
     best: Option<Deviation>,
 ) -> Option<Deviation>
-    requires fits { FitsPoint graph.now point.now }
-    requires found { (limit : ℕ) × HasDistancesBelow graph.now point.now (request_ends request.now) limit room.now }
-    requires path { IsPathOf graph.now (request_ends request.now) request.now.path.edges }
-    requires place { place < length request.now.path.edges }
-    requires before { before ≡ cost graph.now point.now (take place request.now.path.edges) }
-    requires near { before < 2 ^ 26 * point.now.scale }
-    requires best { IsBestDeviation graph.now point.now request.now.excluded room.now request.now.path.edges (λ earlier e. earlier < place) best }
-    ensures { IsBestDeviation graph.now point.now request.now.excluded room.now request.now.path.edges (λ earlier e. earlier < place + 1) result }
+    requires fits { FitsOutlook outlook.now }
+    requires found { HasDistances outlook.now room.now }
+    requires path { HasItsPath outlook.now }
+    requires place { place < length outlook.now.request.now.path.edges }
+    requires before { before ≡ cost outlook.now.graph.now outlook.now.point.now (take place outlook.now.request.now.path.edges) }
+    requires near { before < 2 ^ 26 * outlook.now.point.now.scale }
+    requires best { IsBestDeviation outlook.now room.now (λ earlier e. earlier < place) best }
+    ensures { IsBestDeviation outlook.now room.now (λ earlier e. earlier < place + 1) result }
 {
-    graph.keeps_conditions();
-    let named = request.path.edges.as_slice()[place];
+    outlook.graph.keeps_conditions();
+    let named = outlook.request.path.edges.as_slice()[place];
     let mut found = best;
-    for number in graph.edges_out(edge_of(graph, named).from) {
-        let cost = offer(graph, request, point, room, place, before, *number);
+    for number in outlook.graph.edges_out(edge_of(outlook.graph, named).from) {
+        let cost = offer(outlook, room, place, before, *number);
         found = better_by(found, place, *number, cost);
     }
     found
@@ -144,23 +137,18 @@ fn better_at(
 
 /// The deviation of least cost from the path of a request: places are tried from the path's start, edges out of a vertex
 /// in rising order, and the first of least cost is kept. None where no walk leaves the path and comes to its end.
-pub(crate) fn least_deviation(
-    graph: &Graph,
-    request: &Request,
-    point: &Point,
-    room: &Room,
-) -> Option<Deviation>
-    requires fits { FitsPoint graph.now point.now }
-    requires found { (limit : ℕ) × HasDistancesBelow graph.now point.now (request_ends request.now) limit room.now }
-    requires path { IsPathOf graph.now (request_ends request.now) request.now.path.edges }
-    ensures { IsBestDeviation graph.now point.now request.now.excluded room.now request.now.path.edges (λ place e. place < length request.now.path.edges) result }
+pub(crate) fn least_deviation(outlook: &Outlook<'_>, room: &Room) -> Option<Deviation>
+    requires fits { FitsOutlook outlook.now }
+    requires found { HasDistances outlook.now room.now }
+    requires path { HasItsPath outlook.now }
+    ensures { IsBestDeviation outlook.now room.now (λ place e. place < length outlook.now.request.now.path.edges) result }
 {
-    graph.keeps_conditions();
+    outlook.graph.keeps_conditions();
     let mut best = None;
     let mut before = 0;
-    for (place, number) in request.path.edges.as_slice().iter().enumerate() {
-        best = better_at(graph, request, point, room, place, before, best);
-        before += price_of(edge_of(graph, *number).price, point);
+    for (place, number) in outlook.request.path.edges.as_slice().iter().enumerate() {
+        best = better_at(outlook, room, place, before, best);
+        before += price_of(edge_of(outlook.graph, *number).price, outlook.point);
     }
     best
 }

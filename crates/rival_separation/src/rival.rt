@@ -3,19 +3,21 @@
 ghost use Rattle.std.specs.Prelude.{◌≡◌, ◌↔◌, ◌++◌, ◌∷◌, [], ◌+◌, ◌<◌, ◌≤◌, ℕ, All, List, IsTrue, MatchBool, MatchOption, Some};
 ghost use Rattle.std.specs.Prelude.{false, length, slice_index_or, take, true};
 ghost use Rattle.area_graph.specs.Area.{edge_at, edges_out};
-ghost use Rattle.area_graph.specs.Costs.{FitsPoint, LeadsBy, cost};
+ghost use Rattle.area_graph.specs.Costs.{FitsPoint, LeadsBy};
 ghost use Rattle.area_graph.specs.Paths.{IsPathOf};
 ghost use Rattle.design_problem.specs.Problems.{request_ends};
 ghost use Rattle.spf_ties.specs.Distances.{IsRoomFor, is_tight};
 ghost use Rattle.rival_separation.specs.Answers.{IsRivalAnswer};
-ghost use Rattle.rival_separation.specs.Offers.{IsBestDeviation};
-ghost use Rattle.rival_separation.specs.Rivals.{HasWay, IsCheapestRival, IsFollowedByLeast, HasDistancesBelow, HasDistancesTo, IsNextEdge, with_edge};
+ghost use Rattle.rival_separation.specs.Askers.{RequestLeads};
+ghost use Rattle.rival_separation.specs.Outlooks.{CanCompare, FitsOutlook, HasDistances, HasItsPath, IsBestDeviation, IsCheapestRivalSeen, lead_in};
+ghost use Rattle.rival_separation.specs.Rivals.{HasDistancesBelow, HasWay, IsCheapestRival, IsFollowedByLeast, IsNextEdge, with_edge};
 ghost use Rattle.rival_separation.specs.declared.deviation.Deviation.{Deviation};
 
 use crate::deviation::{Deviation, least_deviation};
+use crate::outlook::Outlook;
 use area_graph::{Graph, Point, edge_of, path_cost};
 use design_problem::Request;
-use spf_ties::Room;
+use spf_ties::{Aim, Room};
 
 /// What the rivals of a wanted path cost at a point.
 #[derive(Drop)]
@@ -66,21 +68,21 @@ pub fn put_front(room: &mut Room, edges: &[u32])
 
 /// Goes from a vertex along the least-numbered tight edges that weren't taken away, to the end of the request, and puts
 /// each behind the path that the room keeps: a path of least cost. The room has the distances to that end.
-fn follow(graph: &Graph, request: &Request, point: &Point, start: u32, room: &mut Room)
-    requires fits { FitsPoint graph.now point.now }
-    requires found { (limit : ℕ) × HasDistancesBelow graph.now point.now (request_ends request.now) limit room.old }
-    requires way { HasWay graph.now point.now (request_ends request.now) room.old start }
-    ensures room { IsRoomFor graph.now room.new }
-    ensures followed { IsFollowedByLeast graph.now point.now (request_ends request.now) room.old start room.new.path }
+fn follow(outlook: &Outlook<'_>, start: u32, room: &mut Room)
+    requires fits { FitsOutlook outlook.now }
+    requires found { HasDistances outlook.now room.old }
+    requires way { HasWay outlook.now.graph.now outlook.now.point.now (request_ends outlook.now.request.now) room.old start }
+    ensures room { IsRoomFor outlook.now.graph.now room.new }
+    ensures followed { IsFollowedByLeast outlook.now.graph.now outlook.now.point.now (request_ends outlook.now.request.now) room.old start room.new.path }
     ensures same { room.new ≡ record room.old { path = room.new.path } }
 {
-    graph.keeps_conditions();
+    outlook.graph.keeps_conditions();
     let mut at = start;
-    while at != request.end {
-        match next_edge(graph, point, room, at) {
+    while at != outlook.request.end {
+        match next_edge(outlook.graph, outlook.point, room, at) {
             Some(edge) => {
                 room.add_to_path(edge);
-                at = edge_of(graph, edge).to;
+                at = edge_of(outlook.graph, edge).to;
             }
             None => return,
         }
@@ -89,51 +91,61 @@ fn follow(graph: &Graph, request: &Request, point: &Point, start: u32, room: &mu
 
 /// Puts an edge behind the path that the room keeps, and goes on from the edge's end as `follow` does: so a walk that leaves
 /// a path by that edge becomes whole. The room has the distances to the end of the request.
-pub fn leave_by(graph: &Graph, request: &Request, point: &Point, edge: u32, room: &mut Room)
-    requires fits { FitsPoint graph.now point.now }
-    requires known { edge < length graph.now.edges }
-    requires found { (limit : ℕ) × HasDistancesBelow graph.now point.now (request_ends request.now) limit room.old }
-    requires way { HasWay graph.now point.now (request_ends request.now) (with_edge room.old edge) (edge_at graph.now edge).to }
-    ensures room { IsRoomFor graph.now room.new }
-    ensures followed { IsFollowedByLeast graph.now point.now (request_ends request.now) (with_edge room.old edge) (edge_at graph.now edge).to room.new.path }
+pub fn leave_by(outlook: &Outlook<'_>, edge: u32, room: &mut Room)
+    requires fits { FitsOutlook outlook.now }
+    requires known { edge < length outlook.now.graph.now.edges }
+    requires found { HasDistances outlook.now room.old }
+    requires way { HasWay outlook.now.graph.now outlook.now.point.now (request_ends outlook.now.request.now) (with_edge room.old edge) (edge_at outlook.now.graph.now edge).to }
+    ensures room { IsRoomFor outlook.now.graph.now room.new }
+    ensures followed { IsFollowedByLeast outlook.now.graph.now outlook.now.point.now (request_ends outlook.now.request.now) (with_edge room.old edge) (edge_at outlook.now.graph.now edge).to room.new.path }
     ensures same { room.new ≡ record room.old { path = room.new.path } }
 {
-    graph.keeps_conditions();
+    outlook.graph.keeps_conditions();
     room.add_to_path(edge);
-    follow(graph, request, point, edge_of(graph, edge).to, room);
+    follow(outlook, edge_of(outlook.graph, edge).to, room);
 }
 
 /// What a rival costs at least where the path of a request leads by the scale: what the path costs, and the scale.
-pub(crate) fn least_lead(graph: &Graph, request: &Request, point: &Point) -> u128
-    requires fits { FitsPoint graph.now point.now }
-    requires path { IsPathOf graph.now (request_ends request.now) request.now.path.edges }
-    ensures { result ≡ cost graph.now point.now request.now.path.edges + point.now.scale }
+pub(crate) fn least_lead(outlook: &Outlook<'_>) -> u128
+    requires fits { FitsOutlook outlook.now }
+    requires path { HasItsPath outlook.now }
+    ensures { result ≡ lead_in outlook.now }
 {
-    path_cost(graph, &request.path, point) + point.scale
+    path_cost(outlook.graph, &outlook.request.path, outlook.point) + outlook.point.scale
+}
+
+/// Looks for the distances to the end of a request without the edges that it takes away, where they are below a limit.
+pub fn find_distances(outlook: &Outlook<'_>, limit: u128, room: &mut Room)
+    requires room { IsRoomFor outlook.now.graph.now room.old }
+    requires fits { FitsOutlook outlook.now }
+    requires path { HasItsPath outlook.now }
+    ensures { HasDistancesBelow outlook.now.graph.now outlook.now.point.now (request_ends outlook.now.request.now) limit room.new }
+{
+    let aim = Aim {
+        target: outlook.request.end,
+        excluded: outlook.request.excluded.as_slice(),
+        limit,
+    };
+    room.distances_within(outlook.graph, outlook.point, &aim);
 }
 
 /// The deviation of least cost from a request's path, where it costs less than the path and the scale. The room has the
 /// distances to the request's end that are below that.
-pub(crate) fn cheap_deviation(
-    graph: &Graph,
-    request: &Request,
-    point: &Point,
-    room: &Room,
-) -> Option<Deviation>
-    requires fits { FitsPoint graph.now point.now }
-    requires found { HasDistancesTo graph.now point.now (request_ends request.now) (cost graph.now point.now request.now.path.edges + point.now.scale) room.now }
-    requires path { IsPathOf graph.now (request_ends request.now) request.now.path.edges }
+pub(crate) fn cheap_deviation(outlook: &Outlook<'_>, room: &Room) -> Option<Deviation>
+    requires fits { FitsOutlook outlook.now }
+    requires found { CanCompare outlook.now room.now }
+    requires path { HasItsPath outlook.now }
     ensures { MatchOption result
-        (LeadsBy point.now.scale graph.now point.now (request_ends request.now) request.now.path.edges)
-        (λ best. IsBestDeviation graph.now point.now request.now.excluded room.now request.now.path.edges (λ place e. place < length request.now.path.edges) (Some best)
-        × (best.cost < cost graph.now point.now request.now.path.edges + point.now.scale)) }
+        (RequestLeads outlook.now.graph.now outlook.now.point.now outlook.now.request.now)
+        (λ best. IsBestDeviation outlook.now room.now (λ place e. place < length outlook.now.request.now.path.edges) (Some best)
+        × (best.cost < lead_in outlook.now)) }
 {
-    graph.keeps_conditions();
-    let best = match least_deviation(graph, request, point, room) {
+    outlook.graph.keeps_conditions();
+    let best = match least_deviation(outlook, room) {
         Some(best) => best,
         None => return None,
     };
-    if least_lead(graph, request, point) <= best.cost {
+    if least_lead(outlook) <= best.cost {
         return None;
     }
     Some(best)
@@ -154,33 +166,31 @@ pub fn find_rival(graph: &Graph, request: &Request, point: &Point, room: &mut Ro
         (IsCheapestRival graph.now point.now (request_ends request.now) request.now.path.edges room.new.path)
         (LeadsBy point.now.scale graph.now point.now (request_ends request.now) request.now.path.edges) }
 {
-    let limit = least_lead(graph, request, point);
-    room.distances_within(
+    let outlook = Outlook {
         graph,
+        request,
         point,
-        request.end,
-        request.excluded.as_slice(),
-        limit,
-    );
-    find_rival_at_hand(graph, request, point, room)
+    };
+    find_distances(&outlook, least_lead(&outlook), room);
+    find_rival_at_hand(&outlook, room)
 }
 
 /// Looks for the cheapest rival of a request's path as `find_rival` does, by the distances that the room has: those to the
 /// request's end without the edges that it takes away, which are below what the path and the scale cost. It finds the same
 /// rival, and the room has the same distances afterwards.
-pub fn find_rival_at_hand(graph: &Graph, request: &Request, point: &Point, room: &mut Room) -> bool
-    requires fits { FitsPoint graph.now point.now }
-    requires found { HasDistancesTo graph.now point.now (request_ends request.now) (cost graph.now point.now request.now.path.edges + point.now.scale) room.old }
-    requires path { IsPathOf graph.now (request_ends request.now) request.now.path.edges }
-    ensures room { IsRoomFor graph.now room.new }
+pub fn find_rival_at_hand(outlook: &Outlook<'_>, room: &mut Room) -> bool
+    requires fits { FitsOutlook outlook.now }
+    requires found { CanCompare outlook.now room.old }
+    requires path { HasItsPath outlook.now }
+    ensures room { IsRoomFor outlook.now.graph.now room.new }
     ensures same { room.new ≡ record room.old { path = room.new.path } }
     ensures rival { MatchBool result
-        (IsCheapestRival graph.now point.now (request_ends request.now) request.now.path.edges room.new.path)
-        (LeadsBy point.now.scale graph.now point.now (request_ends request.now) request.now.path.edges) }
+        (IsCheapestRivalSeen outlook.now room.new.path)
+        (RequestLeads outlook.now.graph.now outlook.now.point.now outlook.now.request.now) }
 {
-    match cheap_deviation(graph, request, point, room) {
+    match cheap_deviation(outlook, room) {
         Some(best) => {
-            lay_out(graph, request, point, best, room);
+            lay_out(outlook, best, room);
             true
         }
         None => false,
@@ -188,19 +198,19 @@ pub fn find_rival_at_hand(graph: &Graph, request: &Request, point: &Point, room:
 }
 
 /// Makes the path that the room keeps the cheapest rival: up to the place of the best deviation it is the request's path.
-fn lay_out(graph: &Graph, request: &Request, point: &Point, best: Deviation, room: &mut Room)
-    requires fits { FitsPoint graph.now point.now }
-    requires found { HasDistancesTo graph.now point.now (request_ends request.now) (cost graph.now point.now request.now.path.edges + point.now.scale) room.old }
-    requires path { IsPathOf graph.now (request_ends request.now) request.now.path.edges }
-    requires best { IsBestDeviation graph.now point.now request.now.excluded room.old request.now.path.edges (λ place e. place < length request.now.path.edges) (Some best) }
-    requires cheap { best.cost < cost graph.now point.now request.now.path.edges + point.now.scale }
-    ensures room { IsRoomFor graph.now room.new }
-    ensures cheapest { IsCheapestRival graph.now point.now (request_ends request.now) request.now.path.edges room.new.path }
+fn lay_out(outlook: &Outlook<'_>, best: Deviation, room: &mut Room)
+    requires fits { FitsOutlook outlook.now }
+    requires found { CanCompare outlook.now room.old }
+    requires path { HasItsPath outlook.now }
+    requires best { IsBestDeviation outlook.now room.old (λ place e. place < length outlook.now.request.now.path.edges) (Some best) }
+    requires cheap { best.cost < lead_in outlook.now }
+    ensures room { IsRoomFor outlook.now.graph.now room.new }
+    ensures cheapest { IsCheapestRivalSeen outlook.now room.new.path }
     ensures same { room.new ≡ record room.old { path = room.new.path } }
 {
-    graph.keeps_conditions();
-    put_front(room, &request.path.edges.as_slice()[..best.place]);
-    leave_by(graph, request, point, best.edge, room);
+    outlook.graph.keeps_conditions();
+    put_front(room, &outlook.request.path.edges.as_slice()[..best.place]);
+    leave_by(outlook, best.edge, room);
 }
 
 /// The cheapest rival of a request's path at a point. It is Cheaper exactly where some other simple path of the request

@@ -1,3 +1,4 @@
 pub mod Outsiders
 pub mod PrefixTrees
 pub mod Departures
+pub mod SeenTrees

@@ -1,109 +1,107 @@
 //! The departure of least cost from a tree of prefixes.
 
-ghost use Rattle.std.specs.Prelude.{◌≡◌, ℕ, ◌+◌, ◌*◌, ◌^◌, ◌<◌, ◌≤◌, List, MatchOption, length, slice_index};
+ghost use Rattle.std.specs.Prelude.{◌≡◌, ℕ, ◌+◌, ◌<◌, ◌≤◌, MatchOption, length, slice_index};
 ghost use Rattle.area_graph.specs.Area.{edge_at};
-ghost use Rattle.area_graph.specs.Costs.{FitsPoint};
 ghost use Rattle.design_problem.specs.Problems.{request_ends};
 ghost use Rattle.rival_separation.specs.Offers.{IsBestOffer};
-ghost use Rattle.rival_separation.specs.Rivals.{HasDistancesBelow};
-ghost use Rattle.set_separation.specs.Departures.{ArePlaceCosts, Departs, place_vertex};
-ghost use Rattle.set_separation.specs.PrefixTrees.{IsPrefixTree};
+ghost use Rattle.rival_separation.specs.Outlooks.{FitsOutlook, HasDistances};
+ghost use Rattle.set_separation.specs.Departures.{ArePlaceCosts, place_vertex};
+ghost use Rattle.set_separation.specs.SeenTrees.{DepartsHere, HasPrefixTree, IsCosted};
 
 use crate::PrefixTree;
-use area_graph::{Graph, Point, edge_of, price_of};
-use design_problem::Request;
-use rival_separation::{Deviation, better_by, onward};
+use area_graph::{edge_of, price_of};
+use rival_separation::{Deviation, Outlook, better_by, onward};
 use spf_ties::Room;
 
+/// A tree of prefixes with what the prefix of each place costs.
+#[derive(Clone, Copy)]
+pub(crate) struct CostedTree<'a> {
+    /// The tree.
+    pub(crate) tree: &'a PrefixTree,
+    /// A cost for each place, and maybe more numbers behind them.
+    pub(crate) costs: &'a [u128],
+}
+
 /// Writes down what the prefix of each place costs, in the order of the places.
-pub(crate) fn put_place_costs(
-    graph: &Graph,
-    request: &Request,
-    point: &Point,
-    tree: &PrefixTree,
-    costs: &mut [u128],
-)
-    requires fits { FitsPoint graph.now point.now }
-    requires tree { (wanted : List (List ℕ)) × IsPrefixTree graph.now (request_ends request.now) wanted tree.now }
+pub(crate) fn put_place_costs(outlook: &Outlook<'_>, tree: &PrefixTree, costs: &mut [u128])
+    requires fits { FitsOutlook outlook.now }
+    requires tree { HasPrefixTree outlook.now tree.now }
     requires enough { length tree.now + 1 ≤ length costs.old }
-    ensures costs { ArePlaceCosts graph.now point.now tree.now (length tree.now) costs.new }
+    ensures costs { ArePlaceCosts outlook.now.graph.now outlook.now.point.now tree.now (length tree.now) costs.new }
     ensures count { length costs.new ≡ length costs.old }
 {
-    graph.keeps_conditions();
+    outlook.graph.keeps_conditions();
     costs[0] = 0;
     for (i, step) in tree.steps().iter().enumerate() {
-        costs[i + 1] = costs[step.place] + price_of(edge_of(graph, step.edge).price, point);
+        costs[i + 1] = costs[step.place]
+            + price_of(edge_of(outlook.graph, step.edge).price, outlook.point);
     }
 }
 
 /// The vertex of a place.
-fn vertex_of(graph: &Graph, request: &Request, tree: &PrefixTree, place: usize) -> u32
-    requires tree { (wanted : List (List ℕ)) × IsPrefixTree graph.now (request_ends request.now) wanted tree.now }
+fn vertex_of(outlook: &Outlook<'_>, tree: &PrefixTree, place: usize) -> u32
+    requires tree { HasPrefixTree outlook.now tree.now }
     requires place { place ≤ length tree.now }
-    ensures { result ≡ place_vertex graph.now (request_ends request.now) tree.now place }
+    ensures { result ≡ place_vertex outlook.now.graph.now (request_ends outlook.now.request.now) tree.now place }
 {
     if place == 0 {
-        return request.path.start;
+        return outlook.request.path.start;
     }
-    edge_of(graph, tree.steps()[place - 1].edge).to
+    edge_of(outlook.graph, tree.steps()[place - 1].edge).to
 }
 
 /// What the cheapest walk costs that leaves the tree at a place by an edge; None where the edge leads to another place or
 /// is taken away, or where no path leads on from it.
 fn departure(
-    graph: &Graph,
-    request: &Request,
-    point: &Point,
+    outlook: &Outlook<'_>,
     room: &Room,
-    tree: &PrefixTree,
-    costs: &[u128],
+    costed: &CostedTree<'_>,
     place: usize,
     number: u32,
 ) -> Option<u128>
-    requires fits { FitsPoint graph.now point.now }
-    requires found { (limit : ℕ) × HasDistancesBelow graph.now point.now (request_ends request.now) limit room.now }
-    requires tree { (wanted : List (List ℕ)) × IsPrefixTree graph.now (request_ends request.now) wanted tree.now }
-    requires costs { ArePlaceCosts graph.now point.now tree.now (length tree.now) costs.now }
-    requires place { place ≤ length tree.now }
-    requires known { number < length graph.now.edges }
-    requires from { (edge_at graph.now number).from ≡ place_vertex graph.now (request_ends request.now) tree.now place }
+    requires fits { FitsOutlook outlook.now }
+    requires found { HasDistances outlook.now room.now }
+    requires tree { HasPrefixTree outlook.now costed.now.tree.now }
+    requires costs { IsCosted outlook.now costed.now }
+    requires place { place ≤ length costed.now.tree.now }
+    requires known { number < length outlook.now.graph.now.edges }
+    requires from { (edge_at outlook.now.graph.now number).from ≡
+        place_vertex outlook.now.graph.now (request_ends outlook.now.request.now) costed.now.tree.now place }
     ensures { MatchOption result
-        ((total : ℕ) → Departs graph.now point.now (request_ends request.now) room.now tree.now costs.now place number total → ⊥)
-        (λ total. Departs graph.now point.now (request_ends request.now) room.now tree.now costs.now place number total) }
+        ((total : ℕ) → DepartsHere outlook.now room.now costed.now place number total → ⊥)
+        (λ total. DepartsHere outlook.now room.now costed.now place number total) }
 {
-    graph.keeps_conditions();
-    if tree.next(place, number).is_some() {
+    outlook.graph.keeps_conditions();
+    if costed.tree.next(place, number).is_some() {
         return None;
     }
-    match onward(graph, request, point, room, number) {
-        Some(rest) => Some(costs[place] + rest),
+    match onward(outlook, room, number) {
+        Some(rest) => Some(costed.costs[place] + rest),
         None => None,
     }
 }
 
 /// The best of the departures before a place and at it; `best` is the best of those before it.
 fn best_at(
-    graph: &Graph,
-    request: &Request,
-    point: &Point,
+    outlook: &Outlook<'_>,
     room: &Room,
-    tree: &PrefixTree,
-    costs: &[u128],
+    costed: &CostedTree<'_>,
     place: usize,
     best: Option<Deviation>,
 ) -> Option<Deviation>
-    requires fits { FitsPoint graph.now point.now }
-    requires found { (limit : ℕ) × HasDistancesBelow graph.now point.now (request_ends request.now) limit room.now }
-    requires tree { (wanted : List (List ℕ)) × IsPrefixTree graph.now (request_ends request.now) wanted tree.now }
-    requires costs { ArePlaceCosts graph.now point.now tree.now (length tree.now) costs.now }
-    requires place { place ≤ length tree.now }
-    requires best { IsBestOffer (Departs graph.now point.now (request_ends request.now) room.now tree.now costs.now) (λ earlier e. earlier < place) best }
-    ensures { IsBestOffer (Departs graph.now point.now (request_ends request.now) room.now tree.now costs.now) (λ earlier e. earlier < place + 1) result }
+    requires fits { FitsOutlook outlook.now }
+    requires found { HasDistances outlook.now room.now }
+    requires tree { HasPrefixTree outlook.now costed.now.tree.now }
+    requires costs { IsCosted outlook.now costed.now }
+    requires place { place ≤ length costed.now.tree.now }
+    requires best { IsBestOffer (DepartsHere outlook.now room.now costed.now) (λ earlier e. earlier < place) best }
+    ensures { IsBestOffer (DepartsHere outlook.now room.now costed.now) (λ earlier e. earlier < place + 1) result }
 {
-    graph.keeps_conditions();
+    outlook.graph.keeps_conditions();
     let mut found = best;
-    for number in graph.edges_out(vertex_of(graph, request, tree, place)) {
-        let cost = departure(graph, request, point, room, tree, costs, place, *number);
+    let vertex = vertex_of(outlook, costed.tree, place);
+    for number in outlook.graph.edges_out(vertex) {
+        let cost = departure(outlook, room, costed, place, *number);
         found = better_by(found, place, *number, cost);
     }
     found
@@ -112,22 +110,19 @@ fn best_at(
 /// The departure of least cost from a tree: places are tried in order, edges out of a vertex in rising order, and the first
 /// of least cost is kept. None where no walk leaves the tree and comes to the end of the request.
 pub(crate) fn least_departure(
-    graph: &Graph,
-    request: &Request,
-    point: &Point,
+    outlook: &Outlook<'_>,
     room: &Room,
-    tree: &PrefixTree,
-    costs: &[u128],
+    costed: &CostedTree<'_>,
 ) -> Option<Deviation>
-    requires fits { FitsPoint graph.now point.now }
-    requires found { (limit : ℕ) × HasDistancesBelow graph.now point.now (request_ends request.now) limit room.now }
-    requires tree { (wanted : List (List ℕ)) × IsPrefixTree graph.now (request_ends request.now) wanted tree.now }
-    requires costs { ArePlaceCosts graph.now point.now tree.now (length tree.now) costs.now }
-    ensures { IsBestOffer (Departs graph.now point.now (request_ends request.now) room.now tree.now costs.now) (λ place e. place ≤ length tree.now) result }
+    requires fits { FitsOutlook outlook.now }
+    requires found { HasDistances outlook.now room.now }
+    requires tree { HasPrefixTree outlook.now costed.now.tree.now }
+    requires costs { IsCosted outlook.now costed.now }
+    ensures { IsBestOffer (DepartsHere outlook.now room.now costed.now) (λ place e. place ≤ length costed.now.tree.now) result }
 {
     let mut best = None;
-    for place in 0..tree.steps().len() + 1 {
-        best = best_at(graph, request, point, room, tree, costs, place, best);
+    for place in 0..costed.tree.steps().len() + 1 {
+        best = best_at(outlook, room, costed, place, best);
     }
     best
 }

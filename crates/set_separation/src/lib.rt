@@ -6,5 +6,5 @@ mod departure;
 mod outsider;
 mod prefix_tree;
 
-pub use outsider::{find_outsider, is_undercut};
+pub use outsider::{find_outsider, find_outsider_at_hand, is_undercut};
 pub use prefix_tree::{PrefixTree, Step};

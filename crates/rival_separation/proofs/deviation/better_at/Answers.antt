@@ -9,27 +9,27 @@ use Rattle.rival_separation.proofs.deviation.better_at.Goals as goal
 
 pub edge_of-requires : goal.edge_of-requires
 edge_of-requires c =
-    subst (λ (es : List ℕ). All (λ e. e < length c.args.graph.now.edges) es) (sym c.as_slice.ensures)
-    (path-known c.args.graph.now (request_ends c.args.request.now) c.args.request.now.path.edges c.requires.path)
+    subst (λ (es : List ℕ). All (λ e. e < length c.args.outlook.now.graph.now.edges) es) (sym c.as_slice.ensures)
+    (path-known c.args.outlook.now.graph.now (request_ends c.args.outlook.now.request.now) c.args.outlook.now.request.now.path.edges c.requires.path)
     c.args.place 0 (subst (λ (es : List ℕ). c.args.place < length es) (sym c.as_slice.ensures) c.requires.place)
 
 pub loop-number-init : goal.loop-number-init
 loop-number-init c =
-    let g = c.args.graph.now in
-    let path = c.args.request.now.path.edges in
+    let g = c.args.outlook.now.graph.now in
+    let path = c.args.outlook.now.request.now.path.edges in
     let v = (edge_at g (get_or path c.args.place 0)).from in
-    best_begins (Offers g c.args.point.now c.args.request.now.excluded c.args.room.now path) c.args.place
+    best_begins (Offers g c.args.outlook.now.point.now c.args.outlook.now.request.now.excluded c.args.room.now path) c.args.place
     (edges_out g v) c.args.best (λ e total lacks offer. out_listed g v e offer.known offer.from lacks)
     c.requires.best
 
 pub offer-cost-requires-clause-known : goal.offer-cost-requires-clause-known
 offer-cost-requires-clause-known c =
-    (out_edge c.args.graph.now c.edge_of.result.from c.loop-number.number-index c.edges_out-number-items.result.now
+    (out_edge c.args.outlook.now.graph.now c.edge_of.result.from c.loop-number.number-index c.edges_out-number-items.result.now
     c.edges_out-number-items.ensures c.loop-number-test.true).0
 
 pub offer-cost-requires-clause-from : goal.offer-cost-requires-clause-from
 offer-cost-requires-clause-from c =
-    let g = c.args.graph.now in
+    let g = c.args.outlook.now.graph.now in
     (out_edge g c.edge_of.result.from c.loop-number.number-index c.edges_out-number-items.result.now c.edges_out-number-items.ensures c.loop-number-test.true).1
     ∙ ap (λ (edge : Edge). edge.from) c.edge_of.ensures ∙ ap (λ (es : List ℕ). (edge_at g (get_or es c.args.place 0)).from) c.as_slice.ensures
 
@@ -41,11 +41,11 @@ out_of g path slice items place edge out edge_is slice_is = out ∙ ap (λ (e : 
 
 pub loop-number-preserved : goal.loop-number-preserved
 loop-number-preserved c =
-    let g = c.args.graph.now in
-    let p = c.args.point.now in
-    let excluded = c.args.request.now.excluded in
+    let g = c.args.outlook.now.graph.now in
+    let p = c.args.outlook.now.point.now in
+    let excluded = c.args.outlook.now.request.now.excluded in
     let room = c.args.room.now in
-    let path = c.args.request.now.path.edges in
+    let path = c.args.outlook.now.request.now.path.edges in
     best_turn (Offers g p excluded room path) (offers_once g p excluded room path) c.args.place c.loop-number.number-index
     (edges_out g (edge_at g (get_or path c.args.place 0)).from) c.edges_out-number-items.result.now
     c.loop-number.found c.offer-cost.result c.better_by-found.result
@@ -55,9 +55,9 @@ loop-number-preserved c =
 
 pub returns : goal.returns
 returns c =
-    let g = c.args.graph.now in
-    let path = c.args.request.now.path.edges in
-    best_past (Offers g c.args.point.now c.args.request.now.excluded c.args.room.now path) c.args.place
+    let g = c.args.outlook.now.graph.now in
+    let path = c.args.outlook.now.request.now.path.edges in
+    best_past (Offers g c.args.outlook.now.point.now c.args.outlook.now.request.now.excluded c.args.room.now path) c.args.place
     c.loop-number.number-index (edges_out g (edge_at g (get_or path c.args.place 0)).from)
     c.edges_out-number-items.result.now
     c.loop-number.found (out_of g path c.as_slice.result.now c.edges_out-number-items.result.now c.args.place

@@ -5,5 +5,5 @@ use Rattle.rival_separation.proofs.deviation.offer.Goals as goal
 
 pub returns-in-None : goal.returns-in-None
 returns-in-None c = λ total offer.
-    c.in-None.ensures.onward (price_at c.args.point.now (edge_at c.args.graph.now c.args.number).price + offer.rest)
+    c.in-None.ensures.onward (price_at c.args.outlook.now.point.now (edge_at c.args.outlook.now.graph.now c.args.number).price + offer.rest)
     (record { rest = offer.rest; left = offer.left; distance = offer.distance; sums = refl })

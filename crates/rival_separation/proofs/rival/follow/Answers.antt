@@ -11,16 +11,16 @@ use Rattle.rival_separation.proofs.rival.follow.Goals as goal
 pub loop-at-init : goal.loop-at-init
 loop-at-init c = record {
   found = c.requires.found;
-  so_far = way_completes c.args.graph.now c.args.point.now (request_ends c.args.request.now) c.args.room.now c.args.start c.requires.way;
+  so_far = way_completes c.args.outlook.now.graph.now c.args.outlook.now.point.now (request_ends c.args.outlook.now.request.now) c.args.room.now c.args.start c.requires.way;
   same = refl;
 }
 
 -- what was gone so far is shorter than the vertices are many
-short : (c : After-next_edge) → length c.loop-at.room.path < length c.args.graph.now.vertices
+short : (c : After-next_edge) → length c.loop-at.room.path < length c.args.outlook.now.graph.now.vertices
 short c =
-    let g = c.args.graph.now in
-    let p = c.args.point.now in
-    let ends = request_ends c.args.request.now in
+    let g = c.args.outlook.now.graph.now in
+    let p = c.args.outlook.now.point.now in
+    let ends = request_ends c.args.outlook.now.request.now in
     short_walk g p ends c.loop-at.invariant.found.0 c.loop-at.room (IsWay g p ends c.args.room.now c.args.start)
     c.loop-at.room.path c.loop-at.at c.loop-at.invariant.found.1 c.loop-at.invariant.so_far (λ es whole. whole.1)
 
@@ -38,9 +38,9 @@ loop-at-smaller c =
 
 pub loop-at-preserved : goal.loop-at-preserved
 loop-at-preserved c =
-    let g = c.args.graph.now in
-    let p = c.args.point.now in
-    let ends = request_ends c.args.request.now in
+    let g = c.args.outlook.now.graph.now in
+    let p = c.args.outlook.now.point.now in
+    let ends = request_ends c.args.outlook.now.request.now in
     let room = c.loop-at.room in
     let edge = c.in-Some.edge in
     let next = c.in-Some.ensures in
@@ -64,13 +64,13 @@ loop-at-preserved c =
 
 pub returns-clause-followed : goal.returns-clause-followed
 returns-clause-followed c =
-    (completed c.args.graph.now c.args.point.now (request_ends c.args.request.now) c.loop-at.invariant.found.0 c.loop-at.room
-    (IsWay c.args.graph.now c.args.point.now (request_ends c.args.request.now) c.args.room.now c.args.start)
+    (completed c.args.outlook.now.graph.now c.args.outlook.now.point.now (request_ends c.args.outlook.now.request.now) c.loop-at.invariant.found.0 c.loop-at.room
+    (IsWay c.args.outlook.now.graph.now c.args.outlook.now.point.now (request_ends c.args.outlook.now.request.now) c.args.room.now c.args.start)
     c.loop-at.room.path c.loop-at.at c.loop-at.invariant.found.1 c.loop-at.invariant.so_far (search rules)).0
 
 pub returns-in-None-clause-followed : goal.returns-in-None-clause-followed
 returns-in-None-clause-followed c =
-    absurd (some_next c.args.graph.now c.args.point.now (request_ends c.args.request.now) c.loop-at.invariant.found.0
-    c.loop-at.room (IsWay c.args.graph.now c.args.point.now (request_ends c.args.request.now) c.args.room.now
+    absurd (some_next c.args.outlook.now.graph.now c.args.outlook.now.point.now (request_ends c.args.outlook.now.request.now) c.loop-at.invariant.found.0
+    c.loop-at.room (IsWay c.args.outlook.now.graph.now c.args.outlook.now.point.now (request_ends c.args.outlook.now.request.now) c.args.room.now
     c.args.start) c.loop-at.room.path c.loop-at.at c.loop-at.invariant.found.1 c.loop-at.invariant.so_far
     (search rules) c.in-None.ensures)

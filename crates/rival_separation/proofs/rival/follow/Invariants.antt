@@ -6,8 +6,8 @@ use Rattle.rival_separation.proofs.rival.follow.Given as goal
 
 abbrev pub invariant-loop-at : goal.invariant-loop-at
 invariant-loop-at l = record {
-  found : (limit : ℕ) × HasDistancesBelow l.graph l.point (request_ends l.request) limit l.room;
-  so_far : Completes l.graph l.point (request_ends l.request) l.room (IsWay l.graph l.point (request_ends l.request) l.fn.room l.start) l.room.path l.at;
+  found : (limit : ℕ) × HasDistancesBelow l.outlook.graph.now l.outlook.point.now (request_ends l.outlook.request.now) limit l.room;
+  so_far : Completes l.outlook.graph.now l.outlook.point.now (request_ends l.outlook.request.now) l.room (IsWay l.outlook.graph.now l.outlook.point.now (request_ends l.outlook.request.now) l.fn.room l.start) l.room.path l.at;
   same : l.room ≡ record l.fn.room { path = l.room.path };
 }
 

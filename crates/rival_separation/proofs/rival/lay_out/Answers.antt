@@ -9,8 +9,8 @@ use Rattle.rival_separation.proofs.rival.lay_out.Goals as goal
 
 pub put_front-requires : goal.put_front-requires
 put_front-requires c =
-    let ends = request_ends c.args.request.now in
-    let short = simple-short c.args.graph.now ends.start c.args.request.now.path.edges ends.end c.keeps_conditions.ensures.fits c.requires.path.simple in
+    let ends = request_ends c.args.outlook.now.request.now in
+    let short = simple-short c.args.outlook.now.graph.now ends.start c.args.outlook.now.request.now.path.edges ends.end c.keeps_conditions.ensures.fits c.requires.path.simple in
     let within = c.requires.best.0.within in
     let front = take_short c.args.best.place c.as_slice.result.now in
     let count = c.requires.found.found.room_for.vertices in
@@ -23,16 +23,16 @@ pub leave_by-requires-clause-found : goal.leave_by-requires-clause-found
 leave_by-requires-clause-found c =
     let limit = c.requires.found.limit in (
       limit,
-      found_kept c.args.graph.now c.args.point.now (request_ends c.args.request.now) limit c.args.room.now
+      found_kept c.args.outlook.now.graph.now c.args.outlook.now.point.now (request_ends c.args.outlook.now.request.now) limit c.args.room.now
           (take c.args.best.place c.as_slice.result.now) c.put_front.new.room c.put_front.ensures c.requires.found.found,
     )
 
 pub leave_by-requires-clause-way : goal.leave_by-requires-clause-way
 leave_by-requires-clause-way c =
-    let g = c.args.graph.now in
-    let p = c.args.point.now in
-    let ends = request_ends c.args.request.now in
-    let wanted = c.args.request.now.path.edges in
+    let g = c.args.outlook.now.graph.now in
+    let p = c.args.outlook.now.point.now in
+    let ends = request_ends c.args.outlook.now.request.now in
+    let wanted = c.args.outlook.now.request.now.path.edges in
     let room : Findings = c.args.room.now in
     let e = c.args.best.edge in
     let place = c.args.best.place in
@@ -45,10 +45,10 @@ leave_by-requires-clause-way c =
 
 pub returns-clause-cheapest : goal.returns-clause-cheapest
 returns-clause-cheapest c =
-    let g = c.args.graph.now in
-    let p = c.args.point.now in
-    let ends = request_ends c.args.request.now in
-    let wanted = c.args.request.now.path.edges in
+    let g = c.args.outlook.now.graph.now in
+    let p = c.args.outlook.now.point.now in
+    let ends = request_ends c.args.outlook.now.request.now in
+    let wanted = c.args.outlook.now.request.now.path.edges in
     let room : Findings = c.args.room.now in
     let e = c.args.best.edge in
     let place = c.args.best.place in

@@ -8,51 +8,51 @@ use Rattle.set_separation.proofs.departure.best_at.Goals as goal
 
 pub loop-number-init : goal.loop-number-init
 loop-number-init c =
-    let g = c.args.graph.now in
-    let ends = request_ends c.args.request.now in
-    let v = place_vertex g ends c.args.tree.now c.args.place in
-    best_begins (Departs g c.args.point.now ends c.args.room.now c.args.tree.now c.args.costs.now) c.args.place
+    let g = c.args.outlook.now.graph.now in
+    let ends = request_ends c.args.outlook.now.request.now in
+    let v = place_vertex g ends c.args.costed.now.tree.now c.args.place in
+    best_begins (Departs g c.args.outlook.now.point.now ends c.args.room.now c.args.costed.now.tree.now c.args.costed.now.costs.now) c.args.place
     (edges_out g v) c.args.best (λ e total lacks departs. out_listed g v e departs.known departs.from lacks)
     c.requires.best
 
 pub edges_out-number-items-requires : goal.edges_out-number-items-requires
 edges_out-number-items-requires c =
-    let g = c.args.graph.now in
-    subst (λ (v : ℕ). v < length g.vertices) (sym c.vertex_of.ensures)
-    (vertex_known g (request_ends c.args.request.now) c.requires.tree.0 c.args.tree.now c.requires.tree.1
+    let g = c.args.outlook.now.graph.now in
+    subst (λ (v : ℕ). v < length g.vertices) (sym c.vertex_of-vertex.ensures)
+    (vertex_known g (request_ends c.args.outlook.now.request.now) c.requires.tree.0 c.args.costed.now.tree.now c.requires.tree.1
     c.keeps_conditions.ensures.fits c.args.place c.requires.place)
 
 pub departure-cost-requires-clause-known : goal.departure-cost-requires-clause-known
 departure-cost-requires-clause-known c =
-    (out_edge c.args.graph.now c.vertex_of.result c.loop-number.number-index c.edges_out-number-items.result.now
+    (out_edge c.args.outlook.now.graph.now c.vertex_of-vertex.result c.loop-number.number-index c.edges_out-number-items.result.now
     c.edges_out-number-items.ensures c.loop-number-test.true).0
 
 pub departure-cost-requires-clause-from : goal.departure-cost-requires-clause-from
 departure-cost-requires-clause-from c =
-    (out_edge c.args.graph.now c.vertex_of.result c.loop-number.number-index c.edges_out-number-items.result.now
+    (out_edge c.args.outlook.now.graph.now c.vertex_of-vertex.result c.loop-number.number-index c.edges_out-number-items.result.now
     c.edges_out-number-items.ensures c.loop-number-test.true).1
-    ∙ c.vertex_of.ensures
+    ∙ c.vertex_of-vertex.ensures
 
 pub loop-number-preserved : goal.loop-number-preserved
 loop-number-preserved c =
-    let g = c.args.graph.now in
-    let p = c.args.point.now in
-    let ends = request_ends c.args.request.now in
+    let g = c.args.outlook.now.graph.now in
+    let p = c.args.outlook.now.point.now in
+    let ends = request_ends c.args.outlook.now.request.now in
     let room = c.args.room.now in
-    let steps = c.args.tree.now in
-    let costs = c.args.costs.now in
+    let steps = c.args.costed.now.tree.now in
+    let costs = c.args.costed.now.costs.now in
     best_turn (Departs g p ends room steps costs) (departs_once g p ends room steps costs) c.args.place
     c.loop-number.number-index (edges_out g (place_vertex g ends steps c.args.place))
     c.edges_out-number-items.result.now
     c.loop-number.found c.departure-cost.result c.better_by-found.result (c.edges_out-number-items.ensures
-    ∙ ap (λ (v : ℕ). edges_out g v) c.vertex_of.ensures) c.loop-number-test.true c.loop-number.invariant
+    ∙ ap (λ (v : ℕ). edges_out g v) c.vertex_of-vertex.ensures) c.loop-number-test.true c.loop-number.invariant
     c.departure-cost.ensures c.better_by-found.ensures
 
 pub returns : goal.returns
 returns c =
-    let g = c.args.graph.now in
-    let ends = request_ends c.args.request.now in
-    best_past (Departs g c.args.point.now ends c.args.room.now c.args.tree.now c.args.costs.now) c.args.place
-    c.loop-number.number-index (edges_out g (place_vertex g ends c.args.tree.now c.args.place))
+    let g = c.args.outlook.now.graph.now in
+    let ends = request_ends c.args.outlook.now.request.now in
+    best_past (Departs g c.args.outlook.now.point.now ends c.args.room.now c.args.costed.now.tree.now c.args.costed.now.costs.now) c.args.place
+    c.loop-number.number-index (edges_out g (place_vertex g ends c.args.costed.now.tree.now c.args.place))
     c.edges_out-number-items.result.now
-    c.loop-number.found (c.edges_out-number-items.ensures ∙ ap (λ (v : ℕ). edges_out g v) c.vertex_of.ensures) c.loop-number-test.false c.loop-number.invariant
+    c.loop-number.found (c.edges_out-number-items.ensures ∙ ap (λ (v : ℕ). edges_out g v) c.vertex_of-vertex.ensures) c.loop-number-test.false c.loop-number.invariant

@@ -8,6 +8,6 @@ use Rattle.set_separation.proofs.departure.best_at.Given as goal
 
 abbrev pub invariant-loop-number : goal.invariant-loop-number
 invariant-loop-number l =
-    IsBestOffer (Departs l.graph l.point (request_ends l.request) l.room l.tree l.costs)
+    IsBestOffer (Departs l.outlook.graph.now l.outlook.point.now (request_ends l.outlook.request.now) l.room l.costed.tree.now l.costed.costs.now)
     (SeenBut l.place (drop l.number-index
-    (edges_out l.graph (place_vertex l.graph (request_ends l.request) l.tree l.place)))) l.found
+    (edges_out l.outlook.graph.now (place_vertex l.outlook.graph.now (request_ends l.outlook.request.now) l.costed.tree.now l.place)))) l.found

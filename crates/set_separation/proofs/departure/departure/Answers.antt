@@ -5,8 +5,8 @@ use Rattle.set_separation.proofs.departure.departure.Goals as goal
 
 pub overflow_add-result : goal.overflow_add-result
 overflow_add-result c =
-    let near = place_below c.args.graph.now (request_ends c.args.request.now) c.requires.tree.0 c.args.tree.now
-    c.requires.tree.1 c.args.point.now c.args.costs.now (length c.args.tree.now) (omega arith) c.requires.costs
+    let near = place_below c.args.outlook.now.graph.now (request_ends c.args.outlook.now.request.now) c.requires.tree.0 c.args.costed.now.tree.now
+    c.requires.tree.1 c.args.outlook.now.point.now c.args.costed.now.costs.now (length c.args.costed.now.tree.now) (omega arith) c.requires.costs
     c.keeps_conditions.ensures.fits c.keeps_conditions.ensures.metrics c.requires.fits c.args.place
     c.requires.place in
     let below = c.in-Some.ensures.below in

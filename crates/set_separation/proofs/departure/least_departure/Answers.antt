@@ -6,7 +6,7 @@ use Rattle.set_separation.proofs.departure.least_departure.Goals as goal
 
 pub returns : goal.returns
 returns c =
-    best_of_fewer (Departs c.args.graph.now c.args.point.now (request_ends c.args.request.now) c.args.room.now
-    c.args.tree.now c.args.costs.now) (λ k e. k < c.loop-place.place) (λ k e. k ≤ length c.args.tree.now)
+    best_of_fewer (Departs c.args.outlook.now.graph.now c.args.outlook.now.point.now (request_ends c.args.outlook.now.request.now) c.args.room.now
+    c.args.costed.now.tree.now c.args.costed.now.costs.now) (λ k e. k < c.loop-place.place) (λ k e. k ≤ length c.args.costed.now.tree.now)
     c.loop-place.best c.loop-place.invariant
     (λ k e total seen departs. omega (arith, c.loop-place-test.false, ap length c.steps.ensures))

@@ -5,4 +5,4 @@ use Rattle.set_separation.specs.Departures.{Departs}
 use Rattle.set_separation.proofs.departure.least_departure.Given as goal
 
 abbrev pub invariant-loop-place : goal.invariant-loop-place
-invariant-loop-place l = IsBestOffer (Departs l.graph l.point (request_ends l.request) l.room l.tree l.costs) (λ earlier e. earlier < l.place) l.best
+invariant-loop-place l = IsBestOffer (Departs l.outlook.graph.now l.outlook.point.now (request_ends l.outlook.request.now) l.room l.costed.tree.now l.costed.costs.now) (λ earlier e. earlier < l.place) l.best

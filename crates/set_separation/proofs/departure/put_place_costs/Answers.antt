@@ -11,17 +11,17 @@ use Rattle.set_separation.proofs.departure.put_place_costs.Goals as goal
 
 pub edge_of-requires : goal.edge_of-requires
 edge_of-requires c =
-    let g = c.args.graph.now in
+    let g = c.args.outlook.now.graph.now in
     let i = c.loop-i.i in
     let within : i < length c.args.tree.now = subst (λ (steps : List Step). i < length steps) c.steps-step-items.ensures c.loop-i-test.true in
     subst (λ (steps : List Step). (step_at steps i).edge < length g.edges) (sym c.steps-step-items.ensures)
-    (step_known g (request_ends c.args.request.now) c.requires.tree.0 c.args.tree.now c.requires.tree.1 i within)
+    (step_known g (request_ends c.args.outlook.now.request.now) c.requires.tree.0 c.args.tree.now c.requires.tree.1 i within)
 
 pub overflow_add-costs : goal.overflow_add-costs
 overflow_add-costs c =
-    let g = c.args.graph.now in
-    let p = c.args.point.now in
-    let ends = request_ends c.args.request.now in
+    let g = c.args.outlook.now.graph.now in
+    let p = c.args.outlook.now.point.now in
+    let ends = request_ends c.args.outlook.now.request.now in
     let steps = c.args.tree.now in
     let i = c.loop-i.i in
     let s = step_at steps i in

@@ -9,20 +9,20 @@ use Rattle.set_separation.proofs.outsider.cheap_departure.Goals as goal
 
 -- where each departure costs at least so much as the members and the scale, each outsider does
 all_above : (c : After-put_place_costs) (wanted : List (List ℕ)) →
-    IsTiedTree c.args.graph.now c.args.point.now (request_ends c.args.request.now)
-    (cost c.args.graph.now c.args.point.now c.args.request.now.path.edges) wanted c.args.tree.now →
+    IsTiedTree c.args.outlook.now.graph.now c.args.outlook.now.point.now (request_ends c.args.outlook.now.request.now)
+    (cost c.args.outlook.now.graph.now c.args.outlook.now.point.now c.args.outlook.now.request.now.path.edges) wanted c.args.tree.now →
     ((place e total : ℕ) →
-    Departs c.args.graph.now c.args.point.now (request_ends c.args.request.now) c.args.room.now c.args.tree.now
-    c.put_place_costs.new.costs place e total → cost c.args.graph.now c.args.point.now c.args.request.now.path.edges + c.args.point.now.scale ≤ total) →
-    CostAtLeast c.args.graph.now c.args.point.now (request_ends c.args.request.now) wanted
-    (cost c.args.graph.now c.args.point.now c.args.request.now.path.edges + c.args.point.now.scale)
+    Departs c.args.outlook.now.graph.now c.args.outlook.now.point.now (request_ends c.args.outlook.now.request.now) c.args.room.now c.args.tree.now
+    c.put_place_costs.new.costs place e total → cost c.args.outlook.now.graph.now c.args.outlook.now.point.now c.args.outlook.now.request.now.path.edges + c.args.outlook.now.point.now.scale ≤ total) →
+    CostAtLeast c.args.outlook.now.graph.now c.args.outlook.now.point.now (request_ends c.args.outlook.now.request.now) wanted
+    (cost c.args.outlook.now.graph.now c.args.outlook.now.point.now c.args.outlook.now.request.now.path.edges + c.args.outlook.now.point.now.scale)
 all_above c wanted tied above =
-    let g = c.args.graph.now in
-    let p = c.args.point.now in
+    let g = c.args.outlook.now.graph.now in
+    let p = c.args.outlook.now.point.now in
     let found = c.requires.found in
-    outsiders_above g p (request_ends c.args.request.now) found.limit c.args.room.now wanted
+    outsiders_above g p (request_ends c.args.outlook.now.request.now) found.limit c.args.room.now wanted
     c.args.tree.now c.put_place_costs.new.costs c.keeps_conditions.ensures.fits found.found tied.tree c.put_place_costs.ensures.costs
-    (cost g p c.args.request.now.path.edges + p.scale) found.above above
+    (cost g p c.args.outlook.now.request.now.path.edges + p.scale) found.above above
 
 pub least_departure-requires-clause-found : goal.least_departure-requires-clause-found
 least_departure-requires-clause-found c = (c.requires.found.limit, c.requires.found.found)

@@ -5,10 +5,10 @@ use Rattle.set_separation.proofs.outsider.is_undercut.Goals as goal
 
 pub returns-in-Some-clause-outsider : goal.returns-in-Some-clause-outsider
 returns-in-Some-clause-outsider c = λ wanted tied.
-    let g = c.args.graph.now in
-    let p = c.args.point.now in
+    let g = c.args.outlook.now.graph.now in
+    let p = c.args.outlook.now.point.now in
     let found = c.requires.found in
     let best = c.in-Some.ensures.best in
-    undercut_by g p (request_ends c.args.request.now) found.limit c.args.room.now wanted c.args.tree.now c.cheap_departure.new.costs
-    c.keeps_conditions.ensures.fits found.found tied.tree c.cheap_departure.ensures.costs (cost g p c.args.request.now.path.edges)
+    undercut_by g p (request_ends c.args.outlook.now.request.now) found.limit c.args.room.now wanted c.args.tree.now c.cheap_departure.new.costs
+    c.keeps_conditions.ensures.fits found.found tied.tree c.cheap_departure.ensures.costs (cost g p c.args.outlook.now.request.now.path.edges)
     _ _ _ c.requires.fits tied.tied best.0.0 (λ k i other departs. best.0.1 k i other departs.within departs) best.1 found.above

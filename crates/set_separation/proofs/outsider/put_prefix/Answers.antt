@@ -8,7 +8,7 @@ use Rattle.set_separation.proofs.outsider.put_prefix.Goals as goal
 
 pub add_to_path-requires : goal.add_to_path-requires
 add_to_path-requires c =
-    let short = put_short c.args.graph.now (request_ends c.args.request.now) c.requires.tree.0 c.args.tree.now c.requires.tree.1
+    let short = put_short c.args.outlook.now.graph.now (request_ends c.args.outlook.now.request.now) c.requires.tree.0 c.args.tree.now c.requires.tree.1
     c.keeps_conditions.ensures.fits c.args.place c.loop-at.at c.loop-at.room.path c.requires.place c.loop-at-test.true
     c.loop-at.invariant.path in
     let costs = ap (λ (r : Findings). length r.costs) c.loop-at.invariant.rest in
