@@ -1,17 +1,18 @@
 -- Rounds of a relaxation: the forms fit the box, the tableau that is kept holds the first forms of a pool that grew, and
 -- each new form is one that was missing.
-use Rattle.std.proofs.Common.{◌≡◌, ℕ, ◌<◌, sym, ◌∙◌, subst, inl, inr, List, ◌++◌, Option, None, Some, arith}
-use Rattle.std.specs.Prelude.{All, Contains}
+use Rattle.std.proofs.Common.{◌≡◌, ℕ, ◌<◌, refl, sym, ◌∙◌, subst, inl, inr, List, ◌++◌, length, Option, None, Some, Ok, arith}
+use Rattle.std.specs.Prelude.{All, Contains, Result, Err, IfOk, IfSome}
 use Rattle.std.proofs.lemmas.List.{length-append, take-append-le}
 use Rattle.std.proofs.lemmas.List.Elements.{Contains-append_cases}
 use Rattle.area_graph.specs.declared.Point.{Point}
 use Rattle.design_problem.specs.Forms.{Form}
 use Rattle.design_problem.specs.declared.form.CostBox.{CostBox}
 use Rattle.fraction_table.specs.Tableaus.{FitsBox}
+use Rattle.form_search.specs.declared.relaxation.Relaxed.{Relaxed}
 use Rattle.form_search.specs.declared.table.HeldTableau.{HeldTableau}
 use Rattle.form_search.specs.Sources.{Grows, IsTrueForm}
 use Rattle.form_search.specs.Points.{IsCostsBox}
-use Rattle.form_search.specs.Tables.{IsHeld, IsTableauKept, StandsAt}
+use Rattle.form_search.specs.Tables.{IsHeld, IsRelaxation, IsRoundTold, IsTableauKept, StandsAt}
 use Rattle.form_search.specs.Turns.{HasNew}
 use Rattle.form_search.proofs.CostPoints.{low_values}
 use Rattle.form_search.proofs.MissingForms.{missing, missing_falls}
@@ -45,9 +46,28 @@ pub kept_more : (old new more : List Form) (kept : Option HeldTableau) → new �
 kept_more old new more None same is = tt
 kept_more old new more (Some table) same is = held_more table.top table.variables old new more table same is
 
+-- and one that stands over a box stands there with more forms
+pub stands_more : (top : ℕ) (box : CostBox) (old new more : List Form) (table : HeldTableau) → new ≡ old ++ more →
+    StandsAt top box old table → StandsAt top box new table
+stands_more top box old new more table same stands = record {
+  over = record { is_held = held_more top (length box.low) old new more table same stands.over.is_held; costs = stands.over.costs };
+  going = stands.going;
+}
+
+-- what a round comes to where the tableau stands over the box, by what the source answers
+pub round_told : {E : Type 0} (accepted : Point → Type 0) (top : ℕ) (box : CostBox) (old new more : List Form) (point : Point)
+    (table : HeldTableau) (result : Result (Option Relaxed) E) → new ≡ old ++ more → StandsAt top box old table →
+    IfOk result (λ found. IfSome found (IsRelaxation accepted top box new point)) → (result ≡ Ok None → HasNew old new) →
+    IfOk result (IsRoundTold accepted top box old new point table)
+round_told accepted top box old new more point table (Ok None) same stands told has_new =
+    record { has_new = has_new refl; stands = stands_more top box old new more table same stands }
+round_told accepted top box old new more point table (Ok (Some relaxed)) same stands told has_new =
+    record { relaxation = told; is_held = (stands_more top box old new more table same stands).over.is_held }
+round_told accepted top box old new more point table (Err e) same stands told has_new = tt
+
 -- it stands there by its own top
 pub stands_own : (top : ℕ) (box : CostBox) (forms : List Form) (table : HeldTableau) → StandsAt top box forms table → StandsAt table.tableau.top box forms table
-stands_own top box forms table stands = subst (λ (t : ℕ). StandsAt t box forms table) (sym stands.is_held.same_top) stands
+stands_own top box forms table stands = subst (λ (t : ℕ). StandsAt t box forms table) (sym stands.over.is_held.same_top) stands
 
 -- what it was started for is its own
 pub held_own : (top n : ℕ) (forms : List Form) (table : HeldTableau) → IsHeld top n forms table → IsHeld table.top table.variables forms table

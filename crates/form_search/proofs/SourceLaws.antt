@@ -4,7 +4,9 @@ use Rattle.std.specs.Prelude.{All}
 use Rattle.std.proofs.lemmas.List.Elements.{All-append, All-nil}
 use Rattle.area_graph.specs.declared.Point.{Point}
 use Rattle.design_problem.specs.Forms.{Form}
+use Rattle.form_search.specs.declared.source.RowSource.{Ghosts}
 use Rattle.form_search.specs.Sources.{Grows, SameFor, SameSource}
+use Rattle.form_search.specs.Calls.{AreInStep, Leaves}
 
 module _ {X : Type 0} where
   -- the same before and after, three times
@@ -50,4 +52,33 @@ module _ {Source : Type 0} (count : Source → ℕ) (accepted : Source → Point
     same_points = same_for_then (accepted old) (accepted mid) (accepted new) first.same_points second.same_points;
     same_forms = same_for_then (true_form old) (true_form mid) (true_form new) first.same_forms second.same_forms;
     same_candidates = second.same_candidates ∙ first.same_candidates;
+  }
+
+module _ {Source : Type 0} (members : Ghosts Source) where
+  -- work that hasn't begun
+  pub leaves_none : (source : Source) (forms : List Form) → members.in_step source forms → Leaves members (λ P. P) source source forms forms
+  leaves_none source forms lists = record {
+    grows = grows_none (members.true_form source) forms;
+    same = same_alike members.count members.accepted members.true_form members.candidates source;
+    lists = lists;
+  }
+
+  -- some work, and then some more
+  pub leaves_then : {First Second Both : Type 0 → Type 0} (old mid new : Source) (old_forms mid_forms new_forms : List Form) →
+      Leaves members First old mid old_forms mid_forms → Leaves members Second mid new mid_forms new_forms →
+      Both (members.in_step new new_forms) → Leaves members Both old new old_forms new_forms
+  leaves_then old mid new old_forms mid_forms new_forms first second lists = record {
+    grows = grows_then (members.true_form old) (members.true_form mid) old_forms mid_forms new_forms first.same.same_forms first.grows second.grows;
+    same = same_then members.count members.accepted members.true_form members.candidates old mid new first.same second.same;
+    lists = lists;
+  }
+
+  -- source and pool go together after work that ended well
+  pub in_step_then : (old new : Source) (old_forms new_forms : List Form) → AreInStep members old old_forms →
+      Leaves members (λ P. P) old new old_forms new_forms → AreInStep members new new_forms
+  in_step_then old new old_forms new_forms begun left = record {
+    lists = left.lists;
+    true_forms =
+        trues_kept (members.true_form old) (members.true_form new) old_forms new_forms left.same.same_forms begun.true_forms
+        left.grows;
   }

@@ -1,4 +1,5 @@
 pub mod Sources
+pub mod Calls
 pub mod Finds
 pub mod Advised
 pub mod Points

@@ -18,6 +18,7 @@ use Rattle.form_search.specs.declared.table.Least.TheVariants.{Point as AtPoint,
 use Rattle.form_search.specs.declared.relaxation.Relaxed.{Relaxed}
 use Rattle.form_search.specs.declared.relaxation.Relaxed.TheVariants.{Accepted, Refuted as NoneIsMet, Wide as TooWide}
 use Rattle.form_search.specs.Points.{IsLeastOf}
+use Rattle.form_search.specs.Turns.{HasNew}
 
 -- A tableau in n variables that holds the first forms of the pool; where a step has stopped it, maybe one more than it counts.
 pub record IsHeld (top n : ℕ) (forms : List Form) (table : HeldTableau) : Type 0 where
@@ -35,10 +36,14 @@ abbrev pub IsTableauKept : List Form → Option HeldTableau → Type 0
 IsTableauKept forms None = Unit {0}
 IsTableauKept forms (Some table) = IsHeld table.top table.variables forms table
 
--- the tableau stands over the box, and no step has stopped it
-pub record StandsAt (top : ℕ) (box : CostBox) (forms : List Form) (table : HeldTableau) : Type 0 where
+-- the tableau is one over the box, with the first forms of the pool
+pub record IsHeldOver (top : ℕ) (box : CostBox) (forms : List Form) (table : HeldTableau) : Type 0 where
   pub is_held : IsHeld top (length box.low) forms table
   pub costs : table.tableau.costs ≡ box
+
+-- the tableau stands over the box, and no step has stopped it
+pub record StandsAt (top : ℕ) (box : CostBox) (forms : List Form) (table : HeldTableau) : Type 0 where
+  pub over : IsHeldOver top box forms table
   pub going : IsGoing table.tableau.stage
 
 -- a step that is too wide, as it is printed
@@ -69,3 +74,19 @@ abbrev pub IsRelaxation : (Point → Type 0) → ℕ → CostBox → List Form �
 IsRelaxation accepted top box forms point Accepted = IsLeastOf accepted box point
 IsRelaxation accepted top box forms point (NoneIsMet parts) = RefutesBy box forms parts
 IsRelaxation accepted top box forms point (TooWide wide) = IsPrintedWide top box forms wide
+
+-- the relaxation has come to its end, and the tableau that it leaves holds the pool's first forms
+pub record IsRelaxedWith (accepted : Point → Type 0) (top : ℕ) (box : CostBox) (forms : List Form) (point : Point)
+    (table : HeldTableau) (relaxed : Relaxed) : Type 0 where
+  pub relaxation : IsRelaxation accepted top box forms point relaxed
+  pub is_held : IsHeld top (length box.low) forms table
+
+-- new forms came, and the tableau stands over the box with them
+pub record StandsWithNew (top : ℕ) (box : CostBox) (old new : List Form) (table : HeldTableau) : Type 0 where
+  pub has_new : HasNew old new
+  pub stands : StandsAt top box new table
+
+-- what one round of a relaxation comes to: the relaxation's end, or a further round with new forms
+abbrev pub IsRoundTold : (Point → Type 0) → ℕ → CostBox → List Form → List Form → Point → HeldTableau → Option Relaxed → Type 0
+IsRoundTold accepted top box old new point table None = StandsWithNew top box old new table
+IsRoundTold accepted top box old new point table (Some relaxed) = IsRelaxedWith accepted top box new point table relaxed

@@ -8,6 +8,7 @@ use Rattle.design_problem.specs.Forms.{Form}
 use Rattle.design_problem.specs.declared.form.CostBox.{CostBox}
 use Rattle.design_problem.specs.declared.tree.Entry.{Entry}
 use Rattle.design_problem.specs.declared.tree.Entry.TheVariants.{Tighten, Split, Halve, Refute, Undone}
+use Rattle.design_problem.specs.declared.tree.Side.{Side}
 use Rattle.design_problem.specs.Boxes.{IsInBox, Refutes}
 use Rattle.design_problem.specs.Trees.{SoundAt, TightensAt, is_undone}
 use Rattle.design_problem.specs.Earnest.{EarnestAt, OpenPlace}
@@ -75,14 +76,20 @@ IsUnsplit (ByEntry (Halve var value wide)) = Unit {0}
 IsUnsplit (ByEntry (Refute parts)) = Unit {0}
 IsUnsplit (ByEntry Undone) = Unit {0}
 
+-- what may come next at a box of one point, at whatever size of numbers and whatever was tightened: no Split
+pub record IsNextOfPoint (accepted : Point → Type 0) (old new : List Form) (box : CostBox) (next : Next) : Type 0 where
+  pub step : (top : ℕ) (since : List (ℕ × Side)) → IsNextStep accepted top old new (record { box = box; since = since }) next
+  pub unsplit : IsUnsplit next
+
 -- a watch over n variables
 pub record IsWatch (n : ℕ) (watch : Watch) : Type 0 where
   pub lists : length watch.forms_of.items ≡ n
   pub low : length watch.low.items ≡ n
   pub high : length watch.high.items ≡ n
 
--- what is kept from box to box, in n variables
-pub record IsDesk (n : ℕ) (desk : Desk) : Type 0 where
+-- what is kept from box to box, in n variables, with the size of the numbers that a step may need
+pub record IsDesk (top n : ℕ) (desk : Desk) : Type 0 where
+  pub same_top : desk.top ≡ top
   pub watch : IsWatch n desk.watch
   pub point : length desk.point.values ≡ n
 

@@ -10,7 +10,8 @@ ghost use Rattle.design_problem.specs.Boxes.{IsInBox, IsPointOf};
 ghost use Rattle.design_problem.specs.Earnest.{IsLeastPoint};
 ghost use Rattle.design_problem.specs.OpenPlaces.{first_place};
 ghost use Rattle.form_search.specs.Advised.{AreAskedAt, AreAskedNext};
-ghost use Rattle.form_search.specs.Sources.{Grows, SameFor, SameSource};
+ghost use Rattle.form_search.specs.Calls.{AreInStep, Leaves};
+ghost use Rattle.form_search.specs.Sources.{SameFor, SameSource};
 ghost use Rattle.form_search.specs.Points.{IsCostsBox, IsFractional, IsLeastOf, IsIntegralPoint};
 ghost use Rattle.form_search.specs.Turns.{IsDesk, IsNextStep, IsSplitAt};
 
@@ -27,7 +28,6 @@ use cost_base::OutOfMemory;
 use cut_advisors::{Advisor, Candidate, choose};
 use design_problem::{CostBox, CostList, Entry, TreeBuilder};
 use std::alloc::Global;
-use wide_fraction::Top;
 
 /// Costs of the box that the least accepted point gives: its values over the scale where these are whole; else the values
 /// themselves, where they are accepted as costs.
@@ -86,65 +86,52 @@ fn split_there(
     Ok(split_at(&candidates, picked as usize))
 }
 
-/// What comes next at the least accepted point of the box: costs that are accepted, or a Split.
+/// What comes next at the least accepted point of the box, which is on the desk: costs that are accepted, or a Split.
 fn at_least_point<S: RowSource>(
     alloc: Global,
     source: &mut S,
     advisors: &mut Vec<Box<dyn Advisor>>,
     costs: &CostBox,
-    watch: &Watch,
-    point: &mut Point,
+    desk: &mut Desk,
 ) -> Result<Next, OutOfMemory>
     requires ranges { IsCostsBox (S.count source.old) costs.now }
-    requires least { IsLeastOf (S.accepted source.old) costs.now point.old }
+    requires least { IsLeastOf (S.accepted source.old) costs.now desk.old.point }
     ensures next { IfOk result (λ next. (top : ℕ) (old new : List Form) (since : List (ℕ × Side)) →
         IsNextStep (S.accepted source.old) top old new (record { box = costs.now; since = since }) next) }
-    ensures point { point.new ≡ point.old }
+    ensures desk { desk.new ≡ desk.old }
     ensures in_step { SameFor (S.in_step source.old) (S.in_step source.new) }
     ensures same { SameSource S.count S.accepted S.true_form S.candidates source.old source.new }
     ensures asked { AreAskedNext ⟦<dyn Advisor as Advisor>⟧ (λ b. b.vtable) (λ b. state b)
         (IsLeastPoint (S.accepted source.old)) costs.now result advisors.old.items advisors.new.items }
 {
-    match costs_there(alloc, source, costs, point)? {
+    match costs_there(alloc, source, costs, &mut desk.point)? {
         Some(found) => Ok(Next::Costs(found)),
-        None => Ok(Next::Entry(split_there(alloc, advisors, costs, point, watch)?)),
+        None => Ok(Next::Entry(split_there(alloc, advisors, costs, &desk.point, &desk.watch)?)),
     }
 }
 
 /// What comes next at a box of more than one point, by its relaxation: costs that are accepted, a Split, a Refute, or a
 /// Halve.
 fn at_box<S: RowSource>(
-    alloc: Global,
     source: &mut S,
-    top: Top,
     pool: &mut FormPool,
     advisors: &mut Vec<Box<dyn Advisor>>,
     costs: &CostBox,
     desk: &mut Desk,
 ) -> Result<Next, OutOfMemory>
-    requires in_step { S.in_step source.old pool.old }
-    requires true_forms { All (S.true_form source.old) pool.old }
+    requires in_step { AreInStep S.RowSource source.old pool.old }
     requires ranges { IsCostsBox (S.count source.old) costs.now }
     requires more { costs.now.low ≢ costs.now.high }
-    requires desk { IsDesk (S.count source.old) desk.old }
+    requires desk { IsDesk desk.old.top (S.count source.old) desk.old }
     ensures next { IfOk result (λ next. (since : List (ℕ × Side)) →
-        IsNextStep (S.accepted source.old) top pool.old pool.new (record { box = costs.now; since = since }) next) }
-    ensures desk { OnOk result (IsDesk (S.count source.old) desk.new) }
-    ensures grows { Grows (S.true_form source.old) pool.old pool.new }
-    ensures in_step { OnOk result (S.in_step source.new pool.new) }
-    ensures same { SameSource S.count S.accepted S.true_form S.candidates source.old source.new }
+        IsNextStep (S.accepted source.old) desk.old.top pool.old pool.new (record { box = costs.now; since = since }) next) }
+    ensures desk { OnOk result (IsDesk desk.old.top (S.count source.old) desk.new) }
+    ensures left { Leaves S.RowSource (OnOk result) source.old source.new pool.old pool.new }
     ensures asked { AreAskedNext ⟦<dyn Advisor as Advisor>⟧ (λ b. b.vtable) (λ b. state b)
         (IsLeastPoint (S.accepted source.old)) costs.now result advisors.old.items advisors.new.items }
 {
-    match relax(alloc, source, top, pool, costs, &mut desk.point)? {
-        Relaxed::Accepted => at_least_point(
-            alloc,
-            source,
-            advisors,
-            costs,
-            &desk.watch,
-            &mut desk.point,
-        ),
+    match relax(source, desk.top, pool, costs, &mut desk.point)? {
+        Relaxed::Accepted => at_least_point(pool.allocator(), source, advisors, costs, desk),
         Relaxed::Refuted(parts) => Ok(Next::Entry(Entry::Refute { parts })),
         Relaxed::Wide(wide) => Ok(Next::Entry(halved(costs, wide))),
     }
@@ -153,34 +140,29 @@ fn at_box<S: RowSource>(
 /// What comes next at the open box of a tree: the entry of the first form that has something to say; else what its one
 /// point tells; else what its relaxation tells.
 pub(crate) fn next_at<S: RowSource>(
-    alloc: Global,
     source: &mut S,
-    top: Top,
     pool: &mut FormPool,
     advisors: &mut Vec<Box<dyn Advisor>>,
     tree: &TreeBuilder,
     desk: &mut Desk,
 ) -> Result<Next, OutOfMemory>
-    requires in_step { S.in_step source.old pool.old }
-    requires true_forms { All (S.true_form source.old) pool.old }
+    requires in_step { AreInStep S.RowSource source.old pool.old }
     requires open { 0 < length tree.now.places }
     requires ranges { IsCostsBox (S.count source.old) (first_place tree.now.places).box }
-    requires desk { IsDesk (S.count source.old) desk.old }
-    ensures next { IfOk result (IsNextStep (S.accepted source.old) top pool.old pool.new (first_place tree.now.places)) }
-    ensures desk { OnOk result (IsDesk (S.count source.old) desk.new) }
-    ensures grows { Grows (S.true_form source.old) pool.old pool.new }
-    ensures in_step { OnOk result (S.in_step source.new pool.new) }
-    ensures same { SameSource S.count S.accepted S.true_form S.candidates source.old source.new }
+    requires desk { IsDesk desk.old.top (S.count source.old) desk.old }
+    ensures next { IfOk result (IsNextStep (S.accepted source.old) desk.old.top pool.old pool.new (first_place tree.now.places)) }
+    ensures desk { OnOk result (IsDesk desk.old.top (S.count source.old) desk.new) }
+    ensures left { Leaves S.RowSource (OnOk result) source.old source.new pool.old pool.new }
     ensures asked { AreAskedNext ⟦<dyn Advisor as Advisor>⟧ (λ b. b.vtable) (λ b. state b)
         (IsLeastPoint (S.accepted source.old)) (first_place tree.now.places).box result advisors.old.items advisors.new.items }
 {
-    if let Some(entry) = propagated(alloc, pool, tree, &mut desk.watch)? {
+    if let Some(entry) = propagated(pool, tree, &mut desk.watch)? {
         return Ok(Next::Entry(entry));
     }
     let costs = tree.costs();
     if is_one_point(costs) {
-        at_one_point(alloc, source, pool, costs, &mut desk.point)
+        at_one_point(source, pool, costs, &mut desk.point)
     } else {
-        at_box(alloc, source, top, pool, advisors, costs, desk)
+        at_box(source, pool, advisors, costs, desk)
     }
 }

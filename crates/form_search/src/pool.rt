@@ -42,6 +42,11 @@ impl FormPool {
         }
     }
 
+    /// The allocator from which the pool takes its memory.
+    pub fn allocator(&self) -> Global {
+        *self.forms.allocator()
+    }
+
     /// Adds a form at the end.
     ///
     /// # Errors

@@ -75,7 +75,6 @@ fn entry_of(
 
 /// The entry that the first form with something to say gives.
 pub(crate) fn propagated(
-    alloc: Global,
     pool: &FormPool,
     tree: &TreeBuilder,
     watch: &mut Watch,
@@ -95,7 +94,7 @@ pub(crate) fn propagated(
     watch.look(tree)?;
     while let Some(row) = watch.next() {
         if row < forms.len() {
-            if let Some(entry) = entry_of(alloc, &forms[row], row, tree, watch)? {
+            if let Some(entry) = entry_of(pool.allocator(), &forms[row], row, tree, watch)? {
                 watch.keep(row)?;
                 return Ok(Some(entry));
             }

@@ -7,9 +7,9 @@ ghost use Rattle.design_problem.specs.Trees.{IsSingleTree, SoundAt};
 ghost use Rattle.design_problem.specs.Earnest.{IsLeastPoint};
 ghost use Rattle.design_problem.specs.OpenPlaces.{first_place, fresh, grown, undones};
 ghost use Rattle.form_search.specs.Advised.{AreAdvised, AreToldNext};
+ghost use Rattle.form_search.specs.Calls.{AreInStep, Leaves};
 ghost use Rattle.form_search.specs.Finds.{IsSearchResult};
 ghost use Rattle.form_search.specs.Points.{IsCostsBox};
-ghost use Rattle.form_search.specs.Sources.{Grows, SameSource};
 ghost use Rattle.form_search.specs.Turns.{IsSoundNext, turned};
 
 use crate::at_box::next_at;
@@ -89,28 +89,25 @@ fn turn(
 ///
 /// `OutOfMemory`. Then too only true forms came into the pool, at its end.
 pub fn search<S: RowSource>(
-    alloc: Global,
     source: &mut S,
     costs: &CostBox,
     limits: &Limits,
     pool: &mut FormPool,
     advisors: &mut Vec<Box<dyn Advisor>>,
 ) -> Result<Found, OutOfMemory>
-    requires in_step { S.in_step source.old pool.old }
-    requires true_forms { All (S.true_form source.old) pool.old }
+    requires in_step { AreInStep S.RowSource source.old pool.old }
     requires ranges { IsBox (S.count source.old) costs.now }
     requires lows { All (λ low. 1 ≤ low) costs.now.low }
     ensures found { IfOk result (IsSearchResult (S.accepted source.old) limits.now.top limits.now.nodes pool.new costs.now) }
-    ensures grows { Grows (S.true_form source.old) pool.old pool.new }
-    ensures in_step { OnOk result (S.in_step source.new pool.new) }
-    ensures same { SameSource S.count S.accepted S.true_form S.candidates source.old source.new }
+    ensures left { Leaves S.RowSource (OnOk result) source.old source.new pool.old pool.new }
     ensures advisors { AreAdvised ⟦<dyn Advisor as Advisor>⟧ (λ b. b.vtable) (λ b. state b)
         (IsLeastPoint (S.accepted source.old)) costs.now result advisors.old.items advisors.new.items }
 {
+    let alloc = pool.allocator();
     let mut tree = first_tree(alloc, source.variables(), costs)?;
-    let mut desk = Desk::start(alloc, costs)?;
+    let mut desk = Desk::start(alloc, costs, limits.top)?;
     'boxes: while tree.is_open() {
-        let next = next_at(alloc, source, limits.top, pool, advisors, &tree, &mut desk)?;
+        let next = next_at(source, pool, advisors, &tree, &mut desk)?;
         match turn(tree, next, limits.nodes, advisors)? {
             ControlFlow::Continue(longer) => tree = longer,
             ControlFlow::Break(found) => return Ok(found),

@@ -6,7 +6,6 @@ ghost use Rattle.form_search.specs.Sources.{Grows, IsSourceAnswer, IsCostPoint, 
 use crate::FormPool;
 use area_graph::Point;
 use cost_base::OutOfMemory;
-use std::alloc::Global;
 
 /// What a source answers at a point.
 #[derive(Clone, Copy, Debug, PartialEq, Eq)]
@@ -49,12 +48,7 @@ pub trait RowSource {
     /// # Errors
     ///
     /// `OutOfMemory`. Then too only true forms were added.
-    fn ask(
-        &mut self,
-        alloc: Global,
-        point: &Point,
-        pool: &mut FormPool,
-    ) -> Result<Asked, OutOfMemory>
+    fn ask(&mut self, point: &Point, pool: &mut FormPool) -> Result<Asked, OutOfMemory>
         requires in_step { in_step self.old pool.old }
         requires point { IsCostPoint (count self.old) point.now }
         requires met { AreMet pool.old point.now }

@@ -5,7 +5,7 @@ ghost use Rattle.design_problem.specs.Boxes.{IsBox};
 ghost use Rattle.design_problem.specs.Steps.{IsStepTooWide, ratio_of};
 ghost use Rattle.design_problem.specs.Text.{IsPrintedRatio};
 ghost use Rattle.fraction_table.specs.Tableaus.{FitsBox, IsGoing, wide_at};
-ghost use Rattle.form_search.specs.Tables.{IsHeld, IsTableauKept, IsPrintedWide, IsStepTold, IsLeastTold, StandsAt};
+ghost use Rattle.form_search.specs.Tables.{IsHeldOver, IsTableauKept, IsPrintedWide, IsStepTold, IsLeastTold, StandsAt};
 
 use area_graph::Point;
 use cost_base::{Listed, OutOfMemory, Ratio};
@@ -97,8 +97,7 @@ impl HeldTableau {
         requires fits { All (FitsBox self.old.tableau.costs) forms.now }
         ensures stands { OnOk result (StandsAt self.old.tableau.top self.old.tableau.costs forms.now self.new) }
         ensures all { OnOk result (self.new.held ≡ length forms.now) }
-        ensures held { IsHeld self.old.tableau.top (length self.old.tableau.costs.low) forms.now self.new }
-        ensures costs { self.new.tableau.costs ≡ self.old.tableau.costs }
+        ensures held { IsHeldOver self.old.tableau.top self.old.tableau.costs forms.now self.new }
         ensures wide { IfErr result (IsStepTold self.old.tableau.costs forms.now self.new.tableau) }
     {
         for row in self.held..forms.len() {
@@ -120,8 +119,7 @@ impl HeldTableau {
         requires places { length point.old.values ≡ length self.old.tableau.costs.low }
         ensures told { IfOk result (IsLeastTold self.old.tableau.top self.old.tableau.costs forms.now point.new) }
         ensures stands { OnOk result (StandsAt self.old.tableau.top self.old.tableau.costs forms.now self.new) }
-        ensures held { IsHeld self.old.tableau.top (length self.old.tableau.costs.low) forms.now self.new }
-        ensures costs { self.new.tableau.costs ≡ self.old.tableau.costs }
+        ensures held { IsHeldOver self.old.tableau.top self.old.tableau.costs forms.now self.new }
         ensures places { length point.new.values ≡ length point.old.values }
         ensures wide { IfErr result (IsStepTold self.old.tableau.costs forms.now self.new.tableau) }
     {
@@ -167,8 +165,7 @@ impl HeldTableau {
         requires places { length point.old.values ≡ length self.old.tableau.costs.low }
         ensures told { IfOk result (IsLeastTold self.old.tableau.top self.old.tableau.costs forms.now point.new) }
         ensures stands { result ≡ Ok Least.Point → StandsAt self.old.tableau.top self.old.tableau.costs forms.now self.new }
-        ensures held { IsHeld self.old.tableau.top (length self.old.tableau.costs.low) forms.now self.new }
-        ensures costs { self.new.tableau.costs ≡ self.old.tableau.costs }
+        ensures held { IsHeldOver self.old.tableau.top self.old.tableau.costs forms.now self.new }
         ensures places { length point.new.values ≡ length point.old.values }
     {
         match self.solve_to(alloc, forms, point) {

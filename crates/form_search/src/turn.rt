@@ -11,6 +11,7 @@ use area_graph::Point;
 use cost_base::OutOfMemory;
 use design_problem::{CostBox, CostList, Entry, WideAt};
 use std::alloc::Global;
+use wide_fraction::Top;
 
 /// What comes next at a box.
 #[derive(Drop)]
@@ -30,17 +31,20 @@ pub(crate) struct Desk {
     pub(crate) watch: Watch,
     /// The point that is asked, with a place for each variable.
     pub(crate) point: Point,
+    /// The size of the numbers that a step may need.
+    pub(crate) top: Top,
 }
 
 impl Desk {
     /// At the first box.
-    pub(crate) fn start(alloc: Global, costs: &CostBox) -> Result<Desk, OutOfMemory>
+    pub(crate) fn start(alloc: Global, costs: &CostBox, top: Top) -> Result<Desk, OutOfMemory>
         requires { length costs.now.high ≡ length costs.now.low }
-        ensures { IfOk result (IsDesk (length costs.now.low)) }
+        ensures { IfOk result (IsDesk top (length costs.now.low)) }
     {
         Ok(Desk {
             watch: Watch::start(alloc, costs)?,
             point: blank_point(alloc, costs.low.as_slice().len())?,
+            top,
         })
     }
 }

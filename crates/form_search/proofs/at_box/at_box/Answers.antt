@@ -18,9 +18,9 @@ returns-in-Accepted-clause-next g c =
     let here : (next : Next) → ((top : ℕ) (before after : List Form) (since : List (ℕ × Side)) →
     IsNextStep (Accepted c.relax.new.source) top before after (record { box = costs; since = since }) next) →
     (since : List (ℕ × Side)) →
-    IsNextStep (Accepted c.args.source.now) c.args.top old new (record { box = costs; since = since }) next =
-    λ next is since. next_same (Accepted c.args.source.now) (Accepted c.relax.new.source) c.args.top old new
-    (record { box = costs; since = since }) next c.relax.ensures.same.same_points (is c.args.top old new since) in
+    IsNextStep (Accepted c.args.source.now) c.args.desk.now.top old new (record { box = costs; since = since }) next =
+    λ next is since. next_same (Accepted c.args.source.now) (Accepted c.relax.new.source) c.args.desk.now.top old new
+    (record { box = costs; since = since }) next c.relax.ensures.left.same.same_points (is c.args.desk.now.top old new since) in
     IfOk-weaker _ _ _ here c.at_least_point.ensures.next
 
 pub returns-in_err-relax-clause-asked : goal.returns-in_err-relax-clause-asked
@@ -34,7 +34,7 @@ returns-in-Accepted-clause-asked g c =
     let old = c.args.source.now in
     let new = c.relax.new.source in
     asked_next_there (IsLeastPoint (Accepted new)) (IsLeastPoint (Accepted old)) _ c.args.costs.now c.at_least_point.result _ _
-    (λ b point least. least_same (Accepted new) (Accepted old) b point (swapped (Accepted old) (Accepted new) c.relax.ensures.same.same_points) least)
+    (λ b point least. least_same (Accepted new) (Accepted old) b point (swapped (Accepted old) (Accepted new) c.relax.ensures.left.same.same_points) least)
     c.at_least_point.ensures.asked
 
 pub returns-in-Wide-clause-asked : goal.returns-in-Wide-clause-asked

@@ -6,16 +6,17 @@ use Rattle.design_problem.specs.declared.tree.Entry.{Entry}
 use Rattle.design_problem.specs.declared.tree.Side.{Side}
 use Rattle.design_problem.specs.OpenPlaces.{first_place}
 use Rattle.form_search.specs.declared.turn.Next.{Next}
-use Rattle.form_search.specs.Turns.{IsNextRow, IsNextStep, IsWatch}
+use Rattle.form_search.specs.Turns.{IsNextOfPoint, IsNextRow, IsNextStep, IsUnsplit, IsWatch}
 use Rattle.form_search.proofs.AdvisorLaws.{asked_in, row_ready, unsplit_ready}
 use Rattle.form_search.proofs.at_box.next_at.Goals as goal
 
 pub returns-then-is_one_point-clause-next : goal.returns-then-is_one_point-clause-next
 returns-then-is_one_point-clause-next g c =
     let place = first_place c.args.tree.now.places in
-    let IsHere = IsNextStep (g.S.RowSource.accepted c.args.source.now) c.args.top c.args.pool.now c.at_one_point.new.pool in
-    subst (λ (box : CostBox). IfOk c.at_one_point.result (IsHere (record { box = box; since = place.since }))) (c.costs-costs.ensures c.requires.open)
-    (c.at_one_point.ensures.next c.args.top place.since)
+    let IsHere = IsNextStep (g.S.RowSource.accepted c.args.source.now) c.args.desk.now.top c.args.pool.now c.at_one_point.new.pool in
+    let here : (next : Next) → IsNextOfPoint (g.S.RowSource.accepted c.args.source.now) c.args.pool.now c.at_one_point.new.pool c.costs-costs.result.now next → IsHere place next =
+    λ next is. subst (λ (box : CostBox). IsHere (record { box = box; since = place.since }) next) (c.costs-costs.ensures c.requires.open) (is.step c.args.desk.now.top place.since) in
+    IfOk-weaker _ _ _ here c.at_one_point.ensures.next
 
 pub returns-then-is_one_point-clause-desk : goal.returns-then-is_one_point-clause-desk
 returns-then-is_one_point-clause-desk g c =
@@ -23,15 +24,16 @@ returns-then-is_one_point-clause-desk g c =
     let n = g.S.RowSource.count c.args.source.now in
     on_ok_weaker c.at_one_point.result
     (λ _. record {
+      same_top = refl;
       watch = subst (λ (m : ℕ). IsWatch m c.propagated.new.watch) c.requires.ranges.is_box.low_count c.propagated.ensures.watch;
       point = c.at_one_point.ensures.places ∙ desk.point;
     })
-    c.at_one_point.ensures.in_step
+    c.at_one_point.ensures.left.lists
 
 pub returns-else-is_one_point-clause-next : goal.returns-else-is_one_point-clause-next
 returns-else-is_one_point-clause-next g c =
     let place = first_place c.args.tree.now.places in
-    let IsHere = IsNextStep (g.S.RowSource.accepted c.args.source.now) c.args.top c.args.pool.now c.at_box.new.pool in
+    let IsHere = IsNextStep (g.S.RowSource.accepted c.args.source.now) c.args.desk.now.top c.args.pool.now c.at_box.new.pool in
     let here : (next : Next) → ((since : List (ℕ × Side)) → IsHere (record { box = c.costs-costs.result.now; since = since }) next) → IsHere place next =
     λ next is. subst (λ (box : CostBox). IsHere (record { box = box; since = place.since }) next) (c.costs-costs.ensures c.requires.open) (is place.since) in
     IfOk-weaker _ _ _ here c.at_box.ensures.next
@@ -48,7 +50,10 @@ returns-in-Some-clause-asked g c =
     (subst (λ (o : Option Entry). IfSome o (IsNextRow c.args.pool.now place)) c.in-Some.is c.in_ok-entry.ensures.entry) refl
 
 pub returns-then-is_one_point-clause-asked : goal.returns-then-is_one_point-clause-asked
-returns-then-is_one_point-clause-asked g c = unsplit_ready _ _ _ c.at_one_point.result _ _ c.at_one_point.ensures.unsplit refl
+returns-then-is_one_point-clause-asked g c =
+    let unsplit : (next : Next) → IsNextOfPoint (g.S.RowSource.accepted c.args.source.now) c.args.pool.now c.at_one_point.new.pool c.costs-costs.result.now next → IsUnsplit next =
+    λ next is. is.unsplit in
+    unsplit_ready _ _ _ c.at_one_point.result _ _ (IfOk-weaker _ _ _ unsplit c.at_one_point.ensures.next) refl
 
 pub returns-else-is_one_point-clause-asked : goal.returns-else-is_one_point-clause-asked
 returns-else-is_one_point-clause-asked g c =

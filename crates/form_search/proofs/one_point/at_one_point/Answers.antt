@@ -10,14 +10,16 @@ use Rattle.form_search.proofs.NextEntries.{next_refute, row_next}
 use Rattle.form_search.proofs.one_point.at_one_point.Goals as goal
 
 pub returns-in_ok-refute_by-in-Some-clause-next : goal.returns-in_ok-refute_by-in-Some-clause-next
-returns-in_ok-refute_by-in-Some-clause-next g c top since =
+returns-in_ok-refute_by-in-Some-clause-next g c =
     let pool = c.args.pool.now in
     let costs = c.args.costs.now in
     let row = c.in-Some.row in
+    let entry = c.in_ok-refute_by-in-Some.field-0 in
     let found = subst (λ (fs : List Form). (row < length fs) × (greatest (form_at fs row) costs <ℤ pos 0)) c.as_slice.ensures c.in-Some.ensures in
-    row_next (g.S.RowSource.accepted c.args.source.now) top pool (record { box = costs; since = since }) c.in_ok-refute_by-in-Some.field-0
-    (next_refute pool row (record { box = costs; since = since }) (form_at pool row) costs
-    c.in_ok-refute_by-in-Some.field-0 found.0 refl refl found.1 c.in_ok-refute_by-in-Some.ensures)
-
-pub returns-in_ok-refute_by-in-Some-clause-unsplit : goal.returns-in_ok-refute_by-in-Some-clause-unsplit
-returns-in_ok-refute_by-in-Some-clause-unsplit g c = subst (λ (e : Entry). IsUnsplit (ByEntry e)) (sym c.in_ok-refute_by-in-Some.ensures) tt
+    record {
+      step = λ top since.
+          row_next (g.S.RowSource.accepted c.args.source.now) top pool (record { box = costs; since = since }) entry
+          (next_refute pool row (record { box = costs; since = since }) (form_at pool row) costs entry found.0 refl refl found.1
+          c.in_ok-refute_by-in-Some.ensures);
+      unsplit = subst (λ (e : Entry). IsUnsplit (ByEntry e)) (sym c.in_ok-refute_by-in-Some.ensures) tt;
+    }

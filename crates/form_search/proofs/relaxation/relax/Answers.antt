@@ -12,7 +12,7 @@ moved-requires-clause-fits g c =
       pool,
       c.take_tableau.ensures.kept,
       fit_box n (g.S.RowSource.accepted source) c.args.costs.now pool c.requires.ranges
-          (λ k d k_in. g.met.S.RowSource.true_forms_hold source _ (c.requires.true_forms k d k_in)),
+          (λ k d k_in. g.met.S.RowSource.true_forms_hold source _ (c.requires.in_step.true_forms k d k_in)),
     )
 
 pub relax_by-requires-clause-stands : goal.relax_by-requires-clause-stands
@@ -26,7 +26,7 @@ relax_by-requires-clause-stands g c =
 pub keep_tableau-requires : goal.keep_tableau-requires
 keep_tableau-requires g c =
     let new = c.relax_by.new in
-    held_own c.in_ok-table.table.tableau.top (length c.args.costs.now.low) new.pool new.table c.in_ok-relaxed.ensures.held
+    held_own c.in_ok-table.table.tableau.top (length c.args.costs.now.low) new.pool new.table c.in_ok-relaxed.ensures.relaxed.is_held
 
 pub returns-clause-relaxed : goal.returns-clause-relaxed
 returns-clause-relaxed g c =
@@ -37,4 +37,4 @@ returns-clause-relaxed g c =
     let new = c.relax_by.new in
     let relaxed = c.in_ok-relaxed.relaxed in
     subst (λ (forms : List Form). IsRelaxation Accepted c.args.top costs forms new.point relaxed) (sym c.keep_tableau.ensures)
-    (subst (λ (top : ℕ). IsRelaxation Accepted top costs new.pool new.point relaxed) stands.is_held.same_top c.in_ok-relaxed.ensures.relaxed)
+    (subst (λ (top : ℕ). IsRelaxation Accepted top costs new.pool new.point relaxed) stands.over.is_held.same_top c.in_ok-relaxed.ensures.relaxed.relaxation)

@@ -1,4 +1,4 @@
-use Rattle.std.proofs.Common.{ℕ, ◌∙◌, refl, sym, subst, inl, List, Ok, Continue, Break}
+use Rattle.std.proofs.Common.{ℕ, ◌∙◌, refl, sym, subst, inl, List, Ok, Continue, Break, rules}
 use Rattle.std.proofs.lemmas.Result.{err_from_is_err_and}
 use Rattle.std.proofs.lemmas.Bool.{false≢true}
 use Rattle.design_problem.specs.declared.tree.Entry.{Entry}
@@ -7,10 +7,10 @@ use Rattle.design_problem.specs.Earnest.{IsLeastPoint}
 use Rattle.form_search.specs.declared.found.Found.TheVariants.{Refuted}
 use Rattle.form_search.specs.Finds.{IsSearchResult}
 use Rattle.form_search.specs.Points.{IsCostsBox}
-use Rattle.form_search.specs.Turns.{IsDesk}
+use Rattle.form_search.specs.Turns.{IsDesk, IsNextStep}
 use Rattle.form_search.proofs.AdvisorLaws.{along_begun, along_next, asked_next_there, calls_begun, calls_end, start, tree_found, wanting_end}
 use Rattle.form_search.proofs.OtherSources.{least_same, swapped}
-use Rattle.form_search.proofs.SourceLaws.{grows_none, grows_then, same_alike, same_then, trues_kept}
+use Rattle.form_search.proofs.SourceLaws.{in_step_then, leaves_none, leaves_then}
 use Rattle.form_search.proofs.GrowingTrees.{IsGrowing, ended_whole, first_costs, first_in, growing_ends, growing_start, turn_falls, turn_shown, undone_whole}
 use Rattle.form_search.proofs.searching.search.Goals as goal
 
@@ -31,24 +31,19 @@ boxes-init g c =
     let costs = c.args.costs.now in
     let limits = c.args.limits.now in
     let Accepted = g.S.RowSource.accepted in
-    let IsTrue = g.S.RowSource.true_form in
     let desk = c.in_ok-desk.desk in
     record {
-      in_step = c.requires.in_step;
+      left = leaves_none g.S.RowSource source pool c.requires.in_step.lists;
       growing =
           subst (λ (tree : Growing). IsGrowing (Accepted source) limits.top limits.nodes pool costs tree) (sym c.in_ok-tree.ensures.tree)
           (growing_start (Accepted source) limits.top limits.nodes pool costs);
-      desk = subst (λ (n : ℕ). IsDesk n desk) c.requires.ranges.low_count c.in_ok-desk.ensures;
-      grows = grows_none (IsTrue source) pool;
-      same = same_alike g.S.RowSource.count Accepted IsTrue g.S.RowSource.candidates source;
+      desk = subst (λ (n : ℕ). IsDesk limits.top n desk) c.requires.ranges.low_count c.in_ok-desk.ensures;
       advisors = along_begun _ _ _ costs c.in_ok-tree.tree c.args.advisors.now.items c.in_ok-tree.ensures.tree;
     }
 
-pub next_at-requires-clause-true_forms : goal.next_at-requires-clause-true_forms
-next_at-requires-clause-true_forms g c =
-    let IsTrue = g.S.RowSource.true_form in
-    let was = c.boxes.invariant in
-    trues_kept (IsTrue c.args.source.now) (IsTrue c.boxes.source) c.args.pool.now c.boxes.pool was.same.same_forms c.requires.true_forms was.grows
+pub next_at-requires-clause-in_step : goal.next_at-requires-clause-in_step
+next_at-requires-clause-in_step g c =
+    in_step_then g.S.RowSource c.args.source.now c.boxes.source c.args.pool.now c.boxes.pool c.requires.in_step c.boxes.invariant.left
 
 pub next_at-requires-clause-ranges : goal.next_at-requires-clause-ranges
 next_at-requires-clause-ranges g c =
@@ -58,17 +53,15 @@ next_at-requires-clause-ranges g c =
     let tree = c.boxes.tree in
     let was = c.boxes.invariant in
     let kept : IsCostsBox n costs = subst (λ (m : ℕ). IsCostsBox m costs) c.variables.ensures c.in_ok-tree.ensures.ranges in
-    subst (λ (m : ℕ). IsCostsBox m (first_place tree.places).box) (sym was.same.same_count)
+    subst (λ (m : ℕ). IsCostsBox m (first_place tree.places).box) (sym was.left.same.same_count)
     (first_costs n costs (first_place tree.places).box kept
     (first_in (g.S.RowSource.accepted c.args.source.now) limits.top n c.boxes.pool costs tree.entries tree.places
     kept.is_box (c.is_open.ensures.0 c.boxes-test.true) was.growing.opens))
 
-pub returns-in_err-next-clause-grows : goal.returns-in_err-next-clause-grows
-returns-in_err-next-clause-grows g c =
-    let IsTrue = g.S.RowSource.true_form in
-    let was = c.boxes.invariant in
-    grows_then (IsTrue c.args.source.now) (IsTrue c.boxes.source) c.args.pool.now c.boxes.pool c.next_at.new.pool
-    was.same.same_forms was.grows c.next_at.ensures.grows
+pub returns-in_err-next-clause-left : goal.returns-in_err-next-clause-left
+returns-in_err-next-clause-left g c =
+    leaves_then g.S.RowSource c.args.source.now c.boxes.source c.next_at.new.source c.args.pool.now c.boxes.pool
+    c.next_at.new.pool c.boxes.invariant.left c.next_at.ensures.left (search rules)
 
 pub returns-in_err-next-clause-advisors : goal.returns-in_err-next-clause-advisors
 returns-in_err-next-clause-advisors g c =
@@ -84,12 +77,10 @@ turn-requires-clause-whole g c =
     let limits = c.args.limits.now in
     undone_whole (g.S.RowSource.accepted c.args.source.now) limits.top limits.nodes c.boxes.pool c.args.costs.now c.boxes.tree c.boxes.invariant.growing
 
-pub returns-in_err-longer-clause-grows : goal.returns-in_err-longer-clause-grows
-returns-in_err-longer-clause-grows g c =
-    let IsTrue = g.S.RowSource.true_form in
-    let was = c.boxes.invariant in
-    grows_then (IsTrue c.args.source.now) (IsTrue c.boxes.source) c.args.pool.now c.boxes.pool c.next_at.new.pool
-    was.same.same_forms was.grows c.next_at.ensures.grows
+pub returns-in_err-longer-clause-left : goal.returns-in_err-longer-clause-left
+returns-in_err-longer-clause-left g c =
+    leaves_then g.S.RowSource c.args.source.now c.boxes.source c.next_at.new.source c.args.pool.now c.boxes.pool
+    c.next_at.new.pool c.boxes.invariant.left c.next_at.ensures.left (search rules)
 
 pub returns-in_err-longer-clause-advisors : goal.returns-in_err-longer-clause-advisors
 returns-in_err-longer-clause-advisors g c =
@@ -97,7 +88,7 @@ returns-in_err-longer-clause-advisors g c =
     let asked = asked_next_there (IsLeastPoint (Accepted c.boxes.source)) (IsLeastPoint (Accepted c.args.source.now)) _
     (first_place c.boxes.tree.places).box (Ok c.in_ok-next.next) _ _
     (λ b point least. least_same (Accepted c.boxes.source) (Accepted c.args.source.now) b point
-    (swapped (Accepted c.args.source.now) (Accepted c.boxes.source) c.boxes.invariant.same.same_points) least)
+    (swapped (Accepted c.args.source.now) (Accepted c.boxes.source) c.boxes.invariant.left.same.same_points) least)
     c.in_ok-next.ensures.asked in
     let end = wanting_end _ _ _ c.args.costs.now c.boxes.tree c.in_ok-next.next _ _ _ _ c.boxes.invariant.advisors asked c.in_err-longer.ensures.told in
     let p = err_from_is_err_and c.from_residual-in_err-longer.result c.from_residual-in_err-longer.ensures.1 in
@@ -110,10 +101,10 @@ boxes-smaller g c =
     let tree = c.boxes.tree in
     let was = c.boxes.invariant in
     let turn = c.in_ok-longer in
-    turn_falls (g.S.RowSource.true_form source) (g.S.RowSource.accepted source) limits.top limits.nodes
+    turn_falls (g.S.RowSource.true_form source) (g.S.RowSource.accepted source) c.boxes.desk.top limits.nodes
     (g.S.RowSource.candidates c.args.source.now) (g.S.RowSource.candidates source) c.boxes.pool c.next_at.new.pool
     (first_place tree.places) tree c.in-Continue.longer c.in_ok-next.next turn.field-0
-    (g.met.S.RowSource.true_forms_listed source) was.same.same_candidates c.next_at.ensures.grows was.growing.few
+    (g.met.S.RowSource.true_forms_listed source) was.left.same.same_candidates c.next_at.ensures.left.grows was.growing.few
     c.in_ok-next.ensures.next turn.ensures.outcome c.in-Continue.is
 
 pub boxes-preserved : goal.boxes-preserved
@@ -126,28 +117,28 @@ boxes-preserved g c =
     let Accepted = g.S.RowSource.accepted in
     let IsTrue = g.S.RowSource.true_form in
     let was = c.boxes.invariant in
-    let grows = c.next_at.ensures.grows in
+    let left = c.next_at.ensures.left in
     let next = c.in_ok-next.ensures in
     let turn = c.in_ok-longer in
     let asked = asked_next_there (IsLeastPoint (Accepted c.boxes.source)) (IsLeastPoint (Accepted source)) _
     (first_place tree.places).box (Ok c.in_ok-next.next) _ _
     (λ b point least. least_same (Accepted c.boxes.source) (Accepted source) b point
-    (swapped (Accepted source) (Accepted c.boxes.source) was.same.same_points) least)
+    (swapped (Accepted source) (Accepted c.boxes.source) was.left.same.same_points) least)
     next.asked in
+    let step = subst (λ (top : ℕ). IsNextStep (Accepted c.boxes.source) top c.boxes.pool now.pool (first_place tree.places) c.in_ok-next.next)
+    was.desk.same_top next.next in
     record {
-      in_step = next.in_step;
+      left =
+          leaves_then g.S.RowSource source c.boxes.source now.source c.args.pool.now c.boxes.pool now.pool was.left left
+          next.left.lists;
       growing =
           turn_shown (IsTrue c.boxes.source) (Accepted source) (Accepted c.boxes.source) limits.top limits.nodes
           (g.S.RowSource.count source) c.boxes.pool now.pool costs tree c.in_ok-next.next turn.field-0 (Continue c.in-Continue.longer)
-          c.requires.ranges was.same.same_points grows was.growing (c.is_open.ensures.0 c.boxes-test.true) next.next
+          c.requires.ranges was.left.same.same_points left.grows was.growing (c.is_open.ensures.0 c.boxes-test.true) step
           turn.ensures.outcome c.in-Continue.is;
-      desk = subst (λ (n : ℕ). IsDesk n now.desk) was.same.same_count next.desk;
-      grows =
-          grows_then (IsTrue source) (IsTrue c.boxes.source) c.args.pool.now c.boxes.pool now.pool was.same.same_forms
-          was.grows grows;
-      same =
-          same_then g.S.RowSource.count Accepted IsTrue g.S.RowSource.candidates source c.boxes.source now.source was.same
-          c.next_at.ensures.same;
+      desk =
+          subst (λ (top : ℕ). IsDesk top (g.S.RowSource.count source) now.desk) was.desk.same_top
+          (subst (λ (n : ℕ). IsDesk c.boxes.desk.top n now.desk) was.left.same.same_count next.desk);
       advisors =
           along_next _ _ _ costs limits.nodes tree c.in-Continue.longer c.in_ok-next.next turn.field-0 _ _ _ _ was.advisors
           asked turn.ensures.told c.in-Continue.is turn.ensures.outcome;
@@ -160,17 +151,17 @@ returns-in-Break-clause-found g c =
     let Accepted = g.S.RowSource.accepted in
     let was = c.boxes.invariant in
     let turn = c.in_ok-longer in
+    let step = subst (λ (top : ℕ). IsNextStep (Accepted c.boxes.source) top c.boxes.pool c.next_at.new.pool (first_place c.boxes.tree.places) c.in_ok-next.next)
+    was.desk.same_top c.in_ok-next.ensures.next in
     turn_shown (g.S.RowSource.true_form c.boxes.source) (Accepted source) (Accepted c.boxes.source) limits.top limits.nodes
     (g.S.RowSource.count source) c.boxes.pool c.next_at.new.pool c.args.costs.now c.boxes.tree c.in_ok-next.next
-    turn.field-0 (Break c.in-Break.found) c.requires.ranges was.same.same_points c.next_at.ensures.grows was.growing
-    (c.is_open.ensures.0 c.boxes-test.true) c.in_ok-next.ensures.next turn.ensures.outcome c.in-Break.is
+    turn.field-0 (Break c.in-Break.found) c.requires.ranges was.left.same.same_points c.next_at.ensures.left.grows was.growing
+    (c.is_open.ensures.0 c.boxes-test.true) step turn.ensures.outcome c.in-Break.is
 
-pub returns-in-Break-clause-grows : goal.returns-in-Break-clause-grows
-returns-in-Break-clause-grows g c =
-    let IsTrue = g.S.RowSource.true_form in
-    let was = c.boxes.invariant in
-    grows_then (IsTrue c.args.source.now) (IsTrue c.boxes.source) c.args.pool.now c.boxes.pool c.next_at.new.pool
-    was.same.same_forms was.grows c.next_at.ensures.grows
+pub returns-in-Break-clause-left : goal.returns-in-Break-clause-left
+returns-in-Break-clause-left g c =
+    leaves_then g.S.RowSource c.args.source.now c.boxes.source c.next_at.new.source c.args.pool.now c.boxes.pool
+    c.next_at.new.pool c.boxes.invariant.left c.next_at.ensures.left c.in_ok-next.ensures.left.lists
 
 pub returns-in-Break-clause-advisors : goal.returns-in-Break-clause-advisors
 returns-in-Break-clause-advisors g c =
@@ -178,7 +169,7 @@ returns-in-Break-clause-advisors g c =
     let asked = asked_next_there (IsLeastPoint (Accepted c.boxes.source)) (IsLeastPoint (Accepted c.args.source.now)) _
     (first_place c.boxes.tree.places).box (Ok c.in_ok-next.next) _ _
     (λ b point least. least_same (Accepted c.boxes.source) (Accepted c.args.source.now) b point
-    (swapped (Accepted c.args.source.now) (Accepted c.boxes.source) c.boxes.invariant.same.same_points) least)
+    (swapped (Accepted c.args.source.now) (Accepted c.boxes.source) c.boxes.invariant.left.same.same_points) least)
     c.in_ok-next.ensures.asked in
     record {
       tree = c.boxes.tree;

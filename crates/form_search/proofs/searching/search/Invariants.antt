@@ -1,18 +1,16 @@
 use Rattle.std.proofs.Common.{◌≡◌}
 use Rattle.design_problem.specs.Earnest.{IsLeastPoint}
 use Rattle.form_search.specs.Advised.{AreAllTold, AreCalledAlong, IsPick}
-use Rattle.form_search.specs.Sources.{Grows, SameSource}
+use Rattle.form_search.specs.Calls.{Leaves}
 use Rattle.form_search.specs.Turns.{IsDesk}
 use Rattle.form_search.proofs.GrowingTrees.{IsGrowing, left_of}
 use Rattle.form_search.proofs.searching.search.Given as goal
 
 abbrev pub invariant-boxes : goal.invariant-boxes
 invariant-boxes g l = record {
-  in_step : g.S.RowSource.in_step l.source l.pool;
+  left : Leaves g.S.RowSource (λ P. P) l.initial.source l.source l.initial.pool l.pool;
   growing : IsGrowing (g.S.RowSource.accepted l.initial.source) l.limits.top l.limits.nodes l.pool l.costs l.tree;
-  desk : IsDesk (g.S.RowSource.count l.initial.source) l.desk;
-  grows : Grows (g.S.RowSource.true_form l.initial.source) l.initial.pool l.pool;
-  same : SameSource g.S.RowSource.count g.S.RowSource.accepted g.S.RowSource.true_form g.S.RowSource.candidates l.initial.source l.source;
+  desk : IsDesk l.limits.top (g.S.RowSource.count l.initial.source) l.desk;
   advisors : AreCalledAlong (IsLeastPoint (g.S.RowSource.accepted l.initial.source))
       (IsPick (λ b c. c.vtable ≡ b.vtable) (λ b. (goal.Advisor-dyn g (b.vtable, b.value)).state b.value)
       (λ b. (goal.Advisor-dyn g (b.vtable, b.value)).would) (λ b. (goal.Advisor-dyn g (b.vtable, b.value)).left))

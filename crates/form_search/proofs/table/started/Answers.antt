@@ -7,16 +7,18 @@ pub returns : goal.returns
 returns c forms =
     let is = c.in_ok-start.ensures.held in
     record {
-      is_held = record {
-        same_top = ap (λ (held : Held). held.top) is;
-        noted_top = refl;
-        width = ap (λ (held : Held). length held.costs.low) is;
-        noted_width = ap length c.as_slice.ensures;
-        taken = 0;
-        few = omega arith;
-        rows = ap (λ (held : Held). held.rows) is;
-        all = λ going. refl;
+      over = record {
+        is_held = record {
+          same_top = ap (λ (held : Held). held.top) is;
+          noted_top = refl;
+          width = ap (λ (held : Held). length held.costs.low) is;
+          noted_width = ap length c.as_slice.ensures;
+          taken = 0;
+          few = omega arith;
+          rows = ap (λ (held : Held). held.rows) is;
+          all = λ going. refl;
+        };
+        costs = ap (λ (held : Held). held.costs) is;
       };
-      costs = ap (λ (held : Held). held.costs) is;
       going = subst (λ (stage : Stage). IsGoing stage) (sym (ap (λ (held : Held). held.stage) is)) tt;
     }

@@ -6,4 +6,4 @@ pub returns-in_ok-wide_at-in-Err-TooWide-clause-told : goal.returns-in_ok-wide_a
 returns-in_ok-wide_at-in-Err-TooWide-clause-told c =
     printed_held c.args.self.now.tableau.top (length c.args.self.now.tableau.costs.low) c.args.self.now.tableau.costs
     c.args.forms.now c.solve_to.new.self c.in_ok-wide_at-in-Err-TooWide.field-0
-    c.solve_to.ensures.held c.solve_to.ensures.costs c.in_ok-wide_at-in-Err-TooWide.ensures
+    c.solve_to.ensures.held.is_held c.solve_to.ensures.held.costs c.in_ok-wide_at-in-Err-TooWide.ensures
