@@ -1,5 +1,5 @@
 //! Resolves the lines of requests, one by one.
-ghost use Rattle.std.specs.Prelude.{◌≡◌, ◌++◌, [], Some, length, slice_get, option_to_list, IfOk, IfErr, OnOk};
+ghost use Rattle.std.specs.Prelude.{◌≡◌, ◌++◌, [], slice_get, option_to_list, IfOk, IfErr, OnOk};
 ghost use Rattle.std.specs.List.{filter_map};
 ghost use Rattle.cost_base.specs.Lists.{first_of};
 ghost use Rattle.wanted_paths.specs.Paths.{request_of};
@@ -8,7 +8,7 @@ ghost use Rattle.wanted_paths.specs.Paths.{outline};
 ghost use Rattle.request_reader.specs.declared.Directive.TheVariants.{Symmetric as SymmetricDirective};
 
 use crate::names::Names;
-use crate::paths::resolve_path;
+use crate::paths::Resolver;
 use crate::{ResolutionFault, ResolutionStop};
 use area_graph::Graph;
 use design_problem::Request;
@@ -42,39 +42,42 @@ fn check_symmetric(
     Ok(())
 }
 
-/// Appends the request of a line, where it wants a path; the line's first fault where it doesn't resolve. `marks` has
-/// a mark for each edge, and is written over.
+/// Appends the request of a line, where it wants a path; the line's first fault where it doesn't resolve.
 fn push_request(
-    alloc: Global,
-    names: &Names,
-    graph: &Graph,
-    marks: &mut Vec<bool>,
+    resolver: &mut Resolver,
     item: &Item,
     made: &mut Vec<Request>,
 ) -> Result<(), ResolutionStop>
-    requires graph { graph.now ≡ outline names.now }
-    requires marks { length marks.old.items ≡ length graph.now.edges }
-    ensures resolves { OnOk result (directive_faults names.now item.now.line item.now.what ≡ []) }
-    ensures made { OnOk result (made.new.items ≡ made.old.items ++ option_to_list (request_of names.now (outline names.now) item.now.what)) }
-    ensures refused { IfErr result (TellsResolution (first_of (directive_faults names.now item.now.line item.now.what))) }
-    ensures marks { length marks.new.items ≡ length graph.now.edges }
+    ensures resolves { OnOk result (directive_faults resolver.old item.now.line item.now.what ≡ []) }
+    ensures made { OnOk result (made.new.items ≡ made.old.items ++ option_to_list (request_of resolver.old (outline resolver.old) item.now.what)) }
+    ensures refused { IfErr result (TellsResolution (first_of (directive_faults resolver.old item.now.line item.now.what))) }
+    ensures same { resolver.new ≡ resolver.old }
 {
     let line = item.line;
     match &item.what {
         Directive::Path(route, parts) => {
-            let request = resolve_path(alloc, names, graph, marks, line, route, parts.as_slice())?;
+            let request = resolver.path(line, route, parts.as_slice())?;
             if made.push(request).is_err() {
                 return Err(ResolutionStop::OutOfMemory);
             }
         }
         Directive::Free(router, interface, _, _) => {
-            names.link(line, router.as_bytes(), interface.as_bytes())?;
+            resolver
+                .names()
+                .link(line, router.as_bytes(), interface.as_bytes())?;
         }
         Directive::Fix(router, interface) => {
-            names.link(line, router.as_bytes(), interface.as_bytes())?;
+            resolver
+                .names()
+                .link(line, router.as_bytes(), interface.as_bytes())?;
         }
         Directive::Symmetric(router, interface) => {
-            check_symmetric(names, line, router.as_bytes(), interface.as_bytes())?;
+            check_symmetric(
+                resolver.names(),
+                line,
+                router.as_bytes(),
+                interface.as_bytes(),
+            )?;
         }
         Directive::FreeAll(_, _) => {}
         Directive::SymmetricAll => {}
@@ -98,13 +101,10 @@ pub fn resolve_lines(
         (made.items ≡ filter_map (λ item. request_of names.now (outline names.now) item.what) items.now)) }
     ensures refused { IfErr result (TellsResolution (first_of (line_faults names.now items.now))) }
 {
-    let mut marks = match vec![in alloc; false; graph.edges().len()] {
-        Ok(marks) => marks,
-        Err(_) => return Err(ResolutionStop::OutOfMemory),
-    };
+    let mut resolver = Resolver::new(alloc, names, graph)?;
     let mut made = Vec::new(alloc);
     for item in items {
-        push_request(alloc, names, graph, &mut marks, item, &mut made)?;
+        push_request(&mut resolver, item, &mut made)?;
     }
     Ok(made)
 }

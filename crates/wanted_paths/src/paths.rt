@@ -1,5 +1,5 @@
 //! Resolves wanted paths.
-ghost use Rattle.std.specs.Prelude.{◌≡◌, ◌||◌, [], Some, false, length, slice_index_or, IfOk, IfErr};
+ghost use Rattle.std.specs.Prelude.{◌≡◌, ◌||◌, [], Some, false, slice_index_or, IfOk, IfErr};
 ghost use Rattle.std.specs.List.{list_any};
 ghost use Rattle.cost_base.specs.Lists.{first_of};
 ghost use Rattle.request_reader.specs.declared.Directive.TheVariants.{Path as WantedPath};
@@ -13,10 +13,11 @@ use crate::parts::{has_marked, has_router, marked, taken_by};
 use crate::routes::{Walk, next_name, resolve_walk};
 use crate::{ResolutionFault, ResolutionStop};
 use area_graph::{Graph, mark_excluded};
-use cost_base::Listed;
+use cost_base::{Listed, OutOfMemory};
 use design_problem::Request;
 use request_reader::{Hops, Part};
 use std::alloc::Global;
+use std::marker::Model;
 
 /// Whether the start of a walk is taken away, or one of its edges is marked.
 fn is_excluded(route: &Hops, walk: &Walk, parts: &[Part], marks: &[bool]) -> bool
@@ -27,60 +28,108 @@ fn is_excluded(route: &Hops, walk: &Walk, parts: &[Part], marks: &[bool]) -> boo
     has_router(start, parts) || has_marked(marks, walk.path.edges.as_slice())
 }
 
-/// The edges that a path goes without, in rising order; its first fault where it doesn't resolve. `marks` has a mark
-/// for each edge, and is written over.
-fn resolve_without(
+/// Resolves wanted paths, by an area's names and its graph with cost 1 at each link. `marks` is room for a mark of each
+/// edge, which each path writes over. Contracts see the database.
+#[derive(Drop)]
+pub struct Resolver<'a> {
     alloc: Global,
-    names: &Names,
-    graph: &Graph,
-    marks: &mut Vec<bool>,
-    line: u32,
-    route: &Hops,
-    walk: &Walk,
-    parts: &[Part],
-) -> Result<Vec<u32>, ResolutionStop>
-    requires graph { graph.now ≡ outline names.now }
-    requires marks { length marks.old.items ≡ length graph.now.edges }
-    requires walk { IsWalk names.now route.now walk.now }
-    requires walks { walk_faults names.now line route.now ≡ [] }
-    ensures made { IfOk result (λ excluded. (without_faults names.now line route.now parts.now ≡ []) ×
-        (excluded.items ≡ excluded_edges names.now (outline names.now) parts.now)) }
-    ensures refused { IfErr result (TellsResolution (first_of (without_faults names.now line route.now parts.now))) }
-    ensures marks { length marks.new.items ≡ length graph.now.edges }
-{
-    let _links = names.links();
-    graph.keeps_conditions();
-    let taken = taken_by(alloc, names, graph, line, parts)?;
-    mark_excluded(marks, &taken);
-    if is_excluded(route, walk, parts, marks) {
-        return Err(ResolutionStop::Refused(ResolutionFault::PathExcluded { line }));
-    }
-    Ok(marked(alloc, marks)?)
+    names: &'a Names<'a>,
+    graph: &'a Graph,
+    marks: Vec<bool>,
 }
 
-/// The request of a wanted path; its first fault where it doesn't resolve. `marks` has a mark for each edge, and
-/// is written over.
-pub fn resolve_path(
-    alloc: Global,
-    names: &Names,
-    graph: &Graph,
-    marks: &mut Vec<bool>,
-    line: u32,
-    route: &Hops,
-    parts: &[Part],
-) -> Result<Request, ResolutionStop>
-    requires graph { graph.now ≡ outline names.now }
-    requires marks { length marks.old.items ≡ length graph.now.edges }
-    ensures made { IfOk result (λ request. (path_faults names.now line route.now parts.now ≡ []) ×
-        (request_of names.now (outline names.now) (WantedPath route.now parts.now) ≡ Some request)) }
-    ensures refused { IfErr result (TellsResolution (first_of (path_faults names.now line route.now parts.now))) }
-    ensures marks { length marks.new.items ≡ length graph.now.edges }
-{
-    let walk = resolve_walk(alloc, names, graph, line, route)?;
-    let excluded = resolve_without(alloc, names, graph, marks, line, route, &walk, parts)?;
-    Ok(Request {
-        path: walk.path,
-        end: walk.end,
-        excluded: Listed::from_items(excluded),
-    })
+impl<'a> Model for Resolver<'a> {
+    ghost use Rattle.std.specs.Prelude.{◌≡◌, length};
+    ghost use Rattle.lsdb_build.specs.Graphs.{Database};
+    ghost use Rattle.wanted_paths.specs.Paths.{outline};
+
+    ghost Value = { Database };
+
+    ghost view = { λ r. r.names.now };
+
+    ghost invariant = { λ r. record {
+      graph : r.graph.now ≡ outline r.names.now;
+      marks : length r.marks.items ≡ length r.graph.now.edges;
+    } };
+}
+
+impl<'a> Resolver<'a> {
+    /// What resolves the paths of an area of these names, by its graph with cost 1 at each link.
+    pub fn new(
+        alloc: Global,
+        names: &'a Names<'a>,
+        graph: &'a Graph,
+    ) -> Result<Resolver<'a>, OutOfMemory>
+        requires { graph.now ≡ outline names.now }
+        ensures { IfOk result (λ resolver. resolver ≡ names.now) }
+    {
+        let marks = vec![in alloc; false; graph.edges().len()]?;
+        Ok(Resolver {
+            alloc,
+            names,
+            graph,
+            marks,
+        })
+    }
+
+    /// The area's names.
+    pub fn names(&self) -> &Names<'a>
+        ensures { result.now ≡ self.now }
+    {
+        self.names
+    }
+
+    /// The walk of a route; its first fault where it doesn't resolve.
+    fn walk(&self, line: u32, route: &Hops) -> Result<Walk, ResolutionStop>
+        ensures made { IfOk result (λ walk. (walk_faults self.now line route.now ≡ []) × IsWalk self.now route.now walk) }
+        ensures refused { IfErr result (TellsResolution (first_of (walk_faults self.now line route.now))) }
+    {
+        resolve_walk(self.alloc, self.names, self.graph, line, route)
+    }
+
+    /// The edges that a path goes without, in rising order; its first fault where it doesn't resolve.
+    fn without(
+        &mut self,
+        line: u32,
+        route: &Hops,
+        walk: &Walk,
+        parts: &[Part],
+    ) -> Result<Vec<u32>, ResolutionStop>
+        requires walk { IsWalk self.old route.now walk.now }
+        requires walks { walk_faults self.old line route.now ≡ [] }
+        ensures made { IfOk result (λ excluded. (without_faults self.old line route.now parts.now ≡ []) ×
+            (excluded.items ≡ excluded_edges self.old (outline self.old) parts.now)) }
+        ensures refused { IfErr result (TellsResolution (first_of (without_faults self.old line route.now parts.now))) }
+        ensures same { self.new ≡ self.old }
+    {
+        let _links = self.names.links();
+        self.graph.keeps_conditions();
+        let taken = taken_by(self.alloc, self.names, self.graph, line, parts)?;
+        mark_excluded(&mut self.marks, &taken);
+        if is_excluded(route, walk, parts, &self.marks) {
+            return Err(ResolutionStop::Refused(ResolutionFault::PathExcluded { line }));
+        }
+        Ok(marked(self.alloc, &self.marks)?)
+    }
+
+    /// The request of a wanted path; its first fault where it doesn't resolve.
+    pub fn path(
+        &mut self,
+        line: u32,
+        route: &Hops,
+        parts: &[Part],
+    ) -> Result<Request, ResolutionStop>
+        ensures made { IfOk result (λ request. (path_faults self.old line route.now parts.now ≡ []) ×
+            (request_of self.old (outline self.old) (WantedPath route.now parts.now) ≡ Some request)) }
+        ensures refused { IfErr result (TellsResolution (first_of (path_faults self.old line route.now parts.now))) }
+        ensures same { self.new ≡ self.old }
+    {
+        let walk = self.walk(line, route)?;
+        let excluded = self.without(line, route, &walk, parts)?;
+        Ok(Request {
+            path: walk.path,
+            end: walk.end,
+            excluded: Listed::from_items(excluded),
+        })
+    }
 }

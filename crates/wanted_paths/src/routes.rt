@@ -1,5 +1,5 @@
 //! Resolves the hops of a wanted path.
-ghost use Rattle.std.specs.Prelude.{◌≡◌, ◌↔◌, ◌+◌, ◌<◌, ◌==◌, ◌++◌, [], Some, false, Option, filter, length, slice_get, slice_index_or, IfOk, IfErr, OnOk};
+ghost use Rattle.std.specs.Prelude.{◌≡◌, ◌↔◌, ◌+◌, ◌<◌, ◌==◌, ◌++◌, [], ◌∷◌, ℕ, Some, false, Option, filter, length, option_to_list, slice_get, slice_index_or, IfOk, IfErr, OnOk};
 ghost use Rattle.std.specs.Prelude.{IsTrue};
 ghost use Rattle.std.specs.List.{list_any};
 ghost use Rattle.cost_base.specs.Lists.{first_of};
@@ -138,31 +138,30 @@ pub fn subnet_vertex(names: &Names, subnet: u32) -> u32
     names.routers().len() as u32 + subnet
 }
 
-/// Appends the edges of a link's hop: over a transit subnet there are two.
-fn push_link(
-    names: &Names,
-    graph: &Graph,
-    number: u32,
-    link: &Linked,
-    next: u32,
-    edges: &mut Vec<u32>,
-) -> Result<(), OutOfMemory>
+/// The edge of a hop over a transit subnet that leads on from there to the next router.
+fn edge_on(names: &Names, graph: &Graph, link: &Linked, next: u32) -> Option<u32>
     requires graph { graph.now ≡ outline names.now }
     requires far { IsFar names.now link.now.to }
-    ensures { OnOk result (edges.new.items ≡ edges.old.items ++ hop_edges names.now graph.now number (Some link.now) next) }
+    ensures { (number : ℕ) → hop_edges names.now graph.now number (Some link.now) next ≡ number ∷ option_to_list result }
+{
+    match link.to {
+        Far::Router(_) => None,
+        Far::Subnet(subnet) => Some(edge_to(graph, subnet_vertex(names, subnet), next)),
+    }
+}
+
+/// Appends the edge of a link, and the one that leads on behind it.
+fn push_edges(edges: &mut Vec<u32>, number: u32, on: Option<u32>) -> Result<(), OutOfMemory>
+    ensures { OnOk result (edges.new.items ≡ edges.old.items ++ number ∷ option_to_list on) }
 {
     edges.push(number)?;
-    match link.to {
-        Far::Router(_) => {}
-        Far::Subnet(subnet) => {
-            let vertex = subnet_vertex(names, subnet);
-            edges.push(edge_to(graph, vertex, next))?;
-        }
+    if let Some(edge) = on {
+        edges.push(edge)?;
     }
     Ok(())
 }
 
-/// Appends the edges of a hop to the router of a name.
+/// Appends the edges of a hop to the router of a name: over a transit subnet there are two.
 fn push_hop(
     names: &Names,
     graph: &Graph,
@@ -176,7 +175,11 @@ fn push_hop(
 {
     let number = names.link_number(hop.0.as_bytes(), hop.1.as_bytes());
     match names.links().get(number as usize) {
-        Some(link) => push_link(names, graph, number, link, names.router_number(next), edges),
+        Some(link) => push_edges(
+            edges,
+            number,
+            edge_on(names, graph, link, names.router_number(next)),
+        ),
         None => Ok(()),
     }
 }
