@@ -1,14 +1,15 @@
 -- Common divisors and exact quotients, as 64 bits hold them.
-use Rattle.std.proofs.Common.{◌≡◌, ℕ, ◌^◌, ◌<◌, ◌≤◌, refl, sym, ◌∙◌, ap, subst, arith, FitsSigned, w64, to_z, of_z}
-use Rattle.std.specs.Prelude.{ℤ, pos, negsuc, ◌*ℤ◌, ◌<ℤ◌, ◌≤ℤ◌, nat_abs}
+use Rattle.std.proofs.Common.{◌≡◌, ℕ, ◌^◌, ◌<◌, ◌≤◌, ◌%◌, nat_eq, refl, sym, ◌∙◌, ap, subst, arith, FitsSigned, w64, to_z, of_z}
+use Rattle.std.specs.Prelude.{ℤ, pos, negsuc, ◌*ℤ◌, ◌<ℤ◌, ◌≤ℤ◌, nat_abs, ◌↔◌, IsTrue}
 use Rattle.std.specs.Int.Signed.{mag, quot_z}
 use Rattle.std.proofs.lemmas.Int.{ints, to_z-of_z}
-use Rattle.std.proofs.lemmas.Nat.Gcd.{le_of_dvd}
+use Rattle.std.proofs.lemmas.Nat.Gcd.{dvd_of_mod-eq-zero, le_of_dvd, mod-eq-zero_of_dvd}
+use Rattle.std.proofs.lemmas.Bool.{eq-eqb, eqb-true}
 use Rattle.std.proofs.Math.Nat.{div-le_self, one-dvd}
 use Prim.Native.Nat.{◌∣◌}
 use native.Mathlib.Nat.{div-mul_cancel}
 use Rattle.whole_numbers.specs.Fractions.{exact_quotient, gcd}
-use Rattle.whole_numbers.proofs.Divisors.{gcd-one, gcd-swap, gcd-zero, gcd_is, gcd_positive}
+use Rattle.whole_numbers.proofs.Divisors.{gcd-one, gcd-zero, gcd_is, gcd_positive, gcd_step}
 use Rattle.whole_numbers.proofs.FractionLaws.{nat_abs-over, over-mul}
 use Rattle.whole_numbers.proofs.Laws.{times_one}
 use Rattle.whole_numbers.proofs.Sizes.{positive_is, size_positive}
@@ -18,16 +19,21 @@ use Rattle.integer_pivots.proofs.Sizes.{read, read_known, read_number}
 pub bits_of : (z : ℤ) (n : ℕ) → FitsSigned w64 z → of_z w64 z ≡ n → z ≡ to_z w64 n
 bits_of z n fits bits = sym (to_z-of_z w64 z fits) ∙ ap (to_z w64) bits
 
--- 1 has nothing but itself in common with another number, and 0 all
+-- 1 has nothing but itself in common with another number
 pub common_one : (number part : ℤ) → part ≡ pos 1 → part ≡ pos (gcd (nat_abs number) (nat_abs part))
 common_one number part one =
     one ∙ ap pos (sym (gcd-one (nat_abs number))) ∙ ap (λ (z : ℤ). pos (gcd (nat_abs number) (nat_abs z))) (sym one)
 
-pub common_all : (number part : ℤ) → pos 0 <ℤ part → number ≡ pos 0 → part ≡ pos (gcd (nat_abs number) (nat_abs part))
-common_all number part positive none =
+-- what goes into another number has all of itself in common with it
+pub common_all : (number part : ℤ) → pos 0 <ℤ part → nat_abs part ∣ nat_abs number → part ≡ pos (gcd (nat_abs number) (nat_abs part))
+common_all number part positive goes =
     positive_is part positive
-    ∙ ap pos (sym (gcd-swap 0 (nat_abs part) ∙ gcd-zero (nat_abs part)))
-    ∙ ap (λ (z : ℤ). pos (gcd (nat_abs z) (nat_abs part))) (sym none)
+    ∙ ap pos (sym (gcd_step (nat_abs number) (nat_abs part)
+    ∙ ap (λ (left : ℕ). gcd (nat_abs part) left) (mod-eq-zero_of_dvd (nat_abs part) goes) ∙ gcd-zero (nat_abs part)))
+
+-- nothing is left exactly where a number goes in
+pub goes_in : (a b : ℕ) → IsTrue (nat_eq (a % b) 0) ↔ (b ∣ a)
+goes_in a b = (λ none. dvd_of_mod-eq-zero b (eqb-true (a % b) 0 none), λ goes. eq-eqb (a % b) 0 (mod-eq-zero_of_dvd b goes))
 
 -- the greatest common divisor of a number's size and a positive number isn't above that
 pub common_most : (number part : ℤ) → pos 0 <ℤ part → pos (gcd (nat_abs number) (nat_abs part)) ≤ℤ part

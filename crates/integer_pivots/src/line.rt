@@ -1,5 +1,5 @@
 //! Lines: whole numbers over one denominator each.
-ghost use Rattle.std.specs.Prelude.{◌≡◌, ℕ, ◌^◌, ◌<◌, ◌≤◌, pos, ◌*ℤ◌, ◌<ℤ◌, ◌≤ℤ◌, nat_abs, length};
+ghost use Rattle.std.specs.Prelude.{◌≡◌, ℕ, ◌^◌, ◌<◌, ◌≤◌, ◌↔◌, pos, ◌*ℤ◌, ◌<ℤ◌, ◌≤ℤ◌, nat_abs, length, IsTrue};
 ghost use Prim.Native.Nat.{◌∣◌};
 ghost use Rattle.whole_numbers.specs.Fractions.{exact_quotient, gcd};
 ghost use Rattle.whole_numbers.specs.Lists.{number_at};
@@ -23,14 +23,23 @@ pub struct Line {
     pub reach: i64,
 }
 
-/// The greatest common divisor of a number's size and a positive number.
+/// Whether a positive number goes into another.
+fn goes_into(part: i64, number: i64) -> bool
+    requires part { pos 0 <ℤ part }
+    ensures { IsTrue result ↔ (nat_abs part ∣ nat_abs number) }
+{
+    number.unsigned_abs() % part.unsigned_abs() == 0
+}
+
+/// The greatest common divisor of a number's size and a positive number. A number that the other goes into takes one
+/// division.
 pub fn common_with(number: i64, part: i64) -> i64
     requires part { pos 0 <ℤ part }
     ensures value { result ≡ pos (gcd (nat_abs number) (nat_abs part)) }
     ensures positive { pos 0 <ℤ result }
     ensures least { result ≤ℤ part }
 {
-    if part == 1 || number == 0 {
+    if part == 1 || goes_into(part, number) {
         return part;
     }
     greatest_common_divisor(

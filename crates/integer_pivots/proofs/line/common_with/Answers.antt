@@ -1,20 +1,25 @@
--- 1 and 0 need no division; what is computed of the sizes else is no greater than the second one.
-use Rattle.std.proofs.Common.{◌≡◌, ◌^◌, ◌<◌, sym, ◌∙◌, ap, subst, arith, w64, to_z}
+-- 1, and what goes into the number, is the answer itself; what is computed of the sizes else is no greater than the
+-- second one.
+use Rattle.std.proofs.Common.{◌≡◌, ◌^◌, ◌<◌, sym, ◌∙◌, ap, subst, arith, w64, to_z, of_z}
+use Prim.Native.Nat.{◌∣◌}
 use Rattle.std.specs.Prelude.{ℤ, pos, ◌<ℤ◌, ◌≤ℤ◌, nat_abs}
 use Rattle.std.proofs.lemmas.Int.{fits_signed_from_abs, to_z_pos, to_z-of_z}
 use mathlib.Core.Path.{ap₂}
 use Rattle.whole_numbers.specs.Fractions.{gcd}
 use Rattle.integer_pivots.proofs.Quotients.{bits_of, common_all, common_fits, common_most, common_one, common_positive}
 use Rattle.integer_pivots.proofs.line.common_with.Goals as goal
-use Rattle.integer_pivots.proofs.line.common_with.Goals.{then-part-eq1-via-then-part-eq1, then-part-eq1-via-else-part-eq1+then-number-eq0, After-greatest_common_divisor}
+use Rattle.integer_pivots.proofs.line.common_with.Goals.{then-part-eq1-via-then-part-eq1, then-part-eq1-via-else-part-eq1+then-goes_into, After-greatest_common_divisor}
 
 pub returns-then-part-eq1-clause-value : goal.returns-then-part-eq1-clause-value
 returns-then-part-eq1-clause-value c =
     to_z-of_z w64 c.args.part c.ranges.part
     ∙ elim c.then-part-eq1.branch [
       | then-part-eq1-via-then-part-eq1 w ↦ common_one c.args.number c.args.part (bits_of c.args.part 1 c.ranges.part w.if-part-eq1.true)
-      | then-part-eq1-via-else-part-eq1+then-number-eq0 w ↦
-          common_all c.args.number c.args.part c.requires.part (bits_of c.args.number 0 c.ranges.number w.if-number-eq0.true)
+      | then-part-eq1-via-else-part-eq1+then-goes_into w ↦
+          common_all c.args.number c.args.part c.requires.part
+          (subst (λ (number : ℤ). nat_abs c.args.part ∣ nat_abs number) (to_z-of_z w64 c.args.number c.ranges.number)
+          (subst (λ (part : ℤ). nat_abs part ∣ nat_abs (to_z w64 (of_z w64 c.args.number))) (to_z-of_z w64 c.args.part c.ranges.part)
+          (w.goes_into.ensures.0 w.if-goes_into.true)))
     ]
 
 value : (c : After-greatest_common_divisor) → c.greatest_common_divisor.result ≡ gcd (nat_abs c.args.number) (nat_abs c.args.part)
