@@ -47,7 +47,7 @@ pub(crate) fn decide_set(
     let part = problem.only(alloc, members.as_slice())?;
     let ceiling = greatest_of(part.high.as_slice());
     let mut pool = Pool::new(alloc);
-    match decide(alloc, &part, ceiling, limits, &mut pool, advisors)? {
+    match decide(&part, ceiling, limits, &mut pool, advisors)? {
         Found::Costs(costs) => Ok(Decided::Costs(costs)),
         Found::Refuted(tree) => Ok(Decided::Refuted(SetTree {
             members,

@@ -8,6 +8,8 @@ use Rattle.design_problem.specs.declared.form.Row.{Row}
 use Rattle.design_problem.specs.Problems.{DesignProblem, IsProblem, request_ends, request_at}
 use Rattle.design_problem.specs.Rows.{IsRivalOf, path_edges}
 use Rattle.design_problem.specs.Earnest.{IsFormOfRow}
+use Rattle.form_search.specs.Sources.{Grows}
+use Rattle.cost_branching.specs.Pools.{MoreRows, Pooled}
 
 -- a problem, and the rows that are known of it
 pub record KnownRows : Type 0 where
@@ -37,6 +39,16 @@ LeadsAt p point k = LeadsBy point.scale p.graph point (request_ends (request_at 
 pub record IsRivalTooCheap (p : DesignProblem) (point : Point) (request : ℕ) (edges : List ℕ) : Type 0 where
   pub rival : IsRivalOf p.graph (slice_get p.paths request) edges
   pub cheap : cost p.graph point edges < cost p.graph point (path_edges (slice_get p.paths request)) + point.scale
+
+-- the problem of a search and its pool's rows are those with which it began
+pub record IsBegunWith (begun : DesignProblem) (first : List Row) (p : DesignProblem) (pool : Pooled) : Type 0 where
+  pub problem : p ≡ begun
+  pub rows : pool.rows ≡ first
+
+-- rows of the problem came at the pool's end with their forms, and nothing else
+pub record GrowsByRows (p : DesignProblem) (old new : Pooled) : Type 0 where
+  pub rows : MoreRows old new
+  pub forms : Grows (IsTrueRowForm p) old.forms new.forms
 
 -- the rows begin with those
 pub record BeginWith (first rows : List Row) : Type 0 where

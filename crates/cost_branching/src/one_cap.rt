@@ -1,13 +1,12 @@
 //! One cap decided.
-ghost use Rattle.std.specs.Prelude.{◌≡◌, ◌≤◌, length, All, IfOk, OnOk};
+ghost use Rattle.std.specs.Prelude.{◌≤◌, length, All, IfOk, OnOk};
 ghost use Rattle.design_problem.specs.Boxes.{IsBox};
 ghost use Rattle.design_problem.specs.Rows.{LeadsEach};
 ghost use Rattle.form_search.specs.Advised.{AreCalled};
 ghost use Rattle.form_search.specs.Finds.{IsSearchResult};
-ghost use Rattle.form_search.specs.Sources.{Grows};
 ghost use Rattle.cost_branching.specs.Pools.{IsRowPool, MoreRows};
 ghost use Rattle.cost_branching.specs.Decisions.{IsDecided};
-ghost use Rattle.cost_branching.specs.Rivals.{IsTrueRowForm};
+ghost use Rattle.cost_branching.specs.Rivals.{GrowsByRows, IsBegunWith};
 
 use crate::rivals::{Begun, Rivals, keeps_conditions};
 use crate::{Found, Pool};
@@ -16,36 +15,33 @@ use cut_advisors::Advisor;
 use design_problem::{CostBox, Problem, box_at};
 use form_search::search;
 use rival_separation::Asker;
-use std::alloc::Global;
 use std::marker::Brand;
 use std::mem;
 use wide_fraction::Limits;
 
 /// Searches a box over the rivals of the problem's paths. Whatever comes, the pool's rows begin with those that it had.
 fn search_rivals<B: Begun>(
-    alloc: Global,
     problem: &Problem,
     costs: &CostBox,
     limits: &Limits,
     pool: &mut Pool,
     advisors: &mut Vec<Box<dyn Advisor>>,
 ) -> Result<Found, OutOfMemory>
-    requires problem { problem.now ≡ B.problem }
+    requires begun { IsBegunWith B.problem B.rows problem.now pool.old }
     requires pool { IsRowPool problem.now pool.old }
-    requires begun { pool.old.rows ≡ B.rows }
     requires ranges { IsBox (length problem.now.low) costs.now }
     requires lows { All (λ low. 1 ≤ low) costs.now.low }
     ensures found { IfOk result (IsSearchResult (LeadsEach problem.now) limits.now.top limits.now.nodes pool.new.forms costs.now) }
     ensures pool { OnOk result (IsRowPool problem.now pool.new) }
-    ensures rows { MoreRows pool.old pool.new }
-    ensures forms { Grows (IsTrueRowForm problem.now) pool.old.forms pool.new.forms }
+    ensures grows { GrowsByRows problem.now pool.old pool.new }
     ensures advisors { AreCalled ⟦<dyn Advisor as Advisor>⟧ (λ b. b.vtable) (λ b. state b) advisors.old.items advisors.new.items }
 {
     keeps_conditions(problem);
+    let alloc = pool.allocator();
     let asker = Asker::new(alloc, &problem.graph, problem.paths.as_slice())?;
     let rows = mem::replace(&mut pool.rows, Vec::new(alloc));
     let mut source = Rivals::<B>::new(problem, asker, rows);
-    let found = search(alloc, &mut source, costs, limits, &mut pool.forms, advisors);
+    let found = search(&mut source, costs, limits, &mut pool.forms, advisors);
     pool.rows = source.into_rows();
     found
 }
@@ -60,7 +56,6 @@ fn search_rivals<B: Begun>(
 ///
 /// `OutOfMemory`. Then the pool is as before.
 pub fn decide_within(
-    alloc: Global,
     problem: &Problem,
     costs: &CostBox,
     limits: &Limits,
@@ -77,7 +72,7 @@ pub fn decide_within(
 {
     keeps_conditions(problem);
     let begun = pool.rows().len();
-    match search_rivals::<Brand>(alloc, problem, costs, limits, pool, advisors) {
+    match search_rivals::<Brand>(problem, costs, limits, pool, advisors) {
         Ok(found) => Ok(found),
         Err(OutOfMemory) => {
             pool.truncate(begun);
@@ -96,7 +91,6 @@ pub fn decide_within(
 ///
 /// `OutOfMemory`. Then too the pool keeps its rows, and each new one is a row of the problem.
 pub fn decide(
-    alloc: Global,
     problem: &Problem,
     cap: u16,
     limits: &Limits,
@@ -111,6 +105,6 @@ pub fn decide(
     ensures advisors { AreCalled ⟦<dyn Advisor as Advisor>⟧ (λ b. b.vtable) (λ b. state b) advisors.old.items advisors.new.items }
 {
     keeps_conditions(problem);
-    let costs = box_at(alloc, problem, cap)?;
-    decide_within(alloc, problem, &costs, limits, pool, advisors)
+    let costs = box_at(pool.allocator(), problem, cap)?;
+    decide_within(problem, &costs, limits, pool, advisors)
 }

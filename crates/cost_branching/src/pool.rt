@@ -33,6 +33,11 @@ impl Pool {
         }
     }
 
+    /// The allocator from which the pool takes its memory.
+    pub fn allocator(&self) -> Global {
+        self.forms.allocator()
+    }
+
     /// Takes away the rows behind the first `count`, and their forms.
     pub(crate) fn truncate(&mut self, count: usize)
         ensures rows { self.new.rows ≡ take count self.old.rows }

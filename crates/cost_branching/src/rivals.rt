@@ -140,7 +140,6 @@ fn told_of(rivals: &[Option<Listed<u32>>], request: u32) -> &Option<Listed<u32>>
 
 /// Puts a row at the end, and its form at the end of the pool. Where memory is wanting both are as before.
 fn push_row(
-    alloc: Global,
     problem: &Problem,
     row: Row,
     rows: &mut Vec<Row>,
@@ -155,7 +154,7 @@ fn push_row(
     if rows.reserve(1).is_err() {
         return Err(OutOfMemory);
     }
-    let form = form_of(alloc, problem, &row)?;
+    let form = form_of(pool.allocator(), problem, &row)?;
     pool.push(form)?;
     rows.push_reserved(row);
     Ok(())
@@ -163,7 +162,6 @@ fn push_row(
 
 /// Makes the cheapest rival of one request a row, where it has one that costs less than its path and the scale.
 fn ask_one(
-    alloc: Global,
     problem: &Problem,
     rivals: &[Option<Listed<u32>>],
     request: u32,
@@ -181,8 +179,8 @@ fn ask_one(
     keeps_conditions(problem);
     match told_of(rivals, request) {
         Some(edges) => {
-            let row = row_of(alloc, request, edges.as_slice())?;
-            push_row(alloc, problem, row, rows, pool)?;
+            let row = row_of(pool.allocator(), request, edges.as_slice())?;
+            push_row(problem, row, rows, pool)?;
             Ok(true)
         }
         None => Ok(false),
@@ -192,7 +190,6 @@ fn ask_one(
 /// Looks for the cheapest rival of each request, and makes those that cost less than path and scale rows, in the requests'
 /// order.
 fn ask_each(
-    alloc: Global,
     problem: &Problem,
     asker: &mut Asker,
     point: &Point,
@@ -209,12 +206,12 @@ fn ask_each(
     ensures more { BeginWith rows.old.items rows.new.items }
     ensures grows { Grows (IsTrueRowForm problem.now) pool.old pool.new }
 {
-    let rivals = cheapest_rivals(alloc, problem, asker, point)?;
+    let rivals = cheapest_rivals(pool.allocator(), problem, asker, point)?;
     let told = rivals.as_slice();
     let count = path_count(problem);
     let mut asked = Asked::Nothing;
     for request in 0..count {
-        if ask_one(alloc, problem, told, request, rows, pool)? {
+        if ask_one(problem, told, request, rows, pool)? {
             asked = Asked::Added;
         }
     }
@@ -282,12 +279,7 @@ impl<'a, B: Begun> Rivals<'a, B> {
     /// # Errors
     ///
     /// `OutOfMemory`. Then too only true forms came into the pool.
-    pub fn ask_all(
-        &mut self,
-        alloc: Global,
-        point: &Point,
-        pool: &mut FormPool,
-    ) -> Result<Asked, OutOfMemory>
+    pub fn ask_all(&mut self, point: &Point, pool: &mut FormPool) -> Result<Asked, OutOfMemory>
         requires rows { ArePoolRows self.old.problem self.old.rows }
         requires point { IsCostPoint (length self.old.problem.low) point.now }
         requires met { AreMet (forms_of_rows self.old.problem self.old.rows) point.now }
@@ -296,7 +288,7 @@ impl<'a, B: Begun> Rivals<'a, B> {
         ensures grows { Grows (IsTrueRowForm self.old.problem) pool.old pool.new }
     {
         let problem = self.problem;
-        ask_each(alloc, problem, &mut self.asker, point, &mut self.rows, pool)
+        ask_each(problem, &mut self.asker, point, &mut self.rows, pool)
     }
 }
 
@@ -322,13 +314,8 @@ impl<'a, B: Begun> RowSource for Rivals<'a, B> {
         variable_count(self.problem)
     }
 
-    fn ask(
-        &mut self,
-        alloc: Global,
-        point: &Point,
-        pool: &mut FormPool,
-    ) -> Result<Asked, OutOfMemory> {
-        self.ask_all(alloc, point, pool)
+    fn ask(&mut self, point: &Point, pool: &mut FormPool) -> Result<Asked, OutOfMemory> {
+        self.ask_all(point, pool)
     }
 
     fn accepts(&mut self, point: &Point) -> bool {

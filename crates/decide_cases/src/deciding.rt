@@ -77,7 +77,7 @@ fn decided_text(
     requires { All (λ low. low ≤ cap) problem.now.low }
 {
     let mut pool = Pool::new(alloc);
-    let found = decide(alloc, problem, cap, limits, &mut pool, advisors)?;
+    let found = decide(problem, cap, limits, &mut pool, advisors)?;
     Ok(found_text(alloc, &found, pool.rows())?)
 }
 

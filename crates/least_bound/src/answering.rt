@@ -19,7 +19,6 @@ use std::alloc::Global;
 
 /// That no costs are fit, with the closed tree at the greatest upper bound.
 pub(crate) fn impossible(
-    alloc: Global,
     problem: &Problem,
     pool: Pool,
     ceiling: u16,
@@ -32,6 +31,7 @@ pub(crate) fn impossible(
         IfOk result (IsDesignAnswer problem.now top nodes) }
 {
     keeps_conditions(problem);
+    let alloc = pool.allocator();
     let proof = CapTree { cap: ceiling, tree };
     let printed = printed_both(alloc, pool.into_rows(), Some(&proof), None)?;
     Ok(Answer {
@@ -56,7 +56,6 @@ fn floor_without(problem: &Problem, kept: &Option<CapTree>) -> Floor
 
 /// Costs of the least greatest cost, with the closed tree that is kept at the cap below it; without one with a floor.
 fn optimal(
-    alloc: Global,
     problem: &Problem,
     pool: Pool,
     costs: &CostList,
@@ -68,6 +67,7 @@ fn optimal(
     ensures { (top nodes : ℕ) → IsKeptAt problem.now top nodes pool (greatest_cost costs.now) kept → IfOk result (IsDesignAnswer problem.now top nodes) }
 {
     keeps_conditions(problem);
+    let alloc = pool.allocator();
     let floor = floor_without(problem, &kept);
     let printed = printed_both(alloc, pool.into_rows(), kept.as_ref(), None)?;
     let costs = printed_fit(alloc, problem, costs)?;
@@ -115,7 +115,6 @@ fn cap_of(tree: &CapTree) -> u16
 /// That the budget was used up at the cap of the unfinished tree, with the best costs and the kept tree, where there are
 /// such.
 fn undecided(
-    alloc: Global,
     problem: &Problem,
     pool: Pool,
     costs: Option<&CostList>,
@@ -131,6 +130,7 @@ fn undecided(
         IfOk result (IsDesignAnswer problem.now top nodes) }
 {
     keeps_conditions(problem);
+    let alloc = pool.allocator();
     let cap = cap_of(&unfinished);
     let printed = printed_both(alloc, pool.into_rows(), kept.as_ref(), Some(&unfinished))?;
     Ok(Answer {
@@ -145,12 +145,7 @@ fn undecided(
 
 impl Progress {
     /// The answer once no cap is left.
-    pub(crate) fn answer(
-        self,
-        alloc: Global,
-        problem: &Problem,
-        pool: Pool,
-    ) -> Result<Answer, OutOfMemory>
+    pub(crate) fn answer(self, problem: &Problem, pool: Pool) -> Result<Answer, OutOfMemory>
         requires pool { IsRowPool problem.now pool }
         requires ended { IsLeastFound self.least self.most self.best }
         requires progress { (top : ℕ) × (nodes : ℕ) × (nodes ≤ 10000000) × IsProgress problem.now top nodes pool self }
@@ -158,11 +153,9 @@ impl Progress {
     {
         let Progress { kept, best, .. } = self;
         match best {
-            Best::NoCosts(tree) => undecided(alloc, problem, pool, None, kept, tree),
-            Best::Costs(costs) => optimal(alloc, problem, pool, &costs, kept),
-            Best::Between(costs, tree) => {
-                undecided(alloc, problem, pool, Some(&costs), kept, tree)
-            }
+            Best::NoCosts(tree) => undecided(problem, pool, None, kept, tree),
+            Best::Costs(costs) => optimal(problem, pool, &costs, kept),
+            Best::Between(costs, tree) => undecided(problem, pool, Some(&costs), kept, tree),
         }
     }
 }

@@ -16,7 +16,6 @@ use wide_fraction::Limits;
 
 /// Decides caps until none is left, and answers.
 fn narrowed(
-    alloc: Global,
     problem: &Problem,
     limits: &Limits,
     pool: Pool,
@@ -32,10 +31,10 @@ fn narrowed(
     let mut pool = pool;
     let mut progress = progress;
     while let Some(cap) = progress.next_cap() {
-        let found = decide(alloc, problem, cap, limits, &mut pool, advisors)?;
+        let found = decide(problem, cap, limits, &mut pool, advisors)?;
         progress = progress.after(cap, found);
     }
-    progress.answer(alloc, problem, pool)
+    progress.answer(problem, pool)
 }
 
 /// Looks for fit costs of the least greatest cost, with evidence.
@@ -60,17 +59,17 @@ pub fn least(
     keeps_conditions(problem);
     let ceiling = greatest_of(problem.high.as_slice());
     let mut pool = Pool::new(alloc);
-    match decide(alloc, problem, ceiling, limits, &mut pool, advisors)? {
-        Found::Refuted(tree) => impossible(alloc, problem, pool, ceiling, tree),
+    match decide(problem, ceiling, limits, &mut pool, advisors)? {
+        Found::Refuted(tree) => impossible(problem, pool, ceiling, tree),
         Found::Costs(costs) => {
             let most = greatest_of(costs.as_slice());
             let progress = Progress::start(problem, most, Best::Costs(costs));
-            narrowed(alloc, problem, limits, pool, progress, advisors)
+            narrowed(problem, limits, pool, progress, advisors)
         }
         Found::Undecided(tree) => {
             let best = Best::NoCosts(CapTree { cap: ceiling, tree });
             let progress = Progress::start(problem, ceiling, best);
-            narrowed(alloc, problem, limits, pool, progress, advisors)
+            narrowed(problem, limits, pool, progress, advisors)
         }
     }
 }

@@ -27,7 +27,6 @@ pub(crate) fn search_box(
     let costs = kept_box(alloc, question, kept)?;
     let mut advisors = Vec::new(alloc);
     decide_within(
-        alloc,
         question.problem(),
         &costs,
         question.limits(),

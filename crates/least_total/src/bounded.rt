@@ -85,7 +85,7 @@ impl<'a, B: Begun> Bounded<'a, B> {
     }
 
     /// Puts the form of the total at the end of the pool. Where memory is wanting both are as before.
-    fn add_total(&mut self, alloc: Global, pool: &mut FormPool) -> Result<(), OutOfMemory>
+    fn add_total(&mut self, pool: &mut FormPool) -> Result<(), OutOfMemory>
         ensures known { self.new.known ≡ self.old.known }
         ensures most { self.new.most ≡ self.old.most }
         ensures place { OnOk result (self.new.before ≡ Some (length self.old.known.rows)) }
@@ -95,7 +95,7 @@ impl<'a, B: Begun> Bounded<'a, B> {
     {
         keeps_conditions(self.rivals.problem());
         let variables = self.rivals.problem().low.as_slice().len();
-        let form = total_form(alloc, variables, self.most)?;
+        let form = total_form(pool.allocator(), variables, self.most)?;
         pool.push(form)?;
         self.before = Some(self.rivals.rows().len());
         Ok(())
@@ -122,18 +122,13 @@ impl<'a, B: Begun> RowSource for Bounded<'a, B> {
         self.rivals.variables()
     }
 
-    fn ask(
-        &mut self,
-        alloc: Global,
-        point: &Point,
-        pool: &mut FormPool,
-    ) -> Result<Asked, OutOfMemory> {
+    fn ask(&mut self, point: &Point, pool: &mut FormPool) -> Result<Asked, OutOfMemory> {
         keeps_conditions(self.rivals.problem());
-        let asked = self.rivals.ask_all(alloc, point, pool)?;
+        let asked = self.rivals.ask_all(point, pool)?;
         if !self.is_over(point) {
             return Ok(asked);
         }
-        self.add_total(alloc, pool)?;
+        self.add_total(pool)?;
         Ok(Asked::Added)
     }
 

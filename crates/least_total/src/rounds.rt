@@ -61,7 +61,7 @@ fn search_within<B: Begun>(
     let mut source = Bounded::<B>::new(alloc, problem, asker, most);
     let mut pool = FormPool::new(alloc);
     let mut advisors = Vec::new(alloc);
-    let found = search(alloc, &mut source, costs, limits, &mut pool, &mut advisors)?;
+    let found = search(&mut source, costs, limits, &mut pool, &mut advisors)?;
     let (rows, before) = source.into_parts();
     Ok(Sought {
         rows,

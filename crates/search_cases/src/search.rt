@@ -81,7 +81,6 @@ pub(crate) fn search_text(
         advisors.push(Box::new(alloc, advisor_of(*number))?)?;
     }
     let found = search(
-        alloc,
         &mut scene.rows,
         &scene.costs,
         &limits,

@@ -117,13 +117,7 @@ impl FormList {
     }
 
     /// Adds the form at a place to the pool, where it is negative at the point.
-    fn ask_one(
-        &self,
-        alloc: Global,
-        place: usize,
-        point: &Point,
-        pool: &mut FormPool,
-    ) -> Result<bool, OutOfMemory>
+    fn ask_one(&self, place: usize, point: &Point, pool: &mut FormPool) -> Result<bool, OutOfMemory>
         requires point { IsCostPoint self.now.variables point.now }
         requires place { place < length self.now.forms }
         ensures one { IfOk result (IsFormAsked point.now (form_at self.now.forms place) pool.old pool.new) }
@@ -133,7 +127,7 @@ impl FormList {
         if value_of(form, point) >= 0 {
             return Ok(false);
         }
-        let copy = form.copy(alloc)?;
+        let copy = form.copy(pool.allocator())?;
         pool.push(copy)?;
         Ok(true)
     }
@@ -159,15 +153,10 @@ impl RowSource for FormList {
         self.variables
     }
 
-    fn ask(
-        &mut self,
-        alloc: Global,
-        point: &Point,
-        pool: &mut FormPool,
-    ) -> Result<Asked, OutOfMemory> {
+    fn ask(&mut self, point: &Point, pool: &mut FormPool) -> Result<Asked, OutOfMemory> {
         let mut asked = Asked::Nothing;
         for place in 0..self.forms.len() {
-            asked = joined(asked, self.ask_one(alloc, place, point, pool)?);
+            asked = joined(asked, self.ask_one(place, point, pool)?);
         }
         Ok(asked)
     }

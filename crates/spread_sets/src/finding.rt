@@ -47,7 +47,7 @@ fn search_sets<B: Begun>(
     let mut pool = FormPool::new(alloc);
     source.begin(alloc, &mut pool)?;
     let mut advisors = Vec::new(alloc);
-    let found = search(alloc, &mut source, costs, limits, &mut pool, &mut advisors)?;
+    let found = search(&mut source, costs, limits, &mut pool, &mut advisors)?;
     Ok(Sought {
         rows: source.into_rows(),
         found,

@@ -362,13 +362,8 @@ impl<'a, B: Begun> RowSource for Spreads<'a, B> {
         variable_count(self.problem)
     }
 
-    fn ask(
-        &mut self,
-        alloc: Global,
-        point: &Point,
-        pool: &mut FormPool,
-    ) -> Result<Asked, OutOfMemory> {
-        self.ask_each(alloc, point, pool)
+    fn ask(&mut self, point: &Point, pool: &mut FormPool) -> Result<Asked, OutOfMemory> {
+        self.ask_each(pool.allocator(), point, pool)
     }
 
     fn accepts(&mut self, point: &Point) -> bool {

@@ -1,4 +1,4 @@
-use Rattle.std.proofs.Common.{refl, ◌∙◌, sym, subst}
+use Rattle.std.proofs.Common.{refl, ◌∙◌, sym, subst, rules}
 use Rattle.std.specs.Prelude.{All}
 use Rattle.std.proofs.lemmas.Result.{IfOk-weaker}
 use Rattle.form_search.proofs.AdvisorLaws.{left_advised, left_alike}
@@ -10,12 +10,16 @@ use Rattle.cost_branching.proofs.one_cap.search_rivals.Goals as goal
 pub returns-in_err-asker-clause-advisors : goal.returns-in_err-asker-clause-advisors
 returns-in_err-asker-clause-advisors g c = left_alike _ _ _ refl
 
-pub search-found-requires-clause-true_forms : goal.search-found-requires-clause-true_forms
-search-found-requires-clause-true_forms g c =
+pub search-found-requires-clause-in_step : goal.search-found-requires-clause-in_step
+search-found-requires-clause-in_step g c =
     let pool : Pooled = record { rows = c.pool.inside.rows.items; forms = c.pool.inside.forms } in
     let is_pool = subst (IsRowPool c.args.problem.now) (sym c.pool.view_is) c.requires.pool in
-    subst (λ (s : KnownRows). All (IsTrueRowForm s.problem) pool.forms) (sym c.new-source.ensures)
-    (pool_true c.args.problem.now pool c.keeps_conditions.ensures is_pool)
+    record {
+      lists = search rules;
+      true_forms =
+          subst (λ (s : KnownRows). All (IsTrueRowForm s.problem) pool.forms) (sym c.new-source.ensures)
+          (pool_true c.args.problem.now pool c.keeps_conditions.ensures is_pool);
+    }
 
 pub returns-clause-pool : goal.returns-clause-pool
 returns-clause-pool g c =
@@ -24,8 +28,8 @@ returns-clause-pool g c =
     IfOk-weaker c.search-found.result (λ found. IsRowPool source.problem (record { rows = source.rows; forms = forms }))
     (λ found. IsRowPool c.args.problem.now (record { rows = c.into_rows.result.items; forms = forms }))
     (λ found in_step. pool_as c.args.problem.now source.problem source.rows c.into_rows.result.items forms
-    (c.into_rows.ensures.problem ∙ sym c.requires.problem) c.into_rows.ensures.rows in_step)
-    c.search-found.ensures.in_step
+    (c.into_rows.ensures.problem ∙ sym c.requires.begun.problem) c.into_rows.ensures.rows in_step)
+    c.search-found.ensures.left.lists
 
 pub returns-clause-advisors : goal.returns-clause-advisors
 returns-clause-advisors g c =

@@ -13,11 +13,11 @@ returns g c =
     let source = c.search.new.source in
     let pool = c.search.new.pool in
     let same_problem = c.into_parts-rows.ensures.problem ∙ sym c.requires.problem in
-    let candidates = c.search.ensures.same.same_candidates ∙ ap (λ (s : BoundedRows). candidates_within s.known.problem s.most) c.new-source.ensures in
+    let candidates = c.search.ensures.left.same.same_candidates ∙ ap (λ (s : BoundedRows). candidates_within s.known.problem s.most) c.new-source.ensures in
     let found = subst (λ (s : BoundedRows).
     IsSearchResult (LeadsWithin s.known.problem s.most) limits.top limits.nodes pool c.args.costs.now
     c.in_ok-found.found) c.new-source.ensures c.in_ok-found.ensures.found in
     sought_is p limits.top limits.nodes c.args.most c.args.costs.now source pool
     (record { rows = c.into_parts-rows.result.0; before = c.into_parts-rows.result.1; found = c.in_ok-found.found })
-    same_problem candidates c.in_ok-found.ensures.in_step found c.into_parts-rows.ensures.rows
+    same_problem candidates c.in_ok-found.ensures.left.lists found c.into_parts-rows.ensures.rows
     c.into_parts-rows.ensures.before
