@@ -3,9 +3,10 @@ use Rattle.std.specs.Prelude.{◌≡◌, ◌≢◌, ℕ, ◌+◌, ◌*◌, ◌^�
 use Rattle.cost_base.specs.Lists.{Lacks}
 use Rattle.area_graph.specs.declared.Edge.{Edge}
 use Rattle.area_graph.specs.declared.Point.{Point}
+use Rattle.area_graph.specs.declared.subgraph.Subgraph.{Subgraph}
 use Rattle.area_graph.specs.Area.{Area, edge_at, edges_out}
 use Rattle.area_graph.specs.Paths.{Joins, Avoids}
-use Rattle.area_graph.specs.Costs.{price_at, cost}
+use Rattle.area_graph.specs.Costs.{FitsPoint, price_at, cost}
 
 -- which edges are gone, as a mark for each edge
 abbrev pub AreEdgeMarks : List ℕ → List Bool → Type 0
@@ -34,6 +35,20 @@ through p edge d = price_at p edge.price + slice_index d edge.to
 -- none of the first n edges that aren't gone leads to a smaller number
 abbrev pub SettledBelow : ℕ → Area → Point → List ℕ → List ℕ → Type 0
 SettledBelow n g p excluded d = (e : ℕ) → e < n → Lacks excluded e → slice_index d (edge_at g e).from ≤ through p (edge_at g e) d
+
+-- the point is one for the graph
+abbrev pub FitsSubgraph : Subgraph → Type 0
+FitsSubgraph s = FitsPoint s.graph.now s.point.now
+
+-- a number for each vertex, and none above `far`
+pub record AreNumbersIn (s : Subgraph) (d : List ℕ) : Type 0 where
+  pub count : length d ≡ length s.graph.now.vertices
+  pub bounded : All (λ x. x ≤ far s.point.now) d
+
+-- the numbers below a limit are what walks to t cost, and no edge that is left leads to a smaller one
+pub record AreDistancesTo (s : Subgraph) (t limit : ℕ) (d : List ℕ) : Type 0 where
+  pub reached : AreReached s.graph.now s.point.now s.removal.now t limit d
+  pub settled : SettledBelow (length s.graph.now.edges) s.graph.now s.point.now s.removal.now d
 
 -- nothing was changed, since the edge leads to no smaller number
 pub record StaysBy (p : Point) (edge : Edge) (old new : List ℕ) : Type 0 where

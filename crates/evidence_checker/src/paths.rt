@@ -5,7 +5,7 @@ ghost use Rattle.area_graph.specs.Paths.{IsPathOf};
 ghost use Rattle.design_problem.specs.Problems.{request_ends};
 ghost use Rattle.evidence_checker.specs.Costs.{IsFirstTied};
 
-use area_graph::{Graph, Point, is_only_cheapest};
+use area_graph::{Graph, Point, RequestedPath, is_only_cheapest};
 use cost_base::{Listed, OutOfMemory};
 use design_problem::Request;
 use std::alloc::Global;
@@ -35,14 +35,12 @@ fn is_only(
     requires path { IsPathOf graph.now (request_ends request.now) request.now.path.edges }
     ensures { IfOk result (λ yes. IsTrue yes ↔ IsOnlyCheapest graph.now point.now (request_ends request.now) request.now.path.edges) }
 {
-    is_only_cheapest(
-        alloc,
-        graph,
-        point,
-        &request.path,
-        request.end,
-        request.excluded.as_slice(),
-    )
+    let requested = RequestedPath {
+        path: &request.path,
+        end: request.end,
+        excluded: request.excluded.as_slice(),
+    };
+    is_only_cheapest(alloc, graph, point, &requested)
 }
 
 /// The first request whose path isn't the only cheapest among the simple paths of the request.

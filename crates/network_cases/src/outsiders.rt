@@ -1,17 +1,17 @@
 //! Lines of a script that ask for the cheapest outsider of several paths that tie.
 ghost use Rattle.std.specs.Prelude.{List, [], ◌∷◌, All, IfOk, IsTrue};
 ghost use Rattle.area_graph.specs.declared.Path.{Path};
-ghost use Rattle.area_graph.specs.Costs.{FitsPoint, cost};
-ghost use Rattle.area_graph.specs.Paths.{IsPathOf};
-ghost use Rattle.design_problem.specs.Problems.{request_ends};
+ghost use Rattle.area_graph.specs.Costs.{cost};
+ghost use Rattle.rival_separation.specs.Outlooks.{FitsOutlook, HasItsPath};
 ghost use Rattle.set_separation.specs.PrefixTrees.{IsGrown};
 ghost use Rattle.network_cases.specs.Members.{TiesWith, wanted_of};
 
 use crate::networks::point;
-use area_graph::{Graph, Path, Point, is_path_of, path_cost, point_fits};
+use area_graph::{Graph, Path, is_path_of, path_cost, point_fits};
 use case_scripts::{list_of, next_number, next_numbers, next_word};
 use cost_base::{Listed, OutOfMemory};
 use design_problem::Request;
+use rival_separation::Outlook;
 use set_separation::{PrefixTree, find_outsider};
 use spf_ties::Room;
 use std::alloc::{AllocError, Global};
@@ -48,28 +48,35 @@ fn other_paths(
 }
 
 /// Whether a path is one of a request and costs what the request's path does.
-fn ties_with(graph: &Graph, point: &Point, request: &Request, path: &Path) -> bool
-    requires fits { FitsPoint graph.now point.now }
-    requires first { IsPathOf graph.now (request_ends request.now) request.now.path.edges }
-    ensures { IsTrue result → TiesWith graph.now point.now request.now path.now }
+fn ties_with(outlook: &Outlook<'_>, path: &Path) -> bool
+    requires fits { FitsOutlook outlook.now }
+    requires first { HasItsPath outlook.now }
+    ensures { IsTrue result → TiesWith outlook.now.graph.now outlook.now.point.now outlook.now.request.now path.now }
 {
+    let request = outlook.request;
     if path.start != request.path.start {
         return false;
     }
-    if !is_path_of(graph, path, request.end, request.excluded.as_slice()) {
+    if !is_path_of(
+        outlook.graph,
+        path,
+        request.end,
+        request.excluded.as_slice(),
+    ) {
         return false;
     }
-    path_cost(graph, path, point) == path_cost(graph, &request.path, point)
+    path_cost(outlook.graph, path, outlook.point)
+        == path_cost(outlook.graph, &request.path, outlook.point)
 }
 
 /// Whether each path is one of a request and costs what the request's path does.
-fn all_tie(graph: &Graph, point: &Point, request: &Request, others: &[Path]) -> bool
-    requires fits { FitsPoint graph.now point.now }
-    requires first { IsPathOf graph.now (request_ends request.now) request.now.path.edges }
-    ensures { IsTrue result → All (TiesWith graph.now point.now request.now) others.now }
+fn all_tie(outlook: &Outlook<'_>, others: &[Path]) -> bool
+    requires fits { FitsOutlook outlook.now }
+    requires first { HasItsPath outlook.now }
+    ensures { IsTrue result → All (TiesWith outlook.now.graph.now outlook.now.point.now outlook.now.request.now) others.now }
 {
     for path in others {
-        if !ties_with(graph, point, request, path) {
+        if !ties_with(outlook, path) {
             return false;
         }
     }
@@ -99,54 +106,45 @@ fn tree_of(alloc: Global, first: &Path, others: &[Path]) -> Result<PrefixTree, O
 /// What the path that the room keeps costs, and whether this is less than `most`.
 fn kept_text(
     alloc: Global,
-    graph: &Graph,
-    point: &Point,
-    request: &Request,
+    outlook: &Outlook<'_>,
     edges: &[u32],
     most: u128,
 ) -> Result<String, OutOfMemory>
-    requires { FitsPoint graph.now point.now }
+    requires { FitsOutlook outlook.now }
 {
+    let request = outlook.request;
     let path = Path {
         start: request.path.start,
         edges: Listed::from_slice(alloc, edges)?,
     };
-    if !is_path_of(graph, &path, request.end, request.excluded.as_slice()) {
+    if !is_path_of(
+        outlook.graph,
+        &path,
+        request.end,
+        request.excluded.as_slice(),
+    ) {
         return Ok(String::from_str(alloc, ": no path")?);
     }
-    let cost = path_cost(graph, &path, point);
+    let cost = path_cost(outlook.graph, &path, outlook.point);
     let told = if cost < most { "less" } else { "no less" };
     Ok(format!(in alloc; ": costs {cost}, {told} than {most}")?)
 }
 
 /// The cheapest outsider of a request's path and others that tie with it.
-fn outsider_of(
-    alloc: Global,
-    graph: &Graph,
-    point: &Point,
-    request: &Request,
-    others: &[Path],
-) -> Result<String, OutOfMemory>
-    requires fits { FitsPoint graph.now point.now }
-    requires first { IsPathOf graph.now (request_ends request.now) request.now.path.edges }
-    requires others { All (TiesWith graph.now point.now request.now) others.now }
+fn outsider_of(alloc: Global, outlook: &Outlook<'_>, others: &[Path]) -> Result<String, OutOfMemory>
+    requires fits { FitsOutlook outlook.now }
+    requires first { HasItsPath outlook.now }
+    requires others { All (TiesWith outlook.now.graph.now outlook.now.point.now outlook.now.request.now) others.now }
 {
-    let mut room = Room::new(alloc, graph)?;
-    let tree = tree_of(alloc, &request.path, others)?;
+    let mut room = Room::new(alloc, outlook.graph)?;
+    let tree = tree_of(alloc, &outlook.request.path, others)?;
     let places = tree.steps().len() + 1;
     let mut costs = vec![in alloc; 0; places]?;
-    if !find_outsider(
-        graph,
-        request,
-        point,
-        &tree,
-        costs.as_mut_slice(),
-        &mut room,
-    ) {
+    if !find_outsider(outlook, &tree, costs.as_mut_slice(), &mut room) {
         return Ok(String::from_str(alloc, ": none")?);
     }
-    let most = path_cost(graph, &request.path, point) + point.scale;
-    kept_text(alloc, graph, point, request, room.path(), most)
+    let most = path_cost(outlook.graph, &outlook.request.path, outlook.point) + outlook.point.scale;
+    kept_text(alloc, outlook, room.path(), most)
 }
 
 /// `outsider START END GONE POINT EDGES ..`: the cost of the cheapest simple path that is none of these, which tie, where
@@ -177,8 +175,13 @@ pub(crate) fn outsider_text(
     {
         return Ok(String::from_str(alloc, ": unfit")?);
     }
-    if !all_tie(graph, &point, &request, others) {
+    let outlook = Outlook {
+        graph,
+        request: &request,
+        point: &point,
+    };
+    if !all_tie(&outlook, others) {
         return Ok(String::from_str(alloc, ": unfit")?);
     }
-    outsider_of(alloc, graph, &point, &request, others)
+    outsider_of(alloc, &outlook, others)
 }

@@ -2,7 +2,8 @@
 
 use crate::networks::point;
 use area_graph::{
-    Graph, Path, avoids, is_only_cheapest, is_path_of, is_simple, path_cost, point_fits,
+    Graph, Path, RequestedPath, avoids, is_only_cheapest, is_path_of, is_simple, path_cost,
+    point_fits,
 };
 use case_scripts::{Written, next_number, next_numbers, next_word};
 use cost_base::{Listed, OutOfMemory};
@@ -89,7 +90,12 @@ pub(crate) fn only_text(
     if !point_fits(graph, &point) || !is_path_of(graph, &path, end, excluded) {
         return Ok(String::from_str(alloc, ": unfit")?);
     }
-    let is_only = is_only_cheapest(alloc, graph, &point, &path, end, excluded)?;
+    let requested = RequestedPath {
+        path: &path,
+        end,
+        excluded,
+    };
+    let is_only = is_only_cheapest(alloc, graph, &point, &requested)?;
     let told = if is_only { ": yes" } else { ": no" };
     Ok(String::from_str(alloc, told)?)
 }

@@ -8,7 +8,7 @@ use crate::networks::point;
 use area_graph::{Graph, Point, point_fits};
 use case_scripts::{Written, next_numbers, next_word};
 use cost_base::OutOfMemory;
-use spf_ties::Room;
+use spf_ties::{Aim, Room};
 use std::alloc::{AllocError, Global};
 use std::str::SplitWhitespace;
 
@@ -85,20 +85,33 @@ struct Wanted {
     limit: Option<u128>,
 }
 
+/// A search at a point of a graph.
+#[derive(Clone, Copy)]
+struct Search<'a> {
+    graph: &'a Graph,
+    point: &'a Point,
+    wanted: &'a Wanted,
+}
+
 /// Searches for the least costs to a vertex.
-fn find(room: &mut Room, graph: &Graph, point: &Point, target: u32, wanted: &Wanted)
-    requires room { IsRoomFor graph.now room.old }
-    requires fits { FitsPoint graph.now point.now }
-    requires target { target < length graph.now.vertices }
-    ensures { IsRoomFor graph.now room.new }
+fn find(room: &mut Room, search: &Search<'_>, target: u32)
+    requires room { IsRoomFor search.now.graph.now room.old }
+    requires fits { FitsPoint search.now.graph.now search.now.point.now }
+    requires target { target < length search.now.graph.now.vertices }
+    ensures { IsRoomFor search.now.graph.now room.new }
 {
-    let excluded = wanted.excluded.as_slice();
-    if let Some(limit) = wanted.limit {
-        room.distances_within(graph, point, target, excluded, limit);
+    let excluded = search.wanted.excluded.as_slice();
+    if let Some(limit) = search.wanted.limit {
+        let aim = Aim {
+            target,
+            excluded,
+            limit,
+        };
+        room.distances_within(search.graph, search.point, &aim);
     } else if excluded.is_empty() {
-        room.distances_to(graph, point, target);
+        room.distances_to(search.graph, search.point, target);
     } else {
-        room.distances_without(graph, point, target, excluded);
+        room.distances_without(search.graph, search.point, target, excluded);
     }
 }
 
@@ -106,20 +119,20 @@ fn find(room: &mut Room, graph: &Graph, point: &Point, target: u32, wanted: &Wan
 fn add_search(
     alloc: Global,
     text: &mut String,
-    graph: &Graph,
-    point: &Point,
+    search: &Search<'_>,
     room: &mut Room,
     target: u32,
-    wanted: &Wanted,
 ) -> Result<(), AllocError>
-    requires room { IsRoomFor graph.now room.old }
-    requires fits { FitsPoint graph.now point.now }
-    ensures { IsRoomFor graph.now room.new }
+    requires room { IsRoomFor search.now.graph.now room.old }
+    requires fits { FitsPoint search.now.graph.now search.now.point.now }
+    ensures { IsRoomFor search.now.graph.now room.new }
 {
+    let graph = search.graph;
+    let point = search.point;
     if graph.vertices().len() <= target as usize {
         return text.push_str("\n  no vertex");
     }
-    find(room, graph, point, target, wanted);
+    find(room, search, target);
     text.push_str(format!(in alloc; "\n  to {target}: costs")?.as_str())?;
     add_costs(alloc, text, graph, room)?;
     let tight = tight_edges(alloc, graph, point, room)?;
@@ -131,17 +144,15 @@ fn add_search(
 fn add_searches(
     alloc: Global,
     text: &mut String,
-    graph: &Graph,
-    point: &Point,
+    search: &Search<'_>,
     room: &mut Room,
-    wanted: &Wanted,
 ) -> Result<(), AllocError>
-    requires room { IsRoomFor graph.now room.old }
-    requires fits { FitsPoint graph.now point.now }
-    ensures { IsRoomFor graph.now room.new }
+    requires room { IsRoomFor search.now.graph.now room.old }
+    requires fits { FitsPoint search.now.graph.now search.now.point.now }
+    ensures { IsRoomFor search.now.graph.now room.new }
 {
-    for target in wanted.targets.as_slice() {
-        add_search(alloc, text, graph, point, room, *target, wanted)?;
+    for target in search.wanted.targets.as_slice() {
+        add_search(alloc, text, search, room, *target)?;
     }
     Ok(())
 }
@@ -158,7 +169,12 @@ fn searches_text(
     for word in words {
         let point = point(alloc, word)?;
         if point_fits(graph, &point) {
-            add_searches(alloc, &mut text, graph, &point, &mut room, wanted)?;
+            let search = Search {
+                graph,
+                point: &point,
+                wanted,
+            };
+            add_searches(alloc, &mut text, &search, &mut room)?;
         }
     }
     Ok(text)

@@ -10,6 +10,9 @@ use Rattle.area_graph.specs.Distances.{far, AreReached, SettledBelow}
 use Rattle.area_graph.proofs.Walks.{simple_in_walk, simple_costs-le, potential-le}
 use Rattle.area_graph.proofs.Bounds.{cost_below as bounded_cost}
 use Rattle.spf_ties.specs.Distances.{IsLeastOfPaths, IsLeastBelow, IsLeastCost, cost_below}
+use Rattle.spf_ties.specs.declared.search.Width.{Width}
+use Rattle.spf_ties.specs.declared.search.Width.TheVariants.{Narrow, Wide}
+use Rattle.spf_ties.specs.Searches.{numbers_of}
 
 -- a number is at most the cost of each path to the target
 at_most : (g : Area) (p : Point) (excluded : List ℕ) (t limit v : ℕ) (d : List ℕ) → AreReached g p excluded t limit d →
@@ -29,9 +32,9 @@ pub lesser_is_near : (p : Point) (limit near : ℕ) → near ≡ min limit (far 
 lesser_is_near p limit near is = record { within = omega (arith, is); whole = λ less. omega (arith, is, less) }
 
 -- either of two lists for the vertices is one
-pub length_either : (b : Bool) (xs ys : List ℕ) (n : ℕ) → length xs ≡ n → length ys ≡ n → length (cond b xs ys) ≡ n
-length_either true xs ys n first second = first
-length_either false xs ys n first second = second
+pub length_either : (w : Width) (xs ys : List ℕ) (n : ℕ) → length xs ≡ n → length ys ≡ n → length (numbers_of w xs ys) ≡ n
+length_either Narrow xs ys n first second = first
+length_either Wide xs ys n first second = second
 
 -- a number below the limit is the least cost, and another says that each path costs at least the limit
 least_below : (g : Area) (p : Point) (excluded : List ℕ) (t v limit near : ℕ) (d : List ℕ) → FitsGraph g → HasMetrics g →

@@ -3,6 +3,7 @@ use Rattle.std.specs.Prelude.{◌≡◌, ℕ, ◌+◌, ◌<◌, ◌≤◌, ◌==
 use Rattle.std.specs.List.{AllByRecursion}
 use Rattle.area_graph.specs.declared.Point.{Point}
 use Rattle.area_graph.specs.Area.{Area, edge_at, edges_out}
+use Rattle.spf_ties.specs.declared.aim.Aim.{Aim}
 use Rattle.area_graph.specs.Paths.{Ends, IsPathOf}
 use Rattle.area_graph.specs.Costs.{price_at, cost}
 
@@ -22,6 +23,10 @@ IsLeastCost g p ends None = (path : List ℕ) → IsPathOf g ends path → ⊥
 abbrev pub IsLeastBelow : Area → Point → Ends → ℕ → Option ℕ → Type 0
 IsLeastBelow g p ends limit (Some least) = IsLeastOfPaths g p ends least × (least < limit)
 IsLeastBelow g p ends limit None = (path : List ℕ) → IsPathOf g ends path → limit ≤ cost g p path
+
+-- from a vertex to the target, without the edges that are taken away
+abbrev pub ends_to : Aim → ℕ → Ends
+ends_to aim v = record { start = v; end = aim.target; excluded = aim.excluded.now }
 
 -- what a room tells: each vertex's least cost to the target of the last call, a mark for each edge that the call took
 -- away, and the edges of a path

@@ -1,11 +1,16 @@
 -- A search for least costs on its way: vertices are settled one by one, the nearest to the target first. No public
 -- clause cites it.
-use Rattle.std.specs.Prelude.{◌≡◌, ℕ, ◌<◌, ◌≤◌, List, length, slice_index, slice_index_or, All, Contains, Bool, true, false, not, count_by}
+use Rattle.std.specs.Prelude.{◌≡◌, ℕ, ◌+◌, ◌^◌, ◌<◌, ◌≤◌, List, length, slice_index, slice_index_or, All, Contains, Bool, true, false, not, count_by}
 use Rattle.cost_base.specs.Lists.{Lacks, numbers_from}
 use Rattle.area_graph.specs.declared.Point.{Point}
 use Rattle.area_graph.specs.Area.{Area, edge_at}
-use Rattle.area_graph.specs.Distances.{far, AreReached, through}
+use Rattle.area_graph.specs.declared.subgraph.Subgraph.{Subgraph}
+use Rattle.area_graph.specs.Distances.{far, AreReached, FitsSubgraph, through}
 use Rattle.spf_ties.specs.declared.heap.Entry.{Entry}
+use Rattle.spf_ties.specs.declared.search.Front.{Front}
+use Rattle.spf_ties.specs.declared.search.Width.{Width}
+use Rattle.spf_ties.specs.declared.search.Width.TheVariants.{Narrow, Wide}
+use Rattle.spf_ties.specs.Waiting.{Waiting}
 
 -- a number and a mark for each vertex, and no number above `far`
 pub record AreSearchNumbers (g : Area) (p : Point) (d : List ℕ) (settled : List Bool) : Type 0 where
@@ -47,3 +52,44 @@ pub record Underway (g : Area) (p : Point) (excluded : List ℕ) (t limit least 
   pub edges : All (LeadsToLast g least d settled) todo
   pub closed : (e : ℕ) → e < length g.edges → Lacks excluded e → is_settled settled (edge_at g e).to ≡ true → Lacks todo e →
       slice_index d (edge_at g e).from ≤ through p (edge_at g e) d
+
+-- a search for least costs in a subgraph stands so
+abbrev pub UnderwayIn : Subgraph → ℕ → ℕ → ℕ → List ℕ → List ℕ → List Bool → List Entry → Type 0
+UnderwayIn s t limit least todo d settled waiting =
+    Underway s.graph.now s.point.now s.removal.now t limit least todo d settled waiting
+
+-- the point is one for the graph, of a scale so small that each number fits 64 bits
+pub record IsNarrow (s : Subgraph) : Type 0 where
+  pub fits : FitsSubgraph s
+  pub scale : s.point.now.scale < 2 ^ 37
+
+-- a front made for the graph, with a place for each edge and for the target
+pub record IsFrontFor (s : Subgraph) (front : Front) : Type 0 where
+  pub count : length front.numbers.items ≡ length s.graph.now.vertices
+  pub marks : length front.settled.items ≡ length s.graph.now.vertices
+  pub places : length s.graph.now.edges < front.waiting.places
+
+-- the front's numbers and marks are those of a search
+abbrev pub AreFrontNumbers : Subgraph → Front → Type 0
+AreFrontNumbers s front = AreSearchNumbers s.graph.now s.point.now front.numbers.items front.settled.items
+
+-- there is a place for each entry that waits, and for each edge to a vertex that isn't settled
+abbrev pub HasPlaces : Subgraph → Front → Type 0
+HasPlaces s front =
+    length front.waiting.entries + open_edges s.graph.now front.settled.items ≤ front.waiting.places
+
+-- one entry more at most, and no place less
+pub record GrowsByOne (old new : Waiting) : Type 0 where
+  pub places : old.places ≤ new.places
+  pub one : length new.entries ≤ length old.entries + 1
+
+-- no place less, and not more entries with the edges that may still make one
+pub record NeedsNoMore (s : Subgraph) (old new : Front) : Type 0 where
+  pub places : old.waiting.places ≤ new.waiting.places
+  pub fewer : length new.waiting.entries + open_edges s.graph.now new.settled.items ≤
+      length old.waiting.entries + open_edges s.graph.now old.settled.items
+
+-- the numbers of a width
+abbrev pub numbers_of : Width → List ℕ → List ℕ → List ℕ
+numbers_of Narrow narrow wide = narrow
+numbers_of Wide narrow wide = wide

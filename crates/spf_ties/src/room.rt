@@ -4,12 +4,12 @@ ghost use Rattle.std.specs.Prelude.{◌≡◌, ◌↔◌, ◌++◌, ◌∷◌, L
 ghost use Rattle.area_graph.specs.Distances.{AreEdgeMarks};
 ghost use Rattle.area_graph.specs.Costs.{FitsPoint, cost};
 ghost use Rattle.area_graph.specs.Paths.{IsPathOf};
-ghost use Rattle.spf_ties.specs.Distances.{AreTight, IsLeastBelow, IsLeastCost, IsRoomFor, distance_at, is_tight, tight_out};
+ghost use Rattle.spf_ties.specs.Distances.{AreTight, IsLeastBelow, IsLeastCost, IsRoomFor, distance_at, ends_to, is_tight, tight_out};
 
-use crate::NextHops;
 use crate::heap::Heap;
-use crate::search::{Front, find_in_either};
-use area_graph::{Graph, Point, Removal, edge_of, mark_excluded, price_of};
+use crate::search::{Front, Width, find_in_either};
+use crate::{Aim, NextHops};
+use area_graph::{Graph, Point, Removal, Subgraph, edge_of, mark_excluded, price_of};
 use cost_base::OutOfMemory;
 use std::alloc::Global;
 use std::marker::Model;
@@ -21,19 +21,20 @@ pub struct Room {
     far: u128,
     front: Front,
     wide: Vec<u128>,
-    is_wide: bool,
+    width: Width,
     marks: Vec<bool>,
     path: Vec<u32>,
 }
 
 impl Model for Room {
-    ghost use Rattle.std.specs.Prelude.{◌≡◌, ◌<◌, ◌≤◌, cond, length, map, vec_capacity};
+    ghost use Rattle.std.specs.Prelude.{◌≡◌, ◌<◌, ◌≤◌, length, map, vec_capacity};
     ghost use Rattle.spf_ties.specs.Distances.{Findings, cost_below};
+    ghost use Rattle.spf_ties.specs.Searches.{numbers_of};
 
     ghost Value = { Findings };
 
     ghost view = { λ r. record {
-      costs = map (cost_below r.far) (cond r.is_wide r.wide.items r.front.numbers.items);
+      costs = map (cost_below r.far) (numbers_of r.width r.front.numbers.items r.wide.items);
       marks = r.marks.items;
       path = r.path.items;
     } };
@@ -71,7 +72,7 @@ impl Room {
                 waiting,
             },
             wide,
-            is_wide: false,
+            width: Width::Narrow,
             marks,
             path,
         })
@@ -107,44 +108,45 @@ impl Room {
             (distance_at self.new v ≡ Some (cost graph.now point.now path)) ↔ AreTight graph.now point.now self.new path }
     {
         graph.keeps_conditions();
-        self.distances_within(graph, point, target, excluded, (1 << 26) * point.scale);
+        let aim = Aim {
+            target,
+            excluded,
+            limit: (1 << 26) * point.scale,
+        };
+        self.distances_within(graph, point, &aim);
     }
 
-    /// Finds each vertex's least cost of a simple path to the target that has none of the edges of `excluded`, where that is
-    /// below a limit. Among the paths that cost less than the limit one has least cost exactly where each of its edges is
+    /// Finds each vertex's least cost of a simple path to the target that has none of the edges that are taken away, where
+    /// that is below the limit. Among the paths that cost less than it one has least cost exactly where each of its edges is
     /// tight. It takes time in proportion to the edges near the target, times the logarithm of their number; at scales from
     /// 2^37 on it goes over all edges, again and again until no number falls.
-    pub fn distances_within(
-        &mut self,
-        graph: &Graph,
-        point: &Point,
-        target: u32,
-        excluded: &[u32],
-        limit: u128,
-    )
+    pub fn distances_within(&mut self, graph: &Graph, point: &Point, aim: &Aim<'_>)
         requires room { IsRoomFor graph.now self.old }
         requires fits { FitsPoint graph.now point.now }
-        requires target { target < length graph.now.vertices }
+        requires target { aim.now.target < length graph.now.vertices }
         ensures room { IsRoomFor graph.now self.new }
-        ensures marks { AreEdgeMarks excluded.now self.new.marks }
+        ensures marks { AreEdgeMarks aim.now.excluded.now self.new.marks }
         ensures least { (v : ℕ) → v < length graph.now.vertices →
-            IsLeastBelow graph.now point.now (record { start = v; end = target; excluded = excluded.now }) limit (distance_at self.new v) }
-        ensures tight { (v : ℕ) (path : List ℕ) → IsPathOf graph.now (record { start = v; end = target; excluded = excluded.now }) path →
-            cost graph.now point.now path < limit →
+            IsLeastBelow graph.now point.now (ends_to aim.now v) aim.now.limit (distance_at self.new v) }
+        ensures tight { (v : ℕ) (path : List ℕ) → IsPathOf graph.now (ends_to aim.now v) path →
+            cost graph.now point.now path < aim.now.limit →
             (distance_at self.new v ≡ Some (cost graph.now point.now path)) ↔ AreTight graph.now point.now self.new path }
     {
         graph.keeps_conditions();
-        mark_excluded(&mut self.marks, excluded);
+        mark_excluded(&mut self.marks, aim.excluded);
         let removal = Removal {
-            excluded,
+            excluded: aim.excluded,
             marks: self.marks.as_slice(),
         };
-        self.far = limit.min((1 << 26) * point.scale);
-        self.is_wide = find_in_either(
+        let subgraph = Subgraph {
             graph,
             point,
-            &removal,
-            target,
+            removal: &removal,
+        };
+        self.far = aim.limit.min((1 << 26) * point.scale);
+        self.width = find_in_either(
+            &subgraph,
+            aim.target,
             self.far,
             &mut self.front,
             &mut self.wide,
@@ -157,10 +159,9 @@ impl Room {
         requires { vertex < length self.now.costs }
         ensures { result ≡ distance_at self.now vertex }
     {
-        let number = if self.is_wide {
-            self.wide[vertex as usize]
-        } else {
-            self.front.numbers[vertex as usize] as u128
+        let number = match self.width {
+            Width::Narrow => self.front.numbers[vertex as usize] as u128,
+            Width::Wide => self.wide[vertex as usize],
         };
         if number < self.far {
             Some(number)

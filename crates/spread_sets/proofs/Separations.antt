@@ -99,13 +99,6 @@ told_as p point set es beaten g r same_graph same_request tells =
     told p point set es beaten
     (subst (λ (q : Request). Tells p point set es beaten p.graph q) same_request (subst (λ (h : Area). Tells p point set es beaten h r) same_graph tells))
 
--- a rival that is too cheap, under other names
-pub cheap_as : (p q : DesignProblem) (set members es edges : List ℕ) (point : Point) → q ≡ p → members ≡ set →
-    edges ≡ es → IsOutsiderTooCheap q point members es → IsOutsiderTooCheap p point set edges
-cheap_as p q set members es edges point same_problem same_set same_edges cheap =
-    subst (λ (r : DesignProblem). IsOutsiderTooCheap r point set edges) same_problem
-    (subst (λ (s : List ℕ). IsOutsiderTooCheap q point s edges) same_set (subst (IsOutsiderTooCheap q point members) (sym same_edges) cheap))
-
 -- it is a route of the first member's request
 pub cheap_route : (p : DesignProblem) (point : Point) (set es : List ℕ) (name : ℕ) → IsMemberSet p set →
     IsOutsiderTooCheap p point set es → name ≡ name_of_set set → IsRouteOf p.graph (slice_get p.paths name) es
@@ -128,14 +121,6 @@ ready_all p places count sets same trees most k d k_in =
       fits = subst (λ (n : ℕ). length (get_or sets k d).tree + 1 ≤ n) (sym same) (most k d k_in);
     }
 
--- the set that code has read at a place
-pub indexed : (sets : List MemberSet) (place : ℕ) (m : MemberSet) → place < length (sets_in sets) →
-    m ≡ get_or sets place m → m.members ≡ set_at (sets_in sets) place
-indexed sets place m inside is =
-    ap (λ (s : MemberSet). s.members) is
-    ∙ sym (get_or-map (λ (s : MemberSet). s.members) sets place m []
-    (omega (arith, length-map sets (λ (s : MemberSet). s.members))))
-
 -- a new room
 pub room_new : (g h : Area) (room : Findings) → h ≡ g →
     room ≡ record { costs = replicate (length h.vertices) None; marks = replicate (length h.edges) false; path = [] } →
@@ -150,21 +135,9 @@ pub record IsRivalRow (p : DesignProblem) (point : Point) (set : List ℕ) (row 
   pub cheap : IsOutsiderTooCheap p point set row.rival.edges
   pub route : IsRouteOf p.graph (slice_get p.paths row.request) row.rival.edges
 
--- the row of the path that was found for the set that code has read at a place
-pub rival_row : (p : DesignProblem) (sets : List MemberSet) (rows : List SetRow) (s : KnownSets) (place : ℕ)
-    (point : Point) (m : MemberSet) (path : List ℕ) (row : Row) →
-    record { problem = p; sets = sets_in sets; rows = rows } ≡ s → place < length s.sets →
-    AreMemberSets s.problem s.sets →
-    m ≡ get_or sets place m → IsOutsiderTooCheap p point m.members path → row.request ≡ name_of_set m.members →
-    row.rival.edges ≡ path → IsRivalRow p point (set_at (sets_in sets) place) row
-rival_row p sets rows s place point m path row view inside are is cheap request edges =
-    let here : place < length (sets_in sets) = subst (λ (k : KnownSets). place < length k.sets) (sym view) inside in
-    let members : AreMemberSets p (sets_in sets) = subst (λ (k : KnownSets). AreMemberSets k.problem k.sets) (sym view) are in
-    let set : m.members ≡ set_at (sets_in sets) place = indexed sets place m here is in
-    let name : row.request ≡ name_of_set (set_at (sets_in sets) place) = request ∙ ap name_of_set set in
-    let rival = cheap_as p p (set_at (sets_in sets) place) m.members path row.rival.edges point refl set edges cheap in
-    record {
-      name = name;
-      cheap = rival;
-      route = cheap_route p point (set_at (sets_in sets) place) row.rival.edges row.request (members place [] here) rival name;
-    }
+-- the row of a rival that was found for a set
+pub found_row : (p : DesignProblem) (point : Point) (set es : List ℕ) (row : Row) → IsMemberSet p set →
+    IsOutsiderTooCheap p point set es → row.request ≡ name_of_set set → row.rival.edges ≡ es → IsRivalRow p point set row
+found_row p point set es row is cheap name edges =
+    let rival = subst (IsOutsiderTooCheap p point set) (sym edges) cheap in
+    record { name = name; cheap = rival; route = cheap_route p point set row.rival.edges row.request is rival name }

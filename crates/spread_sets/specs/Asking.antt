@@ -1,18 +1,36 @@
 -- What the answer on one set does to the rows and to the pool of forms, and what the answers on the first sets do. No
 -- public clause cites it.
-use Rattle.std.specs.Prelude.{◌≡◌, ◌⊎◌, ℕ, ◌<◌, pos, ◌≤ℤ◌, List, [], ◌∷◌, ◌++◌, All, Bool, true, false}
+use Rattle.std.specs.Prelude.{◌≡◌, ◌⊎◌, ℕ, ◌<◌, pos, ◌≤ℤ◌, List, [], ◌∷◌, ◌++◌, All, Bool, true, false, Contains, Option, None, Some, length, slice_index_or}
 use Rattle.area_graph.specs.declared.Point.{Point}
 use Rattle.area_graph.specs.declared.Path.{Path}
 use Rattle.design_problem.specs.Forms.{Form, value_at}
+use Rattle.design_problem.specs.Problems.{DesignProblem}
 use Rattle.form_search.specs.Sources.{Grows, HasNewRival, IsSourceAnswer}
 use Rattle.form_search.specs.declared.source.Asked.{Asked}
 use Rattle.form_search.specs.declared.source.Asked.TheVariants.{Nothing, Added}
 use Rattle.cost_branching.specs.Rivals.{IsProblemOnGraph}
+use Rattle.spread_sets.specs.declared.source.MemberPair.{MemberPair}
 use Rattle.spread_sets.specs.declared.spread.SetRow.{SetRow}
 use Rattle.spread_sets.specs.declared.spread.SetRow.TheVariants.{Rival}
 use Rattle.spread_sets.specs.Spreads.{Shares, SharesEach, name_of_set, form_of_set_row, name_of}
 use Rattle.spread_sets.specs.MemberSets.{AreMemberSets}
 use Rattle.spread_sets.specs.Sources.{IsPoolOfSets, IsOutsiderTooCheap, IsTrueOfSets, KnownSets, set_at}
+
+-- both are members of the set at the place
+pub record IsPairIn (sets : List (List ℕ)) (pair : MemberPair) : Type 0 where
+  pub place : pair.place < length sets
+  pub first : Contains (set_at sets pair.place) pair.first
+  pub second : Contains (set_at sets pair.place) pair.second
+
+-- an outsider of a set that is too cheap, or None where the members share
+abbrev pub IsSetAnswer : DesignProblem → Point → List ℕ → Option (List ℕ) → Type 0
+IsSetAnswer p point set None = Shares p point set
+IsSetAnswer p point set (Some es) = IsOutsiderTooCheap p point set es
+
+-- such an outsider of each set, or None
+pub record AreSetAnswers (p : DesignProblem) (point : Point) (sets : List (List ℕ)) (outsiders : List (Option (List ℕ))) : Type 0 where
+  pub count : length outsiders ≡ length sets
+  pub each : (k : ℕ) → k < length sets → IsSetAnswer p point (set_at sets k) (slice_index_or outsiders k None)
 
 -- the members of the set at a place share, and nothing came
 pub record NoSetRow (point : Point) (place : ℕ) (old : KnownSets) (old_forms : List Form) (new : KnownSets) (new_forms : List Form) : Type 0 where

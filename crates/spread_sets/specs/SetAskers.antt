@@ -1,12 +1,14 @@
 -- What asks for the outsiders of several sets. No public clause cites it.
-use Rattle.std.specs.Prelude.{◌≡◌, ℕ, ◌+◌, ◌<◌, ◌≤◌, List, [], length, slice_index_or, All, Contains, Option, None, Some}
+use Rattle.std.specs.Prelude.{◌≡◌, ℕ, ◌+◌, ◌<◌, ◌≤◌, List, [], length, slice_index, slice_index_or, All, Contains, Option, None, Some}
 use Rattle.area_graph.specs.declared.Point.{Point}
 use Rattle.design_problem.specs.Problems.{DesignProblem}
 use Rattle.spf_ties.specs.Distances.{Findings, IsRoomFor}
-use Rattle.rival_separation.specs.Rivals.{HasDistancesBelow}
+use Rattle.rival_separation.specs.Rivals.{HasDistancesBelow, HasDistancesTo}
 use Rattle.spread_sets.specs.declared.member_sets.MemberSet.{MemberSet}
 use Rattle.spread_sets.specs.declared.set_asker.Reach.{Reach}
+use Rattle.spread_sets.specs.declared.set_asker.SetSurvey.{SetSurvey}
 use Rattle.spread_sets.specs.MemberSets.{HasTreeWithin}
+use Rattle.spread_sets.specs.Sources.{IsOutsiderTooCheap, OutsidersAreDearer}
 use Rattle.spread_sets.specs.Spreads.{cost_of_set, ends_in}
 
 -- what stands for a set past the end
@@ -34,18 +36,38 @@ pub record IsAskerOfSets (p : DesignProblem) (sets : List MemberSet) (asker : Se
   pub known : All (λ k. k < length sets) asker.order
   pub each : (k : ℕ) → k < length sets → Contains asker.order k
 
--- the room has the distances to the end of a set's request without the edges that it takes away, those below a limit
-pub record ReachesSet (p : DesignProblem) (point : Point) (sets : List MemberSet) (room : Findings) (reach : Reach) : Type 0 where
-  pub known : reach.set < length sets
-  pub found : HasDistancesBelow p.graph point (ends_in p (member_set_at sets reach.set).members) reach.limit room
-
--- nothing is known of what the room has, or such distances
-abbrev pub MayReach : DesignProblem → Point → List MemberSet → Findings → Option Reach → Type 0
-MayReach p point sets room None = Unit {0}
-MayReach p point sets room (Some reach) = ReachesSet p point sets room reach
+-- the members of the set at a place of an asker's order
+abbrev pub members_seen : SetSurvey → SetAsking → ℕ → List ℕ
+members_seen s asker place = (member_set_at s.sets.now (slice_index asker.order place)).members
 
 -- the room has the distances up to what the outsiders of a set are compared with
-pub record IsReadyForSet (p : DesignProblem) (point : Point) (sets : List MemberSet) (room : Findings) (k : ℕ) (reach : Reach) : Type 0 where
+abbrev pub CanCompareSet : SetSurvey → List ℕ → Findings → Type 0
+CanCompareSet s set room =
+    HasDistancesTo s.problem.now.graph s.point.now (ends_in s.problem.now set) (dearer_from s.problem.now s.point.now set) room
+
+-- the room has the distances to the end of a set's request without the edges that it takes away, those below a limit
+pub record ReachesSet (s : SetSurvey) (room : Findings) (reach : Reach) : Type 0 where
+  pub known : reach.set < length s.sets.now
+  pub found : HasDistancesBelow s.problem.now.graph s.point.now (ends_in s.problem.now (member_set_at s.sets.now reach.set).members)
+      reach.limit room
+
+-- nothing is known of what the room has, or such distances
+abbrev pub MayReach : SetSurvey → Findings → Option Reach → Type 0
+MayReach s room None = Unit {0}
+MayReach s room (Some reach) = ReachesSet s room reach
+
+-- the room has the distances up to what the outsiders of a set are compared with, which other sets may share
+pub record IsReadyForSet (s : SetSurvey) (room : Findings) (k : ℕ) (reach : Reach) : Type 0 where
   pub of_set : reach.set ≡ k
-  pub reaches : ReachesSet p point sets room reach
-  pub above : dearer_from p point (member_set_at sets k).members ≤ reach.limit
+  pub reaches : ReachesSet s room reach
+  pub above : dearer_from s.problem.now s.point.now (member_set_at s.sets.now k).members ≤ reach.limit
+
+-- an outsider of a set that is too cheap, or None where every outsider is dearer
+abbrev pub IsOutsiderIfAny : DesignProblem → Point → List ℕ → Option (List ℕ) → Type 0
+IsOutsiderIfAny p point set None = OutsidersAreDearer p point set
+IsOutsiderIfAny p point set (Some es) = IsOutsiderTooCheap p point set es
+
+-- such an outsider of each set, or None
+pub record AreOutsidersIfAny (p : DesignProblem) (point : Point) (sets : List MemberSet) (outsiders : List (Option (List ℕ))) : Type 0 where
+  pub count : length outsiders ≡ length sets
+  pub each : (k : ℕ) → k < length sets → IsOutsiderIfAny p point (member_set_at sets k).members (slice_index_or outsiders k None)

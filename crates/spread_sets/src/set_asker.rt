@@ -1,25 +1,32 @@
 //! What asks for the outsiders of several sets at one point.
-ghost use Rattle.std.specs.Prelude.{◌≡◌, ◌+◌, ◌<◌, ◌≤◌, ◌↔◌, ℕ, All, Contains, IfOk, IsTrue, MatchBool, Some, cond, false, length, slice_index, slice_index_or, true};
-ghost use Rattle.std.specs.Prelude.{◌==◌};
+ghost use Rattle.std.specs.Prelude.{◌≡◌, ◌+◌, ◌<◌, ◌≤◌, ◌↔◌, ℕ, All, Contains, IfOk, IsTrue, MatchBool, Some, length, slice_index};
 ghost use Rattle.area_graph.specs.Costs.{cost};
 ghost use Rattle.design_problem.specs.Problems.{request_at};
 ghost use Rattle.form_search.specs.Sources.{IsCostPoint};
-ghost use Rattle.rival_separation.specs.Rivals.{HasDistancesTo};
-ghost use Rattle.spf_ties.specs.Distances.{IsRoomFor};
-ghost use Rattle.spread_sets.specs.MemberSets.{HasTree, HasTreeWithin, IsMemberSet, sets_in};
-ghost use Rattle.spread_sets.specs.SetAskers.{IsAskerOfSets, IsReadyForSet, MayReach, ReachesSet, dearer_from, member_set_at};
-ghost use Rattle.spread_sets.specs.Sources.{IsOutsiderTooCheap, OutsidersAreDearer};
+ghost use Rattle.spread_sets.specs.MemberSets.{HasTree, IsMemberSet, sets_in};
+ghost use Rattle.spread_sets.specs.SetAskers.{AreOutsidersIfAny, CanCompareSet, IsAskerOfSets, IsOutsiderIfAny, IsReadyForSet};
+ghost use Rattle.spread_sets.specs.SetAskers.{MayReach, ReachesSet, dearer_from, member_set_at, members_seen};
+ghost use Rattle.spread_sets.specs.Sources.{OutsidersAreDearer};
 ghost use Rattle.spread_sets.specs.Spreads.{AreTied, SharesEach, edges_of, ends_in, name_of_set};
 
 use crate::member_sets::{MemberSet, first_of, most_places, request_of};
 use area_graph::{Point, path_cost};
-use cost_base::OutOfMemory;
+use cost_base::{Listed, OutOfMemory};
 use cost_branching::keeps_conditions;
 use design_problem::{Problem, Request};
-use set_separation::{find_outsider, is_undercut};
+use rival_separation::{Outlook, find_distances, nothing_told, tell};
+use set_separation::{find_outsider_at_hand, is_undercut};
 use spf_ties::Room;
 use std::alloc::Global;
 use std::marker::Model;
+
+/// Several sets of a problem's requests, at a point.
+#[derive(Clone, Copy)]
+struct SetSurvey<'a> {
+    problem: &'a Problem,
+    sets: &'a [MemberSet],
+    point: &'a Point,
+}
 
 /// What a room has: the distances that serve the set of this number, those below the limit.
 #[derive(Clone, Copy)]
@@ -140,17 +147,8 @@ fn cost_the_same(problem: &Problem, members: &[u32], point: &Point) -> bool
     true
 }
 
-/// Writes a mark.
-fn put_mark(marks: &mut [bool], number: usize, mark: bool)
-    requires { number < length marks.old }
-    ensures count { length marks.new ≡ length marks.old }
-    ensures marks { (k : ℕ) → slice_index_or marks.new k true ≡ cond (k == number) mark (slice_index_or marks.old k true) }
-{
-    marks[number] = mark;
-}
-
 impl SetAsker {
-    /// An asker for a problem's sets. No later call but `undercut_sets` takes memory.
+    /// An asker for a problem's sets. No later call but `cheap_outsiders` takes memory.
     pub(crate) fn new(
         alloc: Global,
         problem: &Problem,
@@ -192,131 +190,142 @@ impl SetAsker {
 
     /// Up to which limit distances serve the set at a place of the order, and those behind it that share them: each of their
     /// outsiders that is too cheap costs less.
-    fn limit_at(&self, problem: &Problem, sets: &[MemberSet], point: &Point, place: usize) -> u128
-        requires asker { IsAskerOfSets problem.now sets.now self.now }
-        requires point { IsCostPoint (length problem.now.low) point.now }
+    fn limit_at(&self, survey: &SetSurvey<'_>, place: usize) -> u128
+        requires asker { IsAskerOfSets survey.now.problem.now survey.now.sets.now self.now }
+        requires point { IsCostPoint (length survey.now.problem.now.low) survey.now.point.now }
         requires place { place < length self.now.order }
-        ensures { dearer_from problem.now point.now (member_set_at sets.now (slice_index self.now.order place)).members ≤ result }
+        ensures { dearer_from survey.now.problem.now survey.now.point.now (members_seen survey.now self.now place) ≤ result }
     {
-        let first = self.set_at(sets, place);
-        let mut limit = least_dearer(problem, first, point);
+        let problem = survey.problem;
+        let first = self.set_at(survey.sets, place);
+        let mut limit = least_dearer(problem, first, survey.point);
         for later in place..self.places() {
-            let other = self.set_at(sets, later);
+            let other = self.set_at(survey.sets, later);
             if !have_one_end(problem, first, other) {
                 return limit;
             }
-            limit = limit.max(least_dearer(problem, other, point));
+            limit = limit.max(least_dearer(problem, other, survey.point));
         }
         limit
     }
 
     /// Looks for the distances that serve the set at a place of the order, and those behind it that share them.
-    fn look(&mut self, problem: &Problem, sets: &[MemberSet], point: &Point, place: usize) -> Reach
-        requires asker { IsAskerOfSets problem.now sets.now self.old }
-        requires point { IsCostPoint (length problem.now.low) point.now }
+    fn look(&mut self, survey: &SetSurvey<'_>, place: usize) -> Reach
+        requires asker { IsAskerOfSets survey.now.problem.now survey.now.sets.now self.old }
+        requires point { IsCostPoint (length survey.now.problem.now.low) survey.now.point.now }
         requires place { place < length self.old.order }
-        ensures asker { IsAskerOfSets problem.now sets.now self.new }
+        ensures asker { IsAskerOfSets survey.now.problem.now survey.now.sets.now self.new }
         ensures same { self.new ≡ record self.old { room = self.new.room } }
-        ensures ready { IsReadyForSet problem.now point.now sets.now self.new.room (slice_index self.old.order place) result }
+        ensures ready { IsReadyForSet survey.now self.new.room (slice_index self.old.order place) result }
     {
+        let problem = survey.problem;
         keeps_conditions(problem);
-        let limit = self.limit_at(problem, sets, point, place);
+        let limit = self.limit_at(survey, place);
         let number = self.number_at(place);
-        let request = request_in(problem, set_of_number(sets, number));
-        self.room.distances_within(
-            &problem.graph,
-            point,
-            request.end,
-            request.excluded.as_slice(),
-            limit,
-        );
+        let outlook = Outlook {
+            graph: &problem.graph,
+            request: request_in(problem, set_of_number(survey.sets, number)),
+            point: survey.point,
+        };
+        find_distances(&outlook, limit, &mut self.room);
         Reach { set: number, limit }
     }
 
     /// Whether what the room has serves the set at a place of the order.
-    fn serves(
-        &self,
-        problem: &Problem,
-        sets: &[MemberSet],
-        point: &Point,
-        place: usize,
-        reach: Reach,
-    ) -> bool
-        requires asker { IsAskerOfSets problem.now sets.now self.now }
-        requires point { IsCostPoint (length problem.now.low) point.now }
+    fn serves(&self, survey: &SetSurvey<'_>, place: usize, reach: Reach) -> bool
+        requires asker { IsAskerOfSets survey.now.problem.now survey.now.sets.now self.now }
+        requires point { IsCostPoint (length survey.now.problem.now.low) survey.now.point.now }
         requires place { place < length self.now.order }
-        requires reach { ReachesSet problem.now point.now sets.now self.now.room reach }
-        ensures { IsTrue result → IsReadyForSet problem.now point.now sets.now self.now.room (slice_index self.now.order place)
+        requires reach { ReachesSet survey.now self.now.room reach }
+        ensures { IsTrue result → IsReadyForSet survey.now self.now.room (slice_index self.now.order place)
             (record { set = slice_index self.now.order place; limit = reach.limit }) }
     {
-        let set = self.set_at(sets, place);
-        if !have_one_end(problem, set_of_number(sets, reach.set), set) {
+        let set = self.set_at(survey.sets, place);
+        if !have_one_end(survey.problem, set_of_number(survey.sets, reach.set), set) {
             return false;
         }
-        least_dearer(problem, set, point) <= reach.limit
+        least_dearer(survey.problem, set, survey.point) <= reach.limit
     }
 
     /// Sees to it that the room has the distances that serve the set at a place of the order. It keeps those that it has
     /// where they serve that one too.
-    fn prepare(
-        &mut self,
-        problem: &Problem,
-        sets: &[MemberSet],
-        point: &Point,
-        place: usize,
-        reach: Option<Reach>,
-    ) -> Reach
-        requires asker { IsAskerOfSets problem.now sets.now self.old }
-        requires point { IsCostPoint (length problem.now.low) point.now }
+    fn prepare(&mut self, survey: &SetSurvey<'_>, place: usize, reach: Option<Reach>) -> Reach
+        requires asker { IsAskerOfSets survey.now.problem.now survey.now.sets.now self.old }
+        requires point { IsCostPoint (length survey.now.problem.now.low) survey.now.point.now }
         requires place { place < length self.old.order }
-        requires reach { MayReach problem.now point.now sets.now self.old.room reach }
-        ensures asker { IsAskerOfSets problem.now sets.now self.new }
+        requires reach { MayReach survey.now self.old.room reach }
+        ensures asker { IsAskerOfSets survey.now.problem.now survey.now.sets.now self.new }
         ensures same { self.new ≡ record self.old { room = self.new.room } }
-        ensures ready { IsReadyForSet problem.now point.now sets.now self.new.room (slice_index self.old.order place) result }
+        ensures ready { IsReadyForSet survey.now self.new.room (slice_index self.old.order place) result }
     {
         if let Some(reach) = reach {
-            if self.serves(problem, sets, point, place, reach) {
+            if self.serves(survey, place, reach) {
                 return Reach {
                     set: self.number_at(place),
                     limit: reach.limit,
                 };
             }
         }
-        self.look(problem, sets, point, place)
+        self.look(survey, place)
     }
 
     /// Whether the set at a place of the order, whose members tie, has an outsider that costs less than they and the scale;
     /// the room has the distances that serve it.
-    fn is_undercut_at(
-        &mut self,
-        problem: &Problem,
-        sets: &[MemberSet],
-        point: &Point,
-        place: usize,
-    ) -> bool
-        requires asker { IsAskerOfSets problem.now sets.now self.old }
-        requires point { IsCostPoint (length problem.now.low) point.now }
+    fn is_undercut_at(&mut self, survey: &SetSurvey<'_>, place: usize) -> bool
+        requires asker { IsAskerOfSets survey.now.problem.now survey.now.sets.now self.old }
+        requires point { IsCostPoint (length survey.now.problem.now.low) survey.now.point.now }
         requires place { place < length self.old.order }
-        requires tied { AreTied problem.now point.now (member_set_at sets.now (slice_index self.old.order place)).members }
-        requires found { HasDistancesTo problem.now.graph point.now
-            (ends_in problem.now (member_set_at sets.now (slice_index self.old.order place)).members)
-            (dearer_from problem.now point.now (member_set_at sets.now (slice_index self.old.order place)).members) self.old.room }
+        requires tied { AreTied survey.now.problem.now survey.now.point.now (members_seen survey.now self.old place) }
+        requires found { CanCompareSet survey.now (members_seen survey.now self.old place) self.old.room }
         ensures same { self.new ≡ self.old }
         ensures answer { MatchBool result
-            (OutsidersAreDearer problem.now point.now (member_set_at sets.now (slice_index self.old.order place)).members → ⊥)
-            (OutsidersAreDearer problem.now point.now (member_set_at sets.now (slice_index self.old.order place)).members) }
+            (OutsidersAreDearer survey.now.problem.now survey.now.point.now (members_seen survey.now self.old place) → ⊥)
+            (OutsidersAreDearer survey.now.problem.now survey.now.point.now (members_seen survey.now self.old place)) }
     {
+        let problem = survey.problem;
         keeps_conditions(problem);
-        let set = self.set_at(sets, place);
+        let set = self.set_at(survey.sets, place);
         let request = request_in(problem, set);
-        is_undercut(
-            &problem.graph,
+        let outlook = Outlook {
+            graph: &problem.graph,
             request,
-            point,
-            &set.tree,
-            self.costs.as_mut_slice(),
-            &self.room,
-        )
+            point: survey.point,
+        };
+        is_undercut(&outlook, &set.tree, self.costs.as_mut_slice(), &self.room)
+    }
+
+    /// The cheapest outsider of the set at a place of the order, whose members tie, None where each costs at least what they
+    /// and the scale do. The room has the distances that serve the set, and keeps them.
+    fn outsider_at(
+        &mut self,
+        alloc: Global,
+        survey: &SetSurvey<'_>,
+        place: usize,
+    ) -> Result<Option<Listed<u32>>, OutOfMemory>
+        requires asker { IsAskerOfSets survey.now.problem.now survey.now.sets.now self.old }
+        requires point { IsCostPoint (length survey.now.problem.now.low) survey.now.point.now }
+        requires place { place < length self.old.order }
+        requires tied { AreTied survey.now.problem.now survey.now.point.now (members_seen survey.now self.old place) }
+        requires found { CanCompareSet survey.now (members_seen survey.now self.old place) self.old.room }
+        ensures same { self.new ≡ record self.old { room = record self.old.room { path = self.new.room.path } } }
+        ensures outsider { IfOk result
+            (IsOutsiderIfAny survey.now.problem.now survey.now.point.now (members_seen survey.now self.old place)) }
+    {
+        let problem = survey.problem;
+        keeps_conditions(problem);
+        let set = self.set_at(survey.sets, place);
+        let request = request_in(problem, set);
+        let outlook = Outlook {
+            graph: &problem.graph,
+            request,
+            point: survey.point,
+        };
+        let costs = self.costs.as_mut_slice();
+        if !find_outsider_at_hand(&outlook, &set.tree, costs, &mut self.room) {
+            return Ok(None);
+        }
+        let edges = Listed::from_slice(alloc, self.room.path())?;
+        Ok(Some(edges))
     }
 
     /// Whether the members of each set tie, and every other path is dearer by the scale. It ends at the first set of which
@@ -333,14 +342,19 @@ impl SetAsker {
         ensures asker { IsAskerOfSets problem.now sets.now self.new }
         ensures answer { IsTrue result ↔ SharesEach problem.now (sets_in sets.now) point.now }
     {
+        let survey = SetSurvey {
+            problem,
+            sets,
+            point,
+        };
         let mut reach = None;
         for place in 0..self.places() {
             let set = self.set_at(sets, place);
             if !cost_the_same(problem, set.members.as_slice(), point) {
                 return false;
             }
-            let ready = self.prepare(problem, sets, point, place, reach);
-            if self.is_undercut_at(problem, sets, point, place) {
+            let ready = self.prepare(&survey, place, reach);
+            if self.is_undercut_at(&survey, place) {
                 return false;
             }
             reach = Some(ready);
@@ -348,66 +362,39 @@ impl SetAsker {
         true
     }
 
-    /// A mark for each of the sets, whose members tie. Each that isn't marked has no outsider that costs less than the
-    /// members and the scale. Distances are shared as in `each_shares`.
-    pub(crate) fn undercut_sets(
+    /// The cheapest outsider of each of the sets, whose members tie: None of each of which every outsider costs at least what
+    /// the members and the scale do. Distances are shared as in `each_shares`, and an outsider is laid out while they are
+    /// there.
+    ///
+    /// # Errors
+    ///
+    /// `OutOfMemory`.
+    pub(crate) fn cheap_outsiders(
         &mut self,
         alloc: Global,
         problem: &Problem,
         sets: &[MemberSet],
         point: &Point,
-    ) -> Result<Vec<bool>, OutOfMemory>
+    ) -> Result<Vec<Option<Listed<u32>>>, OutOfMemory>
         requires asker { IsAskerOfSets problem.now sets.now self.old }
         requires point { IsCostPoint (length problem.now.low) point.now }
         requires tied { All (λ set. AreTied problem.now point.now set.members) sets.now }
         ensures asker { IsAskerOfSets problem.now sets.now self.new }
-        ensures count { IfOk result (λ marks. length marks.items ≡ length sets.now) }
-        ensures marks { IfOk result (λ marks. (k : ℕ) → slice_index_or marks.items k true ≡ false →
-            OutsidersAreDearer problem.now point.now (member_set_at sets.now k).members) }
+        ensures outsiders { IfOk result (λ outsiders. AreOutsidersIfAny problem.now point.now sets.now outsiders.items) }
     {
-        let mut marks = vec![in alloc; true; sets.len()]?;
+        let survey = SetSurvey {
+            problem,
+            sets,
+            point,
+        };
+        let mut outsiders = nothing_told(alloc, sets.len())?;
         let mut reach = None;
         for place in 0..self.places() {
-            let ready = self.prepare(problem, sets, point, place, reach);
-            let undercut = self.is_undercut_at(problem, sets, point, place);
-            put_mark(marks.as_mut_slice(), self.number_at(place), undercut);
+            let ready = self.prepare(&survey, place, reach);
+            let outsider = self.outsider_at(alloc, &survey, place)?;
+            tell(&mut outsiders, self.number_at(place), outsider);
             reach = Some(ready);
         }
-        Ok(marks)
-    }
-
-    /// Looks for the cheapest outsider of a set whose members tie, and tells whether it costs less than they and the scale.
-    /// Then the path that the asker's room keeps is it.
-    pub(crate) fn find_outsider(
-        &mut self,
-        problem: &Problem,
-        set: &MemberSet,
-        point: &Point,
-    ) -> bool
-        requires room { IsRoomFor problem.now.graph self.old.room }
-        requires point { IsCostPoint (length problem.now.low) point.now }
-        requires ready { HasTreeWithin problem.now self.old.places set.now }
-        requires tied { AreTied problem.now point.now set.now.members }
-        ensures room { IsRoomFor problem.now.graph self.new.room }
-        ensures same { self.new ≡ record self.old { room = self.new.room } }
-        ensures rival { MatchBool result (IsOutsiderTooCheap problem.now point.now set.now.members self.new.room.path)
-            (OutsidersAreDearer problem.now point.now set.now.members) }
-    {
-        keeps_conditions(problem);
-        find_outsider(
-            &problem.graph,
-            request_in(problem, set),
-            point,
-            &set.tree,
-            self.costs.as_mut_slice(),
-            &mut self.room,
-        )
-    }
-
-    /// The edges of the path that the asker's room keeps.
-    pub(crate) fn path(&self) -> &[u32]
-        ensures { result.now ≡ self.now.room.path }
-    {
-        self.room.path()
+        Ok(outsiders)
     }
 }

@@ -1,21 +1,21 @@
 //! The rivals and the ties of a problem's sets, as the source of a search.
-ghost use Rattle.std.specs.Prelude.{◌≡◌, ◌<◌, ◌++◌, ◌∷◌, [], ◌↔◌, ℕ, length, slice_index, slice_index_or, All, Contains};
-ghost use Rattle.std.specs.Prelude.{IfOk, IsTrue, OnErr, OnOk, false, true};
+ghost use Rattle.std.specs.Prelude.{◌≡◌, ◌<◌, ◌++◌, ◌∷◌, [], ◌↔◌, length, slice_index, All, IfOk, IsTrue, OnErr, OnOk};
+ghost use Rattle.area_graph.specs.declared.Point.{Point};
 ghost use Rattle.design_problem.specs.Forms.{AreMet};
 ghost use Rattle.form_search.specs.Sources.{Grows, IsCostPoint};
 ghost use Rattle.spread_sets.specs.declared.spread.SetRow.TheVariants.{Same};
-ghost use Rattle.spread_sets.specs.Spreads.{AreTied, Shares, SharesEach, name_of_set, form_of_set_row, forms_of_set_rows};
+ghost use Rattle.spread_sets.specs.Spreads.{AreTied, SharesEach, name_of_set, form_of_set_row, forms_of_set_rows};
 ghost use Rattle.cost_branching.specs.Rivals.{IsProblemOnGraph};
 ghost use Rattle.spread_sets.specs.MemberSets.{AreMemberSets, HasTree, sets_in};
-ghost use Rattle.spread_sets.specs.Sources.{IsPoolOfSets, IsTrueOfSets, both_ways, set_at, tie_rows, ties_in};
-ghost use Rattle.spread_sets.specs.Asking.{AreAllSetsAsked, IsSetAsked};
+ghost use Rattle.spread_sets.specs.Sources.{IsOutsiderTooCheap, IsPoolOfSets, IsTrueOfSets, both_ways, set_at, tie_rows, ties_in};
+ghost use Rattle.spread_sets.specs.Asking.{AreAllSetsAsked, AreSetAnswers, IsPairIn, IsSetAnswer, IsSetAsked, OneSetRow};
 
 use crate::member_sets::{MemberSet, first_of};
 use crate::row_forms::form_of_tie;
 use crate::set_asker::SetAsker;
 use crate::spread::SetRow;
 use area_graph::Point;
-use cost_base::OutOfMemory;
+use cost_base::{Listed, OutOfMemory};
 use cost_branching::{keeps_conditions, row_of, variable_count};
 use design_problem::{Form, Problem, form_of};
 use form_search::{Asked, FormPool, RowSource};
@@ -39,6 +39,14 @@ impl Begun for Brand {
     ghost problem = { no_problem };
 
     ghost sets = { [] };
+}
+
+/// Two members of the set at a place.
+#[derive(Clone, Copy)]
+pub(crate) struct MemberPair {
+    place: usize,
+    first: u32,
+    second: u32,
 }
 
 /// The source whose accepted points are those at which each set's members cost the same and every other simple path of
@@ -170,42 +178,45 @@ impl<'a, B: Begun> Spreads<'a, B> {
     fn push_tie(
         &mut self,
         alloc: Global,
-        place: usize,
-        first: u32,
-        second: u32,
+        pair: MemberPair,
         pool: &mut FormPool,
     ) -> Result<(), OutOfMemory>
-        requires place { place < length self.old.sets }
-        requires first { Contains (set_at self.old.sets place) first }
-        requires second { Contains (set_at self.old.sets place) second }
-        ensures row { OnOk result (self.new ≡ record self.old { rows = self.old.rows ++ Same (name_of_set (set_at self.old.sets place)) first second ∷ [] }) }
-        ensures form { OnOk result (pool.new ≡ pool.old ++
-            form_of_set_row self.old.problem (Same (name_of_set (set_at self.old.sets place)) first second) ∷ []) }
+        requires { IsPairIn self.old.sets pair }
+        ensures row { OnOk result (self.new ≡ record self.old {
+          rows = self.old.rows ++
+              Same (name_of_set (set_at self.old.sets pair.place)) pair.first pair.second ∷ [];
+        }) }
+        ensures form { OnOk result (pool.new ≡ pool.old ++ form_of_set_row self.old.problem
+            (Same (name_of_set (set_at self.old.sets pair.place)) pair.first pair.second) ∷ []) }
     {
         self.keeps();
-        let name = self.name(place);
-        let form = form_of_tie(alloc, self.problem, first, second)?;
-        self.push_row(SetRow::Same(name, first, second), form, pool)
+        let name = self.name(pair.place);
+        let form = form_of_tie(alloc, self.problem, pair.first, pair.second)?;
+        self.push_row(SetRow::Same(name, pair.first, pair.second), form, pool)
     }
 
     /// Puts the two rows that keep two members of the set at a place at one cost.
     fn push_both(
         &mut self,
         alloc: Global,
-        place: usize,
-        first: u32,
-        second: u32,
+        pair: MemberPair,
         pool: &mut FormPool,
     ) -> Result<(), OutOfMemory>
-        requires place { place < length self.old.sets }
-        requires first { Contains (set_at self.old.sets place) first }
-        requires second { Contains (set_at self.old.sets place) second }
-        ensures rows { OnOk result (self.new ≡ record self.old { rows = self.old.rows ++ both_ways (name_of_set (set_at self.old.sets place)) first second }) }
+        requires { IsPairIn self.old.sets pair }
+        ensures rows { OnOk result (self.new ≡ record self.old {
+          rows = self.old.rows ++
+              both_ways (name_of_set (set_at self.old.sets pair.place)) pair.first pair.second;
+        }) }
         ensures forms { OnOk result (pool.new ≡ pool.old ++ forms_of_set_rows self.old.problem
-            (both_ways (name_of_set (set_at self.old.sets place)) first second)) }
+            (both_ways (name_of_set (set_at self.old.sets pair.place)) pair.first pair.second)) }
     {
-        self.push_tie(alloc, place, first, second, pool)?;
-        self.push_tie(alloc, place, second, first, pool)?;
+        let back = MemberPair {
+            place: pair.place,
+            first: pair.second,
+            second: pair.first,
+        };
+        self.push_tie(alloc, pair, pool)?;
+        self.push_tie(alloc, back, pool)?;
         Ok(())
     }
 
@@ -223,7 +234,12 @@ impl<'a, B: Begun> Spreads<'a, B> {
         for number in 1..self.members(place) {
             let first = self.member(place, number - 1);
             let second = self.member(place, number);
-            self.push_both(alloc, place, first, second, pool)?;
+            let pair = MemberPair {
+                place,
+                first,
+                second,
+            };
+            self.push_both(alloc, pair, pool)?;
         }
         Ok(())
     }
@@ -241,72 +257,72 @@ impl<'a, B: Begun> Spreads<'a, B> {
         Ok(())
     }
 
-    /// Asks for the cheapest rival of the set at a place, whose members tie. Where it costs less than they and the scale it
-    /// becomes a row.
-    fn ask_one(
+    /// Puts the row of an outsider of the set at a place that is too cheap at some point.
+    fn push_rival(
         &mut self,
         alloc: Global,
         place: usize,
-        point: &Point,
+        edges: &[u32],
         pool: &mut FormPool,
-    ) -> Result<bool, OutOfMemory>
-        requires point { IsCostPoint (length self.old.problem.low) point.now }
+    ) -> Result<(), OutOfMemory>
         requires place { place < length self.old.sets }
-        requires tied { AreTied self.old.problem point.now (set_at self.old.sets place) }
-        ensures one { IfOk result (IsSetAsked point.now place self.old pool.old self.new pool.new) }
+        requires cheap { (point : Point) × IsOutsiderTooCheap self.old.problem point (set_at self.old.sets place) edges.now }
+        ensures one { IfOk result (λ _. (point : Point) →
+            IsOutsiderTooCheap self.old.problem point (set_at self.old.sets place) edges.now →
+            OneSetRow point place self.old pool.old self.new pool.new) }
         ensures same_rows { OnErr result (self.new ≡ self.old) }
         ensures same_forms { OnErr result (pool.new ≡ pool.old) }
     {
         self.keeps();
-        let set = &self.sets[place];
-        if !self.asker.find_outsider(self.problem, set, point) {
-            return Ok(false);
-        }
-        let name = first_of(set.members.as_slice());
-        let row = row_of(alloc, name, self.asker.path())?;
+        let name = self.name(place);
+        let row = row_of(alloc, name, edges)?;
         let form = form_of(alloc, self.problem, &row)?;
         self.push_row(SetRow::Rival(row.request, row.rival), form, pool)?;
-        Ok(true)
+        Ok(())
     }
 
-    /// A mark for each set, where the members of each tie. Each set that isn't marked shares.
-    fn undercut_sets(&mut self, alloc: Global, point: &Point) -> Result<Vec<bool>, OutOfMemory>
-        requires point { IsCostPoint (length self.old.problem.low) point.now }
-        requires tied { All (AreTied self.old.problem point.now) self.old.sets }
-        ensures same { self.new ≡ self.old }
-        ensures count { IfOk result (λ marks. length marks.items ≡ length self.old.sets) }
-        ensures marks { IfOk result (λ marks. (k : ℕ) → k < length self.old.sets → slice_index_or marks.items k true ≡ false →
-            Shares self.old.problem point.now (set_at self.old.sets k)) }
-    {
-        self.asker
-            .undercut_sets(alloc, self.problem, &self.sets, point)
-    }
-
-    /// Asks for the cheapest rival of the set at a place, whose members tie, where it is marked; else it shares.
-    fn ask_marked(
+    /// Puts the row of the outsider that was found for the set at a place, if one was, and tells whether.
+    fn take_outsider(
         &mut self,
         alloc: Global,
         place: usize,
-        marked: bool,
-        point: &Point,
+        outsider: &Option<Listed<u32>>,
         pool: &mut FormPool,
     ) -> Result<bool, OutOfMemory>
-        requires point { IsCostPoint (length self.old.problem.low) point.now }
         requires place { place < length self.old.sets }
-        requires tied { AreTied self.old.problem point.now (set_at self.old.sets place) }
-        requires marked { marked ≡ false → Shares self.old.problem point.now (set_at self.old.sets place) }
-        ensures one { IfOk result (IsSetAsked point.now place self.old pool.old self.new pool.new) }
+        requires told { (point : Point) × IsSetAnswer self.old.problem point (set_at self.old.sets place) outsider.now }
+        ensures one { IfOk result (λ added. (point : Point) →
+            IsSetAnswer self.old.problem point (set_at self.old.sets place) outsider.now →
+            IsSetAsked point place self.old pool.old self.new pool.new added) }
         ensures same_rows { OnErr result (self.new ≡ self.old) }
         ensures same_forms { OnErr result (pool.new ≡ pool.old) }
     {
-        if !marked {
-            return Ok(false);
+        match outsider {
+            Some(edges) => {
+                self.push_rival(alloc, place, edges.as_slice(), pool)?;
+                Ok(true)
+            }
+            None => Ok(false),
         }
-        self.ask_one(alloc, place, point, pool)
+    }
+
+    /// The cheapest outsider of each set, where the members of each tie, None of each that shares.
+    fn cheap_outsiders(
+        &mut self,
+        alloc: Global,
+        point: &Point,
+    ) -> Result<Vec<Option<Listed<u32>>>, OutOfMemory>
+        requires point { IsCostPoint (length self.old.problem.low) point.now }
+        requires tied { All (AreTied self.old.problem point.now) self.old.sets }
+        ensures same { self.new ≡ self.old }
+        ensures told { IfOk result (λ outsiders. AreSetAnswers self.old.problem point.now self.old.sets outsiders.items) }
+    {
+        self.asker
+            .cheap_outsiders(alloc, self.problem, &self.sets, point)
     }
 
     /// Asks each set in order for its cheapest rival. Each that costs less than the members and the scale becomes a row. Sets
-    /// whose requests have one end and take away the same edges share the distances that tell which have such a rival.
+    /// whose requests have one end and take away the same edges share the distances by which it is found.
     fn ask_each(
         &mut self,
         alloc: Global,
@@ -322,10 +338,10 @@ impl<'a, B: Begun> Spreads<'a, B> {
         ensures sets { self.new.sets ≡ self.old.sets }
     {
         self.keeps();
-        let undercut = self.undercut_sets(alloc, point)?;
+        let outsiders = self.cheap_outsiders(alloc, point)?;
         let mut asked = Asked::Nothing;
         for place in 0..self.count() {
-            if self.ask_marked(alloc, place, undercut[place], point, pool)? {
+            if self.take_outsider(alloc, place, &outsiders[place], pool)? {
                 asked = Asked::Added;
             }
         }

@@ -15,20 +15,24 @@ loop-target-init c =
     let kept = length-set (replicate n limit) t 0 in
     let within : t < n = let target = c.requires.target in let count = c.requires.count in omega arith in
     record {
-      count = subst (λ (d : List ℕ). length (set d t 0) ≡ length c.args.graph.now.vertices) (sym filled) (kept ∙ size ∙ c.requires.count);
-      bounded = subst (λ (d : List ℕ). All (λ x. x ≤ far c.args.point.now) (set d t 0)) (sym filled)
-          (All-set (λ x. x ≤ far c.args.point.now) (replicate n limit) t 0 (omega arith)
-          (All-replicate (λ x. x ≤ far c.args.point.now) n limit c.requires.limit));
-      reached = subst (λ (d : List ℕ). AreReached c.args.graph.now c.args.point.now c.args.removal.now t limit (set d t 0)) (sym filled)
-          (reached_none c.args.graph.now c.args.point.now c.args.removal.now t limit n within);
+      numbers = record {
+        count = subst (λ (d : List ℕ). length (set d t 0) ≡ length c.args.subgraph.now.graph.now.vertices) (sym filled) (kept ∙ size ∙ c.requires.count);
+        bounded = subst (λ (d : List ℕ). All (λ x. x ≤ far c.args.subgraph.now.point.now) (set d t 0)) (sym filled)
+            (All-set (λ x. x ≤ far c.args.subgraph.now.point.now) (replicate n limit) t 0 (omega arith)
+            (All-replicate (λ x. x ≤ far c.args.subgraph.now.point.now) n limit c.requires.limit));
+      };
+      reached = subst (λ (d : List ℕ). AreReached c.args.subgraph.now.graph.now c.args.subgraph.now.point.now c.args.subgraph.now.removal.now t limit (set d t 0)) (sym filled)
+          (reached_none c.args.subgraph.now.graph.now c.args.subgraph.now.point.now c.args.subgraph.now.removal.now t limit n within);
     }
 
 pub loop-target-preserved : goal.loop-target-preserved
 loop-target-preserved c = record {
-  count = c.pass.ensures.count ∙ c.loop-target.invariant.count;
-  bounded = c.pass.ensures.bounded;
+  numbers = c.pass.ensures.numbers;
   reached = c.pass.ensures.reached c.args.target c.args.limit c.loop-target.invariant.reached;
 }
 
-pub returns-then-not-pass-clause-reached : goal.returns-then-not-pass-clause-reached
-returns-then-not-pass-clause-reached c = c.pass.ensures.reached c.args.target c.args.limit c.loop-target.invariant.reached
+pub returns-then-not-pass-clause-distances : goal.returns-then-not-pass-clause-distances
+returns-then-not-pass-clause-distances c = record {
+  reached = c.pass.ensures.reached c.args.target c.args.limit c.loop-target.invariant.reached;
+  settled = c.pass.ensures.settled c.if-not-pass.true;
+}

@@ -5,4 +5,4 @@ use Rattle.network_cases.proofs.outsiders.all_tie.Given as goal
 
 -- the first paths tie
 abbrev pub invariant-loop-path : goal.invariant-loop-path
-invariant-loop-path l = All (TiesWith l.graph l.point l.request) (take l.path-index l.others)
+invariant-loop-path l = All (TiesWith l.outlook.graph.now l.outlook.point.now l.outlook.request.now) (take l.path-index l.others)

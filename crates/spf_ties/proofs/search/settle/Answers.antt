@@ -8,19 +8,19 @@ use Rattle.spf_ties.proofs.search.settle.Goals as goal
 
 pub look-requires-clause-known : goal.look-requires-clause-known
 look-requires-clause-known c =
-    subst (λ (es : List ℕ). All (λ e. e < length c.args.graph.now.edges) es) (sym c.edges_in-number-items.ensures)
-    (in_known c.args.graph.now c.args.vertex) c.loop-number.number-index 0 c.loop-number-test.true
+    subst (λ (es : List ℕ). All (λ e. e < length c.args.subgraph.now.graph.now.edges) es) (sym c.edges_in-number-items.ensures)
+    (in_known c.args.subgraph.now.graph.now c.args.vertex) c.loop-number.number-index 0 c.loop-number-test.true
 
 pub look-requires-clause-room : goal.look-requires-clause-room
 look-requires-clause-room c =
     let within : c.args.vertex < length c.args.front.now.settled.items = let known = c.requires.vertex in let marks = c.requires.front.marks in omega arith in
-    let taken = open_settled c.args.graph.now c.args.front.now.settled.items c.args.vertex within c.requires.waited in
+    let taken = open_settled c.args.subgraph.now.graph.now c.args.front.now.settled.items c.args.vertex within c.requires.waited in
     let count = ap (λ (es : List ℕ). length es) c.edges_in-number-items.ensures in
     omega arith
 
 pub loop-number-preserved : goal.loop-number-preserved
 loop-number-preserved c =
-    let g = c.args.graph.now in
+    let g = c.args.subgraph.now.graph.now in
     let es = edges_in g c.args.vertex in
     let i = c.loop-number.number-index in
     let here : i < length es = subst (λ (xs : List ℕ). i < length xs) c.edges_in-number-items.ensures c.loop-number-test.true in
@@ -30,31 +30,31 @@ loop-number-preserved c =
     record {
       front = c.look.ensures.front;
       settled = c.look.ensures.settled ∙ c.loop-number.invariant.settled;
-      places = let before = c.loop-number.invariant.places in let after = c.look.ensures.places in omega arith;
-      count = let before = c.loop-number.invariant.count in let after = c.look.ensures.one in omega arith;
+      places = let before = c.loop-number.invariant.places in let after = c.look.ensures.waiting.places in omega arith;
+      count = let before = c.loop-number.invariant.count in let after = c.look.ensures.waiting.one in omega arith;
       underway = λ t limit least under. c.look.ensures.underway t limit least (drop (i + 1) es)
-          (subst (λ (xs : List ℕ). Underway g c.args.point.now c.args.removal.now t limit least xs
+          (subst (λ (xs : List ℕ). Underway g c.args.subgraph.now.point.now c.args.subgraph.now.removal.now t limit least xs
           c.loop-number.front.numbers.items c.loop-number.front.settled.items
           c.loop-number.front.waiting.entries) split
           (c.loop-number.invariant.underway t limit least under));
     }
 
-pub returns-clause-fewer : goal.returns-clause-fewer
-returns-clause-fewer c =
+pub returns-clause-waiting : goal.returns-clause-waiting
+returns-clause-waiting c =
     let within : c.args.vertex < length c.args.front.now.settled.items = let known = c.requires.vertex in let marks = c.requires.front.marks in omega arith in
-    let taken = open_settled c.args.graph.now c.args.front.now.settled.items c.args.vertex within c.requires.waited in
-    let same = ap (λ (xs : List Bool). open_edges c.args.graph.now xs) c.loop-number.invariant.settled in
+    let taken = open_settled c.args.subgraph.now.graph.now c.args.front.now.settled.items c.args.vertex within c.requires.waited in
+    let same = ap (λ (xs : List Bool). open_edges c.args.subgraph.now.graph.now xs) c.loop-number.invariant.settled in
     let count = ap (λ (es : List ℕ). length es) c.edges_in-number-items.ensures in
     let most = c.loop-number.auto.number-index-end in
     let held = c.loop-number.invariant.count in
-    omega arith
+    record { places = c.loop-number.invariant.places; fewer = omega arith }
 
 pub returns-clause-underway : goal.returns-clause-underway
 returns-clause-underway c = λ t limit least under.
-    let es = edges_in c.args.graph.now c.args.vertex in
+    let es = edges_in c.args.subgraph.now.graph.now c.args.vertex in
     let past : length es ≤ c.loop-number.number-index =
     subst (λ (xs : List ℕ). length xs ≤ c.loop-number.number-index) c.edges_in-number-items.ensures
     c.loop-number-test.false in
-    subst (λ (xs : List ℕ). Underway c.args.graph.now c.args.point.now c.args.removal.now t limit least xs
+    subst (λ (xs : List ℕ). Underway c.args.subgraph.now.graph.now c.args.subgraph.now.point.now c.args.subgraph.now.removal.now t limit least xs
     c.loop-number.front.numbers.items c.loop-number.front.settled.items c.loop-number.front.waiting.entries)
     (drop_of_length-le es past) (c.loop-number.invariant.underway t limit least under)

@@ -5,13 +5,13 @@ use Rattle.spf_ties.proofs.search.settle.Given as goal
 
 abbrev pub invariant-loop-number : goal.invariant-loop-number
 invariant-loop-number l = record {
-  front : AreSearchNumbers l.graph l.point l.front.numbers.items l.front.settled.items;
+  front : AreSearchNumbers l.subgraph.graph.now l.subgraph.point.now l.front.numbers.items l.front.settled.items;
   settled : l.front.settled.items ≡ l.initial.front.settled.items;
   places : l.initial.front.waiting.places ≤ l.front.waiting.places;
   count : length l.front.waiting.entries ≤ length l.initial.front.waiting.entries + l.number-index;
   underway : (t limit least : ℕ) →
-      Underway l.graph l.point l.removal t limit least (edges_in l.graph l.vertex) l.initial.front.numbers.items
+      Underway l.subgraph.graph.now l.subgraph.point.now l.subgraph.removal.now t limit least (edges_in l.subgraph.graph.now l.vertex) l.initial.front.numbers.items
       l.initial.front.settled.items l.initial.front.waiting.entries →
-      Underway l.graph l.point l.removal t limit least (drop l.number-index (edges_in l.graph l.vertex))
+      Underway l.subgraph.graph.now l.subgraph.point.now l.subgraph.removal.now t limit least (drop l.number-index (edges_in l.subgraph.graph.now l.vertex))
       l.front.numbers.items l.front.settled.items l.front.waiting.entries;
 }

@@ -1,10 +1,10 @@
 use Rattle.std.proofs.Common.{rules, ◌≡◌, ◌<◌, ◌∙◌, ℕ, refl, sym, ap, subst, List, length, slice_index, arith, false}
 use Rattle.std.specs.Prelude.{IsTrue}
 use Rattle.spread_sets.specs.declared.member_sets.MemberSet.{MemberSet}
-use Rattle.spread_sets.specs.SetAskers.{IsAskerOfSets, ReachesSet, SetAsking, member_set_at}
+use Rattle.spread_sets.specs.SetAskers.{IsAskerOfSets, SetAsking, member_set_at}
 use Rattle.spread_sets.specs.Sources.{OutsidersAreDearer}
 use Rattle.spread_sets.specs.Spreads.{AreTied, Shares}
-use Rattle.spread_sets.proofs.SetAskerLaws.{more_shares, one_shares_not, order_shares}
+use Rattle.spread_sets.proofs.SetAskerLaws.{reach_stays, more_shares, one_shares_not, order_shares}
 use Rattle.spread_sets.proofs.set_asker.SetAsker.each_shares.Goals as goal
 
 pub returns-then-not-cost_the_same-clause-answer : goal.returns-then-not-cost_the_same-clause-answer
@@ -57,7 +57,7 @@ loop-place-preserved c =
     record {
       asker = subst (IsAskerOfSets p sets) (sym c.is_undercut_at.ensures.same) c.prepare-ready.ensures.asker;
       order = ap (λ (a : SetAsking). a.order) c.is_undercut_at.ensures.same ∙ same;
-      reach = subst (λ (a : SetAsking). ReachesSet p point sets a.room c.prepare-ready.result) (sym c.is_undercut_at.ensures.same)
+      reach = reach_stays _ c.prepare-ready.new.self c.is_undercut_at.new.self c.prepare-ready.result c.is_undercut_at.ensures.same
           c.prepare-ready.ensures.ready.reaches;
       shares = more_shares p point sets order place is.shares (record {
         tied = subst (λ (m : MemberSet). AreTied p point m.members) here tied;

@@ -8,6 +8,6 @@ abbrev pub invariant-loop-place : goal.invariant-loop-place
 invariant-loop-place l = record {
   asker : IsAskerOfSets l.problem l.sets l.self;
   order : l.self.order ≡ l.fn.self.order;
-  reach : MayReach l.problem l.point l.sets l.self.room l.reach;
+  reach : MayReach l.survey l.self.room l.reach;
   shares : (i : ℕ) → i < l.place → Shares l.problem l.point (member_set_at l.sets (slice_index l.fn.self.order i)).members;
 }

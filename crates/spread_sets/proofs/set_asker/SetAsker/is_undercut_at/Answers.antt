@@ -13,33 +13,33 @@ use Rattle.spread_sets.proofs.set_asker.SetAsker.is_undercut_at.Goals as goal
 
 -- the set at the place
 abbrev set : After-request_in-request → MemberSet
-set c = member_set_at c.args.sets.now (slice_index c.args.self.now.order c.args.place)
+set c = member_set_at c.args.survey.now.sets.now (slice_index c.args.self.now.order c.args.place)
 
-request : (c : After-request_in-request) → c.request_in-request.result.now ≡ request_at c.args.problem.now.paths (name_of_set (set c).members)
-request c = c.request_in-request.ensures ∙ ap (λ (m : MemberSet). request_at c.args.problem.now.paths (name_of_set m.members)) c.set_at-set.ensures
+request : (c : After-request_in-request) → c.request_in-request.result.now ≡ request_at c.args.survey.now.problem.now.paths (name_of_set (set c).members)
+request c = c.request_in-request.ensures ∙ ap (λ (m : MemberSet). request_at c.args.survey.now.problem.now.paths (name_of_set m.members)) c.set_at-set.ensures
 
 -- its tree, under the names by which code has read the graph and the request
-tree : (c : After-request_in-request) (g : Area) → g ≡ c.args.problem.now.graph →
-    IsTiedTree g c.args.point.now (request_ends c.request_in-request.result.now) (cost g c.args.point.now c.request_in-request.result.now.path.edges)
-    (paths_of c.args.problem.now (set c).members) c.set_at-set.result.now.tree
+tree : (c : After-request_in-request) (g : Area) → g ≡ c.args.survey.now.problem.now.graph →
+    IsTiedTree g c.args.survey.now.point.now (request_ends c.request_in-request.result.now) (cost g c.args.survey.now.point.now c.request_in-request.result.now.path.edges)
+    (paths_of c.args.survey.now.problem.now (set c).members) c.set_at-set.result.now.tree
 tree c g graph =
     let k = slice_index c.args.self.now.order c.args.place in
     let ready = c.requires.asker.trees k no_member_set (c.requires.asker.known c.args.place 0 c.requires.place) in
-    subst (λ (m : MemberSet). IsTiedTree g c.args.point.now (request_ends c.request_in-request.result.now)
-    (cost g c.args.point.now c.request_in-request.result.now.path.edges) (paths_of c.args.problem.now (set c).members) m.tree)
+    subst (λ (m : MemberSet). IsTiedTree g c.args.survey.now.point.now (request_ends c.request_in-request.result.now)
+    (cost g c.args.survey.now.point.now c.request_in-request.result.now.path.edges) (paths_of c.args.survey.now.problem.now (set c).members) m.tree)
     (sym c.set_at-set.ensures)
-    (tree_as c.args.problem.now c.args.point.now (set c) g c.request_in-request.result.now c.keeps_conditions.ensures.problem
+    (tree_as c.args.survey.now.problem.now c.args.survey.now.point.now (set c) g c.request_in-request.result.now c.keeps_conditions.ensures.problem
     ready.has_tree c.requires.tied graph (request c))
 
 pub is_undercut-requires-clause-tree : goal.is_undercut-requires-clause-tree
 is_undercut-requires-clause-tree c =
     let at = (goal.at.is_undercut-requires-clause-tree c).After-request_in-request in
-    (paths_of c.args.problem.now (set at).members, tree at c.problem.inside.graph (ap (λ (q : DesignProblem). q.graph) c.problem.view_is))
+    (paths_of c.args.survey.now.problem.now (set at).members, tree at c.problem.inside.graph (ap (λ (q : DesignProblem). q.graph) c.problem.view_is))
 
 pub returns-clause-answer : goal.returns-clause-answer
 returns-clause-answer c =
     let at = (goal.at.returns-clause-answer c).After-request_in-request in
     let g = c.problem.inside.graph in
     let graph = ap (λ (q : DesignProblem). q.graph) c.problem.view_is in
-    undercut_as c.args.problem.now c.args.point.now (set at).members c.is_undercut.result g c.request_in-request.result.now graph
-    (request at) (c.is_undercut.ensures.outsider (paths_of c.args.problem.now (set at).members) (tree at g graph))
+    undercut_as c.args.survey.now.problem.now c.args.survey.now.point.now (set at).members c.is_undercut.result g c.request_in-request.result.now graph
+    (request at) (c.is_undercut.ensures.outsider (paths_of c.args.survey.now.problem.now (set at).members) (tree at g graph))

@@ -8,8 +8,8 @@ use Rattle.spread_sets.proofs.source.Spreads.push_both.Goals as goal
 pub returns-clause-forms : goal.returns-clause-forms
 returns-clause-forms g c =
     let p = c.args.self.now.problem in
-    let first = c.args.first in
-    let second = c.args.second in
+    let first = c.args.pair.first in
+    let second = c.args.pair.second in
     let one = form_of_tie p.graph (length p.low) (edges_of p first) (edges_of p second) in
     let other = form_of_tie p.graph (length p.low) (edges_of p second) (edges_of p first) in
     c.in_ok-push_tie-2.ensures.form
