@@ -96,6 +96,11 @@ longer_of xs ys = if nat_lt (length xs) (length ys) then ys else xs
 abbrev pub last_steps : HeldRollout → List ℕ
 last_steps p = filter (λ k. comes_last (kind_of_step p.rollout p.held k)) (numbers_from 0 (step_count p.rollout))
 
+-- what is in the way of a step that isn't done in a state
+pub record IsStepBlocked (p : HeldRollout) (tested : List (List Bool)) (marks : List Bool) (step : ℕ) (blocked : Blocked) : Type 0 where
+  pub step_is : blocked.step ≡ step
+  pub barrier : IsBarrier p.rollout p.held tested (slice_set marks step true) blocked.by
+
 -- what is in the way of the steps between that aren't done in a state, in order
 pub record AreBlockedIn (p : HeldRollout) (tested : List (List Bool)) (marks : List Bool) (blocked : List Blocked) : Type 0 where
   pub steps : map (λ b. b.step) blocked ≡

@@ -5,7 +5,7 @@ ghost use Rattle.change_steps.specs.Rollouts.{step_count};
 ghost use Rattle.change_steps.specs.Orders.{IsSafe};
 ghost use Rattle.change_steps.specs.States.{MayFollow, is_done_in};
 ghost use Rattle.change_steps.specs.Outcomes.{IsBarrier, IsOutcome, IsSearchEnd};
-ghost use Rattle.change_steps.specs.Search.{AreBlockedIn, IsStateOf, last_steps, order_behind_first as way_of};
+ghost use Rattle.change_steps.specs.Search.{AreBlockedIn, IsStateOf, IsStepBlocked, last_steps, order_behind_first as way_of};
 ghost use Rattle.change_steps.specs.Walks.{IsEnded, IsSearchWalk};
 
 use crate::found::{Barrier, Blocked, Outcome, Stuck};
@@ -70,8 +70,7 @@ fn blocked_by(
     ensures room { IsRoomFor plan.now.rollout.graph room.new }
     ensures state { IsStateOf plan.now.rollout state.new }
     ensures done { state.new.done.items ≡ state.old.done.items }
-    ensures step { result.step ≡ step }
-    ensures barrier { IsBarrier plan.now.rollout plan.now.held tested.now (slice_set state.old.done.items step true) result.by }
+    ensures blocked { IsStepBlocked plan.now tested.now state.old.done.items step result }
 {
     state.do_step(plan.scene(), step);
     let by = barrier_of(plan, tested, room, state);

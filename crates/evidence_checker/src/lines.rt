@@ -26,20 +26,29 @@ fn is_smaller(costs: &CostBox, var: usize, side: Side, value: u16) -> bool
     }
 }
 
-/// Whether a Tighten is a sound step at the box.
-fn tightens(forms: &[Form], costs: &CostBox, var: u32, side: Side, value: u16, row: u64) -> bool
+/// What a Tighten makes a variable's range smaller by.
+#[derive(Clone, Copy)]
+struct NewBound {
+    var: u32,
+    /// Which end of the range it is.
+    side: Side,
+    value: u16,
+}
+
+/// Whether a Tighten by a row is a sound step at the box.
+fn tightens(forms: &[Form], costs: &CostBox, bound: NewBound, row: u64) -> bool
     requires high { length costs.now.low ≡ length costs.now.high }
     requires forms { All (IsSmallForm (length costs.now.low)) forms.now }
-    ensures { IsTrue result ↔ TightensAt forms.now costs.now side var value row }
+    ensures { IsTrue result ↔ TightensAt forms.now costs.now bound.side bound.var bound.value row }
 {
-    if costs.low.as_slice().len() <= var as usize || forms.len() <= row as usize {
+    if costs.low.as_slice().len() <= bound.var as usize || forms.len() <= row as usize {
         return false;
     }
-    if !is_smaller(costs, var as usize, side, value) {
+    if !is_smaller(costs, bound.var as usize, bound.side, bound.value) {
         return false;
     }
     let form = &forms[row as usize];
-    greatest_removed(form, costs, side, var, value) < 0
+    greatest_removed(form, costs, bound.side, bound.var, bound.value) < 0
 }
 
 /// Whether a Split or a Halve cuts its variable's range in two.
@@ -99,7 +108,16 @@ pub(crate) fn line_fault(
             side,
             value,
             row,
-        } => tightens(forms, costs, *var, *side, *value, *row),
+        } => tightens(
+            forms,
+            costs,
+            NewBound {
+                var: *var,
+                side: *side,
+                value: *value,
+            },
+            *row,
+        ),
         Entry::Split { var, value } => cuts(costs, *var as usize, *value),
         Entry::Halve { var, value, .. } => cuts(costs, *var as usize, *value),
         Entry::Refute { parts } => return refute_fault(forms, parts.as_slice(), costs, sums),

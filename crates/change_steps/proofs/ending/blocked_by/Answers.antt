@@ -1,4 +1,5 @@
-use Rattle.std.proofs.Common.{◌∙◌, List, Bool, ap, false, set}
+use Rattle.std.proofs.Common.{◌∙◌, List, Bool, ap, false, refl, set, subst}
+use Rattle.change_steps.specs.Outcomes.{IsBarrier}
 use Rattle.change_steps.proofs.WalkLaws.{toggled}
 use Rattle.change_steps.proofs.ending.blocked_by.Goals as goal
 
@@ -6,3 +7,10 @@ pub returns-clause-done : goal.returns-clause-done
 returns-clause-done c =
     c.undo_step.ensures.undone ∙ ap (λ (m : List Bool). set m c.args.step false) c.do_step.ensures.done
     ∙ toggled c.args.state.now.done.items c.args.step c.requires.follows.left
+
+pub returns-clause-blocked : goal.returns-clause-blocked
+returns-clause-blocked c = record {
+  step_is = refl;
+  barrier = subst (λ (m : List Bool). IsBarrier c.args.plan.now.rollout c.args.plan.now.held c.args.tested.now m c.barrier_of-by.result)
+      c.do_step.ensures.done c.barrier_of-by.ensures.barrier;
+}

@@ -27,13 +27,13 @@ loop-step-preserved c =
             state = subst (λ (s : State). IsStateOf p.rollout s) (sym w.state-is) w.blocked_by.ensures.state;
             done = ap (λ (s : State). s.done.items) w.state-is ∙ w.blocked_by.ensures.done ∙ c.loop-step.invariant.done;
             steps = blocked_step marks p c.loop-step.blocked.items c.if-may_follow.blocked.items w.blocked_by.result step (sym tested ∙ w.if-may_follow.true)
-                w.blocked_by.ensures.step pushed c.loop-step.invariant.steps;
+                w.blocked_by.ensures.blocked.step_is pushed c.loop-step.invariant.steps;
             each = subst (λ (xs : List Blocked). All (λ b. IsBarrier p.rollout p.held c.args.tested.now (set marks b.step true) b.by) xs) (sym pushed)
                 (All-push (λ b. IsBarrier p.rollout p.held c.args.tested.now (set marks b.step true) b.by) c.loop-step.blocked.items w.blocked_by.result
                 c.loop-step.invariant.each
-                (subst (λ (k : ℕ). IsBarrier p.rollout p.held c.args.tested.now (set marks k true) w.blocked_by.result.by) (sym w.blocked_by.ensures.step)
+                (subst (λ (k : ℕ). IsBarrier p.rollout p.held c.args.tested.now (set marks k true) w.blocked_by.result.by) (sym w.blocked_by.ensures.blocked.step_is)
                 (subst (λ (m : List Bool). IsBarrier p.rollout p.held c.args.tested.now (set m step true) w.blocked_by.result.by) c.loop-step.invariant.done
-                w.blocked_by.ensures.barrier)));
+                w.blocked_by.ensures.blocked.barrier)));
           }
       | else-may_follow w ↦
           let same = ap (λ (v : Vec Blocked Global). v.items) w.blocked-is in
