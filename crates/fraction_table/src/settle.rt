@@ -107,7 +107,7 @@ impl Table {
     }
 
     /// One step towards the answer: the answer, where the lines show it, and else a pivot at the pivot form's line.
-    fn advance(&mut self) -> Result<Option<Solved>, Wide>
+    pub fn advance(&mut self) -> Result<Option<Solved>, Wide>
         requires whole { IsTableau self.old }
         requires room { HasRoom self.old }
         ensures whole { OnOk result (IsTableau self.new) }
