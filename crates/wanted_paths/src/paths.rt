@@ -8,12 +8,12 @@ ghost use Rattle.wanted_paths.specs.LineFaults.{is_router_part, walk_faults, wit
 ghost use Rattle.wanted_paths.specs.Paths.{outline};
 ghost use Rattle.wanted_paths.specs.Walks.{IsWalk};
 
+use crate::ResolutionFault;
 use crate::names::Names;
 use crate::parts::{has_marked, has_router, marked, taken_by};
 use crate::routes::{Walk, next_name, resolve_walk};
-use crate::{ResolutionFault, ResolutionStop};
 use area_graph::{Graph, mark_excluded};
-use cost_base::Listed;
+use cost_base::{Listed, Refusal};
 use design_problem::Request;
 use request_reader::{Hops, Part};
 use std::alloc::Global;
@@ -38,7 +38,7 @@ fn resolve_without(
     route: &Hops,
     walk: &Walk,
     parts: &[Part],
-) -> Result<Vec<u32>, ResolutionStop>
+) -> Result<Vec<u32>, Refusal<ResolutionFault, ()>>
     requires graph { graph.now ≡ outline names.now }
     requires marks { length marks.old.items ≡ length graph.now.edges }
     requires walk { IsWalk names.now route.now walk.now }
@@ -53,7 +53,10 @@ fn resolve_without(
     let taken = taken_by(alloc, names, graph, line, parts)?;
     mark_excluded(marks, &taken);
     if is_excluded(route, walk, parts, marks) {
-        return Err(ResolutionStop::Refused(ResolutionFault::PathExcluded { line }));
+        return Err(Refusal::Refused {
+            fault: ResolutionFault::PathExcluded { line },
+            place: (),
+        });
     }
     Ok(marked(alloc, marks)?)
 }
@@ -68,7 +71,7 @@ pub fn resolve_path(
     line: u32,
     route: &Hops,
     parts: &[Part],
-) -> Result<Request, ResolutionStop>
+) -> Result<Request, Refusal<ResolutionFault, ()>>
     requires graph { graph.now ≡ outline names.now }
     requires marks { length marks.old.items ≡ length graph.now.edges }
     ensures made { IfOk result (λ request. (path_faults names.now line route.now parts.now ≡ []) ×

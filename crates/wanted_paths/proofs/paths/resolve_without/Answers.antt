@@ -7,7 +7,7 @@ use Rattle.wanted_paths.specs.LineFaults.{fault_unless, is_router_part}
 use Rattle.wanted_paths.specs.Paths.{outline}
 use Rattle.wanted_paths.proofs.Withouts.{excluded_marks, without_faults_are}
 use Rattle.wanted_paths.proofs.TakenEdges.{marked_are}
-use Rattle.wanted_paths.specs.declared.stop.ResolutionFault.TheVariants.{PathExcluded}
+use Rattle.wanted_paths.specs.declared.fault.ResolutionFault.TheVariants.{PathExcluded}
 use Rattle.wanted_paths.proofs.paths.resolve_without.Goals as goal
 
 pub returns-then-is_excluded-clause-refused : goal.returns-then-is_excluded-clause-refused
