@@ -1,26 +1,26 @@
 //! Whole texts of answers, read and put.
 
-use cost_base::{MemorySink, OutOfMemory, PutFailed};
+use cost_base::{Fault, MemorySink, OutOfMemory, PutFailed, Refusal};
 use design_problem::Answer;
-use evidence_reader::{AnswerStop, read_answer};
+use evidence_reader::{AnswerFault, read_answer};
 use evidence_text::{TreePart, put_answer, put_costs, put_rows, put_tree};
 use std::alloc::{AllocError, Global};
 
 /// The answer of a text of at most 100,000 bytes.
-fn read_short(alloc: Global, text: &[u8]) -> Result<Answer, AnswerStop> {
+fn read_short(alloc: Global, text: &[u8]) -> Result<Answer, Refusal<AnswerFault>> {
     if text.len() > 100_000 {
-        return Err(AnswerStop::OutOfMemory);
+        return Err(Refusal::OutOfMemory);
     }
     read_answer(alloc, text)
 }
 
 /// Why a text wasn't read.
-fn stop_text(alloc: Global, stop: AnswerStop) -> Result<String, AllocError> {
+fn stop_text(alloc: Global, stop: Refusal<AnswerFault>) -> Result<String, AllocError> {
     match stop {
-        AnswerStop::Refused { fault, line } => {
-            format!(in alloc; ": refused {} at line {line}", fault.number())
+        Refusal::Refused { fault, place } => {
+            format!(in alloc; ": refused {} at line {place}", fault.number())
         }
-        AnswerStop::OutOfMemory => Err(AllocError),
+        Refusal::OutOfMemory => Err(AllocError),
     }
 }
 

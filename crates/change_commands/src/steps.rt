@@ -17,9 +17,9 @@ use crate::plan::{moves_to, wanted_costs};
 use crate::step_text::text_of_steps;
 use change_steps::{Moves, Outcome, find_steps};
 use command_words::StepUnit;
-use cost_base::{Listed, OutOfMemory, Shelf, Status};
+use cost_base::{Fault, Listed, OutOfMemory, Refusal, Shelf, Status};
 use design_problem::{CostLine, Problem, Request};
-use evidence_reader::AnswerStop;
+use evidence_reader::AnswerFault;
 use input_files::{FileWords, Network, Stop, View, read_answer_file, read_network};
 use present_costs::{costs_of_links, priced_by_links};
 use report_writer::{Rejection, Report, rejected_line_of};
@@ -74,19 +74,19 @@ fn report_of_rejection(alloc: Global, rejection: Rejection) -> Result<Report, Ou
 }
 
 /// The report of a text that is off its grammar.
-fn report_of_stop(alloc: Global, stop: AnswerStop) -> Result<Report, OutOfMemory>
+fn report_of_stop(alloc: Global, stop: Refusal<AnswerFault>) -> Result<Report, OutOfMemory>
     ensures { IfOk result (λ report. (nodes : ℕ) (by : StepUnit) (plan : Plan) → IsReaderStop (start_of_bytes plan.bytes) 0 plan.bytes stop →
         MaySteps nodes by plan report.status (bytes_in report.text)) }
 {
     match stop {
-        AnswerStop::Refused { fault, line } => {
+        Refusal::Refused { fault, place } => {
             let rejection = Rejection {
                 number: fault.number(),
-                place: u64::from(line),
+                place: u64::from(place),
             };
             report_of_rejection(alloc, rejection)
         }
-        AnswerStop::OutOfMemory => Err(OutOfMemory),
+        Refusal::OutOfMemory => Err(OutOfMemory),
     }
 }
 

@@ -8,8 +8,8 @@ use Rattle.std.proofs.lemmas.List.Elements.{All-nil, All-cons, All-head, All-tai
 use Rattle.cost_base.specs.Lists.{numbers_from, first_of}
 use Rattle.cost_base.proofs.ListLemmas.{append-none}
 use Rattle.text_lines.specs.Lines.{words, kind_of}
-use Rattle.config_reader.specs.declared.stop.ConfigFault.{ConfigFault}
-use Rattle.config_reader.specs.declared.stop.ConfigFault.TheVariants.{LongLine, BadName}
+use Rattle.config_reader.specs.declared.fault.ConfigFault.{ConfigFault}
+use Rattle.config_reader.specs.declared.fault.ConfigFault.TheVariants.{LongLine, BadName}
 use Rattle.config_reader.specs.Statements.{Statement, Block, Network}
 use Rattle.config_reader.specs.Settings.{Said, said, said_at_place, networks_said}
 use Rattle.config_reader.specs.Configs.{first_heads}

@@ -3,7 +3,7 @@ use Rattle.std.proofs.Common.{◌≡◌, ℕ, ◌+◌, List, [], ◌∷◌, ◌+
 use Rattle.text_lines.specs.Lines.{words, kind_of}
 use Rattle.text_lines.specs.declared.LineKind.{LineKind}
 use Rattle.text_lines.specs.declared.LineKind.TheVariants.{Blank, Comment, Head, Indented}
-use Rattle.config_reader.specs.declared.stop.ConfigFault.{ConfigFault}
+use Rattle.config_reader.specs.declared.fault.ConfigFault.{ConfigFault}
 use Rattle.config_reader.specs.Statements.{Statement, Unread, Network, Block, OfOther, statement_in, head_statement}
 use Rattle.config_reader.specs.Settings.{said, said_by, networks_said}
 use Rattle.config_reader.specs.FaultList.{is_short, refused}

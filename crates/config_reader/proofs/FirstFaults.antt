@@ -5,7 +5,7 @@ use Rattle.std.specs.List.{filter, filter_map, flat_map, cons_option}
 use Rattle.std.specs.Option.{option_or}
 use Rattle.std.proofs.lemmas.Bool.{lt-ltb, le-ltb, ltb-false, ltb-true}
 use Rattle.cost_base.specs.Lists.{numbers_from, first_of}
-use Rattle.config_reader.specs.declared.stop.ConfigFault.{ConfigFault}
+use Rattle.config_reader.specs.declared.fault.ConfigFault.{ConfigFault}
 use Rattle.config_reader.specs.FaultList.{Fault, at_line}
 use Rattle.config_reader.specs.Drafting.{earliest}
 

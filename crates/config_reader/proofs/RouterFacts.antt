@@ -23,8 +23,8 @@ use Rattle.config_reader.specs.Faults.{is_name_byte, is_router_name, router_name
 use Rattle.config_reader.specs.Reading.{open_block}
 use Rattle.config_reader.proofs.SaidSteps.{said_after, said-push, opened_from}
 use Rattle.config_reader.proofs.SettingSteps.{about-push, said_where}
-use Rattle.config_reader.specs.declared.stop.ConfigFault.{ConfigFault}
-use Rattle.config_reader.specs.declared.stop.ConfigFault.TheVariants.{BadNumber}
+use Rattle.config_reader.specs.declared.fault.ConfigFault.{ConfigFault}
+use Rattle.config_reader.specs.declared.fault.ConfigFault.TheVariants.{BadNumber}
 use Rattle.config_reader.specs.Gathered.{NamesApart}
 use Rattle.config_reader.specs.FaultList.{is_short}
 use Rattle.interface_model.specs.declared.Kind.{Kind}

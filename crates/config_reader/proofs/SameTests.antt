@@ -4,7 +4,7 @@ use Rattle.std.specs.Prelude.{◌||◌}
 use Rattle.std.specs.List.{filter_map, list_any}
 use Rattle.cost_base.specs.Lists.{first_of, last_of}
 use Rattle.text_lines.specs.Numbers.{Prefix}
-use Rattle.config_reader.specs.declared.stop.ConfigFault.TheVariants.{SecondAddress, AreaTwice}
+use Rattle.config_reader.specs.declared.fault.ConfigFault.TheVariants.{SecondAddress, AreaTwice}
 use Rattle.config_reader.specs.Statements.{Statement, AddressIs, NetworkIs, Network, Block, OfInterface, OfRouter}
 use Rattle.config_reader.specs.Settings.{Said, said, about, about_router, setting, networks_said, network_said, address_said, area_set, interface_address, matches}
 use Rattle.config_reader.specs.Configs.{first_heads}

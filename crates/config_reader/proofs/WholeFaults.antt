@@ -14,8 +14,8 @@ use Rattle.text_lines.specs.Lines.{kind_of, words, block_at}
 use Rattle.text_lines.specs.Numbers.{Prefix}
 use Rattle.text_lines.specs.declared.LineKind.{LineKind}
 use Rattle.text_lines.specs.declared.LineKind.TheVariants.{Blank, Comment, Head, Indented}
-use Rattle.config_reader.specs.declared.stop.ConfigFault.{ConfigFault}
-use Rattle.config_reader.specs.declared.stop.ConfigFault.TheVariants.{SecondAddress, BadName}
+use Rattle.config_reader.specs.declared.fault.ConfigFault.{ConfigFault}
+use Rattle.config_reader.specs.declared.fault.ConfigFault.TheVariants.{SecondAddress, BadName}
 use Rattle.config_reader.specs.declared.drafts.Draft.{Draft}
 use Rattle.config_reader.specs.declared.networks.NetworkLine.{NetworkLine}
 use Rattle.config_reader.specs.Statements.{Statement, AddressIs, Block, OfInterface}

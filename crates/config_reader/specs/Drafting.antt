@@ -7,7 +7,7 @@ use Rattle.text_lines.specs.Numbers.{Prefix}
 use Rattle.interface_model.specs.Addresses.{contains}
 use Rattle.interface_model.specs.declared.Interface.{Interface}
 use Rattle.interface_model.specs.declared.Kind.TheVariants.{Broadcast}
-use Rattle.config_reader.specs.declared.stop.ConfigFault.TheVariants.{SecondAddress, AreaTwice, BadName}
+use Rattle.config_reader.specs.declared.fault.ConfigFault.TheVariants.{SecondAddress, AreaTwice, BadName}
 use Rattle.config_reader.specs.declared.networks.NetworkLine.{NetworkLine}
 use Rattle.config_reader.specs.declared.drafts.Draft.{Draft}
 use Rattle.config_reader.specs.Statements.{Statement, AddressIs, AreaIs, CostIs, KindIs, PriorityIs, PassiveIs, DownIs, RouterIdIs, NetworkIs, PassiveInterfaceIs, Block, OfInterface, OfRouter, OfOther}

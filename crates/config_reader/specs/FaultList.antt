@@ -2,12 +2,12 @@
 use Rattle.std.specs.Prelude.{◌≡◌, ℕ, ◌+◌, ◌==◌, ◌&&◌, ◌||◌, not, nat_le, if◌then◌else◌, Bool, false, List, [], ◌∷◌, ◌++◌, length, map, take, slice_index_or, Option, Some, None, is_some}
 use Rattle.std.specs.List.{flat_map, filter_map, list_any}
 use Rattle.cost_base.specs.Lists.{first_of, numbers_from}
+use Rattle.cost_base.specs.declared.refusal.Refusal.{Refusal}
+use Rattle.cost_base.specs.declared.refusal.Refusal.TheVariants.{Refused as RefusedStop, OutOfMemory}
 use Rattle.text_lines.specs.Lines.{lines}
 use Rattle.text_lines.specs.Numbers.{Prefix}
-use Rattle.config_reader.specs.declared.stop.ConfigFault.{ConfigFault}
-use Rattle.config_reader.specs.declared.stop.ConfigFault.TheVariants.{LongLine, SecondAddress, AreaTwice, BadName}
-use Rattle.config_reader.specs.declared.stop.ConfigStop.{ConfigStop}
-use Rattle.config_reader.specs.declared.stop.ConfigStop.TheVariants.{Refused as RefusedStop, OutOfMemory}
+use Rattle.config_reader.specs.declared.fault.ConfigFault.{ConfigFault}
+use Rattle.config_reader.specs.declared.fault.ConfigFault.TheVariants.{LongLine, SecondAddress, AreaTwice, BadName}
 use Rattle.config_reader.specs.Statements.{Statement, AddressIs, NetworkIs, Refused, Network, Block, OfInterface, OfRouter}
 use Rattle.config_reader.specs.Settings.{Said, said, said_at_place, about, setting, area_set, address_said, interface_address, networks_said, matches}
 use Rattle.config_reader.specs.Configs.{first_heads}
@@ -108,6 +108,6 @@ abbrev pub config_fault : List ℕ → List ℕ → Option Fault
 config_fault file_name bytes = first_of (faults file_name (lines bytes))
 
 -- a refusal tells the fault and its line; want of memory tells nothing
-abbrev pub TellsConfigFault : Option Fault → ConfigStop → Type 0
+abbrev pub TellsConfigFault : Option Fault → Refusal ConfigFault ℕ → Type 0
 TellsConfigFault found (RefusedStop fault line) = found ≡ Some (record { line = line; fault = fault })
 TellsConfigFault found OutOfMemory = Unit {0}

@@ -1,7 +1,7 @@
 -- How the faults of a configuration are written.
 use Rattle.std.specs.Prelude.{ℕ}
-use Rattle.config_reader.specs.declared.stop.ConfigFault.{ConfigFault}
-use Rattle.config_reader.specs.declared.stop.ConfigFault.TheVariants.{LongLine, BadAddress, BadNumber, BadArea, Unsupported, SecondAddress, AreaTwice, BadName}
+use Rattle.config_reader.specs.declared.fault.ConfigFault.{ConfigFault}
+use Rattle.config_reader.specs.declared.fault.ConfigFault.TheVariants.{LongLine, BadAddress, BadNumber, BadArea, Unsupported, SecondAddress, AreaTwice, BadName}
 
 -- the number of a fault
 abbrev pub config_fault_number : ConfigFault → ℕ

@@ -6,7 +6,7 @@ use Rattle.cost_base.specs.Lists.{first_of, numbers_from}
 use Rattle.text_lines.specs.Lines.{words, kind_of}
 use Rattle.text_lines.specs.declared.LineKind.{LineKind}
 use Rattle.text_lines.specs.declared.LineKind.TheVariants.{Head, Indented}
-use Rattle.config_reader.specs.declared.stop.ConfigFault.{ConfigFault}
+use Rattle.config_reader.specs.declared.fault.ConfigFault.{ConfigFault}
 use Rattle.config_reader.specs.Statements.{Statement, Refused, Unread, Block, OfOther, block_of, statement_in, head_statement, begin_with, word_at}
 use Rattle.config_reader.specs.Settings.{Said, said, said_at_place}
 use Rattle.config_reader.specs.Configs.{opened_at, name_with_line, name_opened}

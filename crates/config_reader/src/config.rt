@@ -11,12 +11,12 @@ ghost use Rattle.config_reader.specs.Hearing as hearing;
 ghost use Rattle.config_reader.specs.Parts.{IsParts};
 ghost use Rattle.text_lines.specs.Lines.{lines};
 
-use crate::ConfigStop;
+use crate::ConfigFault;
 use crate::drafts::{Drafts, finish};
 use crate::faults::{area_twice, earliest, name_fault, router_id, router_name, second_address};
 use crate::networks::Networks;
 use crate::reader::{LineFault, NamedHead, Parts, read_parts};
-use cost_base::{Listed, Name, OutOfMemory};
+use cost_base::{Listed, Name, OutOfMemory, Refusal};
 use interface_model::{Interface, RouterConfig};
 use std::alloc::Global;
 
@@ -64,7 +64,7 @@ fn checked<'a>(
     parts: &Parts<'a>,
     networks: &Networks,
     drafts: Drafts<'a>,
-) -> Result<RouterConfig, ConfigStop>
+) -> Result<RouterConfig, Refusal<ConfigFault>>
     requires read { (bytes : List ℕ) × IsParts (hearing.heard (lines bytes)) parts.now }
     requires networks { networks.now ≡ drafting.network_lines (map said_of parts.now.said.items) }
     requires drafts { IsGathered networks.now (map head_heard parts.now.heads.items) (map said_of parts.now.said.items) drafts }
@@ -75,9 +75,9 @@ fn checked<'a>(
 {
     let name = router_name(parts.hostname, file_name.as_bytes());
     if let Some(fault) = first_fault(parts, networks, &drafts, name) {
-        return Err(ConfigStop::Refused {
+        return Err(Refusal::Refused {
             fault: fault.fault,
-            line: fault.line,
+            place: fault.line,
         });
     }
     let interfaces = finish(alloc, drafts.drafts, networks)?;
@@ -89,7 +89,7 @@ fn gathered<'a>(
     alloc: Global,
     file_name: &'a str,
     parts: &Parts<'a>,
-) -> Result<RouterConfig, ConfigStop>
+) -> Result<RouterConfig, Refusal<ConfigFault>>
     requires { (bytes : List ℕ) × IsParts (hearing.heard (lines bytes)) parts.now }
     ensures made { (bytes : List ℕ) → IsParts (hearing.heard (lines bytes)) parts.now →
         IfOk result (λ r. (config_fault file_name.now bytes ≡ None) × (r ≡ config_of file_name.now bytes)) }
@@ -107,7 +107,11 @@ fn gathered<'a>(
 ///
 /// `Refused` with the first fault of the lines, in the order of lines and, on one line, of numbers; a name that is taken
 /// from the file's name has line 0. `OutOfMemory` where a list got no memory.
-pub fn read_config(alloc: Global, file_name: &str, bytes: &[u8]) -> Result<RouterConfig, ConfigStop>
+pub fn read_config(
+    alloc: Global,
+    file_name: &str,
+    bytes: &[u8],
+) -> Result<RouterConfig, Refusal<ConfigFault>>
     requires few { length bytes.now < 2 ^ 32 - 1 }
     ensures made { IfOk result (λ r. (config_fault file_name.now bytes.now ≡ None) × (r ≡ config_of file_name.now bytes.now)) }
     ensures refused { IfErr result (TellsConfigFault (config_fault file_name.now bytes.now)) }

@@ -6,7 +6,7 @@ use Rattle.cost_base.specs.Lists.{same_bytes}
 use Rattle.cost_base.proofs.ByteLemmas.{same_bytes-true}
 use Rattle.text_lines.specs.Numbers.{number, prefix, area, Prefix}
 use Rattle.interface_model.specs.declared.Kind.TheVariants.{PointToPoint, Broadcast}
-use Rattle.config_reader.specs.declared.stop.ConfigFault.TheVariants.{BadNumber, Unsupported}
+use Rattle.config_reader.specs.declared.fault.ConfigFault.TheVariants.{BadNumber, Unsupported}
 use Rattle.config_reader.specs.Statements.{Statement, CostIs, KindIs, PassiveIs, Refused, Unread, begin_with, word_at, ip_ospf, no, alone, address_statement, area_statement, cost_statement, priority_statement, switch_statement, is_unsupported, interface_statement}
 use Rattle.config_reader.specs.Settings.{cost_set}
 use Rattle.config_reader.specs.FaultList.{refused}

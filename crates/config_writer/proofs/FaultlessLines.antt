@@ -4,7 +4,7 @@ use Rattle.std.specs.List.{filter_map}
 use Rattle.std.proofs.lemmas.Bool.{le-leb}
 use Rattle.text_lines.specs.Lines.{words, kind_of}
 use Rattle.text_lines.proofs.Digits.{length-decimal-le}
-use Rattle.config_reader.specs.declared.stop.ConfigFault.{ConfigFault}
+use Rattle.config_reader.specs.declared.fault.ConfigFault.{ConfigFault}
 use Rattle.config_reader.specs.Statements.{Statement, CostIs, Network, Block, OfInterface, statement_in}
 use Rattle.config_reader.specs.Settings.{said, networks_said, network_said}
 use Rattle.config_reader.specs.FaultList.{refused}

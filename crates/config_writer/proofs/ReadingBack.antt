@@ -10,7 +10,7 @@ use Rattle.cost_base.specs.Lists.{first_of, last_of, same_bytes}
 use Rattle.cost_base.proofs.ByteLemmas.{same_bytes-refl}
 use Rattle.text_lines.specs.Lines.{lines, words, is_head}
 use Rattle.interface_model.specs.declared.Interface.{Interface}
-use Rattle.config_reader.specs.declared.stop.ConfigFault.{ConfigFault}
+use Rattle.config_reader.specs.declared.fault.ConfigFault.{ConfigFault}
 use Rattle.config_reader.specs.Statements.{Statement, CostIs, Network, Block, OfInterface, OfRouter, OfOther, block_of}
 use Rattle.config_reader.specs.Settings.{Said, said, about, about_router, setting, address_said, area_set, cost_set, kind_said, passive_said, down_said, priority_said, router_id_said, interface_as_set}
 use Rattle.config_reader.specs.Configs.{first_heads}

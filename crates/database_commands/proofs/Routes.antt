@@ -16,7 +16,7 @@ use Rattle.area_graph.specs.Costs.{IsPriced, FitsPoint, at_costs}
 use Rattle.spf_ties.specs.Distances.{tight_out}
 use Rattle.input_files.specs.declared.stop.Stop.{Stop}
 use Rattle.input_files.specs.declared.stop.Stop.TheVariants as stops
-use Rattle.input_files.specs.Readings.{Reading, Refusal, Refused, Ready, Faulty, Says, EndsAs}
+use Rattle.input_files.specs.Readings.{Reading, InputRefusal, Refused, Ready, Faulty, Says, EndsAs}
 use Rattle.input_files.specs.Stops.{StopsAs, IsReadAndMade, IsRefusal}
 use Rattle.report_writer.specs.declared.report.Report.{Report}
 use Rattle.report_writer.specs.Reports.{Reports, bytes_in}
@@ -24,7 +24,7 @@ use Rattle.lsa_bytes.specs.declared.LsaLink.{LsaLink}
 use Rattle.lsa_bytes.specs.declared.Body.{Body}
 use Rattle.lsa_bytes.specs.declared.Body.TheVariants.{Links, Attached}
 use Rattle.lsa_bytes.specs.declared.Lsa.{Lsa}
-use Rattle.lsa_bytes.specs.declared.stop.LsaFault.TheVariants.{NoRouterId}
+use Rattle.lsa_bytes.specs.declared.fault.LsaFault.TheVariants.{NoRouterId}
 use Rattle.lsa_bytes.specs.AreaGraphs.{routers_among, networks_among, vertex_back, edge_if_found, far_end, link_edge, attached_edge, edges_from, edges_in_order, router_vertex_back, has_link, lsa_graph}
 use Rattle.lsa_bytes.specs.Databases.{is_router_lsa, is_router_of}
 use Rattle.lsa_bytes.specs.Numbers.{lsa_fault_number}
@@ -32,7 +32,7 @@ use Rattle.database_commands.specs.Routes.{unless_unknown, vertex_of_router, id_
 use Rattle.database_commands.specs.Found.{EndsBy, IsFoundEnd}
 
 -- what is refused stops so
-pub refusal_stops : (A : Type 0) (r : Refusal) (stop : Stop) → IsRefusal r stop → StopsAs {A = A} (Refused r) [] stop
+pub refusal_stops : (A : Type 0) (r : InputRefusal) (stop : Stop) → IsRefusal r stop → StopsAs {A = A} (Refused r) [] stop
 refusal_stops A r (stops.Refused number file line) is = ap Faulty (sym is)
 refusal_stops A r (stops.ReadFault file) is = absurd is
 refusal_stops A r stops.OutOfMemory is = absurd is

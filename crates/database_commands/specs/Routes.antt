@@ -9,7 +9,7 @@ use Rattle.area_graph.specs.Costs.{at_costs}
 use Rattle.spf_ties.specs.Distances.{IsLeastCost, tight_out}
 use Rattle.input_files.specs.Readings.{Reading, Refused, Ready, ◌>>=◌}
 use Rattle.lsa_bytes.specs.declared.Lsa.{Lsa}
-use Rattle.lsa_bytes.specs.declared.stop.LsaFault.TheVariants.{NoRouterId}
+use Rattle.lsa_bytes.specs.declared.fault.LsaFault.TheVariants.{NoRouterId}
 use Rattle.lsa_bytes.specs.AreaGraphs.{lsa_graph, routers_among, networks_among, router_vertex_back}
 use Rattle.lsa_bytes.specs.Databases.{is_router_of}
 use Rattle.lsa_bytes.specs.Numbers.{lsa_fault_number}

@@ -2,11 +2,12 @@
 ghost use Rattle.std.specs.Prelude.{◌≡◌, List, true, false, MatchResult};
 ghost use Rattle.std.specs.List.{list_any};
 ghost use Rattle.lsa_bytes.specs.declared.Lsa.{Lsa as OneLsa};
-ghost use Rattle.lsa_bytes.specs.declared.stop.LsaFault.TheVariants.{NoRouterId};
+ghost use Rattle.lsa_bytes.specs.declared.fault.LsaFault.TheVariants.{NoRouterId};
 ghost use Rattle.lsa_bytes.specs.Databases.{is_router_of};
 ghost use Rattle.lsa_bytes.specs.Numbers.{lsa_fault_number};
 ghost use Rattle.input_files.specs.Stops.{IsRefusal};
 
+use cost_base::Fault;
 use input_files::Stop;
 use lsa_bytes::{Lsa, LsaFault, is_router};
 

@@ -8,7 +8,7 @@ ghost use Rattle.input_files.specs.Stops.{IsReadAs, IsRefusal, files_named};
 ghost use Rattle.database_commands.specs.Identified.{IsIdentified};
 ghost use Rattle.database_commands.specs.Lsas.{identified_read, if_identified};
 
-use cost_base::Shelf;
+use cost_base::{Fault, Shelf};
 use input_files::{FileWords, Network, Stop, View, file_of, read_network};
 use interface_model::RouterConfig;
 use lsa_bytes::{IdFault, check_ids};

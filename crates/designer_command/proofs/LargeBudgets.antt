@@ -21,7 +21,7 @@ use Rattle.least_total.specs.Totals.{forms_within}
 use Rattle.least_total.proofs.RoundLaws.{lows_below}
 use Rattle.cost_base.specs.Histories.{Taken}
 use Rattle.text_lines.specs.LineFaults.{FaultyLine}
-use Rattle.set_reader.specs.declared.stop.SetFault.{SetFault}
+use Rattle.set_reader.specs.declared.fault.SetFault.{SetFault}
 use Rattle.set_reader.specs.Reading.{set_fault}
 use Rattle.input_files.specs.declared.problem.View.TheVariants.{AsRequested}
 use Rattle.input_files.specs.Inputs.{InputFiles}

@@ -9,7 +9,7 @@ use Rattle.command_words.specs.Jobs.{JobRead, SearchRead, Design, Check, Audit, 
 use Rattle.command_words.specs.Commands.{job_of}
 use Rattle.input_files.specs.declared.problem.View.TheVariants.{AsRequested, BesidePresent, AtPresent}
 use Rattle.input_files.specs.Inputs.{InputFiles}
-use Rattle.input_files.specs.Readings.{Refusal, Reading, Says, Faulty, Failed, EndsAs, Begins, Gave}
+use Rattle.input_files.specs.Readings.{InputRefusal, Reading, Says, Faulty, Failed, EndsAs, Begins, Gave}
 use Rattle.input_files.specs.declared.stop.Stop.{Stop}
 use Rattle.input_files.specs.declared.stop.Stop.TheVariants.{OutOfMemory as NoMemoryLeft}
 use Rattle.input_files.specs.Stops.{IsReadAs}
@@ -44,7 +44,7 @@ pub record OnSaid {A : Type 0} (reading : Reading A) (came : List Taken) (may : 
 
 -- 3: the first fault of the files is written
 pub record OnFault {A : Type 0} (reading : Reading A) (came : List Taken) (bytes : List ℕ) : Type 0 where
-  pub fault : Refusal
+  pub fault : InputRefusal
   pub ends : EndsAs reading came (Faulty fault)
   pub written : bytes ≡ refused_line fault
 

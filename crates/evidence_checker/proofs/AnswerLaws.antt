@@ -6,6 +6,8 @@ use native.Mathlib.Decide.{ℕ_discrete}
 use Rattle.std.proofs.lemmas.List.Elements.{All-tail}
 use Rattle.std.proofs.lemmas.Bool.{cases_lt}
 use Rattle.cost_base.specs.Order.{NoneOf}
+use Rattle.cost_base.specs.declared.refusal.Refusal.{Refusal}
+use Rattle.cost_base.specs.declared.refusal.Refusal.TheVariants.{Refused, OutOfMemory}
 use Rattle.design_problem.specs.declared.answer.Verdict.{Verdict}
 use Rattle.design_problem.specs.declared.answer.Verdict.TheVariants.{Optimal, Impossible, Undecided}
 use Rattle.design_problem.specs.declared.answer.Costs.{Costs}
@@ -24,9 +26,8 @@ use Rattle.design_problem.proofs.ProblemTrees.{low_below}
 use Rattle.design_problem.specs.Rows.{IsRow, box_of, forms_of_rows}
 use Rattle.design_problem.specs.Trees.{Sound, IsSoundTree, IsClosed, subboxes}
 use Rattle.design_problem.specs.Answers.{AnswerParts, Proves, ShowsLeastGreatest, ClaimHolds, IsValid, greatest_bound}
-use Rattle.evidence_checker.specs.declared.stop.Accepted.{Accepted}
-use Rattle.evidence_checker.specs.declared.stop.CheckStop.{CheckStop}
-use Rattle.evidence_checker.specs.declared.stop.CheckStop.TheVariants.{Refused, OutOfMemory}
+use Rattle.evidence_checker.specs.declared.accepted.Accepted.{Accepted}
+use Rattle.evidence_checker.specs.declared.fault.CheckFault.{CheckFault}
 use Rattle.evidence_checker.specs.Refusals.{MetTest, AtNoPlace, AtFirstItem, StopsBy}
 use Rattle.evidence_checker.specs.Laws.{IsAcceptedAs, RefusesInvalid, CostsHold, ProofHolds}
 use Rattle.evidence_checker.specs.Tests.{ClaimsNothing, ShapeOfLeast, ShapeOfClaim, HasWrongShape, NamesPlaces, IsFalseFloor, cost_tests, row_tests, line_tests, AtFirstLine, proof_tests, tests}
@@ -213,7 +214,7 @@ valid_meets_none p a kept valid =
     (λ f met. rows_met p 0 a.rows f valid.rows met, proof_met p a.rows a.proof (proof_of p a.rows a.verdict a.costs a.floor a.proof claim))
 
 -- so an answer that a test refuses isn't valid
-pub refuses : (p : DesignProblem) (a : AnswerParts) (s : CheckStop) → IsProblem p → StopsBy (tests p a) s → RefusesInvalid p a s
+pub refuses : (p : DesignProblem) (a : AnswerParts) (s : Refusal CheckFault ℕ) → IsProblem p → StopsBy (tests p a) s → RefusesInvalid p a s
 refuses p a (Refused fault place) kept stops = λ valid. none_refused (tests p a) fault place (valid_meets_none p a kept valid) stops
 refuses p a OutOfMemory kept stops = tt
 
@@ -223,7 +224,7 @@ accepted_claims Impossible accepted is nothing = nothing
 accepted_claims (Undecided cap) accepted is nothing = is
 
 -- a test of the costs, after the verdict and the shape
-pub stops_costs : (p : DesignProblem) (a : AnswerParts) (accepted : Accepted) (s : CheckStop) →
+pub stops_costs : (p : DesignProblem) (a : AnswerParts) (accepted : Accepted) (s : Refusal CheckFault ℕ) →
     IsAcceptedAs a.verdict accepted → ShapeOfClaim p a.verdict a.costs a.floor a.proof × (a.unfinished ≡ None) →
     StopsBy (cost_tests p a.verdict a.costs a.floor) s → StopsBy (tests p a) s
 stops_costs p a accepted s is shape stops =
@@ -234,7 +235,7 @@ stops_costs p a accepted s is shape stops =
     (stop_left costs others s stops)
 
 -- a test of the rows or of the proof, after all others
-pub stops_evidence : (p : DesignProblem) (a : AnswerParts) (accepted : Accepted) (s : CheckStop) → IsProblem p →
+pub stops_evidence : (p : DesignProblem) (a : AnswerParts) (accepted : Accepted) (s : Refusal CheckFault ℕ) → IsProblem p →
     IsAcceptedAs a.verdict accepted → ShapeOfClaim p a.verdict a.costs a.floor a.proof × (a.unfinished ≡ None) →
     CostsHold p a.verdict a.costs a.floor →
     StopsBy (AtFirstItem (row_tests p) 0 a.rows ∷ proof_tests p a.rows a.proof) s → StopsBy (tests p a) s
@@ -244,7 +245,7 @@ stops_evidence p a accepted s kept is shape holds stops =
 
 -- a test of the proof, after those of the rows
 pub stops_proof : (p : DesignProblem) (rows : List Row) (stands : Option CapTree) (proof : CapTree)
-    (forms given : List Form) (low high : List ℕ) (s : CheckStop) → stands ≡ Some proof → given ≡ forms → low ≡ p.low →
+    (forms given : List Form) (low high : List ℕ) (s : Refusal CheckFault ℕ) → stands ≡ Some proof → given ≡ forms → low ≡ p.low →
     high ≡ p.high → forms ≡ forms_of_rows p rows → All (IsRow p) rows →
     StopsBy (AtFirstLine given (capped (record { low = low; high = high }) proof.cap ∷ []) 0 proof.tree ∷ []) s →
     StopsBy (AtFirstItem (row_tests p) 0 rows ∷ proof_tests p rows stands) s

@@ -2,6 +2,8 @@
 use Rattle.std.proofs.Common.{◌≡◌, ℕ, subst, List, [], ◌∷◌, arith, inl, inr}
 use Rattle.std.specs.Prelude.{Some, All, Result, IfErr, IsErrAnd}
 use Rattle.cost_base.specs.Order.{FirstOf, NoneOf}
+use Rattle.cost_base.specs.declared.refusal.Refusal.{Refusal}
+use Rattle.cost_base.specs.declared.refusal.Refusal.TheVariants.{Refused, OutOfMemory}
 use Rattle.design_problem.specs.declared.answer.Verdict.TheVariants.{Optimal}
 use Rattle.design_problem.specs.declared.answer.Costs.{Costs}
 use Rattle.design_problem.specs.declared.answer.CostLine.{CostLine}
@@ -11,8 +13,7 @@ use Rattle.design_problem.specs.Boxes.{IsInBox}
 use Rattle.design_problem.specs.Problems.{DesignProblem, no_request}
 use Rattle.design_problem.specs.Rows.{box_of, greatest_cost}
 use Rattle.evidence_checker.specs.Numbers.{check_fault_number}
-use Rattle.evidence_checker.specs.declared.stop.CheckStop.{CheckStop}
-use Rattle.evidence_checker.specs.declared.stop.CheckStop.TheVariants.{Refused, OutOfMemory}
+use Rattle.evidence_checker.specs.declared.fault.CheckFault.{CheckFault}
 use Rattle.design_problem.specs.GivenCosts.{costs_given}
 use Rattle.evidence_checker.specs.Costs.{IsOnlyAt}
 use Rattle.evidence_checker.specs.Refusals.{MetTest, AtNoPlace, AtFirst, StopsBy}
@@ -32,7 +33,7 @@ TestsAt p k printed lines floor w =
     ∷ []
 
 moved : (p : DesignProblem) (k : ℕ) (costs : Costs) (floor : Floor) (lines : List CostLine) (w : List ℕ)
-    (s : CheckStop) → lines ≡ costs.lines → w ≡ costs_given p lines →
+    (s : Refusal CheckFault ℕ) → lines ≡ costs.lines → w ≡ costs_given p lines →
     StopsBy (TestsAt p k costs.greatest lines floor w) s → StopsBy (cost_tests p (Optimal k) (Some costs) floor) s
 moved p k costs floor lines w s lines_are given stops =
     subst (λ (ls : List CostLine). StopsBy (TestsAt p k costs.greatest ls floor (costs_given p ls)) s) lines_are
@@ -71,7 +72,7 @@ behind_bounds p k printed lines floor w f named names_lines within rest =
     inr (no_places p lines named, inr (no_ends p lines w names_lines, inr (no_bounds p w within, rest)))
 
 pub stops_ends : (p : DesignProblem) (k : ℕ) (costs : Costs) (floor : Floor) (lines : List CostLine) (w : List ℕ)
-    (s : CheckStop) → lines ≡ costs.lines → w ≡ costs_given p lines → NamesPlaces p.vars lines →
+    (s : Refusal CheckFault ℕ) → lines ≡ costs.lines → w ≡ costs_given p lines → NamesPlaces p.vars lines →
     StopsBy (AtFirst 53 (HasUnequalEnds p.vars lines) ∷ []) s → StopsBy (cost_tests p (Optimal k) (Some costs) floor) s
 stops_ends p k costs floor lines w OutOfMemory lines_are given named stops = tt
 stops_ends p k costs floor lines w (Refused fault place) lines_are given named stops =
@@ -80,7 +81,7 @@ stops_ends p k costs floor lines w (Refused fault place) lines_are given named s
     (inr (no_places p lines named, inl (only_test (AtFirst 53 (HasUnequalEnds p.vars lines)) f stops)))
 
 pub stops_bounds : (p : DesignProblem) (k : ℕ) (costs : Costs) (floor : Floor) (lines : List CostLine) (w : List ℕ)
-    (s : CheckStop) → lines ≡ costs.lines → w ≡ costs_given p lines → NamesPlaces p.vars lines → Names p lines w →
+    (s : Refusal CheckFault ℕ) → lines ≡ costs.lines → w ≡ costs_given p lines → NamesPlaces p.vars lines → Names p lines w →
     StopsBy (AtFirst 45 (IsOutside p.low p.high w) ∷ []) s → StopsBy (cost_tests p (Optimal k) (Some costs) floor) s
 stops_bounds p k costs floor lines w OutOfMemory lines_are given named names_lines stops = tt
 stops_bounds p k costs floor lines w (Refused fault place) lines_are given named names_lines stops =
@@ -89,7 +90,7 @@ stops_bounds p k costs floor lines w (Refused fault place) lines_are given named
     (inr (no_places p lines named, inr (no_ends p lines w names_lines, inl (only_test (AtFirst 45 (IsOutside p.low p.high w)) f stops))))
 
 pub stops_greatest : (p : DesignProblem) (k : ℕ) (costs : Costs) (floor : Floor) (lines : List CostLine) (w : List ℕ)
-    (s : CheckStop) → lines ≡ costs.lines → w ≡ costs_given p lines → NamesPlaces p.vars lines → Names p lines w →
+    (s : Refusal CheckFault ℕ) → lines ≡ costs.lines → w ≡ costs_given p lines → NamesPlaces p.vars lines → Names p lines w →
     IsInBox (box_of p) w → StopsBy (AtNoPlace 47 (HasWrongGreatest k costs.greatest w) ∷ []) s →
     StopsBy (cost_tests p (Optimal k) (Some costs) floor) s
 stops_greatest p k costs floor lines w OutOfMemory lines_are given named names_lines within stops = tt
@@ -100,7 +101,7 @@ stops_greatest p k costs floor lines w (Refused fault place) lines_are given nam
     (inl (only_test (AtNoPlace 47 (HasWrongGreatest k costs.greatest w)) f stops)))
 
 pub stops_paths : (p : DesignProblem) (k : ℕ) (costs : Costs) (floor : Floor) (lines : List CostLine) (w : List ℕ)
-    (s : CheckStop) → lines ≡ costs.lines → w ≡ costs_given p lines → NamesPlaces p.vars lines → Names p lines w →
+    (s : Refusal CheckFault ℕ) → lines ≡ costs.lines → w ≡ costs_given p lines → NamesPlaces p.vars lines → Names p lines w →
     IsInBox (box_of p) w → (costs.greatest ≡ k) × (greatest_cost w ≡ k) → StopsBy (AtFirst 46 (IsNotOnly p w) ∷ []) s →
     StopsBy (cost_tests p (Optimal k) (Some costs) floor) s
 stops_paths p k costs floor lines w OutOfMemory lines_are given named names_lines within same stops = tt
@@ -111,7 +112,7 @@ stops_paths p k costs floor lines w (Refused fault place) lines_are given named 
     (inr (no_greatest k costs.greatest w same, inl (only_test (AtFirst 46 (IsNotOnly p w)) f stops))))
 
 pub stops_floor : (p : DesignProblem) (k : ℕ) (costs : Costs) (floor : Floor) (lines : List CostLine) (w : List ℕ)
-    (s : CheckStop) → lines ≡ costs.lines → w ≡ costs_given p lines → NamesPlaces p.vars lines → Names p lines w →
+    (s : Refusal CheckFault ℕ) → lines ≡ costs.lines → w ≡ costs_given p lines → NamesPlaces p.vars lines → Names p lines w →
     IsInBox (box_of p) w → (costs.greatest ≡ k) × (greatest_cost w ≡ k) → All (IsOnlyAt p.graph w) p.paths →
     StopsBy (AtNoPlace 52 (IsFalseFloor p k floor) ∷ []) s → StopsBy (cost_tests p (Optimal k) (Some costs) floor) s
 stops_floor p k costs floor lines w OutOfMemory lines_are given named names_lines within same only stops = tt
@@ -140,6 +141,6 @@ passes p k printed lines floor w named names_lines within same only true_floor =
 )
 
 -- a refusal that is handed on
-pub err_stops : {T : Type 0} (r : Result T CheckStop) (s : CheckStop) (ts : List (MetTest → Type 0)) →
+pub err_stops : {T : Type 0} (r : Result T (Refusal CheckFault ℕ)) (s : Refusal CheckFault ℕ) (ts : List (MetTest → Type 0)) →
     IsErrAnd r (λ e. e ≡ s) → StopsBy ts s → IfErr r (StopsBy ts)
 err_stops r s ts is stops = err_tells r s (StopsBy ts) is stops

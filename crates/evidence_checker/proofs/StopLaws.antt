@@ -2,10 +2,10 @@
 use Rattle.std.proofs.Common.{◌≡◌, ℕ, ◌<◌, refl, sym, subst, List, [], ◌∷◌, ◌++◌, inl, inr}
 use Rattle.std.specs.Prelude.{Some, Result, Ok, Err, IfErr, IsErrAnd}
 use Rattle.cost_base.specs.Order.{FirstOf, NoneOf}
+use Rattle.cost_base.specs.declared.refusal.Refusal.{Refusal}
+use Rattle.cost_base.specs.declared.refusal.Refusal.TheVariants.{Refused, OutOfMemory}
 use Rattle.evidence_checker.specs.declared.fault.CheckFault.{CheckFault}
 use Rattle.evidence_checker.specs.Numbers.{check_fault_number}
-use Rattle.evidence_checker.specs.declared.stop.CheckStop.{CheckStop}
-use Rattle.evidence_checker.specs.declared.stop.CheckStop.TheVariants.{Refused, OutOfMemory}
 use Rattle.evidence_checker.specs.Refusals.{MetTest, AtFirst, IsFirstPlace, StopsBy}
 
 -- the refusal at the first place
@@ -26,11 +26,11 @@ first_right : (ts us : List (MetTest → Type 0)) (f : MetTest) → NoneOf ts �
 first_right [] us f none first = first
 first_right (t ∷ ts) us f none first = inr (none.0, first_right ts us f none.1 first)
 
-pub stop_left : (ts us : List (MetTest → Type 0)) (s : CheckStop) → StopsBy ts s → StopsBy (ts ++ us) s
+pub stop_left : (ts us : List (MetTest → Type 0)) (s : Refusal CheckFault ℕ) → StopsBy ts s → StopsBy (ts ++ us) s
 stop_left ts us (Refused fault place) stops = first_left ts us (record { number = check_fault_number fault; place = place }) stops
 stop_left ts us OutOfMemory stops = tt
 
-pub stop_right : (ts us : List (MetTest → Type 0)) (s : CheckStop) → NoneOf ts → StopsBy us s → StopsBy (ts ++ us) s
+pub stop_right : (ts us : List (MetTest → Type 0)) (s : Refusal CheckFault ℕ) → NoneOf ts → StopsBy us s → StopsBy (ts ++ us) s
 stop_right ts us (Refused fault place) none stops = first_right ts us (record { number = check_fault_number fault; place = place }) none stops
 stop_right ts us OutOfMemory none stops = tt
 
@@ -47,6 +47,6 @@ pub none_refused : (ts : List (MetTest → Type 0)) (fault : CheckFault) (place 
 none_refused ts fault place none stops = none_first ts (record { number = check_fault_number fault; place = place }) none stops
 
 -- what is known of a stop that is handed on
-pub err_tells : {T : Type 0} (r : Result T CheckStop) (s : CheckStop) (P : CheckStop → Type 0) → IsErrAnd r (λ e. e ≡ s) → P s → IfErr r P
+pub err_tells : {T : Type 0} (r : Result T (Refusal CheckFault ℕ)) (s : Refusal CheckFault ℕ) (P : Refusal CheckFault ℕ → Type 0) → IsErrAnd r (λ e. e ≡ s) → P s → IfErr r P
 err_tells (Ok x) s P is tells = absurd is
 err_tells (Err e) s P is tells = subst P (sym is) tells

@@ -4,8 +4,9 @@ use Rattle.std.specs.Prelude.{false, Result, IfErr, All}
 use Rattle.std.proofs.lemmas.List.Elements.{All-nil, All-cons, All-head, All-tail, All-append, All-same}
 use Rattle.design_problem.specs.declared.tree.Side.TheVariants.{Low, High}
 use Rattle.design_problem.specs.Boxes.{with_low, with_high}
-use Rattle.evidence_checker.specs.declared.stop.CheckStop.{CheckStop}
+use Rattle.evidence_checker.specs.declared.fault.CheckFault.{CheckFault}
 use Rattle.cost_base.specs.Order.{FirstOf}
+use Rattle.cost_base.specs.declared.refusal.Refusal.{Refusal}
 use Rattle.design_problem.specs.Forms.{Form}
 use Rattle.design_problem.specs.declared.form.CostBox.{CostBox}
 use Rattle.design_problem.specs.declared.tree.Entry.{Entry}
@@ -79,10 +80,10 @@ line_read entries k entry k_in e =
     split ∙ ap (λ (x : Entry). x ∷ drop (k + 1) entries) (sym e)
 
 -- what a tree's first line with a test is, at a box by its ends
-abbrev pub StopsTree : List Form → CostBox → List Entry → CheckStop → Type 0
+abbrev pub StopsTree : List Form → CostBox → List Entry → Refusal CheckFault ℕ → Type 0
 StopsTree forms box tree = StopsBy (AtFirstLine forms (box ∷ []) 0 tree ∷ [])
 
-pub stop_moved : {T : Type 0} (r : Result T CheckStop) (forms : List Form) (here there : CostBox)
+pub stop_moved : {T : Type 0} (r : Result T (Refusal CheckFault ℕ)) (forms : List Form) (here there : CostBox)
     (tree whole : List Entry) → here ≡ there → tree ≡ whole → IfErr r (StopsTree forms here tree) →
     IfErr r (StopsTree forms there whole)
 stop_moved r forms here there tree whole boxes trees stops =

@@ -1,5 +1,7 @@
 -- What the answers of `check` mean.
-use Rattle.std.specs.Prelude.{◌≡◌, List, Option, Some, None}
+use Rattle.std.specs.Prelude.{◌≡◌, ℕ, List, Option, Some, None}
+use Rattle.cost_base.specs.declared.refusal.Refusal.{Refusal}
+use Rattle.cost_base.specs.declared.refusal.Refusal.TheVariants.{Refused, OutOfMemory}
 use Rattle.design_problem.specs.declared.answer.Verdict.{Verdict}
 use Rattle.design_problem.specs.declared.answer.Verdict.TheVariants.{Optimal, Impossible, Undecided}
 use Rattle.design_problem.specs.Problems.{DesignProblem}
@@ -11,10 +13,9 @@ use Rattle.design_problem.specs.Boxes.{capped}
 use Rattle.design_problem.specs.Rows.{box_of, forms_of_rows}
 use Rattle.design_problem.specs.Trees.{IsSoundTree, IsClosed}
 use Rattle.design_problem.specs.Answers.{AnswerParts, IsValid, GivesCosts}
-use Rattle.evidence_checker.specs.declared.stop.Accepted.{Accepted}
-use Rattle.evidence_checker.specs.declared.stop.Accepted.TheVariants.{Optimal as OptimalAccepted, Impossible as ImpossibleAccepted}
-use Rattle.evidence_checker.specs.declared.stop.CheckStop.{CheckStop}
-use Rattle.evidence_checker.specs.declared.stop.CheckStop.TheVariants.{Refused, OutOfMemory}
+use Rattle.evidence_checker.specs.declared.accepted.Accepted.{Accepted}
+use Rattle.evidence_checker.specs.declared.accepted.Accepted.TheVariants.{Optimal as OptimalAccepted, Impossible as ImpossibleAccepted}
+use Rattle.evidence_checker.specs.declared.fault.CheckFault.{CheckFault}
 use Rattle.evidence_checker.specs.Tests.{IsFalseFloor}
 
 -- what is accepted is what the verdict claims
@@ -24,7 +25,7 @@ IsAcceptedAs Impossible accepted = accepted ≡ ImpossibleAccepted
 IsAcceptedAs (Undecided cap) accepted = ⊥
 
 -- a refused answer isn't valid; want of memory says nothing
-abbrev pub RefusesInvalid : DesignProblem → AnswerParts → CheckStop → Type 0
+abbrev pub RefusesInvalid : DesignProblem → AnswerParts → Refusal CheckFault ℕ → Type 0
 RefusesInvalid p a (Refused number place) = IsValid p a → ⊥
 RefusesInvalid p a OutOfMemory = Unit {0}
 

@@ -1,9 +1,10 @@
 -- Refusals of an answer: the number of a test, and the place where it is met.
 use Rattle.std.specs.Prelude.{◌≡◌, ℕ, ◌+◌, ◌<◌, List, [], ◌∷◌, ◌⊎◌, Option, Some, None}
 use Rattle.cost_base.specs.Order.{FirstOf, NoneOf}
+use Rattle.cost_base.specs.declared.refusal.Refusal.{Refusal}
+use Rattle.cost_base.specs.declared.refusal.Refusal.TheVariants.{Refused, OutOfMemory}
 use Rattle.evidence_checker.specs.Numbers.{check_fault_number}
-use Rattle.evidence_checker.specs.declared.stop.CheckStop.{CheckStop}
-use Rattle.evidence_checker.specs.declared.stop.CheckStop.TheVariants.{Refused, OutOfMemory}
+use Rattle.evidence_checker.specs.declared.fault.CheckFault.{CheckFault}
 
 -- the number of a test, and the place where it is met: 0, or that of a variable, a request, a row or a line of a tree
 pub record MetTest : Type 0 where
@@ -34,6 +35,6 @@ AtFirstItem tests place (x ∷ xs) f =
     ((f.place ≡ place) × FirstOf (tests x) f.number) ⊎ (NoneOf (tests x) × AtFirstItem tests (place + 1) xs f)
 
 -- a refusal is the first of the tests that is met; want of memory says nothing
-abbrev pub StopsBy : List (MetTest → Type 0) → CheckStop → Type 0
+abbrev pub StopsBy : List (MetTest → Type 0) → Refusal CheckFault ℕ → Type 0
 StopsBy tests (Refused fault place) = FirstOf tests (record { number = check_fault_number fault; place = place })
 StopsBy tests OutOfMemory = Unit {0}

@@ -15,12 +15,13 @@ use crate::problem_parts::{high_of, keeps, low_of};
 use crate::rows::forms_of;
 use crate::shape::{claimed, fits_claim};
 use crate::tree::check_cap_tree;
-use crate::{Accepted, CheckFault, CheckStop};
+use crate::{Accepted, CheckFault};
+use cost_base::Refusal;
 use design_problem::{Answer, CapTree, Costs, Floor, Problem, Row, Verdict};
 use std::alloc::Global;
 
 /// Tests that an answer has the parts that its verdict needs, and no others.
-fn check_shape(problem: &Problem, answer: &Answer) -> Result<(), CheckStop>
+fn check_shape(problem: &Problem, answer: &Answer) -> Result<(), Refusal<CheckFault, u64>>
     ensures shape { IfOk result (λ _.
         ShapeOfClaim problem.now answer.now.verdict answer.now.costs answer.now.floor answer.now.proof × (answer.now.unfinished ≡ None)) }
     ensures first { IfErr result (StopsBy (AtNoPlace (check_fault_number WrongShape) (HasWrongShape problem.now answer.now) ∷ [])) }
@@ -32,7 +33,7 @@ fn check_shape(problem: &Problem, answer: &Answer) -> Result<(), CheckStop>
     {
         return Ok(());
     }
-    Err(CheckStop::Refused {
+    Err(Refusal::Refused {
         fault: CheckFault::WrongShape,
         place: 0,
     })
@@ -45,7 +46,7 @@ fn check_claim(
     verdict: Verdict,
     costs: Option<&Costs>,
     floor: Floor,
-) -> Result<(), CheckStop>
+) -> Result<(), Refusal<CheckFault, u64>>
     ensures holds { IfOk result (λ _. CostsHold problem.now verdict (option_copied costs.entry) floor) }
     ensures first { IfErr result (StopsBy (cost_tests problem.now verdict (option_copied costs.entry) floor)) }
 {
@@ -63,7 +64,7 @@ fn check_evidence(
     problem: &Problem,
     rows: &[Row],
     proof: Option<&CapTree>,
-) -> Result<(), CheckStop>
+) -> Result<(), Refusal<CheckFault, u64>>
     ensures rows { IfOk result (λ _. All (IsRow problem.now) rows.now) }
     ensures holds { IfOk result (λ _. ProofHolds problem.now rows.now (option_copied proof.entry)) }
     ensures first { IfErr result (StopsBy
@@ -90,7 +91,11 @@ fn check_evidence(
 ///
 /// `Refused` with the first test that is met and its place, in the order of `CheckFault`: the tests of each row are made row
 /// by row, and those of each line of the tree line by line. `OutOfMemory` where memory ran out.
-pub fn check(alloc: Global, problem: &Problem, answer: &Answer) -> Result<Accepted, CheckStop>
+pub fn check(
+    alloc: Global,
+    problem: &Problem,
+    answer: &Answer,
+) -> Result<Accepted, Refusal<CheckFault, u64>>
     ensures valid { IfOk result (λ _. IsValid problem.now answer.now) }
     ensures claimed { IfOk result (IsAcceptedAs answer.now.verdict) }
     ensures true_claim { IfOk result (λ _. IsTrueVerdict problem.now answer.now.verdict answer.now.costs) }

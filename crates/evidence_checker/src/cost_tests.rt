@@ -12,24 +12,24 @@ ghost use Rattle.evidence_checker.specs.Costs.{IsOnlyAt};
 ghost use Rattle.evidence_checker.specs.Refusals.{AtNoPlace, AtFirst, StopsBy};
 ghost use Rattle.evidence_checker.specs.Tests.{NamesPlaces, HasUnequalEnds, IsOutside, HasWrongGreatest, IsNotOnly, IsFalseFloor, cost_tests};
 
+use crate::CheckFault;
 use crate::costs::{first_outside, first_unequal, names_places};
 use crate::paths::first_not_only;
 use crate::problem_parts::{high_of, keeps, low_of, names_of};
 use crate::shape::is_false_floor;
-use crate::{CheckFault, CheckStop};
-use cost_base::OutOfMemory;
+use cost_base::{OutOfMemory, Refusal};
 use design_problem::{CostLine, Costs, Floor, Problem, costs_given, greatest_of};
 use std::alloc::Global;
 
 /// Tests that the lines name the free interfaces, each once, in their order.
-fn check_places(problem: &Problem, lines: &[CostLine]) -> Result<(), CheckStop>
+fn check_places(problem: &Problem, lines: &[CostLine]) -> Result<(), Refusal<CheckFault, u64>>
     ensures named { IfOk result (λ _. NamesPlaces problem.now.vars lines.now) }
     ensures first { IfErr result (StopsBy (AtNoPlace (check_fault_number WrongPlaces) (NamesPlaces problem.now.vars lines.now → ⊥) ∷ [])) }
 {
     if names_places(names_of(problem), lines) {
         return Ok(());
     }
-    Err(CheckStop::Refused {
+    Err(Refusal::Refused {
         fault: CheckFault::WrongPlaces,
         place: 0,
     })
@@ -45,7 +45,11 @@ fn given(alloc: Global, problem: &Problem, lines: &[CostLine]) -> Result<Vec<u16
 }
 
 /// Tests that the lines of one variable have one cost.
-fn check_ends(problem: &Problem, lines: &[CostLine], costs: &[u16]) -> Result<(), CheckStop>
+fn check_ends(
+    problem: &Problem,
+    lines: &[CostLine],
+    costs: &[u16],
+) -> Result<(), Refusal<CheckFault, u64>>
     requires named { NamesPlaces problem.now.vars lines.now }
     requires given { costs.now ≡ costs_given problem.now lines.now }
     ensures names { IfOk result (λ _. Names problem.now lines.now costs.now) }
@@ -53,7 +57,7 @@ fn check_ends(problem: &Problem, lines: &[CostLine], costs: &[u16]) -> Result<()
 {
     keeps(problem);
     match first_unequal(names_of(problem), lines, costs) {
-        Some(var) => Err(CheckStop::Refused {
+        Some(var) => Err(Refusal::Refused {
             fault: CheckFault::UnequalEnds,
             place: u64::from(var),
         }),
@@ -62,14 +66,14 @@ fn check_ends(problem: &Problem, lines: &[CostLine], costs: &[u16]) -> Result<()
 }
 
 /// Tests that each cost is within the bounds of its variable.
-fn check_bounds(problem: &Problem, costs: &[u16]) -> Result<(), CheckStop>
+fn check_bounds(problem: &Problem, costs: &[u16]) -> Result<(), Refusal<CheckFault, u64>>
     requires { length costs.now ≡ length problem.now.low }
     ensures within { IfOk result (λ _. IsInBox (box_of problem.now) costs.now) }
     ensures first { IfErr result (StopsBy (AtFirst (check_fault_number OutOfBounds) (IsOutside problem.now.low problem.now.high costs.now) ∷ [])) }
 {
     keeps(problem);
     match first_outside(low_of(problem), high_of(problem), costs) {
-        Some(var) => Err(CheckStop::Refused {
+        Some(var) => Err(Refusal::Refused {
             fault: CheckFault::OutOfBounds,
             place: u64::from(var),
         }),
@@ -78,27 +82,35 @@ fn check_bounds(problem: &Problem, costs: &[u16]) -> Result<(), CheckStop>
 }
 
 /// Tests that the claimed, the printed and the true greatest cost are one number.
-fn check_greatest(greatest: u16, printed: u16, costs: &[u16]) -> Result<(), CheckStop>
+fn check_greatest(
+    greatest: u16,
+    printed: u16,
+    costs: &[u16],
+) -> Result<(), Refusal<CheckFault, u64>>
     ensures same { IfOk result (λ _. (printed ≡ greatest) × (greatest_cost costs.now ≡ greatest)) }
     ensures first { IfErr result (StopsBy (AtNoPlace (check_fault_number WrongGreatest) (HasWrongGreatest greatest printed costs.now) ∷ [])) }
 {
     if printed == greatest && greatest_of(costs) == greatest {
         return Ok(());
     }
-    Err(CheckStop::Refused {
+    Err(Refusal::Refused {
         fault: CheckFault::WrongGreatest,
         place: 0,
     })
 }
 
 /// Tests that each wanted path is the only cheapest among the simple paths of its request.
-fn check_paths(alloc: Global, problem: &Problem, costs: &[u16]) -> Result<(), CheckStop>
+fn check_paths(
+    alloc: Global,
+    problem: &Problem,
+    costs: &[u16],
+) -> Result<(), Refusal<CheckFault, u64>>
     requires { IsInBox (box_of problem.now) costs.now }
     ensures only { IfOk result (λ _. All (IsOnlyAt problem.now.graph costs.now) problem.now.paths) }
     ensures first { IfErr result (StopsBy (AtFirst (check_fault_number NotOnlyCheapest) (IsNotOnly problem.now costs.now) ∷ [])) }
 {
     match first_not_only(alloc, &problem.graph, problem.paths.as_slice(), costs)? {
-        Some(place) => Err(CheckStop::Refused {
+        Some(place) => Err(Refusal::Refused {
             fault: CheckFault::NotOnlyCheapest,
             place,
         }),
@@ -107,12 +119,16 @@ fn check_paths(alloc: Global, problem: &Problem, costs: &[u16]) -> Result<(), Ch
 }
 
 /// Tests the floor.
-fn check_floor(problem: &Problem, greatest: u16, floor: Floor) -> Result<(), CheckStop>
+fn check_floor(
+    problem: &Problem,
+    greatest: u16,
+    floor: Floor,
+) -> Result<(), Refusal<CheckFault, u64>>
     ensures true_floor { IfOk result (λ _. IsFalseFloor problem.now greatest floor → ⊥) }
     ensures first { IfErr result (StopsBy (AtNoPlace (check_fault_number FalseFloor) (IsFalseFloor problem.now greatest floor) ∷ [])) }
 {
     if is_false_floor(problem, greatest, floor) {
-        return Err(CheckStop::Refused {
+        return Err(Refusal::Refused {
             fault: CheckFault::FalseFloor,
             place: 0,
         });
@@ -127,7 +143,7 @@ pub(crate) fn check_costs(
     greatest: u16,
     costs: &Costs,
     floor: Floor,
-) -> Result<(), CheckStop>
+) -> Result<(), Refusal<CheckFault, u64>>
     ensures gives { IfOk result (λ _. GivesCosts problem.now greatest costs.now) }
     ensures true_floor { IfOk result (λ _. IsFalseFloor problem.now greatest floor → ⊥) }
     ensures first { IfErr result (StopsBy (cost_tests problem.now (Optimal greatest) (Some costs.now) floor)) }

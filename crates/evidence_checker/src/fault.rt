@@ -1,6 +1,7 @@
 //! What an answer can be refused for.
-ghost use Rattle.std.specs.Prelude.{◌≡◌};
 ghost use Rattle.evidence_checker.specs.Numbers.{check_fault_number};
+
+use cost_base::Fault;
 
 /// The tests of an answer, in their order. Each has its number in the output of `check`.
 #[derive(Clone, Copy, Debug, PartialEq, Eq)]
@@ -35,11 +36,10 @@ pub enum CheckFault {
     OpenLeaf,
 }
 
-impl CheckFault {
-    /// The number of the test, 40 to 53.
-    pub fn number(self) -> u8
-        ensures { result ≡ check_fault_number self }
-    {
+impl Fault for CheckFault {
+    ghost numbered = { check_fault_number };
+
+    fn number(self) -> u8 {
         match self {
             CheckFault::NothingClaimed => 49,
             CheckFault::WrongShape => 51,

@@ -1,6 +1,7 @@
 //! A checker of answers: whoever made an answer isn't trusted, and no call of a solver is used.
 #![tactic(auto)]
 
+mod accepted;
 mod checker;
 mod cost_tests;
 mod costs;
@@ -11,11 +12,10 @@ mod problem_parts;
 mod products;
 mod rows;
 mod shape;
-mod stop;
 mod sums;
 mod tree;
 
+pub use accepted::Accepted;
 pub use checker::check;
 pub use fault::CheckFault;
-pub use stop::{Accepted, CheckStop};
 pub use sums::add_parts;

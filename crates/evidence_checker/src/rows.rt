@@ -10,9 +10,9 @@ ghost use Rattle.evidence_checker.specs.Numbers.{check_fault_number};
 ghost use Rattle.evidence_checker.specs.Tests.{row_tests};
 ghost use Rattle.evidence_checker.specs.Routes.{route_tests, IsRivalRoute};
 
-use crate::{CheckFault, CheckStop};
+use crate::CheckFault;
 use area_graph::{Graph, Path, is_path_of};
-use cost_base::{Listed, OutOfMemory};
+use cost_base::{Listed, OutOfMemory, Refusal};
 use design_problem::{Form, Problem, Request, Row, form_of};
 use std::alloc::Global;
 
@@ -90,7 +90,7 @@ pub(crate) fn forms_of(
     alloc: Global,
     problem: &Problem,
     rows: &[Row],
-) -> Result<Vec<Form>, CheckStop>
+) -> Result<Vec<Form>, Refusal<CheckFault, u64>>
     ensures rows { IfOk result (λ _. All (IsRow problem.now) rows.now) }
     ensures forms { IfOk result (λ forms. forms.items ≡ forms_of_rows problem.now rows.now) }
     ensures small { IfOk result (λ forms. All (IsSmallForm (length problem.now.low)) forms.items) }
@@ -100,7 +100,7 @@ pub(crate) fn forms_of(
     for (index, row) in rows.iter().enumerate() {
         if let Some(fault) = row_fault(alloc, problem, row)? {
             let place = index as u64;
-            return Err(CheckStop::Refused { fault, place });
+            return Err(Refusal::Refused { fault, place });
         }
         let form = form_of_rival(alloc, problem, row)?;
         push_form(&mut forms, form)?;

@@ -8,18 +8,19 @@ ghost use Rattle.evidence_checker.specs.Laws.{IsAcceptedAs};
 ghost use Rattle.evidence_checker.specs.Refusals.{AtNoPlace, StopsBy};
 ghost use Rattle.evidence_checker.specs.Tests.{ClaimsNothing, ShapeOfClaim, ShapeOfLeast, ShapeOfNone, IsFalseFloor};
 
-use crate::{Accepted, CheckFault, CheckStop};
+use crate::{Accepted, CheckFault};
+use cost_base::Refusal;
 use design_problem::{CapTree, Costs, Floor, Problem, Verdict, greatest_of};
 
 /// What a verdict claims.
-pub(crate) fn claimed(verdict: Verdict) -> Result<Accepted, CheckStop>
+pub(crate) fn claimed(verdict: Verdict) -> Result<Accepted, Refusal<CheckFault, u64>>
     ensures claim { IfOk result (IsAcceptedAs verdict) }
     ensures first { IfErr result (StopsBy (AtNoPlace (check_fault_number NothingClaimed) (ClaimsNothing verdict) ∷ [])) }
 {
     match verdict {
         Verdict::Optimal(greatest) => Ok(Accepted::Optimal(greatest)),
         Verdict::Impossible => Ok(Accepted::Impossible),
-        Verdict::Undecided(_) => Err(CheckStop::Refused {
+        Verdict::Undecided(_) => Err(Refusal::Refused {
             fault: CheckFault::NothingClaimed,
             place: 0,
         }),

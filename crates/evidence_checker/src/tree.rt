@@ -8,9 +8,9 @@ ghost use Rattle.cost_base.specs.Order.{FirstOf};
 ghost use Rattle.evidence_checker.specs.Numbers.{check_fault_number};
 ghost use Rattle.evidence_checker.specs.Tests.{AtFirstLine, line_tests};
 
+use crate::CheckFault;
 use crate::lines::line_fault;
-use crate::{CheckFault, CheckStop};
-use cost_base::OutOfMemory;
+use cost_base::{OutOfMemory, Refusal};
 use design_problem::{CapTree, CostBox, Entry, Form, OpenBoxes, capped_box};
 use std::alloc::Global;
 
@@ -67,7 +67,7 @@ pub(crate) fn check_tree(
     forms: &[Form],
     costs: CostBox,
     entries: &[Entry],
-) -> Result<(), CheckStop>
+) -> Result<(), Refusal<CheckFault, u64>>
     requires count { length costs.low ≡ length costs.high }
     requires forms { All (IsSmallForm (length costs.low)) forms.now }
     requires whole { IsSingleTree entries.now }
@@ -79,7 +79,7 @@ pub(crate) fn check_tree(
     for (line, entry) in entries.iter().enumerate() {
         if let Some(fault) = fault_at(forms, boxes.present(), &mut sums, entry) {
             let place = line as u64;
-            return Err(CheckStop::Refused { fault, place });
+            return Err(Refusal::Refused { fault, place });
         }
         if !go_on(&mut boxes, entry)? {
             return Ok(());
@@ -95,7 +95,7 @@ pub(crate) fn check_cap_tree(
     high: &[u16],
     forms: &[Form],
     proof: &CapTree,
-) -> Result<(), CheckStop>
+) -> Result<(), Refusal<CheckFault, u64>>
     requires count { length low.now ≡ length high.now }
     requires forms { All (IsSmallForm (length low.now)) forms.now }
     ensures sound { IfOk result (λ _.

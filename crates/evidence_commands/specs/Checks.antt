@@ -12,8 +12,8 @@ use Rattle.answer_lines.specs.Grammar.{AtHead}
 use Rattle.evidence_reader.specs.Refusals.{IsOffGrammar}
 use Rattle.evidence_text.specs.AnswerValues.{IsAnswerValue}
 use Rattle.evidence_reader.specs.Laws.{IsNoValidText}
-use Rattle.evidence_checker.specs.declared.stop.Accepted.{Accepted as Acceptance}
-use Rattle.evidence_checker.specs.declared.stop.Accepted.TheVariants.{Optimal, Impossible}
+use Rattle.evidence_checker.specs.declared.accepted.Accepted.{Accepted as Acceptance}
+use Rattle.evidence_checker.specs.declared.accepted.Accepted.TheVariants.{Optimal, Impossible}
 use Rattle.evidence_checker.specs.Laws.{IsAcceptedAs}
 use Rattle.evidence_checker.specs.Tests.{tests}
 use Rattle.evidence_commands.specs.declared.check.Judgement.{Judgement}

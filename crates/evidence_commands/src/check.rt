@@ -12,9 +12,9 @@ ghost use Rattle.evidence_commands.specs.Checks.{Claim, IsInvalid, IsJudged, IsT
 
 use crate::rejection::rejection_of_text;
 use crate::verdict_lines::accepted_line_of;
-use cost_base::{OutOfMemory, Shelf, Status};
+use cost_base::{Fault, OutOfMemory, Refusal, Shelf, Status};
 use design_problem::{Answer, Problem};
-use evidence_checker::{Accepted, CheckStop, check};
+use evidence_checker::{Accepted, CheckFault, check};
 use evidence_reader::read_answer;
 use evidence_text::keeps_answer;
 use input_files::{FileWords, Stop, View, read_answer_file, read_problem};
@@ -31,16 +31,16 @@ pub(crate) enum Judgement {
 }
 
 /// The rejection of an answer by the checker.
-fn rejection_of_answer(stop: CheckStop) -> Result<Rejection, OutOfMemory>
+fn rejection_of_answer(stop: Refusal<CheckFault, u64>) -> Result<Rejection, OutOfMemory>
     ensures { (claim : Claim) (answer : AnswerParts) → IsTextOf claim.bytes answer → StopsBy (tests claim.problem answer) stop →
         RefusesInvalid claim.problem answer stop → IfOk result (IsInvalid claim) }
 {
     match stop {
-        CheckStop::Refused { fault, place } => Ok(Rejection {
+        Refusal::Refused { fault, place } => Ok(Rejection {
             number: fault.number(),
             place,
         }),
-        CheckStop::OutOfMemory => Err(OutOfMemory),
+        Refusal::OutOfMemory => Err(OutOfMemory),
     }
 }
 

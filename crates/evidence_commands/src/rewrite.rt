@@ -13,7 +13,7 @@ ghost use Rattle.evidence_commands.specs.Rewrites.{HasFewLines, IsRevised, MayRe
 use crate::own_lines::last_lines;
 use crate::rejection::rejection_of_text;
 use config_writer::{RewriteStop, rewrite};
-use cost_base::{Listed, OutOfMemory, Shelf, Status};
+use cost_base::{Fault, Listed, OutOfMemory, Shelf, Status};
 use design_problem::CostLine;
 use evidence_checker::CheckFault;
 use input_files::{ConfigText, Stop, read_answer_file, read_config_text};

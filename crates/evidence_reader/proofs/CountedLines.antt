@@ -1,13 +1,14 @@
 -- Lines of which it is known how many are left.
 use Rattle.std.proofs.Common.{◌≡◌, ℕ, suc, ◌+◌, ◌-◌, ◌<◌, ◌≤◌, List, [], ◌∷◌, ◌++◌, length, map, sym, ap, subst, ◌∙◌, arith}
 use Rattle.std.proofs.lemmas.List.{map-append}
+use Rattle.cost_base.specs.declared.refusal.Refusal.{Refusal}
 use Rattle.design_problem.specs.declared.form.Row.{Row}
 use Rattle.design_problem.specs.Text.{row_line}
 use Rattle.answer_lines.specs.Grammar.{AtRows, AtRow}
 use Rattle.evidence_text.specs.Parts.{rows_line, rows_lines}
 use Rattle.answer_lines.specs.Lawful.{IsRead}
 use Rattle.evidence_reader.specs.Refusals.{IsReaderStop}
-use Rattle.evidence_reader.specs.declared.stop.AnswerStop.{AnswerStop}
+use Rattle.evidence_reader.specs.declared.fault.AnswerFault.{AnswerFault}
 use Rattle.answer_lines.proofs.FirstLines.{read-none}
 use Rattle.evidence_reader.proofs.NextPlaces.{go-then, stop-then}
 
@@ -34,7 +35,7 @@ row_more count i rows more row {b0} {b1} {b2} {bytes} {middle} {left} within gro
     (go-then first (subst (λ n. IsRead (AtRow n) b1 middle (row_line row ∷ []) (AtRow (count - (i + 1))) b2 left) (one_left count i within) second))
 
 -- the next row stops the reader
-pub row_stop : (count i : ℕ) (rows : List Row) {b0 b1 : ℕ} {bytes middle : List ℕ} (stop : AnswerStop) → i < count →
+pub row_stop : (count i : ℕ) (rows : List Row) {b0 b1 : ℕ} {bytes middle : List ℕ} (stop : Refusal AnswerFault ℕ) → i < count →
     IsRead (AtRow count) b0 bytes (map row_line rows) (AtRow (count - i)) b1 middle →
     IsReaderStop (AtRow (suc (count - (i + 1)))) b1 middle stop → IsReaderStop (AtRow count) b0 bytes stop
 row_stop count i rows {b0} {b1} {bytes} {middle} stop within first second =

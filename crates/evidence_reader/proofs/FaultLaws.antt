@@ -6,8 +6,8 @@ use Rattle.std.proofs.lemmas.List.{nil_from_length}
 use Rattle.text_lines.specs.Lines.{IsOneLine}
 use Rattle.answer_lines.specs.Grammar.{TextPlace, AfterEnd}
 use Rattle.answer_lines.specs.Places.{LacksLawful, BeginsLawful}
-use Rattle.evidence_reader.specs.declared.stop.AnswerFault.{AnswerFault}
-use Rattle.evidence_reader.specs.declared.stop.AnswerFault.TheVariants.{BadAnswerLine, EarlyEnd}
+use Rattle.evidence_reader.specs.declared.fault.AnswerFault.{AnswerFault}
+use Rattle.evidence_reader.specs.declared.fault.AnswerFault.TheVariants.{BadAnswerLine, EarlyEnd}
 use Rattle.evidence_reader.specs.Refusals.{IsFault, IsTextRefused, bad_line, early_end}
 
 -- a fault of the text that is left is the refusal

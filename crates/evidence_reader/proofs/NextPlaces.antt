@@ -1,11 +1,11 @@
 -- Going on from place to place.
 use Rattle.std.proofs.Common.{◌≡◌, ℕ, List, [], ◌∷◌, ◌++◌, sym, ap, subst, ◌∙◌, arith, append_assoc, length-append}
+use Rattle.cost_base.specs.declared.refusal.Refusal.{Refusal}
+use Rattle.cost_base.specs.declared.refusal.Refusal.TheVariants.{Refused, OutOfMemory}
 use Rattle.text_lines.specs.Lines.{with_ends}
 use Rattle.answer_lines.specs.Grammar.{TextPlace}
 use Rattle.answer_lines.specs.Lawful.{LeadOn, IsRead}
-use Rattle.evidence_reader.specs.declared.stop.AnswerFault.{AnswerFault}
-use Rattle.evidence_reader.specs.declared.stop.AnswerStop.{AnswerStop}
-use Rattle.evidence_reader.specs.declared.stop.AnswerStop.TheVariants.{Refused, OutOfMemory}
+use Rattle.evidence_reader.specs.declared.fault.AnswerFault.{AnswerFault}
 use Rattle.text_lines.proofs.LineLaws.{with_ends-append}
 use Rattle.evidence_reader.specs.Refusals.{IsTextRefused, IsReaderStop}
 
@@ -45,7 +45,7 @@ refused-then from mid b0 b1 bytes middle xs kind line first second =
     }
 
 -- a stop behind lines that were read
-pub stop-then : {from mid : TextPlace} {b0 b1 : ℕ} {bytes middle : List ℕ} {xs : List (List ℕ)} (stop : AnswerStop) →
+pub stop-then : {from mid : TextPlace} {b0 b1 : ℕ} {bytes middle : List ℕ} {xs : List (List ℕ)} (stop : Refusal AnswerFault ℕ) →
     IsRead from b0 bytes xs mid b1 middle → IsReaderStop mid b1 middle stop → IsReaderStop from b0 bytes stop
 stop-then {from} {mid} {b0} {b1} {bytes} {middle} {xs} (Refused kind line) first second = refused-then from mid b0 b1 bytes middle xs kind line first second
 stop-then OutOfMemory first second = tt

@@ -4,7 +4,7 @@ use Rattle.design_problem.specs.Text.{answer_lines, text}
 use Rattle.text_lines.specs.Lines.{IsOneLine, with_ends}
 use Rattle.answer_lines.specs.Grammar.{TextPlace, AtHead, AfterEnd, Next}
 use Rattle.answer_lines.specs.Lawful.{LineLeads, LeadOn}
-use Rattle.evidence_reader.specs.declared.stop.AnswerFault.{AnswerFault}
+use Rattle.evidence_reader.specs.declared.fault.AnswerFault.{AnswerFault}
 use Rattle.evidence_reader.specs.Refusals.{IsBadLine, IsEarlyEnd, IsFault, IsTextRefused, bad_line, early_end, after_end}
 use Rattle.answer_lines.proofs.LineFronts.{first_line-one, not-one}
 use Rattle.evidence_reader.specs.Laws.{AnswersAreRead}

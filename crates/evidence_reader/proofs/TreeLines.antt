@@ -3,6 +3,7 @@ use Rattle.std.proofs.Common.{◌≡◌, ◌≢◌, ℕ, zero, suc, ◌+◌, ◌
 use Rattle.std.specs.Prelude.{IsTrue, ◌↔◌}
 use Rattle.std.proofs.lemmas.Bool.{true≢false}
 use Rattle.std.proofs.lemmas.List.{map-append}
+use Rattle.cost_base.specs.declared.refusal.Refusal.{Refusal}
 use Rattle.design_problem.specs.declared.tree.Entry.{Entry}
 use Rattle.design_problem.specs.Text.{entry_line, tree_lines}
 use Rattle.design_problem.specs.Trees.{subtree_count, AreSeveralTrees, IsSingleTree}
@@ -14,7 +15,7 @@ use Rattle.evidence_reader.specs.Refusals.{IsReaderStop}
 use Rattle.evidence_reader.specs.Stages.{before_part}
 use Rattle.evidence_text.specs.declared.TreePart.{TreePart}
 use Rattle.evidence_text.specs.declared.TreePart.TheVariants.{Proof, Unfinished}
-use Rattle.evidence_reader.specs.declared.stop.AnswerStop.{AnswerStop}
+use Rattle.evidence_reader.specs.declared.fault.AnswerFault.{AnswerFault}
 use Rattle.answer_lines.proofs.FirstLines.{AreReadAt, read-none}
 use Rattle.evidence_reader.proofs.NextPlaces.{go-then, stop-then}
 use Rattle.evidence_reader.proofs.CountedLines.{one_left}
@@ -75,7 +76,7 @@ entry_more part count i places entries more entry {b0} {b1} {b2} {bytes} {middle
     (go-then first (subst (λ n. IsRead (AtTree part places n) b1 middle (entry_line entry ∷ []) to b2 left) (one_left count i within) second))
 
 -- the next tree line stops the reader
-pub entry_stop : (part : TreePart) (count i places : ℕ) (entries : List Entry) {b0 b1 : ℕ} {bytes middle : List ℕ} (stop : AnswerStop) → i < count →
+pub entry_stop : (part : TreePart) (count i places : ℕ) (entries : List Entry) {b0 b1 : ℕ} {bytes middle : List ℕ} (stop : Refusal AnswerFault ℕ) → i < count →
     IsRead (AtTree part 1 count) b0 bytes (map entry_line entries) (AtTree part places (count - i)) b1 middle →
     IsReaderStop (AtTree part places (suc (count - (i + 1)))) b1 middle stop → IsReaderStop (AtTree part 1 count) b0 bytes stop
 entry_stop part count i places entries {b0} {b1} {bytes} {middle} stop within first second =

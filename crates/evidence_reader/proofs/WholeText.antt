@@ -1,6 +1,7 @@
 -- The parts of an answer that were read, as its whole text.
 use Rattle.std.proofs.Common.{◌≡◌, ℕ, zero, suc, ◌≤◌, Some, None, inl, inr, List, [], ◌∷◌, ◌++◌, length, codes, sym, ap, subst, ◌∙◌, append_assoc, append-nil}
 use Rattle.std.proofs.lemmas.List.Elements.{All-nil, All-cons}
+use Rattle.cost_base.specs.declared.refusal.Refusal.{Refusal}
 use Rattle.design_problem.specs.Answers.{AnswerParts}
 use Rattle.design_problem.specs.Text.{costs_lines, tree_lines, text, FitsCosts, FitsTree, FitsAnswer}
 use Rattle.answer_lines.specs.Grammar.{TextPlace, Next, AtHead, AtVerdict, AtCosts, AtSections, AtInterface, AtCost, AtExit, AtFloor, AtRows, AtRow, AtTree, AtEnd, AfterEnd, AtOtherHead, AtInnerHead, AtOtherVerdict, AtOtherCosts, AtSectionsEnd, AtUnread}
@@ -10,12 +11,12 @@ use Rattle.evidence_text.specs.Parts.{head_lines, floor_line, rows_lines, end_li
 use Rattle.answer_lines.specs.Lawful.{HasLineRoom, LeadOn, IsRead}
 use Rattle.evidence_reader.specs.Refusals.{IsReaderStop}
 use Rattle.evidence_text.specs.declared.TreePart.TheVariants.{Proof, Unfinished}
-use Rattle.evidence_reader.specs.declared.stop.AnswerStop.{AnswerStop}
+use Rattle.evidence_reader.specs.declared.fault.AnswerFault.{AnswerFault}
 use Rattle.evidence_text.proofs.AnswerOrder.{ordered, after_floor, answer_lines-ordered}
 use Rattle.evidence_reader.proofs.NextPlaces.{go-then}
 
 -- a stop in the text as it was when nothing was read
-pub stop_at_start : (before : ℕ) (bytes whole : List ℕ) (stop : AnswerStop) → before ≡ 0 → bytes ≡ whole →
+pub stop_at_start : (before : ℕ) (bytes whole : List ℕ) (stop : Refusal AnswerFault ℕ) → before ≡ 0 → bytes ≡ whole →
     IsReaderStop AtHead before bytes stop → IsReaderStop AtHead 0 whole stop
 stop_at_start before bytes whole stop none same h = subst (λ b. IsReaderStop AtHead 0 b stop) same (subst (λ n. IsReaderStop AtHead n bytes stop) none h)
 

@@ -7,7 +7,7 @@ use Rattle.evidence_text.specs.AnswerValues.{IsAnswerValue}
 use Rattle.design_problem.specs.Text.{FitsAnswer, answer_lines, text}
 use Rattle.answer_lines.specs.Grammar.{TextPlace, AtHead, AfterEnd, Next}
 use Rattle.answer_lines.specs.Lawful.{LeadOn}
-use Rattle.evidence_reader.specs.declared.stop.AnswerFault.{AnswerFault}
+use Rattle.evidence_reader.specs.declared.fault.AnswerFault.{AnswerFault}
 use Rattle.evidence_reader.specs.Refusals.{IsTextRefused}
 
 -- a line that is in the grammar at a place leads to one place

@@ -1,12 +1,12 @@
 -- Refusals of texts that are no answer's.
 use Rattle.std.specs.Prelude.{◌≡◌, ◌≢◌, ℕ, ◌+◌, ◌⊎◌, List, [], ◌∷◌, ◌++◌, length}
+use Rattle.cost_base.specs.declared.refusal.Refusal.{Refusal}
+use Rattle.cost_base.specs.declared.refusal.Refusal.TheVariants.{Refused, OutOfMemory}
 use Rattle.text_lines.specs.Lines.{IsOneLine, with_ends}
 use Rattle.answer_lines.specs.Grammar.{TextPlace, AfterEnd}
 use Rattle.answer_lines.specs.Lawful.{LeadOn, IsLawful}
-use Rattle.evidence_reader.specs.declared.stop.AnswerFault.{AnswerFault}
-use Rattle.evidence_reader.specs.declared.stop.AnswerFault.TheVariants.{BadAnswerLine, EarlyEnd, AfterEnd as BehindEnd}
-use Rattle.evidence_reader.specs.declared.stop.AnswerStop.{AnswerStop}
-use Rattle.evidence_reader.specs.declared.stop.AnswerStop.TheVariants.{Refused, OutOfMemory}
+use Rattle.evidence_reader.specs.declared.fault.AnswerFault.{AnswerFault}
+use Rattle.evidence_reader.specs.declared.fault.AnswerFault.TheVariants.{BadAnswerLine, EarlyEnd, AfterEnd as BehindEnd}
 
 -- the numbers of the faults
 abbrev pub text_fault_number : AnswerFault → ℕ
@@ -47,6 +47,6 @@ pub record IsOffGrammar (from : TextPlace) (bytes : List ℕ) (told line : ℕ) 
   pub number : told ≡ text_fault_number fault
 
 -- a stop of a reader that begins at a place: a refusal is the text's own, and want of memory says nothing
-abbrev pub IsReaderStop : TextPlace → ℕ → List ℕ → AnswerStop → Type 0
+abbrev pub IsReaderStop : TextPlace → ℕ → List ℕ → Refusal AnswerFault ℕ → Type 0
 IsReaderStop from before bytes (Refused fault line) = IsTextRefused from before bytes fault line
 IsReaderStop from before bytes OutOfMemory = Unit {0}

@@ -5,18 +5,19 @@ ghost use Rattle.evidence_reader.specs.Refusals.{IsFault};
 ghost use Rattle.answer_lines.specs.Places.{LacksLawful, BeginsLawful};
 ghost use Rattle.evidence_reader.specs.Stops.{StopsReader};
 
-use crate::stop::{AnswerFault, AnswerStop};
+use crate::fault::AnswerFault;
 use answer_lines::TextLeft;
+use cost_base::Refusal;
 use text_lines::cut;
 
 /// The refusal of a text where no lawful line stands first, of which it is known whether a lawful line begins with it.
-pub fn fault_at(text: TextLeft<'_>, begins: bool) -> AnswerStop
+pub fn fault_at(text: TextLeft<'_>, begins: bool) -> Refusal<AnswerFault>
     ensures { (place : TextPlace) → place ≢ AfterEnd → LacksLawful place text.entry.left.now → (IsTrue begins ↔ BeginsLawful place text.entry.left.now) →
         StopsReader place text.entry result }
 {
-    AnswerStop::Refused {
+    Refusal::Refused {
         fault: fault_kind(text.left, begins),
-        line: text.read + 1,
+        place: text.read + 1,
     }
 }
 
@@ -41,15 +42,15 @@ fn fault_kind(rest: &[u8], begins: bool) -> AnswerFault
 /// # Errors
 ///
 /// `Refused` where something does.
-pub fn nothing_left(text: TextLeft<'_>) -> Result<(), AnswerStop>
+pub fn nothing_left(text: TextLeft<'_>) -> Result<(), Refusal<AnswerFault>>
     ensures { MatchResult result (λ _. text.entry.left.now ≡ []) (StopsReader AfterEnd text.entry) }
 {
     if text.left.is_empty() {
         Ok(())
     } else {
-        Err(AnswerStop::Refused {
+        Err(Refusal::Refused {
             fault: AnswerFault::AfterEnd,
-            line: text.read + 1,
+            place: text.read + 1,
         })
     }
 }

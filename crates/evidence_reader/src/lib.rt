@@ -2,6 +2,7 @@
 //! answers' texts, each the contract of a function that does nothing, stand in `one_answer`, `reading` and `validity`.
 #![tactic(auto)]
 
+mod fault;
 mod faults;
 pub mod one_answer;
 mod reader;
@@ -12,10 +13,9 @@ mod stage_head;
 mod stage_rows;
 mod stage_sections;
 mod stage_trees;
-mod stop;
 pub mod validity;
 
+pub use fault::AnswerFault;
 pub use faults::{fault_at, nothing_left};
 pub use reader::read_answer;
 pub use stage_sections::{Sections, read_sections};
-pub use stop::{AnswerFault, AnswerStop};

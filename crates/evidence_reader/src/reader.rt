@@ -4,14 +4,14 @@ ghost use Rattle.design_problem.specs.Text.{text};
 ghost use Rattle.evidence_reader.specs.Refusals.{IsReaderStop};
 ghost use Rattle.answer_lines.specs.Grammar.{AtHead};
 
+use crate::fault::AnswerFault;
 use crate::stage_costs::read_costs;
 use crate::stage_end::read_end;
 use crate::stage_head::read_head;
 use crate::stage_rows::read_rows;
 use crate::stage_trees::read_tree;
-use crate::stop::AnswerStop;
 use answer_lines::TextLeft;
-use cost_base::Listed;
+use cost_base::{Listed, Refusal};
 use design_problem::Answer;
 use evidence_text::TreePart;
 use std::alloc::Global;
@@ -22,7 +22,7 @@ use std::alloc::Global;
 ///
 /// - `Refused` where the text is no answer's, with the first line that is at fault.
 /// - `OutOfMemory` where a growth was refused.
-pub fn read_answer(alloc: Global, bytes: &[u8]) -> Result<Answer, AnswerStop>
+pub fn read_answer(alloc: Global, bytes: &[u8]) -> Result<Answer, Refusal<AnswerFault>>
     requires { length bytes.now < 2 ^ 32 - 1 }
     ensures read { IfOk result (λ answer. bytes.now ≡ text answer) }
     ensures starts { IfOk result (λ answer. All (λ row. row.rival.start ≡ 0) answer.rows) }

@@ -11,12 +11,12 @@ ghost use Rattle.evidence_reader.specs.Stops.{StopsReader};
 ghost use Rattle.answer_lines.specs.Going.{Goes};
 ghost use Rattle.evidence_reader.specs.Stages.{costs_head_line, behind_costs_head};
 
+use crate::fault::AnswerFault;
 use crate::faults::fault_at;
 use crate::stage_sections::read_sections;
-use crate::stop::AnswerStop;
 use answer_lines::{TextLeft, floor_next, number_after};
 use begun_lines::{begins_costs, begins_floor, begins_section};
-use cost_base::Listed;
+use cost_base::{Listed, Refusal};
 use design_problem::{Costs, Floor};
 use std::alloc::Global;
 
@@ -45,7 +45,7 @@ enum CostsHead {
 pub(crate) fn read_costs(
     alloc: Global,
     text: TextLeft<'_>,
-) -> Result<(CostsPart, TextLeft<'_>), AnswerStop>
+) -> Result<(CostsPart, TextLeft<'_>), Refusal<AnswerFault>>
     ensures { MatchResult result (λ r. FitsCosts r.0.costs × Goes AtCosts text.entry (costs_lines r.0.costs ++ floor_line r.0.floor ∷ []) AtRows r.1)
         (StopsReader AtCosts text.entry) }
 {
@@ -57,7 +57,7 @@ pub(crate) fn read_costs(
 }
 
 /// What the line that costs begin with says, where it has to be the next.
-fn costs_head(text: TextLeft<'_>) -> Result<(CostsHead, TextLeft<'_>), AnswerStop>
+fn costs_head(text: TextLeft<'_>) -> Result<(CostsHead, TextLeft<'_>), Refusal<AnswerFault>>
     ensures { MatchResult result (λ r. Goes AtCosts text.entry (costs_head_line r.0 ∷ []) (behind_costs_head r.0) r.1) (StopsReader AtCosts text.entry) }
 {
     match costs_head_next(text) {
@@ -89,7 +89,7 @@ fn costs_head_of(line: &[u8]) -> Option<CostsHead>
 }
 
 /// The floor, where there are no costs.
-fn no_costs(text: TextLeft<'_>) -> Result<(CostsPart, TextLeft<'_>), AnswerStop>
+fn no_costs(text: TextLeft<'_>) -> Result<(CostsPart, TextLeft<'_>), Refusal<AnswerFault>>
     ensures { MatchResult result (λ r. (r.0.costs ≡ None) × Goes AtFloor text.entry (floor_line r.0.floor ∷ []) AtRows r.1) (StopsReader AtFloor text.entry) }
 {
     match floor_next(text) {
@@ -103,7 +103,7 @@ fn some_costs(
     alloc: Global,
     greatest: u16,
     text: TextLeft<'_>,
-) -> Result<(CostsPart, TextLeft<'_>), AnswerStop>
+) -> Result<(CostsPart, TextLeft<'_>), Refusal<AnswerFault>>
     ensures { MatchResult result (λ r. (lines : List CostLine) × (r.0.costs ≡ Some (record { greatest = greatest; lines = lines })) ×
         All FitsCostLine lines × Goes (AtSections None None) text.entry (cost_lines None lines ++ floor_line r.0.floor ∷ []) AtRows r.1)
         (StopsReader (AtSections None None) text.entry) }
@@ -127,7 +127,7 @@ fn some_costs(
 fn floor_behind<'a>(
     text: TextLeft<'a>,
     before: Option<&'a [u8]>,
-) -> Result<(Floor, TextLeft<'a>), AnswerStop>
+) -> Result<(Floor, TextLeft<'a>), Refusal<AnswerFault>>
     requires { LacksCost None (option_copied before) text.left.now }
     ensures { MatchResult result (λ r. Goes (AtSections None (option_copied before.entry)) text.entry (floor_line r.0 ∷ []) AtRows r.1)
         (StopsReader (AtSections None (option_copied before.entry)) text.entry) }

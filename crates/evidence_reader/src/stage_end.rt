@@ -6,10 +6,11 @@ ghost use Rattle.evidence_text.specs.Parts.{end_lines};
 ghost use Rattle.evidence_reader.specs.Stops.{StopsReader};
 ghost use Rattle.answer_lines.specs.Going.{Goes};
 
+use crate::fault::AnswerFault;
 use crate::faults::{fault_at, nothing_left};
-use crate::stop::AnswerStop;
 use answer_lines::TextLeft;
 use begun_lines::{begins_end, begins_wide};
+use cost_base::Refusal;
 use evidence_text::TreePart;
 
 /// The end of the text behind the unfinished tree.
@@ -17,7 +18,7 @@ use evidence_text::TreePart;
 /// # Errors
 ///
 /// `Refused` where one of the last lines is at fault, or something stands behind them.
-pub(crate) fn read_end(text: TextLeft<'_>) -> Result<(), AnswerStop>
+pub(crate) fn read_end(text: TextLeft<'_>) -> Result<(), Refusal<AnswerFault>>
     ensures { MatchResult result (λ _. (after : ℕ) ×
         IsRead (AtTree TreePart.Unfinished zero zero) text.entry.read text.entry.left.now end_lines AfterEnd after [])
         (StopsReader (AtTree TreePart.Unfinished zero zero) text.entry) }
@@ -28,7 +29,7 @@ pub(crate) fn read_end(text: TextLeft<'_>) -> Result<(), AnswerStop>
 }
 
 /// The text behind the line of the wide part.
-fn wide_line(text: TextLeft<'_>) -> Result<TextLeft<'_>, AnswerStop>
+fn wide_line(text: TextLeft<'_>) -> Result<TextLeft<'_>, Refusal<AnswerFault>>
     ensures { MatchResult result (λ rest. Goes (AtTree TreePart.Unfinished zero zero) text.entry (codes "wide none" ∷ []) AtEnd rest)
         (StopsReader (AtTree TreePart.Unfinished zero zero) text.entry) }
 {
@@ -39,7 +40,7 @@ fn wide_line(text: TextLeft<'_>) -> Result<TextLeft<'_>, AnswerStop>
 }
 
 /// The text behind the `end` line.
-fn end_line(text: TextLeft<'_>) -> Result<TextLeft<'_>, AnswerStop>
+fn end_line(text: TextLeft<'_>) -> Result<TextLeft<'_>, Refusal<AnswerFault>>
     ensures { MatchResult result (λ rest. Goes AtEnd text.entry (codes "end" ∷ []) AfterEnd rest) (StopsReader AtEnd text.entry) }
 {
     match text.behind(b"end") {

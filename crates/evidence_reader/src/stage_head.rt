@@ -5,10 +5,11 @@ ghost use Rattle.evidence_text.specs.Parts.{head_lines, verdict_line};
 ghost use Rattle.evidence_reader.specs.Stops.{StopsReader};
 ghost use Rattle.answer_lines.specs.Going.{Goes};
 
+use crate::fault::AnswerFault;
 use crate::faults::fault_at;
-use crate::stop::AnswerStop;
 use answer_lines::{TextLeft, verdict_next};
 use begun_lines::{begins_head, begins_verdict};
+use cost_base::Refusal;
 use design_problem::Verdict;
 
 /// The verdict, and the text behind its line.
@@ -16,7 +17,7 @@ use design_problem::Verdict;
 /// # Errors
 ///
 /// `Refused` where the first line or the verdict is at fault.
-pub(crate) fn read_head(text: TextLeft<'_>) -> Result<(Verdict, TextLeft<'_>), AnswerStop>
+pub(crate) fn read_head(text: TextLeft<'_>) -> Result<(Verdict, TextLeft<'_>), Refusal<AnswerFault>>
     ensures { MatchResult result (λ r. Goes AtHead text.entry (head_lines r.0) AtCosts r.1) (StopsReader AtHead text.entry) }
 {
     let behind = first_line(text)?;
@@ -24,7 +25,7 @@ pub(crate) fn read_head(text: TextLeft<'_>) -> Result<(Verdict, TextLeft<'_>), A
 }
 
 /// The text behind the first line.
-fn first_line(text: TextLeft<'_>) -> Result<TextLeft<'_>, AnswerStop>
+fn first_line(text: TextLeft<'_>) -> Result<TextLeft<'_>, Refusal<AnswerFault>>
     ensures { MatchResult result (λ rest. Goes AtHead text.entry (codes "ospfcost answer 1" ∷ []) AtVerdict rest) (StopsReader AtHead text.entry) }
 {
     match text.behind(b"ospfcost answer 1") {
@@ -34,7 +35,7 @@ fn first_line(text: TextLeft<'_>) -> Result<TextLeft<'_>, AnswerStop>
 }
 
 /// The verdict, where its line has to be the next.
-fn verdict_at(text: TextLeft<'_>) -> Result<(Verdict, TextLeft<'_>), AnswerStop>
+fn verdict_at(text: TextLeft<'_>) -> Result<(Verdict, TextLeft<'_>), Refusal<AnswerFault>>
     ensures { MatchResult result (λ r. Goes AtVerdict text.entry (verdict_line r.0 ∷ []) AtCosts r.1) (StopsReader AtVerdict text.entry) }
 {
     match verdict_next(text) {

@@ -7,11 +7,11 @@ ghost use Rattle.answer_lines.specs.Places.{LacksLawful};
 ghost use Rattle.evidence_reader.specs.Stops.{StopsReader};
 ghost use Rattle.answer_lines.specs.Going.{Goes};
 
+use crate::fault::AnswerFault;
 use crate::faults::fault_at;
-use crate::stop::AnswerStop;
 use answer_lines::{TextLeft, row_of, rows_next};
 use begun_lines::{begins_row, begins_rows};
-use cost_base::OutOfMemory;
+use cost_base::{OutOfMemory, Refusal};
 use design_problem::Row;
 use std::alloc::Global;
 
@@ -24,7 +24,7 @@ use std::alloc::Global;
 pub(crate) fn read_rows(
     alloc: Global,
     text: TextLeft<'_>,
-) -> Result<(Vec<Row>, TextLeft<'_>), AnswerStop>
+) -> Result<(Vec<Row>, TextLeft<'_>), Refusal<AnswerFault>>
     ensures { MatchResult result (λ r. Goes AtRows text.entry (rows_lines r.0.items) (AtRow zero) r.1 × All (λ row. row.rival.start ≡ 0) r.0.items)
         (StopsReader AtRows text.entry) }
 {
@@ -33,7 +33,7 @@ pub(crate) fn read_rows(
 }
 
 /// How many rows there are, where the line of that has to be the next.
-fn rows_count(text: TextLeft<'_>) -> Result<(u64, TextLeft<'_>), AnswerStop>
+fn rows_count(text: TextLeft<'_>) -> Result<(u64, TextLeft<'_>), Refusal<AnswerFault>>
     ensures { MatchResult result (λ r. Goes AtRows text.entry (rows_line r.0 ∷ []) (AtRow r.0) r.1) (StopsReader AtRows text.entry) }
 {
     match rows_next(text) {
@@ -47,7 +47,7 @@ fn each_row(
     alloc: Global,
     text: TextLeft<'_>,
     count: u64,
-) -> Result<(Vec<Row>, TextLeft<'_>), AnswerStop>
+) -> Result<(Vec<Row>, TextLeft<'_>), Refusal<AnswerFault>>
     ensures { MatchResult result (λ r. (length r.0.items ≡ count) × Goes (AtRow count) text.entry (map row_line r.0.items) (AtRow zero) r.1 ×
         All (λ row. row.rival.start ≡ 0) r.0.items) (StopsReader (AtRow count) text.entry) }
 {
@@ -62,7 +62,7 @@ fn each_row(
 }
 
 /// The row whose line has to be the next.
-fn row_at(alloc: Global, text: TextLeft<'_>) -> Result<(Row, TextLeft<'_>), AnswerStop>
+fn row_at(alloc: Global, text: TextLeft<'_>) -> Result<(Row, TextLeft<'_>), Refusal<AnswerFault>>
     ensures { (left : ℕ) → MatchResult result (λ r. Goes (AtRow (suc left)) text.entry (row_line r.0 ∷ []) (AtRow left) r.1 × (r.0.rival.start ≡ 0))
         (StopsReader (AtRow (suc left)) text.entry) }
 {

@@ -13,11 +13,11 @@ ghost use Rattle.evidence_reader.specs.Stops.{StopsReader};
 ghost use Rattle.answer_lines.specs.Going.{Goes};
 ghost use Rattle.evidence_reader.specs.Stages.{IsSectionLine, behind_section_line, words_lines, FitsWords, lines_of_words};
 
+use crate::fault::AnswerFault;
 use crate::faults::fault_at;
-use crate::stop::AnswerStop;
 use answer_lines::{TextLeft, name_after, number_after};
 use begun_lines::{begins_cost, begins_exit, begins_interface};
-use cost_base::{Name, OutOfMemory};
+use cost_base::{Name, OutOfMemory, Refusal};
 use design_problem::CostLine;
 use std::alloc::Global;
 
@@ -56,7 +56,7 @@ enum SectionLine<'a> {
 pub fn read_sections<'a>(
     alloc: Global,
     text: TextLeft<'a>,
-) -> Result<(Sections<'a>, TextLeft<'a>), AnswerStop>
+) -> Result<(Sections<'a>, TextLeft<'a>), Refusal<AnswerFault>>
     ensures { (of : Option OtherText) → MatchResult result (λ r. All FitsCostLine r.0.lines.items ×
         Goes (AtSections of None) text.entry (cost_lines None r.0.lines.items) (AtSections of (option_copied r.0.router)) r.1 ×
         LacksCost of (option_copied r.0.router) r.1.left.now) (StopsReader (AtSections of None) text.entry) }
@@ -95,7 +95,7 @@ fn cost_line_of(alloc: Global, words: CostWords<'_>) -> Result<CostLine, OutOfMe
 fn next_cost<'a>(
     text: TextLeft<'a>,
     before: Option<&'a [u8]>,
-) -> Result<Option<(CostWords<'a>, TextLeft<'a>)>, AnswerStop>
+) -> Result<Option<(CostWords<'a>, TextLeft<'a>)>, Refusal<AnswerFault>>
     requires { IfSome (option_copied before) IsOneWord }
     ensures { (of : Option OtherText) → MatchResult result
         (λ found. MatchOption found (LacksCost of (option_copied before.entry) text.entry.left.now)
@@ -173,7 +173,7 @@ fn is_same(before: Option<&[u8]>, router: &[u8]) -> bool
 fn cost_of_router<'a>(
     router: &'a [u8],
     text: TextLeft<'a>,
-) -> Result<(CostWords<'a>, TextLeft<'a>), AnswerStop>
+) -> Result<(CostWords<'a>, TextLeft<'a>), Refusal<AnswerFault>>
     requires { IsOneWord router.now }
     ensures { (of : Option OtherText) → MatchResult result (λ r. (r.0.router.now ≡ router.now) × FitsWords r.0 ×
         Goes (AtInterface of router.now) text.entry (words_lines r.0) (AtSections of (Some router.now)) r.1)
@@ -188,7 +188,7 @@ fn cost_of_interface<'a>(
     router: &'a [u8],
     interface: &'a [u8],
     text: TextLeft<'a>,
-) -> Result<(CostWords<'a>, TextLeft<'a>), AnswerStop>
+) -> Result<(CostWords<'a>, TextLeft<'a>), Refusal<AnswerFault>>
     requires router { IsOneWord router.now }
     requires interface { IsOneWord interface.now }
     ensures { (of : Option OtherText) → MatchResult result (λ r. (r.0.router.now ≡ router.now) × (r.0.interface.now ≡ interface.now) × FitsWords r.0 ×
@@ -206,7 +206,7 @@ fn cost_of_interface<'a>(
 }
 
 /// The interface whose line has to be the next, and the text behind it.
-fn interface_at(text: TextLeft<'_>) -> Result<(&[u8], TextLeft<'_>), AnswerStop>
+fn interface_at(text: TextLeft<'_>) -> Result<(&[u8], TextLeft<'_>), Refusal<AnswerFault>>
     ensures { (of : Option OtherText) (router : List ℕ) → MatchResult result
         (λ r. IsOneWord r.0.now × Goes (AtInterface of router) text.entry (interface_line r.0.now ∷ []) (AtCost of router) r.1)
         (StopsReader (AtInterface of router) text.entry) }
@@ -228,7 +228,7 @@ fn interface_next(text: TextLeft<'_>) -> Option<(&[u8], TextLeft<'_>)>
 }
 
 /// The cost whose line has to be the next, and the text behind it.
-fn cost_at(text: TextLeft<'_>) -> Result<(u16, TextLeft<'_>), AnswerStop>
+fn cost_at(text: TextLeft<'_>) -> Result<(u16, TextLeft<'_>), Refusal<AnswerFault>>
     ensures { (of : Option OtherText) (router : List ℕ) → MatchResult result (λ r. (0 < r.0) × Goes (AtCost of router) text.entry (answer_cost_line r.0 ∷ []) (AtExit of router) r.1)
         (StopsReader (AtCost of router) text.entry) }
 {
@@ -257,7 +257,7 @@ fn cost_of(line: &[u8]) -> Option<u16>
 }
 
 /// The text behind the line that closes an interface.
-fn exit_at(text: TextLeft<'_>) -> Result<TextLeft<'_>, AnswerStop>
+fn exit_at(text: TextLeft<'_>) -> Result<TextLeft<'_>, Refusal<AnswerFault>>
     ensures { (of : Option OtherText) (router : List ℕ) → MatchResult result (λ rest. Goes (AtExit of router) text.entry (codes "exit" ∷ []) (AtSections of (Some router)) rest)
         (StopsReader (AtExit of router) text.entry) }
 {

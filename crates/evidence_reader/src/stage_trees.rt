@@ -9,11 +9,11 @@ ghost use Rattle.evidence_reader.specs.Stops.{StopsReader};
 ghost use Rattle.answer_lines.specs.Going.{Goes};
 ghost use Rattle.evidence_reader.specs.Stages.{before_part, part_head_line, behind_part_head};
 
+use crate::fault::AnswerFault;
 use crate::faults::fault_at;
-use crate::stop::AnswerStop;
 use answer_lines::{TextLeft, entry_of, tree_head_of};
 use begun_lines::{begins_entry, begins_open, begins_proof};
-use cost_base::OutOfMemory;
+use cost_base::{OutOfMemory, Refusal};
 use design_problem::{CapTree, Entry, Tree};
 use evidence_text::{TreePart, no_tree_line};
 use std::alloc::Global;
@@ -37,7 +37,7 @@ pub(crate) fn read_tree(
     alloc: Global,
     part: TreePart,
     text: TextLeft<'_>,
-) -> Result<(Option<CapTree>, TextLeft<'_>), AnswerStop>
+) -> Result<(Option<CapTree>, TextLeft<'_>), Refusal<AnswerFault>>
     ensures { MatchResult result (λ r. FitsTree r.0 × Goes (before_part part) text.entry (tree_lines (part_word part) r.0) (AtTree part zero zero) r.1)
         (StopsReader (before_part part) text.entry) }
 {
@@ -52,7 +52,10 @@ pub(crate) fn read_tree(
 }
 
 /// What the line that a part begins with says, where it has to be the next.
-fn part_head(part: TreePart, text: TextLeft<'_>) -> Result<(PartHead, TextLeft<'_>), AnswerStop>
+fn part_head(
+    part: TreePart,
+    text: TextLeft<'_>,
+) -> Result<(PartHead, TextLeft<'_>), Refusal<AnswerFault>>
     ensures { MatchResult result (λ r. Goes (before_part part) text.entry (part_head_line part r.0 ∷ []) (behind_part_head part r.0) r.1)
         (StopsReader (before_part part) text.entry) }
 {
@@ -99,7 +102,7 @@ fn tree_behind(
     alloc: Global,
     count: u32,
     text: TextLeft<'_>,
-) -> Result<(Tree, TextLeft<'_>), AnswerStop>
+) -> Result<(Tree, TextLeft<'_>), Refusal<AnswerFault>>
     ensures { (part : TreePart) → MatchResult result
         (λ r. (length r.0 ≡ count) × All FitsEntry r.0 × Goes (AtTree part 1 count) text.entry (map entry_line r.0) (AtTree part zero zero) r.1)
         (StopsReader (AtTree part 1 count) text.entry) }
@@ -137,7 +140,7 @@ fn entry_at(
     alloc: Global,
     places: u64,
     text: TextLeft<'_>,
-) -> Result<(Entry, TextLeft<'_>), AnswerStop>
+) -> Result<(Entry, TextLeft<'_>), Refusal<AnswerFault>>
     ensures { (part : TreePart) (left : ℕ) → MatchResult result
         (λ r. (0 < places) × FitsEntry r.0 × Goes (AtTree part places (suc left)) text.entry (entry_line r.0 ∷ [])
         (AtTree part (subtree_count r.0 + (places - 1)) left) r.1) (StopsReader (AtTree part places (suc left)) text.entry) }
@@ -149,7 +152,10 @@ fn entry_at(
 }
 
 /// The entry whose line has to be the next at an open place, and the text behind it.
-fn entry_in_place(alloc: Global, text: TextLeft<'_>) -> Result<(Entry, TextLeft<'_>), AnswerStop>
+fn entry_in_place(
+    alloc: Global,
+    text: TextLeft<'_>,
+) -> Result<(Entry, TextLeft<'_>), Refusal<AnswerFault>>
     ensures { (part : TreePart) (places left : ℕ) →
         MatchResult result (λ r. FitsEntry r.0 × Goes (AtTree part (suc places) (suc left)) text.entry (entry_line r.0 ∷ [])
         (AtTree part (subtree_count r.0 + places) left) r.1) (StopsReader (AtTree part (suc places) (suc left)) text.entry) }

@@ -5,7 +5,7 @@ use Rattle.std.proofs.lemmas.Bool.{le-leb, lt-leb}
 use Rattle.cost_base.specs.declared.ShelfStop.{ShelfStop}
 use Rattle.cost_base.specs.declared.ShelfStop.TheVariants as stop
 use Rattle.cost_base.specs.Histories.{Taken, AreTold, IsToldAs, failure, failures}
-use Rattle.input_files.specs.Readings.{Refusal, Reading, Take, Refused, Ready, End, Says, Faulty, Failed, too_long, OnCame, EndsAs}
+use Rattle.input_files.specs.Readings.{InputRefusal, Reading, Take, Refused, Ready, End, Says, Faulty, Failed, too_long, OnCame, EndsAs}
 use Rattle.input_files.specs.Ends.{text_named, end_of_reading}
 
 -- a text of at most so many bytes is read
@@ -57,7 +57,7 @@ IsNoFailure (Says x) = Unit {0}
 IsNoFailure (Faulty r) = Unit {0}
 IsNoFailure (Failed file) = ⊥
 
-either_end : {A : Type 0} (b : Bool) (end : End A) (r : Refusal) → IsNoFailure end → IsNoFailure (cond b end (Faulty r))
+either_end : {A : Type 0} (b : Bool) (end : End A) (r : InputRefusal) → IsNoFailure end → IsNoFailure (cond b end (Faulty r))
 either_end true end r fine = fine
 either_end false end r fine = tt
 

@@ -5,7 +5,7 @@ use Rattle.cost_base.specs.Lists.{first_of}
 use Rattle.interface_model.specs.Records.{Router}
 use Rattle.lsdb_build.specs.Graphs.{Database}
 use Rattle.request_reader.specs.Asked.{Asked}
-use Rattle.wanted_paths.specs.declared.stop.ResolutionFault.{ResolutionFault}
+use Rattle.wanted_paths.specs.declared.fault.ResolutionFault.{ResolutionFault}
 use Rattle.wanted_paths.specs.LineFaults.{line_faults}
 use Rattle.input_files.specs.declared.layout.Layout.{Layout}
 use Rattle.input_files.specs.declared.stop.Stop.{Stop}

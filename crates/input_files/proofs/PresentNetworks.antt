@@ -6,7 +6,7 @@ use Rattle.lsdb_build.specs.Graphs.{Database, IsAreaDatabase}
 use Rattle.design_problem.specs.Problems.{DesignProblem}
 use Rattle.request_reader.specs.Asked.{IsAsked}
 use Rattle.request_reader.proofs.AskedRules.{none_first}
-use Rattle.wanted_paths.specs.declared.stop.ResolutionFault.{ResolutionFault}
+use Rattle.wanted_paths.specs.declared.fault.ResolutionFault.{ResolutionFault}
 use Rattle.wanted_paths.specs.LineFaults.{line_faults}
 use Rattle.path_requests.specs.Meaning.{present_cost, problem_of}
 use Rattle.path_requests.specs.Resolving.{ends_faults, variable_faults, cost_faults, present_asked, present_fault, present_problem_of}

@@ -3,11 +3,11 @@ use Rattle.std.proofs.Common.{◌≡◌, ℕ, refl, sym, ◌∙◌, ap, subst, L
 use Rattle.cost_base.specs.declared.ShelfStop.{ShelfStop}
 use Rattle.cost_base.specs.declared.ShelfStop.TheVariants as stop
 use Rattle.cost_base.specs.Histories.{Taken}
-use Rattle.input_files.specs.Readings.{Refusal, Reading, Take, Refused, Ready, ◌>>=◌, End, Says, Faulty, Failed, too_long, OnCame, EndsAs, OnBytes, Begins}
+use Rattle.input_files.specs.Readings.{InputRefusal, Reading, Take, Refused, Ready, ◌>>=◌, End, Says, Faulty, Failed, too_long, OnCame, EndsAs, OnBytes, Begins}
 
 -- Ends differ.
 
-abbrev faulty : (A : Type 0) → Refusal → End A
+abbrev faulty : (A : Type 0) → InputRefusal → End A
 faulty A r = Faulty r
 
 -- a file that failed, as the end of a reading
@@ -32,16 +32,16 @@ IsFaulty (Says x) = ⊥
 IsFaulty (Faulty r) = Unit {0}
 IsFaulty (Failed file) = ⊥
 
-pub said_faulty : {A : Type 0} (x : A) (r : Refusal) → Says x ≡ Faulty r → ⊥
+pub said_faulty : {A : Type 0} (x : A) (r : InputRefusal) → Says x ≡ Faulty r → ⊥
 said_faulty {A} x r same = subst (λ (e : End A). IsSays e) same tt
 
 pub said_failed : {A : Type 0} (x : A) (file : List ℕ) → Says x ≡ Failed file → ⊥
 said_failed {A} x file same = subst (λ (e : End A). IsSays e) same tt
 
-pub faulty_failed : {A : Type 0} (r : Refusal) (file : List ℕ) → faulty A r ≡ Failed file → ⊥
+pub faulty_failed : {A : Type 0} (r : InputRefusal) (file : List ℕ) → faulty A r ≡ Failed file → ⊥
 faulty_failed {A = A} r file same = subst (λ (e : End A). IsFaulty e) same tt
 
-abbrev fault_as : {A : Type 0} → Refusal → End A → Refusal
+abbrev fault_as : {A : Type 0} → InputRefusal → End A → InputRefusal
 fault_as other (Says x) = other
 fault_as other (Faulty r) = r
 fault_as other (Failed file) = other
@@ -52,7 +52,7 @@ file_as other (Says x) = other
 file_as other (Faulty r) = other
 file_as other (Failed file) = file
 
-faulty_of : {A B : Type 0} (r s : Refusal) → faulty A r ≡ Faulty s → faulty B r ≡ Faulty s
+faulty_of : {A B : Type 0} (r s : InputRefusal) → faulty A r ≡ Faulty s → faulty B r ≡ Faulty s
 faulty_of r s same = ap (λ t. Faulty t) (ap (λ e. fault_as r e) same)
 
 failed_of : {A B : Type 0} (f h : List ℕ) → failed A f ≡ Failed h → failed B f ≡ Failed h
@@ -87,7 +87,7 @@ ends_then {A} {B} (Take name most next) f (taken ∷ xs) ys x end first second =
 )
 
 -- a fault of the one reading is one of both
-pub ends_faulty : {A B : Type 0} (m : Reading A) (f : A → Reading B) (xs : List Taken) (r : Refusal) → EndsAs m xs (Faulty r) → EndsAs (m >>= f) xs (Faulty r)
+pub ends_faulty : {A B : Type 0} (m : Reading A) (f : A → Reading B) (xs : List Taken) (r : InputRefusal) → EndsAs m xs (Faulty r) → EndsAs (m >>= f) xs (Faulty r)
 ends_faulty (Ready y) f [] r first = absurd (said_faulty y r (sym first))
 ends_faulty (Ready y) f (taken ∷ xs) r first = absurd first
 ends_faulty {A} {B} (Refused s) f [] r first = faulty_of {A = A} {B = B} r s first

@@ -14,13 +14,13 @@ use Rattle.lsdb_build.specs.Graphs.{Database, IsAreaDatabase}
 use Rattle.lsdb_build.specs.Topology.{FaultyPlace, topology_fault, database_of}
 use Rattle.lsdb_build.proofs.Databases.{database_is}
 use Rattle.design_problem.specs.Problems.{DesignProblem, IsProblem}
-use Rattle.request_reader.specs.declared.stop.RequestFault.{RequestFault}
+use Rattle.request_reader.specs.declared.fault.RequestFault.{RequestFault}
 use Rattle.request_reader.specs.Asked.{Asked, IsAsked}
 use Rattle.request_reader.specs.Reading.{request_fault, asked_by}
 use Rattle.request_reader.proofs.AskedRules.{asked_keeps}
 use Rattle.path_requests.specs.Meaning.{problem_of}
 use Rattle.path_requests.proofs.ResolvedProblems.{resolved_is_problem}
-use Rattle.wanted_paths.specs.declared.stop.ResolutionFault.{ResolutionFault}
+use Rattle.wanted_paths.specs.declared.fault.ResolutionFault.{ResolutionFault}
 use Rattle.path_requests.specs.Resolving.{resolution_fault}
 use Rattle.present_costs.specs.PresentCosts.{fault_beside_present}
 use Rattle.present_costs.proofs.FaultsBeside.{beside_then_resolved}

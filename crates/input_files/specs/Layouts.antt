@@ -3,7 +3,7 @@ use Rattle.std.specs.Prelude.{◌≡◌, List, Option, None, Some}
 use Rattle.cost_base.specs.Lists.{first_of}
 use Rattle.lsdb_build.specs.Graphs.{Database}
 use Rattle.request_reader.specs.Asked.{Asked}
-use Rattle.wanted_paths.specs.declared.stop.ResolutionFault.{ResolutionFault}
+use Rattle.wanted_paths.specs.declared.fault.ResolutionFault.{ResolutionFault}
 use Rattle.wanted_paths.specs.LineFaults.{line_faults}
 use Rattle.input_files.specs.declared.layout.Layout.{Layout}
 use Rattle.input_files.specs.Inputs.{InputFiles}

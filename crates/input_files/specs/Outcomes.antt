@@ -10,20 +10,20 @@ use Rattle.lsdb_build.specs.FaultNumbers.{topology_fault_number}
 use Rattle.lsdb_build.specs.Topology.{FaultyPlace, topology_fault, database_of}
 use Rattle.design_problem.specs.Problems.{DesignProblem}
 use Rattle.text_lines.specs.LineFaults.{FaultyLine}
-use Rattle.request_reader.specs.declared.stop.RequestFault.{RequestFault}
+use Rattle.request_reader.specs.declared.fault.RequestFault.{RequestFault}
 use Rattle.request_reader.specs.Asked.{Asked}
 use Rattle.path_requests.specs.Meaning.{problem_of}
 use Rattle.request_reader.specs.FaultNumbers.{request_fault_number}
 use Rattle.request_reader.specs.Reading.{request_fault, asked_by}
-use Rattle.wanted_paths.specs.declared.stop.ResolutionFault.{ResolutionFault}
-use Rattle.wanted_paths.specs.declared.stop.ResolutionFault.TheVariants.{UnknownRouter, UnknownInterface, NotALink, BrokenPath, LoopPath, PathExcluded, EndsDiffer, TooManyVariables, NoCost}
+use Rattle.wanted_paths.specs.declared.fault.ResolutionFault.{ResolutionFault}
+use Rattle.wanted_paths.specs.declared.fault.ResolutionFault.TheVariants.{UnknownRouter, UnknownInterface, NotALink, BrokenPath, LoopPath, PathExcluded, EndsDiffer, TooManyVariables, NoCost}
 use Rattle.wanted_paths.specs.FaultNumbers.{resolution_fault_number}
 use Rattle.path_requests.specs.Resolving.{resolution_fault, present_fault, present_problem_of}
 use Rattle.present_costs.specs.PresentCosts.{fault_beside_present}
 use Rattle.input_files.specs.declared.problem.View.{View}
 use Rattle.input_files.specs.declared.problem.View.TheVariants.{AsRequested, BesidePresent, AtPresent}
 use Rattle.input_files.specs.Inputs.{InputFiles}
-use Rattle.input_files.specs.Readings.{Refusal, Reading, Take, Refused, Ready, ◌>>=◌}
+use Rattle.input_files.specs.Readings.{InputRefusal, Reading, Take, Refused, Ready, ◌>>=◌}
 
 -- a configuration: its file's name and its bytes
 pub record ConfigFile : Type 0 where
@@ -113,7 +113,7 @@ resolution_place names d (EndsDiffer line) = record { file = names.request; line
 resolution_place names d TooManyVariables = record { file = names.request; line = 0 }
 
 -- how a fault of resolution is written
-abbrev pub resolution_refusal : InputFiles → Database → ResolutionFault → Refusal
+abbrev pub resolution_refusal : InputFiles → Database → ResolutionFault → InputRefusal
 resolution_refusal names d fault =
     record { number = resolution_fault_number fault; file = (resolution_place names d fault).file; line = (resolution_place names d fault).line }
 

@@ -7,7 +7,7 @@ use Rattle.input_files.specs.declared.stop.FileFault.TheVariants.{TooLong}
 use Rattle.input_files.specs.FaultNumbers.{file_fault_number}
 
 -- a refusal of input: its number, the file and the line
-pub record Refusal : Type 0 where
+pub record InputRefusal : Type 0 where
   pub number : ℕ
   pub file : List ℕ
   pub line : ℕ
@@ -16,7 +16,7 @@ pub record Refusal : Type 0 where
 -- the files say.
 pub data Reading (A : Type 0) : Type 0 where
   Take : (name : List ℕ) → (most : ℕ) → (List ℕ → Reading A) → Reading A
-  Refused : Refusal → Reading A
+  Refused : InputRefusal → Reading A
   Ready : A → Reading A
 
 infixl 10 ◌>>=◌
@@ -29,11 +29,11 @@ abbrev pub ◌>>=◌ : {A B : Type 0} → Reading A → (A → Reading B) → Re
 -- how a reading ends: the files say this, or their first fault is this, or this file failed
 pub data End (A : Type 0) : Type 0 where
   Says : A → End A
-  Faulty : Refusal → End A
+  Faulty : InputRefusal → End A
   Failed : List ℕ → End A
 
 -- a file is longer than its limit
-abbrev pub too_long : List ℕ → Refusal
+abbrev pub too_long : List ℕ → InputRefusal
 too_long file = record { number = file_fault_number TooLong; file = file; line = 0 }
 
 -- of what came of a file: this of its bytes, this where it was too long, and this where it failed

@@ -3,27 +3,22 @@ use Rattle.std.specs.Prelude.{◌≡◌, ℕ, List, Result, Ok, Err}
 use Rattle.std.specs.Borrow.{Bor}
 use Rattle.cost_base.specs.declared.ShelfStop.{ShelfStop}
 use Rattle.cost_base.specs.declared.ShelfStop.TheVariants.{Failed as NotRead, TooLong, OutOfMemory as NoMemory}
+use Rattle.cost_base.specs.declared.refusal.Refusal.{Refusal}
+use Rattle.cost_base.specs.declared.refusal.Refusal.TheVariants.{Refused as FaultAt, OutOfMemory as NoMemoryLeft}
 use Rattle.cost_base.specs.Histories.{Taken}
-use Rattle.config_reader.specs.declared.stop.ConfigStop.{ConfigStop}
-use Rattle.config_reader.specs.declared.stop.ConfigStop.TheVariants.{Refused as ConfigRefused, OutOfMemory as NoMemoryForConfig}
-use Rattle.lsdb_build.specs.declared.stop.TopologyStop.{TopologyStop}
-use Rattle.lsdb_build.specs.declared.stop.TopologyStop.TheVariants.{Refused as TopologyRefused, OutOfMemory as NoMemoryForTopology}
+use Rattle.lsdb_build.specs.declared.fault.ConfigLine.{ConfigLine}
+use Rattle.lsdb_build.specs.declared.fault.TopologyFault.{TopologyFault}
 use Rattle.lsdb_build.specs.Graphs.{Database}
-use Rattle.request_reader.specs.declared.stop.RequestStop.{RequestStop}
-use Rattle.request_reader.specs.declared.stop.RequestStop.TheVariants.{Refused as RequestRefused, OutOfMemory as NoMemoryForRequest}
-use Rattle.wanted_paths.specs.declared.stop.ResolutionStop.{ResolutionStop}
-use Rattle.wanted_paths.specs.declared.stop.ResolutionStop.TheVariants.{Refused as ResolutionRefused, OutOfMemory as NoMemoryForResolution}
 use Rattle.input_files.specs.declared.stop.FileFault.TheVariants.{TooLong as FileTooLong}
 use Rattle.input_files.specs.FaultNumbers.{file_fault_number}
-use Rattle.config_reader.specs.FaultNumbers.{config_fault_number}
 use Rattle.lsdb_build.specs.FaultNumbers.{topology_fault_number}
-use Rattle.request_reader.specs.FaultNumbers.{request_fault_number}
+use Rattle.wanted_paths.specs.declared.fault.ResolutionFault.{ResolutionFault}
 use Rattle.text_lines.specs.Arguments.{texts}
 use Rattle.input_files.specs.declared.stop.Stop.{Stop}
 use Rattle.input_files.specs.declared.stop.Stop.TheVariants.{Refused, ReadFault, OutOfMemory}
 use Rattle.input_files.specs.declared.reading.FileWords.{FileWords}
 use Rattle.input_files.specs.Inputs.{InputFiles}
-use Rattle.input_files.specs.Readings.{Refusal, Reading, Says, Faulty, Failed, EndsAs, Begins}
+use Rattle.input_files.specs.Readings.{InputRefusal, Reading, Says, Faulty, Failed, EndsAs, Begins}
 use Rattle.input_files.specs.Outcomes.{file_of, resolution_refusal}
 
 -- the files that words name
@@ -31,7 +26,7 @@ abbrev pub files_named : FileWords → InputFiles
 files_named words = record { request = words.request.now; configs = texts words.configs.now }
 
 -- a refusal by its number, its file and its line
-abbrev pub refusal_in : ℕ → Bor (List ℕ) → ℕ → Refusal
+abbrev pub refusal_in : ℕ → Bor (List ℕ) → ℕ → InputRefusal
 refusal_in number file line = record { number = number; file = file.now; line = line }
 
 -- a stop tells how a reading ends that it stopped; where memory was wanting, what came begins the reading
@@ -57,29 +52,24 @@ file_stop NotRead file = ReadFault file
 file_stop TooLong file = Refused (file_fault_number FileTooLong) file 0
 file_stop NoMemory file = OutOfMemory
 
--- the stop of a request that is refused by itself
-abbrev pub request_stop : RequestStop → Bor (List ℕ) → Stop
-request_stop (RequestRefused fault line) file = Refused (request_fault_number fault) file line
-request_stop NoMemoryForRequest file = OutOfMemory
-
--- the stop of a configuration that is refused
-abbrev pub config_stop : ConfigStop → Bor (List ℕ) → Stop
-config_stop (ConfigRefused fault line) file = Refused (config_fault_number fault) file line
-config_stop NoMemoryForConfig file = OutOfMemory
+-- the stop of a file that is refused by itself, where its faults have these numbers
+abbrev pub refusal_stop : {F : Type 0} → (F → ℕ) → Refusal F ℕ → Bor (List ℕ) → Stop
+refusal_stop numbered (FaultAt fault line) file = Refused (numbered fault) file line
+refusal_stop numbered NoMemoryLeft file = OutOfMemory
 
 -- a stop that is a refusal of these parts
-abbrev pub IsRefusal : Refusal → Stop → Type 0
+abbrev pub IsRefusal : InputRefusal → Stop → Type 0
 IsRefusal r (Refused number file line) = r ≡ refusal_in number file line
 IsRefusal r (ReadFault file) = ⊥
 IsRefusal r OutOfMemory = ⊥
 
 -- the stop of a topology that is refused
-abbrev pub topology_stop : TopologyStop → InputFiles → Stop → Type 0
-topology_stop (TopologyRefused fault config line) names stop =
-    IsRefusal (record { number = topology_fault_number fault; file = file_of names config; line = line }) stop
-topology_stop NoMemoryForTopology names stop = stop ≡ OutOfMemory
+abbrev pub topology_stop : Refusal TopologyFault ConfigLine → InputFiles → Stop → Type 0
+topology_stop (FaultAt fault place) names stop =
+    IsRefusal (record { number = topology_fault_number fault; file = file_of names place.config; line = place.line }) stop
+topology_stop NoMemoryLeft names stop = stop ≡ OutOfMemory
 
 -- the stop of requests that aren't resolved
-abbrev pub resolution_stop : ResolutionStop → Database → InputFiles → Stop → Type 0
-resolution_stop (ResolutionRefused fault) d names stop = IsRefusal (resolution_refusal names d fault) stop
-resolution_stop NoMemoryForResolution d names stop = stop ≡ OutOfMemory
+abbrev pub resolution_stop : Refusal ResolutionFault (Unit {0}) → Database → InputFiles → Stop → Type 0
+resolution_stop (FaultAt fault place) d names stop = IsRefusal (resolution_refusal names d fault) stop
+resolution_stop NoMemoryLeft d names stop = stop ≡ OutOfMemory

@@ -9,12 +9,12 @@ ghost use Rattle.input_files.specs.Stops.{IsReadAs, files_named};
 use crate::problem::{stop_of_resolution, topology};
 use crate::reading::{FileWords, read_configs, read_request};
 use crate::stop::Stop;
-use cost_base::Shelf;
+use cost_base::{Refusal, Shelf};
 use interface_model::RouterConfig;
 use lsdb_build::Lsdb;
 use request_reader::RequestFile;
 use std::alloc::Global;
-use wanted_paths::{Names, ResolutionStop, resolve_lines};
+use wanted_paths::{Names, ResolutionFault, resolve_lines};
 
 /// A network as its files say it, whatever its interfaces cost.
 #[derive(Drop)]
@@ -50,7 +50,7 @@ fn resolve_each_line(
     alloc: Global,
     requests: &RequestFile,
     lsdb: &Lsdb,
-) -> Result<(), ResolutionStop>
+) -> Result<(), Refusal<ResolutionFault, ()>>
     ensures made { OnOk result (line_faults lsdb.now requests.now.items ≡ []) }
     ensures refused { IfErr result (TellsResolution (first_of (line_faults lsdb.now requests.now.items))) }
 {
@@ -66,7 +66,7 @@ fn check_lines<'a>(alloc: Global, layout: &Layout, words: FileWords<'a>) -> Resu
 {
     match resolve_each_line(alloc, &layout.requests, &layout.lsdb) {
         Ok(()) => Ok(()),
-        Err(stop) => Err(stop_of_resolution(stop, &layout.lsdb, words)),
+        Err(refusal) => Err(stop_of_resolution(refusal, &layout.lsdb, words)),
     }
 }
 

@@ -8,15 +8,15 @@ ghost use Rattle.input_files.specs.Stops.{IsReadAs, files_named, topology_stop, 
 use crate::network::read_network;
 use crate::reading::FileWords;
 use crate::stop::Stop;
-use cost_base::Shelf;
+use cost_base::{Fault, Refusal, Shelf};
 use design_problem::Problem;
 use interface_model::RouterConfig;
-use lsdb_build::{Lsdb, TopologyStop, build};
+use lsdb_build::{ConfigLine, Lsdb, TopologyFault, build};
 use path_requests::{resolve, resolve_present};
 use present_costs::resolve_beside_present;
 use request_reader::RequestFile;
 use std::alloc::Global;
-use wanted_paths::{ResolutionFault, ResolutionStop};
+use wanted_paths::ResolutionFault;
 
 /// Which interfaces of a problem are free: those that the request frees, or none, as every interface stands at present.
 /// With it goes which interfaces need a cost line where there is no default.
@@ -41,20 +41,16 @@ pub fn file_of(words: FileWords<'_>, router: u32) -> &str
 }
 
 /// The stop of a topology that is refused.
-fn stop_of_topology(stop: TopologyStop, words: FileWords<'_>) -> Stop<'_>
-    ensures { topology_stop stop (files_named words.entry) result }
+fn stop_of_topology(refusal: Refusal<TopologyFault, ConfigLine>, words: FileWords<'_>) -> Stop<'_>
+    ensures { topology_stop refusal (files_named words.entry) result }
 {
-    match stop {
-        TopologyStop::Refused {
-            fault,
-            config,
-            line,
-        } => Stop::Refused {
+    match refusal {
+        Refusal::Refused { fault, place } => Stop::Refused {
             number: fault.number(),
-            file: file_of(words, config),
-            line,
+            file: file_of(words, place.config),
+            line: place.line,
         },
-        TopologyStop::OutOfMemory => Stop::OutOfMemory,
+        Refusal::OutOfMemory => Stop::OutOfMemory,
     }
 }
 
@@ -69,7 +65,7 @@ pub(crate) fn topology<'a>(
 {
     match build(alloc, configs, area) {
         Ok(lsdb) => Ok(lsdb),
-        Err(stop) => Err(stop_of_topology(stop, words)),
+        Err(refusal) => Err(stop_of_topology(refusal, words)),
     }
 }
 
@@ -89,14 +85,14 @@ fn place_of<'a>(fault: ResolutionFault, lsdb: &Lsdb, words: FileWords<'a>) -> (&
 
 /// The stop of requests that aren't resolved.
 pub(crate) fn stop_of_resolution<'a>(
-    stop: ResolutionStop,
+    refusal: Refusal<ResolutionFault, ()>,
     lsdb: &Lsdb,
     words: FileWords<'a>,
 ) -> Stop<'a>
-    ensures { resolution_stop stop lsdb.now (files_named words.entry) result }
+    ensures { resolution_stop refusal lsdb.now (files_named words.entry) result }
 {
-    match stop {
-        ResolutionStop::Refused(fault) => {
+    match refusal {
+        Refusal::Refused { fault, place: () } => {
             let (file, line) = place_of(fault, lsdb, words);
             Stop::Refused {
                 number: fault.number(),
@@ -104,7 +100,7 @@ pub(crate) fn stop_of_resolution<'a>(
                 line,
             }
         }
-        ResolutionStop::OutOfMemory => Stop::OutOfMemory,
+        Refusal::OutOfMemory => Stop::OutOfMemory,
     }
 }
 
@@ -119,7 +115,7 @@ fn resolution_as_requested<'a>(
 {
     match resolve(alloc, requests, lsdb) {
         Ok(problem) => Ok(problem),
-        Err(stop) => Err(stop_of_resolution(stop, lsdb, words)),
+        Err(refusal) => Err(stop_of_resolution(refusal, lsdb, words)),
     }
 }
 
@@ -134,7 +130,7 @@ fn resolution_beside_present<'a>(
 {
     match resolve_beside_present(alloc, requests, lsdb) {
         Ok(problem) => Ok(problem),
-        Err(stop) => Err(stop_of_resolution(stop, lsdb, words)),
+        Err(refusal) => Err(stop_of_resolution(refusal, lsdb, words)),
     }
 }
 
@@ -154,7 +150,7 @@ pub fn resolution_at_present<'a>(
 {
     match resolve_present(alloc, requests, lsdb) {
         Ok(problem) => Ok(problem),
-        Err(stop) => Err(stop_of_resolution(stop, lsdb, words)),
+        Err(refusal) => Err(stop_of_resolution(refusal, lsdb, words)),
     }
 }
 

@@ -4,13 +4,12 @@ ghost use Rattle.config_reader.specs.Configs.{config_of};
 ghost use Rattle.text_lines.specs.Arguments.{texts};
 ghost use Rattle.input_files.specs.Readings.{Gave};
 ghost use Rattle.input_files.specs.Outcomes.{longest_answer, file_read, request_read, configs_read, config_read, routers_of};
-ghost use Rattle.input_files.specs.Stops.{IsReadAs, file_stop, request_stop, config_stop};
+ghost use Rattle.input_files.specs.Stops.{IsReadAs, file_stop};
 
-use crate::stop::{FileFault, Stop};
-use config_reader::ConfigStop;
-use cost_base::{Shelf, ShelfStop};
+use crate::stop::{FileFault, Stop, stop_of};
+use cost_base::{Fault, Shelf, ShelfStop};
 use interface_model::RouterConfig;
-use request_reader::{RequestFile, RequestStop, read_requests};
+use request_reader::{RequestFile, read_requests};
 use std::alloc::Global;
 use std::marker::Model;
 
@@ -66,20 +65,6 @@ pub fn read_file<'a, S: Shelf>(
     }
 }
 
-/// The stop of a request that is refused by itself.
-fn stop_of_request(stop: RequestStop, file: &str) -> Stop<'_>
-    ensures { result ≡ request_stop stop file.entry }
-{
-    match stop {
-        RequestStop::Refused { fault, line } => Stop::Refused {
-            number: fault.number(),
-            file,
-            line,
-        },
-        RequestStop::OutOfMemory => Stop::OutOfMemory,
-    }
-}
-
 /// What the request file asks for.
 pub(crate) fn read_request<'a, S: Shelf>(
     alloc: Global,
@@ -91,21 +76,7 @@ pub(crate) fn read_request<'a, S: Shelf>(
     let bytes = read_file(alloc, shelf, name, LONGEST_FILE)?;
     match read_requests(alloc, &bytes) {
         Ok(requests) => Ok(requests),
-        Err(stop) => Err(stop_of_request(stop, name)),
-    }
-}
-
-/// The stop of a configuration that is refused.
-fn stop_of_config(stop: ConfigStop, file: &str) -> Stop<'_>
-    ensures { result ≡ config_stop stop file.entry }
-{
-    match stop {
-        ConfigStop::Refused { fault, line } => Stop::Refused {
-            number: fault.number(),
-            file,
-            line,
-        },
-        ConfigStop::OutOfMemory => Stop::OutOfMemory,
+        Err(refusal) => Err(stop_of(refusal, name)),
     }
 }
 
@@ -158,7 +129,7 @@ pub fn read_config_text<'a, S: Shelf>(
             bytes,
             router,
         }),
-        Err(stop) => Err(stop_of_config(stop, name)),
+        Err(refusal) => Err(stop_of(refusal, name)),
     }
 }
 

@@ -1,8 +1,9 @@
 //! What ends the reading of files.
 ghost use Rattle.std.specs.Prelude.{◌≡◌};
 ghost use Rattle.input_files.specs.FaultNumbers.{file_fault_number};
+ghost use Rattle.input_files.specs.Stops.{refusal_stop};
 
-use cost_base::OutOfMemory;
+use cost_base::{Fault, OutOfMemory, Refusal};
 
 /// Why a file is refused whose bytes nobody reads.
 #[derive(Clone, Copy, Debug, PartialEq, Eq)]
@@ -11,11 +12,10 @@ pub enum FileFault {
     TooLong,
 }
 
-impl FileFault {
-    /// The number by which the fault is written.
-    pub fn number(self) -> u8
-        ensures { result ≡ file_fault_number self }
-    {
+impl Fault for FileFault {
+    ghost numbered = { file_fault_number };
+
+    fn number(self) -> u8 {
         match self {
             FileFault::TooLong => 9,
         }
@@ -51,5 +51,19 @@ impl<'a> From<OutOfMemory> for Stop<'a> {
 
     fn from(_error: OutOfMemory) -> Stop<'a> {
         Stop::OutOfMemory
+    }
+}
+
+/// The stop of a file that is refused by itself: the place of its fault is a line, or stands in place of one.
+pub fn stop_of<F: Fault>(refusal: Refusal<F>, file: &str) -> Stop<'_>
+    ensures { result ≡ refusal_stop F.numbered refusal file.entry }
+{
+    match refusal {
+        Refusal::Refused { fault, place } => Stop::Refused {
+            number: fault.number(),
+            file,
+            line: place,
+        },
+        Refusal::OutOfMemory => Stop::OutOfMemory,
     }
 }

@@ -1,6 +1,6 @@
 //! What is answered to a line: the router-LSAs that a live file says of an area, or why it is refused.
 use case_scripts::bytes_of;
-use live_reader::{LiveStop, read_live};
+use live_reader::read_live;
 use lsa_bytes::{Body, Database, Lsa, LsaLink};
 use std::alloc::{AllocError, Global};
 use text_lines::area;
@@ -44,10 +44,7 @@ fn file_text(alloc: Global, number: u32, bytes: &[u8]) -> Result<String, AllocEr
     }
     match read_live(alloc, bytes, number) {
         Ok(live) => lsas_text(alloc, &live),
-        Err(LiveStop::Refused { fault, place }) => {
-            format!(in alloc; "refused {} {place}", fault.number())
-        }
-        Err(LiveStop::OutOfMemory) => format!(in alloc; "no memory"),
+        Err(refusal) => format!(in alloc; "{refusal}"),
     }
 }
 

@@ -5,19 +5,20 @@ use Rattle.std.specs.Str.{is_utf8}
 use Rattle.std.specs.Str.Lossy.{utf8_valid_len}
 use Rattle.std.proofs.lemmas.Bool.{false≢true}
 use Rattle.std.proofs.lemmas.Str.{IsUtf8-from_is_utf8, is_utf8-from_IsUtf8}
+use Rattle.cost_base.specs.declared.refusal.Refusal.{Refusal}
+use Rattle.cost_base.specs.declared.refusal.Refusal.TheVariants.{Refused, OutOfMemory}
 use Rattle.lsa_bytes.specs.declared.Lsa.{Lsa}
-use Rattle.lsa_bytes.specs.declared.stop.LsaFault.{LsaFault}
+use Rattle.lsa_bytes.specs.declared.fault.LsaFault.{LsaFault}
 use Rattle.lsa_bytes.specs.Files.{ComesTo}
-use Rattle.live_reader.specs.declared.stop.LiveFault.{LiveFault}
-use Rattle.live_reader.specs.declared.stop.LiveFault.TheVariants.{BadJson}
-use Rattle.live_reader.specs.declared.stop.LiveStop.{LiveStop}
-use Rattle.live_reader.specs.declared.stop.LiveStop.TheVariants.{Refused, OutOfMemory}
+use Rattle.live_reader.specs.declared.fault.LiveFault.{LiveFault}
+use Rattle.live_reader.specs.declared.fault.LiveFault.TheVariants.{BadJson}
 use Rattle.live_reader.specs.LiveFiles.{begins_object, said_by_json, as_live, JsonComesTo, ComesToAs, LiveComesTo, RefusesLive}
+use Rattle.live_reader.specs.FaultNumbers.{live_fault_number}
 use Rattle.live_reader.specs.Texts.{line_of_offset}
 use Rattle.input_files.specs.Readings.{Says, EndsAs}
-use Rattle.input_files.specs.Stops.{StopsAs, IsReadAndMade}
+use Rattle.input_files.specs.Stops.{StopsAs, IsReadAndMade, refusal_stop}
 use Rattle.live_input.specs.LsaFiles.{lsas_in}
-use Rattle.live_input.specs.LiveReadings.{json_in, live_in, if_live, live_stop}
+use Rattle.live_input.specs.LiveReadings.{json_in, live_in, if_live}
 use Rattle.live_input.specs.Laws.{LsaFilesComeTo, LiveFilesComeTo}
 use Rattle.live_input.proofs.LsaFiles.{comes, lsas_are}
 
@@ -72,9 +73,9 @@ live_ready file area bytes lsas is =
     }
 
 -- the stop of a live file that is refused
-pub live_stops : (file : Bor (List ℕ)) (area : ℕ) (bytes : List ℕ) (stop : LiveStop) → RefusesLive area bytes stop →
-    StopsAs (if_live file.now (live_in area bytes)) [] (live_stop stop file)
+pub live_stops : (file : Bor (List ℕ)) (area : ℕ) (bytes : List ℕ) (stop : Refusal LiveFault ℕ) → RefusesLive area bytes stop →
+    StopsAs (if_live file.now (live_in area bytes)) [] (refusal_stop live_fault_number stop file)
 live_stops file area bytes (Refused fault place) is =
-    subst (λ (r : Outcome). StopsAs (if_live file.now r) [] (live_stop (Refused fault place) file))
+    subst (λ (r : Outcome). StopsAs (if_live file.now r) [] (refusal_stop live_fault_number (Refused fault place) file))
     (sym (live_are area bytes (Err (fault, place)) is)) refl
 live_stops file area bytes OutOfMemory is = tt

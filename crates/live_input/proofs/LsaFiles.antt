@@ -2,11 +2,12 @@
 use Rattle.std.proofs.Common.{◌≡◌, ℕ, zero, suc, ◌+◌, ◌<◌, ◌≤◌, refl, sym, ◌∙◌, ap, subst, List, [], ◌∷◌, ◌++◌, length, take, drop, arith, Option, None, Some, Result, Ok, Err}
 use Rattle.std.specs.Borrow.{Bor}
 use Rattle.std.proofs.lemmas.List.{length-drop}
-use Rattle.lsa_bytes.specs.declared.stop.LsaFault.{LsaFault}
-use Rattle.lsa_bytes.specs.declared.stop.LsaStop.{LsaStop}
-use Rattle.lsa_bytes.specs.declared.stop.LsaStop.TheVariants.{Refused, OutOfMemory}
+use Rattle.cost_base.specs.declared.refusal.Refusal.{Refusal}
+use Rattle.cost_base.specs.declared.refusal.Refusal.TheVariants.{Refused, OutOfMemory}
+use Rattle.lsa_bytes.specs.declared.fault.LsaFault.{LsaFault}
 use Rattle.lsa_bytes.specs.declared.Lsa.{Lsa}
 use Rattle.lsa_bytes.specs.declared.instances.Instance.{Instance}
+use Rattle.lsa_bytes.specs.Numbers.{lsa_fault_number}
 use Rattle.lsa_bytes.specs.Grammar.{length_of, said_at}
 use Rattle.lsa_bytes.specs.Faults.{length_fault, body_fault, form_fault}
 use Rattle.lsa_bytes.specs.Files.{ComesTo, Refuses, decided, instances_in}
@@ -15,8 +16,8 @@ use Rattle.lsa_bytes.proofs.Lengths.{option_or-none, begins_whole}
 use Rattle.lsa_bytes.proofs.ReadSoFar.{IsUnderway, IsFirst, begin, next, all_read, broken_off}
 use Rattle.lsa_bytes.proofs.Pieces.{one_outcome}
 use Rattle.input_files.specs.Readings.{Says, EndsAs}
-use Rattle.input_files.specs.Stops.{StopsAs, IsReadAndMade}
-use Rattle.live_input.specs.LsaFiles.{by_fault, lsas_behind, lsas_in, if_lsas, lsa_stop}
+use Rattle.input_files.specs.Stops.{StopsAs, IsReadAndMade, refusal_stop}
+use Rattle.live_input.specs.LsaFiles.{by_fault, lsas_behind, lsas_in, if_lsas}
 
 -- what instances and a fault behind them come to, the bytes come to
 comes_to : (bytes : List ℕ) (instances : List Instance) (behind : Option (LsaFault × ℕ)) → AreReadFrom bytes instances behind →
@@ -74,10 +75,10 @@ lsas_ready file bytes lsas is =
     }
 
 -- the stop of LSAs that are refused
-pub lsas_stop : (file : Bor (List ℕ)) (bytes : List ℕ) (stop : LsaStop) → Refuses bytes stop →
-    StopsAs (if_lsas file.now (lsas_in bytes)) [] (lsa_stop stop file)
+pub lsas_stop : (file : Bor (List ℕ)) (bytes : List ℕ) (stop : Refusal LsaFault ℕ) → Refuses bytes stop →
+    StopsAs (if_lsas file.now (lsas_in bytes)) [] (refusal_stop lsa_fault_number stop file)
 lsas_stop file bytes (Refused fault offset) is =
     subst (λ (r : Result (List Lsa) (LsaFault × ℕ)).
-    StopsAs (if_lsas file.now r) [] (lsa_stop (Refused fault offset) file))
+    StopsAs (if_lsas file.now r) [] (refusal_stop lsa_fault_number (Refused fault offset) file))
     (sym (lsas_are bytes (Err (fault, offset)) is)) refl
 lsas_stop file bytes OutOfMemory is = tt

@@ -1,9 +1,9 @@
 -- What reading goes by is what bytes come to.
 use Rattle.std.specs.Prelude.{◌≡◌, ◌↔◌, ℕ, List, Result}
 use Rattle.lsa_bytes.specs.declared.Lsa.{Lsa}
-use Rattle.lsa_bytes.specs.declared.stop.LsaFault.{LsaFault}
+use Rattle.lsa_bytes.specs.declared.fault.LsaFault.{LsaFault}
 use Rattle.lsa_bytes.specs.Files.{ComesTo}
-use Rattle.live_reader.specs.declared.stop.LiveFault.{LiveFault}
+use Rattle.live_reader.specs.declared.fault.LiveFault.{LiveFault}
 use Rattle.live_reader.specs.LiveFiles.{LiveComesTo}
 use Rattle.live_input.specs.LsaFiles.{lsas_in}
 use Rattle.live_input.specs.LiveReadings.{live_in}

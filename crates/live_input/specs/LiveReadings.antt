@@ -1,18 +1,13 @@
 -- What a live file says of an area, read after its size.
 use Rattle.std.specs.Prelude.{ℕ, List, Result, Ok, Err, if◌then◌else◌}
-use Rattle.std.specs.Borrow.{Bor}
 use Rattle.std.specs.Str.{is_utf8}
 use Rattle.std.specs.Str.Lossy.{utf8_valid_len}
 use Rattle.lsa_bytes.specs.declared.Lsa.{Lsa}
-use Rattle.live_reader.specs.declared.stop.LiveFault.{LiveFault}
-use Rattle.live_reader.specs.declared.stop.LiveFault.TheVariants.{BadJson}
-use Rattle.live_reader.specs.declared.stop.LiveStop.{LiveStop}
-use Rattle.live_reader.specs.declared.stop.LiveStop.TheVariants.{Refused as LiveRefused, OutOfMemory as NoMemoryForLive}
+use Rattle.live_reader.specs.declared.fault.LiveFault.{LiveFault}
+use Rattle.live_reader.specs.declared.fault.LiveFault.TheVariants.{BadJson}
 use Rattle.live_reader.specs.FaultNumbers.{live_fault_number}
 use Rattle.live_reader.specs.LiveFiles.{begins_object, said_by_json, as_live}
 use Rattle.live_reader.specs.Texts.{line_of_offset}
-use Rattle.input_files.specs.declared.stop.Stop.{Stop}
-use Rattle.input_files.specs.declared.stop.Stop.TheVariants.{Refused as StopRefused, OutOfMemory as StopOutOfMemory}
 use Rattle.input_files.specs.Readings.{Reading, Refused, Ready, ◌>>=◌}
 use Rattle.input_files.specs.Outcomes.{file_read}
 use Rattle.live_input.specs.LsaFiles.{longest_database, lsas_in}
@@ -33,8 +28,3 @@ if_live file (Err fault) = Refused (record { number = live_fault_number fault.0;
 -- a live file: its size, and then the LSAs of an area up to the first fault
 abbrev pub live_read : List ℕ → ℕ → Reading (List Lsa)
 live_read file area = file_read longest_database file >>= λ bytes. if_live file (live_in area bytes)
-
--- the stop of a live file that is refused
-abbrev pub live_stop : LiveStop → Bor (List ℕ) → Stop
-live_stop (LiveRefused fault place) file = StopRefused (live_fault_number fault) file place
-live_stop NoMemoryForLive file = StopOutOfMemory

@@ -1,13 +1,8 @@
 -- What a file of LSAs says, read LSA by LSA.
 use Rattle.std.specs.Prelude.{ℕ, zero, suc, ◌+◌, List, [], ◌∷◌, ◌++◌, length, take, drop, Option, Some, None, Result, Ok, Err}
-use Rattle.std.specs.Borrow.{Bor}
-use Rattle.input_files.specs.declared.stop.Stop.{Stop}
-use Rattle.input_files.specs.declared.stop.Stop.TheVariants.{Refused as StopRefused, OutOfMemory as StopOutOfMemory}
 use Rattle.input_files.specs.Readings.{Reading, Refused, Ready, ◌>>=◌}
 use Rattle.input_files.specs.Outcomes.{file_read}
-use Rattle.lsa_bytes.specs.declared.stop.LsaFault.{LsaFault}
-use Rattle.lsa_bytes.specs.declared.stop.LsaStop.{LsaStop}
-use Rattle.lsa_bytes.specs.declared.stop.LsaStop.TheVariants.{Refused as LsaRefused, OutOfMemory as NoMemoryForLsas}
+use Rattle.lsa_bytes.specs.declared.fault.LsaFault.{LsaFault}
 use Rattle.lsa_bytes.specs.declared.Lsa.{Lsa}
 use Rattle.lsa_bytes.specs.declared.instances.Instance.{Instance}
 use Rattle.lsa_bytes.specs.Faults.{form_fault}
@@ -45,8 +40,3 @@ if_lsas file (Err fault) = Refused (record { number = lsa_fault_number fault.0; 
 -- a file of LSAs: its size, and then its LSAs up to the first fault
 abbrev pub lsas_read : List ℕ → Reading (List Lsa)
 lsas_read file = file_read longest_database file >>= λ bytes. if_lsas file (lsas_in bytes)
-
--- the stop of LSAs that are refused
-abbrev pub lsa_stop : LsaStop → Bor (List ℕ) → Stop
-lsa_stop (LsaRefused fault offset) file = StopRefused (lsa_fault_number fault) file offset
-lsa_stop NoMemoryForLsas file = StopOutOfMemory

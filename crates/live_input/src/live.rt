@@ -2,28 +2,14 @@
 ghost use Rattle.std.specs.Prelude.{◌≡◌};
 ghost use Rattle.input_files.specs.Readings.{Gave};
 ghost use Rattle.input_files.specs.Stops.{IsReadAs};
-ghost use Rattle.live_input.specs.LiveReadings.{live_read, live_stop};
+ghost use Rattle.live_input.specs.LiveReadings.{live_read};
 
 use crate::LONGEST_DATABASE;
 use cost_base::Shelf;
-use input_files::{Stop, read_file};
-use live_reader::{LiveStop, read_live};
+use input_files::{Stop, read_file, stop_of};
+use live_reader::read_live;
 use lsa_bytes::Database;
 use std::alloc::Global;
-
-/// The stop of a live file that is refused, with the place of the fault in place of a line.
-fn stop_of_live(stop: LiveStop, file: &str) -> Stop<'_>
-    ensures { result ≡ live_stop stop file.entry }
-{
-    match stop {
-        LiveStop::Refused { fault, place } => Stop::Refused {
-            number: fault.number(),
-            file,
-            line: place,
-        },
-        LiveStop::OutOfMemory => Stop::OutOfMemory,
-    }
-}
 
 /// The LSAs of an area that count, as a live file says them: JSON as FRRouting prints it, or LSA bytes.
 ///
@@ -42,6 +28,6 @@ pub fn read_live_file<'a, S: Shelf>(
     let bytes = read_file(alloc, shelf, name, LONGEST_DATABASE)?;
     match read_live(alloc, &bytes, area) {
         Ok(database) => Ok(database),
-        Err(stop) => Err(stop_of_live(stop, name)),
+        Err(refusal) => Err(stop_of(refusal, name)),
     }
 }

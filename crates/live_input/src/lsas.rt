@@ -2,27 +2,13 @@
 ghost use Rattle.std.specs.Prelude.{◌≡◌};
 ghost use Rattle.input_files.specs.Readings.{Gave};
 ghost use Rattle.input_files.specs.Stops.{IsReadAs};
-ghost use Rattle.live_input.specs.LsaFiles.{lsa_stop, lsas_read};
+ghost use Rattle.live_input.specs.LsaFiles.{lsas_read};
 
 use crate::LONGEST_DATABASE;
 use cost_base::Shelf;
-use input_files::{Stop, read_file};
-use lsa_bytes::{Database, LsaStop, read_lsas};
+use input_files::{Stop, read_file, stop_of};
+use lsa_bytes::{Database, read_lsas};
 use std::alloc::Global;
-
-/// The stop of LSAs that are refused, with the offset of the faulty one in place of a line.
-fn stop_of_lsas(stop: LsaStop, file: &str) -> Stop<'_>
-    ensures { result ≡ lsa_stop stop file.entry }
-{
-    match stop {
-        LsaStop::Refused { fault, offset } => Stop::Refused {
-            number: fault.number(),
-            file,
-            line: offset,
-        },
-        LsaStop::OutOfMemory => Stop::OutOfMemory,
-    }
-}
 
 /// The LSAs of a file.
 ///
@@ -39,6 +25,6 @@ pub fn read_database<'a, S: Shelf>(
     let bytes = read_file(alloc, shelf, name, LONGEST_DATABASE)?;
     match read_lsas(alloc, &bytes) {
         Ok(database) => Ok(database),
-        Err(stop) => Err(stop_of_lsas(stop, name)),
+        Err(refusal) => Err(stop_of(refusal, name)),
     }
 }

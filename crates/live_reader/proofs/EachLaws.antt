@@ -2,10 +2,11 @@
 use Rattle.std.proofs.Common.{◌≡◌, ℕ, ◌+◌, ◌<◌, List, [], ◌∷◌, ◌++◌, length, drop, get_or, Option, refl, sym, ap, ◌∙◌, subst, append_assoc, append-nil}
 use Rattle.std.specs.Prelude.{Result, Ok, Err}
 use Rattle.std.proofs.lemmas.List.{drop_more}
+use Rattle.cost_base.specs.declared.refusal.Refusal.{Refusal}
+use Rattle.cost_base.specs.declared.refusal.Refusal.TheVariants.{Refused, OutOfMemory}
 use Rattle.json.specs.Token.{Token}
 use Rattle.json.specs.Json.{Json}
-use Rattle.live_reader.specs.declared.stop.ReadStop.{ReadStop}
-use Rattle.live_reader.specs.declared.stop.ReadStop.TheVariants.{Lacks, OutOfMemory}
+use Rattle.live_reader.specs.declared.fault.Lack.{Lack}
 use Rattle.live_reader.specs.Stops.{TellsLack}
 use Rattle.live_reader.specs.Places.{Stands, Placed, Member, object_members}
 use Rattle.live_reader.specs.Walks.{StandAt}
@@ -88,9 +89,9 @@ each_fail each read all place lacking places done said left reads = by_rest left
 
 -- what a stop tells of one of them it tells of all
 pub each_tell : {A B : Type 0} (each : B → List A) (read : ℕ → Option (List Member) → Result B ℕ) (all : List Token) (place : ℕ)
-    (places : List ℕ) (done : List A) (said : List Placed) (stop : ReadStop) → AreLeft each read all (place ∷ places) done said →
+    (places : List ℕ) (done : List A) (said : List Placed) (stop : Refusal Lack ℕ) → AreLeft each read all (place ∷ places) done said →
     ((j : Json) → Stands all place j → TellsLack (read place (object_members place j)) stop) → TellsLack (each_read each read said) stop
-each_tell each read all place places done said (Lacks lacking) left tells = each_fail each read all place lacking places done said left tells
+each_tell each read all place places done said (Refused lack lacking) left tells = each_fail each read all place lacking places done said left tells
 each_tell each read all place places done said OutOfMemory left tells = tt
 
 -- the places that are left begin with this one

@@ -2,11 +2,12 @@
 use Rattle.std.proofs.Common.{◌≡◌, ℕ, List, Some, None, sym, ap, ◌∙◌, subst}
 use Rattle.std.specs.Prelude.{codes, Result, Err}
 use Rattle.std.specs.Option.{option_and_then}
+use Rattle.cost_base.specs.declared.refusal.Refusal.{Refusal}
+use Rattle.cost_base.specs.declared.refusal.Refusal.TheVariants.{Refused, OutOfMemory}
 use Rattle.json.specs.Json.{Json}
 use Rattle.lsa_bytes.specs.declared.LsaLink.{LsaLink}
 use Rattle.live_reader.specs.declared.heads.Head.{Head}
-use Rattle.live_reader.specs.declared.stop.ReadStop.{ReadStop}
-use Rattle.live_reader.specs.declared.stop.ReadStop.TheVariants.{Lacks, OutOfMemory}
+use Rattle.live_reader.specs.declared.fault.Lack.{Lack}
 use Rattle.live_reader.specs.Stops.{TellsLack}
 use Rattle.live_reader.specs.Places.{Member, object_members, those_last, member_values}
 use Rattle.live_reader.specs.JsonLinks.{links_in}
@@ -29,10 +30,10 @@ lsa_headless around place j members is headed =
     ∙ ap (λ o. lsa_with place o (inner (codes "routerLinks") members)) (sym (headed ∙ ap (option_and_then head_of) is))
 
 -- what a stop tells of the links it tells of the LSA
-pub lsa_tells : (place : ℕ) (head : Head) (links : Result (List LsaLink) ℕ) (stop : ReadStop) → TellsLack links stop → TellsLack (with_links place head links) stop
-lsa_tells place head links (Lacks lacking) tells = ap (with_links place head) tells
+pub lsa_tells : (place : ℕ) (head : Head) (links : Result (List LsaLink) ℕ) (stop : Refusal Lack ℕ) → TellsLack links stop → TellsLack (with_links place head links) stop
+lsa_tells place head links (Refused lack lacking) tells = ap (with_links place head) tells
 lsa_tells place head links OutOfMemory tells = tt
 
 -- what it tells of one thing it tells of the same thing
-pub tells_same : {X : Type 0} (one other : Result X ℕ) (stop : ReadStop) → one ≡ other → TellsLack other stop → TellsLack one stop
+pub tells_same : {X : Type 0} (one other : Result X ℕ) (stop : Refusal Lack ℕ) → one ≡ other → TellsLack other stop → TellsLack one stop
 tells_same one other stop same tells = subst (λ r. TellsLack r stop) (sym same) tells

@@ -4,6 +4,8 @@ use Rattle.std.specs.Prelude.{IsSome, Result, Ok}
 use Rattle.std.specs.Option.{option_and_then}
 use Rattle.std.proofs.lemmas.List.{drop_more}
 use Rattle.std.proofs.lemmas.Bool.{false≢true}
+use Rattle.cost_base.specs.declared.refusal.Refusal.{Refusal}
+use Rattle.cost_base.specs.declared.refusal.Refusal.TheVariants.{Refused, OutOfMemory}
 use Rattle.json.specs.Token.{Token}
 use Rattle.json.specs.Lex.{tokens}
 use Rattle.json.specs.Json.{Json, value, if_last, document}
@@ -15,8 +17,7 @@ use Rattle.live_reader.specs.Places.{Stands}
 use Rattle.live_reader.specs.JsonTexts.{value_of_text, is_bad, good_tokens}
 use Rattle.live_reader.specs.JsonLsas.{live_lsas}
 use Rattle.live_reader.specs.LiveFiles.{is_blank_or_end, begins_object, TellsSaid, read_in, lacking_in}
-use Rattle.live_reader.specs.declared.stop.ReadStop.{ReadStop}
-use Rattle.live_reader.specs.declared.stop.ReadStop.TheVariants.{Lacks, OutOfMemory as NoRoom}
+use Rattle.live_reader.specs.declared.fault.Lack.{Lack}
 use Rattle.live_reader.specs.Stops.{TellsLack}
 use Rattle.live_reader.proofs.TapeLaws.{value_stands}
 use Rattle.live_reader.proofs.TextLaws.{tokens_few}
@@ -79,6 +80,6 @@ text_small text tape area lsas short same some begun says =
     small_value tape area lsas 4294967294 (document text) some begun says (omega (arith, ap length same, tokens_few text, short))
 
 -- what a stop tells of LSAs it tells of the text
-pub lack_tells : (text : List ℕ) (said : Result (List Instance) ℕ) (stop : ReadStop) → TellsLack said stop → TellsSaid (read_in text said) (lacking_in text stop)
-lack_tells text said (Lacks place) tells = ap (read_in text) tells
-lack_tells text said NoRoom tells = tt
+pub lack_tells : (text : List ℕ) (said : Result (List Instance) ℕ) (stop : Refusal Lack ℕ) → TellsLack said stop → TellsSaid (read_in text said) (lacking_in text stop)
+lack_tells text said (Refused lack place) tells = ap (read_in text) tells
+lack_tells text said OutOfMemory tells = tt

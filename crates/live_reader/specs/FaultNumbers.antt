@@ -1,8 +1,8 @@
 -- How the faults of a live file are written.
 use Rattle.std.specs.Prelude.{ℕ}
 use Rattle.lsa_bytes.specs.Numbers as lsas
-use Rattle.live_reader.specs.declared.stop.LiveFault.{LiveFault}
-use Rattle.live_reader.specs.declared.stop.LiveFault.TheVariants.{BadJson, BadLive, Lsas}
+use Rattle.live_reader.specs.declared.fault.LiveFault.{LiveFault}
+use Rattle.live_reader.specs.declared.fault.LiveFault.TheVariants.{BadJson, BadLive, Lsas}
 
 -- the number of a fault
 abbrev pub live_fault_number : LiveFault → ℕ

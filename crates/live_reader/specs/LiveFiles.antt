@@ -1,17 +1,16 @@
 -- What a live file says.
 use Rattle.std.specs.Prelude.{◌≡◌, ◌⊎◌, ℕ, ◌==◌, ◌||◌, List, [], ◌∷◌, Bool, true, false, Option, Some, None, Result, Ok, Err, IsUtf8, if◌then◌else◌}
 use Rattle.std.specs.Str.Lossy.{utf8_valid_len}
+use Rattle.cost_base.specs.declared.refusal.Refusal.{Refusal}
+use Rattle.cost_base.specs.declared.refusal.Refusal.TheVariants.{Refused, OutOfMemory}
 use Rattle.json.specs.Json.{Json}
 use Rattle.lsa_bytes.specs.declared.Lsa.{Lsa}
-use Rattle.lsa_bytes.specs.declared.stop.LsaFault.{LsaFault}
+use Rattle.lsa_bytes.specs.declared.fault.LsaFault.{LsaFault}
 use Rattle.lsa_bytes.specs.declared.instances.Instance.{Instance}
 use Rattle.lsa_bytes.specs.Files as files
-use Rattle.live_reader.specs.declared.stop.LiveFault.{LiveFault}
-use Rattle.live_reader.specs.declared.stop.LiveFault.TheVariants.{BadJson, BadLive, Lsas}
-use Rattle.live_reader.specs.declared.stop.LiveStop.{LiveStop}
-use Rattle.live_reader.specs.declared.stop.LiveStop.TheVariants.{Refused, OutOfMemory}
-use Rattle.live_reader.specs.declared.stop.ReadStop.{ReadStop}
-use Rattle.live_reader.specs.declared.stop.ReadStop.TheVariants.{Lacks, OutOfMemory as NoRoom}
+use Rattle.live_reader.specs.declared.fault.LiveFault.{LiveFault}
+use Rattle.live_reader.specs.declared.fault.LiveFault.TheVariants.{BadJson, BadLive, Lsas}
+use Rattle.live_reader.specs.declared.fault.Lack.{Lack}
 use Rattle.live_reader.specs.Texts.{line_of_offset, token_line}
 use Rattle.live_reader.specs.JsonTexts.{value_of_text, stop_line}
 use Rattle.live_reader.specs.JsonLsas.{live_lsas}
@@ -71,26 +70,26 @@ abbrev pub LiveComesTo : ℕ → List ℕ → Result (List Lsa) (LiveFault × �
 LiveComesTo area bytes outcome = ComesToAs (begins_object bytes) area bytes outcome
 
 -- the stop tells what a live file comes to; want of memory says nothing
-abbrev pub RefusesLive : ℕ → List ℕ → LiveStop → Type 0
+abbrev pub RefusesLive : ℕ → List ℕ → Refusal LiveFault ℕ → Type 0
 RefusesLive area bytes (Refused fault place) = LiveComesTo area bytes (Err (fault, place))
 RefusesLive area bytes OutOfMemory = Unit {0}
 
 -- the same of a JSON text that is UTF-8
-abbrev pub TellsSaid : Result (List Lsa) (LiveFault × ℕ) → LiveStop → Type 0
+abbrev pub TellsSaid : Result (List Lsa) (LiveFault × ℕ) → Refusal LiveFault ℕ → Type 0
 TellsSaid said (Refused fault place) = said ≡ Err (fault, place)
 TellsSaid said OutOfMemory = Unit {0}
 
 -- a stop tells what bytes come to as JSON
-abbrev pub RefusesJson : ℕ → List ℕ → LiveStop → Type 0
+abbrev pub RefusesJson : ℕ → List ℕ → Refusal LiveFault ℕ → Type 0
 RefusesJson area bytes (Refused fault place) = JsonComesTo area bytes (Err (fault, place))
 RefusesJson area bytes OutOfMemory = Unit {0}
 
 -- a stop tells what bytes come to as LSAs
-abbrev pub RefusesBytes : List ℕ → LiveStop → Type 0
+abbrev pub RefusesBytes : List ℕ → Refusal LiveFault ℕ → Type 0
 RefusesBytes bytes (Refused fault place) = BytesComeTo bytes (Err (fault, place))
 RefusesBytes bytes OutOfMemory = Unit {0}
 
 -- the stop of an object that lacks something
-abbrev pub lacking_in : List ℕ → ReadStop → LiveStop
-lacking_in text (Lacks place) = Refused BadLive (token_line text place)
-lacking_in text NoRoom = OutOfMemory
+abbrev pub lacking_in : List ℕ → Refusal Lack ℕ → Refusal LiveFault ℕ
+lacking_in text (Refused lack place) = Refused BadLive (token_line text place)
+lacking_in text OutOfMemory = OutOfMemory

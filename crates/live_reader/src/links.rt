@@ -8,11 +8,11 @@ ghost use Rattle.live_reader.specs.JsonLinks as definition;
 ghost use Rattle.live_reader.specs.JsonLinks.{link_read, links_in};
 ghost use Rattle.live_reader.specs.Stops.{TellsLack};
 
+use crate::fault::Lack;
 use crate::fields::{number_named, quad_named, text_of_name};
-use crate::stop::ReadStop;
 use crate::tree::opens_object;
 use crate::walk::last_places;
-use cost_base::OutOfMemory;
+use cost_base::{OutOfMemory, Refusal};
 use json::Tape;
 use lsa_bytes::{LsaLink, POINT_TO_POINT_LINK, TRANSIT_LINK};
 use std::alloc::Global;
@@ -84,16 +84,23 @@ fn link_said(tape: &Tape<'_>, place: usize) -> Option<Option<LsaLink>>
 }
 
 /// The link at a place, in an object.
-fn link_at(tape: &Tape<'_>, around: usize, place: usize) -> Result<Option<LsaLink>, ReadStop>
+fn link_at(
+    tape: &Tape<'_>,
+    around: usize,
+    place: usize,
+) -> Result<Option<LsaLink>, Refusal<Lack, usize>>
     ensures { MatchResult result (λ link. (j : Json) → Stands tape.now place j → link_read around place (object_members place j) ≡ Ok link)
-        (λ stop. (j : Json) → Stands tape.now place j → TellsLack (link_read around place (object_members place j)) stop) }
+        (λ refusal. (j : Json) → Stands tape.now place j → TellsLack (link_read around place (object_members place j)) refusal) }
 {
     if !opens_object(tape, place) {
-        return Err(ReadStop::Lacks(around));
+        return Err(Refusal::Refused {
+            fault: Lack,
+            place: around,
+        });
     }
     match link_said(tape, place) {
         Some(link) => Ok(link),
-        None => Err(ReadStop::Lacks(place)),
+        None => Err(Refusal::Refused { fault: Lack, place }),
     }
 }
 
@@ -113,9 +120,9 @@ fn links_of(
     tape: &Tape<'_>,
     around: usize,
     places: &[usize],
-) -> Result<Vec<LsaLink>, ReadStop>
+) -> Result<Vec<LsaLink>, Refusal<Lack, usize>>
     ensures { MatchResult result (λ links. (said : List Placed) → StandAt tape.now places.now said → links_in around said ≡ Ok links.items)
-        (λ stop. (said : List Placed) → StandAt tape.now places.now said → TellsLack (links_in around said) stop) }
+        (λ refusal. (said : List Placed) → StandAt tape.now places.now said → TellsLack (links_in around said) refusal) }
 {
     let mut links = Vec::new(alloc);
     for place in places {
@@ -126,9 +133,13 @@ fn links_of(
 }
 
 /// The links of the object at a place, in order.
-pub fn links_at(alloc: Global, tape: &Tape<'_>, place: usize) -> Result<Vec<LsaLink>, ReadStop>
+pub fn links_at(
+    alloc: Global,
+    tape: &Tape<'_>,
+    place: usize,
+) -> Result<Vec<LsaLink>, Refusal<Lack, usize>>
     ensures { MatchResult result (λ links. (ms : SpecMembers) → Stands tape.now place (object ms) → links_in place (member_values (those_last (members_at (place + 1) ms))) ≡ Ok links.items)
-        (λ stop. (ms : SpecMembers) → Stands tape.now place (object ms) → TellsLack (links_in place (member_values (those_last (members_at (place + 1) ms)))) stop) }
+        (λ refusal. (ms : SpecMembers) → Stands tape.now place (object ms) → TellsLack (links_in place (member_values (those_last (members_at (place + 1) ms)))) refusal) }
 {
     let places = last_places(alloc, tape, place)?;
     links_of(alloc, tape, place, &places)

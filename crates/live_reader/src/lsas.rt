@@ -7,11 +7,12 @@ ghost use Rattle.live_reader.specs.JsonLsas.{areas_read, found_read, inner, item
 ghost use Rattle.live_reader.specs.Walks.{StandAt, StandsIf};
 ghost use Rattle.live_reader.specs.Stops.{TellsLack};
 
+use crate::fault::Lack;
 use crate::heads::{head_at, instance_of};
 use crate::links::links_at;
-use crate::stop::ReadStop;
 use crate::tree::{opens_array, opens_object};
 use crate::walk::{area_place, item_places, place_named};
+use cost_base::Refusal;
 use json::Tape;
 use lsa_bytes::Instance;
 use std::alloc::Global;
@@ -29,19 +30,33 @@ fn inner_place(tape: &Tape<'_>, place: usize, name: &[u8]) -> Option<usize>
 }
 
 /// The router-LSA of the object at a place, in what stands around it.
-fn lsa_at(alloc: Global, tape: &Tape<'_>, around: usize, place: u32) -> Result<Instance, ReadStop>
+fn lsa_at(
+    alloc: Global,
+    tape: &Tape<'_>,
+    around: usize,
+    place: u32,
+) -> Result<Instance, Refusal<Lack, usize>>
     ensures { MatchResult result (λ lsa. (j : Json) → Stands tape.now place j → lsa_read around place (object_members place j) ≡ Ok lsa)
-        (λ stop. (j : Json) → Stands tape.now place j → TellsLack (lsa_read around place (object_members place j)) stop) }
+        (λ refusal. (j : Json) → Stands tape.now place j → TellsLack (lsa_read around place (object_members place j)) refusal) }
 {
     let object = place as usize;
     if !opens_object(tape, object) {
-        return Err(ReadStop::Lacks(around));
+        return Err(Refusal::Refused {
+            fault: Lack,
+            place: around,
+        });
     }
     let Some(head) = head_at(tape, object) else {
-        return Err(ReadStop::Lacks(object));
+        return Err(Refusal::Refused {
+            fault: Lack,
+            place: object,
+        });
     };
     let Some(links_place) = inner_place(tape, object, b"routerLinks") else {
-        return Err(ReadStop::Lacks(object));
+        return Err(Refusal::Refused {
+            fault: Lack,
+            place: object,
+        });
     };
     let links = links_at(alloc, tape, links_place)?;
     Ok(instance_of(place, head, links))
@@ -53,9 +68,9 @@ fn lsas_of(
     tape: &Tape<'_>,
     around: usize,
     places: &[u32],
-) -> Result<Vec<Instance>, ReadStop>
+) -> Result<Vec<Instance>, Refusal<Lack, usize>>
     ensures { MatchResult result (λ lsas. (said : List Placed) → StandAt tape.now places.now said → instances_of_values around said ≡ Ok lsas.items)
-        (λ stop. (said : List Placed) → StandAt tape.now places.now said → TellsLack (instances_of_values around said) stop) }
+        (λ refusal. (said : List Placed) → StandAt tape.now places.now said → TellsLack (instances_of_values around said) refusal) }
 {
     let mut lsas = Vec::new(alloc);
     for place in places {
@@ -71,13 +86,16 @@ fn lsas_at(
     tape: &Tape<'_>,
     around: usize,
     place: usize,
-) -> Result<Vec<Instance>, ReadStop>
+) -> Result<Vec<Instance>, Refusal<Lack, usize>>
     requires { length tape.now < 2 ^ 32 }
     ensures { MatchResult result (λ lsas. (j : Json) → Stands tape.now place j → items_read around (items_of place j) ≡ Ok lsas.items)
-        (λ stop. (j : Json) → Stands tape.now place j → TellsLack (items_read around (items_of place j)) stop) }
+        (λ refusal. (j : Json) → Stands tape.now place j → TellsLack (items_read around (items_of place j)) refusal) }
 {
     if !opens_array(tape, place) {
-        return Err(ReadStop::Lacks(around));
+        return Err(Refusal::Refused {
+            fault: Lack,
+            place: around,
+        });
     }
     let places = item_places(alloc, tape, place)?;
     let lsas = lsas_of(alloc, tape, around, &places)?;
@@ -90,10 +108,10 @@ fn found_lsas(
     tape: &Tape<'_>,
     areas: usize,
     found: Option<usize>,
-) -> Result<Vec<Instance>, ReadStop>
+) -> Result<Vec<Instance>, Refusal<Lack, usize>>
     requires { length tape.now < 2 ^ 32 }
     ensures { MatchResult result (λ lsas. (o : Option Member) → StandsIf tape.now found o → found_read areas o ≡ Ok lsas.items)
-        (λ stop. (o : Option Member) → StandsIf tape.now found o → TellsLack (found_read areas o) stop) }
+        (λ refusal. (o : Option Member) → StandsIf tape.now found o → TellsLack (found_read areas o) refusal) }
 {
     match found {
         Some(place) => lsas_at(alloc, tape, areas, place),
@@ -107,29 +125,42 @@ fn area_lsas(
     tape: &Tape<'_>,
     area: u32,
     around: usize,
-) -> Result<Vec<Instance>, ReadStop>
+) -> Result<Vec<Instance>, Refusal<Lack, usize>>
     requires { length tape.now < 2 ^ 32 }
     ensures { MatchResult result (λ lsas. (j : Json) → Stands tape.now around j → areas_read area around (option_and_then (inner (codes "areas")) (object_members around j)) ≡ Ok lsas.items)
-        (λ stop. (j : Json) → Stands tape.now around j → TellsLack (areas_read area around (option_and_then (inner (codes "areas")) (object_members around j))) stop) }
+        (λ refusal. (j : Json) → Stands tape.now around j → TellsLack (areas_read area around (option_and_then (inner (codes "areas")) (object_members around j))) refusal) }
 {
     let Some(areas) = inner_place(tape, around, b"areas") else {
-        return Err(ReadStop::Lacks(around));
+        return Err(Refusal::Refused {
+            fault: Lack,
+            place: around,
+        });
     };
     let Some(found) = area_place(tape, areas, area) else {
-        return Err(ReadStop::Lacks(around));
+        return Err(Refusal::Refused {
+            fault: Lack,
+            place: around,
+        });
     };
     let lsas = found_lsas(alloc, tape, areas, found)?;
     Ok(lsas)
 }
 
 /// The router-LSAs of an area that the value of a tape says, in order.
-pub fn live_lsas(alloc: Global, tape: &Tape<'_>, area: u32) -> Result<Vec<Instance>, ReadStop>
+pub fn live_lsas(
+    alloc: Global,
+    tape: &Tape<'_>,
+    area: u32,
+) -> Result<Vec<Instance>, Refusal<Lack, usize>>
     requires { length tape.now < 2 ^ 32 }
     ensures { MatchResult result (λ lsas. (j : Json) → Stands tape.now 0 j → live_lsas area j ≡ Ok lsas.items)
-        (λ stop. (j : Json) → Stands tape.now 0 j → TellsLack (live_lsas area j) stop) }
+        (λ refusal. (j : Json) → Stands tape.now 0 j → TellsLack (live_lsas area j) refusal) }
 {
     let Some(states) = inner_place(tape, 0, b"routerLinkStates") else {
-        return Err(ReadStop::Lacks(0));
+        return Err(Refusal::Refused {
+            fault: Lack,
+            place: 0,
+        });
     };
     let lsas = area_lsas(alloc, tape, area, states)?;
     Ok(lsas)

@@ -12,12 +12,12 @@ ghost use Rattle.live_reader.specs.Places.{Stands};
 ghost use Rattle.live_reader.specs.LiveFiles as definition;
 ghost use Rattle.live_reader.specs.LiveFiles.{BytesComeTo, JsonComesTo, LiveComesTo, RefusesLive, TellsSaid, decided_in, read_in, said_by_json};
 
+use crate::fault::{Lack, LiveFault};
 use crate::lsas::live_lsas;
-use crate::stop::{LiveFault, LiveStop, ReadStop, refusal};
 use crate::text::{line_of_offset, token_line};
-use cost_base::OutOfMemory;
+use cost_base::{OutOfMemory, Refusal};
 use json::{Reader, Scratch, Tape, Token};
-use lsa_bytes::{Database, Instance, LsaStop, database_of, read_lsas};
+use lsa_bytes::{Database, Instance, database_of, read_lsas};
 use std::alloc::Global;
 
 /// How deep arrays and objects may nest.
@@ -79,62 +79,66 @@ fn good_tokens(alloc: Global, text: &str) -> Result<usize, OutOfMemory>
 }
 
 /// The refusal of a text that isn't JSON.
-fn not_json(alloc: Global, text: &str) -> Result<LiveStop, OutOfMemory>
+fn not_json(alloc: Global, text: &str) -> Result<Refusal<LiveFault>, OutOfMemory>
     requires { length text.now < 2 ^ 32 - 1 }
-    ensures { IfOk result (λ stop. stop ≡ LiveStop.Refused LiveFault.BadJson (stop_line text.now)) }
+    ensures { IfOk result (λ refusal. refusal ≡ Refusal.Refused LiveFault.BadJson (stop_line text.now)) }
 {
     let good = good_tokens(alloc, text)?;
-    Ok(refusal(LiveFault::BadJson, token_line(text.as_bytes(), good)))
+    Ok(Refusal::at(token_line(text.as_bytes(), good), LiveFault::BadJson))
 }
 
 /// The database of instances that were read of a text.
-fn decide(alloc: Global, text: &[u8], instances: Vec<Instance>) -> Result<Database, LiveStop>
+fn decide(
+    alloc: Global,
+    text: &[u8],
+    instances: Vec<Instance>,
+) -> Result<Database, Refusal<LiveFault>>
     requires few { length text.now < 2 ^ 32 - 1 }
     requires small { AreSmall instances.items (2 ^ 32 - 2) }
     ensures { MatchResult result (λ database. decided_in text.now (files.decided instances.items None) ≡ Ok database) (TellsSaid (decided_in text.now (files.decided instances.items None))) }
 {
     match database_of(alloc, instances) {
         Ok(database) => Ok(database),
-        Err(LsaStop::Refused { fault, offset }) => Err(refusal(
+        Err(Refusal::Refused { fault, place }) => Err(Refusal::at(
+            token_line(text, place as usize),
             LiveFault::Lsas(fault),
-            token_line(text, offset as usize),
         )),
-        Err(LsaStop::OutOfMemory) => Err(LiveStop::OutOfMemory),
+        Err(Refusal::OutOfMemory) => Err(Refusal::OutOfMemory),
     }
 }
 
 /// What stops where an object lacks something.
-fn lacking(text: &[u8], stop: ReadStop) -> LiveStop
+fn lacking(text: &[u8], refusal: Refusal<Lack, usize>) -> Refusal<LiveFault>
     requires { length text.now < 2 ^ 32 - 1 }
-    ensures { result ≡ definition.lacking_in text.now stop }
+    ensures { result ≡ definition.lacking_in text.now refusal }
 {
-    match stop {
-        ReadStop::Lacks(place) => refusal(LiveFault::BadLive, token_line(text, place)),
-        ReadStop::OutOfMemory => LiveStop::OutOfMemory,
+    match refusal {
+        Refusal::Refused { place, .. } => Refusal::at(token_line(text, place), LiveFault::BadLive),
+        Refusal::OutOfMemory => Refusal::OutOfMemory,
     }
 }
 
 /// The LSAs of an area that a JSON text says.
-fn read_value(alloc: Global, text: &str, area: u32) -> Result<Database, LiveStop>
+fn read_value(alloc: Global, text: &str, area: u32) -> Result<Database, Refusal<LiveFault>>
     requires { length text.now ≤ 2 ^ 26 }
     ensures { MatchResult result (λ database. (j : Json) → value_of_text text.now ≡ Some j → read_in text.now (json_lsas.live_lsas area j) ≡ Ok database)
-        (λ stop. (j : Json) → value_of_text text.now ≡ Some j → TellsSaid (read_in text.now (json_lsas.live_lsas area j)) stop) }
+        (λ refusal. (j : Json) → value_of_text text.now ≡ Some j → TellsSaid (read_in text.now (json_lsas.live_lsas area j)) refusal) }
 {
     let mut scratch = Scratch::new(alloc);
     let Ok(tape) = Tape::parse(text, &mut scratch, Vec::new(alloc)) else {
-        return Err(LiveStop::OutOfMemory);
+        return Err(Refusal::OutOfMemory);
     };
     match live_lsas(alloc, &tape, area) {
         Ok(instances) => {
             let database = decide(alloc, text.as_bytes(), instances)?;
             Ok(database)
         }
-        Err(stop) => Err(lacking(text.as_bytes(), stop)),
+        Err(refusal) => Err(lacking(text.as_bytes(), refusal)),
     }
 }
 
 /// The LSAs of an area that a text says.
-fn read_text(alloc: Global, text: &str, area: u32) -> Result<Database, LiveStop>
+fn read_text(alloc: Global, text: &str, area: u32) -> Result<Database, Refusal<LiveFault>>
     requires { length text.now ≤ 2 ^ 26 }
     ensures { MatchResult result (λ database. said_by_json area text.now ≡ Ok database) (TellsSaid (said_by_json area text.now)) }
 {
@@ -146,28 +150,28 @@ fn read_text(alloc: Global, text: &str, area: u32) -> Result<Database, LiveStop>
 }
 
 /// The LSAs of an area that bytes say as JSON.
-fn read_json(alloc: Global, bytes: &[u8], area: u32) -> Result<Database, LiveStop>
+fn read_json(alloc: Global, bytes: &[u8], area: u32) -> Result<Database, Refusal<LiveFault>>
     requires { length bytes.now ≤ 2 ^ 26 }
     ensures { MatchResult result (λ database. JsonComesTo area bytes.now (Ok database)) (definition.RefusesJson area bytes.now) }
 {
     match std::str::from_utf8(bytes) {
         Ok(text) => read_text(alloc, text, area),
-        Err(fault) => Err(refusal(
-            LiveFault::BadJson,
+        Err(fault) => Err(Refusal::at(
             line_of_offset(bytes, fault.valid_up_to()),
+            LiveFault::BadJson,
         )),
     }
 }
 
 /// The LSAs that bytes say.
-fn read_bytes(alloc: Global, bytes: &[u8]) -> Result<Database, LiveStop>
+fn read_bytes(alloc: Global, bytes: &[u8]) -> Result<Database, Refusal<LiveFault>>
     requires { length bytes.now < 2 ^ 32 - 1 }
     ensures { MatchResult result (λ database. BytesComeTo bytes.now (Ok database)) (definition.RefusesBytes bytes.now) }
 {
     match read_lsas(alloc, bytes) {
         Ok(database) => Ok(database),
-        Err(LsaStop::Refused { fault, offset }) => Err(refusal(LiveFault::Lsas(fault), offset)),
-        Err(LsaStop::OutOfMemory) => Err(LiveStop::OutOfMemory),
+        Err(Refusal::Refused { fault, place }) => Err(Refusal::at(place, LiveFault::Lsas(fault))),
+        Err(Refusal::OutOfMemory) => Err(Refusal::OutOfMemory),
     }
 }
 
@@ -181,7 +185,7 @@ fn read_bytes(alloc: Global, bytes: &[u8]) -> Result<Database, LiveStop>
 ///   member or has it off its form, then `TooManyRouters`, `LsaTwice` and `ZeroMetric`, each with its line.
 /// - In bytes the faults of `lsa_bytes::read_lsas`, each with the offset at which its LSA begins.
 /// - `OutOfMemory` where memory runs out.
-pub fn read_live(alloc: Global, bytes: &[u8], area: u32) -> Result<Database, LiveStop>
+pub fn read_live(alloc: Global, bytes: &[u8], area: u32) -> Result<Database, Refusal<LiveFault>>
     requires { length bytes.now ≤ 2 ^ 26 }
     ensures { MatchResult result (λ live. LiveComesTo area bytes.now (Ok live)) (RefusesLive area bytes.now) }
 {

@@ -5,9 +5,9 @@ use Rattle.std.specs.Option.{option_or}
 use Rattle.std.proofs.lemmas.List.{append-nil}
 use Rattle.std.proofs.lemmas.List.Elements.{All-head, All-tail}
 use Rattle.std.proofs.lemmas.List.Sums.{sum_by-cons}
-use Rattle.lsa_bytes.specs.declared.stop.LsaFault.{LsaFault}
-use Rattle.lsa_bytes.specs.declared.stop.LsaStop.{LsaStop}
-use Rattle.lsa_bytes.specs.declared.stop.LsaStop.TheVariants.{Refused, OutOfMemory}
+use Rattle.cost_base.specs.declared.refusal.Refusal.{Refusal}
+use Rattle.cost_base.specs.declared.refusal.Refusal.TheVariants.{Refused, OutOfMemory}
+use Rattle.lsa_bytes.specs.declared.fault.LsaFault.{LsaFault}
 use Rattle.lsa_bytes.specs.declared.Lsa.{Lsa}
 use Rattle.lsa_bytes.specs.declared.instances.Instance.{Instance}
 use Rattle.lsa_bytes.specs.Databases.{HaveNoFault, IsLsaDatabase, has_link_types, size_of_lsa}
@@ -61,7 +61,7 @@ midway_passes all rest instance before is counts =
     }
 
 -- the first of those that are left has a fault
-pub midway_told : (all rest : List Instance) (instance : Instance) (before : List Lsa) (stop : LsaStop) →
+pub midway_told : (all rest : List Instance) (instance : Instance) (before : List Lsa) (stop : Refusal LsaFault ℕ) →
     IsMidway all (instance ∷ rest) before → counts_among all instance ≡ true →
     TellsLsaFault (placed instance.stamp.place (lsa_fault_behind before instance.lsa)) stop → TellsLsaFault (fault_among all) stop
 midway_told all rest instance before OutOfMemory is counts told = tt

@@ -4,8 +4,8 @@ use Rattle.std.specs.Option.{option_or}
 use Rattle.std.proofs.lemmas.Bool.{or_parts, or_from, ltb-false, le-ltb}
 use Rattle.std.proofs.lemmas.List.{append-nil, get_or_append_left, append_cancel_left, length-append}
 use Rattle.std.proofs.Math.Seq.{take-append_seam}
-use Rattle.lsa_bytes.specs.declared.stop.LsaFault.{LsaFault}
-use Rattle.lsa_bytes.specs.declared.stop.LsaFault.TheVariants.{ShortLsa, BadLength}
+use Rattle.lsa_bytes.specs.declared.fault.LsaFault.{LsaFault}
+use Rattle.lsa_bytes.specs.declared.fault.LsaFault.TheVariants.{ShortLsa, BadLength}
 use Rattle.lsa_bytes.specs.Fields.{number_16}
 use Rattle.lsa_bytes.specs.Grammar.{length_of}
 use Rattle.lsa_bytes.specs.Faults.{length_fault, body_fault, form_fault}

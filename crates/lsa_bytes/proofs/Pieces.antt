@@ -1,7 +1,7 @@
 -- Bytes fall into LSAs in one way.
 use Rattle.std.proofs.Common.{◌≡◌, ℕ, List, [], ◌∷◌, ◌++◌, length, None, Some, Option, is_some, true, Result, refl, sym, ap, ◌∙◌, append_assoc, arith}
 use Rattle.std.specs.List.{concat, AllByRecursion}
-use Rattle.lsa_bytes.specs.declared.stop.LsaFault.{LsaFault}
+use Rattle.lsa_bytes.specs.declared.fault.LsaFault.{LsaFault}
 use Rattle.lsa_bytes.specs.declared.Lsa.{Lsa}
 use Rattle.lsa_bytes.specs.Faults.{form_fault, rest_fault}
 use Rattle.lsa_bytes.specs.Files.{BreaksOff, ComesTo, IsLsa, decided, instances_in}

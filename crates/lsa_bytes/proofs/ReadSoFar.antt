@@ -7,9 +7,9 @@ use Rattle.std.proofs.lemmas.List.{append-nil, length-append, take-append-drop, 
 use Rattle.std.proofs.lemmas.List.Elements.{All-append}
 use Rattle.std.proofs.lemmas.List.Folds.{concat-append}
 use Rattle.std.proofs.lemmas.List.Sums.{sum_by-append}
-use Rattle.lsa_bytes.specs.declared.stop.LsaFault.{LsaFault}
-use Rattle.lsa_bytes.specs.declared.stop.LsaStop.{LsaStop}
-use Rattle.lsa_bytes.specs.declared.stop.LsaStop.TheVariants.{Refused, OutOfMemory}
+use Rattle.cost_base.specs.declared.refusal.Refusal.{Refusal}
+use Rattle.cost_base.specs.declared.refusal.Refusal.TheVariants.{Refused, OutOfMemory}
+use Rattle.lsa_bytes.specs.declared.fault.LsaFault.{LsaFault}
 use Rattle.lsa_bytes.specs.declared.instances.Instance.{Instance}
 use Rattle.lsa_bytes.specs.Grammar.{length_of, said_at}
 use Rattle.lsa_bytes.specs.Databases.{has_link_types, size_of_lsa}
@@ -141,7 +141,7 @@ broken_off bytes (byte ∷ more) instances place fault so_far some place_is foun
   small = small bytes (byte ∷ more) instances so_far;
 }
 
-refused : (bytes rest : List ℕ) (instances : List Instance) (place : ℕ) (stop : LsaStop) → IsUnderway bytes rest instances →
+refused : (bytes rest : List ℕ) (instances : List Instance) (place : ℕ) (stop : Refusal LsaFault ℕ) → IsUnderway bytes rest instances →
     0 < length rest → place ≡ length bytes - length rest → TellsLsaFault (placed place (form_fault rest)) stop → EndAt bytes instances stop
 refused bytes rest instances place (Refused fault offset) so_far some place_is told =
     by_found (form_fault rest) refl told
@@ -153,7 +153,7 @@ refused bytes rest instances place (Refused fault offset) so_far some place_is t
         (broken_off bytes rest instances place other so_far some place_is is)
 refused bytes rest instances place OutOfMemory so_far some place_is told = tt
 
-length_told : (rest : List ℕ) (place : ℕ) (stop : LsaStop) →
+length_told : (rest : List ℕ) (place : ℕ) (stop : Refusal LsaFault ℕ) →
     TellsLsaFault (placed place (length_fault rest)) stop → TellsLsaFault (placed place (form_fault rest)) stop
 length_told rest place (Refused fault offset) told = by_found (length_fault rest) told
   where
@@ -163,12 +163,12 @@ length_told rest place (Refused fault offset) told = by_found (length_fault rest
     by_found (Some other) same = same
 length_told rest place OutOfMemory told = tt
 
-pub length_refused : (bytes rest : List ℕ) (instances : List Instance) (place : ℕ) (stop : LsaStop) → IsUnderway bytes rest instances →
+pub length_refused : (bytes rest : List ℕ) (instances : List Instance) (place : ℕ) (stop : Refusal LsaFault ℕ) → IsUnderway bytes rest instances →
     0 < length rest → place ≡ length bytes - length rest → TellsLsaFault (placed place (length_fault rest)) stop → EndAt bytes instances stop
 length_refused bytes rest instances place stop so_far some place_is told =
     refused bytes rest instances place stop so_far some place_is (length_told rest place stop told)
 
-pub body_refused : (bytes rest lsa behind : List ℕ) (instances : List Instance) (place : ℕ) (stop : LsaStop) →
+pub body_refused : (bytes rest lsa behind : List ℕ) (instances : List Instance) (place : ℕ) (stop : Refusal LsaFault ℕ) →
     IsUnderway bytes rest instances → place ≡ length bytes - length rest → IsFirst rest lsa behind →
     TellsLsaFault (placed place (body_fault lsa)) stop → EndAt bytes instances stop
 body_refused bytes rest lsa behind instances place stop so_far place_is is told =

@@ -2,10 +2,10 @@
 use Rattle.std.specs.Prelude.{◌≡◌, ℕ, ◌&&◌, ◌||◌, not, nat_le, nat_lt, List, [], ◌∷◌, ◌++◌, length, take, count_by, is_some, Option, Some, None, if◌then◌else◌}
 use Rattle.std.specs.List.{list_any}
 use Rattle.std.specs.Option.{option_map, option_or}
-use Rattle.lsa_bytes.specs.declared.stop.LsaFault.{LsaFault}
-use Rattle.lsa_bytes.specs.declared.stop.LsaFault.TheVariants.{ShortLsa, BadLength, BadBody, LsaTwice, ZeroMetric, TooManyRouters}
-use Rattle.lsa_bytes.specs.declared.stop.LsaStop.{LsaStop}
-use Rattle.lsa_bytes.specs.declared.stop.LsaStop.TheVariants.{Refused, OutOfMemory}
+use Rattle.cost_base.specs.declared.refusal.Refusal.{Refusal}
+use Rattle.cost_base.specs.declared.refusal.Refusal.TheVariants.{Refused, OutOfMemory}
+use Rattle.lsa_bytes.specs.declared.fault.LsaFault.{LsaFault}
+use Rattle.lsa_bytes.specs.declared.fault.LsaFault.TheVariants.{ShortLsa, BadLength, BadBody, LsaTwice, ZeroMetric, TooManyRouters}
 use Rattle.lsa_bytes.specs.declared.Lsa.{Lsa}
 use Rattle.lsa_bytes.specs.declared.instances.Instance.{Instance}
 use Rattle.lsa_bytes.specs.Grammar.{type_of, length_of, is_read, body_of}
@@ -55,6 +55,6 @@ abbrev pub fault_among : List Instance → Option (LsaFault × ℕ)
 fault_among all = first_fault [] (those_that_count all)
 
 -- the refusal tells a fault and its place; want of memory says nothing
-abbrev pub TellsLsaFault : Option (LsaFault × ℕ) → LsaStop → Type 0
+abbrev pub TellsLsaFault : Option (LsaFault × ℕ) → Refusal LsaFault ℕ → Type 0
 TellsLsaFault found (Refused fault offset) = found ≡ Some (fault, offset)
 TellsLsaFault found OutOfMemory = Unit {0}

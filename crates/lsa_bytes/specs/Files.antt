@@ -2,9 +2,9 @@
 use Rattle.std.specs.Prelude.{◌≡◌, ℕ, ◌+◌, List, [], ◌∷◌, ◌++◌, length, is_some, true, Option, Some, None, Result, Ok, Err}
 use Rattle.std.specs.List.{concat, AllByRecursion}
 use Rattle.std.specs.Option.{option_or}
-use Rattle.lsa_bytes.specs.declared.stop.LsaFault.{LsaFault}
-use Rattle.lsa_bytes.specs.declared.stop.LsaStop.{LsaStop}
-use Rattle.lsa_bytes.specs.declared.stop.LsaStop.TheVariants.{Refused, OutOfMemory}
+use Rattle.cost_base.specs.declared.refusal.Refusal.{Refusal}
+use Rattle.cost_base.specs.declared.refusal.Refusal.TheVariants.{Refused, OutOfMemory}
+use Rattle.lsa_bytes.specs.declared.fault.LsaFault.{LsaFault}
 use Rattle.lsa_bytes.specs.declared.Lsa.{Lsa}
 use Rattle.lsa_bytes.specs.declared.instances.Instance.{Instance}
 use Rattle.lsa_bytes.specs.Grammar.{length_of, said_at}
@@ -52,6 +52,6 @@ abbrev pub Say : List ℕ → List Lsa → Type 0
 Say bytes lsas = ComesTo bytes (Ok lsas)
 
 -- the refusal tells the first fault; want of memory says nothing
-abbrev pub Refuses : List ℕ → LsaStop → Type 0
+abbrev pub Refuses : List ℕ → Refusal LsaFault ℕ → Type 0
 Refuses bytes (Refused fault offset) = ComesTo bytes (Err (fault, offset))
 Refuses bytes OutOfMemory = Unit {0}

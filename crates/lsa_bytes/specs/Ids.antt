@@ -4,8 +4,8 @@ use Rattle.std.specs.List.{list_any}
 use Rattle.std.specs.Option.{option_map, option_or}
 use Rattle.interface_model.specs.Records.{Router}
 use Rattle.lsa_bytes.specs.declared.ids.IdFault.{IdFault}
-use Rattle.lsa_bytes.specs.declared.stop.LsaFault.{LsaFault}
-use Rattle.lsa_bytes.specs.declared.stop.LsaFault.TheVariants.{NoRouterId, RouterIdTwice}
+use Rattle.lsa_bytes.specs.declared.fault.LsaFault.{LsaFault}
+use Rattle.lsa_bytes.specs.declared.fault.LsaFault.TheVariants.{NoRouterId, RouterIdTwice}
 
 -- the configuration has this router ID
 abbrev pub is_id : ℕ → Option ℕ → Bool

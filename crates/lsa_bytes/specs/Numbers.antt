@@ -1,7 +1,7 @@
 -- How the faults of LSAs and of router IDs are written.
 use Rattle.std.specs.Prelude.{ℕ}
-use Rattle.lsa_bytes.specs.declared.stop.LsaFault.{LsaFault}
-use Rattle.lsa_bytes.specs.declared.stop.LsaFault.TheVariants.{ShortLsa, BadLength, BadBody, LsaTwice, ZeroMetric, NoRouterId, RouterIdTwice, TooManyRouters}
+use Rattle.lsa_bytes.specs.declared.fault.LsaFault.{LsaFault}
+use Rattle.lsa_bytes.specs.declared.fault.LsaFault.TheVariants.{ShortLsa, BadLength, BadBody, LsaTwice, ZeroMetric, NoRouterId, RouterIdTwice, TooManyRouters}
 
 -- the number of a fault
 abbrev pub lsa_fault_number : LsaFault → ℕ

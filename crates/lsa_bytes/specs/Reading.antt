@@ -2,9 +2,9 @@
 use Rattle.std.specs.Prelude.{◌≡◌, ℕ, ◌*◌, ◌-◌, ◌^◌, ◌≤◌, All, List, length, sum_by, true, Option, Some}
 use Rattle.std.specs.List.{concat}
 use Rattle.std.specs.Option.{option_or}
-use Rattle.lsa_bytes.specs.declared.stop.LsaFault.{LsaFault}
-use Rattle.lsa_bytes.specs.declared.stop.LsaStop.{LsaStop}
-use Rattle.lsa_bytes.specs.declared.stop.LsaStop.TheVariants.{Refused, OutOfMemory}
+use Rattle.cost_base.specs.declared.refusal.Refusal.{Refusal}
+use Rattle.cost_base.specs.declared.refusal.Refusal.TheVariants.{Refused, OutOfMemory}
+use Rattle.lsa_bytes.specs.declared.fault.LsaFault.{LsaFault}
 use Rattle.lsa_bytes.specs.declared.instances.Instance.{Instance}
 use Rattle.lsa_bytes.specs.Databases.{has_link_types, size_of_lsa}
 use Rattle.lsa_bytes.specs.Instances.{lsas_of}
@@ -17,7 +17,7 @@ pub record AreSmall (instances : List Instance) (most : ℕ) : Type 0 where
   pub sizes : 4 * sum_by size_of_lsa (lsas_of instances) ≤ most
 
 -- where a refusal comes behind instances, a database may be made of them
-abbrev pub AreSmallAt : List Instance → LsaStop → Type 0
+abbrev pub AreSmallAt : List Instance → Refusal LsaFault ℕ → Type 0
 AreSmallAt instances (Refused fault offset) = AreSmall instances (2 ^ 32 - 2)
 AreSmallAt instances OutOfMemory = Unit {0}
 
@@ -31,11 +31,11 @@ pub record AreReadFrom (bytes : List ℕ) (instances : List Instance) (behind : 
   pub small : AreSmall instances (length bytes)
 
 -- the bytes say these instances, and then comes the fault that the refusal tells; want of memory says nothing
-abbrev pub EndAt : List ℕ → List Instance → LsaStop → Type 0
+abbrev pub EndAt : List ℕ → List Instance → Refusal LsaFault ℕ → Type 0
 EndAt bytes instances (Refused fault offset) = AreReadFrom bytes instances (Some (fault, offset))
 EndAt bytes instances OutOfMemory = Unit {0}
 
 -- behind instances comes one refusal: another tells the first fault among them, or else that one
-abbrev pub TellsFirst : List Instance → LsaStop → LsaStop → Type 0
+abbrev pub TellsFirst : List Instance → Refusal LsaFault ℕ → Refusal LsaFault ℕ → Type 0
 TellsFirst instances (Refused fault offset) stop = TellsLsaFault (option_or (fault_among instances) (Some (fault, offset))) stop
 TellsFirst instances OutOfMemory stop = stop ≡ OutOfMemory

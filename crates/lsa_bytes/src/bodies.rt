@@ -5,9 +5,8 @@ ghost use Rattle.lsa_bytes.specs.Faults.{TellsLsaFault, body_fault, placed};
 
 use crate::fields::{number_16, number_32};
 use crate::instances::{Instance, Stamp};
-use crate::stop::refusal;
-use crate::{Body, Lsa, LsaFault, LsaLink, LsaStop, NETWORK_LSA, ROUTER_LSA};
-use cost_base::{Listed, OutOfMemory};
+use crate::{Body, Lsa, LsaFault, LsaLink, NETWORK_LSA, ROUTER_LSA};
+use cost_base::{Listed, OutOfMemory, Refusal};
 use std::alloc::Global;
 
 /// The length of an LSA's header.
@@ -121,12 +120,12 @@ fn stamp_of(lsa: &[u8], place: u32) -> Stamp
 }
 
 /// What one LSA at a place says, or None where its type isn't read.
-pub fn said_at(alloc: Global, lsa: &[u8], place: u32) -> Result<Option<Instance>, LsaStop>
+pub fn said_at(alloc: Global, lsa: &[u8], place: u32) -> Result<Option<Instance>, Refusal<LsaFault>>
     requires { 20 ≤ length lsa.now }
     ensures { MatchResult result (λ said. (body_fault lsa.now ≡ None) × (option_to_list said ≡ said_at place lsa.now)) (TellsLsaFault (placed place (body_fault lsa.now))) }
 {
     match body_of(alloc, lsa)? {
-        None if is_read(lsa[3]) => Err(refusal(LsaFault::BadBody, place)),
+        None if is_read(lsa[3]) => Err(Refusal::at(place, LsaFault::BadBody)),
         None => Ok(None),
         Some(body) => Ok(Some(Instance {
             stamp: stamp_of(lsa, place),

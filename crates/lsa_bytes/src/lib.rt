@@ -97,6 +97,7 @@ impl Database {
 mod bodies;
 mod edges;
 mod ends;
+mod fault;
 mod fields;
 mod graphs;
 mod ids;
@@ -106,12 +107,11 @@ mod newest;
 mod reader;
 mod reading;
 mod seen;
-mod stop;
 mod vertices;
 
+pub use fault::LsaFault;
 pub use graphs::graph_of_lsas;
 pub use ids::{IdFault, check_ids};
 pub use instances::{Instance, Stamp};
 pub use reader::is_router;
 pub use reading::{comes_to_one, database_of, read_lsas, written_is_read};
-pub use stop::{LsaFault, LsaStop};

@@ -5,9 +5,9 @@ ghost use Rattle.lsa_bytes.specs.Databases.{HaveNoFault, has_link_types, has_zer
 ghost use Rattle.lsa_bytes.specs.Faults.{TellsLsaFault, lsa_fault_behind, placed};
 
 use crate::seen::Seen;
-use crate::stop::refusal;
-use crate::{Body, Lsa, LsaFault, LsaLink, LsaStop, POINT_TO_POINT_LINK, TRANSIT_LINK};
+use crate::{Body, Lsa, LsaFault, LsaLink, POINT_TO_POINT_LINK, TRANSIT_LINK};
 use area_graph::MOST_ROUTERS;
+use cost_base::Refusal;
 use std::alloc::Global;
 use std::marker::Model;
 
@@ -46,19 +46,19 @@ impl Reader {
     }
 
     /// With one more LSA.
-    pub fn with(self, lsa: Lsa, place: u32) -> Result<Reader, LsaStop>
+    pub fn with(self, lsa: Lsa, place: u32) -> Result<Reader, Refusal<LsaFault>>
         requires { has_link_types lsa.body ≡ true }
         ensures { MatchResult result (λ reader. (lsa_fault_behind self lsa ≡ None) × (reader ≡ self ++ lsa ∷ [])) (TellsLsaFault (placed place (lsa_fault_behind self lsa))) }
     {
         if self.has_no_room(&lsa) {
-            return Err(refusal(LsaFault::TooManyRouters, place));
+            return Err(Refusal::at(place, LsaFault::TooManyRouters));
         }
         let Reader { mut lsas, mut seen } = self;
         if !seen.add(&lsa)? {
-            return Err(refusal(LsaFault::LsaTwice, place));
+            return Err(Refusal::at(place, LsaFault::LsaTwice));
         }
         if has_zero_metric(&lsa.body) {
-            return Err(refusal(LsaFault::ZeroMetric, place));
+            return Err(Refusal::at(place, LsaFault::ZeroMetric));
         }
         lsas.push(lsa)?;
         Ok(Reader { lsas, seen })

@@ -1,7 +1,7 @@
 //! Reading files of LSAs.
 ghost use Rattle.std.specs.Prelude.{◌≡◌, ◌<◌, ◌^◌, [], None, Ok, length, List, ℕ, All, map, MatchResult, OnOk, ◌++◌, ◌-◌, option_to_list, Result};
 ghost use Rattle.lsa_bytes.specs.declared.Lsa.{Lsa as OneLsa};
-ghost use Rattle.lsa_bytes.specs.declared.stop.LsaFault.{LsaFault as OneFault};
+ghost use Rattle.lsa_bytes.specs.declared.fault.LsaFault.{LsaFault as OneFault};
 ghost use Rattle.lsa_bytes.specs.Grammar.{length_of};
 ghost use Rattle.lsa_bytes.specs.Faults.{TellsLsaFault, fault_among, length_fault, placed};
 ghost use Rattle.lsa_bytes.specs.Databases.{HaveNoFault};
@@ -15,24 +15,23 @@ use crate::fields::number_16;
 use crate::instances::Instance;
 use crate::newest::Newest;
 use crate::reader::Reader;
-use crate::stop::refusal;
-use crate::{Database, LsaFault, LsaStop};
-use cost_base::OutOfMemory;
+use crate::{Database, LsaFault};
+use cost_base::{OutOfMemory, Refusal};
 use std::alloc::Global;
 
 /// The length of the LSA that begins the bytes, all of which they have.
-fn whole_length(rest: &[u8], offset: u32) -> Result<usize, LsaStop>
+fn whole_length(rest: &[u8], offset: u32) -> Result<usize, Refusal<LsaFault>>
     ensures { MatchResult result (λ length. (length_fault rest.now ≡ None) × (length ≡ length_of rest.now)) (TellsLsaFault (placed offset (length_fault rest.now))) }
 {
     if rest.len() < HEADER_LENGTH {
-        return Err(refusal(LsaFault::ShortLsa, offset));
+        return Err(Refusal::at(offset, LsaFault::ShortLsa));
     }
     let length = usize::from(number_16(rest, 18));
     if rest.len() < length {
-        return Err(refusal(LsaFault::ShortLsa, offset));
+        return Err(Refusal::at(offset, LsaFault::ShortLsa));
     }
     if length < HEADER_LENGTH {
-        return Err(refusal(LsaFault::BadLength, offset));
+        return Err(Refusal::at(offset, LsaFault::BadLength));
     }
     Ok(length)
 }
@@ -48,7 +47,11 @@ fn push_said(instances: &mut Vec<Instance>, said: Option<Instance>) -> Result<()
 }
 
 /// Appends what the LSAs of the bytes say, one after the other, up to the first that is off the grammar.
-fn push_instances(alloc: Global, instances: &mut Vec<Instance>, bytes: &[u8]) -> Result<(), LsaStop>
+fn push_instances(
+    alloc: Global,
+    instances: &mut Vec<Instance>,
+    bytes: &[u8],
+) -> Result<(), Refusal<LsaFault>>
     requires empty { instances.old.items ≡ [] }
     requires few { length bytes.now < 2 ^ 32 - 1 }
     ensures { MatchResult result (λ _. AreReadFrom bytes.now instances.new.items None) (EndAt bytes.now instances.new.items) }
@@ -71,7 +74,7 @@ fn push_instances(alloc: Global, instances: &mut Vec<Instance>, bytes: &[u8]) ->
 ///
 /// `Refused` with the place of the first instance that counts and has a fault, and of its faults the first in the order
 /// `TooManyRouters`, `LsaTwice`, `ZeroMetric`. `OutOfMemory` where memory runs out.
-pub fn database_of(alloc: Global, instances: Vec<Instance>) -> Result<Database, LsaStop>
+pub fn database_of(alloc: Global, instances: Vec<Instance>) -> Result<Database, Refusal<LsaFault>>
     requires { AreSmall instances.items (2 ^ 32 - 2) }
     ensures { MatchResult result (λ database. (fault_among instances.items ≡ None) × (database ≡ lsas_of (those_that_count instances.items)))
         (TellsLsaFault (fault_among instances.items)) }
@@ -87,14 +90,18 @@ pub fn database_of(alloc: Global, instances: Vec<Instance>) -> Result<Database, 
 }
 
 /// The first refusal, where one comes behind instances: that of the first fault among them, or else that one.
-fn first_stop(alloc: Global, instances: Vec<Instance>, stop: LsaStop) -> LsaStop
-    requires { AreSmallAt instances.items stop }
-    ensures { TellsFirst instances.items stop result }
+fn first_refusal(
+    alloc: Global,
+    instances: Vec<Instance>,
+    refusal: Refusal<LsaFault>,
+) -> Refusal<LsaFault>
+    requires { AreSmallAt instances.items refusal }
+    ensures { TellsFirst instances.items refusal result }
 {
-    match stop {
-        LsaStop::OutOfMemory => stop,
-        LsaStop::Refused { .. } => match database_of(alloc, instances) {
-            Ok(_) => stop,
+    match refusal {
+        Refusal::OutOfMemory => refusal,
+        Refusal::Refused { .. } => match database_of(alloc, instances) {
+            Ok(_) => refusal,
             Err(earlier) => earlier,
         },
     }
@@ -109,14 +116,14 @@ fn first_stop(alloc: Global, instances: Vec<Instance>, stop: LsaStop) -> LsaStop
 /// `Refused` with the offset of the first faulty LSA, and of its faults the first in the order `ShortLsa`, `BadLength`,
 /// `BadBody`, `TooManyRouters`, `LsaTwice`, `ZeroMetric`, of which the last three are faults of what counts among the LSAs
 /// before the first that has one of the others. `OutOfMemory` where memory runs out.
-pub fn read_lsas(alloc: Global, bytes: &[u8]) -> Result<Database, LsaStop>
+pub fn read_lsas(alloc: Global, bytes: &[u8]) -> Result<Database, Refusal<LsaFault>>
     requires { length bytes.now < 2 ^ 32 - 1 }
     ensures { MatchResult result (λ database. ComesTo bytes.now (Ok database)) (Refuses bytes.now) }
 {
     let mut instances = Vec::new(alloc);
     match push_instances(alloc, &mut instances, bytes) {
         Ok(()) => database_of(alloc, instances),
-        Err(stop) => Err(first_stop(alloc, instances, stop)),
+        Err(refusal) => Err(first_refusal(alloc, instances, refusal)),
     }
 }
 

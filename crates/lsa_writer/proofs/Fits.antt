@@ -15,8 +15,8 @@ use Rattle.lsdb_build.specs.Topology.{topology_fault, database_of, places_from}
 use Rattle.lsdb_build.proofs.Pairs.{all_at, all_from_at, pair_at, pairs_nil, map_at}
 use Rattle.lsdb_build.proofs.Subnets.{shares_itself, firsts_all}
 use Rattle.lsdb_build.proofs.Databases.{database_is}
-use Rattle.lsa_bytes.specs.declared.stop.LsaFault.{LsaFault}
-use Rattle.lsa_bytes.specs.declared.stop.LsaFault.TheVariants.{NoRouterId, RouterIdTwice}
+use Rattle.lsa_bytes.specs.declared.fault.LsaFault.{LsaFault}
+use Rattle.lsa_bytes.specs.declared.fault.LsaFault.TheVariants.{NoRouterId, RouterIdTwice}
 use Rattle.lsa_bytes.specs.declared.ids.IdFault.{IdFault}
 use Rattle.lsa_bytes.specs.Ids.{is_id, id_fault, first_id_fault}
 use Rattle.lsa_writer.specs.Ends.{router_id_in, id_of}

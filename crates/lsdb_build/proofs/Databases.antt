@@ -18,7 +18,7 @@ use Rattle.lsdb_build.specs.Graphs.{IsAreaDatabase, IsDatabaseLink, IsFar, HasLi
 use Rattle.lsdb_build.specs.Topology.{is_second_of_router, is_second_of_address, is_mismatch, is_crowding, is_overlap, lacks_designated, first_where, at_port, at_config, past, second_of_name, topology_fault, router_at, far_of, link_back_of, link_of, places_from, database_of}
 use Rattle.lsdb_build.proofs.Pairs.{all_at, all_from_at, pair_at, pairs_nil, pairs_head, pairs_tail, pairs_weaker, map_at, at_map, count_agree, count_filter, other_place}
 use Rattle.lsdb_build.proofs.Subnets.{shares_itself, shares_back, shares_on, shares_alike, none_passes, differs_in_kind, kinds_at, place_only, firsts_all, firsts_length, firsts_are_first, FirstOf, first_found}
-use Rattle.lsdb_build.specs.declared.stop.TopologyFault.TheVariants.{TooMany, NameTwice, SameRouterTwice, AddressTwice, TypeMismatch, CrowdedLink, NoDesignated, OverlapPrefix}
+use Rattle.lsdb_build.specs.declared.fault.TopologyFault.TheVariants.{TooMany, NameTwice, SameRouterTwice, AddressTwice, TypeMismatch, CrowdedLink, NoDesignated, OverlapPrefix}
 use Rattle.lsdb_build.proofs.PortFacts.{IsPortFrom, InOrder, ports_from_all, ports_from_pairs, no_first, no_port, no_config, within, none_past, names_differ}
 
 -- what the interfaces of a topology without a fault keep

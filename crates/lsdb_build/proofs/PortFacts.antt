@@ -10,7 +10,7 @@ use Rattle.cost_base.proofs.ByteLemmas.{same_bytes-refl}
 use Rattle.interface_model.specs.declared.Interface.{Interface}
 use Rattle.interface_model.specs.Records.{Router, IsInterface, IsRouter}
 use Rattle.interface_model.specs.Addresses.{is_active}
-use Rattle.lsdb_build.specs.declared.stop.TopologyFault.{TopologyFault}
+use Rattle.lsdb_build.specs.declared.fault.TopologyFault.{TopologyFault}
 use Rattle.lsdb_build.specs.Neighbours.{Port, port_of, ports_of, ports_from}
 use Rattle.lsdb_build.specs.Topology.{FaultyPlace, first_some, at_port, at_config, past, second_of_name}
 use Rattle.lsdb_build.proofs.Pairs.{pairs_nil, pairs_head, pairs_tail, pairs_append}

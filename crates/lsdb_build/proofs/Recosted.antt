@@ -24,8 +24,8 @@ use Rattle.lsdb_build.specs.declared.Linked.{Linked}
 use Rattle.interface_model.specs.Addresses.{is_active}
 use Rattle.lsdb_build.specs.Neighbours.{Port, port_of, ports_of, ports_from, ports, shares_subnet, is_linked_kind, is_linked, linked, is_broadcast, first_members, transit_subnets, place_from, is_other}
 use Rattle.lsdb_build.specs.Graphs.{Database, graph_at, far_vertex, link_edges, subnet_edges, router_of}
-use Rattle.lsdb_build.specs.declared.stop.TopologyFault.{TopologyFault}
-use Rattle.lsdb_build.specs.declared.stop.TopologyFault.TheVariants.{TooMany, NameTwice, SameRouterTwice, AddressTwice, TypeMismatch, CrowdedLink, NoDesignated, OverlapPrefix}
+use Rattle.lsdb_build.specs.declared.fault.TopologyFault.{TopologyFault}
+use Rattle.lsdb_build.specs.declared.fault.TopologyFault.TheVariants.{TooMany, NameTwice, SameRouterTwice, AddressTwice, TypeMismatch, CrowdedLink, NoDesignated, OverlapPrefix}
 use Rattle.lsdb_build.specs.Topology.{FaultyPlace, router_at, far_of, link_back_of, link_of, places_from, database_of, first_where, first_some, at_port, at_config, past, second_of_name, is_second_of_router, is_second_of_address, same_kind, is_mismatch, is_crowding, lacks_designated, holds, is_overlap, topology_fault}
 
 -- New costs: by the router's number, the interface's name and the cost of before.

@@ -1,14 +1,16 @@
 -- The first fault of a topology, from what its checks answer in turn.
 use Rattle.std.proofs.Common.{◌≡◌, ℕ, ◌≤◌, ◌++◌, List, [], ◌∷◌, Option, Some, None, length, map, refl, sym, ap, ◌∙◌, subst, slice_get, All, arith}
 use Rattle.std.proofs.lemmas.Option.{none-some}
+use Rattle.cost_base.specs.declared.refusal.Refusal.{Refusal}
+use Rattle.cost_base.specs.declared.refusal.Refusal.TheVariants.{Refused, OutOfMemory}
 use Rattle.interface_model.specs.Records.{Router, IsRouter}
-use Rattle.lsdb_build.specs.declared.stop.TopologyStop.{TopologyStop}
-use Rattle.lsdb_build.specs.declared.stop.TopologyStop.TheVariants.{Refused, OutOfMemory}
+use Rattle.lsdb_build.specs.declared.fault.ConfigLine.{ConfigLine}
+use Rattle.lsdb_build.specs.declared.fault.TopologyFault.{TopologyFault}
 use Rattle.lsdb_build.specs.Neighbours.{Port, ports, linked, transit_subnets, shares_subnet}
 use Rattle.lsdb_build.specs.Graphs.{IsAreaDatabase}
 use Rattle.lsdb_build.specs.Topology.{FaultyPlace, is_second_of_router, is_second_of_address, is_mismatch, is_crowding, is_overlap, lacks_designated, first_where, at_port, at_config, past, second_of_name, first_some, topology_fault, places_from, Tells}
 use Rattle.lsdb_build.specs.Checks.{link_among}
-use Rattle.lsdb_build.specs.declared.stop.TopologyFault.TheVariants.{TooMany, NameTwice, SameRouterTwice, AddressTwice, TypeMismatch, CrowdedLink, NoDesignated, OverlapPrefix}
+use Rattle.lsdb_build.specs.declared.fault.TopologyFault.TheVariants.{TooMany, NameTwice, SameRouterTwice, AddressTwice, TypeMismatch, CrowdedLink, NoDesignated, OverlapPrefix}
 use Rattle.lsdb_build.proofs.Databases.{database_is, linked_length, transit_length}
 
 -- the checks that need no linked interface
@@ -42,8 +44,8 @@ first_some-some : (f : Option FaultyPlace) (more : List (Option FaultyPlace)) (f
 first_some-some None more fault h = absurd (none-some fault h)
 first_some-some (Some other) more fault h = h
 
-tells_first : (f : Option FaultyPlace) (more : List (Option FaultyPlace)) (stop : TopologyStop) → Tells f stop → Tells (first_some (f ∷ more)) stop
-tells_first f more (Refused fault config line) h = first_some-some f more (record { fault = fault; config = config; line = line }) h
+tells_first : (f : Option FaultyPlace) (more : List (Option FaultyPlace)) (stop : Refusal TopologyFault ConfigLine) → Tells f stop → Tells (first_some (f ∷ more)) stop
+tells_first f more (Refused fault place) h = first_some-some f more (record { fault = fault; config = place.config; line = place.line }) h
 tells_first f more OutOfMemory h = tt
 
 -- a topology whose early checks find no fault has the later ones'
@@ -58,7 +60,7 @@ later_faults area routers few none =
     first_some-none (at_config TooMany (past 1000 (length routers))) (early routers all ++ later) few ∙ first_some-append (early routers all) later none
 
 -- the refusal at a transit subnet, at the interfaces and first members that the calls gave
-pub tells_designated : (area : ℕ) (routers : List Router) (early_ports all transit : List Port) (stop : TopologyStop) →
+pub tells_designated : (area : ℕ) (routers : List Router) (early_ports all transit : List Port) (stop : Refusal TopologyFault ConfigLine) →
     at_config TooMany (past 1000 (length routers)) ≡ None → early_ports ≡ ports area routers →
     first_some (early routers early_ports) ≡ None → all ≡ ports area routers →
     transit ≡ transit_subnets (ports area routers) → Tells (designated all transit) stop →
@@ -71,7 +73,7 @@ tells_designated area routers early_ports all transit stop few early_is none all
 
 -- the refusal of an overlap
 pub tells_overlap : (area : ℕ) (routers : List Router) (early_ports all transit others : List Port)
-    (stop : TopologyStop) → at_config TooMany (past 1000 (length routers)) ≡ None → early_ports ≡ ports area routers →
+    (stop : Refusal TopologyFault ConfigLine) → at_config TooMany (past 1000 (length routers)) ≡ None → early_ports ≡ ports area routers →
     first_some (early routers early_ports) ≡ None → all ≡ ports area routers →
     transit ≡ transit_subnets (ports area routers) → designated all transit ≡ None → others ≡ ports area routers →
     Tells (overlap others) stop → Tells (topology_fault area routers) stop

@@ -1,7 +1,7 @@
 -- How the faults of a topology are written.
 use Rattle.std.specs.Prelude.{ℕ}
-use Rattle.lsdb_build.specs.declared.stop.TopologyFault.{TopologyFault}
-use Rattle.lsdb_build.specs.declared.stop.TopologyFault.TheVariants.{NameTwice, AddressTwice, TypeMismatch, CrowdedLink, SameRouterTwice, NoDesignated, OverlapPrefix, TooMany}
+use Rattle.lsdb_build.specs.declared.fault.TopologyFault.{TopologyFault}
+use Rattle.lsdb_build.specs.declared.fault.TopologyFault.TheVariants.{NameTwice, AddressTwice, TypeMismatch, CrowdedLink, SameRouterTwice, NoDesignated, OverlapPrefix, TooMany}
 
 -- the number of a fault
 abbrev pub topology_fault_number : TopologyFault → ℕ

@@ -2,8 +2,8 @@
 use Rattle.std.specs.Prelude.{List, Bool}
 use Rattle.lsdb_build.specs.declared.checks.SubnetCheck.{SubnetCheck}
 use Rattle.lsdb_build.specs.declared.checks.SubnetCheck.TheVariants.{Kinds, Ends}
-use Rattle.lsdb_build.specs.declared.stop.TopologyFault.{TopologyFault}
-use Rattle.lsdb_build.specs.declared.stop.TopologyFault.TheVariants.{TypeMismatch, CrowdedLink}
+use Rattle.lsdb_build.specs.declared.fault.TopologyFault.{TopologyFault}
+use Rattle.lsdb_build.specs.declared.fault.TopologyFault.TheVariants.{TypeMismatch, CrowdedLink}
 use Rattle.lsdb_build.specs.Neighbours.{Port}
 use Rattle.lsdb_build.specs.Topology.{is_mismatch, is_crowding}
 

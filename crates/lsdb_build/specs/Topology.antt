@@ -2,6 +2,8 @@
 use Rattle.std.specs.Prelude.{◌≡◌, ℕ, ◌+◌, List, [], ◌∷◌, map, ◌==◌, ◌&&◌, ◌||◌, nat_le, nat_lt, not, if◌then◌else◌, Bool, true, false, Option, Some, None, length, count_by, slice_get, unwrap_or}
 use Rattle.std.specs.List.{list_any, list_all}
 use Rattle.cost_base.specs.Lists.{same_bytes}
+use Rattle.cost_base.specs.declared.refusal.Refusal.{Refusal}
+use Rattle.cost_base.specs.declared.refusal.Refusal.TheVariants.{Refused, OutOfMemory}
 use Rattle.interface_model.specs.declared.Kind.{Kind}
 use Rattle.interface_model.specs.declared.Kind.TheVariants.{PointToPoint, Broadcast}
 use Rattle.interface_model.specs.Addresses.{contains}
@@ -9,11 +11,10 @@ use Rattle.interface_model.specs.Records.{Router}
 use Rattle.lsdb_build.specs.declared.Far.{Far}
 use Rattle.lsdb_build.specs.declared.Far.TheVariants.{Router as ToRouter, Subnet as ToSubnet}
 use Rattle.lsdb_build.specs.declared.Linked.{Linked}
-use Rattle.lsdb_build.specs.declared.stop.TopologyStop.{TopologyStop}
-use Rattle.lsdb_build.specs.declared.stop.TopologyStop.TheVariants.{Refused, OutOfMemory}
 use Rattle.lsdb_build.specs.Neighbours.{Port, ports, shares_subnet, linked, transit_subnets, is_broadcast, place_from, is_other}
-use Rattle.lsdb_build.specs.declared.stop.TopologyFault.TheVariants.{TooMany, NameTwice, SameRouterTwice, AddressTwice, TypeMismatch, CrowdedLink, NoDesignated, OverlapPrefix}
-use Rattle.lsdb_build.specs.declared.stop.TopologyFault.{TopologyFault}
+use Rattle.lsdb_build.specs.declared.fault.TopologyFault.TheVariants.{TooMany, NameTwice, SameRouterTwice, AddressTwice, TypeMismatch, CrowdedLink, NoDesignated, OverlapPrefix}
+use Rattle.lsdb_build.specs.declared.fault.TopologyFault.{TopologyFault}
+use Rattle.lsdb_build.specs.declared.fault.ConfigLine.{ConfigLine}
 use Rattle.lsdb_build.specs.Graphs.{Database}
 
 -- a fault of a topology, with the configuration and the line of its place
@@ -108,8 +109,8 @@ topology_fault area routers =
     ∷ [])
 
 -- the refusal tells the fault; want of memory says nothing
-abbrev pub Tells : Option FaultyPlace → TopologyStop → Type 0
-Tells found (Refused fault config line) = found ≡ Some (record { fault = fault; config = config; line = line })
+abbrev pub Tells : Option FaultyPlace → Refusal TopologyFault ConfigLine → Type 0
+Tells found (Refused fault place) = found ≡ Some (record { fault = fault; config = place.config; line = place.line })
 Tells found OutOfMemory = Unit {0}
 
 -- the router of the link at a place; 0 where there is none

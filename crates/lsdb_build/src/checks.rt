@@ -6,14 +6,14 @@ ghost use Rattle.lsdb_build.specs.SubnetChecks.{fails, fault_of};
 ghost use Rattle.lsdb_build.specs.Tallies.{IsTally, same_subnet, same_trait, subnet_of, member_of, kind_on, rank_on};
 ghost use Rattle.lsdb_build.specs.Topology.{is_second_of_router, is_second_of_address, is_mismatch, is_crowding, lacks_designated, first_where, at_port};
 ghost use Rattle.lsdb_build.specs.Topology.{at_config, past, second_of_name, Tells};
-ghost use Rattle.lsdb_build.specs.declared.stop.TopologyFault.TheVariants.{TooMany, NameTwice, SameRouterTwice, AddressTwice, TypeMismatch, CrowdedLink};
-ghost use Rattle.lsdb_build.specs.declared.stop.TopologyFault.TheVariants.{NoDesignated};
+ghost use Rattle.lsdb_build.specs.declared.fault.TopologyFault.TheVariants.{TooMany, NameTwice, SameRouterTwice, AddressTwice, TypeMismatch, CrowdedLink};
+ghost use Rattle.lsdb_build.specs.declared.fault.TopologyFault.TheVariants.{NoDesignated};
 
 use crate::port::{Port, Subnet, is_broadcast, subnet_of};
 use crate::tally::Tally;
-use crate::{TopologyFault, TopologyStop};
+use crate::{ConfigLine, TopologyFault};
 use area_graph::MOST_ROUTERS;
-use cost_base::{Name, OutOfMemory};
+use cost_base::{Name, OutOfMemory, Refusal};
 use indexmap::IndexSet;
 use interface_model::RouterConfig;
 use std::alloc::Global;
@@ -22,13 +22,15 @@ use std::alloc::Global;
 const MOST_INTERFACES: usize = 4000;
 
 /// The refusal of an interface.
-pub fn refusal_at(fault: TopologyFault, port: &Port) -> TopologyStop
-    ensures { result ≡ TopologyStop.Refused fault port.now.router port.now.interface.line }
+pub fn refusal_at(fault: TopologyFault, port: &Port) -> Refusal<TopologyFault, ConfigLine>
+    ensures { result ≡ Refusal.Refused fault (record { config = port.now.router; line = port.now.interface.line }) }
 {
-    TopologyStop::Refused {
+    Refusal::Refused {
         fault,
-        config: port.router,
-        line: port.interface.line,
+        place: ConfigLine {
+            config: port.router,
+            line: port.interface.line,
+        },
     }
 }
 
@@ -40,7 +42,10 @@ fn member_of(port: &Port) -> (u32, Subnet)
 }
 
 /// Refuses the first interface of which an earlier one is of the same router and on the same subnet.
-pub fn refuse_second_of_router(alloc: Global, ports: &[Port]) -> Result<(), TopologyStop>
+pub fn refuse_second_of_router(
+    alloc: Global,
+    ports: &[Port],
+) -> Result<(), Refusal<TopologyFault, ConfigLine>>
     requires { length ports.now ≤ 4000 }
     ensures { let fault = at_port SameRouterTwice (first_where is_second_of_router [] ports.now) in
         MatchResult result (λ _. fault ≡ None) (Tells fault) }
@@ -55,7 +60,10 @@ pub fn refuse_second_of_router(alloc: Global, ports: &[Port]) -> Result<(), Topo
 }
 
 /// Refuses the first interface of which an earlier one has the address.
-pub fn refuse_second_of_address(alloc: Global, ports: &[Port]) -> Result<(), TopologyStop>
+pub fn refuse_second_of_address(
+    alloc: Global,
+    ports: &[Port],
+) -> Result<(), Refusal<TopologyFault, ConfigLine>>
     requires { length ports.now ≤ 4000 }
     ensures { let fault = at_port AddressTwice (first_where is_second_of_address [] ports.now) in
         MatchResult result (λ _. fault ≡ None) (Tells fault) }
@@ -134,7 +142,7 @@ pub fn refuse_on_subnet(
     alloc: Global,
     ports: &[Port],
     check: SubnetCheck,
-) -> Result<(), TopologyStop>
+) -> Result<(), Refusal<TopologyFault, ConfigLine>>
     requires { length ports.now ≤ 4000 }
     ensures { let fault = at_port (fault_of check) (first_where (fails check) [] ports.now) in
         MatchResult result (λ _. fault ≡ None) (Tells fault) }
@@ -180,7 +188,7 @@ pub fn refuse_undesignated(
     alloc: Global,
     ports: &[Port],
     transit: &[Port],
-) -> Result<(), TopologyStop>
+) -> Result<(), Refusal<TopologyFault, ConfigLine>>
     requires { length ports.now ≤ 4000 }
     ensures { let fault = at_port NoDesignated (first_where (λ before p. lacks_designated ports.now p) [] transit.now) in
         MatchResult result (λ _. fault ≡ None) (Tells fault) }
@@ -195,28 +203,32 @@ pub fn refuse_undesignated(
 }
 
 /// Refuses more than 1,000 configurations.
-pub fn refuse_many_configs(configs: &[RouterConfig]) -> Result<(), TopologyStop>
+pub fn refuse_many_configs(
+    configs: &[RouterConfig],
+) -> Result<(), Refusal<TopologyFault, ConfigLine>>
     ensures fault { let fault = at_config TooMany (past 1000 (length configs.now)) in
         MatchResult result (λ _. fault ≡ None) (Tells fault) }
-    ensures refused { IfErr result (λ stop. stop ≡ TopologyStop.Refused TooMany 1000 0) }
+    ensures refused { IfErr result (λ refusal. refusal ≡ Refusal.Refused TooMany (record { config = 1000; line = 0 })) }
     ensures few { MatchResult result (λ _. length configs.now ≤ 1000) (λ _. 1000 < length configs.now) }
 {
     if configs.len() > MOST_ROUTERS {
-        return Err(TopologyStop::Refused {
+        return Err(Refusal::Refused {
             fault: TopologyFault::TooMany,
-            config: MOST_ROUTERS as u32,
-            line: 0,
+            place: ConfigLine {
+                config: MOST_ROUTERS as u32,
+                line: 0,
+            },
         });
     }
     Ok(())
 }
 
 /// Refuses more than 4,000 active interfaces, at the first past them.
-pub fn refuse_many_ports(ports: &[Port]) -> Result<(), TopologyStop>
+pub fn refuse_many_ports(ports: &[Port]) -> Result<(), Refusal<TopologyFault, ConfigLine>>
     ensures fault { let fault = at_port TooMany (slice_get ports.now 4000) in
         MatchResult result (λ _. fault ≡ None) (Tells fault) }
-    ensures refused { IfErr result (λ stop. IfSome (slice_get ports.now 4000)
-        (λ port. stop ≡ TopologyStop.Refused TooMany port.router port.interface.line)) }
+    ensures refused { IfErr result (λ refusal. IfSome (slice_get ports.now 4000)
+        (λ port. refusal ≡ Refusal.Refused TooMany (record { config = port.router; line = port.interface.line }))) }
     ensures few { MatchResult result (λ _. length ports.now ≤ 4000) (λ _. 4000 < length ports.now) }
 {
     match ports.get(MOST_INTERFACES) {
@@ -234,7 +246,10 @@ fn see<'a>(seen: &mut IndexSet<&'a [u8]>, name: &'a Name) -> Result<bool, OutOfM
 }
 
 /// Refuses the first configuration of which an earlier one has the name.
-pub fn refuse_second_name(alloc: Global, configs: &[RouterConfig]) -> Result<(), TopologyStop>
+pub fn refuse_second_name(
+    alloc: Global,
+    configs: &[RouterConfig],
+) -> Result<(), Refusal<TopologyFault, ConfigLine>>
     requires { length configs.now ≤ 1000 }
     ensures { let fault = at_config NameTwice (second_of_name [] 0 configs.now) in
         MatchResult result (λ _. fault ≡ None) (Tells fault) }
@@ -242,10 +257,12 @@ pub fn refuse_second_name(alloc: Global, configs: &[RouterConfig]) -> Result<(),
     let mut seen = IndexSet::new(alloc);
     for (i, config) in configs.iter().enumerate() {
         if !see(&mut seen, &config.name)? {
-            return Err(TopologyStop::Refused {
+            return Err(Refusal::Refused {
                 fault: TopologyFault::NameTwice,
-                config: i as u32,
-                line: 0,
+                place: ConfigLine {
+                    config: i as u32,
+                    line: 0,
+                },
             });
         }
     }

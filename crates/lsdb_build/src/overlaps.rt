@@ -5,13 +5,13 @@ ghost use Rattle.indexmap.specs.IndexMap.{get};
 ghost use Rattle.lsdb_build.specs.Tallies.{same_subnet, subnet_of_length};
 ghost use Rattle.lsdb_build.specs.Owners.{has_other, IsOwnerNoted, HasSubnet, HasPrefixes};
 ghost use Rattle.lsdb_build.specs.Topology.{holds, is_overlap, first_where, at_port, Tells};
-ghost use Rattle.lsdb_build.specs.declared.stop.TopologyFault.TheVariants.{OverlapPrefix};
+ghost use Rattle.lsdb_build.specs.declared.fault.TopologyFault.TheVariants.{OverlapPrefix};
 
 use crate::checks::refusal_at;
 use crate::owners::Owners;
 use crate::port::{Port, Subnet, shares_subnet, subnet_of};
-use crate::{TopologyFault, TopologyStop};
-use cost_base::OutOfMemory;
+use crate::{ConfigLine, TopologyFault};
+use cost_base::{OutOfMemory, Refusal};
 use interface_model::{contains, subnet};
 use std::alloc::Global;
 
@@ -88,7 +88,10 @@ fn may_overlap(seen: &Owners, enclosing: &Owners, port: &Port) -> bool
 ///
 /// The interfaces before are compared one by one only at an interface whose subnet lies in or round an earlier one of another
 /// router.
-pub fn refuse_overlap(alloc: Global, ports: &[Port]) -> Result<(), TopologyStop>
+pub fn refuse_overlap(
+    alloc: Global,
+    ports: &[Port],
+) -> Result<(), Refusal<TopologyFault, ConfigLine>>
     requires { length ports.now ≤ 4000 }
     ensures { let fault = at_port OverlapPrefix (first_where is_overlap [] ports.now) in
         MatchResult result (λ _. fault ≡ None) (Tells fault) }

@@ -4,7 +4,7 @@ ghost use Rattle.lsdb_build.specs.Topology.{topology_fault, database_of, places_
 ghost use Rattle.lsdb_build.specs.Topology.{is_second_of_router, is_second_of_address, is_mismatch, is_crowding, Tells};
 ghost use Rattle.lsdb_build.specs.Graphs.{IsAreaDatabase};
 ghost use Rattle.lsdb_build.specs.Checks.{link_among};
-ghost use Rattle.lsdb_build.specs.declared.stop.TopologyFault.TheVariants.{TooMany, NameTwice, SameRouterTwice, AddressTwice, TypeMismatch, CrowdedLink};
+ghost use Rattle.lsdb_build.specs.declared.fault.TopologyFault.TheVariants.{TooMany, NameTwice, SameRouterTwice, AddressTwice, TypeMismatch, CrowdedLink};
 
 use crate::checks::{
     SubnetCheck, refuse_many_configs, refuse_many_ports, refuse_on_subnet, refuse_second_name,
@@ -14,13 +14,17 @@ use crate::links::{linked_ports, links_of, names_of, subnets_of, transit_ports};
 use crate::overlaps::refuse_overlap;
 use crate::places::places_of;
 use crate::port::{Port, active_ports};
-use crate::{Lsdb, TopologyStop};
-use cost_base::{Listed, OutOfMemory};
+use crate::{ConfigLine, Lsdb, TopologyFault};
+use cost_base::{Listed, OutOfMemory, Refusal};
 use interface_model::RouterConfig;
 use std::alloc::Global;
 
 /// Refuses what the checks before the designated routers refuse.
-fn refuse_ports(alloc: Global, configs: &[RouterConfig], ports: &[Port]) -> Result<(), TopologyStop>
+fn refuse_ports(
+    alloc: Global,
+    configs: &[RouterConfig],
+    ports: &[Port],
+) -> Result<(), Refusal<TopologyFault, ConfigLine>>
     requires { length configs.now ≤ 1000 }
     ensures fault { let fault = first_some (at_port TooMany (slice_get ports.now 4000)
         ∷ at_config NameTwice (second_of_name [] 0 configs.now)
@@ -80,7 +84,11 @@ fn assemble(
 /// `TypeMismatch`, `CrowdedLink`, `NoDesignated`, `OverlapPrefix`, and at its first place: the later configuration or
 /// interface; for `TooMany` the first past the limit; for `NoDesignated` the subnet's first member. `OutOfMemory` where
 /// memory runs out.
-pub fn build(alloc: Global, configs: &[RouterConfig], area: u32) -> Result<Lsdb, TopologyStop>
+pub fn build(
+    alloc: Global,
+    configs: &[RouterConfig],
+    area: u32,
+) -> Result<Lsdb, Refusal<TopologyFault, ConfigLine>>
     ensures made { IfOk result (λ d. (topology_fault area configs.now ≡ None) × (d ≡ database_of area configs.now)) }
     ensures refused { IfErr result (Tells (topology_fault area configs.now)) }
 {

@@ -3,12 +3,12 @@ use Rattle.std.proofs.Common.{◌≡◌, ℕ, ◌≤◌, refl, sym, ◌∙◌, a
 use Rattle.std.specs.Prelude.{IfSome, Option, None}
 use Rattle.std.specs.Borrow.{Bor}
 use Rattle.cost_base.specs.Histories.{Taken}
+use Rattle.cost_base.specs.declared.refusal.Refusal.{Refusal}
+use Rattle.cost_base.specs.declared.refusal.Refusal.TheVariants as stops
 use Rattle.design_problem.specs.Answers.{greatest_bound}
 use Rattle.design_problem.specs.Problems.{DesignProblem}
 use Rattle.text_lines.specs.LineFaults.{FaultyLine}
-use Rattle.set_reader.specs.declared.stop.SetFault.{SetFault}
-use Rattle.set_reader.specs.declared.stop.SetStop.{SetStop}
-use Rattle.set_reader.specs.declared.stop.SetStop.TheVariants as stops
+use Rattle.set_reader.specs.declared.fault.SetFault.{SetFault}
 use Rattle.set_reader.specs.FaultNumbers.{set_fault_number}
 use Rattle.set_reader.specs.Reading.{AreSaid, TellsReading, set_fault}
 use Rattle.set_reader.specs.SpreadSets.{AreSetsOf}
@@ -21,13 +21,13 @@ use Rattle.input_files.proofs.Problems.{IsProblemOf}
 use Rattle.input_files.proofs.ReadyInputs.{IsReadyInput, ready_is}
 use Rattle.input_files.proofs.Stops.{gave_then, gave_wanting}
 use Rattle.input_files.specs.Readings.{EndsAs, Faulty, Gave, Says}
-use Rattle.input_files.specs.Stops.{IsReadAndMade, StopsAs, refusal_in}
+use Rattle.input_files.specs.Stops.{IsReadAndMade, StopsAs, refusal_in, refusal_stop}
 use Rattle.report_writer.specs.declared.report.Report.{Report}
 use Rattle.report_writer.specs.Reports.{Reports, bytes_in}
 use Rattle.spread_sets.specs.declared.spread.Spread.{Spread}
 use Rattle.spread_sets.specs.declared.spread.Spread.TheVariants.{Fit, Impossible, Undecided}
 use Rattle.spread_sets.specs.Answers.{IsSpreadFound}
-use Rattle.path_commands.specs.SetFiles.{AreSetsIn, Sharing, if_sets, set_stop, sets_read, spread_read}
+use Rattle.path_commands.specs.SetFiles.{AreSetsIn, Sharing, if_sets, sets_read, spread_read}
 use Rattle.path_commands.specs.Spreads.{IsSpreadBack, MaySpread, shared_costs, spread_text, spread_status}
 use Rattle.path_commands.proofs.SpreadsBack.{spread_back}
 use Rattle.report_writer.proofs.ReportLaws.{may_report}
@@ -69,9 +69,9 @@ sets_ready file d p bytes sets is none said lawful = record {
 }
 
 -- a file with one
-pub sets_stop : (file : Bor (List ℕ)) (d : Input) (p : DesignProblem) (bytes : List ℕ) (stop : SetStop) → d.problem ≡ p →
+pub sets_stop : (file : Bor (List ℕ)) (d : Input) (p : DesignProblem) (bytes : List ℕ) (stop : Refusal SetFault ℕ) → d.problem ≡ p →
     TellsReading (set_fault p bytes) stop →
-    StopsAs (if_sets file.now d bytes (set_fault d.problem bytes)) [] (set_stop stop file)
+    StopsAs (if_sets file.now d bytes (set_fault d.problem bytes)) [] (refusal_stop set_fault_number stop file)
 sets_stop file d p bytes (stops.Refused fault line) is tells =
     subst (λ (f : Option (FaultyLine SetFault)). EndsAs (if_sets file.now d bytes f) [] (Faulty (refusal_in (set_fault_number fault) file line)))
     (sym (ap (λ (q : DesignProblem). set_fault q bytes) is ∙ tells)) refl

@@ -1,15 +1,10 @@
 -- What a file of sets says of the wanted paths of an input, read after it.
 use Rattle.std.specs.Prelude.{ℕ, List, Option, Some, None}
-use Rattle.std.specs.Borrow.{Bor}
 use Rattle.text_lines.specs.LineFaults.{FaultyLine}
-use Rattle.set_reader.specs.declared.stop.SetFault.{SetFault}
-use Rattle.set_reader.specs.declared.stop.SetStop.{SetStop}
-use Rattle.set_reader.specs.declared.stop.SetStop.TheVariants.{Refused as SetsRefused, OutOfMemory as NoMemoryForSets}
+use Rattle.set_reader.specs.declared.fault.SetFault.{SetFault}
 use Rattle.set_reader.specs.FaultNumbers.{set_fault_number}
 use Rattle.set_reader.specs.Reading.{AreSaid, set_fault}
 use Rattle.set_reader.specs.SpreadSets.{AreSetsOf}
-use Rattle.input_files.specs.declared.stop.Stop.{Stop}
-use Rattle.input_files.specs.declared.stop.Stop.TheVariants.{Refused as StopRefused, OutOfMemory as StopOutOfMemory}
 use Rattle.input_files.specs.declared.problem.View.TheVariants.{AsRequested}
 use Rattle.input_files.specs.Inputs.{InputFiles}
 use Rattle.input_files.specs.Readings.{Reading, Refused, Ready, ◌>>=◌}
@@ -41,8 +36,3 @@ sets_read file d = file_read longest_sets file >>= λ bytes. if_sets file d byte
 -- what the files of a network and of requests say, and then the file of sets
 abbrev pub spread_read : InputFiles → List ℕ → Reading Sharing
 spread_read names file = outcome AsRequested names >>= λ d. sets_read file d
-
--- the stop of a file of sets that is refused
-abbrev pub set_stop : SetStop → Bor (List ℕ) → Stop
-set_stop (SetsRefused fault line) file = StopRefused (set_fault_number fault) file line
-set_stop NoMemoryForSets file = StopOutOfMemory

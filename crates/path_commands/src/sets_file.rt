@@ -4,30 +4,16 @@ ghost use Rattle.set_reader.specs.SpreadSets.{AreSetsOf};
 ghost use Rattle.input_files.specs.Outcomes.{Input};
 ghost use Rattle.input_files.specs.Readings.{Gave};
 ghost use Rattle.input_files.specs.Stops.{IsReadAs};
-ghost use Rattle.path_commands.specs.SetFiles.{AreSetsIn, set_stop, sets_read};
+ghost use Rattle.path_commands.specs.SetFiles.{AreSetsIn, sets_read};
 
 use cost_base::Shelf;
 use design_problem::Problem;
-use input_files::{Stop, read_file};
-use set_reader::{SetStop, Sets, read_sets};
+use input_files::{Stop, read_file, stop_of};
+use set_reader::{Sets, read_sets};
 use std::alloc::Global;
 
 /// The greatest length of a file of sets: 4 MiB.
 const LONGEST_SETS: usize = 4_194_304;
-
-/// The stop of a file of sets that is refused.
-fn stop_of_sets(stop: SetStop, file: &str) -> Stop<'_>
-    ensures { result ≡ set_stop stop file.entry }
-{
-    match stop {
-        SetStop::Refused { fault, line } => Stop::Refused {
-            number: fault.number(),
-            file,
-            line,
-        },
-        SetStop::OutOfMemory => Stop::OutOfMemory,
-    }
-}
 
 /// The sets of a problem's wanted paths that a file says, whichever input the problem is of.
 ///
@@ -47,6 +33,6 @@ pub(crate) fn read_sets_file<'a, S: Shelf>(
     let bytes = read_file(alloc, shelf, name, LONGEST_SETS)?;
     match read_sets(alloc, &bytes, problem) {
         Ok(sets) => Ok(sets),
-        Err(stop) => Err(stop_of_sets(stop, name)),
+        Err(refusal) => Err(stop_of(refusal, name)),
     }
 }

@@ -18,7 +18,7 @@ use Rattle.wanted_paths.specs.Paths.{outline}
 use Rattle.cost_base.proofs.ListLemmas.{append-none}
 use Rattle.wanted_paths.proofs.Outline.{as_outline, requests_same}
 use Rattle.path_requests.proofs.ProblemLaws.{same_whole_problem}
-use Rattle.wanted_paths.specs.declared.stop.ResolutionFault.TheVariants.{NoCost}
+use Rattle.wanted_paths.specs.declared.fault.ResolutionFault.TheVariants.{NoCost}
 use Rattle.path_requests.proofs.WholeProblems.{prices_count}
 
 -- where each fixed link has a cost, each price is one that a link may have

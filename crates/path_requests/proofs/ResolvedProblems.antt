@@ -7,7 +7,7 @@ use Rattle.lsdb_build.specs.Graphs.{Database, IsAreaDatabase}
 use Rattle.design_problem.specs.Problems.{IsProblem}
 use Rattle.request_reader.specs.Asked.{Asked, IsAsked}
 use Rattle.request_reader.proofs.AskedRules.{none_first}
-use Rattle.wanted_paths.specs.declared.stop.ResolutionFault.TheVariants.{TooManyVariables}
+use Rattle.wanted_paths.specs.declared.fault.ResolutionFault.TheVariants.{TooManyVariables}
 use Rattle.wanted_paths.specs.LineFaults.{line_faults}
 use Rattle.wanted_paths.proofs.Walks.{well_from}
 use Rattle.path_requests.specs.Meaning.{owners, problem_of}

@@ -11,7 +11,7 @@ use Rattle.request_reader.specs.declared.Directive.TheVariants.{FreeAll, Free, F
 use Rattle.request_reader.specs.declared.Part.TheVariants.{Router as RouterPart, Interface as InterfacePart}
 use Rattle.request_reader.specs.declared.Item.{Item}
 use Rattle.request_reader.specs.Asked.{Asked}
-use Rattle.wanted_paths.specs.declared.stop.ResolutionFault.TheVariants.{UnknownRouter, UnknownInterface, NotALink, LoopPath, PathExcluded, EndsDiffer, BrokenPath, NoCost}
+use Rattle.wanted_paths.specs.declared.fault.ResolutionFault.TheVariants.{UnknownRouter, UnknownInterface, NotALink, LoopPath, PathExcluded, EndsDiffer, BrokenPath, NoCost}
 use Rattle.path_requests.specs.Resolving.{resolution_fault, present_fault, present_problem_of}
 
 abbrev link_to : ℕ → List ℕ → ℕ → ℕ → Linked

@@ -19,7 +19,7 @@ use Rattle.wanted_paths.specs.LineFaults.{fault_unless}
 use Rattle.path_requests.specs.Resolving.{same_range, ends_differ, ends_differ_at, ties_different, ends_faults}
 use Rattle.wanted_paths.proofs.Walks.{well_from}
 use Rattle.wanted_paths.proofs.LookUps.{link_number_is}
-use Rattle.wanted_paths.specs.declared.stop.ResolutionFault.TheVariants.{EndsDiffer}
+use Rattle.wanted_paths.specs.declared.fault.ResolutionFault.TheVariants.{EndsDiffer}
 use Rattle.path_requests.proofs.Numbering.{passing, count_before, fewer_before}
 
 -- the other end of a link

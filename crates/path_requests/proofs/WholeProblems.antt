@@ -43,7 +43,7 @@ use Rattle.wanted_paths.proofs.TakenEdges.{has_kept}
 use Rattle.path_requests.proofs.RangeSteps.{range_after, range_is}
 use Rattle.wanted_paths.proofs.Outline.{as_outline, route_same, excluded_same, loop_free_same}
 use Rattle.path_requests.proofs.Numbering.{passing, numbered, passing_all}
-use Rattle.wanted_paths.specs.declared.stop.ResolutionFault.TheVariants.{LoopPath, PathExcluded}
+use Rattle.wanted_paths.specs.declared.fault.ResolutionFault.TheVariants.{LoopPath, PathExcluded}
 use Rattle.path_requests.proofs.VariableOwners.{has_owner, variable_is, variable_below}
 
 -- Ranges

@@ -9,8 +9,8 @@ use Rattle.request_reader.specs.declared.Directive.{Directive}
 use Rattle.request_reader.specs.declared.Directive.TheVariants.{FreeAll, Free, Fix, SymmetricAll, Symmetric}
 use Rattle.request_reader.specs.declared.Item.{Item}
 use Rattle.request_reader.specs.Asked.{Asked}
-use Rattle.wanted_paths.specs.declared.stop.ResolutionFault.{ResolutionFault}
-use Rattle.wanted_paths.specs.declared.stop.ResolutionFault.TheVariants.{EndsDiffer, TooManyVariables, NoCost}
+use Rattle.wanted_paths.specs.declared.fault.ResolutionFault.{ResolutionFault}
+use Rattle.wanted_paths.specs.declared.fault.ResolutionFault.TheVariants.{EndsDiffer, TooManyVariables, NoCost}
 use Rattle.wanted_paths.specs.Paths.{link_number}
 use Rattle.wanted_paths.specs.LineFaults.{fault_unless, line_faults}
 use Rattle.path_requests.specs.Meaning.{Range, Within, AsItIs, range_of, owners, problem_of}

@@ -14,12 +14,12 @@ use crate::problems::present_cost;
 use crate::ranges::Range;
 use crate::variables::lacks_cost;
 use area_graph::Price;
-use cost_base::{Listed, OutOfMemory};
+use cost_base::{Listed, OutOfMemory, Refusal};
 use design_problem::{Problem, Request};
 use lsdb_build::Linked;
 use request_reader::RequestFile;
 use std::alloc::Global;
-use wanted_paths::{Names, ResolutionFault, ResolutionStop};
+use wanted_paths::{Names, ResolutionFault};
 
 /// Whether a link has no present cost, and there is no default.
 fn lacks_present(names: &Names, requests: &RequestFile, link: &Linked) -> bool
@@ -29,13 +29,19 @@ fn lacks_present(names: &Names, requests: &RequestFile, link: &Linked) -> bool
 }
 
 /// Whether each link has a cost; the first one that has none where one hasn't.
-pub fn check_present(names: &Names, requests: &RequestFile) -> Result<(), ResolutionStop>
+pub fn check_present(
+    names: &Names,
+    requests: &RequestFile,
+) -> Result<(), Refusal<ResolutionFault, ()>>
     ensures made { OnOk result (cost_faults (present_asked requests.now) names.now 0 names.now.links ≡ []) }
     ensures refused { IfErr result (TellsResolution (first_of (cost_faults (present_asked requests.now) names.now 0 names.now.links))) }
 {
     for (i, link) in names.links().iter().enumerate() {
         if lacks_present(names, requests, link) {
-            return Err(ResolutionStop::Refused(ResolutionFault::NoCost { link: i as u32 }));
+            return Err(Refusal::Refused {
+                fault: ResolutionFault::NoCost { link: i as u32 },
+                place: (),
+            });
         }
     }
     Ok(())

@@ -8,35 +8,39 @@ ghost use Rattle.path_requests.specs.Checked.{AreOwners};
 ghost use Rattle.wanted_paths.specs.LineFaults.{fault_unless, line_faults, TellsResolution};
 ghost use Rattle.path_requests.specs.Resolving.{whole_faults, resolution_fault, present_fault, present_problem_of};
 ghost use Rattle.wanted_paths.specs.Paths.{outline};
-ghost use Rattle.wanted_paths.specs.declared.stop.ResolutionFault.TheVariants.{TooManyVariables};
+ghost use Rattle.wanted_paths.specs.declared.fault.ResolutionFault.TheVariants.{TooManyVariables};
 
 use crate::choices::{Choices, items};
 use crate::present::{assemble_present, check_present};
 use crate::problems::assemble;
 use crate::variables::{check_costs, check_ends, own_links};
+use cost_base::Refusal;
 use design_problem::{Problem, Request};
 use lsdb_build::Lsdb;
 use request_reader::RequestFile;
 use std::alloc::Global;
-use wanted_paths::{Names, ResolutionFault, ResolutionStop, resolve_lines};
+use wanted_paths::{Names, ResolutionFault, resolve_lines};
 
 /// The most variables that a problem has.
 const MOST_VARIABLES: usize = 1000;
 
 /// Whether there are few enough variables.
-fn check_count(count: usize) -> Result<(), ResolutionStop>
+fn check_count(count: usize) -> Result<(), Refusal<ResolutionFault, ()>>
     ensures made { OnOk result (fault_unless (nat_le count 1000) TooManyVariables ≡ []) }
     ensures few { OnOk result (count ≤ 1000) }
     ensures refused { IfErr result (TellsResolution (first_of (fault_unless (nat_le count 1000) TooManyVariables))) }
 {
     if count > MOST_VARIABLES {
-        return Err(ResolutionStop::Refused(ResolutionFault::TooManyVariables));
+        return Err(Refusal::Refused {
+            fault: ResolutionFault::TooManyVariables,
+            place: (),
+        });
     }
     Ok(())
 }
 
 /// The links that have a variable of their own; the first fault after all lines.
-fn check_whole(alloc: Global, choices: &Choices) -> Result<Vec<u32>, ResolutionStop>
+fn check_whole(alloc: Global, choices: &Choices) -> Result<Vec<u32>, Refusal<ResolutionFault, ()>>
     ensures made { IfOk result (λ own. AreOwners choices.now.asked choices.now.database own.items) }
     ensures refused { IfErr result (TellsResolution (first_of (whole_faults choices.now.asked choices.now.database))) }
 {
@@ -52,7 +56,7 @@ fn resolve_choices(
     alloc: Global,
     choices: &Choices,
     paths: Vec<Request>,
-) -> Result<Problem, ResolutionStop>
+) -> Result<Problem, Refusal<ResolutionFault, ()>>
     requires lines { line_faults choices.now.database choices.now.asked.items ≡ [] }
     requires paths { paths.items ≡ filter_map (λ item. request_of choices.now.database (outline choices.now.database) item.what) choices.now.asked.items }
     ensures made { IfOk result (λ p. (whole_faults choices.now.asked choices.now.database ≡ []) × (p ≡ problem_of choices.now.asked choices.now.database)) }
@@ -68,7 +72,7 @@ fn resolve_whole(
     names: &Names,
     requests: &RequestFile,
     paths: Vec<Request>,
-) -> Result<Problem, ResolutionStop>
+) -> Result<Problem, Refusal<ResolutionFault, ()>>
     requires lines { line_faults names.now requests.now.items ≡ [] }
     requires paths { paths.items ≡ filter_map (λ item. request_of names.now (outline names.now) item.what) requests.now.items }
     ensures made { IfOk result (λ p. (whole_faults requests.now names.now ≡ []) × (p ≡ problem_of requests.now names.now)) }
@@ -91,7 +95,7 @@ pub fn resolve(
     alloc: Global,
     requests: &RequestFile,
     lsdb: &Lsdb,
-) -> Result<Problem, ResolutionStop>
+) -> Result<Problem, Refusal<ResolutionFault, ()>>
     ensures made { IfOk result (λ p. (resolution_fault requests.now lsdb.now ≡ None) × (p ≡ problem_of requests.now lsdb.now)) }
     ensures refused { IfErr result (TellsResolution (resolution_fault requests.now lsdb.now)) }
 {
@@ -112,7 +116,7 @@ pub fn resolve_present(
     alloc: Global,
     requests: &RequestFile,
     lsdb: &Lsdb,
-) -> Result<Problem, ResolutionStop>
+) -> Result<Problem, Refusal<ResolutionFault, ()>>
     ensures made { IfOk result (λ p. (present_fault requests.now lsdb.now ≡ None) × (p ≡ present_problem_of requests.now lsdb.now)) }
     ensures refused { IfErr result (TellsResolution (present_fault requests.now lsdb.now)) }
 {

@@ -8,11 +8,11 @@ ghost use Rattle.wanted_paths.specs.LineFaults.{TellsResolution};
 
 use crate::choices::Choices;
 use crate::ranges::{Range, same_range};
-use cost_base::OutOfMemory;
+use cost_base::{OutOfMemory, Refusal};
 use lsdb_build::Linked;
 use request_reader::{Directive, Item, RequestFile};
 use std::alloc::Global;
-use wanted_paths::{ResolutionFault, ResolutionStop};
+use wanted_paths::ResolutionFault;
 
 /// The link whose variable a free link has.
 pub fn owner(choices: &Choices, number: u32, link: &Linked) -> u32
@@ -167,13 +167,16 @@ fn lacks_cost_at(choices: &Choices, number: u32, link: &Linked) -> bool
 }
 
 /// Whether each fixed link has a cost; the first one that has none where one hasn't.
-pub fn check_costs(choices: &Choices) -> Result<(), ResolutionStop>
+pub fn check_costs(choices: &Choices) -> Result<(), Refusal<ResolutionFault, ()>>
     ensures made { OnOk result (cost_faults choices.now.asked choices.now.database 0 choices.now.database.links ≡ []) }
     ensures refused { IfErr result (TellsResolution (first_of (cost_faults choices.now.asked choices.now.database 0 choices.now.database.links))) }
 {
     for (i, link) in choices.links().iter().enumerate() {
         if lacks_cost_at(choices, i as u32, link) {
-            return Err(ResolutionStop::Refused(ResolutionFault::NoCost { link: i as u32 }));
+            return Err(Refusal::Refused {
+                fault: ResolutionFault::NoCost { link: i as u32 },
+                place: (),
+            });
         }
     }
     Ok(())
@@ -235,14 +238,17 @@ fn ties_different(choices: &Choices, any: bool, directive: &Directive) -> bool
 }
 
 /// Whether no line makes a link symmetric whose ends differ; the first that does.
-pub fn check_ends(choices: &Choices, items: &[Item]) -> Result<(), ResolutionStop>
+pub fn check_ends(choices: &Choices, items: &[Item]) -> Result<(), Refusal<ResolutionFault, ()>>
     ensures made { OnOk result (ends_faults choices.now.asked choices.now.database items.now ≡ []) }
     ensures refused { IfErr result (TellsResolution (first_of (ends_faults choices.now.asked choices.now.database items.now))) }
 {
     let any = any_ends_differ(choices);
     for item in items {
         if ties_different(choices, any, &item.what) {
-            return Err(ResolutionStop::Refused(ResolutionFault::EndsDiffer { line: item.line }));
+            return Err(Refusal::Refused {
+                fault: ResolutionFault::EndsDiffer { line: item.line },
+                place: (),
+            });
         }
     }
     Ok(())

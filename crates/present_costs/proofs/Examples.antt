@@ -6,7 +6,7 @@ use Rattle.lsdb_build.specs.Graphs.{Database}
 use Rattle.request_reader.specs.declared.Directive.{Directive}
 use Rattle.request_reader.specs.declared.Directive.TheVariants.{FreeAll, Fix, SymmetricAll}
 use Rattle.request_reader.specs.Asked.{Asked}
-use Rattle.wanted_paths.specs.declared.stop.ResolutionFault.TheVariants.{EndsDiffer, NoCost}
+use Rattle.wanted_paths.specs.declared.fault.ResolutionFault.TheVariants.{EndsDiffer, NoCost}
 use Rattle.path_requests.specs.Resolving.{resolution_fault}
 use Rattle.present_costs.specs.PresentCosts.{fault_beside_present, present_of_variables}
 

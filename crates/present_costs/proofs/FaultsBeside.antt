@@ -15,8 +15,8 @@ use Rattle.request_reader.specs.declared.Item.{Item}
 use Rattle.request_reader.specs.WrittenRoutes.{Route}
 use Rattle.request_reader.specs.Asked.{Asked}
 use Rattle.request_reader.proofs.AskedRules.{none_first}
-use Rattle.wanted_paths.specs.declared.stop.ResolutionFault.{ResolutionFault}
-use Rattle.wanted_paths.specs.declared.stop.ResolutionFault.TheVariants.{UnknownRouter, UnknownInterface, NotALink, BrokenPath, LoopPath, PathExcluded, EndsDiffer, TooManyVariables, NoCost}
+use Rattle.wanted_paths.specs.declared.fault.ResolutionFault.{ResolutionFault}
+use Rattle.wanted_paths.specs.declared.fault.ResolutionFault.TheVariants.{UnknownRouter, UnknownInterface, NotALink, BrokenPath, LoopPath, PathExcluded, EndsDiffer, TooManyVariables, NoCost}
 use Rattle.wanted_paths.specs.Paths.{next_name, outline}
 use Rattle.wanted_paths.specs.Resolution.{knows_router, knows_link, is_loop_free}
 use Rattle.wanted_paths.specs.LineFaults.{fault_unless, router_faults, interface_faults, hop_faults, part_faults, parts_faults, leads_on, broken_faults, is_path_excluded, walk_faults, without_faults, has_link_back, directive_faults, line_faults}

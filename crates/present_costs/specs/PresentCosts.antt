@@ -5,7 +5,7 @@ use Rattle.cost_base.specs.Lists.{numbers_from, first_of}
 use Rattle.lsdb_build.specs.declared.Linked.{Linked}
 use Rattle.lsdb_build.specs.Graphs.{Database}
 use Rattle.request_reader.specs.Asked.{Asked}
-use Rattle.wanted_paths.specs.declared.stop.ResolutionFault.{ResolutionFault}
+use Rattle.wanted_paths.specs.declared.fault.ResolutionFault.{ResolutionFault}
 use Rattle.wanted_paths.specs.LineFaults.{line_faults}
 use Rattle.path_requests.specs.Meaning.{range_of, is_free, variable_of, present_cost, problem_of}
 use Rattle.path_requests.specs.Resolving.{ends_faults, variable_faults, cost_faults, present_asked}

@@ -7,12 +7,13 @@ ghost use Rattle.path_requests.specs.Resolving.{cost_faults, present_asked, reso
 ghost use Rattle.present_costs.specs.PresentCosts.{fault_beside_present};
 
 use crate::links::links_of;
+use cost_base::Refusal;
 use design_problem::Problem;
 use lsdb_build::{Linked, Lsdb};
 use path_requests::resolve;
 use request_reader::RequestFile;
 use std::alloc::Global;
-use wanted_paths::{ResolutionFault, ResolutionStop};
+use wanted_paths::ResolutionFault;
 
 /// Whether a link has no present cost: neither a cost line nor a default.
 fn lacks_present(requests: &RequestFile, link: &Linked) -> bool
@@ -53,15 +54,22 @@ fn fault_beside_present(
 }
 
 /// What stops the resolution beside present costs, where this stops `resolve`.
-fn stop_beside_present(requests: &RequestFile, lsdb: &Lsdb, stop: ResolutionStop) -> ResolutionStop
-    requires { TellsResolution (resolution_fault requests.now lsdb.now) stop }
+fn refusal_beside_present(
+    requests: &RequestFile,
+    lsdb: &Lsdb,
+    refusal: Refusal<ResolutionFault, ()>,
+) -> Refusal<ResolutionFault, ()>
+    requires { TellsResolution (resolution_fault requests.now lsdb.now) refusal }
     ensures { TellsResolution (fault_beside_present requests.now lsdb.now) result }
 {
-    match stop {
-        ResolutionStop::Refused(fault) => {
-            ResolutionStop::Refused(fault_beside_present(requests, lsdb, fault))
+    match refusal {
+        Refusal::Refused { fault, place: () } => {
+            Refusal::Refused {
+                fault: fault_beside_present(requests, lsdb, fault),
+                place: (),
+            }
         }
-        ResolutionStop::OutOfMemory => ResolutionStop::OutOfMemory,
+        Refusal::OutOfMemory => Refusal::OutOfMemory,
     }
 }
 
@@ -78,15 +86,15 @@ pub fn resolve_beside_present(
     alloc: Global,
     requests: &RequestFile,
     lsdb: &Lsdb,
-) -> Result<Problem, ResolutionStop>
+) -> Result<Problem, Refusal<ResolutionFault, ()>>
     ensures made { IfOk result (λ p. (fault_beside_present requests.now lsdb.now ≡ None) × (p ≡ problem_of requests.now lsdb.now)) }
     ensures refused { IfErr result (TellsResolution (fault_beside_present requests.now lsdb.now)) }
 {
     match resolve(alloc, requests, lsdb) {
         Ok(problem) => match first_without_cost(requests, lsdb) {
             None => Ok(problem),
-            Some(fault) => Err(ResolutionStop::Refused(fault)),
+            Some(fault) => Err(Refusal::Refused { fault, place: () }),
         },
-        Err(stop) => Err(stop_beside_present(requests, lsdb, stop)),
+        Err(refusal) => Err(refusal_beside_present(requests, lsdb, refusal)),
     }
 }

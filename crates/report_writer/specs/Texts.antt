@@ -2,7 +2,7 @@
 use Rattle.std.specs.Prelude.{ℕ, List, [], ◌∷◌, ◌++◌, codes}
 use Rattle.std.specs.List.{join_with_byte}
 use Rattle.cost_base.specs.Decimal.{decimal}
-use Rattle.input_files.specs.Readings.{Refusal}
+use Rattle.input_files.specs.Readings.{InputRefusal}
 use Rattle.report_writer.specs.declared.rejection.Rejection.{Rejection}
 
 -- words with one space between each two, and an LF
@@ -10,7 +10,7 @@ abbrev pub line_of_words : List (List ℕ) → List ℕ
 line_of_words words = join_with_byte 32 words ++ 10 ∷ []
 
 -- `refused NUMBER FILE LINE`
-abbrev pub refused_line : Refusal → List ℕ
+abbrev pub refused_line : InputRefusal → List ℕ
 refused_line r = line_of_words (codes "refused" ∷ decimal r.number ∷ r.file ∷ decimal r.line ∷ [])
 
 -- `read fault FILE`

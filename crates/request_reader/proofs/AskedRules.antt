@@ -10,8 +10,8 @@ use Rattle.text_lines.specs.Lines.{lines, words}
 use Rattle.text_lines.specs.LineFaults.{FaultyLine, fault_at, faults_at, faults_by_line}
 use Rattle.request_reader.specs.declared.Item.{Item}
 use Rattle.request_reader.specs.declared.Directive.{Directive}
-use Rattle.request_reader.specs.declared.stop.RequestFault.{RequestFault}
-use Rattle.request_reader.specs.declared.stop.RequestFault.TheVariants.{BadRequestLine, TooManyPaths}
+use Rattle.request_reader.specs.declared.fault.RequestFault.{RequestFault}
+use Rattle.request_reader.specs.declared.fault.RequestFault.TheVariants.{BadRequestLine, TooManyPaths}
 use Rattle.request_reader.specs.declared.reading.statement.Statement.{Statement}
 use Rattle.request_reader.specs.declared.reading.statement.Statement.TheVariants.{Passed, Header, Area, DefaultCost, Ask, Refused}
 use Rattle.request_reader.specs.Asked.{IsAsked, HasGoodBounds, is_path, is_path_directive}

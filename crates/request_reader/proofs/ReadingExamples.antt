@@ -5,8 +5,8 @@ use Rattle.text_lines.specs.Lines.{with_ends}
 use Rattle.text_lines.specs.LineFaults.{FaultyLine}
 use Rattle.request_reader.specs.declared.Part.TheVariants.{Router, Interface}
 use Rattle.request_reader.specs.declared.Directive.TheVariants.{FreeAll, Free, Fix, Path, SymmetricAll, Symmetric}
-use Rattle.request_reader.specs.declared.stop.RequestFault.{RequestFault}
-use Rattle.request_reader.specs.declared.stop.RequestFault.TheVariants.{BadRequestLine, BadBounds}
+use Rattle.request_reader.specs.declared.fault.RequestFault.{RequestFault}
+use Rattle.request_reader.specs.declared.fault.RequestFault.TheVariants.{BadRequestLine, BadBounds}
 use Rattle.request_reader.specs.declared.reading.statement.Statement.TheVariants.{Passed, Ask, Refused}
 use Rattle.request_reader.specs.Reading.{asked_by, request_fault, said_by_request_line}
 

@@ -9,6 +9,8 @@ use Rattle.std.proofs.lemmas.List.Folds.{list_any-append}
 use Rattle.std.proofs.lemmas.List.Elements.{filter_map-append}
 use Rattle.cost_base.specs.Lists.{first_of}
 use Rattle.cost_base.proofs.ListLemmas.{first_of-push_option, option_or-none}
+use Rattle.cost_base.specs.declared.refusal.Refusal.{Refusal}
+use Rattle.cost_base.specs.declared.refusal.Refusal.TheVariants.{Refused as StopRefused, OutOfMemory}
 use Rattle.text_lines.specs.Lines.{lines}
 use Rattle.text_lines.specs.LineFaults.{FaultyLine, fault_at, fault_in_line}
 use Rattle.text_lines.specs.TextLeft.{TextLeft}
@@ -16,12 +18,10 @@ use Rattle.text_lines.specs.Reading.{IsLineRead, IsLongLine}
 use Rattle.text_lines.specs.declared.line_reader.Line.{Line}
 use Rattle.text_lines.specs.declared.line_reader.LongLine.{LongLine}
 use Rattle.request_reader.specs.declared.Item.{Item}
-use Rattle.request_reader.specs.declared.stop.RequestFault.{RequestFault}
-use Rattle.request_reader.specs.declared.stop.RequestFault.TheVariants.{BadRequestLine}
+use Rattle.request_reader.specs.declared.fault.RequestFault.{RequestFault}
+use Rattle.request_reader.specs.declared.fault.RequestFault.TheVariants.{BadRequestLine}
 use Rattle.request_reader.specs.declared.reading.statement.Statement.{Statement}
 use Rattle.request_reader.specs.declared.reading.statement.Statement.TheVariants.{Passed, Header, Area, DefaultCost, Ask, Refused}
-use Rattle.request_reader.specs.declared.stop.RequestStop.{RequestStop}
-use Rattle.request_reader.specs.declared.stop.RequestStop.TheVariants.{Refused as StopRefused, OutOfMemory}
 use Rattle.request_reader.specs.Asked.{Asked}
 use Rattle.request_reader.specs.Reading.{Told, said_by_request_line, speaks, area_in, default_cost_in, item_in, items_from, told_by, fault_said, fault_of_request_line, fault_behind, end_faults, request_fault, asked_of, asked_by, TellsRequestFault}
 use Rattle.request_reader.specs.ReadingSteps.{told_with}
@@ -119,12 +119,12 @@ read_more bytes left next told after line so_far read lawful is =
     }
 
 -- a stop that tells no fault tells nothing
-tells_none : (stop : RequestStop) (faulty : Option (FaultyLine RequestFault)) → TellsRequestFault None stop → TellsRequestFault faulty stop
+tells_none : (stop : Refusal RequestFault ℕ) (faulty : Option (FaultyLine RequestFault)) → TellsRequestFault None stop → TellsRequestFault faulty stop
 tells_none OutOfMemory faulty tells = tt
 tells_none (StopRefused fault line) faulty tells = absurd (cc)
 
 refused_at : (bytes : List ℕ) (left : TextLeft) (told : Told) (line : List ℕ) (more : List (List ℕ))
-    (fault : Option RequestFault) (number : ℕ) (stop : RequestStop) → ReadTo bytes left told →
+    (fault : Option RequestFault) (number : ℕ) (stop : Refusal RequestFault ℕ) → ReadTo bytes left told →
     lines left.bytes ≡ line ∷ more → fault_of_request_line told line ≡ fault → number ≡ left.read + 1 →
     TellsRequestFault (fault_in_line number fault) stop → TellsRequestFault (request_fault bytes) stop
 refused_at bytes left told line more fault number stop so_far is found counted tells =
@@ -132,7 +132,7 @@ refused_at bytes left told line more fault number stop so_far is found counted t
     (tells_none stop) so_far.to is (ap (λ (t : Told). fault_of_request_line t line) (sym so_far.told_is) ∙ found) counted tells
 
 -- a line is refused for what it says
-pub read_refused : (bytes : List ℕ) (left next : TextLeft) (told : Told) (line : Line) (stop : RequestStop) →
+pub read_refused : (bytes : List ℕ) (left next : TextLeft) (told : Told) (line : Line) (stop : Refusal RequestFault ℕ) →
     ReadTo bytes left told → IsLineRead left next line →
     TellsRequestFault (fault_in_line line.number (fault_said told (said_by_request_line line.text.now))) stop →
     TellsRequestFault (request_fault bytes) stop
@@ -142,7 +142,7 @@ read_refused bytes left next told line stop so_far read tells =
     (short_fault told line.text.now (omega (arith, read.1.within, so_far.to.longest))) read.1.counted tells
 
 -- a line is refused for its length
-pub read_long : (bytes : List ℕ) (left next : TextLeft) (told : Told) (long : LongLine) (stop : RequestStop) →
+pub read_long : (bytes : List ℕ) (left next : TextLeft) (told : Told) (long : LongLine) (stop : Refusal RequestFault ℕ) →
     ReadTo bytes left told → IsLongLine left next long →
     TellsRequestFault (Some (fault_at long.number BadRequestLine)) stop → TellsRequestFault (request_fault bytes) stop
 read_long bytes left next told long stop so_far (line, over, is_long) tells =
@@ -177,7 +177,7 @@ read_made bytes left told asked to end some is =
       is ∙ ap asked_of (sym done.told_is),
     )
 
-pub read_missing : (bytes : List ℕ) (left : TextLeft) (told : Told) (lines_read : ℕ) (stop : RequestStop) →
+pub read_missing : (bytes : List ℕ) (left : TextLeft) (told : Told) (lines_read : ℕ) (stop : Refusal RequestFault ℕ) →
     ReadTo bytes left told → left.bytes ≡ [] → lines_read ≡ left.read → is_some told.area ≡ false →
     TellsRequestFault (Some (fault_at (lines_read + 1) BadRequestLine)) stop → TellsRequestFault (request_fault bytes) stop
 read_missing bytes left told lines_read stop to end count none tells =

@@ -3,10 +3,10 @@ use Rattle.std.proofs.Common.{◌≡◌, ℕ, ◌≤◌, ◌<◌, refl, sym, sub
 use Rattle.std.specs.Prelude.{nat_le, ◌==◌, codes, Result, Ok, Err}
 use Rattle.std.proofs.lemmas.Bool.{leb-true, eqb-false}
 use Rattle.request_reader.specs.declared.reading.statement.Statement.{Statement}
-use Rattle.request_reader.specs.declared.stop.RequestFault.{RequestFault}
+use Rattle.request_reader.specs.declared.fault.RequestFault.{RequestFault}
 use Rattle.request_reader.specs.declared.reading.statement.Bounds.{Bounds}
 use Rattle.request_reader.specs.declared.Directive.TheVariants.{Fix, Symmetric, SymmetricAll}
-use Rattle.request_reader.specs.declared.stop.RequestFault.TheVariants.{BadBounds}
+use Rattle.request_reader.specs.declared.fault.RequestFault.TheVariants.{BadBounds}
 use Rattle.request_reader.specs.declared.reading.statement.Statement.TheVariants.{Passed, Header, DefaultCost, Ask}
 use Rattle.request_reader.specs.WrittenRoutes.{Route}
 use Rattle.request_reader.specs.declared.Part.{Part}

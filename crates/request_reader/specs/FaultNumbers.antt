@@ -1,7 +1,7 @@
 -- How the faults of a request file are written.
 use Rattle.std.specs.Prelude.{ℕ}
-use Rattle.request_reader.specs.declared.stop.RequestFault.{RequestFault}
-use Rattle.request_reader.specs.declared.stop.RequestFault.TheVariants.{BadRequestLine, BadBounds, TooManyPaths}
+use Rattle.request_reader.specs.declared.fault.RequestFault.{RequestFault}
+use Rattle.request_reader.specs.declared.fault.RequestFault.TheVariants.{BadRequestLine, BadBounds, TooManyPaths}
 
 -- the number of a fault
 abbrev pub request_fault_number : RequestFault → ℕ

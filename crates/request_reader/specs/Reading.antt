@@ -2,15 +2,15 @@
 use Rattle.std.specs.Prelude.{◌≡◌, ℕ, ◌+◌, List, [], ◌∷◌, ◌++◌, ◌&&◌, nat_le, if◌then◌else◌, Bool, true, false, Option, Some, None, length, count_by, is_some, unwrap_or}
 use Rattle.std.specs.List.{filter_map, list_any}
 use Rattle.cost_base.specs.Lists.{first_of}
+use Rattle.cost_base.specs.declared.refusal.Refusal.{Refusal}
+use Rattle.cost_base.specs.declared.refusal.Refusal.TheVariants.{Refused as StopRefused, OutOfMemory}
 use Rattle.text_lines.specs.Lines.{lines, words}
 use Rattle.text_lines.specs.LineFaults.{FaultyLine, fault_at, faults_by_line}
 use Rattle.request_reader.specs.declared.Item.{Item}
-use Rattle.request_reader.specs.declared.stop.RequestFault.{RequestFault}
-use Rattle.request_reader.specs.declared.stop.RequestFault.TheVariants.{BadRequestLine, TooManyPaths}
+use Rattle.request_reader.specs.declared.fault.RequestFault.{RequestFault}
+use Rattle.request_reader.specs.declared.fault.RequestFault.TheVariants.{BadRequestLine, TooManyPaths}
 use Rattle.request_reader.specs.declared.reading.statement.Statement.{Statement}
 use Rattle.request_reader.specs.declared.reading.statement.Statement.TheVariants.{Passed, Header, Area, DefaultCost, Ask, Refused}
-use Rattle.request_reader.specs.declared.stop.RequestStop.{RequestStop}
-use Rattle.request_reader.specs.declared.stop.RequestStop.TheVariants.{Refused as StopRefused, OutOfMemory}
 use Rattle.request_reader.specs.Asked.{Asked, is_path, is_path_directive}
 use Rattle.request_reader.specs.ReadingLines.{request_statement_of}
 
@@ -103,6 +103,6 @@ abbrev pub asked_by : List ℕ → Asked
 asked_by bytes = asked_of (told_by (lines bytes))
 
 -- a stop tells the fault; want of memory says nothing
-abbrev pub TellsRequestFault : Option (FaultyLine RequestFault) → RequestStop → Type 0
+abbrev pub TellsRequestFault : Option (FaultyLine RequestFault) → Refusal RequestFault ℕ → Type 0
 TellsRequestFault faulty (StopRefused fault line) = faulty ≡ Some (fault_at line fault)
 TellsRequestFault faulty OutOfMemory = Unit {0}

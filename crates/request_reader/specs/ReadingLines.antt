@@ -7,8 +7,8 @@ use Rattle.text_lines.specs.WordLists.{all_said}
 use Rattle.request_reader.specs.declared.Part.{Part}
 use Rattle.request_reader.specs.declared.Part.TheVariants.{Router, Interface}
 use Rattle.request_reader.specs.declared.Directive.TheVariants.{FreeAll, Free, Fix, Path, SymmetricAll, Symmetric}
-use Rattle.request_reader.specs.declared.stop.RequestFault.{RequestFault}
-use Rattle.request_reader.specs.declared.stop.RequestFault.TheVariants.{BadRequestLine, BadBounds}
+use Rattle.request_reader.specs.declared.fault.RequestFault.{RequestFault}
+use Rattle.request_reader.specs.declared.fault.RequestFault.TheVariants.{BadRequestLine, BadBounds}
 use Rattle.request_reader.specs.declared.reading.statement.Statement.{Statement}
 use Rattle.request_reader.specs.declared.reading.statement.Statement.TheVariants.{Passed, Header, Area, DefaultCost, Ask, Refused}
 use Rattle.request_reader.specs.declared.reading.statement.Bounds.{Bounds}

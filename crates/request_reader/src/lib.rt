@@ -1,15 +1,15 @@
 //! The request file: what its lines ask for.
 #![tactic(auto)]
 
+mod fault;
 mod hops;
 mod reading;
-mod stop;
 
 use cost_base::{Listed, Name};
+pub use fault::RequestFault;
 pub use hops::Hops;
 pub use reading::read_requests;
 use std::marker::Model;
-pub use stop::{RequestFault, RequestStop};
 
 /// What a wanted path goes without.
 #[derive(Drop)]

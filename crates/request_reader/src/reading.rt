@@ -9,7 +9,8 @@ mod path;
 mod reader;
 mod statement;
 
-use crate::{RequestFault, RequestFile, RequestStop};
+use crate::{RequestFault, RequestFile};
+use cost_base::Refusal;
 use line::statement_of;
 use reader::{Reader, refusal};
 use std::alloc::Global;
@@ -28,7 +29,7 @@ const LONGEST_LINE: usize = 65_536;
 ///   cross or aren't from 1 to 65535; `TooManyPaths` at the 10,001st path. A missing header or area is refused as
 ///   `BadRequestLine` behind the last line.
 /// - `OutOfMemory` where there is no memory.
-pub fn read_requests(alloc: Global, bytes: &[u8]) -> Result<RequestFile, RequestStop>
+pub fn read_requests(alloc: Global, bytes: &[u8]) -> Result<RequestFile, Refusal<RequestFault>>
     requires few { length bytes.now < 2 ^ 32 - 1 }
     ensures made { IfOk result (λ r. (request_fault bytes.now ≡ None) × (r ≡ asked_by bytes.now)) }
     ensures refused { IfErr result (TellsRequestFault (request_fault bytes.now)) }
@@ -50,7 +51,7 @@ fn read_line(
     reader: &mut Reader,
     number: u32,
     text: &[u8],
-) -> Result<(), RequestStop>
+) -> Result<(), Refusal<RequestFault>>
     ensures taken { OnOk result (fault_said reader.old (said_by_request_line text.now) ≡ None) }
     ensures told { OnOk result (reader.new ≡ told_with reader.old number (said_by_request_line text.now)) }
     ensures refused { IfErr result (TellsRequestFault (fault_in_line number (fault_said reader.old (said_by_request_line text.now)))) }

@@ -16,7 +16,7 @@ use Rattle.answer_lines.specs.declared.other_text.OtherText.TheVariants.{Total, 
 use Rattle.answer_lines.specs.Grammar.{TextPlace, AtHead, AtOtherHead, IsSectionsEnd, answer_head, costs_front, no_costs_line}
 use Rattle.answer_lines.specs.Lawful.{LeadOn}
 use Rattle.answer_lines.proofs.ListParts.{head-is, tail-is}
-use Rattle.evidence_reader.specs.declared.stop.AnswerFault.{AnswerFault}
+use Rattle.evidence_reader.specs.declared.fault.AnswerFault.{AnswerFault}
 use Rattle.evidence_reader.specs.Refusals.{IsTextRefused}
 use Rattle.evidence_reader.proofs.GrammarLines.{next_is_one_line}
 use Rattle.evidence_reader.proofs.NoRefusal.{not_refused, texts_read}

@@ -7,7 +7,7 @@ use Rattle.answer_lines.specs.declared.other_text.OtherText.{OtherText}
 use Rattle.answer_lines.specs.Grammar.{AtUnread, AfterEnd, IsOtherVerdict, IsSectionsEnd, greatest_of_costs, inner_ends}
 use Rattle.answer_lines.specs.Lawful.{LeadOn}
 use Rattle.design_problem.specs.declared.answer.CostLine.{CostLine}
-use Rattle.evidence_reader.specs.declared.stop.AnswerFault.{AnswerFault}
+use Rattle.evidence_reader.specs.declared.fault.AnswerFault.{AnswerFault}
 use Rattle.evidence_reader.specs.Refusals.{IsTextRefused}
 use Rattle.design_problem.specs.Answers.{AnswerParts}
 use Rattle.design_problem.specs.Text.{text}

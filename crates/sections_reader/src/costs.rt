@@ -12,9 +12,9 @@ ghost use Rattle.sections_reader.specs.Texts.{FitLines, other_costs_lines};
 
 use answer_lines::{OtherText, TextLeft, number_after};
 use begun_lines::{begins_other_costs, begins_other_section, begins_sections_end};
-use cost_base::Listed;
+use cost_base::{Listed, Refusal};
 use design_problem::CostLine;
-use evidence_reader::{AnswerStop, fault_at, read_sections};
+use evidence_reader::{AnswerFault, fault_at, read_sections};
 use std::alloc::Global;
 
 /// The cost lines, where there are costs, and the text behind the line that ends them.
@@ -27,7 +27,7 @@ pub(crate) fn read_other_costs(
     alloc: Global,
     text: TextLeft<'_>,
     of: OtherText,
-) -> Result<(Option<Listed<CostLine>>, TextLeft<'_>), AnswerStop>
+) -> Result<(Option<Listed<CostLine>>, TextLeft<'_>), Refusal<AnswerFault>>
     ensures { MatchResult result (λ r. (number : ℕ) × (behind : List ℕ) × FitLines r.0 × IsSectionsEnd of behind ×
         Goes (AtOtherCosts of) text.entry (other_costs_lines of number r.0 ++ behind ∷ []) (AtUnread (inner_ends of)) r.1)
         (StopsReader (AtOtherCosts of) text.entry) }
@@ -49,7 +49,7 @@ pub(crate) fn read_other_costs(
 fn costs_head_at(
     text: TextLeft<'_>,
     of: OtherText,
-) -> Result<(Option<u32>, TextLeft<'_>), AnswerStop>
+) -> Result<(Option<u32>, TextLeft<'_>), Refusal<AnswerFault>>
     ensures { MatchResult result (λ r. Goes (AtOtherCosts of) text.entry (costs_head_of of r.0 ∷ []) (behind_costs_head_of of r.0) r.1)
         (StopsReader (AtOtherCosts of) text.entry) }
 {
@@ -87,7 +87,7 @@ fn sections_to_end(
     alloc: Global,
     text: TextLeft<'_>,
     of: OtherText,
-) -> Result<(Listed<CostLine>, TextLeft<'_>), AnswerStop>
+) -> Result<(Listed<CostLine>, TextLeft<'_>), Refusal<AnswerFault>>
     ensures { MatchResult result (λ r. (behind : List ℕ) × All FitsCostLine r.0 × IsSectionsEnd of behind ×
         Goes (AtSections (Some of) None) text.entry (cost_lines None r.0 ++ behind ∷ []) (AtUnread (inner_ends of)) r.1)
         (StopsReader (AtSections (Some of) None) text.entry) }
@@ -102,7 +102,7 @@ fn end_behind<'a>(
     text: TextLeft<'a>,
     before: Option<&'a [u8]>,
     of: OtherText,
-) -> Result<TextLeft<'a>, AnswerStop>
+) -> Result<TextLeft<'a>, Refusal<AnswerFault>>
     requires { LacksCost (Some of) (option_copied before) text.left.now }
     ensures { MatchResult result (λ rest. (behind : List ℕ) × IsSectionsEnd of behind ×
         Goes (AtSections (Some of) (option_copied before.entry)) text.entry (behind ∷ []) (AtUnread (inner_ends of)) rest)
@@ -115,7 +115,7 @@ fn end_behind<'a>(
 }
 
 /// The text behind the line that ends the sections, where there are none.
-fn end_at(text: TextLeft<'_>, of: OtherText) -> Result<TextLeft<'_>, AnswerStop>
+fn end_at(text: TextLeft<'_>, of: OtherText) -> Result<TextLeft<'_>, Refusal<AnswerFault>>
     ensures { MatchResult result (λ rest. (behind : List ℕ) × IsSectionsEnd of behind ×
         Goes (AtSectionsEnd of) text.entry (behind ∷ []) (AtUnread (inner_ends of)) rest) (StopsReader (AtSectionsEnd of) text.entry) }
 {

@@ -10,14 +10,18 @@ ghost use Rattle.sections_reader.specs.Texts.{top_lines};
 
 use answer_lines::{OtherText, TextLeft};
 use begun_lines::{begins_head, begins_other_head, begins_other_verdict};
-use evidence_reader::{AnswerStop, fault_at};
+use cost_base::Refusal;
+use evidence_reader::{AnswerFault, fault_at};
 
 /// The text behind the verdict.
 ///
 /// # Errors
 ///
 /// `Refused` where a head or the verdict is at fault.
-pub(crate) fn read_top(text: TextLeft<'_>, of: OtherText) -> Result<TextLeft<'_>, AnswerStop>
+pub(crate) fn read_top(
+    text: TextLeft<'_>,
+    of: OtherText,
+) -> Result<TextLeft<'_>, Refusal<AnswerFault>>
     ensures { MatchResult result (λ rest. (verdict : List ℕ) × Goes (AtOtherHead of) text.entry (top_lines of verdict) (AtOtherCosts of) rest)
         (StopsReader (AtOtherHead of) text.entry) }
 {
@@ -26,7 +30,7 @@ pub(crate) fn read_top(text: TextLeft<'_>, of: OtherText) -> Result<TextLeft<'_>
 }
 
 /// The text behind its head, and behind that of the answer inside.
-fn read_heads(text: TextLeft<'_>, of: OtherText) -> Result<TextLeft<'_>, AnswerStop>
+fn read_heads(text: TextLeft<'_>, of: OtherText) -> Result<TextLeft<'_>, Refusal<AnswerFault>>
     ensures { MatchResult result (Goes (AtOtherHead of) text.entry (heads_of of) (AtOtherVerdict of)) (StopsReader (AtOtherHead of) text.entry) }
 {
     let behind = head_at(text, of)?;
@@ -37,7 +41,7 @@ fn read_heads(text: TextLeft<'_>, of: OtherText) -> Result<TextLeft<'_>, AnswerS
 }
 
 /// The text behind its first line.
-fn head_at(text: TextLeft<'_>, of: OtherText) -> Result<TextLeft<'_>, AnswerStop>
+fn head_at(text: TextLeft<'_>, of: OtherText) -> Result<TextLeft<'_>, Refusal<AnswerFault>>
     ensures { MatchResult result (Goes (AtOtherHead of) text.entry (other_head of ∷ []) (behind_other_head of)) (StopsReader (AtOtherHead of) text.entry) }
 {
     match text.behind(of.head()) {
@@ -47,7 +51,7 @@ fn head_at(text: TextLeft<'_>, of: OtherText) -> Result<TextLeft<'_>, AnswerStop
 }
 
 /// The text behind the first line of the answer inside.
-fn inner_head_at(text: TextLeft<'_>) -> Result<TextLeft<'_>, AnswerStop>
+fn inner_head_at(text: TextLeft<'_>) -> Result<TextLeft<'_>, Refusal<AnswerFault>>
     ensures { MatchResult result (Goes AtInnerHead text.entry (answer_head ∷ []) (AtOtherVerdict other.Total)) (StopsReader AtInnerHead text.entry) }
 {
     match text.behind(b"ospfcost answer 1") {
@@ -57,7 +61,7 @@ fn inner_head_at(text: TextLeft<'_>) -> Result<TextLeft<'_>, AnswerStop>
 }
 
 /// The text behind the verdict, whose line has to be the next.
-fn verdict_at(text: TextLeft<'_>, of: OtherText) -> Result<TextLeft<'_>, AnswerStop>
+fn verdict_at(text: TextLeft<'_>, of: OtherText) -> Result<TextLeft<'_>, Refusal<AnswerFault>>
     ensures { MatchResult result (λ rest. (verdict : List ℕ) × Goes (AtOtherVerdict of) text.entry (verdict ∷ []) (AtOtherCosts of) rest)
         (StopsReader (AtOtherVerdict of) text.entry) }
 {

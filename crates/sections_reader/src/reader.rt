@@ -10,9 +10,9 @@ use crate::heads::read_top;
 use crate::kinds::text_of_bytes;
 use crate::unread::pass_unread;
 use answer_lines::{OtherText, TextLeft};
-use cost_base::Listed;
+use cost_base::{Listed, Refusal};
 use design_problem::{CostLine, Costs};
-use evidence_reader::{AnswerStop, read_answer};
+use evidence_reader::{AnswerFault, read_answer};
 use evidence_text::keeps_answer;
 use std::alloc::Global;
 
@@ -25,7 +25,10 @@ use std::alloc::Global;
 /// - `Refused` where a line that is read is off the grammar, the text ends before its last line `end`, or something
 ///   stands behind that.
 /// - `OutOfMemory` where a growth was refused.
-pub fn read_costs(alloc: Global, bytes: &[u8]) -> Result<Option<Listed<CostLine>>, AnswerStop>
+pub fn read_costs(
+    alloc: Global,
+    bytes: &[u8],
+) -> Result<Option<Listed<CostLine>>, Refusal<AnswerFault>>
     requires { length bytes.now < 2 ^ 32 - 1 }
     ensures read { IfOk result (λ costs. SaysCosts bytes.now costs) }
     ensures stopped { IfErr result (IsReaderStop (start_of_bytes bytes.now) 0 bytes.now) }
@@ -37,7 +40,7 @@ pub fn read_costs(alloc: Global, bytes: &[u8]) -> Result<Option<Listed<CostLine>
 }
 
 /// The cost lines of an answer's text.
-fn read_own(alloc: Global, bytes: &[u8]) -> Result<Option<Listed<CostLine>>, AnswerStop>
+fn read_own(alloc: Global, bytes: &[u8]) -> Result<Option<Listed<CostLine>>, Refusal<AnswerFault>>
     requires { length bytes.now < 2 ^ 32 - 1 }
     ensures { MatchResult result (λ costs. IsSaidByAnswer bytes.now costs) (IsReaderStop AtHead 0 bytes.now) }
 {
@@ -61,7 +64,7 @@ fn read_other(
     alloc: Global,
     bytes: &[u8],
     of: OtherText,
-) -> Result<Option<Listed<CostLine>>, AnswerStop>
+) -> Result<Option<Listed<CostLine>>, Refusal<AnswerFault>>
     requires { length bytes.now < 2 ^ 32 - 1 }
     ensures { MatchResult result (λ costs. IsSaidByOther of bytes.now costs) (IsReaderStop (AtOtherHead of) 0 bytes.now) }
 {

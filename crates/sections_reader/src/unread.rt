@@ -6,14 +6,15 @@ ghost use Rattle.answer_lines.specs.Lawful.{IsRead};
 ghost use Rattle.evidence_reader.specs.Stops.{StopsReader};
 
 use answer_lines::{OtherText, TextLeft};
-use evidence_reader::{AnswerStop, fault_at, nothing_left};
+use cost_base::Refusal;
+use evidence_reader::{AnswerFault, fault_at, nothing_left};
 
 /// The end of the text: its last line `end`, and nothing behind that.
 ///
 /// # Errors
 ///
 /// `Refused` where the text ends before that line, or something stands behind it.
-pub(crate) fn pass_unread(text: TextLeft<'_>, of: OtherText) -> Result<(), AnswerStop>
+pub(crate) fn pass_unread(text: TextLeft<'_>, of: OtherText) -> Result<(), Refusal<AnswerFault>>
     ensures { MatchResult result (λ _. (unread : List (List ℕ)) × (after : ℕ) ×
         IsRead (AtUnread (inner_ends of)) text.entry.read text.entry.left.now unread AfterEnd after [])
         (StopsReader (AtUnread (inner_ends of)) text.entry) }
@@ -28,7 +29,7 @@ pub(crate) fn pass_unread(text: TextLeft<'_>, of: OtherText) -> Result<(), Answe
 }
 
 /// The end of the text, where no further line `end` stands before the last one.
-fn pass_last(text: TextLeft<'_>) -> Result<(), AnswerStop>
+fn pass_last(text: TextLeft<'_>) -> Result<(), Refusal<AnswerFault>>
     ensures { MatchResult result (λ _. (unread : List (List ℕ)) × (after : ℕ) ×
         IsRead (AtUnread 0) text.entry.read text.entry.left.now unread AfterEnd after [])
         (StopsReader (AtUnread 0) text.entry) }
@@ -38,7 +39,7 @@ fn pass_last(text: TextLeft<'_>) -> Result<(), AnswerStop>
 }
 
 /// The text behind its next line `end`.
-fn pass_end(text: TextLeft<'_>) -> Result<TextLeft<'_>, AnswerStop>
+fn pass_end(text: TextLeft<'_>) -> Result<TextLeft<'_>, Refusal<AnswerFault>>
     ensures { (more : ℕ) → MatchResult result (λ rest. (unread : List (List ℕ)) × Goes (AtUnread more) text.entry unread (behind_end more) rest)
         (StopsReader (AtUnread more) text.entry) }
 {

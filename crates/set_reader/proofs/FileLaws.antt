@@ -7,6 +7,8 @@ use Rattle.std.proofs.lemmas.Bool.{le-leb, lt-leb, cond-true, cond-false}
 use Rattle.std.proofs.lemmas.List.Folds.{list_any-append}
 use Rattle.std.proofs.lemmas.List.Elements.{filter_map-append, AllZip-push}
 use Rattle.cost_base.specs.Lists.{first_of}
+use Rattle.cost_base.specs.declared.refusal.Refusal.{Refusal}
+use Rattle.cost_base.specs.declared.refusal.Refusal.TheVariants.{Refused, OutOfMemory}
 use Rattle.text_lines.specs.Lines.{lines}
 use Rattle.text_lines.specs.LineFaults.{FaultyLine, fault_at, fault_in_line}
 use Rattle.text_lines.specs.TextLeft.{TextLeft}
@@ -15,12 +17,10 @@ use Rattle.text_lines.specs.declared.line_reader.Line.{Line}
 use Rattle.text_lines.specs.declared.line_reader.LongLine.{LongLine}
 use Rattle.design_problem.specs.declared.problem.Request.{Request}
 use Rattle.design_problem.specs.Problems.{DesignProblem}
-use Rattle.set_reader.specs.declared.stop.SetFault.{SetFault}
-use Rattle.set_reader.specs.declared.stop.SetFault.TheVariants.{BadSetLine}
+use Rattle.set_reader.specs.declared.fault.SetFault.{SetFault}
+use Rattle.set_reader.specs.declared.fault.SetFault.TheVariants.{BadSetLine}
 use Rattle.set_reader.specs.declared.reading.statement.Statement.{Statement}
 use Rattle.set_reader.specs.declared.reading.statement.Statement.TheVariants.{Passed, Header, Numbers, Off}
-use Rattle.set_reader.specs.declared.stop.SetStop.{SetStop}
-use Rattle.set_reader.specs.declared.stop.SetStop.TheVariants.{Refused, OutOfMemory}
 use Rattle.set_reader.specs.SetLines.{said_by_set_line, set_line_speaks, numbers_of_set}
 use Rattle.set_reader.specs.Reading.{SetsTold, IsInOrder, AreSaid, sets_told_by, wrong_if, set_fault_said, fault_of_set_line, set_fault_behind, end_faults_of_sets, set_fault, TellsReading}
 use Rattle.set_reader.specs.ReadingSteps.{SoFar, AddsSet, TakesLine, told_of}
@@ -106,12 +106,12 @@ read_more p bytes left next so_far after line so_read read lawful taken =
     }
 
 -- a stop that tells no fault tells nothing
-tells_none : (stop : SetStop) (faulty : Option (FaultyLine SetFault)) → TellsReading None stop → TellsReading faulty stop
+tells_none : (stop : Refusal SetFault ℕ) (faulty : Option (FaultyLine SetFault)) → TellsReading None stop → TellsReading faulty stop
 tells_none OutOfMemory faulty tells = tt
 tells_none (Refused fault line) faulty tells = absurd (cc)
 
 refused_at : (p : DesignProblem) (bytes : List ℕ) (left : TextLeft) (so_far : SoFar) (line : List ℕ)
-    (more : List (List ℕ)) (fault : Option SetFault) (number : ℕ) (stop : SetStop) (to : ReadTo p bytes left so_far) →
+    (more : List (List ℕ)) (fault : Option SetFault) (number : ℕ) (stop : Refusal SetFault ℕ) (to : ReadTo p bytes left so_far) →
     lines left.bytes ≡ line ∷ more → fault_of_set_line p.paths (sets_told_by to.file) line ≡ fault → number ≡ left.read + 1 →
     TellsReading (fault_in_line number fault) stop → TellsReading (set_fault p bytes) stop
 refused_at p bytes left so_far line more fault number stop so_read is found counted tells =
@@ -120,7 +120,7 @@ refused_at p bytes left so_far line more fault number stop so_read is found coun
 
 -- a line is refused for what it says
 pub read_refused : (p : DesignProblem) (bytes : List ℕ) (left next : TextLeft) (so_far : SoFar) (line : Line)
-    (stop : SetStop) → ReadTo p bytes left so_far → IsLineRead left next line →
+    (stop : Refusal SetFault ℕ) → ReadTo p bytes left so_far → IsLineRead left next line →
     TellsReading (fault_in_line line.number (set_fault_said so_far.problem.paths (told_of so_far) (said_by_set_line line.text.now)))
     stop → TellsReading (set_fault p bytes) stop
 read_refused p bytes left next so_far line stop so_read read tells =
@@ -132,7 +132,7 @@ read_refused p bytes left next so_far line stop so_read read tells =
 
 -- a line is refused for its length
 pub read_long : (p : DesignProblem) (bytes : List ℕ) (left next : TextLeft) (so_far : SoFar) (long : LongLine)
-    (stop : SetStop) → ReadTo p bytes left so_far → IsLongLine left next long →
+    (stop : Refusal SetFault ℕ) → ReadTo p bytes left so_far → IsLongLine left next long →
     TellsReading (Some (fault_at long.number BadSetLine)) stop → TellsReading (set_fault p bytes) stop
 read_long p bytes left next so_far long stop so_read (line, over, is_long) tells =
     refused_at p bytes left so_far line (lines next.bytes) (Some BadSetLine) long.number stop so_read over.first.first
@@ -168,7 +168,7 @@ read_made p bytes left so_far sets to end spoken is =
     )
 
 pub read_missing : (p : DesignProblem) (bytes : List ℕ) (left : TextLeft) (so_far : SoFar) (lines_read : ℕ)
-    (stop : SetStop) → ReadTo p bytes left so_far → left.bytes ≡ [] → lines_read ≡ left.read → so_far.spoken ≡ false →
+    (stop : Refusal SetFault ℕ) → ReadTo p bytes left so_far → left.bytes ≡ [] → lines_read ≡ left.read → so_far.spoken ≡ false →
     TellsReading (Some (fault_at (lines_read + 1) BadSetLine)) stop → TellsReading (set_fault p bytes) stop
 read_missing p bytes left so_far lines_read stop to end count none tells =
     let done = read_all p bytes left so_far to end in

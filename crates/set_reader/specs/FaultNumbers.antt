@@ -1,7 +1,7 @@
 -- How the faults of a file of sets are written.
 use Rattle.std.specs.Prelude.{ℕ}
-use Rattle.set_reader.specs.declared.stop.SetFault.{SetFault}
-use Rattle.set_reader.specs.declared.stop.SetFault.TheVariants.{BadSetLine, WrongSet}
+use Rattle.set_reader.specs.declared.fault.SetFault.{SetFault}
+use Rattle.set_reader.specs.declared.fault.SetFault.TheVariants.{BadSetLine, WrongSet}
 
 -- the number of a fault
 abbrev pub set_fault_number : SetFault → ℕ

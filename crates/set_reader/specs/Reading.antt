@@ -3,14 +3,14 @@ use Rattle.std.specs.Prelude.{◌≡◌, ℕ, ◌+◌, List, [], ◌∷◌, ◌+
 use Rattle.std.specs.List.{filter_map, list_any, concat, AllZip}
 use Rattle.std.specs.List.Sorted.{IsStrictlyIncreasing}
 use Rattle.cost_base.specs.Lists.{first_of, same_bytes}
+use Rattle.cost_base.specs.declared.refusal.Refusal.{Refusal}
+use Rattle.cost_base.specs.declared.refusal.Refusal.TheVariants.{Refused, OutOfMemory}
 use Rattle.text_lines.specs.Lines.{lines}
 use Rattle.text_lines.specs.LineFaults.{FaultyLine, fault_at, faults_by_line}
 use Rattle.design_problem.specs.declared.problem.Request.{Request}
 use Rattle.design_problem.specs.Problems.{DesignProblem, request_at}
-use Rattle.set_reader.specs.declared.stop.SetFault.{SetFault}
-use Rattle.set_reader.specs.declared.stop.SetFault.TheVariants.{BadSetLine, WrongSet}
-use Rattle.set_reader.specs.declared.stop.SetStop.{SetStop}
-use Rattle.set_reader.specs.declared.stop.SetStop.TheVariants.{Refused, OutOfMemory}
+use Rattle.set_reader.specs.declared.fault.SetFault.{SetFault}
+use Rattle.set_reader.specs.declared.fault.SetFault.TheVariants.{BadSetLine, WrongSet}
 use Rattle.set_reader.specs.declared.reading.statement.Statement.{Statement}
 use Rattle.set_reader.specs.declared.reading.statement.Statement.TheVariants.{Passed, Header, Numbers, Off}
 use Rattle.set_reader.specs.SetLines.{said_by_set_line, set_line_speaks, numbers_of_set}
@@ -121,6 +121,6 @@ abbrev pub AreSaid : List ℕ → List (List ℕ) → Type 0
 AreSaid bytes sets = AllZip IsInOrder (numbers_said bytes) sets
 
 -- a stop tells the fault; want of memory says nothing
-abbrev pub TellsReading : Option (FaultyLine SetFault) → SetStop → Type 0
+abbrev pub TellsReading : Option (FaultyLine SetFault) → Refusal SetFault ℕ → Type 0
 TellsReading faulty (Refused fault line) = faulty ≡ Some (fault_at line fault)
 TellsReading faulty OutOfMemory = Unit {0}

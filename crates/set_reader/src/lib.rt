@@ -1,10 +1,10 @@
 //! The file of sets: which wanted paths are to share traffic.
 #![tactic(auto)]
 
+mod fault;
 mod reading;
 mod sets;
-mod stop;
 
+pub use fault::SetFault;
 pub use reading::read_sets;
 pub use sets::Sets;
-pub use stop::{SetFault, SetStop};

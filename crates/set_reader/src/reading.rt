@@ -11,7 +11,8 @@ mod members;
 mod reader;
 mod statement;
 
-use crate::{SetFault, SetStop, Sets};
+use crate::{SetFault, Sets};
+use cost_base::Refusal;
 use design_problem::Problem;
 use line::statement_of;
 use reader::Reader;
@@ -31,7 +32,7 @@ const LONGEST_LINE: usize = 65_536;
 /// that has to stand; `WrongSet` where a number is no path's or stands in this set or an earlier one already, where a member
 /// has other ends than the first or the edges of an earlier one, or where its request takes an edge away. A missing header
 /// is refused as `BadSetLine` behind the last line. `OutOfMemory` where there is no memory.
-pub fn read_sets(alloc: Global, bytes: &[u8], problem: &Problem) -> Result<Sets, SetStop>
+pub fn read_sets(alloc: Global, bytes: &[u8], problem: &Problem) -> Result<Sets, Refusal<SetFault>>
     requires few { length bytes.now < 2 ^ 32 - 1 }
     ensures made { IfOk result (λ sets. (set_fault problem.now bytes.now ≡ None) × AreSaid bytes.now sets) }
     ensures lawful { IfOk result (AreSetsOf problem.now) }
@@ -54,7 +55,7 @@ fn read_line(
     reader: &mut Reader<'_>,
     number: u32,
     text: &[u8],
-) -> Result<(), SetStop>
+) -> Result<(), Refusal<SetFault>>
     ensures taken { OnOk result (set_fault_said reader.old.problem.paths (told_of reader.old) (said_by_set_line text.now) ≡ None) }
     ensures told { OnOk result (TakesLine reader.old (said_by_set_line text.now) reader.new) }
     ensures refused { IfErr result (TellsReading (fault_in_line number (set_fault_said reader.old.problem.paths (told_of reader.old) (said_by_set_line text.now)))) }
@@ -64,8 +65,8 @@ fn read_line(
 }
 
 /// The refusal of a line.
-fn refusal(line: u32, fault: SetFault) -> SetStop
+fn refusal(line: u32, fault: SetFault) -> Refusal<SetFault>
     ensures { TellsReading (Some (fault_at line fault)) result }
 {
-    SetStop::Refused { fault, line }
+    Refusal::Refused { fault, place: line }
 }

@@ -1,12 +1,13 @@
 //! The present costs of the variables that requests make of a network, as they are written.
 
 use crate::requests::requests_of;
+use cost_base::Refusal;
 use lsdb_build::Lsdb;
 use present_costs::{present_of_variables, resolve_beside_present};
 use request_reader::RequestFile;
 use std::alloc::{AllocError, Global};
 use std::fmt;
-use wanted_paths::ResolutionStop;
+use wanted_paths::ResolutionFault;
 
 /// The present costs of variables as they are written, `-` where there is none.
 #[derive(Drop)]
@@ -36,7 +37,7 @@ fn told(alloc: Global, requests: &RequestFile, network: &Lsdb) -> Result<String,
 }
 
 /// What is told of the first fault.
-fn stopped(alloc: Global, stop: ResolutionStop) -> Result<String, AllocError> {
+fn stopped(alloc: Global, stop: Refusal<ResolutionFault, ()>) -> Result<String, AllocError> {
     format!(in alloc; ": {stop:?}")
 }
 

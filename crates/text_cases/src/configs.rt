@@ -1,6 +1,7 @@
 //! What a configuration says, as it is written.
 
-use config_reader::{ConfigStop, read_config};
+use config_reader::{ConfigFault, read_config};
+use cost_base::Refusal;
 use interface_model::{Interface, Kind, RouterConfig};
 use std::alloc::{AllocError, Global};
 use std::fmt;
@@ -80,9 +81,9 @@ pub(crate) fn config_of(
     alloc: Global,
     name: &str,
     bytes: &[u8],
-) -> Result<RouterConfig, ConfigStop> {
+) -> Result<RouterConfig, Refusal<ConfigFault>> {
     if bytes.len() > LONGEST {
-        return Err(ConfigStop::OutOfMemory);
+        return Err(Refusal::OutOfMemory);
     }
     read_config(alloc, name, bytes)
 }

@@ -3,12 +3,13 @@
 use crate::requests::requests_of;
 use area_graph::{Edge, Price};
 use case_scripts::Written;
+use cost_base::Refusal;
 use design_problem::{Problem, Request};
 use lsdb_build::Lsdb;
 use path_requests::{resolve, resolve_present};
 use std::alloc::{AllocError, Global};
 use std::fmt;
-use wanted_paths::ResolutionStop;
+use wanted_paths::ResolutionFault;
 
 /// An edge as it is written: `FROM-TO:PRICE`, a variable being `xN`.
 #[derive(Drop)]
@@ -63,7 +64,10 @@ fn problem_shown(alloc: Global, problem: &Problem) -> Result<String, AllocError>
 }
 
 /// What is told of a problem, or of the first fault of its requests.
-fn told(alloc: Global, problem: Result<Problem, ResolutionStop>) -> Result<String, AllocError> {
+fn told(
+    alloc: Global,
+    problem: Result<Problem, Refusal<ResolutionFault, ()>>,
+) -> Result<String, AllocError> {
     match problem {
         Ok(problem) => problem_shown(alloc, &problem),
         Err(stop) => format!(in alloc; ": {stop:?}"),

@@ -1,8 +1,8 @@
 //! What a request file asks for, as it is written.
 
 use crate::configs::LONGEST;
-use cost_base::Name;
-use request_reader::{Directive, Hops, Item, Part, RequestFile, RequestStop, read_requests};
+use cost_base::{Name, Refusal};
+use request_reader::{Directive, Hops, Item, Part, RequestFault, RequestFile, read_requests};
 use std::alloc::{AllocError, Global};
 use std::fmt;
 
@@ -69,9 +69,12 @@ impl<'a> fmt::Display for Shown<'a> {
 }
 
 /// What a request file asks for that isn't longer than any text of a script.
-pub(crate) fn requests_of(alloc: Global, bytes: &[u8]) -> Result<RequestFile, RequestStop> {
+pub(crate) fn requests_of(
+    alloc: Global,
+    bytes: &[u8],
+) -> Result<RequestFile, Refusal<RequestFault>> {
     if bytes.len() > LONGEST {
-        return Err(RequestStop::OutOfMemory);
+        return Err(Refusal::OutOfMemory);
     }
     read_requests(alloc, bytes)
 }

@@ -18,7 +18,7 @@ use Rattle.wanted_paths.specs.Walks.{IsWalk}
 use Rattle.wanted_paths.specs.Taken.{taken_by_all}
 use Rattle.wanted_paths.proofs.Walks.{well_from, words_known, hops_joined, outline_simple}
 use Rattle.wanted_paths.proofs.TakenEdges.{path_marked}
-use Rattle.wanted_paths.specs.declared.stop.ResolutionFault.TheVariants.{LoopPath, PathExcluded}
+use Rattle.wanted_paths.specs.declared.fault.ResolutionFault.TheVariants.{LoopPath, PathExcluded}
 use Rattle.area_graph.specs.Paths.{IsSimple}
 
 -- a walk without a fault is a simple path of the outline

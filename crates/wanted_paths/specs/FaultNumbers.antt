@@ -1,7 +1,7 @@
 -- How the faults of resolution are written.
 use Rattle.std.specs.Prelude.{ℕ}
-use Rattle.wanted_paths.specs.declared.stop.ResolutionFault.{ResolutionFault}
-use Rattle.wanted_paths.specs.declared.stop.ResolutionFault.TheVariants.{UnknownRouter, UnknownInterface, NotALink, BrokenPath, LoopPath, PathExcluded, EndsDiffer, TooManyVariables, NoCost}
+use Rattle.wanted_paths.specs.declared.fault.ResolutionFault.{ResolutionFault}
+use Rattle.wanted_paths.specs.declared.fault.ResolutionFault.TheVariants.{UnknownRouter, UnknownInterface, NotALink, BrokenPath, LoopPath, PathExcluded, EndsDiffer, TooManyVariables, NoCost}
 
 -- the number of a fault
 abbrev pub resolution_fault_number : ResolutionFault → ℕ

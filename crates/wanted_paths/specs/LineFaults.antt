@@ -2,6 +2,8 @@
 use Rattle.std.specs.Prelude.{◌≡◌, ℕ, ◌+◌, List, [], ◌∷◌, ◌++◌, ◌||◌, not, if◌then◌else◌, Bool, true, false, Option, Some, None, slice_get}
 use Rattle.std.specs.List.{list_any}
 use Rattle.cost_base.specs.Lists.{same_bytes}
+use Rattle.cost_base.specs.declared.refusal.Refusal.{Refusal}
+use Rattle.cost_base.specs.declared.refusal.Refusal.TheVariants.{Refused, OutOfMemory}
 use Rattle.lsdb_build.specs.declared.Linked.{Linked}
 use Rattle.lsdb_build.specs.Graphs.{Database}
 use Rattle.request_reader.specs.declared.Part.{Part}
@@ -10,10 +12,8 @@ use Rattle.request_reader.specs.declared.Directive.{Directive}
 use Rattle.request_reader.specs.declared.Directive.TheVariants.{FreeAll, Free, Fix, Path, SymmetricAll, Symmetric}
 use Rattle.request_reader.specs.declared.Item.{Item}
 use Rattle.request_reader.specs.WrittenRoutes.{Route}
-use Rattle.wanted_paths.specs.declared.stop.ResolutionFault.{ResolutionFault}
-use Rattle.wanted_paths.specs.declared.stop.ResolutionFault.TheVariants.{UnknownRouter, UnknownInterface, NotALink, BrokenPath, LoopPath, PathExcluded}
-use Rattle.wanted_paths.specs.declared.stop.ResolutionStop.{ResolutionStop}
-use Rattle.wanted_paths.specs.declared.stop.ResolutionStop.TheVariants.{Refused, OutOfMemory}
+use Rattle.wanted_paths.specs.declared.fault.ResolutionFault.{ResolutionFault}
+use Rattle.wanted_paths.specs.declared.fault.ResolutionFault.TheVariants.{UnknownRouter, UnknownInterface, NotALink, BrokenPath, LoopPath, PathExcluded}
 use Rattle.wanted_paths.specs.Paths.{next_name, link_number, router_number, route_edges, takes, outline}
 use Rattle.wanted_paths.specs.Resolution.{knows_router, knows_link, leads_to_router, is_loop_free}
 
@@ -111,6 +111,6 @@ line_faults d [] = []
 line_faults d (item ∷ items) = directive_faults d item.line item.what ++ line_faults d items
 
 -- the refusal tells the fault; want of memory says nothing
-abbrev pub TellsResolution : Option ResolutionFault → ResolutionStop → Type 0
-TellsResolution fault (Refused told) = fault ≡ Some told
+abbrev pub TellsResolution : Option ResolutionFault → Refusal ResolutionFault (Unit {0}) → Type 0
+TellsResolution fault (Refused told place) = fault ≡ Some told
 TellsResolution fault OutOfMemory = Unit {0}

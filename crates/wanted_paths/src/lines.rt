@@ -7,10 +7,11 @@ ghost use Rattle.wanted_paths.specs.LineFaults.{has_link_back, directive_faults,
 ghost use Rattle.wanted_paths.specs.Paths.{outline};
 ghost use Rattle.request_reader.specs.declared.Directive.TheVariants.{Symmetric as SymmetricDirective};
 
+use crate::ResolutionFault;
 use crate::names::Names;
 use crate::paths::Resolver;
-use crate::{ResolutionFault, ResolutionStop};
 use area_graph::Graph;
+use cost_base::Refusal;
 use design_problem::Request;
 use request_reader::{Directive, Item};
 use std::alloc::Global;
@@ -31,13 +32,16 @@ fn check_symmetric(
     line: u32,
     router: &[u8],
     interface: &[u8],
-) -> Result<(), ResolutionStop>
+) -> Result<(), Refusal<ResolutionFault, ()>>
     ensures made { OnOk result (directive_faults names.now line (SymmetricDirective router.now interface.now) ≡ []) }
     ensures refused { IfErr result (TellsResolution (first_of (directive_faults names.now line (SymmetricDirective router.now interface.now)))) }
 {
     let number = names.link(line, router, interface)?;
     if !has_link_back(names, number) {
-        return Err(ResolutionStop::Refused(ResolutionFault::NotALink { line }));
+        return Err(Refusal::Refused {
+            fault: ResolutionFault::NotALink { line },
+            place: (),
+        });
     }
     Ok(())
 }
@@ -47,7 +51,7 @@ fn push_request(
     resolver: &mut Resolver,
     item: &Item,
     made: &mut Vec<Request>,
-) -> Result<(), ResolutionStop>
+) -> Result<(), Refusal<ResolutionFault, ()>>
     ensures resolves { OnOk result (directive_faults resolver.old item.now.line item.now.what ≡ []) }
     ensures made { OnOk result (made.new.items ≡ made.old.items ++ option_to_list (request_of resolver.old (outline resolver.old) item.now.what)) }
     ensures refused { IfErr result (TellsResolution (first_of (directive_faults resolver.old item.now.line item.now.what))) }
@@ -58,7 +62,7 @@ fn push_request(
         Directive::Path(route, parts) => {
             let request = resolver.path(line, route, parts.as_slice())?;
             if made.push(request).is_err() {
-                return Err(ResolutionStop::OutOfMemory);
+                return Err(Refusal::OutOfMemory);
             }
         }
         Directive::Free(router, interface, _, _) => {
@@ -95,7 +99,7 @@ pub fn resolve_lines(
     names: &Names,
     graph: &Graph,
     items: &[Item],
-) -> Result<Vec<Request>, ResolutionStop>
+) -> Result<Vec<Request>, Refusal<ResolutionFault, ()>>
     requires { graph.now ≡ outline names.now }
     ensures made { IfOk result (λ made. (line_faults names.now items.now ≡ []) ×
         (made.items ≡ filter_map (λ item. request_of names.now (outline names.now) item.what) items.now)) }

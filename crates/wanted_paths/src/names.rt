@@ -9,9 +9,9 @@ ghost use Rattle.wanted_paths.specs.Resolution.{knows_router, knows_link};
 ghost use Rattle.wanted_paths.specs.Paths.{outline};
 ghost use Rattle.wanted_paths.specs.LineFaults.{router_faults, interface_faults, TellsResolution};
 
-use crate::{ResolutionFault, ResolutionStop};
+use crate::ResolutionFault;
 use area_graph::{Graph, Price};
-use cost_base::{Name, OutOfMemory};
+use cost_base::{Name, OutOfMemory, Refusal};
 use indexmap::IndexSet;
 use lsdb_build::{Linked, Lsdb, graph_of};
 use std::alloc::Global;
@@ -176,13 +176,16 @@ impl<'a> Names<'a> {
     /// # Errors
     ///
     /// The fault of a line that names an unknown router.
-    pub fn router(&self, line: u32, name: &[u8]) -> Result<u32, ResolutionStop>
+    pub fn router(&self, line: u32, name: &[u8]) -> Result<u32, Refusal<ResolutionFault, ()>>
         ensures made { IfOk result (λ r. (router_faults self.now line name.now ≡ []) × (r ≡ router_number self.now name.now)) }
         ensures refused { IfErr result (TellsResolution (first_of (router_faults self.now line name.now))) }
     {
         match self.find_router(name) {
             Some(router) => Ok(router),
-            None => Err(ResolutionStop::Refused(ResolutionFault::UnknownRouter { line })),
+            None => Err(Refusal::Refused {
+                fault: ResolutionFault::UnknownRouter { line },
+                place: (),
+            }),
         }
     }
 
@@ -191,14 +194,22 @@ impl<'a> Names<'a> {
     /// # Errors
     ///
     /// The fault of a line that names an unknown router or interface.
-    pub fn link(&self, line: u32, router: &[u8], interface: &[u8]) -> Result<u32, ResolutionStop>
+    pub fn link(
+        &self,
+        line: u32,
+        router: &[u8],
+        interface: &[u8],
+    ) -> Result<u32, Refusal<ResolutionFault, ()>>
         ensures made { IfOk result (λ l. (interface_faults self.now line router.now interface.now ≡ []) × (l ≡ link_number self.now router.now interface.now)) }
         ensures refused { IfErr result (TellsResolution (first_of (interface_faults self.now line router.now interface.now))) }
     {
         let number = self.router(line, router)?;
         match self.find_link(number, interface) {
             Some(link) => Ok(link),
-            None => Err(ResolutionStop::Refused(ResolutionFault::UnknownInterface { line })),
+            None => Err(Refusal::Refused {
+                fault: ResolutionFault::UnknownInterface { line },
+                place: (),
+            }),
         }
     }
 

@@ -8,11 +8,11 @@ ghost use Rattle.wanted_paths.specs.LineFaults.{part_faults, parts_faults, is_ro
 ghost use Rattle.wanted_paths.specs.Paths.{outline};
 ghost use Rattle.wanted_paths.specs.Taken.{taken_from, taken_by_link, taken_at, taken_by, taken_by_all};
 
-use crate::ResolutionStop;
+use crate::ResolutionFault;
 use crate::names::Names;
 use crate::routes::subnet_vertex;
 use area_graph::{Graph, far_end};
-use cost_base::OutOfMemory;
+use cost_base::{OutOfMemory, Refusal};
 use lsdb_build::{Far, Linked};
 use request_reader::Part;
 use std::alloc::Global;
@@ -107,7 +107,7 @@ fn push_part(
     line: u32,
     part: &Part,
     taken: &mut Vec<u32>,
-) -> Result<(), ResolutionStop>
+) -> Result<(), Refusal<ResolutionFault, ()>>
     requires { graph.now ≡ outline names.now }
     ensures made { OnOk result (part_faults names.now line part.now ≡ []) }
     ensures taken { OnOk result (taken.new.items ≡ taken.old.items ++ taken_by names.now graph.now part.now) }
@@ -133,7 +133,7 @@ pub fn taken_by(
     graph: &Graph,
     line: u32,
     parts: &[Part],
-) -> Result<Vec<u32>, ResolutionStop>
+) -> Result<Vec<u32>, Refusal<ResolutionFault, ()>>
     requires { graph.now ≡ outline names.now }
     ensures made { IfOk result (λ taken. (parts_faults names.now line parts.now ≡ []) × (taken.items ≡ taken_by_all names.now graph.now parts.now)) }
     ensures refused { IfErr result (TellsResolution (first_of (parts_faults names.now line parts.now))) }

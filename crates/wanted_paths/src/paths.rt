@@ -8,12 +8,12 @@ ghost use Rattle.wanted_paths.specs.LineFaults.{is_router_part, walk_faults, wit
 ghost use Rattle.wanted_paths.specs.Paths.{outline};
 ghost use Rattle.wanted_paths.specs.Walks.{IsWalk};
 
+use crate::ResolutionFault;
 use crate::names::Names;
 use crate::parts::{has_marked, has_router, marked, taken_by};
 use crate::routes::{Walk, next_name, resolve_walk};
-use crate::{ResolutionFault, ResolutionStop};
 use area_graph::{Graph, mark_excluded};
-use cost_base::{Listed, OutOfMemory};
+use cost_base::{Listed, OutOfMemory, Refusal};
 use design_problem::Request;
 use request_reader::{Hops, Part};
 use std::alloc::Global;
@@ -80,7 +80,7 @@ impl<'a> Resolver<'a> {
     }
 
     /// The walk of a route; its first fault where it doesn't resolve.
-    fn walk(&self, line: u32, route: &Hops) -> Result<Walk, ResolutionStop>
+    fn walk(&self, line: u32, route: &Hops) -> Result<Walk, Refusal<ResolutionFault, ()>>
         ensures made { IfOk result (λ walk. (walk_faults self.now line route.now ≡ []) × IsWalk self.now route.now walk) }
         ensures refused { IfErr result (TellsResolution (first_of (walk_faults self.now line route.now))) }
     {
@@ -94,7 +94,7 @@ impl<'a> Resolver<'a> {
         route: &Hops,
         walk: &Walk,
         parts: &[Part],
-    ) -> Result<Vec<u32>, ResolutionStop>
+    ) -> Result<Vec<u32>, Refusal<ResolutionFault, ()>>
         requires walk { IsWalk self.old route.now walk.now }
         requires walks { walk_faults self.old line route.now ≡ [] }
         ensures made { IfOk result (λ excluded. (without_faults self.old line route.now parts.now ≡ []) ×
@@ -107,7 +107,10 @@ impl<'a> Resolver<'a> {
         let taken = taken_by(self.alloc, self.names, self.graph, line, parts)?;
         mark_excluded(&mut self.marks, &taken);
         if is_excluded(route, walk, parts, &self.marks) {
-            return Err(ResolutionStop::Refused(ResolutionFault::PathExcluded { line }));
+            return Err(Refusal::Refused {
+                fault: ResolutionFault::PathExcluded { line },
+                place: (),
+            });
         }
         Ok(marked(self.alloc, &self.marks)?)
     }
@@ -118,7 +121,7 @@ impl<'a> Resolver<'a> {
         line: u32,
         route: &Hops,
         parts: &[Part],
-    ) -> Result<Request, ResolutionStop>
+    ) -> Result<Request, Refusal<ResolutionFault, ()>>
         ensures made { IfOk result (λ request. (path_faults self.old line route.now parts.now ≡ []) ×
             (request_of self.old (outline self.old) (WantedPath route.now parts.now) ≡ Some request)) }
         ensures refused { IfErr result (TellsResolution (first_of (path_faults self.old line route.now parts.now))) }

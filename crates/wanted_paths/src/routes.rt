@@ -10,13 +10,13 @@ ghost use Rattle.wanted_paths.specs.Paths.{next_name, router_number, link_number
 ghost use Rattle.wanted_paths.specs.Resolution.{leads_to_router};
 ghost use Rattle.wanted_paths.specs.LineFaults.{hop_faults, leads_on, broken_faults, walk_faults, TellsResolution};
 ghost use Rattle.wanted_paths.specs.Paths.{outline};
-ghost use Rattle.wanted_paths.specs.declared.stop.ResolutionFault.TheVariants.{BrokenPath};
+ghost use Rattle.wanted_paths.specs.declared.fault.ResolutionFault.TheVariants.{BrokenPath};
 ghost use Rattle.wanted_paths.specs.Walks.{IsWalk};
 
+use crate::ResolutionFault;
 use crate::names::Names;
-use crate::{ResolutionFault, ResolutionStop};
 use area_graph::{Graph, Path, far_end, is_simple};
-use cost_base::{Listed, Name, OutOfMemory};
+use cost_base::{Listed, Name, OutOfMemory, Refusal};
 use lsdb_build::{Far, Linked};
 use request_reader::Hops;
 use std::alloc::Global;
@@ -57,7 +57,7 @@ fn check_words(
     line: u32,
     hops: &[(Name, Name)],
     last: &[u8],
-) -> Result<(), ResolutionStop>
+) -> Result<(), Refusal<ResolutionFault, ()>>
     ensures made { OnOk result (hop_faults names.now line hops.now last.now ≡ []) }
     ensures refused { IfErr result (TellsResolution (first_of (hop_faults names.now line hops.now last.now))) }
 {
@@ -80,14 +80,17 @@ fn leads_on(names: &Names, hop: &(Name, Name), next: &[u8]) -> bool
 }
 
 /// The refusal of the hop at a place, which is counted from 1.
-fn broken(line: u32, place: usize) -> ResolutionStop
+fn broken(line: u32, place: usize) -> Refusal<ResolutionFault, ()>
     ensures { TellsResolution (Some (BrokenPath line (place + 1))) result }
 {
     if place >= u32::MAX as usize {
-        return ResolutionStop::OutOfMemory;
+        return Refusal::OutOfMemory;
     }
     let hop = place as u32 + 1;
-    ResolutionStop::Refused(ResolutionFault::BrokenPath { line, hop })
+    Refusal::Refused {
+        fault: ResolutionFault::BrokenPath { line, hop },
+        place: (),
+    }
 }
 
 /// Whether each hop leads to the router of the next word; the number of the first one that doesn't. A hop
@@ -97,7 +100,7 @@ fn check_hops(
     line: u32,
     hops: &[(Name, Name)],
     last: &[u8],
-) -> Result<(), ResolutionStop>
+) -> Result<(), Refusal<ResolutionFault, ()>>
     ensures made { OnOk result (broken_faults names.now line 1 hops.now last.now ≡ []) }
     ensures refused { IfErr result (TellsResolution (first_of (broken_faults names.now line 1 hops.now last.now))) }
 {
@@ -241,7 +244,7 @@ pub fn resolve_walk(
     graph: &Graph,
     line: u32,
     route: &Hops,
-) -> Result<Walk, ResolutionStop>
+) -> Result<Walk, Refusal<ResolutionFault, ()>>
     requires { graph.now ≡ outline names.now }
     ensures made { IfOk result (λ walk. (walk_faults names.now line route.now ≡ []) × IsWalk names.now route.now walk) }
     ensures refused { IfErr result (TellsResolution (first_of (walk_faults names.now line route.now))) }
@@ -253,7 +256,10 @@ pub fn resolve_walk(
     check_hops(names, line, hops, last)?;
     let walk = walk_of(alloc, names, graph, route)?;
     if !is_simple_walk(graph, &walk) {
-        return Err(ResolutionStop::Refused(ResolutionFault::LoopPath { line }));
+        return Err(Refusal::Refused {
+            fault: ResolutionFault::LoopPath { line },
+            place: (),
+        });
     }
     Ok(walk)
 }

@@ -4,12 +4,12 @@ ghost use Rattle.text_lines.specs.LineFaults.{fault_at, fault_in_line};
 ghost use Rattle.request_reader.specs.Asked.{HasGoodBounds, is_path};
 ghost use Rattle.request_reader.specs.Reading.{told_by, fault_said, fault_behind_header, asked_of, TellsRequestFault};
 ghost use Rattle.request_reader.specs.ReadingSteps.{told_with, KeepsRules};
-ghost use Rattle.request_reader.specs.declared.stop.RequestFault.TheVariants.{BadRequestLine};
+ghost use Rattle.request_reader.specs.declared.fault.RequestFault.TheVariants.{BadRequestLine};
 ghost use Rattle.request_reader.specs.declared.reading.statement.Statement.TheVariants.{Area as AreaSaid, DefaultCost as DefaultCostSaid, Ask as AskSaid};
 
 use crate::reading::statement::Statement;
-use crate::{Directive, Item, RequestFault, RequestFile, RequestStop};
-use cost_base::{Listed, OutOfMemory};
+use crate::{Directive, Item, RequestFault, RequestFile};
+use cost_base::{Listed, OutOfMemory, Refusal};
 use std::alloc::Global;
 use std::marker::Model;
 
@@ -53,7 +53,7 @@ impl Reader {
     }
 
     /// Takes what the line of this number says, unless that is a fault behind what was said before.
-    pub(crate) fn take(&mut self, line: u32, said: Statement) -> Result<(), RequestStop>
+    pub(crate) fn take(&mut self, line: u32, said: Statement) -> Result<(), Refusal<RequestFault>>
         requires { KeepsRules said }
         ensures taken { OnOk result (fault_said self.old said ≡ None) }
         ensures told { OnOk result (self.new ≡ told_with self.old line said) }
@@ -74,7 +74,7 @@ impl Reader {
     }
 
     /// Takes the area of a line behind the header, unless it is the second.
-    fn take_area(&mut self, line: u32, area: u32) -> Result<(), RequestStop>
+    fn take_area(&mut self, line: u32, area: u32) -> Result<(), Refusal<RequestFault>>
         ensures taken { OnOk result (fault_behind_header self.old (AreaSaid area) ≡ None) }
         ensures told { OnOk result (self.new ≡ told_with self.old line (AreaSaid area)) }
         ensures refused { IfErr result (TellsRequestFault (fault_in_line line (fault_behind_header self.old (AreaSaid area)))) }
@@ -87,7 +87,7 @@ impl Reader {
     }
 
     /// Takes the default cost of a line behind the header, unless it is the second.
-    fn take_default_cost(&mut self, line: u32, cost: u16) -> Result<(), RequestStop>
+    fn take_default_cost(&mut self, line: u32, cost: u16) -> Result<(), Refusal<RequestFault>>
         requires { 0 < cost }
         ensures taken { OnOk result (fault_behind_header self.old (DefaultCostSaid cost) ≡ None) }
         ensures told { OnOk result (self.new ≡ told_with self.old line (DefaultCostSaid cost)) }
@@ -101,7 +101,7 @@ impl Reader {
     }
 
     /// Takes what a line behind the header asks for, unless it is a path too many.
-    fn take_directive(&mut self, line: u32, what: Directive) -> Result<(), RequestStop>
+    fn take_directive(&mut self, line: u32, what: Directive) -> Result<(), Refusal<RequestFault>>
         requires { HasGoodBounds what }
         ensures taken { OnOk result (fault_behind_header self.old (AskSaid what) ≡ None) }
         ensures told { OnOk result (self.new ≡ told_with self.old line (AskSaid what)) }
@@ -116,7 +116,7 @@ impl Reader {
     }
 
     /// Takes a path, unless it is one too many.
-    fn take_path(&mut self, path: Item) -> Result<(), RequestStop>
+    fn take_path(&mut self, path: Item) -> Result<(), Refusal<RequestFault>>
         requires bounds { HasGoodBounds path.what }
         requires path { is_path path ≡ true }
         ensures taken { OnOk result (fault_behind_header self.old (AskSaid path.what) ≡ None) }
@@ -132,10 +132,10 @@ impl Reader {
     }
 
     /// What the lines ask for. `lines` is how many there are.
-    pub(crate) fn finish(self, lines: u32) -> Result<RequestFile, RequestStop>
+    pub(crate) fn finish(self, lines: u32) -> Result<RequestFile, Refusal<RequestFault>>
         requires { lines < 2 ^ 32 - 1 }
         ensures made { IfOk result (λ r. (is_some self.area ≡ true) × (r ≡ asked_of self)) }
-        ensures refused { IfErr result (λ stop. (is_some self.area ≡ false) × TellsRequestFault (Some (fault_at (lines + 1) BadRequestLine)) stop) }
+        ensures refused { IfErr result (λ refusal. (is_some self.area ≡ false) × TellsRequestFault (Some (fault_at (lines + 1) BadRequestLine)) refusal) }
     {
         match self.area {
             Some(area) => Ok(RequestFile {
@@ -165,8 +165,8 @@ fn add_item(items: &mut Vec<Item>, item: Item) -> Result<(), OutOfMemory>
 }
 
 /// The refusal of a line.
-pub(crate) fn refusal(line: u32, fault: RequestFault) -> RequestStop
+pub(crate) fn refusal(line: u32, fault: RequestFault) -> Refusal<RequestFault>
     ensures { TellsRequestFault (Some (fault_at line fault)) result }
 {
-    RequestStop::Refused { fault, line }
+    Refusal::Refused { fault, place: line }
 }

@@ -9,9 +9,9 @@ ghost use Rattle.text_lines.specs.LineFaults.{fault_in_line};
 ghost use Rattle.set_reader.specs.Reading.{same_ends, has_other_ends, takes_away, is_wrong_set, wrong_if, IsInOrder, TellsReading};
 ghost use Rattle.set_reader.specs.ReadingSteps.{is_out_of_place};
 
+use crate::SetFault;
 use crate::reading::refusal;
-use crate::{SetFault, SetStop};
-use cost_base::OutOfMemory;
+use cost_base::{OutOfMemory, Refusal};
 use design_problem::Request;
 use indexmap::IndexSet;
 use std::alloc::Global;
@@ -81,14 +81,14 @@ pub(crate) fn read_members(
     taken: &[bool],
     line: u32,
     numbers: &[u64],
-) -> Result<Vec<u32>, SetStop>
+) -> Result<Vec<u32>, Refusal<SetFault>>
     requires few { length requests.now < 2 ^ 32 }
     requires count { length taken.now ≡ length requests.now }
     ensures made { IfOk result (λ members. IsInOrder numbers.now members.items) }
     ensures known { IfOk result (λ members. All (λ member. member < length requests.now) members.items) }
     ensures lawful { IfOk result (λ members. (earlier : List ℕ) → AreEdgeMarks earlier taken.now → is_wrong_set requests.now earlier numbers.now ≡ false) }
-    ensures refused { IfErr result (λ stop. (earlier : List ℕ) → AreEdgeMarks earlier taken.now →
-        TellsReading (fault_in_line line (wrong_if (is_wrong_set requests.now earlier numbers.now))) stop) }
+    ensures refused { IfErr result (λ refusal. (earlier : List ℕ) → AreEdgeMarks earlier taken.now →
+        TellsReading (fault_in_line line (wrong_if (is_wrong_set requests.now earlier numbers.now))) refusal) }
 {
     let mut members = Vec::new(alloc);
     let mut seen = IndexSet::new(alloc);

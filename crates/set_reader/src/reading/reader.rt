@@ -4,14 +4,14 @@ ghost use Rattle.text_lines.specs.LineFaults.{fault_at, fault_in_line};
 ghost use Rattle.set_reader.specs.SpreadSets.{AreSetsOf};
 ghost use Rattle.set_reader.specs.Reading.{set_fault_said, set_fault_behind_header, TellsReading};
 ghost use Rattle.set_reader.specs.ReadingSteps.{told_of, HasSeveral, TakesLine};
-ghost use Rattle.set_reader.specs.declared.stop.SetFault.TheVariants.{BadSetLine};
+ghost use Rattle.set_reader.specs.declared.fault.SetFault.TheVariants.{BadSetLine};
 ghost use Rattle.set_reader.specs.declared.reading.statement.Statement.TheVariants.{Numbers as NumbersSaid};
 
 use crate::reading::members::{mark_members, read_members};
 use crate::reading::refusal;
 use crate::reading::statement::Statement;
-use crate::{SetFault, SetStop, Sets};
-use cost_base::{Listed, OutOfMemory};
+use crate::{SetFault, Sets};
+use cost_base::{Listed, OutOfMemory, Refusal};
 use design_problem::Problem;
 use std::alloc::Global;
 use std::marker::Model;
@@ -51,7 +51,12 @@ impl<'a> Reader<'a> {
     }
 
     /// Takes what the line of this number says, unless that is a fault behind what was said before.
-    pub(crate) fn take(&mut self, alloc: Global, line: u32, said: Statement) -> Result<(), SetStop>
+    pub(crate) fn take(
+        &mut self,
+        alloc: Global,
+        line: u32,
+        said: Statement,
+    ) -> Result<(), Refusal<SetFault>>
         requires { HasSeveral said }
         ensures taken { OnOk result (set_fault_said self.old.problem.paths (told_of self.old) said ≡ None) }
         ensures told { OnOk result (TakesLine self.old said self.new) }
@@ -69,7 +74,12 @@ impl<'a> Reader<'a> {
     }
 
     /// Takes the set of a line behind the header, unless its numbers are no set behind the earlier ones.
-    fn take_set(&mut self, alloc: Global, line: u32, numbers: &[u64]) -> Result<(), SetStop>
+    fn take_set(
+        &mut self,
+        alloc: Global,
+        line: u32,
+        numbers: &[u64],
+    ) -> Result<(), Refusal<SetFault>>
         requires several { 2 ≤ length numbers.now }
         requires spoken { self.old.spoken ≡ true }
         ensures taken { OnOk result (set_fault_behind_header self.old.problem.paths (told_of self.old) (NumbersSaid numbers.now) ≡ None) }
@@ -82,7 +92,7 @@ impl<'a> Reader<'a> {
         let members = read_members(alloc, requests, self.taken.as_slice(), line, numbers)?;
         let set = Listed::from_items(members);
         if self.sets.reserve(1).is_err() {
-            return Err(SetStop::OutOfMemory);
+            return Err(Refusal::OutOfMemory);
         }
         mark_members(&mut self.taken, set.as_slice());
         self.sets.push_reserved(set);
@@ -90,11 +100,11 @@ impl<'a> Reader<'a> {
     }
 
     /// The sets. `lines` is how many lines there are.
-    pub(crate) fn finish(self, lines: u32) -> Result<Sets, SetStop>
+    pub(crate) fn finish(self, lines: u32) -> Result<Sets, Refusal<SetFault>>
         requires { lines < 2 ^ 32 - 1 }
         ensures made { IfOk result (λ sets. (self.entry.spoken ≡ true) × (sets ≡ self.entry.sets)) }
         ensures lawful { IfOk result (AreSetsOf self.entry.problem) }
-        ensures refused { IfErr result (λ stop. (self.entry.spoken ≡ false) × TellsReading (Some (fault_at (lines + 1) BadSetLine)) stop) }
+        ensures refused { IfErr result (λ refusal. (self.entry.spoken ≡ false) × TellsReading (Some (fault_at (lines + 1) BadSetLine)) refusal) }
     {
         if !self.spoken {
             return Err(refusal(lines + 1, SetFault::BadSetLine));

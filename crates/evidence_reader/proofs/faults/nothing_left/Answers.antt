@@ -1,6 +1,6 @@
 use Rattle.std.proofs.Common.{refl}
 use Rattle.answer_lines.specs.Grammar.{AfterEnd}
-use Rattle.evidence_reader.specs.declared.stop.AnswerFault.TheVariants.{AfterEnd as BehindEnd}
+use Rattle.evidence_reader.specs.declared.fault.AnswerFault.TheVariants.{AfterEnd as BehindEnd}
 use Rattle.evidence_reader.specs.Refusals.{after_end}
 use Rattle.evidence_reader.proofs.FaultLaws.{refused_here, some_by}
 use Rattle.evidence_reader.proofs.faults.nothing_left.Goals as goal

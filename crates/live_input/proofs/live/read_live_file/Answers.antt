@@ -37,7 +37,7 @@ returns g c =
     gave_made (g.S.Shelf.gave c.args.shelf.now c.read_file.new.shelf) (file_read longest_database name)
     (λ bytes. if_live name (live_in c.args.area bytes)) (λ (bytes : Vec ℕ Global) read. bytes.items ≡ read)
     (λ (made : List Lsa) said. made ≡ said)
-    c.in_ok-bytes.bytes (Err c.stop_of_live.result) c.in_ok-bytes.ensures.read
-    (λ read same. subst (λ (s : Stop). StopsAs (if_live name (live_in c.args.area read)) [] s) (sym c.stop_of_live.ensures)
-    (live_stops c.args.name c.args.area read c.in-Err.stop
-    (subst (λ (bs : List ℕ). RefusesLive c.args.area bs c.in-Err.stop) (c.deref.ensures.value ∙ same) c.in-Err.ensures)))
+    c.in_ok-bytes.bytes (Err c.stop_of.result) c.in_ok-bytes.ensures.read
+    (λ read same. subst (λ (s : Stop). StopsAs (if_live name (live_in c.args.area read)) [] s) (sym c.stop_of.ensures)
+    (live_stops c.args.name c.args.area read c.in-Err.refusal
+    (subst (λ (bs : List ℕ). RefusesLive c.args.area bs c.in-Err.refusal) (c.deref.ensures.value ∙ same) c.in-Err.ensures)))

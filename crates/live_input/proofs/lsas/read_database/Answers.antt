@@ -36,7 +36,7 @@ returns g c =
     gave_made (g.S.Shelf.gave c.args.shelf.now c.read_file.new.shelf) (file_read longest_database name)
     (λ bytes. if_lsas name (lsas_in bytes)) (λ (bytes : Vec ℕ Global) read. bytes.items ≡ read)
     (λ (made : List Lsa) said. made ≡ said)
-    c.in_ok-bytes.bytes (Err c.stop_of_lsas.result) c.in_ok-bytes.ensures.read
-    (λ read same. subst (λ (s : Stop). StopsAs (if_lsas name (lsas_in read)) [] s) (sym c.stop_of_lsas.ensures)
-    (lsas_stop c.args.name read c.in-Err.stop
-    (subst (λ (bs : List ℕ). Refuses bs c.in-Err.stop) (c.deref.ensures.value ∙ same) c.in-Err.ensures)))
+    c.in_ok-bytes.bytes (Err c.stop_of.result) c.in_ok-bytes.ensures.read
+    (λ read same. subst (λ (s : Stop). StopsAs (if_lsas name (lsas_in read)) [] s) (sym c.stop_of.ensures)
+    (lsas_stop c.args.name read c.in-Err.refusal
+    (subst (λ (bs : List ℕ). Refuses bs c.in-Err.refusal) (c.deref.ensures.value ∙ same) c.in-Err.ensures)))

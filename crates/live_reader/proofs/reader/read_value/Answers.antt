@@ -32,6 +32,6 @@ returns-in-Ok-live_lsas c j is =
 pub returns : goal.returns
 returns c j is =
     subst (TellsSaid (read_in c.args.text.now (live_lsas c.args.area j)))
-    (sym (c.lacking.ensures ∙ ap (λ text. lacking_in text c.in-Err.stop) c.as_bytes-in-Err.ensures.value))
-    (lack_tells c.args.text.now (live_lsas c.args.area j) c.in-Err.stop
+    (sym (c.lacking.ensures ∙ ap (λ text. lacking_in text c.in-Err.refusal) c.as_bytes-in-Err.ensures.value))
+    (lack_tells c.args.text.now (live_lsas c.args.area j) c.in-Err.refusal
     (c.in-Err.ensures j (text_stands c.args.text.now c.in-Ok.tape j c.in-Ok.ensures.ok.0 is)))

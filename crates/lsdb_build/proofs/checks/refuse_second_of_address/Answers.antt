@@ -3,7 +3,7 @@ use Rattle.lsdb_build.specs.Topology.{is_second_of_address, at_port}
 use Rattle.lsdb_build.specs.Tallies.{port_address}
 use Rattle.lsdb_build.proofs.FirstPlaces.{none_met}
 use Rattle.lsdb_build.proofs.Tallies.{tally_few, second_passed, second_met}
-use Rattle.lsdb_build.specs.declared.stop.TopologyFault.TheVariants.{AddressTwice}
+use Rattle.lsdb_build.specs.declared.fault.TopologyFault.TheVariants.{AddressTwice}
 use Rattle.lsdb_build.proofs.checks.refuse_second_of_address.Goals as goal
 
 pub add-requires : goal.add-requires

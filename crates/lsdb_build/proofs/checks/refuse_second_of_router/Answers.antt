@@ -3,7 +3,7 @@ use Rattle.lsdb_build.specs.Topology.{is_second_of_router, at_port}
 use Rattle.lsdb_build.specs.Tallies.{same_member, member_of}
 use Rattle.lsdb_build.proofs.FirstPlaces.{none_met}
 use Rattle.lsdb_build.proofs.Tallies.{tally_few, second_passed, second_met}
-use Rattle.lsdb_build.specs.declared.stop.TopologyFault.TheVariants.{SameRouterTwice}
+use Rattle.lsdb_build.specs.declared.fault.TopologyFault.TheVariants.{SameRouterTwice}
 use Rattle.lsdb_build.proofs.checks.refuse_second_of_router.Goals as goal
 
 pub add-requires : goal.add-requires

@@ -2,7 +2,7 @@ use Rattle.std.proofs.Common.{List, ap, sym, ◌∙◌}
 use Rattle.lsdb_build.specs.Neighbours.{Port}
 use Rattle.lsdb_build.specs.Topology.{lacks_designated, at_port}
 use Rattle.lsdb_build.proofs.FirstPlaces.{left_on, first_met, none_met}
-use Rattle.lsdb_build.specs.declared.stop.TopologyFault.TheVariants.{NoDesignated}
+use Rattle.lsdb_build.specs.declared.fault.TopologyFault.TheVariants.{NoDesignated}
 use Rattle.lsdb_build.proofs.checks.refuse_undesignated.Goals as goal
 
 pub loop-port-preserved : goal.loop-port-preserved

@@ -39,9 +39,9 @@ returns-clause-read g c = λ d is.
     gave_made (g.S.Shelf.gave c.args.shelf.now c.read_file.new.shelf) (file_read longest_sets file)
     (λ bytes. if_sets file d bytes (set_fault d.problem bytes)) (λ (bytes : Vec ℕ Global) read. bytes.items ≡ read)
     (AreSetsFor d)
-    c.in_ok-bytes.bytes (Err c.stop_of_sets.result) c.in_ok-bytes.ensures.read
+    c.in_ok-bytes.bytes (Err c.stop_of.result) c.in_ok-bytes.ensures.read
     (λ read same.
-    subst (λ (s : Stop). StopsAs (if_sets file d read (set_fault d.problem read)) [] s) (sym c.stop_of_sets.ensures)
-    (sets_stop c.args.name d c.args.problem.now read c.in-Err.stop is
-    (subst (λ (bs : List ℕ). TellsReading (set_fault c.args.problem.now bs) c.in-Err.stop) (c.deref.ensures.value ∙ same)
+    subst (λ (s : Stop). StopsAs (if_sets file d read (set_fault d.problem read)) [] s) (sym c.stop_of.ensures)
+    (sets_stop c.args.name d c.args.problem.now read c.in-Err.refusal is
+    (subst (λ (bs : List ℕ). TellsReading (set_fault c.args.problem.now bs) c.in-Err.refusal) (c.deref.ensures.value ∙ same)
     c.in-Err.ensures.refused)))

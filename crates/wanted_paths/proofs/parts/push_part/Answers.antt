@@ -4,7 +4,7 @@ use Rattle.wanted_paths.specs.Resolution.{knows_router}
 use Rattle.wanted_paths.proofs.LookUps.{vertices_count}
 use Rattle.wanted_paths.proofs.RouteLaws.{router_known}
 use Rattle.wanted_paths.proofs.Walks.{well_from}
-use Rattle.wanted_paths.specs.declared.stop.ResolutionFault.TheVariants.{UnknownRouter}
+use Rattle.wanted_paths.specs.declared.fault.ResolutionFault.TheVariants.{UnknownRouter}
 use Rattle.wanted_paths.proofs.parts.push_part.Goals as goal
 
 pub push_router-requires : goal.push_router-requires

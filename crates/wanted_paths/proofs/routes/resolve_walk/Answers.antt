@@ -5,7 +5,7 @@ use Rattle.area_graph.specs.Area.{Area}
 use Rattle.area_graph.specs.Paths.{IsSimple}
 use Rattle.wanted_paths.specs.LineFaults.{fault_unless, hop_faults, broken_faults, walk_faults}
 use Rattle.wanted_paths.proofs.Walks.{walk_faults_are}
-use Rattle.wanted_paths.specs.declared.stop.ResolutionFault.TheVariants.{LoopPath}
+use Rattle.wanted_paths.specs.declared.fault.ResolutionFault.TheVariants.{LoopPath}
 use Rattle.wanted_paths.proofs.routes.resolve_walk.Goals.{After-is_simple_walk}
 use Rattle.wanted_paths.proofs.routes.resolve_walk.Goals as goal
 

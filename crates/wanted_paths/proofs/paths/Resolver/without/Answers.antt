@@ -9,7 +9,7 @@ use Rattle.wanted_paths.specs.Paths.{outline}
 use Rattle.wanted_paths.specs.Taken.{taken_by_all}
 use Rattle.wanted_paths.proofs.Withouts.{excluded_marks, without_faults_are}
 use Rattle.wanted_paths.proofs.TakenEdges.{marked_are}
-use Rattle.wanted_paths.specs.declared.stop.ResolutionFault.TheVariants.{PathExcluded}
+use Rattle.wanted_paths.specs.declared.fault.ResolutionFault.TheVariants.{PathExcluded}
 use Rattle.wanted_paths.proofs.paths.Resolver.without.Goals as goal
 
 pub returns-then-is_excluded-clause-refused : goal.returns-then-is_excluded-clause-refused

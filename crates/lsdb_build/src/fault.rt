@@ -1,8 +1,7 @@
 //! Why configurations make no topology.
-ghost use Rattle.std.specs.Prelude.{◌≡◌};
 ghost use Rattle.lsdb_build.specs.FaultNumbers.{topology_fault_number};
 
-use cost_base::OutOfMemory;
+use cost_base::Fault;
 
 /// Why configurations make no topology. An interface is here an active one of length at most 31.
 #[derive(Clone, Copy, Debug, PartialEq, Eq)]
@@ -25,11 +24,10 @@ pub enum TopologyFault {
     TooMany,
 }
 
-impl TopologyFault {
-    /// The number by which the fault is written.
-    pub fn number(self) -> u8
-        ensures { result ≡ topology_fault_number self }
-    {
+impl Fault for TopologyFault {
+    ghost numbered = { topology_fault_number };
+
+    fn number(self) -> u8 {
         match self {
             TopologyFault::NameTwice => 10,
             TopologyFault::AddressTwice => 11,
@@ -43,27 +41,11 @@ impl TopologyFault {
     }
 }
 
-/// Why no topology was made of configurations: their first fault, or want of memory.
+/// Where a fault of a topology stands.
 #[derive(Clone, Copy, Debug, PartialEq, Eq)]
-pub enum TopologyStop {
-    /// The fault; its configuration, counted from 0; and the line of the interface's first head, or 0 where the fault is
-    /// none of an interface.
-    Refused {
-        fault: TopologyFault,
-        config: u32,
-        line: u32,
-    },
-    /// There was no memory.
-    OutOfMemory,
-}
-
-impl From<OutOfMemory> for TopologyStop {
-    ghost use Rattle.std.specs.Prelude.{◌≡◌};
-    ghost use Rattle.lsdb_build.specs.declared.stop.TopologyStop.TheVariants.{OutOfMemory as StopOutOfMemory};
-
-    ghost from_gives = { λ stop result. result ≡ StopOutOfMemory };
-
-    fn from(_: OutOfMemory) -> TopologyStop {
-        TopologyStop::OutOfMemory
-    }
+pub struct ConfigLine {
+    /// The configuration, counted from 0.
+    pub config: u32,
+    /// The line of the interface's first head, or 0 where the fault is none of an interface.
+    pub line: u32,
 }

@@ -2,7 +2,7 @@
 ghost use Rattle.std.specs.Prelude.{◌≡◌};
 ghost use Rattle.wanted_paths.specs.FaultNumbers.{resolution_fault_number, line_of_fault};
 
-use cost_base::OutOfMemory;
+use cost_base::Fault;
 
 /// Why requests don't resolve in a topology, with the place: `line` is a line of the request file.
 #[derive(Clone, Copy, Debug, PartialEq, Eq)]
@@ -27,11 +27,10 @@ pub enum ResolutionFault {
     NoCost { link: u32 },
 }
 
-impl ResolutionFault {
-    /// The number by which the fault is written.
-    pub fn number(self) -> u8
-        ensures { result ≡ resolution_fault_number self }
-    {
+impl Fault for ResolutionFault {
+    ghost numbered = { resolution_fault_number };
+
+    fn number(self) -> u8 {
         match self {
             ResolutionFault::UnknownRouter { .. } => 21,
             ResolutionFault::UnknownInterface { .. } => 22,
@@ -44,7 +43,9 @@ impl ResolutionFault {
             ResolutionFault::PathExcluded { .. } => 70,
         }
     }
+}
 
+impl ResolutionFault {
     /// The line of the request file at which the fault stands, 0 where it is none of one line.
     pub fn line(self) -> u32
         ensures { result ≡ line_of_fault self }
@@ -60,25 +61,5 @@ impl ResolutionFault {
             ResolutionFault::EndsDiffer { line } => line,
             ResolutionFault::PathExcluded { line } => line,
         }
-    }
-}
-
-/// Why requests weren't resolved: their first fault, or want of memory.
-#[derive(Clone, Copy, Debug, PartialEq, Eq)]
-pub enum ResolutionStop {
-    /// The first fault.
-    Refused(ResolutionFault),
-    /// There was no memory.
-    OutOfMemory,
-}
-
-impl From<OutOfMemory> for ResolutionStop {
-    ghost use Rattle.std.specs.Prelude.{◌≡◌};
-    ghost use Rattle.wanted_paths.specs.declared.stop.ResolutionStop.TheVariants.{OutOfMemory as StopOutOfMemory};
-
-    ghost from_gives = { λ stop result. result ≡ StopOutOfMemory };
-
-    fn from(_: OutOfMemory) -> ResolutionStop {
-        ResolutionStop::OutOfMemory
     }
 }

@@ -1,8 +1,7 @@
 //! Why a configuration isn't taken.
-ghost use Rattle.std.specs.Prelude.{◌≡◌};
 ghost use Rattle.config_reader.specs.FaultNumbers.{config_fault_number};
 
-use cost_base::OutOfMemory;
+use cost_base::Fault;
 
 /// Why a line of a configuration is refused.
 #[derive(Clone, Copy, Debug, PartialEq, Eq)]
@@ -25,11 +24,10 @@ pub enum ConfigFault {
     BadName,
 }
 
-impl ConfigFault {
-    /// The number by which the fault is written.
-    pub fn number(self) -> u8
-        ensures { result ≡ config_fault_number self }
-    {
+impl Fault for ConfigFault {
+    ghost numbered = { config_fault_number };
+
+    fn number(self) -> u8 {
         match self {
             ConfigFault::LongLine => 1,
             ConfigFault::BadAddress => 2,
@@ -40,25 +38,5 @@ impl ConfigFault {
             ConfigFault::AreaTwice => 7,
             ConfigFault::BadName => 8,
         }
-    }
-}
-
-/// Why a configuration wasn't read: its first faulty line, or want of memory.
-#[derive(Clone, Copy, Debug, PartialEq, Eq)]
-pub enum ConfigStop {
-    /// The fault of a line, and its number; line 0 for a name that is taken from the file's name.
-    Refused { fault: ConfigFault, line: u32 },
-    /// There was no memory.
-    OutOfMemory,
-}
-
-impl From<OutOfMemory> for ConfigStop {
-    ghost use Rattle.std.specs.Prelude.{◌≡◌};
-    ghost use Rattle.config_reader.specs.declared.stop.ConfigStop.TheVariants.{OutOfMemory as StopOutOfMemory};
-
-    ghost from_gives = { λ stop result. result ≡ StopOutOfMemory };
-
-    fn from(_: OutOfMemory) -> ConfigStop {
-        ConfigStop::OutOfMemory
     }
 }
