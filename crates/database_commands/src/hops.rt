@@ -28,23 +28,28 @@ fn push_hop(line: &mut Vec<u8>, id: u32) -> Result<(), OutOfMemory>
     Ok(())
 }
 
-/// Adds the IDs at the ends of the tight edges out of a vertex, in edge order, each behind a space.
-pub fn push_hops(
-    line: &mut Vec<u8>,
-    graph: &Graph,
-    point: &Point,
-    room: &Room,
-    ids: &[u32],
-    vertex: u32,
-) -> Result<(), OutOfMemory>
-    requires room { IsRoomFor graph.now room.now }
-    requires fits { FitsPoint graph.now point.now }
-    requires vertex { vertex < length graph.now.vertices }
-    ensures { OnOk result (line.new.items ≡ line.old.items
-        ++ spaced_quads (map (λ e. slice_index_or ids.now (edge_at graph.now e).to 0) (tight_out graph.now point.now room.now vertex))) }
-{
-    for edge in room.next_hops(graph, point, vertex) {
-        push_hop(line, id_at(ids, far_end(graph, edge)))?;
+/// A graph at costs, the room with the least costs there to one end, and what names the vertices.
+#[derive(Clone, Copy)]
+pub struct RoutedGraph<'a> {
+    pub graph: &'a Graph,
+    pub point: &'a Point,
+    pub room: &'a Room,
+    pub ids: &'a [u32],
+}
+
+impl<'a> RoutedGraph<'a> {
+    /// Adds the IDs at the ends of the tight edges out of a vertex, in edge order, each behind a space.
+    pub fn push_hops(&self, line: &mut Vec<u8>, vertex: u32) -> Result<(), OutOfMemory>
+        requires room { IsRoomFor self.now.graph.now self.now.room.now }
+        requires fits { FitsPoint self.now.graph.now self.now.point.now }
+        requires vertex { vertex < length self.now.graph.now.vertices }
+        ensures { OnOk result (line.new.items ≡ line.old.items
+            ++ spaced_quads (map (λ e. slice_index_or self.now.ids.now (edge_at self.now.graph.now e).to 0)
+            (tight_out self.now.graph.now self.now.point.now self.now.room.now vertex))) }
+    {
+        for edge in self.room.next_hops(self.graph, self.point, vertex) {
+            push_hop(line, id_at(self.ids, far_end(self.graph, edge)))?;
+        }
+        Ok(())
     }
-    Ok(())
 }

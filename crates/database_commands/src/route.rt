@@ -11,7 +11,7 @@ ghost use Rattle.database_commands.specs.Routes.{IsRoute, MayRoute, route_read};
 ghost use Rattle.report_writer.specs.Reports.{bytes_in};
 
 use crate::database::check_router;
-use crate::hops::push_hops;
+use crate::hops::RoutedGraph;
 use crate::quads::push_quad;
 use crate::vertices::{vertex_ids, vertex_of};
 use area_graph::{Graph, Point};
@@ -35,25 +35,19 @@ fn fixed_costs(alloc: Global) -> Point
 }
 
 /// Adds what is found of a route that doesn't end where it starts: ` cost C first X ..`, or ` unreachable`.
-fn push_end(
-    line: &mut Vec<u8>,
-    graph: &Graph,
-    point: &Point,
-    room: &Room,
-    ids: &[u32],
-    start: u32,
-) -> Result<(), OutOfMemory>
-    requires room { IsRoomFor graph.now room.now }
-    requires fits { FitsPoint graph.now point.now }
-    requires start { start < length graph.now.vertices }
-    ensures { OnOk result (line.new.items ≡ line.old.items ++ end_by graph.now point.now room.now ids.now start) }
+fn push_end(line: &mut Vec<u8>, routed: &RoutedGraph, start: u32) -> Result<(), OutOfMemory>
+    requires room { IsRoomFor routed.now.graph.now routed.now.room.now }
+    requires fits { FitsPoint routed.now.graph.now routed.now.point.now }
+    requires start { start < length routed.now.graph.now.vertices }
+    ensures { OnOk result (line.new.items ≡ line.old.items
+        ++ end_by routed.now.graph.now routed.now.point.now routed.now.room.now routed.now.ids.now start) }
 {
-    match room.distance(start) {
+    match routed.room.distance(start) {
         Some(cost) => {
             push_bytes(line, b" cost ")?;
             push_number(line, cost)?;
             push_bytes(line, b" first")?;
-            push_hops(line, graph, point, room, ids, start)
+            routed.push_hops(line, start)
         }
         None => push_bytes(line, b" unreachable"),
     }
@@ -75,8 +69,14 @@ fn route_end(
     let point = fixed_costs(alloc);
     let mut room = Room::new(alloc, graph)?;
     room.distances_to(graph, &point, end);
+    let routed = RoutedGraph {
+        graph,
+        point: &point,
+        room: &room,
+        ids,
+    };
     let mut words = Vec::new(alloc);
-    push_end(&mut words, graph, &point, &room, ids, start)?;
+    push_end(&mut words, &routed, start)?;
     Ok(words)
 }
 

@@ -18,54 +18,11 @@ use request_reader::RequestFile;
 use std::alloc::Global;
 use wanted_paths::Names;
 
-/// The number of a link's variable: how many links with a variable of their own stand before its owner. These stand in
-/// order, so it is found by halving.
-fn variable_of(choices: &Choices, own: &[u32], number: u32, link: &Linked) -> u32
-    requires few { length own.now < 2 ^ 32 }
-    requires own { own.now ≡ owners choices.now.asked choices.now.database }
-    requires there { slice_get choices.now.database.links number ≡ Some link.now }
-    ensures { result ≡ variable_of choices.now.asked choices.now.database number }
-{
-    let owner = owner(choices, number, link);
-    own.partition_point(
-        |link: &u32| -> bool
-            ensures { result ≡ nat_lt link.now owner }
-        { *link < owner },
-    ) as u32
-}
-
 /// The present cost of a link's interface; the default of the requests where it has none, and 0 where they have none.
 pub fn present_cost(requests: &RequestFile, link: &Linked) -> u16
     ensures { result ≡ present_cost requests.now link.now }
 {
     link.cost.unwrap_or(requests.default_cost.unwrap_or(0))
-}
-
-/// The price of a link: its variable where it is free, else its present cost.
-fn price_of(choices: &Choices, own: &[u32], number: u32, link: &Linked) -> Price
-    requires few { length own.now < 2 ^ 32 }
-    requires own { own.now ≡ owners choices.now.asked choices.now.database }
-    requires there { slice_get choices.now.database.links number ≡ Some link.now }
-    ensures { result ≡ price_of choices.now.asked choices.now.database number link.now (range_of choices.now.asked choices.now.database link.now) }
-{
-    match choices.range_of(number) {
-        Range::Within(_, _) => Price::Var(variable_of(choices, own, number, link)),
-        Range::AsItIs => Price::Fixed(present_cost(choices.requests(), link)),
-    }
-}
-
-/// The prices of the links, in order.
-fn prices(alloc: Global, choices: &Choices, own: &[u32]) -> Result<Vec<Price>, OutOfMemory>
-    requires few { length own.now < 2 ^ 32 }
-    requires own { own.now ≡ owners choices.now.asked choices.now.database }
-    ensures { IfOk result (λ made. made.items ≡ prices_from choices.now.asked choices.now.database 0 choices.now.database.links) }
-{
-    let mut made = Vec::new(alloc);
-    for (i, link) in choices.links().iter().enumerate() {
-        let price = price_of(choices, own, i as u32, link);
-        made.push(price)?;
-    }
-    Ok(made)
 }
 
 /// The name of a link with the number of its variable.
@@ -79,44 +36,90 @@ fn name_of(alloc: Global, names: &Names, link: &Linked, var: u32) -> Result<VarN
     })
 }
 
-/// Appends the name of a link, where it is free.
-fn push_name(
-    alloc: Global,
-    choices: &Choices,
-    own: &[u32],
-    number: u32,
-    link: &Linked,
-    made: &mut Vec<VarName>,
-) -> Result<(), OutOfMemory>
-    requires few { length own.now < 2 ^ 32 }
-    requires own { own.now ≡ owners choices.now.asked choices.now.database }
-    requires there { slice_get choices.now.database.links number ≡ Some link.now }
-    ensures { OnOk result (made.new.items ≡ made.old.items ++ (if is_free (range_of choices.now.asked choices.now.database link.now) then
-        record {
-          router = slice_index_or choices.now.database.routers link.now.router [];
-          interface = link.now.interface;
-          var = variable_of choices.now.asked choices.now.database number;
-        } ∷ [] else [])) }
-{
-    if is_free(choices.range_of(number)) {
-        let var = variable_of(choices, own, number, link);
-        let name = name_of(alloc, choices.names(), link, var)?;
-        made.push(name)?;
-    }
-    Ok(())
+/// Choices, and the links with a variable of their own in order, by which the variables are numbered.
+#[derive(Drop)]
+struct Numbering<'a> {
+    choices: &'a Choices<'a>,
+    own: &'a [u32],
+    ghost few: { length own.now < 2 ^ 32 },
+    ghost all: { own.now ≡ owners choices.now.asked choices.now.database },
 }
 
-/// The names of the free links, in order, each with the number of its variable.
-fn var_names(alloc: Global, choices: &Choices, own: &[u32]) -> Result<Vec<VarName>, OutOfMemory>
-    requires few { length own.now < 2 ^ 32 }
-    requires own { own.now ≡ owners choices.now.asked choices.now.database }
-    ensures { IfOk result (λ made. made.items ≡ names_from choices.now.asked choices.now.database 0 choices.now.database.links) }
-{
-    let mut made = Vec::new(alloc);
-    for (i, link) in choices.links().iter().enumerate() {
-        push_name(alloc, choices, own, i as u32, link, &mut made)?;
+impl<'a> Numbering<'a> {
+    /// The number of a link's variable: how many links with a variable of their own stand before its owner. These stand
+    /// in order, so it is found by halving.
+    fn variable_of(&self, number: u32, link: &Linked) -> u32
+        requires { slice_get self.now.choices.now.database.links number ≡ Some link.now }
+        ensures { result ≡ variable_of self.now.choices.now.asked self.now.choices.now.database number }
+    {
+        let owner = owner(self.choices, number, link);
+        self.own.partition_point(
+            |link: &u32| -> bool
+                ensures { result ≡ nat_lt link.now owner }
+            { *link < owner },
+        ) as u32
     }
-    Ok(made)
+
+    /// The price of a link: its variable where it is free, else its present cost.
+    fn price_of(&self, number: u32, link: &Linked) -> Price
+        requires { slice_get self.now.choices.now.database.links number ≡ Some link.now }
+        ensures { result ≡ price_of self.now.choices.now.asked self.now.choices.now.database number link.now
+            (range_of self.now.choices.now.asked self.now.choices.now.database link.now) }
+    {
+        match self.choices.range_of(number) {
+            Range::Within(_, _) => Price::Var(self.variable_of(number, link)),
+            Range::AsItIs => Price::Fixed(present_cost(self.choices.requests(), link)),
+        }
+    }
+
+    /// The prices of the links, in order.
+    fn prices(&self, alloc: Global) -> Result<Vec<Price>, OutOfMemory>
+        ensures { IfOk result (λ made. made.items ≡
+            prices_from self.now.choices.now.asked self.now.choices.now.database 0 self.now.choices.now.database.links) }
+    {
+        let mut made = Vec::new(alloc);
+        for (i, link) in self.choices.links().iter().enumerate() {
+            let price = self.price_of(i as u32, link);
+            made.push(price)?;
+        }
+        Ok(made)
+    }
+
+    /// Appends the name of a link, where it is free.
+    fn push_name(
+        &self,
+        alloc: Global,
+        number: u32,
+        link: &Linked,
+        made: &mut Vec<VarName>,
+    ) -> Result<(), OutOfMemory>
+        requires { slice_get self.now.choices.now.database.links number ≡ Some link.now }
+        ensures { OnOk result (made.new.items ≡ made.old.items ++ (if is_free (range_of self.now.choices.now.asked self.now.choices.now.database link.now) then
+            record {
+              router = slice_index_or self.now.choices.now.database.routers link.now.router [];
+              interface = link.now.interface;
+              var = variable_of self.now.choices.now.asked self.now.choices.now.database number;
+            } ∷ [] else [])) }
+    {
+        if is_free(self.choices.range_of(number)) {
+            let var = self.variable_of(number, link);
+            let name = name_of(alloc, self.choices.names(), link, var)?;
+            made.push(name)?;
+        }
+        Ok(())
+    }
+
+    /// The names of the free links, in order, each with the number of its variable.
+    fn var_names(&self, alloc: Global) -> Result<Vec<VarName>, OutOfMemory>
+        ensures { IfOk result (λ made. made.items ≡
+            names_from self.now.choices.now.asked self.now.choices.now.database 0 self.now.choices.now.database.links) }
+    {
+        let mut made = Vec::new(alloc);
+        for (i, link) in self.choices.links().iter().enumerate() {
+            self.push_name(alloc, i as u32, link, &mut made)?;
+        }
+        Ok(made)
+    }
 }
 
 /// The problem of requests whose lines have no fault, with their paths and the links with a variable of their own.
@@ -136,9 +139,10 @@ pub fn assemble(
 {
     let _requests = choices.requests();
     let _links = choices.links();
-    let prices = prices(alloc, choices, own)?;
+    let numbering = Numbering { choices, own };
+    let prices = numbering.prices(alloc)?;
     let graph = choices.names().graph(alloc, prices.as_slice())?;
-    let vars = var_names(alloc, choices, own)?;
+    let vars = numbering.var_names(alloc)?;
     let low = low_bounds(alloc, choices, own)?;
     let high = high_bounds(alloc, choices, own)?;
     Ok(Problem {
