@@ -193,7 +193,7 @@ def check_names(claims):
 
 # Refusal numbers.
 
-NUMBER = re.compile(r"^[a-z_]*number_of[a-z_]* .*= (\d+)$")
+NUMBER = re.compile(r"^[a-z_]*(?:number_of|fault_number)[a-z_]* .*= (\d+)$")
 TABLE = re.compile(r"^[a-z_]+ .*= (\d+)$")
 
 
