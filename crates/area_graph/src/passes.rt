@@ -74,12 +74,7 @@ fn pass(subgraph: &Subgraph<'_>, distances: &mut Vec<u128>) -> bool
 
 /// Puts each vertex's least cost of a walk to the target into its place, where that is below a limit, and the limit into
 /// each other place. Takes no memory; it takes time in proportion to the edges for each pass.
-pub fn put_distances(
-    subgraph: &Subgraph<'_>,
-    target: u32,
-    limit: u128,
-    distances: &mut Vec<u128>,
-)
+pub fn put_distances(subgraph: &Subgraph<'_>, target: u32, limit: u128, distances: &mut Vec<u128>)
     requires fits { FitsSubgraph subgraph.now }
     requires target { target < length subgraph.now.graph.now.vertices }
     requires limit { limit ≤ far subgraph.now.point.now }
