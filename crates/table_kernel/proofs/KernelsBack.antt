@@ -1,6 +1,6 @@
 -- A kernel whose lines were read back from the table in fractions.
 use Rattle.std.specs.declared.alloc.Global.{Global}
-use Rattle.std.proofs.Common.{Vec, ◌≡◌, ℕ, ◌^◌, ◌≤◌, sym, subst, List, length}
+use Rattle.std.proofs.Common.{Vec, ◌≡◌, ℕ, ◌^◌, ◌≤◌, refl, sym, ◌∙◌, subst, List, map, length}
 use Rattle.std.specs.Prelude.{ℤ, nat_abs, All}
 use Rattle.std.specs.Vec.{with_items}
 use Rattle.whole_numbers.proofs.Sizes.{size_positive}
@@ -16,7 +16,8 @@ use Rattle.integer_pivots.proofs.Sizes.{read}
 use Rattle.table_kernel.specs.declared.kernel.Kernel.{Kernel}
 use Rattle.table_kernel.specs.Bases.{AreAtBasis}
 use Rattle.table_kernel.specs.Constants.{AreConstantsPut, KeepsAllButConstants}
-use Rattle.table_kernel.specs.Kernels.{IsBounded, IsKernel, IsMoving, IsShaped, lows_of, width_of}
+use Rattle.table_kernel.specs.Kernels.{IsBounded, IsKernel, IsMoving, IsShaped, kernel_lines, lows_of, width_of}
+use Rattle.table_kernel.specs.Numbers.{fraction_lines, scaled_line}
 use Rattle.table_kernel.specs.ReadBack.{IsLeastCommon, IsParked}
 use Rattle.table_kernel.specs.Rows.{IsCovered}
 use Rattle.table_kernel.specs.Turns.{KeepsAllButLows}
@@ -24,7 +25,8 @@ use Rattle.table_kernel.proofs.FittingConstants.{FitsIn}
 use Rattle.table_kernel.proofs.Lines.{read_common}
 use Rattle.table_kernel.proofs.OtherLines.{bounded_with, leads_are, shaped_with, with_leads}
 use Rattle.table_kernel.proofs.PutKernels.{put_kernel}
-use Rattle.table_kernel.proofs.ReadBases.{AreReadFrom, read_basis}
+use Rattle.table_kernel.proofs.ReadBases.{AreReadFrom, read_basis, rows_crossed}
+use Rattle.table_kernel.proofs.ReadTables.{lines_same}
 
 -- other lines of a kernel, as many and as long as before, with their leads
 pub record HasLines (k h : Kernel) (leads : Vec ℕ Global) : Type 0 where
@@ -101,3 +103,15 @@ module _ (k h : Kernel) (leads : Vec ℕ Global) (z : ℤ) (p : IsParked k) (r :
       put_kernel (with_leads h leads z) n (moving_back top rows w told f)
       (subst (λ (t : Table). IsBox (length t.costs.low) t.costs) (sym r.keeps.table) w.box)
       (subst (λ (t : Table). All (FitsBox t.costs) t.rows.items) (sym r.keeps.table) w.fit) put small keeps
+
+  -- and it stands for the lines of the table that was read
+  pub lines_back : (n : Kernel) → IsTableau k.table → AreReadFrom k.table h.lows.items → AreFitting h z →
+      KeepsAllButConstants (with_leads h leads z) n → kernel_lines n ≡ k.table.lines.items
+  lines_back n w told f keeps =
+      let lows = map (scaled_line (nat_abs z)) h.lows.items in
+      let same : kernel_lines n ≡ fraction_lines (nat_abs z) k.table.costs k.table.rows.items lows =
+      rw (keeps.table, keeps.common, keeps.lows, r.keeps.table) refl in
+      let some = size_positive z f.least.positive in
+      same
+      ∙ lines_same k.table w (nat_abs z) lows some
+      (rows_crossed k.table w h.lows.items (nat_abs z) r.count r.each told f.least.multiple)

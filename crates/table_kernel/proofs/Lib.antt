@@ -52,5 +52,6 @@ pub mod ReadLines
 pub mod ReadSteps
 pub mod ParkedKernels
 pub mod ReadBases
+pub mod ReadTables
 pub mod ReadRefusals
 pub mod KernelsBack

@@ -92,7 +92,7 @@ module _ (t : Table) (w : IsTableau t) (lines : List Line) (C : ℕ) (many : len
       (ts_long ∙ sym wide)
       (λ place place_in. low_line_stands t.top t.costs t.rows.items t.basis.items t.lines.items w v place there (omega (arith, place_in, wide)))
 
-  rows_crossed : map (scaled_by w.unboxed.common) (map (scaled_line C) lines) ≡ map (scaled_by C) lows
+  pub rows_crossed : map (scaled_by w.unboxed.common) (map (scaled_line C) lines) ≡ map (scaled_by C) lows
   rows_crossed =
       let D = w.unboxed.common in
       let news = map (scaled_line C) lines in

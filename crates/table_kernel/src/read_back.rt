@@ -8,7 +8,7 @@ ghost use Rattle.fraction_table.specs.Tableaus.{FitsBox};
 ghost use Rattle.fraction_table.specs.ValidTables.{IsTableau};
 ghost use Rattle.integer_pivots.specs.Lines.{IsLine};
 ghost use Rattle.integer_pivots.specs.Numbers.{AllWithin};
-ghost use Rattle.table_kernel.specs.Kernels.{IsKernel, IsShaped, width_of};
+ghost use Rattle.table_kernel.specs.Kernels.{IsKernel, IsShaped, kernel_lines, width_of};
 ghost use Rattle.table_kernel.specs.Numbers.{share_of};
 ghost use Rattle.table_kernel.specs.ReadBack.{AllGoInto, FitsOver, IsLeastCommon, IsLeastDenominator, IsParked, IsReadFrom, MayReadBack, low_row, over_denominator};
 ghost use Rattle.table_kernel.specs.Rows.{IsCovered};
@@ -198,6 +198,7 @@ impl Kernel {
         ensures table { self.new.table ≡ self.old.table }
         ensures parked { IsParked self.new }
         ensures kernel { OnOk result (IsKernel self.new) }
+        ensures lines { OnOk result (kernel_lines self.new ≡ self.old.table.lines.items) }
         ensures refused { OnErr result (MayReadBack self.old.table → ⊥) }
     {
         if !self.covers_rows() {

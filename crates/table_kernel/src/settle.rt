@@ -1,9 +1,10 @@
 //! The work towards an answer: pivots, until the constants show one.
-ghost use Rattle.std.specs.Prelude.{◌+◌, ◌<◌, ◌↔◌, ◌⊎◌, length, pos, ◌<ℤ◌, IsTrue, IfOk, OnErr};
+ghost use Rattle.std.specs.Prelude.{◌+◌, ◌<◌, ◌≤◌, ◌↔◌, ◌⊎◌, length, pos, ◌<ℤ◌, IsTrue, IfOk, OnErr};
 ghost use Rattle.whole_numbers.specs.Lists.{number_at};
 ghost use Rattle.fraction_table.specs.declared.stage.Stage.TheVariants.{Ended};
 ghost use Rattle.fraction_table.specs.PivotForms.{IsFirstFound, IsPivotFormFound, IsShortestFound, row_constant};
 ghost use Rattle.fraction_table.specs.Pivots.{IsAhead, KeepsBoxAndRows};
+ghost use Rattle.fraction_table.specs.Ranks.{rank};
 ghost use Rattle.fraction_table.specs.ValidTables.{IsShown};
 ghost use Rattle.table_kernel.specs.Kernels.{IsKernel, kernel_lines, stated, width_of};
 ghost use Rattle.table_kernel.specs.Lines.{IsLineTooLarge, IsPivotPlace, KeepsNumbers};
@@ -109,12 +110,13 @@ impl Kernel {
     ///
     /// # Errors
     ///
-    /// `OutOfRange` where the bounds don't cover that pivot.
+    /// `OutOfRange` where the bounds don't cover that pivot. Then the kernel's numbers are as before.
     fn advance(&mut self) -> Result<Option<Solved>, OutOfRange>
         requires kernel { IsKernel self.old }
         ensures kernel { IsKernel self.new }
         ensures ahead { IfOk result (λ solved. IsAhead (stated self.old) (stated self.new) solved) }
         ensures keeps { KeepsBoxAndRows (stated self.old) (stated self.new) }
+        ensures same { OnErr result (KeepsNumbers self.old self.new) }
         ensures held_up { OnErr result (IsHeldUp self.new) }
     {
         match self.pivot_form() {
@@ -135,6 +137,7 @@ impl Kernel {
         ensures shown { IfOk result (λ solved. IsShown self.new.table.basis.items (kernel_lines self.new) (Ended solved)) }
         ensures keeps { KeepsBoxAndRows (stated self.old) (stated self.new) }
         ensures held_up { OnErr result (IsHeldUp self.new) }
+        ensures risen { OnErr result (rank (stated self.old) ≤ rank (stated self.new)) }
     {
         'pivots: loop {
             if let Some(solved) = self.advance()? {

@@ -3,7 +3,7 @@ use Rattle.std.specs.Vec.{with_items}
 use Rattle.integer_pivots.proofs.FailedTests.{failed}
 use Rattle.integer_pivots.proofs.Sizes.{read}
 use Rattle.table_kernel.specs.Kernels.{IsKernel}
-use Rattle.table_kernel.proofs.KernelsBack.{AreFitting, HasLines, bounded_back, fitting, has_lines, kernel_back, least_read, parked_back, shaped_back}
+use Rattle.table_kernel.proofs.KernelsBack.{AreFitting, HasLines, bounded_back, fitting, has_lines, kernel_back, least_read, lines_back, parked_back, shaped_back}
 use Rattle.table_kernel.proofs.ReadRefusals.{common_found, constants_found}
 use Rattle.table_kernel.proofs.kernel.Kernel.read_back.Goals.{After-put_constants, Else-not-constants_fit, In_ok-read}
 use Rattle.table_kernel.proofs.kernel.Kernel.read_back.Goals as goal
@@ -72,3 +72,10 @@ pub returns-clause-kernel : goal.returns-clause-kernel
 returns-clause-kernel c =
     let at = goal.at.returns-clause-kernel c in
     kernel at.After-put_constants (lines at.In_ok-read) (fits at.Else-not-constants_fit)
+
+pub returns-clause-lines : goal.returns-clause-lines
+returns-clause-lines c =
+    let at = goal.at.returns-clause-lines c in
+    let h = c.read_lines-read.new.self in
+    lines_back c.args.self.now h (with_items h.leads c.put_leads.new.leads) (read c.in-Some.common) c.requires.parked (lines at.In_ok-read)
+    c.put_constants.new.self c.requires.whole c.in_ok-read.ensures.read (fits at.Else-not-constants_fit) c.put_constants.ensures.keeps
