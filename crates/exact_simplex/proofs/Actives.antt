@@ -59,13 +59,6 @@ started false k s kernel parked = record {
   room = s.room;
 }
 
--- the table in fractions shows its answer where it is worked on
-pub shown_beside : (b : Bool) (k : Kernel) (found : Result Solved Wide) → b ≡ false →
-    IfOk found (λ solved. IsShown k.table.basis.items k.table.lines.items (Ended solved)) →
-    IfOk found (λ solved. IsShown k.table.basis.items (table_in b k).lines.items (Ended solved))
-shown_beside true k found is shown = absurd (clash (sym is))
-shown_beside false k found is shown = shown
-
 -- a kernel that stopped was held up
 pub was_held_up : (old new : Kernel) (found : Result Solved OutOfRange) (out : OutOfRange) → found ≡ Err out →
     IsKernel new → KeepsBoxAndRows (stated old) (stated new) → OnErr found (IsHeldUp new) → WasHeldUp (held_of old.table Open)
@@ -204,14 +197,14 @@ room_made false old new t k parks stage s =
       room = room_same old.table new.table t s.room;
     }
 
-shown_in : (b : Bool) (k : Kernel) (solved : Solved) →
+pub shown_in : (b : Bool) (k : Kernel) (solved : Solved) →
     IsShown k.table.basis.items (table_in b k).lines.items (Ended solved) →
     IsShown (table_in b k).basis.items (table_in b k).lines.items (Ended solved)
 shown_in true k solved shown = shown
 shown_in false k solved shown = shown
 
 -- an active table of the same forms
-forms_in : (b : Bool) (k : Kernel) (old : Table) → KeepsBoxAndRows old k.table → KeepsBoxAndRows old (table_in b k)
+pub forms_in : (b : Bool) (k : Kernel) (old : Table) → KeepsBoxAndRows old k.table → KeepsBoxAndRows old (table_in b k)
 forms_in true k old keeps = record { top = keeps.top; costs = keeps.costs; rows = keeps.rows }
 forms_in false k old keeps = keeps
 

@@ -5,11 +5,9 @@ use Rattle.std.specs.Prelude.{Result, OnOk, vec_capacity}
 use Rattle.std.specs.Result.{is_ok}
 use Rattle.std.proofs.lemmas.List.{get_or_default}
 use Rattle.whole_numbers.specs.Fractions.{Fraction}
-use Rattle.wide_fraction.specs.declared.steps.Wide.{Wide}
 use Rattle.design_problem.specs.declared.form.CostBox.{CostBox}
 use Rattle.design_problem.specs.declared.form.Form.{Form}
 use Rattle.design_problem.specs.Boxes.{IsBox}
-use Rattle.fraction_table.specs.declared.stage.Solved.{Solved}
 use Rattle.fraction_table.specs.declared.stage.Stage.TheVariants.{Open}
 use Rattle.fraction_table.specs.declared.table.Table.{Table}
 use Rattle.fraction_table.specs.Pivots.{KeepsBoxAndRows}
@@ -68,13 +66,12 @@ rebased_keeps : (old new : Held) (costs : CostBox) → IsRebased old costs new �
 rebased_keeps old new costs (inl is) = (ap (λ (h : Held). h.costs) is, ap (λ (h : Held). h.rows) is)
 rebased_keeps old new costs (inr is) = (ap (λ (h : Held). h.costs) is.1, ap (λ (h : Held). h.rows) is.1)
 
--- the table in fractions is whole after its steps, where they aren't too wide
-pub settled_beside : (a : ActiveTable) (t : Table) (found : Result Solved Wide) → a.in_kernel ≡ false → IsActive a →
-    KeepsBoxAndRows a.kernel.table t → HasRoom t → OnOk found (IsTableau t) →
-    OnOk found (IsActive (record { kernel = record a.kernel { table = t }; in_kernel = a.in_kernel }))
-settled_beside a t (Ok solved) out active keeps room w =
+-- the table in fractions is whole after a step that isn't too wide
+pub stepped_beside : (a : ActiveTable) (t : Table) → a.in_kernel ≡ false → IsActive a →
+    KeepsBoxAndRows a.kernel.table t → HasRoom t → IsTableau t →
+    IsActive (record { kernel = record a.kernel { table = t }; in_kernel = a.in_kernel })
+stepped_beside a t out active keeps room w =
     beside a.in_kernel a.kernel t out active.parked w room (ap (λ (costs : CostBox). length costs.low) keeps.costs) keeps.rows
-settled_beside a t (Err wide) out active keeps room w = tt
 
 -- and after a move to another box
 pub moved_beside : (a : ActiveTable) (t : Table) (costs : CostBox) → a.in_kernel ≡ false → IsActive a →

@@ -1,5 +1,5 @@
-//! The table that a tableau works on: the kernel, and from a step that its bounds don't cover the table in fractions, up
-//! to the first box at which its numbers fit again.
+//! The table that a tableau works on: the kernel, and for a step that its bounds don't cover the
+//! table in fractions, until its numbers fit again.
 ghost use Rattle.std.specs.Prelude.{◌≡◌, suc, ◌^◌, ◌<◌, ◌≤◌, ◌↔◌, ◌++◌, [], ◌∷◌, length, true, false, All, IfErr, IfOk, IsTrue, OnErr, OnOk};
 ghost use Rattle.design_problem.specs.Boxes.{IsBox, Refutes};
 ghost use Rattle.design_problem.specs.Earnest.{IsLeastPoint};
@@ -9,9 +9,10 @@ ghost use Rattle.fraction_rows.specs.TableRows.{blank_row};
 ghost use Rattle.fraction_table.specs.declared.stage.Stage.{Stage};
 ghost use Rattle.fraction_table.specs.declared.stage.Stage.TheVariants.{Ended, Open};
 ghost use Rattle.fraction_table.specs.Multipliers.{IsWideAtBasis};
-ghost use Rattle.fraction_table.specs.Pivots.{AreHigh, KeepsBoxAndRows, line_at};
+ghost use Rattle.fraction_table.specs.Pivots.{AreHigh, IsAhead, KeepsBoxAndRows, line_at};
 ghost use Rattle.fraction_table.specs.Tableaus.{FitsBox, IsRebased, starting, wide_at};
 ghost use Rattle.fraction_table.specs.ValidTables.{HasRoom, IsShown, held_of};
+ghost use Rattle.table_kernel.specs.Kernels.{kernel_lines};
 ghost use Rattle.table_kernel.specs.Moves.{MayMove, box_distance};
 ghost use Rattle.table_kernel.specs.Rows.{HasRowPlace, IsCovered};
 ghost use Rattle.exact_simplex.specs.Actives.{IsActive, IsSoundActive, MayReturn, WasHeldUp, table_of};
@@ -85,6 +86,7 @@ impl ActiveTable {
         ensures left { self.new.in_kernel ≡ false }
         ensures keeps { KeepsBoxAndRows self.old.kernel.table self.new.kernel.table }
         ensures basis { self.new.kernel.table.basis.items ≡ self.old.kernel.table.basis.items }
+        ensures lines { self.new.kernel.table.lines.items ≡ kernel_lines self.old.kernel }
         ensures place { HasRowPlace self.old.kernel → HasRowPlace self.new.kernel }
     {
         self.kernel.restate();
@@ -97,6 +99,7 @@ impl ActiveTable {
         requires fractions { self.old.in_kernel ≡ false }
         ensures active { IsActive self.new }
         ensures table { self.new.kernel.table ≡ self.old.kernel.table }
+        ensures lines { (table_of self.new).lines.items ≡ self.old.kernel.table.lines.items }
         ensures back { MayReturn self.old.kernel.table → self.new.in_kernel ≡ true }
     {
         if is_wide(self.kernel.table.top) {
@@ -137,25 +140,57 @@ impl ActiveTable {
         self.kernel.park_row(row)
     }
 
-    /// Works on the table in fractions until it shows the answer.
+    /// One step in fractions: the answer, where the lines show it, and else a pivot. Behind it the
+    /// kernel works again, where its bounds cover the table.
     ///
     /// # Errors
     ///
-    /// `Wide` where a step makes a whole number that passes the top; it is one at the basis that is left.
-    fn settle_in_fractions(&mut self) -> Result<Solved, Wide>
+    /// `Wide` where a step makes a whole number that passes the top; it is one at the basis that
+    /// is left.
+    fn advance(&mut self) -> Result<Option<Solved>, Wide>
         requires active { IsActive self.old }
         requires fractions { self.old.in_kernel ≡ false }
         ensures active { OnOk result (IsActive self.new) }
-        ensures shown { IfOk result (λ solved. IsShown self.new.kernel.table.basis.items (table_of self.new).lines.items (Ended solved)) }
+        ensures ahead { IfOk result (λ solved. IsAhead self.old.kernel.table (table_of self.new) solved) }
         ensures keeps { KeepsBoxAndRows self.old.kernel.table self.new.kernel.table }
         ensures room { HasRoom self.new.kernel.table }
         ensures wide { IfErr result (λ wide.
             IsStepTooWide self.new.kernel.table.top self.new.kernel.table.costs self.new.kernel.table.rows.items (wide_at wide self.new.kernel.table.basis.items)) }
     {
-        self.kernel.table.settle()
+        let solved = self.kernel.table.advance()?;
+        self.return_to_kernel();
+        Ok(solved)
     }
 
-    /// Works until the table shows the answer: in the kernel, unless its bounds don't cover a pivot that is due.
+    /// Works in the kernel as far as its bounds cover the pivots that are due, and makes the one that
+    /// they don't cover in fractions.
+    ///
+    /// # Errors
+    ///
+    /// `Wide` where a step makes a whole number that passes the top; it is one at the basis that
+    /// is left.
+    fn work(&mut self) -> Result<Option<Solved>, Wide>
+        requires active { IsActive self.old }
+        ensures active { OnOk result (IsActive self.new) }
+        ensures left { self.old.in_kernel ≡ true → self.new.in_kernel ≡ false → WasHeldUp (held_of self.old.kernel.table Open) }
+        ensures ahead { IfOk result (λ solved. IsAhead (table_of self.old) (table_of self.new) solved) }
+        ensures keeps { KeepsBoxAndRows self.old.kernel.table self.new.kernel.table }
+        ensures room { HasRoom self.new.kernel.table }
+        ensures wide { IfErr result (λ wide.
+            IsStepTooWide self.new.kernel.table.top self.new.kernel.table.costs self.new.kernel.table.rows.items (wide_at wide self.new.kernel.table.basis.items)) }
+    {
+        // The kernel works until a pivot is due that its bounds don't cover.
+        if self.in_kernel {
+            match self.kernel.settle() {
+                Ok(solved) => return Ok(Some(solved)),
+                Err(_) => self.leave_kernel(),
+            }
+        }
+        self.advance()
+    }
+
+    /// Works until the table shows the answer: in the kernel, but for each pivot that its bounds
+    /// don't cover, and where they don't cover the table behind it.
     ///
     /// # Errors
     ///
@@ -170,14 +205,11 @@ impl ActiveTable {
         ensures wide { IfErr result (λ wide.
             IsStepTooWide self.new.kernel.table.top self.new.kernel.table.costs self.new.kernel.table.rows.items (wide_at wide self.new.kernel.table.basis.items)) }
     {
-        // The kernel works until a pivot is due that its bounds don't cover.
-        if self.in_kernel {
-            match self.kernel.settle() {
-                Ok(solved) => return Ok(solved),
-                Err(_) => self.leave_kernel(),
+        'rounds: loop {
+            if let Some(solved) = self.work()? {
+                return Ok(solved);
             }
         }
-        self.settle_in_fractions()
     }
 
     /// Puts the corner, at which the basis is 0, in place of a point.

@@ -1,11 +1,10 @@
-//! The work towards an answer: pivots, until the lines show one.
+//! The work towards an answer, a pivot at a time, until the lines show one.
 ghost use Rattle.std.specs.Prelude.{◌+◌, ◌<◌, ◌↔◌, ◌<ℤ◌, length, pos, IsTrue, IfErr, IfOk, OnOk};
 ghost use Rattle.design_problem.specs.Steps.{IsStepTooWide};
-ghost use Rattle.fraction_table.specs.declared.stage.Stage.TheVariants.{Ended};
 ghost use Rattle.fraction_table.specs.PivotForms.{IsFirstFound, IsPivotFormFound, IsPivotLine, IsShortestFound, row_constant, sign_at};
 ghost use Rattle.fraction_table.specs.Pivots.{IsAhead, KeepsBoxAndRows};
 ghost use Rattle.fraction_table.specs.Tableaus.{wide_at};
-ghost use Rattle.fraction_table.specs.ValidTables.{HasRoom, IsShown, IsTableau};
+ghost use Rattle.fraction_table.specs.ValidTables.{HasRoom, IsTableau};
 
 use crate::Solved;
 use crate::shortest::shorter_row;
@@ -107,6 +106,10 @@ impl Table {
     }
 
     /// One step towards the answer: the answer, where the lines show it, and else a pivot at the pivot form's line.
+    ///
+    /// # Errors
+    ///
+    /// `Wide` where the step makes a whole number that passes the top; it is one at the basis that is left.
     pub fn advance(&mut self) -> Result<Option<Solved>, Wide>
         requires whole { IsTableau self.old }
         requires room { HasRoom self.old }
@@ -119,27 +122,6 @@ impl Table {
         match self.pivot_form() {
             None => Ok(Some(Solved::Feasible)),
             Some(line) => self.raise(line),
-        }
-    }
-
-    /// Turns the table until its lines show the answer.
-    ///
-    /// # Errors
-    ///
-    /// `Wide` where a step makes a whole number that passes `top`; it is one at the basis that is left.
-    pub fn settle(&mut self) -> Result<Solved, Wide>
-        requires whole { IsTableau self.old }
-        requires room { HasRoom self.old }
-        ensures whole { OnOk result (IsTableau self.new) }
-        ensures shown { IfOk result (λ solved. IsShown self.new.basis.items self.new.lines.items (Ended solved)) }
-        ensures keeps { KeepsBoxAndRows self.old self.new }
-        ensures room { HasRoom self.new }
-        ensures wide { IfErr result (λ wide. IsStepTooWide self.new.top self.new.costs self.new.rows.items (wide_at wide self.new.basis.items)) }
-    {
-        'pivots: loop {
-            if let Some(solved) = self.advance()? {
-                return Ok(solved);
-            }
         }
     }
 }

@@ -1,29 +1,37 @@
--- The kernel's answer is shown by the table that it stands for; where it stops it is held up.
-use Rattle.std.proofs.Common.{subst, sym, ◌∙◌}
-use Rattle.std.specs.Prelude.{Result, IfOk}
-use Rattle.fraction_table.specs.declared.stage.Solved.{Solved}
-use Rattle.fraction_table.specs.declared.stage.Stage.TheVariants.{Ended}
-use Rattle.fraction_table.specs.ValidTables.{IsShown}
-use Rattle.table_kernel.specs.declared.kernel.OutOfRange.{OutOfRange}
-use Rattle.table_kernel.specs.Kernels.{kernel_lines}
-use Rattle.exact_simplex.proofs.Actives.{clash, kernel_shown, was_held_up}
-use Rattle.exact_simplex.proofs.active.ActiveTable.settle.Goals.{then-self+in-Err, else-self}
+-- The rank rises with each round, and why the kernel was left in one is why it was left in all.
+use Rattle.std.proofs.Common.{subst}
+use Rattle.fraction_table.specs.Pivots.{IsAhead}
+use Rattle.fraction_table.proofs.Ranks.{nearer}
+use Rattle.exact_simplex.specs.Actives.{table_of}
+use Rattle.exact_simplex.proofs.Rounds.{forms_between, keeps_both, left_then}
 use Rattle.exact_simplex.proofs.active.ActiveTable.settle.Goals as goal
 
-pub settle-requires : goal.settle-requires
-settle-requires c = record { kernel = c.requires.active.kernel c.if-self.true }
+pub returns-in_err-solved-clause-left : goal.returns-in_err-solved-clause-left
+returns-in_err-solved-clause-left c was_in =
+    let i = c.rounds.invariant in
+    left_then c.rounds.self.in_kernel c.args.self.now.kernel.table c.rounds.self.kernel.table c.work.new.self.in_kernel i.keeps (i.left was_in)
+    c.in_err-solved.ensures.left
 
-pub returns-in-Ok-clause-shown : goal.returns-in-Ok-clause-shown
-returns-in-Ok-clause-shown c =
-    kernel_shown c.args.self.now.in_kernel c.settle.new.self c.in-Ok.solved c.if-self.true c.settle.ensures.kernel
-    (subst (λ (r : Result Solved OutOfRange).
-    IfOk r (λ solved. IsShown c.settle.new.self.table.basis.items (kernel_lines c.settle.new.self) (Ended solved)))
-    c.in-Ok.is c.settle.ensures.shown)
+pub returns-in-Some-clause-left : goal.returns-in-Some-clause-left
+returns-in-Some-clause-left c was_in =
+    let i = c.rounds.invariant in
+    left_then c.rounds.self.in_kernel c.args.self.now.kernel.table c.rounds.self.kernel.table c.work.new.self.in_kernel i.keeps (i.left was_in)
+    c.in_ok-solved.ensures.left
 
-pub returns-clause-left : goal.returns-clause-left
-returns-clause-left c was_in is_out =
-    elim c.if-self.branch [
-      | then-self+in-Err w ↦ was_held_up c.args.self.now.kernel w.settle.new.self w.settle.result _ w.in-Err.is
-          w.settle.ensures.kernel w.settle.ensures.keeps w.settle.ensures.held_up
-      | else-self w ↦ absurd (clash (sym w.if-self.false ∙ was_in))
-    ]
+pub rounds-smaller : goal.rounds-smaller
+rounds-smaller c =
+    let old = c.rounds.self in
+    let new = c.work.new.self in
+    nearer (table_of old) (table_of new) c.in_ok-solved.ensures.active.whole (forms_between old new c.in_ok-solved.ensures.keeps)
+    (subst (IsAhead (table_of old) (table_of new)) c.in_default.is c.in_ok-solved.ensures.ahead)
+
+pub rounds-preserved : goal.rounds-preserved
+rounds-preserved c =
+    let i = c.rounds.invariant in
+    let told = c.in_ok-solved.ensures in
+    record {
+      active = told.active;
+      keeps = keeps_both c.args.self.now.kernel.table c.rounds.self.kernel.table c.work.new.self.kernel.table i.keeps told.keeps;
+      left = λ was_in. left_then c.rounds.self.in_kernel c.args.self.now.kernel.table c.rounds.self.kernel.table c.work.new.self.in_kernel i.keeps
+          (i.left was_in) told.left;
+    }
