@@ -95,6 +95,12 @@ pub cannot_return : (a : ActiveTable) (stage : Stage) → IsActive a → (a.in_k
 cannot_return a stage active back is_out =
     record { table = a.kernel.table; whole = whole_beside a.in_kernel a.kernel is_out active.whole; holds = refl; beyond = back is_out }
 
+-- the same where an answer was found
+pub cannot_return_then : (settled : Result Solved Wide) (a : ActiveTable) (stage : Stage) → OnOk settled (IsActive a) →
+    OnOk settled (a.in_kernel ≡ false → MayReturn a.kernel.table → ⊥) → OnOk settled (a.in_kernel ≡ false → CannotReturn (held_by (state_of a stage)))
+cannot_return_then (Ok solved) a stage active back = cannot_return a stage active back
+cannot_return_then (Err wide) a stage active back = tt
+
 -- a kernel's answer is shown by the table that it stands for
 pub kernel_shown : (b : Bool) (k : Kernel) (solved : Solved) → b ≡ true → IsKernel k →
     IsShown k.table.basis.items (kernel_lines k) (Ended solved) →

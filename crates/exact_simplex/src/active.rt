@@ -153,6 +153,7 @@ impl ActiveTable {
         ensures active { OnOk result (IsActive self.new) }
         ensures ahead { IfOk result (λ solved. IsAhead self.old.kernel.table (table_of self.new) solved) }
         ensures keeps { KeepsBoxAndRows self.old.kernel.table self.new.kernel.table }
+        ensures back { OnOk result (self.new.in_kernel ≡ false → MayReturn self.new.kernel.table → ⊥) }
         ensures room { HasRoom self.new.kernel.table }
         ensures wide { IfErr result (λ wide.
             IsStepTooWide self.new.kernel.table.top self.new.kernel.table.costs self.new.kernel.table.rows.items (wide_at wide self.new.kernel.table.basis.items)) }
@@ -175,6 +176,7 @@ impl ActiveTable {
         ensures left { self.old.in_kernel ≡ true → self.new.in_kernel ≡ false → WasHeldUp (held_of self.old.kernel.table Open) }
         ensures ahead { IfOk result (λ solved. IsAhead (table_of self.old) (table_of self.new) solved) }
         ensures keeps { KeepsBoxAndRows self.old.kernel.table self.new.kernel.table }
+        ensures back { OnOk result (self.new.in_kernel ≡ false → MayReturn self.new.kernel.table → ⊥) }
         ensures room { HasRoom self.new.kernel.table }
         ensures wide { IfErr result (λ wide.
             IsStepTooWide self.new.kernel.table.top self.new.kernel.table.costs self.new.kernel.table.rows.items (wide_at wide self.new.kernel.table.basis.items)) }
@@ -201,6 +203,7 @@ impl ActiveTable {
         ensures shown { IfOk result (λ solved. IsShown self.new.kernel.table.basis.items (table_of self.new).lines.items (Ended solved)) }
         ensures keeps { KeepsBoxAndRows self.old.kernel.table self.new.kernel.table }
         ensures left { self.old.in_kernel ≡ true → self.new.in_kernel ≡ false → WasHeldUp (held_of self.old.kernel.table Open) }
+        ensures back { OnOk result (self.new.in_kernel ≡ false → MayReturn self.new.kernel.table → ⊥) }
         ensures room { HasRoom self.new.kernel.table }
         ensures wide { IfErr result (λ wide.
             IsStepTooWide self.new.kernel.table.top self.new.kernel.table.costs self.new.kernel.table.rows.items (wide_at wide self.new.kernel.table.basis.items)) }

@@ -149,6 +149,7 @@ impl Tableau {
         ensures stop { IfErr result (λ wide. IsTableauStopped (held_by self.old) self.old.rows (held_by self.new) wide) }
         ensures rests { (wide : Wide) → self.old.stage ≡ Stopped wide → self.new ≡ self.old }
         ensures left { self.old.in_kernel ≡ true → self.new.in_kernel ≡ false → WasHeldUp (held_by self.old) }
+        ensures back { OnOk result (self.new.in_kernel ≡ false → CannotReturn (held_by self.new)) }
     {
         self.going()?;
         let settled = self.table.settle();

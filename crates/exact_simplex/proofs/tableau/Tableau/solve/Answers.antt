@@ -8,7 +8,7 @@ use Rattle.fraction_table.specs.declared.stage.Stage.TheVariants.{Ended}
 use Rattle.fraction_table.specs.Tableaus.{IsAmongForms, IsSolved, wide_at}
 use Rattle.fraction_table.specs.ValidTables.{IsShown}
 use Rattle.exact_simplex.specs.Actives.{IsActive, IsSoundActive, TableauState, WasHeldUp, held_by, table_of}
-use Rattle.exact_simplex.proofs.Actives.{ended, held_up_at, settled_among_forms, settled_rightly, stopped}
+use Rattle.exact_simplex.proofs.Actives.{cannot_return_then, ended, held_up_at, settled_among_forms, settled_rightly, stopped}
 use Rattle.exact_simplex.proofs.tableau.Tableau.solve.Goals.{in-Ok, in-Err}
 use Rattle.exact_simplex.proofs.tableau.Tableau.solve.Goals as goal
 
@@ -46,3 +46,7 @@ pub returns-clause-left : goal.returns-clause-left
 returns-clause-left c =
     subst (λ (t : TableauState). t.in_kernel ≡ true → c.settle-settled.new.self.in_kernel ≡ false → WasHeldUp (held_by t)) c.self.view_is
     (λ was_in is_out. held_up_at c.self.inside.table.kernel.table c.self.inside.stage (c.settle-settled.ensures.left was_in is_out))
+
+pub returns-clause-back : goal.returns-clause-back
+returns-clause-back c =
+    cannot_return_then c.settle-settled.result c.settle-settled.new.self c.match-settled.self c.settle-settled.ensures.active c.settle-settled.ensures.back
