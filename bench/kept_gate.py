@@ -1,5 +1,6 @@
 #!/usr/bin/env python3
-"""Proves, tries and runs what the gate does, but keeps what passed: a run does only what an earlier one hasn't done.
+"""Proves crates, runs programs and tries edits as the gate does, but keeps what passed: a run does only what an earlier one
+hasn't done. It runs no `#[test]`, and makes none of the gate's tests of a crate's text but that of its layout.
 
 kept_gate.py [CRATE ..] [--top FOLDER] [--store FOLDER] [--edits] [--no-programs] [--lanes N]
 kept_gate.py --take [--top FOLDER] [--store FOLDER]
