@@ -1,8 +1,9 @@
 -- What the fakes of the outside do.
-use Rattle.std.specs.Prelude.{◌⊎◌, ℕ, Bool, List, [], ◌∷◌, Option, Some, None, if◌then◌else◌, ◌==◌, IsTrue, length, min, Result, IsErrOf}
+use Rattle.std.specs.Prelude.{◌≡◌, ◌⊎◌, ℕ, ◌+◌, ◌-◌, ◌^◌, Bool, List, [], ◌∷◌, Option, Some, None, if◌then◌else◌, ◌==◌, IsTrue, length, min, Result, IsErrOf, IsOk, OnOk}
 use Rattle.std.specs.List.{list_any}
 use Rattle.cost_base.specs.declared.ShelfStop.{ShelfStop}
 use Rattle.cost_base.specs.declared.ShelfStop.TheVariants.{Failed, OutOfMemory}
+use Rattle.cost_base.specs.declared.memory_shelf.MemoryShelf.{MemoryShelf}
 
 -- the bytes that a sink tells, as long as nothing was lost
 abbrev pub unless_lost : Bool → List ℕ → Option (List ℕ)
@@ -15,6 +16,22 @@ IsListed calls call = IsTrue (list_any (λ other. other == call) calls)
 -- the call failed, or memory was wanting
 abbrev pub FailsOrLacksMemory : {T : Type 0} → Result T ShelfStop → Type 0
 FailsOrLacksMemory result = IsErrOf result Failed ⊎ IsErrOf result OutOfMemory
+
+-- a call fails where there is this cause, unless memory is wanting, and nowhere else
+pub record FailsWhere {T : Type 0} (cause : Type 0) (result : Result T ShelfStop) : Type 0 where
+  pub only : IsErrOf result Failed → cause
+  pub surely : cause → FailsOrLacksMemory result
+
+-- a call succeeds exactly where this holds
+pub record SucceedsWhere {T E : Type 0} (cause : Type 0) (result : Result T E) : Type 0 where
+  pub only : OnOk result cause
+  pub surely : cause → IsOk result
+
+-- a call is counted up to the last number of u64, and the files and the numbers of the calls that are to fail stay
+pub record IsNextCall (before now : MemoryShelf) : Type 0 where
+  pub counted : now.calls ≡ min (before.calls + 1) (2 ^ 64 - 1)
+  pub files : now.files.items ≡ before.files.items
+  pub fail : now.fail.items ≡ before.fail.items
 
 -- how many bytes of its piece a call keeps, where the call is listed; the first pair of a call counts
 abbrev pub kept_at : List (ℕ × ℕ) → ℕ → Option ℕ

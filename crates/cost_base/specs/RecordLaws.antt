@@ -1,5 +1,5 @@
 -- Records of what went through a shelf or a sink, one part after another.
-use Rattle.std.proofs.Common.{◌≡◌, ℕ, refl, sym, ◌∙◌, ap, subst, List, [], ◌∷◌, ◌++◌, append_assoc, append-nil, Option, Some, None}
+use Rattle.std.proofs.Common.{ℕ, refl, sym, ◌∙◌, ap, subst, List, [], ◌∷◌, ◌++◌, append_assoc, append-nil, Option, Some, None}
 use Rattle.cost_base.specs.Records.{GrewBy, PutPiece, AreTakenOf, IsNoted, IsNotedInPieces}
 
 -- a record didn't grow between a state and itself

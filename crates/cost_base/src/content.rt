@@ -1,6 +1,7 @@
 //! Files in memory: a list of names and bytes, of which the first file of a name counts.
 
-ghost use Rattle.std.specs.Prelude.{◌≡◌, ◌+◌, ◌^◌, ◌<◌, ◌≤◌, List, [], length, OnOk, OnErr, IsErrOf, MatchOption, Some, None, vec_len};
+ghost use Rattle.std.specs.Prelude.{◌≡◌, ◌^◌, ◌<◌, List, [], IsErrOf, MatchOption, Some, None};
+ghost use Rattle.cost_base.specs.Outside.{IsReadUpTo};
 ghost use Rattle.cost_base.specs.Files.{first_file};
 
 use crate::{Name, ShelfStop};
@@ -21,12 +22,7 @@ pub(crate) fn find_first<'a>(files: &'a [(Name, Name)], name: &[u8]) -> Option<&
 pub(crate) fn copy_within(bytes: &[u8], most: usize, into: &mut Vec<u8>) -> Result<(), ShelfStop>
     requires empty { into.old.items ≡ [] }
     requires most { most < 2 ^ 31 }
-    ensures whole { OnOk result (into.new.items ≡ bytes.now) }
-    ensures within { OnOk result (length bytes.now ≤ most) }
-    ensures length { OnOk result (vec_len into.new ≤ most) }
-    ensures too_long { IsErrOf result ShelfStop.TooLong → most < length bytes.now }
-    ensures cut { IsErrOf result ShelfStop.TooLong → vec_len into.new ≡ most + 1 }
-    ensures refused { OnErr result (vec_len into.new ≤ most + 1) }
+    ensures read { IsReadUpTo (Some bytes.now) most result into.new.items }
     ensures never_fails { IsErrOf result ShelfStop.Failed → ⊥ }
 {
     let is_long = most < bytes.len();

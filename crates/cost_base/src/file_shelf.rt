@@ -1,7 +1,7 @@
 //! The files of the machine.
 
-ghost use Rattle.std.specs.Prelude.{◌≡◌, ℕ, List, [], ◌∷◌, ◌+◌, ◌^◌, ◌<◌, ◌≤◌, OnOk, OnErr, IsErrOf, Option, None, vec_len, refl};
-ghost use Rattle.cost_base.specs.Outside.{IsFile, IsLonger, CountsFaults};
+ghost use Rattle.std.specs.Prelude.{◌≡◌, ℕ, List, [], ◌∷◌, ◌^◌, ◌<◌, OnOk, IsErrOf, Option, None, refl};
+ghost use Rattle.cost_base.specs.Outside.{IsFile, IsLonger, LeavesWithin, IsReadUpTo, CountsFaults};
 ghost use Rattle.cost_base.specs.Histories.{HasGiven, came_of};
 ghost use Rattle.cost_base.specs.HistoryLaws.{given_none, given_more, given_counts, same_after};
 ghost use Rattle.cost_base.specs.Files.{count_of_name};
@@ -46,10 +46,8 @@ impl<R: Files> Shelf for FileShelf<R> {
         requires empty { into.old.items ≡ [] }
         requires most { most < 2 ^ 31 }
         ensures read { OnOk result ((file : R.File) × IsFile (R.File.remaining file) into.new.items) }
-        ensures within { OnOk result (vec_len into.new ≤ most) }
         ensures too_long { IsErrOf result ShelfStop.TooLong → (file : R.File) × IsLonger (R.File.remaining file) most }
-        ensures cut { IsErrOf result ShelfStop.TooLong → vec_len into.new ≡ most + 1 }
-        ensures refused { OnErr result (vec_len into.new ≤ most + 1) }
+        ensures within { LeavesWithin most result into.new.items }
         ensures faults { CountsFaults (count_of_name self.old.failed.names.items) (count_of_name self.new.failed.names.items) name.now result }
         ensures gave { (self.new.files ≡ self.old.files) × HasGiven (λ other. None) (λ other. None)
             self.old.failed.names.items self.new.failed.names.items
@@ -93,10 +91,8 @@ fn read_file<R: Files>(
     requires empty { into.old.items ≡ [] }
     requires most { most < 2 ^ 31 }
     ensures read { OnOk result ((file : R.File) × IsFile (R.File.remaining file) into.new.items) }
-    ensures within { OnOk result (vec_len into.new ≤ most) }
     ensures too_long { IsErrOf result ShelfStop.TooLong → (file : R.File) × IsLonger (R.File.remaining file) most }
-    ensures cut { IsErrOf result ShelfStop.TooLong → vec_len into.new ≡ most + 1 }
-    ensures refused { OnErr result (vec_len into.new ≤ most + 1) }
+    ensures within { LeavesWithin most result into.new.items }
 {
     match fs::open(files, path) {
         Ok(mut file) => read_within(&mut file, most, into),
@@ -108,11 +104,7 @@ fn read_file<R: Files>(
 fn read_within<F: Read>(reader: &mut F, most: usize, into: &mut Vec<u8>) -> Result<(), ShelfStop>
     requires empty { into.old.items ≡ [] }
     requires most { most < 2 ^ 31 }
-    ensures read { OnOk result (IsFile (F.remaining reader.old) into.new.items) }
-    ensures within { OnOk result (vec_len into.new ≤ most) }
-    ensures too_long { IsErrOf result ShelfStop.TooLong → IsLonger (F.remaining reader.old) most }
-    ensures cut { IsErrOf result ShelfStop.TooLong → vec_len into.new ≡ most + 1 }
-    ensures refused { OnErr result (vec_len into.new ≤ most + 1) }
+    ensures read { IsReadUpTo (F.remaining reader.old) most result into.new.items }
 {
     let mut buffer = [0u8; 8192];
     for _ in 0..u64::MAX {

@@ -1,11 +1,11 @@
 //! A shelf in memory that fails where it is told to.
 
-ghost use Rattle.std.specs.Prelude.{◌≡◌, ◌⊎◌, ℕ, List, [], ◌∷◌, ◌+◌, ◌^◌, ◌<◌, ◌≤◌, min, ◌-◌, OnOk, OnErr, IsErrOf, IfSome, Some, None, vec_len};
-ghost use Rattle.cost_base.specs.Outside.{IsLonger, CountsFaults};
+ghost use Rattle.std.specs.Prelude.{◌≡◌, ◌⊎◌, ℕ, List, [], ◌∷◌, ◌+◌, ◌^◌, ◌<◌, min, ◌-◌, IfSome, Some, None};
+ghost use Rattle.cost_base.specs.Outside.{IsReadUpTo, CountsFaults};
 ghost use Rattle.cost_base.specs.Histories.{HasGiven, came_of};
 ghost use Rattle.cost_base.specs.HistoryLaws.{given_none, given_more, given_counts};
 ghost use Rattle.cost_base.specs.Files.{first_file, count_of_name};
-ghost use Rattle.cost_base.specs.Fakes.{IsListed, FailsOrLacksMemory};
+ghost use Rattle.cost_base.specs.Fakes.{IsListed, FailsWhere, IsNextCall};
 
 use crate::content::{copy_within, find_first};
 use crate::failed_calls::FailedCalls;
@@ -78,18 +78,11 @@ impl Shelf for MemoryShelf {
     fn take(&mut self, name: &str, most: usize, into: &mut Vec<u8>) -> Result<(), ShelfStop>
         requires empty { into.old.items ≡ [] }
         requires most { most < 2 ^ 31 }
-        ensures read { OnOk result (first_file self.old.files.items name.now ≡ Some into.new.items) }
-        ensures within { OnOk result (vec_len into.new ≤ most) }
-        ensures too_long { IsErrOf result ShelfStop.TooLong → IsLonger (first_file self.old.files.items name.now) most }
-        ensures cut { IsErrOf result ShelfStop.TooLong → vec_len into.new ≡ most + 1 }
-        ensures refused { OnErr result (vec_len into.new ≤ most + 1) }
-        ensures files { self.new.files.items ≡ self.old.files.items }
+        ensures read { IsReadUpTo (first_file self.old.files.items name.now) most result into.new.items }
+        ensures fails { FailsWhere
+            (IsListed self.old.fail.items self.old.calls ⊎ (first_file self.old.files.items name.now ≡ None)) result }
         ensures faults { CountsFaults (count_of_name self.old.failed.names.items) (count_of_name self.new.failed.names.items) name.now result }
-        ensures cause { IsErrOf result ShelfStop.Failed → IsListed self.old.fail.items self.old.calls ⊎ (first_file self.old.files.items name.now ≡ None) }
-        ensures listed { IsListed self.old.fail.items self.old.calls → FailsOrLacksMemory result }
-        ensures missing { first_file self.old.files.items name.now ≡ None → FailsOrLacksMemory result }
-        ensures next { self.new.calls ≡ min (self.old.calls + 1) (2 ^ 64 - 1) }
-        ensures fail { self.new.fail.items ≡ self.old.fail.items }
+        ensures next { IsNextCall self.old self.new }
         ensures gave { HasGiven (first_file self.old.files.items) (first_file self.new.files.items)
             self.old.failed.names.items self.new.failed.names.items
             (record { name = name.now; most = most; came = came_of result into.new.items } ∷ []) }

@@ -1,10 +1,10 @@
 //! A sink in memory that fails where it is told to.
 
-ghost use Rattle.std.specs.Prelude.{◌≡◌, ◌<◌, ◌≤◌, ◌+◌, ◌-◌, ◌^◌, ◌++◌, [], min, length, take, IfOk, IsOk, OnOk, Some, None, vec_len, vec_capacity};
+ghost use Rattle.std.specs.Prelude.{◌≡◌, ◌<◌, ◌≤◌, ◌+◌, ◌-◌, ◌^◌, ◌++◌, [], min, length, take, IfOk, OnOk, Some, None, vec_len, vec_capacity};
 ghost use Rattle.cost_base.specs.Outside.{HasCause, GotAll};
 ghost use Rattle.cost_base.specs.Histories.{Hands};
 ghost use Rattle.cost_base.specs.HistoryLaws.{handed_none, handed_more};
-ghost use Rattle.cost_base.specs.Fakes.{kept_at, kept_or_all};
+ghost use Rattle.cost_base.specs.Fakes.{SucceedsWhere, kept_at, kept_or_all};
 
 use crate::{OutOfMemory, PutFailed, Sink};
 use std::alloc::Global;
@@ -81,8 +81,8 @@ impl Sink for MemorySink {
     fn put(&mut self, piece: &[u8]) -> Result<(), PutFailed>
         ensures whole { OnOk result (self.new.bytes.items ≡ self.old.bytes.items ++ piece.now) }
         ensures cause { HasCause self.old.faults self.new.faults result }
-        ensures good { OnOk result ((kept_at self.old.fail.items self.old.calls ≡ None) × (length piece.now ≤ self.old.room)) }
-        ensures failed { kept_at self.old.fail.items self.old.calls ≡ None → length piece.now ≤ self.old.room → IsOk result }
+        ensures succeeds { SucceedsWhere
+            ((kept_at self.old.fail.items self.old.calls ≡ None) × (length piece.now ≤ self.old.room)) result }
         ensures kept { self.new.bytes.items ≡
             self.old.bytes.items ++ take (min self.old.room (kept_or_all (kept_at self.old.fail.items self.old.calls) piece.now)) piece.now }
         ensures counted { OnOk result (self.new.faults ≡ self.old.faults) }

@@ -1,7 +1,7 @@
 //! A shelf in memory that never fails.
 
-ghost use Rattle.std.specs.Prelude.{◌≡◌, ℕ, List, [], ◌+◌, ◌^◌, ◌<◌, ◌≤◌, OnOk, OnErr, IsErrOf, Option, Some, vec_len};
-ghost use Rattle.cost_base.specs.Outside.{IsFile, IsLonger, CountsFaults};
+ghost use Rattle.std.specs.Prelude.{◌≡◌, ℕ, List, [], ◌^◌, ◌<◌, Option, Some};
+ghost use Rattle.cost_base.specs.Outside.{IsReadUpTo, CountsFaults};
 ghost use Rattle.cost_base.specs.Histories.{HasGiven, came_of};
 ghost use Rattle.cost_base.specs.HistoryLaws.{given_none, given_more, given_surely};
 ghost use Rattle.cost_base.specs.Files.{first_file, or_empty, sure_file};
