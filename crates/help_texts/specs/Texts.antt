@@ -45,4 +45,4 @@ help_text (Some n) = text_on n
 
 -- the version of the program, and the checker that proved it
 abbrev pub version_text : List ℕ
-version_text = with_ends (codes "ospfcost 1.0" ∷ codes "proved with rattle-kit-13b logic dac8208d650f15bf" ∷ [])
+version_text = with_ends (codes "ospfcost 1.0" ∷ codes "proved with rattle-kit-13f logic dac8208d650f15bf" ∷ [])

@@ -11,7 +11,7 @@ use command_words::CommandName;
 /// The version of the program, and the checker that proved it, as `rt version` names that.
 const VERSION: &str = "\
 ospfcost 1.0
-proved with rattle-kit-13b logic dac8208d650f15bf
+proved with rattle-kit-13f logic dac8208d650f15bf
 ";
 
 /// The text on one command: what it answers, its words, its statuses, and an example.

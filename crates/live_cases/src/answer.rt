@@ -49,7 +49,7 @@ fn file_text(alloc: Global, number: u32, bytes: &[u8]) -> Result<String, AllocEr
 }
 
 /// What is answered to a line: an area, a space and a file.
-pub fn answer(alloc: Global, line: &str) -> Result<String, AllocError> {
+pub(crate) fn answer(alloc: Global, line: &str) -> Result<String, AllocError> {
     let Some((word, text)) = line.split_once(' ') else {
         return format!(in alloc; "no line of a script");
     };
