@@ -27,10 +27,10 @@ use Rattle.input_files.specs.Outcomes.{Input}
 use Rattle.input_files.proofs.ReadyInputs.{IsReadyInput}
 use Rattle.design_commands.specs.Designs.{IsAnswerTo, IsDesigned, IsShownImpossible, IsShownUndecided, verdict_status, MayDesign, AreCheapestBack}
 use Rattle.present_costs.proofs.CheapestWith.{only_cheapest_with}
-use Rattle.read_back.proofs.ReadBackLaws.{read_back}
-use Rattle.read_back.specs.ReadBack.{IsReadBack}
-use Rattle.read_back.proofs.PrintedText.{NamesWords}
-use Rattle.read_back.proofs.PrintedSections.{PrintsSections, all_other, sections_printed}
+use Rattle.read_back_laws.proofs.ReadBackLaws.{read_back}
+use Rattle.read_back_laws.specs.ReadBack.{IsReadBack}
+use Rattle.read_back_laws.proofs.PrintedText.{NamesWords}
+use Rattle.read_back_laws.proofs.PrintedSections.{PrintsSections, all_other, sections_printed}
 
 -- each named variable has a cost that a line can give
 abbrev ArePrintable : List VarName → List ℕ → Type 0

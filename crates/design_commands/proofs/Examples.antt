@@ -13,7 +13,7 @@ use Rattle.cost_base.specs.declared.ShelfStop.TheVariants.{Failed as NotRead}
 use Rattle.cost_base.specs.Histories.{Taken}
 use Rattle.input_files.specs.Readings.{Says, Faulty, Failed, EndsAs}
 use Rattle.input_files.specs.Outcomes.{Input, outcome}
-use Rattle.read_back.specs.ReadBack.{section, graph_back}
+use Rattle.read_back_laws.specs.ReadBack.{section, graph_back}
 use Rattle.path_requests.proofs.Examples.{pair}
 
 abbrev config : List ℕ → List ℕ

@@ -39,10 +39,10 @@ use Rattle.report_writer.specs.Reports.{bytes_in}
 use Rattle.design_commands.specs.Designs.{IsAnswerTo, IsDesigned, AreCheapestBack}
 use Rattle.design_commands.specs.TotalRuns.{IsFloorTotal, IsProvedTotal, IsShownUndecidedTotal, IsTotalled, MayTotal, ReportsFoundAs, ReportsTotal, at_cap, bound_lines, found_text, proof_lines, shown_lines, total_text}
 use Rattle.design_commands.proofs.DesignedLaws.{designed_costs, designed_is, impossible_is, undecided_is, answer_prints, cheapest_back, costs_back}
-use Rattle.read_back.specs.ReadBack.{IsReadBack}
-use Rattle.read_back.proofs.QuietLines.{AreQuiet, open_quiet, proof_quiet, quiet_append, quiet_cons, rows_quiet}
-use Rattle.read_back.proofs.PrintedText.{all_append, all_cons, decimals_lack, spaced_lacks}
-use Rattle.read_back.proofs.PrintedSections.{all_other, others_append}
+use Rattle.read_back_laws.specs.ReadBack.{IsReadBack}
+use Rattle.read_back_laws.proofs.QuietLines.{AreQuiet, open_quiet, proof_quiet, quiet_append, quiet_cons, rows_quiet}
+use Rattle.read_back_laws.proofs.PrintedText.{all_append, all_cons, decimals_lack, spaced_lacks}
+use Rattle.read_back_laws.proofs.PrintedSections.{all_other, others_append}
 use Rattle.report_writer.proofs.ReportLaws.{may_report}
 
 abbrev cap_in : Verdict → ℕ

@@ -15,7 +15,7 @@ use Rattle.evidence_text.specs.AnswerValues.{IsAnswerValue}
 use Rattle.least_bound.specs.Answered.{IsDesignAnswer, IsUndecided, ProofIsPrinted, IsAnswerSheet}
 use Rattle.command_words.specs.Jobs.{Bounds}
 use Rattle.input_files.specs.Outcomes.{Input}
-use Rattle.read_back.specs.ReadBack.{graph_back, IsReadBack}
+use Rattle.read_back_laws.specs.ReadBack.{graph_back, IsReadBack}
 
 -- what is known of an answer to a problem: it is one, within the limits, and both are values of their types
 pub record IsAnswerTo (limits : Bounds) (p : DesignProblem) (a : AnswerParts) : Type 0 where

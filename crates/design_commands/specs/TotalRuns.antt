@@ -28,7 +28,7 @@ use Rattle.report_writer.specs.Reports.{Reports}
 use Rattle.command_words.specs.Jobs.{Bounds}
 use Rattle.input_files.specs.Outcomes.{Input}
 use Rattle.design_commands.specs.Designs.{IsDesigned, IsShownImpossible, IsShownUndecided, AreCheapestBack}
-use Rattle.read_back.specs.ReadBack.{IsReadBack}
+use Rattle.read_back_laws.specs.ReadBack.{IsReadBack}
 
 -- the text: the whole text of an answer, the total of its costs, and the lines of what shows it
 abbrev pub total_text : List ℕ → ℕ → List (List ℕ) → List ℕ

@@ -26,11 +26,11 @@ use Rattle.spread_sets.specs.declared.spread.Spread.{Spread}
 use Rattle.spread_sets.specs.declared.spread.Spread.TheVariants.{Fit, Impossible, Undecided}
 use Rattle.spread_sets.specs.Answers.{IsSpreadFound}
 use Rattle.spread_sets.specs.Spreads.{Shares, SharesEach, all_sets, edges_of, ends_in, name_of_set, paths_of}
-use Rattle.read_back.specs.ReadBack.{IsPrintable, IsReadBack}
-use Rattle.read_back.proofs.PrintedText.{NamesWords, all_cons, decimals_lack, spaced_lacks}
-use Rattle.read_back.proofs.PrintedSections.{PrintsSections, sections_between}
-use Rattle.read_back.proofs.QuietLines.{AreQuiet, none_quiet, quiet_cons}
-use Rattle.read_back.proofs.ReadBackLaws.{read_back}
+use Rattle.read_back_laws.specs.ReadBack.{IsPrintable, IsReadBack}
+use Rattle.read_back_laws.proofs.PrintedText.{NamesWords, all_cons, decimals_lack, spaced_lacks}
+use Rattle.read_back_laws.proofs.PrintedSections.{PrintsSections, sections_between}
+use Rattle.read_back_laws.proofs.QuietLines.{AreQuiet, none_quiet, quiet_cons}
+use Rattle.read_back_laws.proofs.ReadBackLaws.{read_back}
 use Rattle.path_commands.specs.Spreads.{AreSharedBack, IsSpreadBack, set_rows_lines, shared_costs, spread_text}
 
 -- The lines of costs, and what stands around them.

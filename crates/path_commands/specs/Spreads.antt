@@ -16,7 +16,7 @@ use Rattle.spread_sets.specs.Answers.{IsSpreadFound, set_row_line}
 use Rattle.spread_sets.specs.Spreads.{SharesEach, all_sets}
 use Rattle.command_words.specs.Jobs.{Bounds}
 use Rattle.input_files.specs.Outcomes.{Input}
-use Rattle.read_back.specs.ReadBack.{graph_back, IsReadBack}
+use Rattle.read_back_laws.specs.ReadBack.{graph_back, IsReadBack}
 use Rattle.printed_parts.specs.SharedParts.{at_ceiling}
 use Rattle.printed_rows.specs.PrintedCosts.{named_costs}
 use Rattle.path_commands.specs.SetFiles.{AreSetsIn, Sharing}

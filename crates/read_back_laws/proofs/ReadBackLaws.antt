@@ -32,13 +32,13 @@ use Rattle.cost_base.proofs.ListLemmas.{map-agree}
 use Rattle.cost_base.proofs.ByteLemmas.{same_bytes-true, same_bytes-same, same_bytes-swap}
 use Rattle.input_files.specs.Outcomes.{ConfigFile, Input, routers_of}
 use Rattle.present_costs.specs.AtCosts.{graph_with}
-use Rattle.read_back.specs.ReadBack.{router_read_back, IsReadBack, IsReadBackFor, IsPrintable, StandElse, names_in, names_where, pairs_of, bytes_back, cost_named, router_with, routers_back, section, interface_with}
-use Rattle.read_back.specs.Laws.{HasSections, CostsReadBack}
+use Rattle.read_back_laws.specs.ReadBack.{router_read_back, IsReadBack, IsReadBackFor, IsPrintable, StandElse, names_in, names_where, pairs_of, bytes_back, cost_named, router_with, routers_back, section, interface_with}
+use Rattle.read_back_laws.specs.Laws.{HasSections, CostsReadBack}
 use Rattle.input_files.proofs.ReadyInputs.{IsReadyInput, ready_is, ready_beside_present}
 use Rattle.printed_rows.specs.PrintedCosts.{named_cost}
-use Rattle.read_back.proofs.PresentCosts.{cost_in, named_lines, costs_by_lines, recosted_graph_is}
-use Rattle.read_back.proofs.PrintedSections.{OneRun, PrintsSections}
-use Rattle.read_back.proofs.LineRuns.{one_run, IsNameOf, names_known, number_of}
+use Rattle.read_back_laws.proofs.PresentCosts.{cost_in, named_lines, costs_by_lines, recosted_graph_is}
+use Rattle.read_back_laws.proofs.PrintedSections.{OneRun, PrintsSections}
+use Rattle.read_back_laws.proofs.LineRuns.{one_run, IsNameOf, names_known, number_of}
 
 -- a router's pairs set the costs that its lines set
 pub pairs_cost : (router : List ℕ) (ls : List CostLine) (interface : List ℕ) (before : Option ℕ) →

@@ -26,8 +26,8 @@ use Rattle.config_reader.specs.Statements.{begin_with}
 use Rattle.config_reader.specs.Sections.{config_section_lines}
 use Rattle.config_reader.proofs.PrintedLines.{all_lack_end, lines-with_ends}
 use Rattle.text_lines.proofs.WordLaws.{words-one}
-use Rattle.read_back.specs.ReadBack.{opens_section, pairs_of, until_end, section}
-use Rattle.read_back.proofs.PrintedText.{NamesWords, all_append, costs_lack, head_part, floor_part, last_part, parts_are, lines_around}
+use Rattle.read_back_laws.specs.ReadBack.{opens_section, pairs_of, until_end, section}
+use Rattle.read_back_laws.proofs.PrintedText.{NamesWords, all_append, costs_lack, head_part, floor_part, last_part, parts_are, lines_around}
 
 -- A router's lines stand together: none of them; only others behind them; one run.
 

@@ -16,8 +16,8 @@ use Rattle.path_requests.specs.Meaning.{variable_of}
 use Rattle.cost_base.proofs.ByteLemmas.{same_bytes-true, same_bytes-same}
 use Rattle.wanted_paths.proofs.RouteLaws.{router_number_is}
 use Rattle.printed_rows.specs.PrintedCosts.{named_cost}
-use Rattle.read_back.specs.ReadBack.{is_chosen, names_where}
-use Rattle.read_back.proofs.PrintedSections.{NoneOf, AfterRun, OneRun}
+use Rattle.read_back_laws.specs.ReadBack.{is_chosen, names_where}
+use Rattle.read_back_laws.proofs.PrintedSections.{NoneOf, AfterRun, OneRun}
 
 -- One more link in front: it has a name where it is free and chosen.
 

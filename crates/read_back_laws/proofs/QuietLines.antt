@@ -7,8 +7,8 @@ use Rattle.design_problem.specs.declared.form.Row.{Row}
 use Rattle.design_problem.specs.declared.answer.CapTree.{CapTree}
 use Rattle.design_problem.specs.Text.{row_line, tree_lines}
 use Rattle.evidence_text.specs.Parts.{rows_line, rows_lines}
-use Rattle.read_back.proofs.PrintedText.{all_append, all_cons, decimals_lack, rows_lack, spaced_lacks, tree_lacks}
-use Rattle.read_back.proofs.PrintedSections.{all_other, starts_other, other_open, other_proof, other_rows, others_append, others_cons}
+use Rattle.read_back_laws.proofs.PrintedText.{all_append, all_cons, decimals_lack, rows_lack, spaced_lacks, tree_lacks}
+use Rattle.read_back_laws.proofs.PrintedSections.{all_other, starts_other, other_open, other_proof, other_rows, others_append, others_cons}
 
 pub record AreQuiet (shown : List (List ℕ)) : Type 0 where
   pub lack : all_lack_end shown ≡ true

@@ -10,7 +10,7 @@ use Rattle.input_files.specs.declared.problem.View.TheVariants.{AsRequested, Bes
 use Rattle.input_files.specs.Inputs.{InputFiles}
 use Rattle.input_files.specs.Readings.{Says, EndsAs}
 use Rattle.input_files.specs.Outcomes.{Input, outcome}
-use Rattle.read_back.specs.ReadBack.{IsPrintable, IsReadBackFor, StandElse, names_in, pairs_of, section}
+use Rattle.read_back_laws.specs.ReadBack.{IsPrintable, IsReadBackFor, StandElse, names_in, pairs_of, section}
 
 -- each router's section of the text has the lines of its chosen interfaces, in their order, each at the cost of its variable
 abbrev pub HasSections : (ℕ → Linked → Bool) → Input → List ℕ → List ℕ → Type 0

@@ -21,7 +21,7 @@ use Rattle.wanted_paths.specs.Paths.{is_link_named}
 use Rattle.cost_base.proofs.ByteLemmas.{same_bytes-true, same_bytes-same}
 use Rattle.wanted_paths.proofs.RouteLaws.{router_number_is}
 use Rattle.printed_rows.specs.PrintedCosts.{named_cost}
-use Rattle.read_back.specs.ReadBack.{is_chosen, names_where, StandElse}
+use Rattle.read_back_laws.specs.ReadBack.{is_chosen, names_where, StandElse}
 use Rattle.present_costs.specs.AtCosts.{fixed_at, graph_with}
 use Rattle.present_costs.proofs.ByLinks.{graph_with_prices}
 
