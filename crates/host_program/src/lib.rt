@@ -2,6 +2,11 @@
 //! lines on a terminal that tell how far a search is, and what a refusal means.
 #![tactic(auto)]
 
+ghost use Rattle.std.specs.Prelude.{◌≡◌, IfOk};
+ghost use Rattle.std.specs.Process.{exit_status};
+ghost use Rattle.cost_base.specs.Statuses.{status_number};
+ghost use Rattle.cost_base.specs.declared.Status.{Status};
+
 use command_words::{Job, read_words};
 use cost_base::{FileShelf, OutOfMemory, OutSink, Status};
 use cut_advisors::{Advisor, Progress, SmallestNumber};
@@ -71,7 +76,9 @@ fn tell_refusal(rt: &HostRuntime, status: Status, line: &[u8]) {
 
 /// Runs the words that the program was given over the machine's files and standard output, with the advisor that picks the
 /// first candidate. Behind it stands the one that tells how far the search is. A refusal is then told in words.
-fn run_program(rt: &HostRuntime) -> Result<ExitCode, OutOfMemory> {
+fn run_program(rt: &HostRuntime) -> Result<ExitCode, OutOfMemory>
+    ensures { IfOk result (λ code. (status : Status) × (exit_status code ≡ status_number status)) }
+{
     let words = words_given(rt)?;
     let mut advisors: Vec<Box<dyn Advisor>> = Vec::new(rt.alloc());
     advisors.push(Box::new(rt.alloc(), SmallestNumber)?)?;
@@ -86,7 +93,11 @@ fn run_program(rt: &HostRuntime) -> Result<ExitCode, OutOfMemory> {
 }
 
 /// Ends as the run does. Where there is no memory to begin it, it ends as a run does that has none.
-pub fn run_host(rt: &HostRuntime) -> ExitCode {
+///
+/// Its exit status is always that of a run: 0 to 8.
+pub fn run_host(rt: &HostRuntime) -> ExitCode
+    ensures { (status : Status) × (exit_status result ≡ status_number status) }
+{
     match run_program(rt) {
         Ok(code) => code,
         Err(OutOfMemory) => ExitCode::from(Status::OutOfMemory.number()),

@@ -108,23 +108,30 @@ fn fits_text(alloc: Global, problem: &Problem, costs: &CostList) -> Result<Vec<u
     Ok(text)
 }
 
-/// The text of a least conflict.
+/// A least conflict: its requests, the rows that its tree names, and the costs without each request.
+struct LeastConflict<'a> {
+    members: &'a [u32],
+    rows: &'a [Row],
+    without: &'a [CostList],
+}
+
+/// The text of a least conflict, of which the tree shows that there are no fit costs.
 fn core_text(
     alloc: Global,
     problem: &Problem,
-    members: &[u32],
-    rows: &[Row],
+    core: &LeastConflict<'_>,
     tree: Tree,
-    without: &[CostList],
 ) -> Result<Vec<u8>, OutOfMemory>
-    requires { (top : ℕ) × (nodes : ℕ) × (nodes ≤ 10000000) × IsCore problem.now top nodes members.now rows.now tree without.now }
-    ensures { IfOk result (λ text. text.items ≡ conflict_text problem.now (Core members.now rows.now tree without.now)) }
+    requires { (top : ℕ) × (nodes : ℕ) × (nodes ≤ 10000000) × IsCore problem.now top nodes
+        core.now.members.now core.now.rows.now tree core.now.without.now }
+    ensures { IfOk result (λ text. text.items ≡
+        conflict_text problem.now (Core core.now.members.now core.now.rows.now tree core.now.without.now)) }
 {
     keeps_conditions(problem);
-    let mut text = head_of(alloc, b"verdict core", members)?;
+    let mut text = head_of(alloc, b"verdict core", core.members)?;
     let tree = at_ceiling(problem, tree);
-    push_evidence(alloc, &mut text, rows, TreePart::Proof, &tree)?;
-    push_without(alloc, &mut text, problem, members, without)?;
+    push_evidence(alloc, &mut text, core.rows, TreePart::Proof, &tree)?;
+    push_without(alloc, &mut text, problem, core.members, core.without)?;
     push_line(&mut text, b"end")?;
     Ok(text)
 }
@@ -168,14 +175,14 @@ pub(crate) fn text_of_conflict(
             rows,
             tree,
             without,
-        } => core_text(
-            alloc,
-            problem,
-            members.as_slice(),
-            rows.as_slice(),
-            tree,
-            without.as_slice(),
-        ),
+        } => {
+            let core = LeastConflict {
+                members: members.as_slice(),
+                rows: rows.as_slice(),
+                without: without.as_slice(),
+            };
+            core_text(alloc, problem, &core, tree)
+        }
         Conflict::Undecided {
             members,
             rows,

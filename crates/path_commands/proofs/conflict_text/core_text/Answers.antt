@@ -7,26 +7,26 @@ use Rattle.path_commands.proofs.conflict_text.core_text.Goals as goal
 
 pub push_evidence-requires-clause-rows : goal.push_evidence-requires-clause-rows
 push_evidence-requires-clause-rows c =
-    rows_part_short c.args.problem.now c.requires.0 c.requires.1 c.args.members.now c.args.rows.now c.args.tree
+    rows_part_short c.args.problem.now c.requires.0 c.requires.1 c.args.core.now.members.now c.args.core.now.rows.now c.args.tree
     c.keeps_conditions.ensures.problem c.keeps_conditions.ensures.graph c.requires.3.told
 
 pub push_evidence-requires-clause-tree : goal.push_evidence-requires-clause-tree
 push_evidence-requires-clause-tree c =
-    made_part_short c.args.problem.now c.requires.0 c.requires.1 c.args.members.now c.args.rows.now c.args.tree
+    made_part_short c.args.problem.now c.requires.0 c.requires.1 c.args.core.now.members.now c.args.core.now.rows.now c.args.tree
     (codes "proof") c.at_ceiling-tree.result c.keeps_conditions.ensures.problem c.at_ceiling-tree.ensures.same
     c.at_ceiling-tree.ensures.small c.requires.2 (omega arith) c.requires.3.told
 
 pub push_without-requires-clause-within : goal.push_without-requires-clause-within
 push_without-requires-clause-within c =
-    each_within c.args.problem.now c.requires.0 c.requires.1 c.args.members.now c.args.rows.now c.args.tree
-    c.args.without.now c.requires.3
+    each_within c.args.problem.now c.requires.0 c.requires.1 c.args.core.now.members.now c.args.core.now.rows.now c.args.tree
+    c.args.core.now.without.now c.requires.3
 
 pub returns : goal.returns
 returns c =
     let p = c.args.problem.now in
-    let evidence = evidence_pushed p c.args.rows.now c.args.tree c.at_ceiling-tree.result
+    let evidence = evidence_pushed p c.args.core.now.rows.now c.args.tree c.at_ceiling-tree.result
     (codes "proof") c.in_ok-text.text.items c.push_evidence.new.text.items c.at_ceiling-tree.ensures.same
     c.in_ok-push_evidence.ensures in
-    core_spelled p c.args.members.now c.args.rows.now c.args.tree c.args.without.now c.in_ok-text.text.items
+    core_spelled p c.args.core.now.members.now c.args.core.now.rows.now c.args.tree c.args.core.now.without.now c.in_ok-text.text.items
     c.push_evidence.new.text.items c.push_without.new.text.items c.push_line.new.text.items c.in_ok-text.ensures
     evidence c.in_ok-push_without.ensures c.in_ok-push_line.ensures
