@@ -43,7 +43,7 @@ impl<R: Clock + Eprint + Drop> Progress<R> {
         })
     }
 
-    /// Writes a line where one is due. What can't be read or written is let be.
+    /// Writes a line where one is due. A clock that can't be read, or a line that can't be written, changes nothing.
     fn tell(&mut self) {
         let Ok(elapsed) = self.begun.elapsed(&self.runtime) else {
             return;

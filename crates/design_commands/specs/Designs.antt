@@ -58,7 +58,7 @@ pub record IsShownImpossible (limits : Bounds) (p : DesignProblem) (bytes : List
   pub none : HasNoFit p
 
 -- The bytes show that the budget was used up at a cap: they are the text of an answer with that verdict, whose
--- unfinished tree is earnest over the box at that cap, has an Undone and just as many entries as the budget; its costs
+-- unfinished tree is earnest over the box at that cap, has an undone entry and exactly as many entries as the budget; its costs
 -- and its proof, where it has such, are true. Just the rows that its trees name are printed.
 pub record IsShownUndecided (limits : Bounds) (p : DesignProblem) (bytes : List ℕ) : Type 0 where
   pub answer : AnswerParts

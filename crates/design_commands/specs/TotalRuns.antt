@@ -84,7 +84,7 @@ pub record IsTotalled (limits : Bounds) (d : Input) (bytes : List ℕ) : Type 0 
   pub spelled : bytes ≡ total_text inside (total designed.costs) shown
 
 -- The bytes show that the budget was used up at a bound of the total: they print an answer with best costs, their total, and
--- a tree, earnest over the box at their greatest cost, with an Undone and just as many entries as the budget, in which the
+-- a tree, earnest over the box at their greatest cost, with an undone entry and exactly as many entries as the budget, in which the
 -- form of the total has the bound. The bound is at least the total of the lower bounds, and below that of the costs, which
 -- are read back from these bytes as from a design's.
 pub record IsShownUndecidedTotal (limits : Bounds) (d : Input) (bytes : List ℕ) : Type 0 where

@@ -58,7 +58,7 @@ capped-le p cap =
     let most : slice_index p.high k ≤ greatest_bound p = le_greatest p.high k inside in
     omega arith)
 
--- no tree over the box at such a cap has an Undone and just as many entries
+-- no tree over the box at such a cap has an undone entry and exactly as many entries
 never_spent : (limits : Bounds) (p : DesignProblem) (cap : ℕ) (forms : List Form) (tree : List Entry) → IsProblem p →
     IsLarge limits p → All (λ low. low ≤ cap) p.low → IsSoundTree forms (capped (box_of p) cap) tree → Contains tree Undone →
     entry_count tree ≡ limits.nodes → ⊥

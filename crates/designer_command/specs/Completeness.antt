@@ -59,8 +59,8 @@ use Rattle.evidence_commands.specs.Checks.{MayCheck}
 use Rattle.design_commands.specs.Designs.{MayDesign}
 use Rattle.evidence_commands.specs.Rewrites.{MayRewrite}
 
--- The budget can't be used up: over the box at any cap that isn't below a lower bound no earnest tree has an Undone and
--- just as many entries as the budget.
+-- The budget can't be used up: over the box at any cap that isn't below a lower bound no earnest tree has an undone entry and
+-- exactly as many entries as the budget.
 abbrev pub CannotBeUndecided : Bounds → DesignProblem → Type 0
 CannotBeUndecided limits p =
     (cap : ℕ) (rows : List Row) (tree : List Entry) → All (λ low. low ≤ cap) p.low → All (IsRow p) rows →
@@ -151,7 +151,7 @@ SpreadsAreFound =
     × (CannotSpendOnSharing limits sharing → IsSpreadSettled sharing end)
 
 -- The budget can't be used up for a bound of the total: over the box at the greatest of best costs no earnest tree, by rivals
--- and the form of the total, has an Undone and just as many entries as the budget.
+-- and the form of the total, has an undone entry and exactly as many entries as the budget.
 abbrev pub CannotSpendOnTotal : Bounds → DesignProblem → Type 0
 CannotSpendOnTotal limits p =
     (w : List ℕ) (bound : ℕ) (rows : List Row) (tree : List Entry) → AreBestCosts p w → All (IsRow p) rows →

@@ -49,7 +49,7 @@ IsSpreadFoundSettled (Impossible rows tree) = Unit {0}
 IsSpreadFoundSettled (Undecided rows tree) = ⊥
 
 -- The budget can't be used up: no earnest tree over the box at the greatest upper bound, by the sets of these lines and the
--- paths in no line, has an Undone and just as many entries as the budget.
+-- paths in no line, has an undone entry and exactly as many entries as the budget.
 abbrev pub CannotSpendOnSpread : DesignProblem → List (List ℕ) → ℕ → ℕ → Type 0
 CannotSpendOnSpread p lines top nodes =
     (rows : List SetRow) (tree : List Entry) → All (IsSetRow p (all_sets p lines)) rows →
