@@ -36,15 +36,17 @@ pub const GREATEST_MULTIPLIER: u128 = 9_999_999_999_999_999_999_999_999_999_999;
 ///
 /// `OutOfMemory` where a growth was refused.
 pub fn entry_of(alloc: Global, line: &[u8]) -> Result<Option<Entry>, OutOfMemory>
-    ensures { IfOk result (λ found. MatchOption found ((entry : Entry) → BoundsEntry entry → FitsEntry entry → line.now ≢ entry_line entry)
-        (λ entry. BoundsEntry entry × FitsEntry entry × (line.now ≡ entry_line entry))) }
+    ensures { IfOk result (λ found. MatchOption found ((entry : Entry) → BoundsEntry entry →
+        FitsEntry entry → line.now ≢ entry_line entry) (λ entry. BoundsEntry entry ×
+        FitsEntry entry × (line.now ≡ entry_line entry))) }
 {
     entry_of_words(alloc, line)
 }
 
 /// The entry that the words of a line say.
 fn entry_of_words(alloc: Global, line: &[u8]) -> Result<Option<Entry>, OutOfMemory>
-    ensures { IfOk result (λ found. MatchOption found (SaysNoEntry (split 32 line.now)) (λ entry. SaysEntry (split 32 line.now) entry)) }
+    ensures { IfOk result (λ found. MatchOption found (SaysNoEntry (split 32 line.now))
+        (λ entry. SaysEntry (split 32 line.now) entry)) }
 {
     let words = Pieces::new(line);
     if let Some(rest) = words.behind(b"tighten") {
@@ -64,7 +66,8 @@ fn entry_of_words(alloc: Global, line: &[u8]) -> Result<Option<Entry>, OutOfMemo
 
 /// The entry of `open`.
 fn undone_of(words: Pieces<'_>) -> Option<Entry>
-    ensures { MatchOption result (words_left words.entry ≢ codes "open" ∷ []) (λ entry. SaysEntry (words_left words.entry) entry) }
+    ensures { MatchOption result (words_left words.entry ≢ codes "open" ∷ [])
+        (λ entry. SaysEntry (words_left words.entry) entry) }
 {
     let rest = words.behind(b"open")?;
     if rest.is_done() {
@@ -76,7 +79,8 @@ fn undone_of(words: Pieces<'_>) -> Option<Entry>
 
 /// The entry with these words behind `split`.
 fn split_of(words: Pieces<'_>) -> Option<Entry>
-    ensures { MatchOption result (SaysNoEntry (codes "split" ∷ words_left words.entry)) (λ entry. SaysEntry (codes "split" ∷ words_left words.entry) entry) }
+    ensures { MatchOption result (SaysNoEntry (codes "split" ∷ words_left words.entry))
+        (λ entry. SaysEntry (codes "split" ∷ words_left words.entry) entry) }
 {
     let (var, behind_var) = words.number(GREATEST_VAR)?;
     let value = last_number(behind_var, GREATEST_VALUE)?;
@@ -114,8 +118,9 @@ fn last_number(words: Pieces<'_>, greatest: u128) -> Option<u128>
 
 /// The side that is the next word, and the words behind it.
 fn side_of(words: Pieces<'_>) -> Option<(Side, Pieces<'_>)>
-    ensures { MatchOption result ((side : Side) (rest : List (List ℕ)) → words_left words.entry ≢ side_word side ∷ rest)
-        (λ r. words_left words.entry ≡ side_word r.0 ∷ words_left r.1) }
+    ensures { MatchOption result ((side : Side) (rest : List (List ℕ)) →
+        words_left words.entry ≢ side_word side ∷ rest) (λ r.
+        words_left words.entry ≡ side_word r.0 ∷ words_left r.1) }
 {
     if let Some(rest) = words.behind(b"low") {
         return Some((Side::Low, rest));
@@ -126,7 +131,8 @@ fn side_of(words: Pieces<'_>) -> Option<(Side, Pieces<'_>)>
 
 /// The entry with these words behind `refute`.
 fn refute_of(alloc: Global, words: Pieces<'_>) -> Result<Option<Entry>, OutOfMemory>
-    ensures { IfOk result (λ found. MatchOption found (SaysNoEntry (codes "refute" ∷ words_left words.entry))
+    ensures { IfOk result
+        (λ found. MatchOption found (SaysNoEntry (codes "refute" ∷ words_left words.entry))
         (λ entry. SaysEntry (codes "refute" ∷ words_left words.entry) entry)) }
 {
     if words.is_done() {
@@ -142,9 +148,10 @@ fn refute_of(alloc: Global, words: Pieces<'_>) -> Result<Option<Entry>, OutOfMem
 
 /// The rows with their multipliers that words say.
 fn parts_of(alloc: Global, words: Pieces<'_>) -> Result<Option<Vec<(u64, u128)>>, OutOfMemory>
-    ensures { IfOk result (λ found. MatchOption found
-        ((ps : List (ℕ × ℕ)) → BoundsParts ps → All (λ part. part.1 < 10 ^ 31) ps → words_left words.entry ≢ part_words ps)
-        (λ ps. BoundsParts ps.items × All (λ part. part.1 < 10 ^ 31) ps.items × (words_left words.entry ≡ part_words ps.items))) }
+    ensures { IfOk result (λ found. MatchOption found ((ps : List (ℕ × ℕ)) → BoundsParts ps →
+        All (λ part. part.1 < 10 ^ 31) ps → words_left words.entry ≢ part_words ps)
+        (λ ps. BoundsParts ps.items × All (λ part. part.1 < 10 ^ 31) ps.items ×
+        (words_left words.entry ≡ part_words ps.items))) }
 {
     let mut parts = Vec::new(alloc);
     let mut left = words;
@@ -163,9 +170,10 @@ fn parts_of(alloc: Global, words: Pieces<'_>) -> Result<Option<Vec<(u64, u128)>>
 
 /// The row with its multiplier that the next two words say, and the words behind them.
 pub fn part_of(words: Pieces<'_>) -> Option<((u64, u128), Pieces<'_>)>
-    ensures { MatchOption result ((row m : ℕ) (rest : List (List ℕ)) → IsRowNumber row → 0 < m → m < 10 ^ 31 →
-        words_left words.entry ≢ decimal row ∷ decimal m ∷ rest)
-        (λ r. IsRowNumber r.0.0 × (0 < r.0.1) × (r.0.1 < 10 ^ 31) × (words_left words.entry ≡ decimal r.0.0 ∷ decimal r.0.1 ∷ words_left r.1)) }
+    ensures { MatchOption result ((row m : ℕ) (rest : List (List ℕ)) → IsRowNumber row → 0 < m →
+        m < 10 ^ 31 → words_left words.entry ≢ decimal row ∷ decimal m ∷ rest)
+        (λ r. IsRowNumber r.0.0 × (0 < r.0.1) × (r.0.1 < 10 ^ 31) ×
+        (words_left words.entry ≡ decimal r.0.0 ∷ decimal r.0.1 ∷ words_left r.1)) }
 {
     let (row, behind_row) = words.number(GREATEST_ROW)?;
     let (multiplier, rest) = behind_row.number(GREATEST_MULTIPLIER)?;
@@ -179,8 +187,10 @@ pub fn part_of(words: Pieces<'_>) -> Option<((u64, u128), Pieces<'_>)>
 /// Whether a row comes behind all rows of parts.
 fn rises(parts: &[(u64, u128)], row: u64) -> bool
     requires { AllPairs (λ a b. a.0 < b.0) parts.now }
-    ensures rise { IsTrue result → (k : ℕ) (d : ℕ × ℕ) → k < length parts.now → (slice_index_or parts.now k d).0 < row }
-    ensures fall { result ≡ false → (k : ℕ) × (k < length parts.now) × ((d : ℕ × ℕ) → row ≤ (slice_index_or parts.now k d).0) }
+    ensures rise { IsTrue result → (k : ℕ) (d : ℕ × ℕ) → k < length parts.now →
+        (slice_index_or parts.now k d).0 < row }
+    ensures fall { result ≡ false → (k : ℕ) × (k < length parts.now) ×
+        ((d : ℕ × ℕ) → row ≤ (slice_index_or parts.now k d).0) }
 {
     match parts.last() {
         Some(last) => last.0 < row,
@@ -200,7 +210,8 @@ struct HalveFront {
 
 /// The entry with these words behind `halve`.
 fn halve_of(alloc: Global, words: Pieces<'_>) -> Result<Option<Entry>, OutOfMemory>
-    ensures { IfOk result (λ found. MatchOption found (SaysNoEntry (codes "halve" ∷ words_left words.entry))
+    ensures { IfOk result
+        (λ found. MatchOption found (SaysNoEntry (codes "halve" ∷ words_left words.entry))
         (λ entry. SaysEntry (codes "halve" ∷ words_left words.entry) entry)) }
 {
     let Some((front, rest)) = halve_front(words) else {
@@ -226,8 +237,9 @@ fn halve_of(alloc: Global, words: Pieces<'_>) -> Result<Option<Entry>, OutOfMemo
 
 /// What the words behind `halve` say before the basis, and the words behind that.
 fn halve_front(words: Pieces<'_>) -> Option<(HalveFront, Pieces<'_>)>
-    ensures { MatchOption result ((front : HalveFront) (rest : List (List ℕ)) → IsHalveFront front → words_left words.entry ≢ front_words front rest)
-        (λ r. IsHalveFront r.0 × (words_left words.entry ≡ front_words r.0 (words_left r.1))) }
+    ensures { MatchOption result ((front : HalveFront) (rest : List (List ℕ)) → IsHalveFront front →
+        words_left words.entry ≢ front_words front rest) (λ r. IsHalveFront r.0 ×
+        (words_left words.entry ≡ front_words r.0 (words_left r.1))) }
 {
     let (var, behind_var) = words.number(GREATEST_VAR)?;
     let (value, behind_value) = behind_var.number(GREATEST_VALUE)?;
@@ -248,8 +260,9 @@ fn halve_front(words: Pieces<'_>) -> Option<(HalveFront, Pieces<'_>)>
 
 /// The fraction that is the next word, and the words behind it.
 fn next_ratio(words: Pieces<'_>) -> Option<(Ratio, Pieces<'_>)>
-    ensures { MatchOption result ((q : Ratio) (rest : List (List ℕ)) → IsPrintedRatio q → words_left words.entry ≢ ratio_word q ∷ rest)
-        (λ r. IsPrintedRatio r.0 × (words_left words.entry ≡ ratio_word r.0 ∷ words_left r.1)) }
+    ensures { MatchOption result ((q : Ratio) (rest : List (List ℕ)) → IsPrintedRatio q →
+        words_left words.entry ≢ ratio_word q ∷ rest) (λ r. IsPrintedRatio r.0 ×
+        (words_left words.entry ≡ ratio_word r.0 ∷ words_left r.1)) }
 {
     let (word, rest) = words.word()?;
     let ratio = ratio_of(word)?;
@@ -258,8 +271,9 @@ fn next_ratio(words: Pieces<'_>) -> Option<(Ratio, Pieces<'_>)>
 
 /// The step that is the next word, and the words behind it.
 fn step_of(words: Pieces<'_>) -> Option<(StepName, Pieces<'_>)>
-    ensures { MatchOption result ((step : StepName) (rest : List (List ℕ)) → words_left words.entry ≢ step_word step ∷ rest)
-        (λ r. words_left words.entry ≡ step_word r.0 ∷ words_left r.1) }
+    ensures { MatchOption result ((step : StepName) (rest : List (List ℕ)) →
+        words_left words.entry ≢ step_word step ∷ rest) (λ r.
+        words_left words.entry ≡ step_word r.0 ∷ words_left r.1) }
 {
     let (word, rest) = words.word()?;
     let step = step_named(word)?;
@@ -268,7 +282,8 @@ fn step_of(words: Pieces<'_>) -> Option<(StepName, Pieces<'_>)>
 
 /// The step of a name.
 fn step_named(word: &[u8]) -> Option<StepName>
-    ensures { MatchOption result ((step : StepName) → word.now ≢ step_word step) (λ step. word.now ≡ step_word step) }
+    ensures { MatchOption result ((step : StepName) → word.now ≢ step_word step)
+        (λ step. word.now ≡ step_word step) }
 {
     match word {
         b"add" => Some(StepName::Add),
@@ -283,8 +298,9 @@ fn step_named(word: &[u8]) -> Option<StepName>
 
 /// The members of a basis that words say.
 fn members_of(alloc: Global, words: Pieces<'_>) -> Result<Option<Vec<Member>>, OutOfMemory>
-    ensures { IfOk result (λ found. MatchOption found ((ms : List Member) → All BoundsMember ms → words_left words.entry ≢ members_words ms)
-        (λ ms. All BoundsMember ms.items × (words_left words.entry ≡ members_words ms.items))) }
+    ensures { IfOk result (λ found. MatchOption found ((ms : List Member) → All BoundsMember ms →
+        words_left words.entry ≢ members_words ms) (λ ms. All BoundsMember ms.items ×
+        (words_left words.entry ≡ members_words ms.items))) }
 {
     let mut members = Vec::new(alloc);
     let mut left = words;
@@ -300,7 +316,8 @@ fn members_of(alloc: Global, words: Pieces<'_>) -> Result<Option<Vec<Member>>, O
 
 /// The member of a basis that the next words say, and the words behind them.
 pub fn member_of(words: Pieces<'_>) -> Option<(Member, Pieces<'_>)>
-    ensures { MatchOption result ((member : Member) (rest : List (List ℕ)) → BoundsMember member → words_left words.entry ≢ member_words member ++ rest)
+    ensures { MatchOption result ((member : Member) (rest : List (List ℕ)) → BoundsMember member →
+        words_left words.entry ≢ member_words member ++ rest)
         (λ r. BoundsMember r.0 × (words_left words.entry ≡ member_words r.0 ++ words_left r.1)) }
 {
     if let Some(numbers) = words.behind(b"row") {
@@ -314,9 +331,10 @@ pub fn member_of(words: Pieces<'_>) -> Option<(Member, Pieces<'_>)>
 
 /// The member of a bound of a variable, whose side is known, and the words behind it.
 fn bound_of(side: Side, words: Pieces<'_>) -> Option<(Member, Pieces<'_>)>
-    ensures { MatchOption result ((var value : ℕ) (rest : List (List ℕ)) → IsThing var → IsCost value →
-        words_left words.entry ≢ decimal var ∷ decimal value ∷ rest)
-        (λ r. BoundsMember r.0 × (side_word side ∷ words_left words.entry ≡ member_words r.0 ++ words_left r.1)) }
+    ensures { MatchOption result ((var value : ℕ) (rest : List (List ℕ)) → IsThing var →
+        IsCost value → words_left words.entry ≢ decimal var ∷ decimal value ∷ rest)
+        (λ r. BoundsMember r.0 × (side_word side ∷ words_left words.entry ≡
+        member_words r.0 ++ words_left r.1)) }
 {
     let (var, behind_var) = words.number(GREATEST_VAR)?;
     let (value, rest) = behind_var.number(GREATEST_VALUE)?;

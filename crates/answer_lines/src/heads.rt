@@ -13,8 +13,9 @@ use evidence_text::{TreePart, part_word};
 
 /// The verdict that a line says.
 pub(crate) fn verdict_of(line: &[u8]) -> Option<Verdict>
-    ensures { MatchOption result ((verdict : Verdict) → BoundsVerdict verdict → line.now ≢ verdict_line verdict)
-        (λ verdict. BoundsVerdict verdict × (line.now ≡ verdict_line verdict)) }
+    ensures { MatchOption result ((verdict : Verdict) → BoundsVerdict verdict →
+        line.now ≢ verdict_line verdict) (λ verdict. BoundsVerdict verdict ×
+        (line.now ≡ verdict_line verdict)) }
 {
     if line == b"verdict impossible".as_slice() {
         return Some(Verdict::Impossible);
@@ -53,7 +54,8 @@ pub fn verdict_next(text: TextLeft<'_>) -> Option<(Verdict, TextLeft<'_>)>
 
 /// The floor behind `costs none`, where its line is the next, and the text behind it.
 pub fn floor_next(text: TextLeft<'_>) -> Option<(Floor, TextLeft<'_>)>
-    ensures { MatchOption result (LacksLawful AtFloor text.entry.left.now) (λ r. BoundsFloor r.0 × Goes AtFloor text.entry (floor_line r.0 ∷ []) AtRows r.1) }
+    ensures { MatchOption result (LacksLawful AtFloor text.entry.left.now)
+        (λ r. BoundsFloor r.0 × Goes AtFloor text.entry (floor_line r.0 ∷ []) AtRows r.1) }
 {
     let (line, rest) = text.line()?;
     let floor = floor_of(line)?;
@@ -62,7 +64,8 @@ pub fn floor_next(text: TextLeft<'_>) -> Option<(Floor, TextLeft<'_>)>
 
 /// How many rows there are, where the line of that is the next, and the text behind it.
 pub fn rows_next(text: TextLeft<'_>) -> Option<(u64, TextLeft<'_>)>
-    ensures { MatchOption result (LacksLawful AtRows text.entry.left.now) (λ r. Goes AtRows text.entry (rows_line r.0 ∷ []) (AtRow r.0) r.1) }
+    ensures { MatchOption result (LacksLawful AtRows text.entry.left.now)
+        (λ r. Goes AtRows text.entry (rows_line r.0 ∷ []) (AtRow r.0) r.1) }
 {
     let (line, rest) = text.line()?;
     let count = number_after(line, b"rows ", 18_446_744_073_709_551_615)?;
@@ -71,7 +74,8 @@ pub fn rows_next(text: TextLeft<'_>) -> Option<(u64, TextLeft<'_>)>
 
 /// The cap of a tree, and how many lines it has, as the head of this part says.
 pub fn tree_head_of(line: &[u8], part: TreePart) -> Option<(u16, u32)>
-    ensures { MatchOption result ((cap count : ℕ) → IsCost cap → IsThing count → line.now ≢ tree_line part cap count) (λ r. line.now ≡ tree_line part r.0 r.1) }
+    ensures { MatchOption result ((cap count : ℕ) → IsCost cap → IsThing count →
+        line.now ≢ tree_line part cap count) (λ r. line.now ≡ tree_line part r.0 r.1) }
 {
     let numbers = Pieces::new(line).behind(part_word(part))?;
     let (cap, behind) = numbers.number(65_535)?;

@@ -15,7 +15,8 @@ pub const GREATEST_SIZE: u128 = 170_141_183_460_469_231_731_687_303_715_884_105_
 
 /// The fraction that a word says.
 pub(crate) fn ratio_of(word: &[u8]) -> Option<Ratio>
-    ensures { MatchOption result ((q : Ratio) → IsPrintedRatio q → word.now ≢ ratio_word q) (λ q. IsPrintedRatio q × (word.now ≡ ratio_word q)) }
+    ensures { MatchOption result ((q : Ratio) → IsPrintedRatio q → word.now ≢ ratio_word q)
+        (λ q. IsPrintedRatio q × (word.now ≡ ratio_word q)) }
 {
     let (above, below) = cut(word, b'/')?;
     let numerator = integer_of(above)?;
@@ -27,8 +28,9 @@ pub(crate) fn ratio_of(word: &[u8]) -> Option<Ratio>
 fn lowest(numerator: i128, denominator: u128) -> Option<Ratio>
     requires above { nat_abs numerator < 2 ^ 127 }
     requires below { denominator < 2 ^ 127 }
-    ensures { MatchOption result ((q : Ratio) → IsPrintedRatio q → q.numerator ≡ numerator → q.denominator ≡ pos denominator → ⊥)
-        (λ q. IsPrintedRatio q × (q.numerator ≡ numerator) × (q.denominator ≡ pos denominator)) }
+    ensures { MatchOption result ((q : Ratio) → IsPrintedRatio q → q.numerator ≡ numerator →
+        q.denominator ≡ pos denominator → ⊥) (λ q. IsPrintedRatio q × (q.numerator ≡ numerator) ×
+        (q.denominator ≡ pos denominator)) }
 {
     if denominator == 0 {
         return None;
@@ -45,7 +47,8 @@ fn lowest(numerator: i128, denominator: u128) -> Option<Ratio>
 
 /// The number with its sign that a word says.
 pub fn integer_of(word: &[u8]) -> Option<i128>
-    ensures { MatchOption result ((z : ℤ) → nat_abs z < 2 ^ 127 → word.now ≢ integer z) (λ z. (nat_abs z < 2 ^ 127) × (word.now ≡ integer z)) }
+    ensures { MatchOption result ((z : ℤ) → nat_abs z < 2 ^ 127 → word.now ≢ integer z)
+        (λ z. (nat_abs z < 2 ^ 127) × (word.now ≡ integer z)) }
 {
     match after(word, b"-") {
         Some(digits) => negative_of(digits),

@@ -18,8 +18,9 @@ use std::alloc::Global;
 ///
 /// `OutOfMemory` where a growth was refused.
 pub fn row_of(alloc: Global, line: &[u8]) -> Result<Option<Row>, OutOfMemory>
-    ensures { IfOk result (λ found. MatchOption found ((row : Row) → BoundsRow row → line.now ≢ row_line row)
-        (λ row. BoundsRow row × (line.now ≡ row_line row) × (row.rival.start ≡ 0))) }
+    ensures { IfOk result (λ found. MatchOption found ((row : Row) → BoundsRow row →
+        line.now ≢ row_line row) (λ row. BoundsRow row × (line.now ≡ row_line row) ×
+        (row.rival.start ≡ 0))) }
 {
     let Some(numbers) = Pieces::new(line).behind(b"row") else {
         return Ok(None);
@@ -41,7 +42,8 @@ pub fn row_of(alloc: Global, line: &[u8]) -> Result<Option<Row>, OutOfMemory>
 
 /// The numbers that words say, each at most 4294967295.
 fn numbers_of(alloc: Global, words: Pieces<'_>) -> Result<Option<Vec<u32>>, OutOfMemory>
-    ensures { IfOk result (λ found. MatchOption found ((ns : List ℕ) → All IsThing ns → words_left words.entry ≢ map decimal ns)
+    ensures { IfOk result (λ found. MatchOption found ((ns : List ℕ) → All IsThing ns →
+        words_left words.entry ≢ map decimal ns)
         (λ ns. (words_left words.entry ≡ map decimal ns.items) × All IsThing ns.items)) }
 {
     let mut numbers = Vec::new(alloc);

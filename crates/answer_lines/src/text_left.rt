@@ -34,7 +34,8 @@ impl<'a> TextLeft<'a> {
     /// The next line, which ends with an LF and has at most 65,536 bytes, and the text behind it.
     pub fn line(self) -> Option<(&'a [u8], TextLeft<'a>)>
         ensures { MatchOption result (LacksFirst self.entry.left.now)
-            (λ r. IsFirstInText self.entry.left.now r.0.now r.1.left.now × (r.1.read ≡ self.entry.read + 1)) }
+            (λ r. IsFirstInText self.entry.left.now r.0.now r.1.left.now ×
+            (r.1.read ≡ self.entry.read + 1)) }
     {
         let (line, rest) = self.any_line()?;
         if line.len() > LONGEST {
@@ -46,7 +47,8 @@ impl<'a> TextLeft<'a> {
     /// The next line, which ends with an LF and has any number of bytes, and the text behind it.
     pub fn any_line(self) -> Option<(&'a [u8], TextLeft<'a>)>
         ensures { MatchOption result (IsOneLine self.entry.left.now)
-            (λ r. (self.entry.left.now ≡ r.0.now ++ 10 ∷ r.1.left.now) × IsOneLine r.0.now × (r.1.read ≡ self.entry.read + 1)) }
+            (λ r. (self.entry.left.now ≡ r.0.now ++ 10 ∷ r.1.left.now) × IsOneLine r.0.now ×
+            (r.1.read ≡ self.entry.read + 1)) }
     {
         let (line, left) = cut(self.left, b'\n')?;
         Some((
@@ -60,8 +62,9 @@ impl<'a> TextLeft<'a> {
 
     /// The text behind this line, where it is the next.
     pub fn behind(self, wanted: &[u8]) -> Option<TextLeft<'a>>
-        ensures { MatchOption result ((left : List ℕ) → IsFirstInText self.entry.left.now wanted.now left → ⊥)
-            (λ r. IsFirstInText self.entry.left.now wanted.now r.left.now × (r.read ≡ self.entry.read + 1)) }
+        ensures { MatchOption result ((left : List ℕ) → IsFirstInText self.entry.left.now wanted.now
+            left → ⊥) (λ r. IsFirstInText self.entry.left.now wanted.now r.left.now ×
+            (r.read ≡ self.entry.read + 1)) }
     {
         let (line, rest) = self.line()?;
         if line == wanted { Some(rest) } else { None }

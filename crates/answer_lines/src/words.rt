@@ -26,7 +26,8 @@ impl<'a> Pieces<'a> {
 
     /// The next word, and the words behind it.
     pub fn word(self) -> Option<(&'a [u8], Pieces<'a>)>
-        ensures { MatchOption result (words_left self.entry ≡ []) (λ r. words_left self.entry ≡ r.0.now ∷ words_left r.1) }
+        ensures { MatchOption result (words_left self.entry ≡ [])
+            (λ r. words_left self.entry ≡ r.0.now ∷ words_left r.1) }
     {
         let text = self.left?;
         match cut(text, b' ') {
@@ -37,8 +38,8 @@ impl<'a> Pieces<'a> {
 
     /// The words behind this one, where it is the next.
     pub fn behind(self, wanted: &[u8]) -> Option<Pieces<'a>>
-        ensures { MatchOption result ((rest : List (List ℕ)) → words_left self.entry ≢ wanted.now ∷ rest)
-            (λ r. words_left self.entry ≡ wanted.now ∷ words_left r) }
+        ensures { MatchOption result ((rest : List (List ℕ)) → words_left self.entry ≢
+            wanted.now ∷ rest) (λ r. words_left self.entry ≡ wanted.now ∷ words_left r) }
     {
         let (word, rest) = self.word()?;
         if word == wanted { Some(rest) } else { None }
@@ -46,8 +47,9 @@ impl<'a> Pieces<'a> {
 
     /// The number that is the next word, at most `greatest` and as it is printed, and the words behind it.
     pub fn number(self, greatest: u128) -> Option<(u128, Pieces<'a>)>
-        ensures { MatchOption result ((n : ℕ) (rest : List (List ℕ)) → n ≤ greatest → words_left self.entry ≢ decimal n ∷ rest)
-            (λ r. (r.0 ≤ greatest) × (words_left self.entry ≡ decimal r.0 ∷ words_left r.1)) }
+        ensures { MatchOption result ((n : ℕ) (rest : List (List ℕ)) → n ≤ greatest →
+            words_left self.entry ≢ decimal n ∷ rest) (λ r. (r.0 ≤ greatest) ×
+            (words_left self.entry ≡ decimal r.0 ∷ words_left r.1)) }
     {
         let (word, rest) = self.word()?;
         let number = printed_number(word, greatest)?;
@@ -56,7 +58,8 @@ impl<'a> Pieces<'a> {
 
     /// The text of the words that are left.
     pub fn text(self) -> Option<&'a [u8]>
-        ensures { MatchOption result (words_left self.entry ≡ []) (λ text. words_left self.entry ≡ split 32 text.now) }
+        ensures { MatchOption result (words_left self.entry ≡ [])
+            (λ text. words_left self.entry ≡ split 32 text.now) }
     {
         self.left
     }
@@ -74,14 +77,16 @@ impl<'a> Pieces<'a> {
 
 /// What stands behind the front of a line.
 pub fn after<'a>(line: &'a [u8], front: &[u8]) -> Option<&'a [u8]>
-    ensures { MatchOption result ((rest : List ℕ) → line.now ≢ front.now ++ rest) (λ rest. line.now ≡ front.now ++ rest.now) }
+    ensures { MatchOption result ((rest : List ℕ) → line.now ≢ front.now ++ rest)
+        (λ rest. line.now ≡ front.now ++ rest.now) }
 {
     line.strip_prefix(front)
 }
 
 /// The number, as it is printed, that stands alone behind the front of a line.
 pub fn number_after(line: &[u8], front: &[u8], greatest: u128) -> Option<u128>
-    ensures { MatchOption result ((n : ℕ) → n ≤ greatest → line.now ≢ front.now ++ decimal n) (λ n. (n ≤ greatest) × (line.now ≡ front.now ++ decimal n)) }
+    ensures { MatchOption result ((n : ℕ) → n ≤ greatest → line.now ≢ front.now ++ decimal n)
+        (λ n. (n ≤ greatest) × (line.now ≡ front.now ++ decimal n)) }
 {
     let text = after(line, front)?;
     printed_number(text, greatest)

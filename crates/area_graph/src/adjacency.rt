@@ -62,7 +62,8 @@ fn edges_on(
     requires few { length edges.now < 2 ^ 32 }
     ensures count { IfOk result (λ lists. length lists.items ≡ length vertices.now) }
     ensures lists { IfOk result (λ lists. (v : ℕ) → v < length vertices.now →
-        slice_index_or lists.items v [] ≡ listed_below (length edges.now) side (record { vertices = vertices.now; edges = edges.now }) v) }
+        slice_index_or lists.items v [] ≡ listed_below (length edges.now) side
+        (record { vertices = vertices.now; edges = edges.now }) v) }
 {
     let mut lists = empty_lists(alloc, vertices.len())?;
     for (number, edge) in edges.iter().enumerate() {
@@ -98,7 +99,10 @@ impl Graph {
     /// `OutOfMemory` where the lists of edges got no memory.
     pub fn new(alloc: Global, vertices: Vec<Vertex>, edges: Vec<Edge>) -> Result<Graph, OutOfMemory>
         requires { FitsGraph (record { vertices = vertices.items; edges = edges.items }) }
-        ensures { IfOk result (λ graph. graph ≡ record { vertices = vertices.items; edges = edges.items }) }
+        ensures { IfOk result (λ graph. graph ≡ record {
+          vertices = vertices.items;
+          edges = edges.items;
+        }) }
     {
         let out = edges_on(alloc, vertices.as_slice(), edges.as_slice(), Side::Out)?;
         let into = edges_on(alloc, vertices.as_slice(), edges.as_slice(), Side::Into)?;

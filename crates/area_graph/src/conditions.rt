@@ -31,7 +31,8 @@ pub fn fits_graph(vertices: &[Vertex], edges: &[Edge]) -> bool
 }
 
 fn edges_fit(vertices: &[Vertex], edges: &[Edge]) -> bool
-    ensures { IsTrue result ↔ All (FitsEdge (record { vertices = vertices.now; edges = edges.now })) edges.now }
+    ensures { IsTrue result ↔ All (FitsEdge (record { vertices = vertices.now; edges = edges.now }))
+        edges.now }
 {
     for edge in edges {
         if !fits_edge(vertices, *edge) {
@@ -60,7 +61,8 @@ fn is_router_vertex(vertex: Vertex) -> bool
 }
 
 fn fits_edge(vertices: &[Vertex], edge: Edge) -> bool
-    ensures { (edges : _) → IsTrue result ↔ FitsEdge (record { vertices = vertices.now; edges = edges }) edge }
+    ensures { (edges : _) → IsTrue result ↔
+        FitsEdge (record { vertices = vertices.now; edges = edges }) edge }
 {
     let from = edge.from as usize;
     let to = edge.to as usize;

@@ -39,7 +39,8 @@ fn distances_to(
     requires fits { FitsSubgraph subgraph.now }
     requires target { target < length subgraph.now.graph.now.vertices }
     ensures numbers { IfOk result (λ d. AreNumbersIn subgraph.now d.items) }
-    ensures distances { IfOk result (λ d. AreDistancesTo subgraph.now target (far subgraph.now.point.now) d.items) }
+    ensures distances { IfOk result (λ d. AreDistancesTo subgraph.now target
+        (far subgraph.now.point.now) d.items) }
 {
     let mut distances = vec![in alloc; 0; subgraph.graph.vertices().len()]?;
     let far = FAR * subgraph.point.scale;
@@ -58,8 +59,8 @@ fn is_dearer(
     requires fits { FitsSubgraph subgraph.now }
     requires known { other < length subgraph.now.graph.now.edges }
     requires numbers { AreNumbersIn subgraph.now distances.now }
-    ensures { IsTrue result ↔ LeadsToMore subgraph.now.graph.now subgraph.now.point.now subgraph.now.removal.now
-        distances.now named most other }
+    ensures { IsTrue result ↔ LeadsToMore subgraph.now.graph.now subgraph.now.point.now
+        subgraph.now.removal.now distances.now named most other }
 {
     subgraph.graph.keeps_conditions();
     if other == named || !subgraph.removal.leaves(other) {
@@ -75,8 +76,9 @@ fn others_are_dearer(subgraph: &Subgraph<'_>, distances: &[u128], named: u32, mo
     requires known { named < length subgraph.now.graph.now.edges }
     requires numbers { AreNumbersIn subgraph.now distances.now }
     ensures { IsTrue result ↔
-        All (LeadsToMore subgraph.now.graph.now subgraph.now.point.now subgraph.now.removal.now distances.now named most)
-        (edges_out subgraph.now.graph.now (edge_at subgraph.now.graph.now named).from) }
+        All (LeadsToMore subgraph.now.graph.now subgraph.now.point.now subgraph.now.removal.now
+        distances.now named most) (edges_out subgraph.now.graph.now
+        (edge_at subgraph.now.graph.now named).from) }
 {
     subgraph.graph.keeps_conditions();
     let start = edge_of(subgraph.graph, named).from;
@@ -92,11 +94,13 @@ fn others_are_dearer(subgraph: &Subgraph<'_>, distances: &[u128], named: u32, mo
 /// costs from there.
 fn leads(subgraph: &Subgraph<'_>, path: &Path, distances: &[u128]) -> bool
     requires fits { FitsSubgraph subgraph.now }
-    requires simple { (end : ℕ) × IsSimple subgraph.now.graph.now path.now.start path.now.edges end }
+    requires simple { (end : ℕ) × IsSimple subgraph.now.graph.now path.now.start path.now.edges
+        end }
     requires numbers { AreNumbersIn subgraph.now distances.now }
-    ensures leads { IsTrue result ↔
-        OtherEdgesLeadToMore subgraph.now.graph.now subgraph.now.point.now subgraph.now.removal.now distances.now path.now.edges }
-    ensures below { cost subgraph.now.graph.now subgraph.now.point.now path.now.edges < far subgraph.now.point.now }
+    ensures leads { IsTrue result ↔ OtherEdgesLeadToMore subgraph.now.graph.now
+        subgraph.now.point.now subgraph.now.removal.now distances.now path.now.edges }
+    ensures below { cost subgraph.now.graph.now subgraph.now.point.now path.now.edges <
+        far subgraph.now.point.now }
 {
     let mut rest = path_cost(subgraph.graph, path, subgraph.point);
     for number in path.edges.as_slice() {
@@ -124,8 +128,8 @@ pub fn is_only_cheapest(
 ) -> Result<bool, OutOfMemory>
     requires fits { FitsPoint graph.now point.now }
     requires path { IsPathOf graph.now (ends_requested requested.now) requested.now.path.now.edges }
-    ensures { IfOk result (λ yes. IsTrue yes ↔
-        IsOnlyCheapest graph.now point.now (ends_requested requested.now) requested.now.path.now.edges) }
+    ensures { IfOk result (λ yes. IsTrue yes ↔ IsOnlyCheapest graph.now point.now
+        (ends_requested requested.now) requested.now.path.now.edges) }
 {
     graph.keeps_conditions();
     let mut marks = vec![in alloc; false; graph.edges().len()]?;

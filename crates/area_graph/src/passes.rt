@@ -37,10 +37,12 @@ fn visit(subgraph: &Subgraph<'_>, number: u32, distances: &mut Vec<u128>) -> boo
     requires known { number < length subgraph.now.graph.now.edges }
     requires numbers { AreNumbersIn subgraph.now distances.old.items }
     ensures lowered { IsTrue result → Lacks subgraph.now.removal.now number ×
-        ShorterBy subgraph.now.point.now (edge_at subgraph.now.graph.now number) distances.old.items distances.new.items }
+        ShorterBy subgraph.now.point.now (edge_at subgraph.now.graph.now number) distances.old.items
+        distances.new.items }
     ensures same { (result ≡ false) → distances.new.items ≡ distances.old.items }
     ensures least { (result ≡ false) → Lacks subgraph.now.removal.now number →
-        StaysBy subgraph.now.point.now (edge_at subgraph.now.graph.now number) distances.old.items distances.new.items }
+        StaysBy subgraph.now.point.now (edge_at subgraph.now.graph.now number) distances.old.items
+        distances.new.items }
 {
     subgraph.graph.keeps_conditions();
     if subgraph.removal.leaves(number) {
@@ -55,9 +57,10 @@ fn pass(subgraph: &Subgraph<'_>, distances: &mut Vec<u128>) -> bool
     requires fits { FitsSubgraph subgraph.now }
     requires numbers { AreNumbersIn subgraph.now distances.old.items }
     ensures numbers { AreNumbersIn subgraph.now distances.new.items }
-    ensures reached { (t limit : ℕ) →
-        AreReached subgraph.now.graph.now subgraph.now.point.now subgraph.now.removal.now t limit distances.old.items →
-        AreReached subgraph.now.graph.now subgraph.now.point.now subgraph.now.removal.now t limit distances.new.items }
+    ensures reached { (t limit : ℕ) → AreReached subgraph.now.graph.now subgraph.now.point.now
+        subgraph.now.removal.now t limit distances.old.items →
+        AreReached subgraph.now.graph.now subgraph.now.point.now subgraph.now.removal.now t limit
+        distances.new.items }
     ensures lower { IsTrue result → sum distances.new.items < sum distances.old.items }
     ensures settled { (result ≡ false) → SettledBelow (length subgraph.now.graph.now.edges)
         subgraph.now.graph.now subgraph.now.point.now subgraph.now.removal.now distances.new.items }

@@ -51,7 +51,9 @@ pub fn avoids(excluded: &[u32], edges: &[u32]) -> bool
 
 /// Whether a path is a simple path to `end` with no edge that is gone. Takes no memory.
 pub fn is_path_of(graph: &Graph, path: &Path, end: u32, excluded: &[u32]) -> bool
-    ensures { IsTrue result ↔ IsPathOf graph.now (record { start = path.now.start; end = end; excluded = excluded.now }) path.now.edges }
+    ensures { IsTrue result ↔
+        IsPathOf graph.now (record { start = path.now.start; end = end; excluded = excluded.now })
+        path.now.edges }
 {
     is_simple(graph, path, end) && avoids(excluded, path.edges.as_slice())
 }

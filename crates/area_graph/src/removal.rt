@@ -55,7 +55,8 @@ pub fn mark_excluded(marks: &mut Vec<bool>, excluded: &[u32])
 
 /// Sets the mark of one edge more, if it is an edge of the graph.
 fn mark(marks: &mut Vec<bool>, edge: u32)
-    ensures marks { (excluded : List ℕ) → AreEdgeMarks excluded marks.old.items → AreEdgeMarks (excluded ++ edge ∷ []) marks.new.items }
+    ensures marks { (excluded : List ℕ) → AreEdgeMarks excluded marks.old.items →
+        AreEdgeMarks (excluded ++ edge ∷ []) marks.new.items }
     ensures count { length marks.new.items ≡ length marks.old.items }
 {
     if (edge as usize) < marks.len() {

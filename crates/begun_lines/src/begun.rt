@@ -21,7 +21,8 @@ impl<'a> Begun<'a> {
     /// What follows this name, where the next word is it or begins it.
     pub(crate) fn name(self, wanted: &[u8]) -> Option<Begun<'a>>
         requires { IsSpaceless wanted.now }
-        ensures { MatchOption result (IsNoStep (λ w. w ≡ wanted.now) self.entry) (λ after. IsWordStep (λ w. w ≡ wanted.now) self.entry after) }
+        ensures { MatchOption result (IsNoStep (λ w. w ≡ wanted.now) self.entry)
+            (λ after. IsWordStep (λ w. w ≡ wanted.now) self.entry after) }
     {
         let missing = after(wanted, self.first_word())?;
         self.behind(missing.len())
@@ -42,7 +43,8 @@ impl<'a> Begun<'a> {
     pub(crate) fn number(self, numbers: Numbers) -> Option<Begun<'a>>
         requires coprime { gcd numbers.coprime_to numbers.least ≡ 1 }
         requires fits { numbers.greatest < 2 ^ 128 }
-        ensures { MatchOption result (IsNoStep (IsNumberInRange numbers) self.entry) (λ after. IsWordStep (IsNumberInRange numbers) self.entry after) }
+        ensures { MatchOption result (IsNoStep (IsNumberInRange numbers) self.entry)
+            (λ after. IsWordStep (IsNumberInRange numbers) self.entry after) }
     {
         let missing = missing_digits(self.first_word(), numbers)?;
         self.behind(missing)
@@ -62,7 +64,8 @@ impl<'a> Begun<'a> {
 
     /// What follows a fraction, where the next word is one or begins one.
     pub(crate) fn ratio(self) -> Option<Begun<'a>>
-        ensures { MatchOption result (IsNoStep IsRatio self.entry) (λ after. IsWordStep IsRatio self.entry after) }
+        ensures { MatchOption result (IsNoStep IsRatio self.entry)
+            (λ after. IsWordStep IsRatio self.entry after) }
     {
         let missing = missing_of_ratio(self.first_word())?;
         self.behind(missing)
@@ -80,12 +83,14 @@ impl<'a> Begun<'a> {
 
     /// What follows the next word, which lacks so many bytes. With a space behind it a word must lack none.
     fn behind(self, missing: usize) -> Option<Begun<'a>>
-        ensures { MatchOption result
-            (((split 32 self.entry.text.now ≢ self.entry.text.now ∷ []) × (missing ≢ 0)) ⊎
-            ((split 32 self.entry.text.now ≡ self.entry.text.now ∷ []) × (self.entry.room < missing + 1)))
+        ensures { MatchOption result (((split 32 self.entry.text.now ≢ self.entry.text.now ∷ []) ×
+            (missing ≢ 0)) ⊎ ((split 32 self.entry.text.now ≡ self.entry.text.now ∷ []) ×
+            (self.entry.room < missing + 1)))
             (λ after. ((word : List ℕ) × (self.entry.text.now ≡ word ++ 32 ∷ after.text.now) ×
-            (split 32 self.entry.text.now ≡ word ∷ split 32 after.text.now) × (missing ≡ 0) × (after.room ≡ self.entry.room))
-            ⊎ ((split 32 self.entry.text.now ≡ self.entry.text.now ∷ []) × (after.text.now ≡ []) × (after.room + missing + 1 ≡ self.entry.room))) }
+            (split 32 self.entry.text.now ≡ word ∷ split 32 after.text.now) × (missing ≡ 0) ×
+            (after.room ≡ self.entry.room)) ⊎
+            ((split 32 self.entry.text.now ≡ self.entry.text.now ∷ []) × (after.text.now ≡ []) ×
+            (after.room + missing + 1 ≡ self.entry.room))) }
     {
         match cut(self.text, b' ') {
             Some((_, text)) => {
@@ -107,7 +112,8 @@ impl<'a> Begun<'a> {
 
     /// Whether the line may end with the next word, which lacks so many bytes.
     fn ends(self, missing: usize) -> bool
-        ensures { IsTrue result ↔ ((split 32 self.entry.text.now ≡ self.entry.text.now ∷ []) × (missing ≤ self.entry.room)) }
+        ensures { IsTrue result ↔ ((split 32 self.entry.text.now ≡ self.entry.text.now ∷ []) ×
+            (missing ≤ self.entry.room)) }
     {
         match cut(self.text, b' ') {
             Some(_) => false,

@@ -48,7 +48,8 @@ const MULTIPLIERS: Numbers = Numbers {
 
 /// Whether a lawful tree line begins with these bytes.
 pub fn begins_entry(rest: &[u8]) -> bool
-    ensures { (part : TreePart) (places left : ℕ) → (IsTrue result ↔ BeginsLawful (AtTree part (suc places) (suc left)) rest.now) }
+    ensures { (part : TreePart) (places left : ℕ) →
+        (IsTrue result ↔ BeginsLawful (AtTree part (suc places) (suc left)) rest.now) }
 {
     match LONGEST.checked_sub(rest.len()) {
         Some(room) => becomes_entry(Begun { text: rest, room }),
@@ -164,9 +165,11 @@ fn goes_on_with_parts(line: Begun<'_>) -> bool
 
 /// The row of the next two words, and the text behind them, where there is one.
 fn behind_part(text: &[u8]) -> Option<(u64, &[u8])>
-    ensures { MatchOption result
-        ((row m : ℕ) (rest : List ℕ) → IsCoprimeInRange (rows_from 0) row → IsCoprimeInRange multiplier_range m → split 32 text.now ≢ decimal row ∷ decimal m ∷ split 32 rest)
-        (λ r. (m : ℕ) × IsCoprimeInRange (rows_from 0) r.0 × IsCoprimeInRange multiplier_range m × (split 32 text.now ≡ decimal r.0 ∷ decimal m ∷ split 32 r.1.now)) }
+    ensures { MatchOption result ((row m : ℕ) (rest : List ℕ) → IsCoprimeInRange (rows_from 0) row →
+        IsCoprimeInRange multiplier_range m → split 32 text.now ≢
+        decimal row ∷ decimal m ∷ split 32 rest) (λ r. (m : ℕ) ×
+        IsCoprimeInRange (rows_from 0) r.0 × IsCoprimeInRange multiplier_range m ×
+        (split 32 text.now ≡ decimal r.0 ∷ decimal m ∷ split 32 r.1.now)) }
 {
     let ((row, _), rest) = part_of(Pieces::new(text))?;
     let behind = rest.text()?;
@@ -175,7 +178,10 @@ fn behind_part(text: &[u8]) -> Option<(u64, &[u8])>
 
 /// Whether a `refute` line may end with a row from this one on, and its multiplier.
 fn ends_with_part(line: Begun<'_>, least: u128) -> bool
-    ensures { IsTrue result ↔ Becomes (Then (IsNumberInRange (rows_from least)) (Alone (IsNumberInRange multiplier_range))) line.entry }
+    ensures { IsTrue result ↔
+        Becomes
+        (Then (IsNumberInRange (rows_from least)) (Alone (IsNumberInRange multiplier_range)))
+        line.entry }
 {
     let rows = Numbers {
         least,
@@ -258,9 +264,10 @@ fn goes_on_with_members(line: Begun<'_>) -> bool
 
 /// The text behind the next member of a basis, where there is one.
 fn behind_member(text: &[u8]) -> Option<&[u8]>
-    ensures { MatchOption result
-        ((member : Member) (rest : List ℕ) → BoundsMember member → split 32 text.now ≢ member_words member ++ split 32 rest)
-        (λ rest. (member : Member) × BoundsMember member × (split 32 text.now ≡ member_words member ++ split 32 rest.now)) }
+    ensures { MatchOption result ((member : Member) (rest : List ℕ) → BoundsMember member →
+        split 32 text.now ≢ member_words member ++ split 32 rest)
+        (λ rest. (member : Member) × BoundsMember member ×
+        (split 32 text.now ≡ member_words member ++ split 32 rest.now)) }
 {
     let (_, rest) = member_of(Pieces::new(text))?;
     rest.text()

@@ -34,7 +34,8 @@ pub(crate) fn missing_digits(word: &[u8], numbers: Numbers) -> Option<usize>
 /// How many digits the shortest of these numbers has.
 fn all_digits(numbers: Numbers) -> Option<usize>
     requires { gcd numbers.coprime_to numbers.least ≡ 1 }
-    ensures { MatchOption result (numbers.greatest < numbers.least) (λ count. (numbers.least ≤ numbers.greatest) × (count ≡ length (decimal numbers.least))) }
+    ensures { MatchOption result (numbers.greatest < numbers.least)
+        (λ count. (numbers.least ≤ numbers.greatest) × (count ≡ length (decimal numbers.least))) }
 {
     if numbers.least > numbers.greatest {
         return None;
@@ -45,7 +46,8 @@ fn all_digits(numbers: Numbers) -> Option<usize>
 
 /// No digit may follow a zero.
 fn missing_behind_zero(numbers: Numbers) -> Option<usize>
-    ensures { MatchOption result (IsCoprimeInRange numbers 0 → ⊥) (λ count. (count ≡ 0) × IsCoprimeInRange numbers 0) }
+    ensures { MatchOption result (IsCoprimeInRange numbers 0 → ⊥)
+        (λ count. (count ≡ 0) × IsCoprimeInRange numbers 0) }
 {
     if has_number(0, 0, numbers) {
         Some(0)
@@ -59,7 +61,8 @@ fn missing_behind(begun: u128, numbers: Numbers) -> Option<usize>
     requires some { 0 < begun }
     requires fits { numbers.greatest < 2 ^ 128 }
     ensures { MatchOption result ((k n : ℕ) → Extends begun k n → IsCoprimeInRange numbers n → ⊥)
-        (λ count. ((n : ℕ) × Extends begun count n × IsCoprimeInRange numbers n) × ((k n : ℕ) → Extends begun k n → IsCoprimeInRange numbers n → count ≤ k)) }
+        (λ count. ((n : ℕ) × Extends begun count n × IsCoprimeInRange numbers n) ×
+        ((k n : ℕ) → Extends begun k n → IsCoprimeInRange numbers n → count ≤ k)) }
 {
     for digits in 0..39u32 {
         if goes_on(begun, 10u128.pow(digits), numbers) {
@@ -73,7 +76,8 @@ fn missing_behind(begun: u128, numbers: Numbers) -> Option<usize>
 fn goes_on(begun: u128, span: u128, numbers: Numbers) -> bool
     requires some { 0 < span }
     requires fits { numbers.greatest < 2 ^ 128 }
-    ensures { IsTrue result ↔ ((n : ℕ) × (begun * span ≤ n) × (n < begun * span + span) × IsCoprimeInRange numbers n) }
+    ensures { IsTrue result ↔ ((n : ℕ) × (begun * span ≤ n) × (n < begun * span + span) ×
+        IsCoprimeInRange numbers n) }
 {
     match begun.checked_mul(span) {
         Some(low) => has_number(low, low.saturating_add(span - 1), numbers),

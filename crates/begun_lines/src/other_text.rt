@@ -56,7 +56,8 @@ pub fn begins_sections_end(rest: &[u8], text: OtherText) -> bool
 
 /// Whether these bytes begin a line among the sections, `before` being the router of the cost line before.
 pub fn begins_other_section(rest: &[u8], before: Option<&[u8]>, text: OtherText) -> bool
-    ensures { IsTrue result ↔ BeginsLawful (AtSections (Some text) (option_copied before.entry)) rest.now }
+    ensures { IsTrue result ↔ BeginsLawful (AtSections (Some text) (option_copied before.entry))
+        rest.now }
 {
     begins_next_cost(rest, before) || begins_sections_end(rest, text)
 }

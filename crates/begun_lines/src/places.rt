@@ -28,7 +28,8 @@ pub fn begins_verdict(rest: &[u8]) -> bool
 
 /// Whether these bytes begin the line of a verdict that decides.
 fn begins_decided(rest: &[u8]) -> bool
-    ensures { IsTrue result ↔ (IsLineFront rest.now (codes "verdict impossible") ⊎ BeginsNumber rest.now (codes "verdict optimal ") 65535) }
+    ensures { IsTrue result ↔ (IsLineFront rest.now (codes "verdict impossible") ⊎
+        BeginsNumber rest.now (codes "verdict optimal ") 65535) }
 {
     begins_line(rest, b"verdict impossible") || begins_number(rest, b"verdict optimal ", 65_535)
 }
@@ -49,7 +50,8 @@ pub fn begins_section(rest: &[u8], before: Option<&[u8]>) -> bool
 
 /// Whether these bytes begin a line of one more cost: that of another router, or of one more interface of the same.
 pub(crate) fn begins_next_cost(rest: &[u8], before: Option<&[u8]>) -> bool
-    ensures { (text : Option OtherText) → (IsTrue result ↔ BeginsNextCost text (option_copied before.entry) rest.now) }
+    ensures { (text : Option OtherText) →
+        (IsTrue result ↔ BeginsNextCost text (option_copied before.entry) rest.now) }
 {
     begins_router(rest, before) || begins_interface_again(rest, before)
 }
@@ -76,7 +78,8 @@ fn is_router_line(line: &[u8], router: Option<&[u8]>) -> bool
 
 /// Whether these bytes begin the line of a further interface, which stands only behind a cost line.
 fn begins_interface_again(rest: &[u8], before: Option<&[u8]>) -> bool
-    ensures { (text : Option OtherText) → (IsTrue result ↔ BeginsAgain text (option_copied before.entry) rest.now) }
+    ensures { (text : Option OtherText) →
+        (IsTrue result ↔ BeginsAgain text (option_copied before.entry) rest.now) }
 {
     match before {
         Some(_) => begins_interface(rest),
@@ -86,21 +89,24 @@ fn begins_interface_again(rest: &[u8], before: Option<&[u8]>) -> bool
 
 /// Whether these bytes begin the line of an interface.
 pub fn begins_interface(rest: &[u8]) -> bool
-    ensures { (text : Option OtherText) (router : List ℕ) → (IsTrue result ↔ BeginsLawful (AtInterface text router) rest.now) }
+    ensures { (text : Option OtherText) (router : List ℕ) →
+        (IsTrue result ↔ BeginsLawful (AtInterface text router) rest.now) }
 {
     begins_name(rest, b"interface ")
 }
 
 /// Whether these bytes begin the line of an interface's cost.
 pub fn begins_cost(rest: &[u8]) -> bool
-    ensures { (text : Option OtherText) (router : List ℕ) → (IsTrue result ↔ BeginsLawful (AtCost text router) rest.now) }
+    ensures { (text : Option OtherText) (router : List ℕ) →
+        (IsTrue result ↔ BeginsLawful (AtCost text router) rest.now) }
 {
     begins_number(rest, b" ip ospf cost ", 65_535) && rest != b" ip ospf cost 0".as_slice()
 }
 
 /// Whether these bytes begin the line that ends an interface.
 pub fn begins_exit(rest: &[u8]) -> bool
-    ensures { (text : Option OtherText) (router : List ℕ) → (IsTrue result ↔ BeginsLawful (AtExit text router) rest.now) }
+    ensures { (text : Option OtherText) (router : List ℕ) →
+        (IsTrue result ↔ BeginsLawful (AtExit text router) rest.now) }
 {
     begins_line(rest, b"exit")
 }

@@ -38,7 +38,8 @@ fn missing_of_numerator(word: &[u8]) -> Option<usize>
 fn denominators(size: u128) -> Numbers
     ensures least { gcd result.coprime_to result.least ≡ 1 }
     ensures fits { result.greatest < 2 ^ 128 }
-    ensures among { (n : ℕ) → (IsCoprimeInRange result n ↔ ((0 < n) × (n < 2 ^ 127) × (gcd size n ≡ 1))) }
+    ensures among { (n : ℕ) →
+        (IsCoprimeInRange result n ↔ ((0 < n) × (n < 2 ^ 127) × (gcd size n ≡ 1))) }
 {
     if size == 0 {
         return Numbers {

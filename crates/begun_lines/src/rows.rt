@@ -17,7 +17,8 @@ pub fn begins_row(rest: &[u8]) -> bool
 
 /// Whether these bytes begin the first number of a row, or are the line of a row that has at most 65,536 bytes.
 fn begins_number_or_row(rest: &[u8]) -> bool
-    ensures { IsTrue result ↔ (BeginsNumber rest.now (codes "row ") 4294967295 ⊎ IsShortRow rest.now) }
+    ensures { IsTrue result ↔ (BeginsNumber rest.now (codes "row ") 4294967295 ⊎
+        IsShortRow rest.now) }
 {
     begins_number(rest, b"row ", 4_294_967_295) || is_short_row(rest)
 }

@@ -30,7 +30,8 @@ pub fn allowed_steps(weight: u64, slack: u128, low: u16, high: u16) -> Option<u1
 /// The new bound that the form gives the variable: with a positive coefficient at the low side, with a negative one at
 /// the high side. None where no part of the range is refuted.
 pub fn exact_bound(coefficient: i64, slack: u128, low: u16, high: u16) -> Option<Bound>
-    ensures exact { IfSome result (λ bound. IsExactBound coefficient slack low high bound.side bound.value) }
+    ensures exact { IfSome result (λ bound. IsExactBound coefficient slack low high bound.side
+        bound.value) }
     ensures none { result ≡ None → HasNoBound coefficient slack low high }
 {
     if coefficient == 0 {

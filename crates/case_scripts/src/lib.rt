@@ -17,7 +17,8 @@ pub use texts::{Text, Texts};
 
 /// The next word, or an empty one behind the last.
 pub fn next_word<'a>(words: &mut SplitWhitespace<'a>) -> &'a str
-    ensures { IsNextWord (split_whitespace_rest words.old) result.now (split_whitespace_rest words.new) }
+    ensures { IsNextWord (split_whitespace_rest words.old) result.now
+        (split_whitespace_rest words.new) }
 {
     match words.next() {
         Some(word) => word,
@@ -37,8 +38,8 @@ fn number_of(word: &str) -> u32
 
 /// The number of the next word, or 0.
 pub fn next_number(words: &mut SplitWhitespace<'_>) -> u32
-    ensures { (word : List ℕ) × IsNextWord (split_whitespace_rest words.old) word (split_whitespace_rest words.new)
-        × IsNumberOrZero word result }
+    ensures { (word : List ℕ) × IsNextWord (split_whitespace_rest words.old) word
+        (split_whitespace_rest words.new) × IsNumberOrZero word result }
 {
     number_of(next_word(words))
 }
@@ -72,8 +73,9 @@ where
 
 /// The numbers of the next word, a comma apart.
 pub fn next_numbers(alloc: Global, words: &mut SplitWhitespace<'_>) -> Result<Vec<u32>, AllocError>
-    ensures { IfOk result (λ numbers. (word : List ℕ) × IsNextWord (split_whitespace_rest words.old) word (split_whitespace_rest words.new)
-        × AreListed ⟦<u32 as FromStr>⟧.from_str_gives word numbers.items) }
+    ensures { IfOk result (λ numbers. (word : List ℕ) × IsNextWord (split_whitespace_rest words.old)
+        word (split_whitespace_rest words.new) × AreListed ⟦<u32 as FromStr>⟧.from_str_gives word
+        numbers.items) }
 {
     list_of::<u32>(alloc, next_word(words))
 }

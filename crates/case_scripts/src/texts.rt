@@ -44,7 +44,8 @@ impl Model for Texts {
 
 /// The bytes of a text, where it has the name; else what was found before it.
 fn or_named<'a>(text: &'a Text, name: &str, found: Option<&'a [u8]>) -> Option<&'a [u8]>
-    ensures { option_copied result ≡ option_or (if bytes_eq text.now.name name.now then Some text.now.bytes else None) (option_copied found.entry) }
+    ensures { option_copied result ≡ option_or (if bytes_eq text.now.name name.now then
+        Some text.now.bytes else None) (option_copied found.entry) }
 {
     if text.name.as_str() == name {
         Some(text.bytes.as_slice())
@@ -141,7 +142,8 @@ impl Texts {
     /// Takes a line that makes texts: `text NAME` begins one, and `| LINE` adds a line to it. Whether it is such a line is
     /// the answer.
     pub fn takes(&mut self, alloc: Global, line: &str) -> Result<bool, AllocError>
-        ensures answer { IfOk result (λ is_taken. is_taken ≡ is_some (after_line line.now self.old)) }
+        ensures answer { IfOk result (λ is_taken. is_taken ≡ is_some
+            (after_line line.now self.old)) }
         ensures texts { OnOk result (self.new ≡ unwrap_or (after_line line.now self.old) self.old) }
         ensures same { OnErr result (self.new ≡ self.old) }
     {

@@ -42,9 +42,15 @@ fn text_of_change(
 ) -> Result<Vec<u8>, OutOfMemory>
     requires built { network.now.problem ≡ problem_of network.now.requests network.now.lsdb }
     requires present { present.now ≡ present_of_variables network.now.requests network.now.lsdb }
-    requires found { (top : ℕ) × (nodes : ℕ) × (nodes ≤ 10000000)
-        × IsChangeFound (record { problem = network.now.problem; present = present.now; top = top; nodes = nodes }) change.now }
-    ensures { IfOk result (λ text. text.items ≡ change_text network.now.requests network.now.lsdb network.now.problem change.now) }
+    requires found { (top : ℕ) × (nodes : ℕ) × (nodes ≤ 10000000) ×
+        IsChangeFound (record {
+          problem = network.now.problem;
+          present = present.now;
+          top = top;
+          nodes = nodes;
+        }) change.now }
+    ensures { IfOk result (λ text. text.items ≡ change_text network.now.requests network.now.lsdb
+        network.now.problem change.now) }
 {
     keeps_conditions(&network.problem);
     keeps_ceiling(&network.problem);
@@ -73,9 +79,16 @@ fn report_of_change(
 ) -> Result<Report, OutOfMemory>
     requires built { network.now.problem ≡ problem_of network.now.requests network.now.lsdb }
     requires present { present.now ≡ present_of_variables network.now.requests network.now.lsdb }
-    requires found { (top : ℕ) × (nodes : ℕ) × (nodes ≤ 10000000)
-        × IsChangeFound (record { problem = network.now.problem; present = present.now; top = top; nodes = nodes }) change.now }
-    ensures { IfOk result (Reports (change_status change.now) (change_text network.now.requests network.now.lsdb network.now.problem change.now)) }
+    requires found { (top : ℕ) × (nodes : ℕ) × (nodes ≤ 10000000) ×
+        IsChangeFound (record {
+          problem = network.now.problem;
+          present = present.now;
+          top = top;
+          nodes = nodes;
+        }) change.now }
+    ensures { IfOk result
+        (Reports (change_status change.now) (change_text network.now.requests network.now.lsdb
+        network.now.problem change.now)) }
 {
     let text = text_of_change(alloc, network, present, change)?;
     Ok(Report::made(status_of(change), text))
@@ -88,7 +101,8 @@ fn report_of_network(
     limits: &Limits,
 ) -> Result<Report, OutOfMemory>
     requires { network.now.problem ≡ problem_of network.now.requests network.now.lsdb }
-    ensures { IfOk result (IsReportIn (bounds limits.now) network.now.requests network.now.lsdb network.now.problem) }
+    ensures { IfOk result (IsReportIn (bounds limits.now) network.now.requests network.now.lsdb
+        network.now.problem) }
 {
     keeps_ceiling(&network.problem);
     let costs = present_of_variables(alloc, &network.requests, &network.lsdb, &network.problem)?;

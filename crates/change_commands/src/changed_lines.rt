@@ -66,7 +66,12 @@ fn changed_cost(price: Price, present: u16, costs: &[u16]) -> Option<u16>
 
 /// The line that gives a link a cost.
 fn cost_line(alloc: Global, lsdb: &Lsdb, link: &Linked, cost: u16) -> Result<CostLine, OutOfMemory>
-    ensures { IfOk result (λ line. line ≡ record { router = slice_index_or lsdb.now.routers link.now.router []; interface = link.now.interface; cost = cost }) }
+    ensures { IfOk result
+        (λ line. line ≡ record {
+          router = slice_index_or lsdb.now.routers link.now.router [];
+          interface = link.now.interface;
+          cost = cost;
+        }) }
 {
     Ok(CostLine {
         router: Name::from_bytes(alloc, router_name(lsdb, link.router))?,
@@ -104,7 +109,8 @@ pub(crate) fn changed_lines(
     costs: &[u16],
 ) -> Result<Vec<CostLine>, OutOfMemory>
     requires { network.now.problem ≡ problem_of network.now.requests network.now.lsdb }
-    ensures { IfOk result (λ lines. lines.items ≡ changed_lines network.now.requests network.now.lsdb costs.now) }
+    ensures { IfOk result (λ lines. lines.items ≡ changed_lines network.now.requests
+        network.now.lsdb costs.now) }
 {
     let graph = graph_of(network);
     let mut lines = Vec::new(alloc);

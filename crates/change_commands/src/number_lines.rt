@@ -47,7 +47,8 @@ pub(crate) fn counted_line(
     count: u64,
     numbers: &[u32],
 ) -> Result<Vec<u8>, OutOfMemory>
-    ensures { IfOk result (λ line. line.items ≡ spaced (word.now ∷ decimal count ∷ map decimal numbers.now)) }
+    ensures { IfOk result
+        (λ line. line.items ≡ spaced (word.now ∷ decimal count ∷ map decimal numbers.now)) }
 {
     let mut line = Vec::from_slice(alloc, word)?;
     push_count(&mut line, count)?;

@@ -44,11 +44,12 @@ fn take_line(
 ) -> Result<(), LineFault>
     requires costs { length costs.old.items ≡ length names.now.links }
     requires seen { length seen.old.items ≡ length names.now.links }
-    ensures { (before : List ℕ) → AreSeen before seen.old.items → MatchResult result
-        (λ _. (line_fault names.now before line.now ≡ None)
-        × (costs.new.items ≡ slice_set costs.old.items (link_of_line names.now line.now) line.now.cost)
-        × (seen.new.items ≡ slice_set seen.old.items (link_of_line names.now line.now) true)
-        × (link_of_line names.now line.now < length names.now.links))
+    ensures { (before : List ℕ) → AreSeen before seen.old.items →
+        MatchResult result (λ _. (line_fault names.now before line.now ≡ None) ×
+        (costs.new.items ≡ slice_set costs.old.items (link_of_line names.now line.now)
+        line.now.cost) ×
+        (seen.new.items ≡ slice_set seen.old.items (link_of_line names.now line.now) true) ×
+        (link_of_line names.now line.now < length names.now.links))
         (λ fault. line_fault names.now before line.now ≡ Some fault) }
 {
     let found = names.find_interface(line.router.as_bytes(), line.interface.as_bytes());
@@ -73,8 +74,9 @@ pub(crate) fn wanted_costs(
     lines: &[CostLine],
 ) -> Result<Result<Vec<u16>, LineFault>, OutOfMemory>
     requires { length present.now ≡ length names.now.links }
-    ensures { IfOk result (λ wanted. MatchResult wanted
-        (λ costs. (first_line_fault names.now lines.now ≡ None) × (costs.items ≡ with_lines names.now present.now lines.now))
+    ensures { IfOk result (λ wanted. MatchResult wanted (λ costs.
+        (first_line_fault names.now lines.now ≡ None) ×
+        (costs.items ≡ with_lines names.now present.now lines.now))
         (λ fault. first_line_fault names.now lines.now ≡ Some fault)) }
 {
     let mut costs = Vec::from_slice(alloc, present)?;
@@ -90,7 +92,8 @@ pub(crate) fn wanted_costs(
 
 /// Adds a link, if it is one of those that are sought.
 fn push_if(links: &mut Vec<u32>, link: u32, is_sought: bool) -> Result<(), OutOfMemory>
-    ensures { OnOk result (links.new.items ≡ cond is_sought (links.old.items ++ link ∷ []) links.old.items) }
+    ensures { OnOk result (links.new.items ≡ cond is_sought (links.old.items ++ link ∷ [])
+        links.old.items) }
 {
     if is_sought {
         links.push(link)?;
@@ -137,7 +140,8 @@ fn links_of_router(
     moved: &[u32],
     router: u32,
 ) -> Result<Vec<u32>, OutOfMemory>
-    ensures { IfOk result (λ links. links.items ≡ links_of_router names.now.links moved.now router) }
+    ensures { IfOk result (λ links. links.items ≡ links_of_router names.now.links moved.now
+        router) }
 {
     let mut links = Vec::new(alloc);
     for link in moved {
@@ -148,7 +152,8 @@ fn links_of_router(
 
 /// Adds a step of links, if there are any.
 fn push_links(steps: &mut Vec<Listed<u32>>, links: Vec<u32>) -> Result<(), OutOfMemory>
-    ensures { OnOk result (steps.new.items ≡ steps.old.items ++ cons_option (if_some links.items) []) }
+    ensures { OnOk result (steps.new.items ≡ steps.old.items ++
+        cons_option (if_some links.items) []) }
 {
     if links.is_empty() {
         return Ok(());
@@ -163,7 +168,8 @@ fn steps_by_router(
     names: &Names,
     moved: &[u32],
 ) -> Result<Vec<Listed<u32>>, OutOfMemory>
-    ensures { IfOk result (λ steps. steps.items ≡ router_steps names.now.links moved.now (numbers_from 0 (length names.now.routers))) }
+    ensures { IfOk result (λ steps. steps.items ≡ router_steps names.now.links moved.now
+        (numbers_from 0 (length names.now.routers))) }
 {
     let mut steps = Vec::new(alloc);
     let count = names.routers().len() as u32;

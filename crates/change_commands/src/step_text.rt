@@ -91,7 +91,8 @@ fn push_count(line: &mut Vec<u8>, count: usize) -> Result<(), OutOfMemory>
 
 /// Adds the words that name a step, each behind a space.
 fn push_step_name(line: &mut Vec<u8>, of: StepNames, step: usize) -> Result<(), OutOfMemory>
-    ensures { OnOk result (line.new.items ≡ with_words line.old.items (step_name of.entry.by of.entry.names.now of.entry.moves.now step)) }
+    ensures { OnOk result (line.new.items ≡ with_words line.old.items
+        (step_name of.entry.by of.entry.names.now of.entry.moves.now step)) }
 {
     let link = link_of_step(of.moves, step);
     push_name(line, router_of_link(of.names, link))?;
@@ -103,7 +104,8 @@ fn push_step_name(line: &mut Vec<u8>, of: StepNames, step: usize) -> Result<(), 
 
 /// Adds the present and the wanted cost of a step's link, each behind a space.
 fn push_costs_of_step(line: &mut Vec<u8>, moves: &Moves, step: usize) -> Result<(), OutOfMemory>
-    ensures { OnOk result (line.new.items ≡ with_words line.old.items (step_words StepUnit.Line moves.now step)) }
+    ensures { OnOk result (line.new.items ≡ with_words line.old.items
+        (step_words StepUnit.Line moves.now step)) }
 {
     let link = link_of_step(moves, step);
     push_word(
@@ -115,7 +117,8 @@ fn push_costs_of_step(line: &mut Vec<u8>, moves: &Moves, step: usize) -> Result<
 
 /// Adds the words of what a step does, each behind a space.
 fn push_step_words(line: &mut Vec<u8>, of: StepNames, step: usize) -> Result<(), OutOfMemory>
-    ensures { OnOk result (line.new.items ≡ with_words line.old.items (step_words of.entry.by of.entry.moves.now step)) }
+    ensures { OnOk result (line.new.items ≡ with_words line.old.items
+        (step_words of.entry.by of.entry.moves.now step)) }
 {
     match of.by {
         StepUnit::Line => push_costs_of_step(line, of.moves, step),
@@ -130,7 +133,8 @@ fn step_line(
     number: usize,
     step: usize,
 ) -> Result<Vec<u8>, OutOfMemory>
-    ensures { IfOk result (λ line. line.items ≡ step_line of.entry.by of.entry.names.now of.entry.moves.now number step) }
+    ensures { IfOk result (λ line. line.items ≡ step_line of.entry.by of.entry.names.now
+        of.entry.moves.now number step) }
 {
     let mut line = Vec::from_slice(alloc, b"step")?;
     push_count(&mut line, number)?;
@@ -147,7 +151,8 @@ fn push_step(
     number: usize,
     step: usize,
 ) -> Result<(), OutOfMemory>
-    ensures { OnOk result (text.new.items ≡ text.old.items ++ with_ends (step_line of.entry.by of.entry.names.now of.entry.moves.now number step ∷ [])) }
+    ensures { OnOk result (text.new.items ≡ text.old.items ++ with_ends
+        (step_line of.entry.by of.entry.names.now of.entry.moves.now number step ∷ [])) }
 {
     let line = step_line(alloc, of, number, step)?;
     push_line(text, line.as_slice())
@@ -155,7 +160,8 @@ fn push_step(
 
 /// Adds the line that tells how many steps there are.
 fn push_steps_count(alloc: Global, text: &mut Vec<u8>, count: usize) -> Result<(), OutOfMemory>
-    ensures { OnOk result (text.new.items ≡ text.old.items ++ with_ends ((codes "steps" ++ 32 ∷ decimal count) ∷ [])) }
+    ensures { OnOk result (text.new.items ≡ text.old.items ++ with_ends
+        ((codes "steps" ++ 32 ∷ decimal count) ∷ [])) }
 {
     let mut line = Vec::from_slice(alloc, b"steps")?;
     push_count(&mut line, count)?;
@@ -169,7 +175,8 @@ fn push_steps(
     of: StepNames,
     order: &[usize],
 ) -> Result<(), OutOfMemory>
-    ensures { OnOk result (text.new.items ≡ text.old.items ++ with_ends (steps_lines of.entry.by of.entry.names.now of.entry.moves.now order.now)) }
+    ensures { OnOk result (text.new.items ≡ text.old.items ++ with_ends
+        (steps_lines of.entry.by of.entry.names.now of.entry.moves.now order.now)) }
 {
     push_steps_count(alloc, text, order.len())?;
     for (number, step) in order.iter().enumerate() {
@@ -190,7 +197,8 @@ fn push_barrier(line: &mut Vec<u8>, barrier: Barrier) -> Result<(), OutOfMemory>
 
 /// The line of a step that can't follow.
 fn stuck_line(alloc: Global, of: StepNames, blocked: Blocked) -> Result<Vec<u8>, OutOfMemory>
-    ensures { IfOk result (λ line. line.items ≡ stuck_line of.entry.by of.entry.names.now of.entry.moves.now blocked) }
+    ensures { IfOk result (λ line. line.items ≡ stuck_line of.entry.by of.entry.names.now
+        of.entry.moves.now blocked) }
 {
     let mut line = Vec::from_slice(alloc, b"stuck")?;
     push_step_name(&mut line, of, blocked.step)?;
@@ -205,7 +213,8 @@ fn push_blocked(
     of: StepNames,
     blocked: Blocked,
 ) -> Result<(), OutOfMemory>
-    ensures { OnOk result (text.new.items ≡ text.old.items ++ with_ends (stuck_line of.entry.by of.entry.names.now of.entry.moves.now blocked ∷ [])) }
+    ensures { OnOk result (text.new.items ≡ text.old.items ++ with_ends
+        (stuck_line of.entry.by of.entry.names.now of.entry.moves.now blocked ∷ [])) }
 {
     let line = stuck_line(alloc, of, blocked)?;
     push_line(text, line.as_slice())
@@ -218,7 +227,8 @@ fn push_stuck(
     of: StepNames,
     stuck: &Stuck,
 ) -> Result<(), OutOfMemory>
-    ensures { OnOk result (text.new.items ≡ text.old.items ++ with_ends (stuck_lines of.entry.by of.entry.names.now of.entry.moves.now stuck.now)) }
+    ensures { OnOk result (text.new.items ≡ text.old.items ++ with_ends
+        (stuck_lines of.entry.by of.entry.names.now of.entry.moves.now stuck.now)) }
 {
     push_steps(alloc, text, of, stuck.done.as_slice())?;
     for blocked in stuck.blocked.as_slice() {
@@ -239,7 +249,9 @@ fn held_line(alloc: Global, held: &[u32]) -> Result<Vec<u8>, OutOfMemory>
 
 /// The first lines, up to that of the held paths.
 fn head_of(alloc: Global, verdict: &[u8], held: &[u32]) -> Result<Vec<u8>, OutOfMemory>
-    ensures { IfOk result (λ text. text.items ≡ with_ends (codes "ospfcost steps 1" ∷ verdict.now ∷ held_line held.now ∷ [])) }
+    ensures { IfOk result
+        (λ text. text.items ≡ with_ends (codes "ospfcost steps 1" ∷ verdict.now ∷
+        held_line held.now ∷ [])) }
 {
     let held = held_line(alloc, held)?;
     let mut text = Vec::new(alloc);
@@ -256,7 +268,9 @@ fn text_of_outcome(
     held: &[u32],
     outcome: &Outcome,
 ) -> Result<Vec<u8>, OutOfMemory>
-    ensures { IfOk result (λ text. text.items ≡ with_ends (codes "ospfcost steps 1" ∷ outcome_lines of.entry.by of.entry.names.now of.entry.moves.now held.now outcome.now)) }
+    ensures { IfOk result
+        (λ text. text.items ≡ with_ends (codes "ospfcost steps 1" ∷
+        outcome_lines of.entry.by of.entry.names.now of.entry.moves.now held.now outcome.now)) }
 {
     match outcome {
         Outcome::Order(order) => {

@@ -66,8 +66,9 @@ fn paths_of(problem: &Problem) -> &[Request]
 
 /// The report of a text that is refused.
 fn report_of_rejection(alloc: Global, rejection: Rejection) -> Result<Report, OutOfMemory>
-    ensures { IfOk result (λ report. (nodes : ℕ) (by : StepUnit) (plan : Plan) → IsPlanRefused plan rejection →
-        MaySteps nodes by plan report.status (bytes_in report.text)) }
+    ensures { IfOk result (λ report. (nodes : ℕ) (by : StepUnit) (plan : Plan) →
+        IsPlanRefused plan rejection → MaySteps nodes by plan report.status
+        (bytes_in report.text)) }
 {
     let text = rejected_line_of(alloc, rejection)?;
     Ok(Report::made(Status::EvidenceRefused, text))
@@ -75,7 +76,8 @@ fn report_of_rejection(alloc: Global, rejection: Rejection) -> Result<Report, Ou
 
 /// The report of a text that is off its grammar.
 fn report_of_stop(alloc: Global, stop: Refusal<AnswerFault>) -> Result<Report, OutOfMemory>
-    ensures { IfOk result (λ report. (nodes : ℕ) (by : StepUnit) (plan : Plan) → IsReaderStop (start_of_bytes plan.bytes) 0 plan.bytes stop →
+    ensures { IfOk result (λ report. (nodes : ℕ) (by : StepUnit) (plan : Plan) →
+        IsReaderStop (start_of_bytes plan.bytes) 0 plan.bytes stop →
         MaySteps nodes by plan report.status (bytes_in report.text)) }
 {
     match stop {
@@ -98,11 +100,16 @@ fn report_of_moves(
     moves: &Moves,
     words: StepsWords,
 ) -> Result<Report, OutOfMemory>
-    requires priced { All (λ edge. IsPriced (length moves.now.present) edge.price) (graph_by_links network.now.lsdb).edges }
+    requires priced { All (λ edge. IsPriced (length moves.now.present) edge.price)
+        (graph_by_links network.now.lsdb).edges }
     requires paths { ArePathsOf (graph_by_links network.now.lsdb) network.now.problem.paths }
     requires few { length network.now.problem.paths ≤ 10000 }
     ensures { IfOk result (ReportsSteps words.entry.nodes words.entry.by names.now
-        (record { graph = graph_by_links network.now.lsdb; paths = network.now.problem.paths; moves = moves.now })) }
+        (record {
+          graph = graph_by_links network.now.lsdb;
+          paths = network.now.problem.paths;
+          moves = moves.now;
+        })) }
 {
     let graph = priced_by_links(alloc, &network.lsdb)?;
     let steps = find_steps(
@@ -125,8 +132,9 @@ fn report_of_lines(
 ) -> Result<Report, OutOfMemory>
     requires network { IsAtPresent network.now }
     requires lines { All (λ line. 0 < line.cost) lines.now }
-    ensures { IfOk result (λ report. (plan : Plan) → IsPlanOf network.now plan → SaysCosts plan.bytes (Some lines.now) →
-        MaySteps words.entry.nodes words.entry.by plan report.status (bytes_in report.text)) }
+    ensures { IfOk result (λ report. (plan : Plan) → IsPlanOf network.now plan →
+        SaysCosts plan.bytes (Some lines.now) → MaySteps words.entry.nodes words.entry.by plan
+        report.status (bytes_in report.text)) }
 {
     keeps(&network.problem);
     let names = Names::new(alloc, &network.lsdb)?;
@@ -155,8 +163,9 @@ fn report_of_costs(
 ) -> Result<Report, OutOfMemory>
     requires network { IsAtPresent network.now }
     requires lines { FitLines costs }
-    ensures { IfOk result (λ report. (plan : Plan) → IsPlanOf network.now plan → SaysCosts plan.bytes costs →
-        MaySteps words.entry.nodes words.entry.by plan report.status (bytes_in report.text)) }
+    ensures { IfOk result (λ report. (plan : Plan) → IsPlanOf network.now plan →
+        SaysCosts plan.bytes costs → MaySteps words.entry.nodes words.entry.by plan report.status
+        (bytes_in report.text)) }
 {
     match costs {
         Some(lines) => report_of_lines(alloc, network, lines.as_slice(), words),
@@ -179,8 +188,9 @@ fn report_of_text(
 ) -> Result<Report, OutOfMemory>
     requires network { IsAtPresent network.now }
     requires within { length bytes.now ≤ longest_answer }
-    ensures { IfOk result (λ report. (plan : Plan) → IsPlanOf network.now plan → plan.bytes ≡ bytes.now →
-        MaySteps words.entry.nodes words.entry.by plan report.status (bytes_in report.text)) }
+    ensures { IfOk result (λ report. (plan : Plan) → IsPlanOf network.now plan →
+        plan.bytes ≡ bytes.now → MaySteps words.entry.nodes words.entry.by plan report.status
+        (bytes_in report.text)) }
 {
     match read_costs(alloc, bytes) {
         Ok(costs) => report_of_costs(alloc, network, costs, words),
@@ -201,8 +211,10 @@ pub fn steps_report<'a, S: Shelf>(
     words: StepsWords<'a>,
     shelf: &mut S,
 ) -> Result<Report, Stop<'a>>
-    ensures { Gave (S.gave shelf.old shelf.new) (λ came. IsReadAs (plan_read (files_named files.entry) words.entry.answer.now) came
-        (λ report plan. MaySteps words.entry.nodes words.entry.by plan report.status (bytes_in report.text)) result) }
+    ensures { Gave (S.gave shelf.old shelf.new) (λ came. IsReadAs
+        (plan_read (files_named files.entry) words.entry.answer.now) came
+        (λ report plan. MaySteps words.entry.nodes words.entry.by plan report.status
+        (bytes_in report.text)) result) }
 {
     let network = read_network(alloc, View::AtPresent, files, shelf)?;
     let bytes = read_answer_file(alloc, shelf, words.answer)?;

@@ -30,7 +30,8 @@ fn line_of(alloc: Global, plan: &Plan, between: &[usize]) -> Result<Vec<usize>, 
 
 /// The first steps, some steps behind them, and the last steps.
 fn order_of(alloc: Global, plan: &Plan, between: &[usize]) -> Result<Vec<usize>, OutOfMemory>
-    ensures { IfOk result (λ order. order.items ≡ way_of plan.now between.now ++ last_steps plan.now) }
+    ensures { IfOk result (λ order. order.items ≡ way_of plan.now between.now ++
+        last_steps plan.now) }
 {
     let mut order = line_of(alloc, plan, between)?;
     plan.put_steps(&mut order, Kind::Last)?;
@@ -41,9 +42,11 @@ fn order_of(alloc: Global, plan: &Plan, between: &[usize]) -> Result<Vec<usize>,
 fn barrier_of(plan: &Plan, tested: &Tested, room: &mut Room, state: &State) -> Barrier
     requires room { IsRoomFor plan.now.rollout.graph room.old }
     requires state { IsStateOf plan.now.rollout state.now }
-    requires unsafe_then { Contains tested.now state.now.done.items → IsSafe plan.now.rollout plan.now.held (is_done_in state.now.done.items) → ⊥ }
+    requires unsafe_then { Contains tested.now state.now.done.items →
+        IsSafe plan.now.rollout plan.now.held (is_done_in state.now.done.items) → ⊥ }
     ensures room { IsRoomFor plan.now.rollout.graph room.new }
-    ensures barrier { IsBarrier plan.now.rollout plan.now.held tested.now state.now.done.items result }
+    ensures barrier { IsBarrier plan.now.rollout plan.now.held tested.now state.now.done.items
+        result }
 {
     if !tested.has(&state.done) {
         return Barrier::Untested;
@@ -66,7 +69,8 @@ fn blocked_by(
     requires state { IsStateOf plan.now.rollout state.old }
     requires follows { MayFollow plan.now.rollout plan.now.held state.old.done.items step }
     requires greatest { Contains tested.now (slice_set state.old.done.items step true) →
-        IsSafe plan.now.rollout plan.now.held (is_done_in (slice_set state.old.done.items step true)) → ⊥ }
+        IsSafe plan.now.rollout plan.now.held
+        (is_done_in (slice_set state.old.done.items step true)) → ⊥ }
     ensures room { IsRoomFor plan.now.rollout.graph room.new }
     ensures state { IsStateOf plan.now.rollout state.new }
     ensures done { state.new.done.items ≡ state.old.done.items }
@@ -88,11 +92,13 @@ fn blocked_in(
 ) -> Result<Vec<Blocked>, OutOfMemory>
     requires room { IsRoomFor plan.now.rollout.graph room.old }
     requires state { IsStateOf plan.now.rollout state.old }
-    requires greatest { (step : ℕ) → MayFollow plan.now.rollout plan.now.held state.old.done.items step →
-        Contains tested.now (slice_set state.old.done.items step true) →
-        IsSafe plan.now.rollout plan.now.held (is_done_in (slice_set state.old.done.items step true)) → ⊥ }
+    requires greatest { (step : ℕ) → MayFollow plan.now.rollout plan.now.held state.old.done.items
+        step → Contains tested.now (slice_set state.old.done.items step true) →
+        IsSafe plan.now.rollout plan.now.held
+        (is_done_in (slice_set state.old.done.items step true)) → ⊥ }
     ensures room { IsRoomFor plan.now.rollout.graph room.new }
-    ensures blocked { IfOk result (λ blocked. AreBlockedIn plan.now tested.now state.old.done.items blocked.items) }
+    ensures blocked { IfOk result (λ blocked. AreBlockedIn plan.now tested.now state.old.done.items
+        blocked.items) }
 {
     let mut blocked = Vec::new(alloc);
     for step in 0..plan.step_count() {
@@ -122,7 +128,8 @@ pub(crate) fn outcome_of(
     end: End,
 ) -> Result<Outcome, OutOfMemory>
     requires { (nodes : ℕ) × IsEnded plan.now nodes walk.old end }
-    ensures { (nodes : ℕ) → IsEnded plan.now nodes walk.old end → IfOk result (IsOutcome plan.now.rollout plan.now.held nodes) }
+    ensures { (nodes : ℕ) → IsEnded plan.now nodes walk.old end →
+        IfOk result (IsOutcome plan.now.rollout plan.now.held nodes) }
 {
     plan.keeps_conditions();
     match end {

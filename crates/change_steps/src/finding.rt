@@ -36,7 +36,8 @@ pub fn find_steps(
     requires priced { All (λ edge. IsPriced (length moves.now.present) edge.price) graph.now.edges }
     requires paths { ArePathsOf graph.now paths.now }
     requires few { length paths.now ≤ 10000 }
-    ensures { IfOk result (AreStepsFound (record { graph = graph.now; paths = paths.now; moves = moves.now }) nodes) }
+    ensures { IfOk result
+        (AreStepsFound (record { graph = graph.now; paths = paths.now; moves = moves.now }) nodes) }
 {
     let scene = Scene::new(graph, paths, moves);
     let mut room = Room::new(alloc, graph)?;

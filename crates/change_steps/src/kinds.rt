@@ -49,8 +49,8 @@ pub(crate) fn is_variable(price: Price, line: u32) -> bool
 /// Marks the variable of a price, if it is one of those that have marks.
 fn mark_price(marks: &mut Vec<bool>, price: Price)
     ensures count { length marks.new.items ≡ length marks.old.items }
-    ensures marks { (v : ℕ) → v < length marks.old.items →
-        slice_index_or marks.new.items v false ≡ (slice_index_or marks.old.items v false || is_var v price) }
+    ensures marks { (v : ℕ) → v < length marks.old.items → slice_index_or marks.new.items v false ≡
+        (slice_index_or marks.old.items v false || is_var v price) }
 {
     if let Price::Var(number) = price {
         if (number as usize) < marks.len() {
@@ -63,8 +63,8 @@ fn mark_price(marks: &mut Vec<bool>, price: Price)
 fn mark_path(marks: &mut Vec<bool>, graph: &Graph, edges: &[u32])
     requires { All (λ e. e < length graph.now.edges) edges.now }
     ensures count { length marks.new.items ≡ length marks.old.items }
-    ensures marks { (v : ℕ) → v < length marks.old.items →
-        slice_index_or marks.new.items v false ≡ (slice_index_or marks.old.items v false || goes_over graph.now edges.now v) }
+    ensures marks { (v : ℕ) → v < length marks.old.items → slice_index_or marks.new.items v false ≡
+        (slice_index_or marks.old.items v false || goes_over graph.now edges.now v) }
 {
     for edge in edges {
         mark_price(marks, edge_of(graph, *edge).price);
@@ -101,7 +101,8 @@ pub(crate) fn line_rises(scene: &Scene, line: u32) -> bool
 fn all_rise(scene: &Scene, marks: &[bool], lines: &[u32]) -> bool
     requires known { All (λ v. v < length scene.now.moves.present) lines.now }
     requires count { length marks.now ≡ length scene.now.moves.present }
-    ensures { (held : List ℕ) → AreHeldMarks scene.now held marks.now → result ≡ list_all (rises_off_held scene.now held) lines.now }
+    ensures { (held : List ℕ) → AreHeldMarks scene.now held marks.now →
+        result ≡ list_all (rises_off_held scene.now held) lines.now }
 {
     for line in lines {
         if !line_rises(scene, *line) || marks[*line as usize] {
@@ -115,7 +116,8 @@ fn all_rise(scene: &Scene, marks: &[bool], lines: &[u32]) -> bool
 fn all_fall(scene: &Scene, marks: &[bool], lines: &[u32]) -> bool
     requires known { All (λ v. v < length scene.now.moves.present) lines.now }
     requires count { length marks.now ≡ length scene.now.moves.present }
-    ensures { (held : List ℕ) → AreHeldMarks scene.now held marks.now → result ≡ list_all (falls_off_held scene.now held) lines.now }
+    ensures { (held : List ℕ) → AreHeldMarks scene.now held marks.now →
+        result ≡ list_all (falls_off_held scene.now held) lines.now }
 {
     for line in lines {
         if line_rises(scene, *line) || marks[*line as usize] {
@@ -129,7 +131,8 @@ fn all_fall(scene: &Scene, marks: &[bool], lines: &[u32]) -> bool
 fn kind_of(scene: &Scene, marks: &[bool], step: usize) -> Kind
     requires step { step < step_count scene.now }
     requires count { length marks.now ≡ length scene.now.moves.present }
-    ensures { (held : List ℕ) → AreHeldMarks scene.now held marks.now → result ≡ kind_of_step scene.now held step }
+    ensures { (held : List ℕ) → AreHeldMarks scene.now held marks.now →
+        result ≡ kind_of_step scene.now held step }
 {
     scene.keeps_conditions();
     let lines = scene.lines(step);
@@ -145,7 +148,8 @@ fn kind_of(scene: &Scene, marks: &[bool], step: usize) -> Kind
 /// When each step is done.
 pub(crate) fn kinds_of(alloc: Global, scene: &Scene, held: &[u32]) -> Result<Vec<Kind>, OutOfMemory>
     requires { All (λ k. k < length scene.now.paths) held.now }
-    ensures { IfOk result (λ kinds. kinds.items ≡ map (kind_of_step scene.now held.now) (numbers_from 0 (step_count scene.now))) }
+    ensures { IfOk result (λ kinds. kinds.items ≡ map (kind_of_step scene.now held.now)
+        (numbers_from 0 (step_count scene.now))) }
 {
     let marks = mark_held(alloc, scene, held)?;
     let mut kinds = Vec::new(alloc);

@@ -122,7 +122,8 @@ impl<'a> Plan<'a> {
     pub fn may_follow(&self, done: &[bool], step: usize) -> bool
         requires count { length done.now ≡ step_count self.now.rollout }
         requires step { step < step_count self.now.rollout }
-        ensures { result ≡ (comes_between (kind_of_step self.now.rollout self.now.held step) && not (is_done_in done.now step)) }
+        ensures { result ≡ (comes_between (kind_of_step self.now.rollout self.now.held step) &&
+            not (is_done_in done.now step)) }
     {
         if is_kind(Kind::Between, self.kind(step)) {
             !done[step]
@@ -134,7 +135,8 @@ impl<'a> Plan<'a> {
     /// Puts the steps of a kind behind others, in order.
     pub fn put_steps(&self, steps: &mut Vec<usize>, kind: Kind) -> Result<(), OutOfMemory>
         ensures { OnOk result (steps.new.items ≡ steps.old.items ++
-            filter (λ k. has_kind kind (kind_of_step self.now.rollout self.now.held k)) (numbers_from 0 (step_count self.now.rollout))) }
+            filter (λ k. has_kind kind (kind_of_step self.now.rollout self.now.held k))
+            (numbers_from 0 (step_count self.now.rollout))) }
     {
         for step in 0..self.step_count() {
             if is_kind(kind, self.kind(step)) {
@@ -147,8 +149,8 @@ impl<'a> Plan<'a> {
     /// The first step between that isn't done.
     pub fn first_left(&self, done: &[bool]) -> Option<usize>
         requires { length done.now ≡ step_count self.now.rollout }
-        ensures { MatchOption result ((k : ℕ) → MayFollow self.now.rollout self.now.held done.now k → ⊥)
-            (λ step. MayFollow self.now.rollout self.now.held done.now step) }
+        ensures { MatchOption result ((k : ℕ) → MayFollow self.now.rollout self.now.held done.now
+            k → ⊥) (λ step. MayFollow self.now.rollout self.now.held done.now step) }
     {
         for step in 0..self.step_count() {
             if self.may_follow(done, step) {
@@ -164,8 +166,9 @@ impl<'a> Plan<'a> {
         requires state { IsStateOf self.now.rollout state.now }
         requires step { step < step_count self.now.rollout }
         requires known { number < length self.now.rollout.paths }
-        ensures { IsTrue result → (before : ℕ → Bool) → HasMore self.now.rollout before (is_done_in state.now.done.items) step →
-            IsOnlyIn self.now.rollout before number → IsOnlyIn self.now.rollout (is_done_in state.now.done.items) number }
+        ensures { IsTrue result → (before : ℕ → Bool) → HasMore self.now.rollout before
+            (is_done_in state.now.done.items) step → IsOnlyIn self.now.rollout before number →
+            IsOnlyIn self.now.rollout (is_done_in state.now.done.items) number }
     {
         self.reach.spares(&self.scene, state, number, step)
     }
@@ -175,9 +178,11 @@ impl<'a> Plan<'a> {
     pub fn is_safe_after(&self, state: &State, step: usize, room: &mut Room) -> bool
         requires state { IsStateOf self.now.rollout state.now }
         requires room { IsRoomFor self.now.rollout.graph room.old }
-        requires before { (f : ℕ → Bool) × HasMore self.now.rollout f (is_done_in state.now.done.items) step × IsSafe self.now.rollout self.now.held f }
+        requires before { (f : ℕ → Bool) × HasMore self.now.rollout f
+            (is_done_in state.now.done.items) step × IsSafe self.now.rollout self.now.held f }
         ensures room { IsRoomFor self.now.rollout.graph room.new }
-        ensures safe { IsTrue result ↔ IsSafe self.now.rollout self.now.held (is_done_in state.now.done.items) }
+        ensures safe { IsTrue result ↔ IsSafe self.now.rollout self.now.held
+            (is_done_in state.now.done.items) }
     {
         self.keeps_conditions();
         for number in self.held() {
@@ -193,8 +198,9 @@ impl<'a> Plan<'a> {
         requires state { IsStateOf self.now.rollout state.now }
         requires room { IsRoomFor self.now.rollout.graph room.old }
         ensures room { IsRoomFor self.now.rollout.graph room.new }
-        ensures lost { MatchOption result (IsSafe self.now.rollout self.now.held (is_done_in state.now.done.items))
-            (λ path. IsFirstLost self.now.rollout self.now.held (is_done_in state.now.done.items) path) }
+        ensures lost { MatchOption result (IsSafe self.now.rollout self.now.held
+            (is_done_in state.now.done.items)) (λ path. IsFirstLost self.now.rollout self.now.held
+            (is_done_in state.now.done.items) path) }
     {
         self.keeps_conditions();
         for number in self.held() {

@@ -181,7 +181,8 @@ fn mark_asked(
 
 /// The edges whose costs each step changes.
 fn edges_of_steps(alloc: Global, scene: &Scene) -> Result<Vec<Listed<u32>>, OutOfMemory>
-    ensures { IfOk result (λ edges. edges.items ≡ map (edges_of_step scene.now) (numbers_from 0 (step_count scene.now))) }
+    ensures { IfOk result (λ edges. edges.items ≡ map (edges_of_step scene.now)
+        (numbers_from 0 (step_count scene.now))) }
 {
     let mut edges = Vec::new(alloc);
     for step in 0..scene.step_count() {
@@ -201,7 +202,8 @@ fn least_to_each(
     requires room { IsRoomFor scene.now.graph room.old }
     requires asked { length asked.now ≡ length scene.now.graph.vertices }
     ensures room { IsRoomFor scene.now.graph room.new }
-    ensures least { IfOk result (λ least. AreAtLeast scene.now.graph (at_costs (least_costs scene.now.moves)) least.items) }
+    ensures least { IfOk result (λ least. AreAtLeast scene.now.graph
+        (at_costs (least_costs scene.now.moves)) least.items) }
 {
     scene.keeps_conditions();
     let graph = scene.graph();
@@ -291,7 +293,8 @@ impl Reach {
         requires state { IsStateOf scene.now state.now }
         requires number { number < length scene.now.paths }
         requires edge { edge < length scene.now.graph.edges }
-        ensures { IsTrue result → AreDearerOver scene.now (is_done_in state.now.done.items) number edge }
+        ensures { IsTrue result → AreDearerOver scene.now (is_done_in state.now.done.items) number
+            edge }
     {
         scene.keeps_conditions();
         let graph = scene.graph();
@@ -310,7 +313,8 @@ impl Reach {
         requires state { IsStateOf scene.now state.now }
         requires number { number < length scene.now.paths }
         requires edge { edge < length scene.now.graph.edges }
-        ensures { IsTrue result → IsHarmless scene.now (is_done_in state.now.done.items) number edge }
+        ensures { IsTrue result → IsHarmless scene.now (is_done_in state.now.done.items) number
+            edge }
     {
         scene.keeps_conditions();
         let rises = price_rises(scene, edge_of(scene.graph(), edge).price);
@@ -328,7 +332,9 @@ impl Reach {
         requires state { IsStateOf scene.now state.now }
         requires number { number < length scene.now.paths }
         requires step { step < step_count scene.now }
-        ensures { IsTrue result → All (IsHarmless scene.now (is_done_in state.now.done.items) number) (edges_of_step scene.now step) }
+        ensures { IsTrue result →
+            All (IsHarmless scene.now (is_done_in state.now.done.items) number)
+            (edges_of_step scene.now step) }
     {
         for edge in self.edges(step) {
             if !self.is_harmless(scene, state, number, *edge) {

@@ -31,7 +31,8 @@ impl<'a> Model for Scene<'a> {
 impl<'a> Scene<'a> {
     /// The rollout of a graph, its requests and its moves.
     pub fn new(graph: &'a Graph, paths: &'a [Request], moves: &'a Moves) -> Scene<'a>
-        requires priced { All (λ edge. IsPriced (length moves.now.present) edge.price) graph.now.edges }
+        requires priced { All (λ edge. IsPriced (length moves.now.present) edge.price)
+            graph.now.edges }
         requires paths { ArePathsOf graph.now paths.now }
         requires few { length paths.now ≤ 10000 }
         ensures { result ≡ record { graph = graph.now; paths = paths.now; moves = moves.now } }

@@ -37,7 +37,8 @@ fn put(values: &mut Listed<u128>, lines: &[u32], costs: &[u16])
     requires known { All (λ v. v < length values.old) lines.now }
     requires costs { length costs.now ≡ length values.old }
     ensures count { length values.new ≡ length values.old }
-    ensures put { (v : ℕ) → slice_index values.new v ≡ cond (is_one_of lines.now v) (slice_index costs.now v) (slice_index values.old v) }
+    ensures put { (v : ℕ) → slice_index values.new v ≡ cond (is_one_of lines.now v)
+        (slice_index costs.now v) (slice_index values.old v) }
 {
     for line in lines {
         let place = *line as usize;
@@ -66,7 +67,8 @@ impl State {
     pub(crate) fn after(alloc: Global, scene: &Scene, steps: &[usize]) -> Result<State, OutOfMemory>
         requires { All (λ k. k < step_count scene.now) steps.now }
         ensures state { IfOk result (IsStateOf scene.now) }
-        ensures done { IfOk result (λ state. state.done.items ≡ marks_of scene.now (is_one_of steps.now)) }
+        ensures done { IfOk result (λ state. state.done.items ≡ marks_of scene.now
+            (is_one_of steps.now)) }
     {
         let mut state = State::present(alloc, scene)?;
         for step in steps {

@@ -47,7 +47,8 @@ fn is_new(tested: &Tested, marks: &mut Vec<bool>, step: usize) -> bool
     requires known { step < length marks.old.items }
     requires left { is_done_in marks.old.items step ≡ false }
     ensures same { marks.new.items ≡ marks.old.items }
-    ensures new { MatchBool result (Contains tested.now (slice_set marks.old.items step true) → ⊥) (Contains tested.now (slice_set marks.old.items step true)) }
+    ensures new { MatchBool result (Contains tested.now (slice_set marks.old.items step true) → ⊥)
+        (Contains tested.now (slice_set marks.old.items step true)) }
 {
     marks[step] = true;
     let new = !tested.has(marks);
@@ -85,8 +86,9 @@ impl Walk {
         ensures done { self.new.state.done.items ≡ self.old.state.done.items }
         ensures position { position_of self.new ≡ position_of self.old }
         ensures room { self.new.room ≡ self.old.room }
-        ensures new { MatchBool result (IsNewStep plan.now self.old.tested self.old.state.done.items step)
-            (MayFollow plan.now.rollout plan.now.held self.old.state.done.items step → Contains self.old.tested (slice_set self.old.state.done.items step true)) }
+        ensures new { MatchBool result (IsNewStep plan.now self.old.tested self.old.state.done.items
+            step) (MayFollow plan.now.rollout plan.now.held self.old.state.done.items step →
+            Contains self.old.tested (slice_set self.old.state.done.items step true)) }
     {
         if plan.may_follow(&self.state.done, step) {
             is_new(&self.tested, &mut self.state.done, step)
@@ -102,7 +104,8 @@ impl Walk {
         ensures order { self.new.order.items ≡ self.old.order.items }
         ensures tested { self.new.tested ≡ self.old.tested }
         ensures next { MatchOption result (self.new.next ≡ step_count plan.now.rollout)
-            (λ step. (self.new.next ≡ step) × IsNewStep plan.now self.new.tested self.new.state.done.items step) }
+            (λ step. (self.new.next ≡ step) × IsNewStep plan.now self.new.tested
+            self.new.state.done.items step) }
     {
         for step in self.next..plan.step_count() {
             if self.may_try(plan, step) {
@@ -118,7 +121,8 @@ impl Walk {
     fn go_on(&mut self, step: usize) -> Result<(), OutOfMemory>
         ensures order { OnOk result (self.new.order.items ≡ self.old.order.items ++ step ∷ []) }
         ensures next { OnOk result (self.new.next ≡ 0) }
-        ensures greatest { OnOk result (self.new.greatest.items ≡ longer_of self.old.greatest.items (self.old.order.items ++ step ∷ [])) }
+        ensures greatest { OnOk result (self.new.greatest.items ≡ longer_of self.old.greatest.items
+            (self.old.order.items ++ step ∷ [])) }
         ensures tested { self.new.tested ≡ self.old.tested }
         ensures state { self.new.state ≡ self.old.state }
         ensures room { self.new.room ≡ self.old.room }
@@ -138,10 +142,14 @@ impl Walk {
         requires next { self.old.next ≡ step }
         requires new { IsNewStep plan.now self.old.tested self.old.state.done.items step }
         ensures walk { IfOk result (λ safe. IsSearchWalk plan.now self.new) }
-        ensures tested { IfOk result (λ safe. self.new.tested ≡ self.old.tested ++ slice_set self.old.state.done.items step true ∷ []) }
-        ensures safe { IfOk result (λ safe. IsTrue safe ↔ IsSafe plan.now.rollout plan.now.held (is_done_in (slice_set self.old.state.done.items step true))) }
-        ensures here { IfOk result (λ safe. IsTrue safe → self.new.state.done.items ≡ slice_set self.old.state.done.items step true) }
-        ensures order { IfOk result (λ safe. length self.new.order.items ≤ length self.old.order.items + 1) }
+        ensures tested { IfOk result (λ safe. self.new.tested ≡ self.old.tested ++
+            slice_set self.old.state.done.items step true ∷ []) }
+        ensures safe { IfOk result (λ safe. IsTrue safe ↔ IsSafe plan.now.rollout plan.now.held
+            (is_done_in (slice_set self.old.state.done.items step true))) }
+        ensures here { IfOk result (λ safe. IsTrue safe → self.new.state.done.items ≡
+            slice_set self.old.state.done.items step true) }
+        ensures order { IfOk result (λ safe. length self.new.order.items ≤
+            length self.old.order.items + 1) }
     {
         self.state.do_step(plan.scene(), step);
         self.tested.add(alloc, &self.state.done)?;
@@ -161,7 +169,8 @@ impl Walk {
         requires next { self.old.next ≡ step_count plan.now.rollout }
         ensures walk { IsSearchWalk plan.now self.new }
         ensures tested { self.new.tested ≡ self.old.tested }
-        ensures order { MatchBool result (length self.new.order.items + 1 ≡ length self.old.order.items) (self.new.order.items ≡ []) }
+        ensures order { MatchBool result (length self.new.order.items + 1 ≡
+            length self.old.order.items) (self.new.order.items ≡ []) }
         ensures next { MatchBool result ⊤ (self.new.next ≡ step_count plan.now.rollout) }
     {
         let _few = plan.step_count();
@@ -205,7 +214,8 @@ impl Walk {
     fn retreat(&mut self, plan: &Plan) -> Option<End>
         requires walk { (nodes : ℕ) × IsUnderWay plan.now nodes self.old }
         requires next { self.old.next ≡ step_count plan.now.rollout }
-        ensures { (nodes : ℕ) → IsUnderWay plan.now nodes self.old → IsWalkTurned plan.now nodes self.old self.new result }
+        ensures { (nodes : ℕ) → IsUnderWay plan.now nodes self.old →
+            IsWalkTurned plan.now nodes self.old self.new result }
     {
         if self.go_back(plan) {
             None

@@ -44,7 +44,8 @@ pub fn read_words(alloc: Global, words: &[String]) -> Result<Job, WordsStop>
 
 /// The command that the first word names; None exactly where there is none.
 fn named(words: &[String]) -> Option<CommandName>
-    ensures { MatchOption result (job_of (texts words.now) ≡ None) (λ name. job_of (texts words.now) ≡ job_of_row (row_of name) (texts words.now)) }
+    ensures { MatchOption result (job_of (texts words.now) ≡ None)
+        (λ name. job_of (texts words.now) ≡ job_of_row (row_of name) (texts words.now)) }
 {
     let (first, _others) = words.split_first()?;
     command_named(first.as_bytes())

@@ -31,8 +31,8 @@ fn find_values<'a>(
     name: CommandName,
     words: &'a [String],
 ) -> Result<ArgMatches<'a>, WordsStop>
-    ensures { MatchResult result
-        (λ matches. (takes_words (row_of name) (texts words.now) ≡ true) × (found matches ≡ found_in (row_of name) (texts words.now)))
+    ensures { MatchResult result (λ matches. (takes_words (row_of name) (texts words.now) ≡ true) ×
+        (found matches ≡ found_in (row_of name) (texts words.now)))
         (λ stop. stop ≡ WordsStop.Refused → takes_words (row_of name) (texts words.now) ≡ false) }
 {
     let command = simple_command(alloc, name)?;

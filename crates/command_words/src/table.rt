@@ -125,7 +125,8 @@ fn command<'a>(
     may: &[&'a str],
     operands: Operands,
 ) -> Result<Command<'a>, AllocError>
-    ensures { IfOk result (λ command. app_of command ≡ command_of name.now (now_texts must.now) (now_texts may.now) (operands_of operands)) }
+    ensures { IfOk result (λ command. app_of command ≡ command_of name.now (now_texts must.now)
+        (now_texts may.now) (operands_of operands)) }
 {
     let command = with_options(alloc, Command::new(alloc, name), must, true)?;
     let command = with_options(alloc, command, may, false)?;
@@ -139,7 +140,8 @@ fn with_options<'a>(
     names: &[&'a str],
     must: bool,
 ) -> Result<Command<'a>, AllocError>
-    ensures { IfOk result (λ more. app_of more ≡ with_rules (app_of command.entry) (map (option must) (now_texts names.now))) }
+    ensures { IfOk result (λ more. app_of more ≡ with_rules (app_of command.entry)
+        (map (option must) (now_texts names.now))) }
 {
     let mut more = command;
     for name in names {
@@ -154,7 +156,8 @@ fn with_operands<'a>(
     command: Command<'a>,
     operands: Operands,
 ) -> Result<Command<'a>, AllocError>
-    ensures { IfOk result (λ more. app_of more ≡ with_rules (app_of command.entry) (operand_rules (operands_of operands))) }
+    ensures { IfOk result (λ more. app_of more ≡ with_rules (app_of command.entry)
+        (operand_rules (operands_of operands))) }
 {
     match operands {
         Nothing => Ok(command),

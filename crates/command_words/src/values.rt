@@ -37,7 +37,8 @@ pub(crate) fn may_text(
     matches: &ArgMatches<'_>,
     name: &str,
 ) -> Result<Option<String>, AllocError>
-    ensures { IfOk result (λ text. option_map string_bytes text ≡ option_value name.now (found matches.now)) }
+    ensures { IfOk result (λ text. option_map string_bytes text ≡
+        option_value name.now (found matches.now)) }
 {
     match value(matches, name) {
         Some(value) => Ok(Some(String::from_str(alloc, value)?)),
@@ -77,7 +78,8 @@ fn number_between(text: &str, low: u64, high: u64) -> Option<u64>
 
 /// The number of an option that must be given; None where it isn't a number from `low` to `high`.
 pub(crate) fn must_number(matches: &ArgMatches<'_>, name: &str, low: u64, high: u64) -> Option<u64>
-    ensures { result ≡ option_and_then (number_between low high) (option_value name.now (found matches.now)) }
+    ensures { result ≡ option_and_then (number_between low high)
+        (option_value name.now (found matches.now)) }
 {
     number_between(value(matches, name)?, low, high)
 }

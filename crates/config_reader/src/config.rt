@@ -29,8 +29,8 @@ fn first_fault<'a>(
 ) -> Option<LineFault>
     requires { drafts.now.names ≡ map (λ d. d.interface.name) drafts.now.drafts.items }
     ensures { option_map fault_heard result ≡ drafting.earliest
-        (drafting.earliest
-        (drafting.earliest (option_map fault_heard parts.now.fault) (drafting.first_second drafts.now.drafts.items (map said_of parts.now.said.items)))
+        (drafting.earliest (drafting.earliest (option_map fault_heard parts.now.fault)
+        (drafting.first_second drafts.now.drafts.items (map said_of parts.now.said.items)))
         (drafting.first_clash networks.now None drafts.now.drafts.items))
         (drafting.name_fault (head_heard name.entry)) }
 {
@@ -46,8 +46,16 @@ fn assemble(
     router_id: Option<u32>,
     interfaces: Vec<Interface>,
 ) -> Result<RouterConfig, OutOfMemory>
-    requires { IsRouter (record { name = name.now; router_id = router_id; interfaces = interfaces.items }) }
-    ensures { IfOk result (λ r. r ≡ record { name = name.now; router_id = router_id; interfaces = interfaces.items }) }
+    requires { IsRouter (record {
+      name = name.now;
+      router_id = router_id;
+      interfaces = interfaces.items;
+    }) }
+    ensures { IfOk result (λ r. r ≡ record {
+      name = name.now;
+      router_id = router_id;
+      interfaces = interfaces.items;
+    }) }
 {
     let name = Name::from_bytes(alloc, name)?;
     Ok(RouterConfig {
@@ -67,9 +75,11 @@ fn checked<'a>(
 ) -> Result<RouterConfig, Refusal<ConfigFault>>
     requires read { (bytes : List ℕ) × IsParts (hearing.heard (lines bytes)) parts.now }
     requires networks { networks.now ≡ drafting.network_lines (map said_of parts.now.said.items) }
-    requires drafts { IsGathered networks.now (map head_heard parts.now.heads.items) (map said_of parts.now.said.items) drafts }
+    requires drafts { IsGathered networks.now (map head_heard parts.now.heads.items)
+        (map said_of parts.now.said.items) drafts }
     ensures made { (bytes : List ℕ) → IsParts (hearing.heard (lines bytes)) parts.now →
-        IfOk result (λ r. (config_fault file_name.now bytes ≡ None) × (r ≡ config_of file_name.now bytes)) }
+        IfOk result (λ r. (config_fault file_name.now bytes ≡ None) ×
+        (r ≡ config_of file_name.now bytes)) }
     ensures refused { (bytes : List ℕ) → IsParts (hearing.heard (lines bytes)) parts.now →
         IfErr result (TellsConfigFault (config_fault file_name.now bytes)) }
 {
@@ -92,7 +102,8 @@ fn gathered<'a>(
 ) -> Result<RouterConfig, Refusal<ConfigFault>>
     requires { (bytes : List ℕ) × IsParts (hearing.heard (lines bytes)) parts.now }
     ensures made { (bytes : List ℕ) → IsParts (hearing.heard (lines bytes)) parts.now →
-        IfOk result (λ r. (config_fault file_name.now bytes ≡ None) × (r ≡ config_of file_name.now bytes)) }
+        IfOk result (λ r. (config_fault file_name.now bytes ≡ None) ×
+        (r ≡ config_of file_name.now bytes)) }
     ensures refused { (bytes : List ℕ) → IsParts (hearing.heard (lines bytes)) parts.now →
         IfErr result (TellsConfigFault (config_fault file_name.now bytes)) }
 {
@@ -113,7 +124,8 @@ pub fn read_config(
     bytes: &[u8],
 ) -> Result<RouterConfig, Refusal<ConfigFault>>
     requires few { length bytes.now < 2 ^ 32 - 1 }
-    ensures made { IfOk result (λ r. (config_fault file_name.now bytes.now ≡ None) × (r ≡ config_of file_name.now bytes.now)) }
+    ensures made { IfOk result (λ r. (config_fault file_name.now bytes.now ≡ None) ×
+        (r ≡ config_of file_name.now bytes.now)) }
     ensures refused { IfErr result (TellsConfigFault (config_fault file_name.now bytes.now)) }
 {
     let parts = read_parts(alloc, bytes)?;

@@ -72,7 +72,9 @@ fn set(interface: &mut Interface, statement: Statement<'_>)
 
 /// Gives an interface its address, where it has none.
 fn set_address(interface: &mut Interface, address: AddressPrefix)
-    ensures { interface.new ≡ drafting.with_address (record { address = address.address; length = address.length }) interface.old.address interface.old }
+    ensures { interface.new ≡ drafting.with_address
+        (record { address = address.address; length = address.length }) interface.old.address
+        interface.old }
 {
     if interface.address.is_none() {
         interface.address = Some(address.address);
@@ -92,7 +94,8 @@ fn is_matched(networks: &Networks, statement: Statement<'_>) -> bool
 
 /// The name of the interface that a line is about.
 fn target<'a>(said: &SaidLine<'a>) -> Option<&'a [u8]>
-    ensures { option_map (λ name. name.now) result ≡ drafting.target (block_spoken said.now.block) (statement_of said.now.statement) }
+    ensures { option_map (λ name. name.now) result ≡ drafting.target (block_spoken said.now.block)
+        (statement_of said.now.statement) }
 {
     match (said.block, said.statement) {
         (Block::Interface(name), _) => Some(name),
@@ -103,7 +106,8 @@ fn target<'a>(said: &SaidLine<'a>) -> Option<&'a [u8]>
 
 /// Adds to a draft what a line about it says.
 fn change(draft: &mut Draft, said: &SaidLine<'_>, networks: &Networks)
-    ensures { draft.new ≡ drafting.change networks.now (block_spoken said.now.block) (statement_of said.now.statement) draft.old }
+    ensures { draft.new ≡ drafting.change networks.now (block_spoken said.now.block)
+        (statement_of said.now.statement) draft.old }
 {
     match said.block {
         Block::Interface(_) => {
@@ -121,8 +125,9 @@ impl<'a> Drafts<'a> {
         ensures drafts { OnOk result (self.new.drafts.items ≡
             (if list_any (same_bytes head.entry.name.now) self.old.names then self.old.drafts.items
             else self.old.drafts.items ++ drafting.new_draft (head_heard head.entry) ∷ [])) }
-        ensures names { OnOk result (self.new.names ≡
-            (if list_any (same_bytes head.entry.name.now) self.old.names then self.old.names else self.old.names ++ head.entry.name.now ∷ [])) }
+        ensures names { OnOk result
+            (self.new.names ≡ (if list_any (same_bytes head.entry.name.now) self.old.names then
+            self.old.names else self.old.names ++ head.entry.name.now ∷ [])) }
     {
         if self.names.add(head.name)? {
             let name = Name::from_bytes(alloc, head.name)?;
@@ -152,7 +157,8 @@ impl<'a> Drafts<'a> {
         said: &[SaidLine<'a>],
         networks: &Networks,
     ) -> Result<Drafts<'a>, OutOfMemory>
-        ensures { IfOk result (IsGathered networks.now (map head_heard heads.now) (map said_of said.now)) }
+        ensures { IfOk result (IsGathered networks.now (map head_heard heads.now)
+            (map said_of said.now)) }
     {
         let Drafts { names, mut drafts } = Drafts::open(alloc, heads)?;
         for line in said {
@@ -175,7 +181,8 @@ impl<'a> Drafts<'a> {
 fn settle<'a>(names: &Names<'a>, drafts: &mut Vec<Draft>, said: &SaidLine<'a>, networks: &Networks)
     requires names { names.now ≡ map (λ d. d.interface.name) drafts.old.items }
     requires apart { NamesApart names.now }
-    ensures { drafts.new.items ≡ map (drafting.draft_with networks.now (said_of said.now)) drafts.old.items }
+    ensures { drafts.new.items ≡ map (drafting.draft_with networks.now (said_of said.now))
+        drafts.old.items }
 {
     let Some(name) = target(said) else {
         return;

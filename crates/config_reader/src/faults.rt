@@ -14,7 +14,8 @@ use crate::statements::{AddressPrefix, Block, Statement};
 
 /// The fault of the lesser line, the first where there is one line.
 pub(crate) fn earliest(first: Option<LineFault>, second: Option<LineFault>) -> Option<LineFault>
-    ensures { option_map fault_heard result ≡ drafting.earliest (option_map fault_heard first) (option_map fault_heard second) }
+    ensures { option_map fault_heard result ≡ drafting.earliest (option_map fault_heard first)
+        (option_map fault_heard second) }
 {
     match (first, second) {
         (Some(one), Some(other)) if other.line < one.line => second,
@@ -37,7 +38,8 @@ fn is_other_address(draft: &Draft, address: AddressPrefix) -> bool
 /// Whether a line gives an interface with an area a different second address.
 fn is_second<'a>(drafts: &Drafts<'a>, said: &SaidLine<'a>) -> bool
     requires { drafts.now.names ≡ map (λ d. d.interface.name) drafts.now.drafts.items }
-    ensures { result ≡ drafting.second_in drafts.now.drafts.items (block_spoken said.now.block) (statement_of said.now.statement) }
+    ensures { result ≡ drafting.second_in drafts.now.drafts.items (block_spoken said.now.block)
+        (statement_of said.now.statement) }
 {
     match (said.block, said.statement) {
         (Block::Interface(name), Statement::Address(address)) => match drafts.find(name) {
@@ -51,7 +53,8 @@ fn is_second<'a>(drafts: &Drafts<'a>, said: &SaidLine<'a>) -> bool
 /// The first line that gives an interface with an area a different second address.
 pub(crate) fn second_address<'a>(drafts: &Drafts<'a>, said: &[SaidLine<'a>]) -> Option<LineFault>
     requires { drafts.now.names ≡ map (λ d. d.interface.name) drafts.now.drafts.items }
-    ensures { option_map fault_heard result ≡ drafting.first_second drafts.now.drafts.items (map said_of said.now) }
+    ensures { option_map fault_heard result ≡ drafting.first_second drafts.now.drafts.items
+        (map said_of said.now) }
 {
     for line in said {
         if is_second(drafts, line) {
@@ -95,7 +98,8 @@ pub(crate) fn area_twice(drafts: &[Draft], networks: &Networks) -> Option<LineFa
 
 /// The router id of a line of a router block.
 fn id_in(said: &SaidLine<'_>) -> Option<u32>
-    ensures { result ≡ drafting.router_id_set (block_spoken said.now.block) (statement_of said.now.statement) }
+    ensures { result ≡ drafting.router_id_set (block_spoken said.now.block)
+        (statement_of said.now.statement) }
 {
     match (said.block, said.statement) {
         (Block::Router, Statement::RouterId(id)) => Some(id),
@@ -116,7 +120,8 @@ pub(crate) fn router_id(said: &[SaidLine<'_>]) -> Option<u32>
 
 /// The router's name, with its line: of the last `hostname` head, or of the file, with line 0.
 pub(crate) fn router_name<'a>(hostname: Option<NamedHead<'a>>, file_name: &'a [u8]) -> NamedHead<'a>
-    ensures { head_heard result ≡ drafting.name_from file_name.now (option_map head_heard hostname.entry) }
+    ensures { head_heard result ≡ drafting.name_from file_name.now
+        (option_map head_heard hostname.entry) }
 {
     match hostname {
         Some(head) => head,

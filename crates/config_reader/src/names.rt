@@ -40,7 +40,9 @@ impl<'a> Names<'a> {
     pub fn add(&mut self, name: &'a [u8]) -> Result<bool, OutOfMemory>
         ensures new { IfOk result (λ new. new ≡ not (list_any (same_bytes name.now) self.old)) }
         ensures kept { OnErr result (self.new ≡ self.old) }
-        ensures names { IfOk result (λ new. self.new ≡ (if list_any (same_bytes name.now) self.old then self.old else self.old ++ name.now ∷ [])) }
+        ensures names { IfOk result
+            (λ new. self.new ≡ (if list_any (same_bytes name.now) self.old then self.old
+            else self.old ++ name.now ∷ [])) }
     {
         let (_, new) = self.names.insert_full(name)?;
         Ok(new)

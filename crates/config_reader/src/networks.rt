@@ -71,7 +71,8 @@ impl Model for Networks {
 
 /// The `network` line that a line is.
 fn network_line(said: &SaidLine<'_>) -> Option<NetworkLine>
-    ensures { result ≡ network_line said.now.number (block_spoken said.now.block) (statement_of said.now.statement) }
+    ensures { result ≡ network_line said.now.number (block_spoken said.now.block)
+        (statement_of said.now.statement) }
 {
     match (said.block, said.statement) {
         (Block::Router, Statement::NetworkArea(prefix, area)) => Some(NetworkLine {
@@ -178,7 +179,8 @@ impl Networks {
 
     /// The first line of a prefix that has another area than this one.
     fn other_of(&self, prefix: NetworkPrefix, area: u32) -> Option<Sighted>
-        ensures { result ≡ first_at 0 (λ line. names_prefix prefix line && is_elsewhere area line) self.now }
+        ensures { result ≡ first_at 0 (λ line. names_prefix prefix line && is_elsewhere area line)
+            self.now }
     {
         let lines = self.by_prefix.get(&prefix)?;
         if lines.first.line.area == area {
@@ -202,7 +204,8 @@ impl Networks {
 
     /// The first line that matches an address and has another area than this one.
     fn first_elsewhere(&self, address: AddressPrefix, area: u32) -> Option<Sighted>
-        ensures { result ≡ first_at 0 (λ line. covers (prefix_spoken address) line && is_elsewhere area line) self.now }
+        ensures { result ≡ first_at 0 (λ line. covers (prefix_spoken address) line &&
+            is_elsewhere area line) self.now }
     {
         let mut shorter = None;
         for length in 0..address.length {

@@ -70,7 +70,13 @@ impl<'a> Model for Reader<'a> {
 impl<'a> Reader<'a> {
     /// No line was read.
     fn new(alloc: Global) -> Reader<'a>
-        ensures { result ≡ record { said = []; heads = []; hostname = None; fault = None; block = OfOther } }
+        ensures { result ≡ record {
+          said = [];
+          heads = [];
+          hostname = None;
+          fault = None;
+          block = OfOther;
+        } }
     {
         Reader {
             said: Vec::new(alloc),
@@ -120,7 +126,8 @@ impl<'a> Reader<'a> {
         block: Block<'a>,
         statement: Statement<'a>,
     ) -> Result<(), OutOfMemory>
-        ensures { OnOk result (self.new ≡ hearing.hear_statement self.old number (block_spoken block.entry) (statement_of statement.entry)) }
+        ensures { OnOk result (self.new ≡ hearing.hear_statement self.old number
+            (block_spoken block.entry) (statement_of statement.entry)) }
     {
         match statement {
             Statement::Unread => {}

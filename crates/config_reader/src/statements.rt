@@ -58,7 +58,8 @@ pub(crate) fn block_of(text: &[u8]) -> Block<'_>
 
 /// What a line says in its block.
 pub(crate) fn statement_in<'a>(block: Block<'a>, text: &'a [u8]) -> Statement<'a>
-    ensures { statement_of result ≡ definition.statement_in (block_spoken block.entry) (words text.now) }
+    ensures { statement_of result ≡ definition.statement_in (block_spoken block.entry)
+        (words text.now) }
 {
     match block {
         Block::Interface(_) => interface_statement(text),
@@ -123,9 +124,9 @@ pub(crate) fn interface_statement(text: &[u8]) -> Statement<'_>
 
 /// What a line `ip address ..` says.
 fn address_statement(text: &[u8]) -> Statement<'_>
-    ensures { statement_of result ≡
-        (if same_bytes (word_at (words text.now) 3) (codes "peer") then definition.Refused ConfigFault.Unsupported
-        else definition.address_statement (grammar.prefix (word_at (words text.now) 2))) }
+    ensures { statement_of result ≡ (if same_bytes (word_at (words text.now) 3) (codes "peer") then
+        definition.Refused ConfigFault.Unsupported else definition.address_statement
+        (grammar.prefix (word_at (words text.now) 2))) }
 {
     if same(word(text, 3), b"peer") {
         return Statement::Refused(ConfigFault::Unsupported);
@@ -149,7 +150,8 @@ fn alone(last: bool, statement: Statement<'_>) -> Statement<'_>
 
 /// What a line `ip ospf area ..` says.
 fn area_statement(text: &[u8]) -> Statement<'_>
-    ensures { statement_of result ≡ definition.area_statement (nat_le (length (words text.now)) 4) (grammar.area (word_at (words text.now) 3)) }
+    ensures { statement_of result ≡ definition.area_statement (nat_le (length (words text.now)) 4)
+        (grammar.area (word_at (words text.now) 3)) }
 {
     match area(word(text, 3)) {
         Some(area) => alone(word_count(text) <= 4, Statement::Area(area)),
@@ -159,7 +161,8 @@ fn area_statement(text: &[u8]) -> Statement<'_>
 
 /// What a line `ip ospf cost ..` says: a cost from 1 to 65535.
 fn cost_statement(text: &[u8]) -> Statement<'_>
-    ensures { statement_of result ≡ definition.cost_statement (nat_le (length (words text.now)) 4) (grammar.number (word_at (words text.now) 3) 65535) }
+    ensures { statement_of result ≡ definition.cost_statement (nat_le (length (words text.now)) 4)
+        (grammar.number (word_at (words text.now) 3) 65535) }
 {
     match number(word(text, 3), 65535) {
         None | Some(0) => Statement::Refused(ConfigFault::BadNumber),
@@ -170,9 +173,10 @@ fn cost_statement(text: &[u8]) -> Statement<'_>
 /// What a line `ip ospf network ..` says.
 fn kind_statement(text: &[u8]) -> Statement<'_>
     ensures { statement_of result ≡
-        (if same_bytes (word_at (words text.now) 3) (codes "point-to-point") then definition.KindIs Kind.PointToPoint
-        else (if same_bytes (word_at (words text.now) 3) (codes "broadcast") then definition.KindIs Kind.Broadcast
-        else definition.Refused ConfigFault.Unsupported)) }
+        (if same_bytes (word_at (words text.now) 3) (codes "point-to-point") then
+        definition.KindIs Kind.PointToPoint
+        else (if same_bytes (word_at (words text.now) 3) (codes "broadcast") then
+        definition.KindIs Kind.Broadcast else definition.Refused ConfigFault.Unsupported)) }
 {
     let kind = word(text, 3);
     if same(kind, b"point-to-point") {
@@ -186,7 +190,8 @@ fn kind_statement(text: &[u8]) -> Statement<'_>
 
 /// What a line `ip ospf priority ..` says: a priority from 0 to 255.
 fn priority_statement(text: &[u8]) -> Statement<'_>
-    ensures { statement_of result ≡ definition.priority_statement (nat_le (length (words text.now)) 4) (grammar.number (word_at (words text.now) 3) 255) }
+    ensures { statement_of result ≡ definition.priority_statement
+        (nat_le (length (words text.now)) 4) (grammar.number (word_at (words text.now) 3) 255) }
 {
     match number(word(text, 3), 255) {
         Some(priority) => alone(word_count(text) <= 4, Statement::Priority(priority as u8)),
@@ -261,7 +266,8 @@ pub(crate) fn router_statement(text: &[u8]) -> Statement<'_>
 
 /// What a line `ospf router-id ..` says.
 fn router_id_statement(text: &[u8]) -> Statement<'_>
-    ensures { statement_of result ≡ definition.router_id_statement (grammar.quad (word_at (words text.now) 2)) }
+    ensures { statement_of result ≡ definition.router_id_statement
+        (grammar.quad (word_at (words text.now) 2)) }
 {
     match quad(word(text, 2)) {
         Some(id) => Statement::RouterId(id),
@@ -271,8 +277,10 @@ fn router_id_statement(text: &[u8]) -> Statement<'_>
 
 /// What a line `network ..` says.
 fn network_statement(text: &[u8]) -> Statement<'_>
-    ensures { statement_of result ≡ definition.network_statement (grammar.prefix (word_at (words text.now) 1))
-        (same_bytes (word_at (words text.now) 2) (codes "area")) (grammar.area (word_at (words text.now) 3)) }
+    ensures { statement_of result ≡ definition.network_statement
+        (grammar.prefix (word_at (words text.now) 1))
+        (same_bytes (word_at (words text.now) 2) (codes "area"))
+        (grammar.area (word_at (words text.now) 3)) }
 {
     let Some((address, length)) = prefix(word(text, 1)) else {
         return Statement::Refused(ConfigFault::BadAddress);
@@ -288,7 +296,8 @@ fn network_statement(text: &[u8]) -> Statement<'_>
 
 /// What a line `passive-interface ..` says.
 fn passive_statement(text: &[u8]) -> Statement<'_>
-    ensures { statement_of result ≡ definition.passive_statement (length (words text.now) == 2) (word_at (words text.now) 1) }
+    ensures { statement_of result ≡ definition.passive_statement (length (words text.now) == 2)
+        (word_at (words text.now) 1) }
 {
     let name = word(text, 1);
     if word_count(text) == 2 && !same(name, b"default") {

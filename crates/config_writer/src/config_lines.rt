@@ -17,7 +17,8 @@ pub(crate) fn sets_cost(text: &[u8]) -> bool
 
 /// The interface whose block a head opens, if any.
 pub(crate) fn interface_opened(head: &[u8]) -> Option<&[u8]>
-    ensures { option_map (λ name. name.now) result ≡ name_opened (statements.block_of (words head.now)) }
+    ensures { option_map (λ name. name.now) result ≡ name_opened
+        (statements.block_of (words head.now)) }
 {
     if word_count(head) == 2 && begins(head, b"interface") {
         Some(word(head, 1))

@@ -40,7 +40,8 @@ impl<'a> NewCosts<'a> {
         alloc: Global,
         lines: &'a [CostLine],
     ) -> Result<NewCosts<'a>, OutOfMemory>
-        ensures costs { IfOk result (λ costs. (name : List ℕ) → look_up name costs ≡ cost_after (costs_of lines.now) name None) }
+        ensures costs { IfOk result (λ costs. (name : List ℕ) → look_up name costs ≡
+            cost_after (costs_of lines.now) name None) }
         ensures within { IfOk result (λ costs. All (λ line. line.cost ≤ 65535) lines.now) }
     {
         let mut costs = NewCosts::new(alloc);
@@ -52,7 +53,8 @@ impl<'a> NewCosts<'a> {
 
     /// Gives an interface its cost.
     fn add(&mut self, interface: &'a [u8], cost: u16) -> Result<(), OutOfMemory>
-        ensures costs { OnOk result ((name : List ℕ) → look_up name self.new ≡ (if same_bytes name interface.now then Some cost else look_up name self.old)) }
+        ensures costs { OnOk result ((name : List ℕ) → look_up name self.new ≡
+            (if same_bytes name interface.now then Some cost else look_up name self.old)) }
         ensures within { cost ≤ 65535 }
     {
         self.costs.insert(interface, cost)?;

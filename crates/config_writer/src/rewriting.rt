@@ -38,7 +38,8 @@ pub fn rewrite(
     requires lines { AreNewCosts (config_of file_name.now bytes.now).name lines.now }
     ensures written { IfOk result (λ out. out.items ≡ rewritten (costs_of lines.now) bytes.now) }
     ensures headed { IfOk result (λ out. first_missing (costs_of lines.now) bytes.now ≡ None) }
-    ensures read_back { IfOk result (λ out. ReadsBack file_name.now (costs_of lines.now) bytes.now out.items) }
+    ensures read_back { IfOk result (λ out. ReadsBack file_name.now (costs_of lines.now) bytes.now
+        out.items) }
     ensures missing { IfErr result (TellsMissing (first_missing (costs_of lines.now) bytes.now)) }
 {
     rewrite_lines(alloc, bytes, lines)
@@ -71,7 +72,8 @@ fn write_lines<'a>(
     lines: &'a [CostLine],
 ) -> Result<Writer<'a>, OutOfMemory>
     requires { length bytes.now < 2 ^ 32 - 1 }
-    ensures out { IfOk result (λ writer. writer.out.items ≡ rewritten (costs_of lines.now) bytes.now) }
+    ensures out { IfOk result (λ writer. writer.out.items ≡ rewritten (costs_of lines.now)
+        bytes.now) }
     ensures heads { IfOk result (λ writer. writer.heads ≡ headed (text.lines bytes.now)) }
     ensures within { IfOk result (λ writer. All (λ line. line.cost ≤ 65535) lines.now) }
 {
@@ -98,7 +100,8 @@ fn next_line<'a>(left: &mut Lines<'a>) -> Option<Line<'a>>
 
 /// The place of the first line whose interface has no head.
 fn first_without_head<'a>(heads: &Names<'a>, lines: &'a [CostLine]) -> Option<usize>
-    ensures { result ≡ position (λ line. not (list_any (same_bytes line.interface) heads.now)) lines.now }
+    ensures { result ≡ position (λ line. not (list_any (same_bytes line.interface) heads.now))
+        lines.now }
 {
     lines
         .iter()

@@ -40,8 +40,10 @@ pub(crate) fn decide_set(
     advisors: &mut Vec<Box<dyn Advisor>>,
 ) -> Result<Decided, OutOfMemory>
     requires { IsRequestSet problem.now members.items }
-    ensures decided { IfOk result (IsSetDecided problem.now limits.now.top limits.now.nodes members.items) }
-    ensures advisors { AreCalled ⟦<dyn Advisor as Advisor>⟧ (λ b. b.vtable) (λ b. state b) advisors.old.items advisors.new.items }
+    ensures decided { IfOk result (IsSetDecided problem.now limits.now.top limits.now.nodes
+        members.items) }
+    ensures advisors { AreCalled ⟦<dyn Advisor as Advisor>⟧ (λ b. b.vtable) (λ b. state b)
+        advisors.old.items advisors.new.items }
 {
     keeps_conditions(problem);
     let part = problem.only(alloc, members.as_slice())?;

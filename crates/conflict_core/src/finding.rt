@@ -19,8 +19,10 @@ use wide_fraction::Limits;
 /// That the node budget was used up at a set.
 fn unknown(alloc: Global, problem: &Problem, set: SetTree) -> Result<Conflict, OutOfMemory>
     requires spent { (top : ℕ) × (nodes : ℕ) × IsUndecidedSet problem.now top nodes set }
-    requires tried { (set.members.items ≡ all_requests problem.now) ⊎ IsConflictLessOne problem.now set.members.items }
-    ensures { (top nodes : ℕ) → IsUndecidedSet problem.now top nodes set → IfOk result (IsConflictFound problem.now top nodes) }
+    requires tried { (set.members.items ≡ all_requests problem.now) ⊎
+        IsConflictLessOne problem.now set.members.items }
+    ensures { (top nodes : ℕ) → IsUndecidedSet problem.now top nodes set →
+        IfOk result (IsConflictFound problem.now top nodes) }
 {
     let Told {
         members,
@@ -44,7 +46,8 @@ fn core(
     requires conflict { (top : ℕ) × (nodes : ℕ) × IsRefutedSet problem.now top nodes conflict }
     requires counted { length without.items ≡ length conflict.members.items }
     requires fits { AreFitWithout problem.now conflict.members.items without.items }
-    ensures { (top nodes : ℕ) → IsRefutedSet problem.now top nodes conflict → IfOk result (IsConflictFound problem.now top nodes) }
+    ensures { (top nodes : ℕ) → IsRefutedSet problem.now top nodes conflict →
+        IfOk result (IsConflictFound problem.now top nodes) }
 {
     keeps_conditions(problem);
     let Told {
@@ -71,7 +74,8 @@ fn finish(
     requires shrunk { IsShrunk problem.now shrunk }
     requires ended { length shrunk.members ≤ length shrunk.without.items }
     ensures found { IfOk result (IsConflictFound problem.now limits.now.top limits.now.nodes) }
-    ensures advisors { AreCalled ⟦<dyn Advisor as Advisor>⟧ (λ b. b.vtable) (λ b. state b) advisors.old.items advisors.new.items }
+    ensures advisors { AreCalled ⟦<dyn Advisor as Advisor>⟧ (λ b. b.vtable) (λ b. state b)
+        advisors.old.items advisors.new.items }
 {
     let members = Vec::from_slice(alloc, shrunk.members.as_slice())?;
     match decide_set(alloc, problem, members, limits, advisors)? {
@@ -92,7 +96,8 @@ fn shrink(
     requires conflict { IsRefutedSet problem.now limits.now.top limits.now.nodes conflict }
     requires all { conflict.members.items ≡ all_requests problem.now }
     ensures found { IfOk result (IsConflictFound problem.now limits.now.top limits.now.nodes) }
-    ensures advisors { AreCalled ⟦<dyn Advisor as Advisor>⟧ (λ b. b.vtable) (λ b. state b) advisors.old.items advisors.new.items }
+    ensures advisors { AreCalled ⟦<dyn Advisor as Advisor>⟧ (λ b. b.vtable) (λ b. state b)
+        advisors.old.items advisors.new.items }
 {
     keeps_conditions(problem);
     let Told {
@@ -132,7 +137,8 @@ pub fn find_conflict(
     advisors: &mut Vec<Box<dyn Advisor>>,
 ) -> Result<Conflict, OutOfMemory>
     ensures found { IfOk result (IsConflictFound problem.now limits.now.top limits.now.nodes) }
-    ensures advisors { AreCalled ⟦<dyn Advisor as Advisor>⟧ (λ b. b.vtable) (λ b. state b) advisors.old.items advisors.new.items }
+    ensures advisors { AreCalled ⟦<dyn Advisor as Advisor>⟧ (λ b. b.vtable) (λ b. state b)
+        advisors.old.items advisors.new.items }
 {
     keeps_conditions(problem);
     let all = all_requests(alloc, problem)?;

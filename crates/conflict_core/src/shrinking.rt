@@ -39,7 +39,8 @@ impl Shrunk {
     fn with_costs(self, costs: CostList) -> Result<Shrunk, OutOfMemory>
         ensures members { IfOk result (λ next. next.members ≡ self.members) }
         ensures rows { IfOk result (λ next. next.rows ≡ self.rows) }
-        ensures without { IfOk result (λ next. next.without.items ≡ self.without.items ++ costs ∷ []) }
+        ensures without { IfOk result (λ next. next.without.items ≡
+            self.without.items ++ costs ∷ []) }
     {
         let Shrunk {
             members,
@@ -95,7 +96,8 @@ impl Shrunk {
 /// The members but the next one for which it isn't known whether the others are a conflict without it.
 fn without_next(alloc: Global, shrunk: &Shrunk) -> Result<Vec<u32>, OutOfMemory>
     requires { length shrunk.now.without.items < length shrunk.now.members }
-    ensures { IfOk result (λ others. others.items ≡ remove shrunk.now.members (length shrunk.now.without.items)) }
+    ensures { IfOk result (λ others. others.items ≡ remove shrunk.now.members
+        (length shrunk.now.without.items)) }
 {
     without_one(alloc, shrunk.members.as_slice(), shrunk.without.len())
 }
@@ -115,7 +117,8 @@ fn has_row_of(rows: &[Row], request: u32) -> bool
 /// Whether the rows are also of the next member. Without such rows the others are a conflict too.
 fn uses_next(shrunk: &Shrunk) -> bool
     requires { length shrunk.now.without.items < length shrunk.now.members }
-    ensures { result ≡ list_any (λ row. row.request == slice_index shrunk.now.members (length shrunk.now.without.items)) shrunk.now.rows }
+    ensures { result ≡ list_any (λ row. row.request == slice_index shrunk.now.members
+        (length shrunk.now.without.items)) shrunk.now.rows }
 {
     let members = shrunk.members.as_slice();
     has_row_of(shrunk.rows.as_slice(), members[shrunk.without.len()])
@@ -132,8 +135,10 @@ pub(crate) fn leave_out(
 ) -> Result<Tried, OutOfMemory>
     requires shrunk { IsShrunk problem.now shrunk }
     requires left { length shrunk.without.items < length shrunk.members }
-    ensures turned { IfOk result (IsMemberTried problem.now limits.now.top limits.now.nodes shrunk) }
-    ensures advisors { AreCalled ⟦<dyn Advisor as Advisor>⟧ (λ b. b.vtable) (λ b. state b) advisors.old.items advisors.new.items }
+    ensures turned { IfOk result (IsMemberTried problem.now limits.now.top limits.now.nodes
+        shrunk) }
+    ensures advisors { AreCalled ⟦<dyn Advisor as Advisor>⟧ (λ b. b.vtable) (λ b. state b)
+        advisors.old.items advisors.new.items }
 {
     keeps_conditions(problem);
     let others = without_next(alloc, &shrunk)?;

@@ -43,7 +43,8 @@ fn whole_rows(alloc: Global, rows: Vec<Row>, members: &[u32]) -> Result<Vec<Row>
 /// What is told of a set's tree: the rows that it names, and the tree with their new numbers.
 pub(crate) fn tell(alloc: Global, problem: &Problem, set: SetTree) -> Result<Told, OutOfMemory>
     requires { (top : ℕ) × (nodes : ℕ) × IsSetTree problem.now top nodes set }
-    ensures { (top nodes : ℕ) → IsSetTree problem.now top nodes set → IfOk result (IsSetTreeTold problem.now top nodes set) }
+    ensures { (top nodes : ℕ) → IsSetTree problem.now top nodes set →
+        IfOk result (IsSetTreeTold problem.now top nodes set) }
 {
     keeps_conditions(problem);
     let SetTree {

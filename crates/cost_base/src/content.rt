@@ -8,7 +8,8 @@ use crate::{Name, ShelfStop};
 
 /// The bytes of the first file of a name.
 pub(crate) fn find_first<'a>(files: &'a [(Name, Name)], name: &[u8]) -> Option<&'a [u8]>
-    ensures { MatchOption result (first_file files.now name.now ≡ None) (λ found. first_file files.now name.now ≡ Some found.now) }
+    ensures { MatchOption result (first_file files.now name.now ≡ None)
+        (λ found. first_file files.now name.now ≡ Some found.now) }
 {
     for file in files {
         if file.0.as_bytes() == name {

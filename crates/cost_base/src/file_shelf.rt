@@ -45,10 +45,13 @@ impl<R: Files> Shelf for FileShelf<R> {
     fn take(&mut self, name: &str, most: usize, into: &mut Vec<u8>) -> Result<(), ShelfStop>
         requires empty { into.old.items ≡ [] }
         requires most { most < 2 ^ 31 }
-        ensures read { OnOk result ((file : R.File) × IsFile (R.File.remaining file) into.new.items) }
-        ensures too_long { IsErrOf result ShelfStop.TooLong → (file : R.File) × IsLonger (R.File.remaining file) most }
+        ensures read { OnOk result ((file : R.File) × IsFile (R.File.remaining file)
+            into.new.items) }
+        ensures too_long { IsErrOf result ShelfStop.TooLong → (file : R.File) ×
+            IsLonger (R.File.remaining file) most }
         ensures within { LeavesWithin most result into.new.items }
-        ensures faults { CountsFaults (count_of_name self.old.failed.names.items) (count_of_name self.new.failed.names.items) name.now result }
+        ensures faults { CountsFaults (count_of_name self.old.failed.names.items)
+            (count_of_name self.new.failed.names.items) name.now result }
         ensures gave { (self.new.files ≡ self.old.files) × HasGiven (λ other. None) (λ other. None)
             self.old.failed.names.items self.new.failed.names.items
             (record { name = name.now; most = most; came = came_of result into.new.items } ∷ []) }
@@ -91,7 +94,8 @@ fn read_file<R: Files>(
     requires empty { into.old.items ≡ [] }
     requires most { most < 2 ^ 31 }
     ensures read { OnOk result ((file : R.File) × IsFile (R.File.remaining file) into.new.items) }
-    ensures too_long { IsErrOf result ShelfStop.TooLong → (file : R.File) × IsLonger (R.File.remaining file) most }
+    ensures too_long { IsErrOf result ShelfStop.TooLong → (file : R.File) ×
+        IsLonger (R.File.remaining file) most }
     ensures within { LeavesWithin most result into.new.items }
 {
     match fs::open(files, path) {

@@ -27,7 +27,8 @@ impl MemoryShelf {
     ///
     /// No call has been made, so every count of faults is 0.
     pub fn new(files: Vec<(Name, Name)>, fail: Vec<u64>) -> MemoryShelf
-        ensures held { (name : List ℕ) → ⟦<MemoryShelf as Shelf>⟧.held result name ≡ first_file files.items name }
+        ensures held { (name : List ℕ) → ⟦<MemoryShelf as Shelf>⟧.held result name ≡
+            first_file files.items name }
         ensures faults { (name : List ℕ) → ⟦<MemoryShelf as Shelf>⟧.faults result name ≡ 0 }
         ensures fail { result.fail.items ≡ fail.items }
         ensures calls { result.calls ≡ 0 }
@@ -56,8 +57,10 @@ impl MemoryShelf {
 
     /// The bytes that a call hands out, or None where the call is to fail or the name is missing.
     fn content(&self, call: u64, name: &[u8]) -> Option<&[u8]>
-        ensures none { result ≡ None → IsListed self.now.fail.items call ⊎ (first_file self.now.files.items name.now ≡ None) }
-        ensures some { IfSome result (λ bytes. (IsListed self.now.fail.items call → ⊥) × (first_file self.now.files.items name.now ≡ Some bytes.now)) }
+        ensures none { result ≡ None → IsListed self.now.fail.items call ⊎
+            (first_file self.now.files.items name.now ≡ None) }
+        ensures some { IfSome result (λ bytes. (IsListed self.now.fail.items call → ⊥) ×
+            (first_file self.now.files.items name.now ≡ Some bytes.now)) }
     {
         if self.fail.contains(&call) {
             return None;
@@ -78,10 +81,12 @@ impl Shelf for MemoryShelf {
     fn take(&mut self, name: &str, most: usize, into: &mut Vec<u8>) -> Result<(), ShelfStop>
         requires empty { into.old.items ≡ [] }
         requires most { most < 2 ^ 31 }
-        ensures read { IsReadUpTo (first_file self.old.files.items name.now) most result into.new.items }
-        ensures fails { FailsWhere
-            (IsListed self.old.fail.items self.old.calls ⊎ (first_file self.old.files.items name.now ≡ None)) result }
-        ensures faults { CountsFaults (count_of_name self.old.failed.names.items) (count_of_name self.new.failed.names.items) name.now result }
+        ensures read { IsReadUpTo (first_file self.old.files.items name.now) most result
+            into.new.items }
+        ensures fails { FailsWhere (IsListed self.old.fail.items self.old.calls ⊎
+            (first_file self.old.files.items name.now ≡ None)) result }
+        ensures faults { CountsFaults (count_of_name self.old.failed.names.items)
+            (count_of_name self.new.failed.names.items) name.now result }
         ensures next { IsNextCall self.old self.new }
         ensures gave { HasGiven (first_file self.old.files.items) (first_file self.new.files.items)
             self.old.failed.names.items self.new.failed.names.items

@@ -81,14 +81,17 @@ impl Sink for MemorySink {
     fn put(&mut self, piece: &[u8]) -> Result<(), PutFailed>
         ensures whole { OnOk result (self.new.bytes.items ≡ self.old.bytes.items ++ piece.now) }
         ensures cause { HasCause self.old.faults self.new.faults result }
-        ensures succeeds { SucceedsWhere
-            ((kept_at self.old.fail.items self.old.calls ≡ None) × (length piece.now ≤ self.old.room)) result }
-        ensures kept { self.new.bytes.items ≡
-            self.old.bytes.items ++ take (min self.old.room (kept_or_all (kept_at self.old.fail.items self.old.calls) piece.now)) piece.now }
+        ensures succeeds { SucceedsWhere ((kept_at self.old.fail.items self.old.calls ≡ None) ×
+            (length piece.now ≤ self.old.room)) result }
+        ensures kept { self.new.bytes.items ≡ self.old.bytes.items ++
+            take
+            (min self.old.room (kept_or_all (kept_at self.old.fail.items self.old.calls) piece.now))
+            piece.now }
         ensures counted { OnOk result (self.new.faults ≡ self.old.faults) }
         ensures next { self.new.calls ≡ min (self.old.calls + 1) (2 ^ 64 - 1) }
         ensures fail { self.new.fail.items ≡ self.old.fail.items }
-        ensures room { vec_len self.new.bytes + self.new.room ≡ vec_len self.old.bytes + self.old.room }
+        ensures room { vec_len self.new.bytes + self.new.room ≡ vec_len self.old.bytes +
+            self.old.room }
     {
         let told = self.kept(self.calls);
         self.calls = self.calls.saturating_add(1);

@@ -37,8 +37,10 @@ impl<W: Write> Sink for OutSink<W> {
 
     fn put(&mut self, piece: &[u8]) -> Result<(), PutFailed>
         ensures cause { HasCause self.old.faults self.new.faults result }
-        ensures written { OnOk result (Appends (W.contents self.old.output) (W.contents self.new.output) piece.now) }
-        ensures cut { OnErr result ((n : ℕ) × Appends (W.contents self.old.output) (W.contents self.new.output) (take n piece.now)) }
+        ensures written { OnOk result (Appends (W.contents self.old.output)
+            (W.contents self.new.output) piece.now) }
+        ensures cut { OnErr result ((n : ℕ) × Appends (W.contents self.old.output)
+            (W.contents self.new.output) (take n piece.now)) }
         ensures counted { OnOk result (self.new.faults ≡ self.old.faults) }
     {
         let result = write_whole(&mut self.output, piece);
@@ -57,8 +59,10 @@ impl<W: Write> Sink for OutSink<W> {
 
 /// Writes the whole piece, however many writes it takes.
 fn write_whole<W: Write>(output: &mut W, piece: &[u8]) -> Result<(), PutFailed>
-    ensures whole { OnOk result (Appends (W.contents output.old) (W.contents output.new) piece.now) }
-    ensures part { OnErr result ((n : ℕ) × Appends (W.contents output.old) (W.contents output.new) (take n piece.now)) }
+    ensures whole { OnOk result (Appends (W.contents output.old) (W.contents output.new)
+        piece.now) }
+    ensures part { OnErr result ((n : ℕ) × Appends (W.contents output.old) (W.contents output.new)
+        (take n piece.now)) }
 {
     let mut written = 0;
     for _ in 0..u64::MAX {
@@ -73,7 +77,8 @@ fn write_whole<W: Write>(output: &mut W, piece: &[u8]) -> Result<(), PutFailed>
 /// Writes some bytes of a piece, and tells how many: 0 where the write was interrupted. A write that takes nothing has failed.
 fn write_some<W: Write>(output: &mut W, piece: &[u8]) -> Result<usize, PutFailed>
     ensures within { IfOk result (λ count. count ≤ length piece.now) }
-    ensures some { IfOk result (λ count. Appends (W.contents output.old) (W.contents output.new) (take count piece.now)) }
+    ensures some { IfOk result (λ count. Appends (W.contents output.old) (W.contents output.new)
+        (take count piece.now)) }
     ensures none { OnErr result (Appends (W.contents output.old) (W.contents output.new) []) }
 {
     match output.write(piece) {

@@ -20,7 +20,8 @@ pub struct SureShelf {
 impl SureShelf {
     /// A shelf that has these files, each a name and its bytes. Every count of faults is 0, now and later.
     pub fn new(files: Vec<(Name, Name)>) -> SureShelf
-        ensures held { (name : List ℕ) → ⟦<SureShelf as Shelf>⟧.held result name ≡ Some (or_empty (first_file files.items name)) }
+        ensures held { (name : List ℕ) → ⟦<SureShelf as Shelf>⟧.held result name ≡
+            Some (or_empty (first_file files.items name)) }
         ensures faults { (name : List ℕ) → ⟦<SureShelf as Shelf>⟧.faults result name ≡ 0 }
     {
         SureShelf { files }

@@ -51,7 +51,8 @@ impl SureSink {
     /// Whether a piece was dropped.
     pub fn lost(&self) -> bool
         ensures lost { result ≡ self.now.lost }
-        ensures told { result ≡ false → ⟦<SureSink as Sink>⟧.got self.now ≡ Some self.now.bytes.items }
+        ensures told { result ≡ false → ⟦<SureSink as Sink>⟧.got self.now ≡
+            Some self.now.bytes.items }
     {
         self.lost
     }
@@ -66,9 +67,13 @@ impl Sink for SureSink {
 
     fn put(&mut self, piece: &[u8]) -> Result<(), PutFailed>
         ensures sure { IsOk result }
-        ensures taken { length piece.now ≤ self.old.room → (self.new.bytes.items ≡ self.old.bytes.items ++ piece.now) × (self.new.lost ≡ self.old.lost) }
-        ensures dropped { self.old.room < length piece.now → (self.new.bytes.items ≡ self.old.bytes.items) × (self.new.lost ≡ true) }
-        ensures room { vec_len self.new.bytes + self.new.room ≡ vec_len self.old.bytes + self.old.room }
+        ensures taken { length piece.now ≤ self.old.room →
+            (self.new.bytes.items ≡ self.old.bytes.items ++ piece.now) ×
+            (self.new.lost ≡ self.old.lost) }
+        ensures dropped { self.old.room < length piece.now →
+            (self.new.bytes.items ≡ self.old.bytes.items) × (self.new.lost ≡ true) }
+        ensures room { vec_len self.new.bytes + self.new.room ≡ vec_len self.old.bytes +
+            self.old.room }
     {
         if piece.len() <= self.room {
             let _ = self.bytes.extend_from_slice(piece);

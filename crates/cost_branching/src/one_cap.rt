@@ -31,10 +31,12 @@ fn search_rivals<B: Begun>(
     requires pool { IsRowPool problem.now pool.old }
     requires ranges { IsBox (length problem.now.low) costs.now }
     requires lows { All (λ low. 1 ≤ low) costs.now.low }
-    ensures found { IfOk result (IsSearchResult (LeadsEach problem.now) limits.now.top limits.now.nodes pool.new.forms costs.now) }
+    ensures found { IfOk result (IsSearchResult (LeadsEach problem.now) limits.now.top
+        limits.now.nodes pool.new.forms costs.now) }
     ensures pool { OnOk result (IsRowPool problem.now pool.new) }
     ensures grows { GrowsByRows problem.now pool.old pool.new }
-    ensures advisors { AreCalled ⟦<dyn Advisor as Advisor>⟧ (λ b. b.vtable) (λ b. state b) advisors.old.items advisors.new.items }
+    ensures advisors { AreCalled ⟦<dyn Advisor as Advisor>⟧ (λ b. b.vtable) (λ b. state b)
+        advisors.old.items advisors.new.items }
 {
     keeps_conditions(problem);
     let alloc = pool.allocator();
@@ -65,10 +67,12 @@ pub fn decide_within(
     requires ranges { IsBox (length problem.now.low) costs.now }
     requires lows { All (λ low. 1 ≤ low) costs.now.low }
     requires pool { IsRowPool problem.now pool.old }
-    ensures found { IfOk result (IsSearchResult (LeadsEach problem.now) limits.now.top limits.now.nodes pool.new.forms costs.now) }
+    ensures found { IfOk result (IsSearchResult (LeadsEach problem.now) limits.now.top
+        limits.now.nodes pool.new.forms costs.now) }
     ensures pool { IsRowPool problem.now pool.new }
     ensures more { MoreRows pool.old pool.new }
-    ensures advisors { AreCalled ⟦<dyn Advisor as Advisor>⟧ (λ b. b.vtable) (λ b. state b) advisors.old.items advisors.new.items }
+    ensures advisors { AreCalled ⟦<dyn Advisor as Advisor>⟧ (λ b. b.vtable) (λ b. state b)
+        advisors.old.items advisors.new.items }
 {
     keeps_conditions(problem);
     let begun = pool.rows().len();
@@ -99,10 +103,12 @@ pub fn decide(
 ) -> Result<Found, OutOfMemory>
     requires cap { All (λ low. low ≤ cap) problem.now.low }
     requires pool { IsRowPool problem.now pool.old }
-    ensures decided { IfOk result (IsDecided problem.now limits.now.top limits.now.nodes cap pool.new) }
+    ensures decided { IfOk result (IsDecided problem.now limits.now.top limits.now.nodes cap
+        pool.new) }
     ensures pool { IsRowPool problem.now pool.new }
     ensures more { MoreRows pool.old pool.new }
-    ensures advisors { AreCalled ⟦<dyn Advisor as Advisor>⟧ (λ b. b.vtable) (λ b. state b) advisors.old.items advisors.new.items }
+    ensures advisors { AreCalled ⟦<dyn Advisor as Advisor>⟧ (λ b. b.vtable) (λ b. state b)
+        advisors.old.items advisors.new.items }
 {
     keeps_conditions(problem);
     let costs = box_at(pool.allocator(), problem, cap)?;

@@ -113,7 +113,8 @@ fn cheapest_rivals(
     requires asker { IsAskerFor problem.now.graph problem.now.paths asker.old }
     requires point { IsCostPoint (length problem.now.low) point.now }
     ensures asker { IsAskerFor problem.now.graph problem.now.paths asker.new }
-    ensures rivals { IfOk result (λ rivals. AreCheapestRivals problem.now.graph point.now problem.now.paths rivals.items) }
+    ensures rivals { IfOk result (λ rivals. AreCheapestRivals problem.now.graph point.now
+        problem.now.paths rivals.items) }
 {
     keeps_conditions(problem);
     asker.cheapest_rivals(alloc, &problem.graph, problem.paths.as_slice(), point)
@@ -169,9 +170,11 @@ fn ask_one(
     pool: &mut FormPool,
 ) -> Result<bool, OutOfMemory>
     requires request { request < length problem.now.paths }
-    requires known { (point : Point) × AreCheapestRivals problem.now.graph point problem.now.paths rivals.now }
-    ensures one { IfOk result (λ asked. (point : Point) → AreCheapestRivals problem.now.graph point problem.now.paths rivals.now →
-        IsRequestAsked point request (record { problem = problem.now; rows = rows.old.items }) pool.old
+    requires known { (point : Point) × AreCheapestRivals problem.now.graph point problem.now.paths
+        rivals.now }
+    ensures one { IfOk result (λ asked. (point : Point) → AreCheapestRivals problem.now.graph point
+        problem.now.paths rivals.now → IsRequestAsked point request
+        (record { problem = problem.now; rows = rows.old.items }) pool.old
         (record { problem = problem.now; rows = rows.new.items }) pool.new asked) }
     ensures same_rows { OnErr result (rows.new.items ≡ rows.old.items) }
     ensures same_forms { OnErr result (pool.new ≡ pool.old) }
@@ -201,8 +204,9 @@ fn ask_each(
     requires point { IsCostPoint (length problem.now.low) point.now }
     requires met { AreMet (forms_of_rows problem.now rows.old.items) point.now }
     ensures asker { IsAskerFor problem.now.graph problem.now.paths asker.new }
-    ensures asked { IfOk result (AreAllRequestsAsked point.now (record { problem = problem.now; rows = rows.old.items }) pool.old
-        (record { problem = problem.now; rows = rows.new.items }) pool.new) }
+    ensures asked { IfOk result
+        (AreAllRequestsAsked point.now (record { problem = problem.now; rows = rows.old.items })
+        pool.old (record { problem = problem.now; rows = rows.new.items }) pool.new) }
     ensures more { BeginWith rows.old.items rows.new.items }
     ensures grows { Grows (IsTrueRowForm problem.now) pool.old pool.new }
 {
@@ -283,7 +287,8 @@ impl<'a, B: Begun> Rivals<'a, B> {
         requires rows { ArePoolRows self.old.problem self.old.rows }
         requires point { IsCostPoint (length self.old.problem.low) point.now }
         requires met { AreMet (forms_of_rows self.old.problem self.old.rows) point.now }
-        ensures asked { IfOk result (AreAllRequestsAsked point.now self.old pool.old self.new pool.new) }
+        ensures asked { IfOk result (AreAllRequestsAsked point.now self.old pool.old self.new
+            pool.new) }
         ensures problem { self.new.problem ≡ self.old.problem }
         ensures grows { Grows (IsTrueRowForm self.old.problem) pool.old pool.new }
     {

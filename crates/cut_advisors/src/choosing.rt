@@ -8,8 +8,10 @@ use design_problem::Entry;
 
 /// The answer of one advisor.
 fn ask(advisor: &mut Box<dyn Advisor>, choices: &[Candidate]) -> u32
-    ensures answer { result ≡ (⟦<dyn Advisor as Advisor>⟧ advisor.old.vtable).would (state advisor.old) choices.now }
-    ensures state { state advisor.new ≡ (⟦<dyn Advisor as Advisor>⟧ advisor.old.vtable).left (state advisor.old) choices.now }
+    ensures answer { result ≡ (⟦<dyn Advisor as Advisor>⟧ advisor.old.vtable).would
+        (state advisor.old) choices.now }
+    ensures state { state advisor.new ≡ (⟦<dyn Advisor as Advisor>⟧ advisor.old.vtable).left
+        (state advisor.old) choices.now }
     ensures itself { advisor.new.vtable ≡ advisor.old.vtable }
 {
     advisor.pick(choices)
@@ -17,7 +19,8 @@ fn ask(advisor: &mut Box<dyn Advisor>, choices: &[Candidate]) -> u32
 
 /// Tells one advisor.
 fn tell_one(advisor: &mut Box<dyn Advisor>, entry: &Entry)
-    ensures state { state advisor.new ≡ (⟦<dyn Advisor as Advisor>⟧ advisor.old.vtable).after (state advisor.old) entry.now }
+    ensures state { state advisor.new ≡ (⟦<dyn Advisor as Advisor>⟧ advisor.old.vtable).after
+        (state advisor.old) entry.now }
     ensures itself { advisor.new.vtable ≡ advisor.old.vtable }
 {
     advisor.told(entry)
@@ -30,9 +33,9 @@ fn tell_one(advisor: &mut Box<dyn Advisor>, entry: &Entry)
 pub fn choose(advisors: &mut Vec<Box<dyn Advisor>>, choices: &[Candidate]) -> u32
     requires { 0 < length choices.now }
     ensures in_range { result < length choices.now }
-    ensures chosen { IsChosen
-        (λ b. (⟦<dyn Advisor as Advisor>⟧ b.vtable).would (state b) choices.now)
-        (λ b c. (c.vtable ≡ b.vtable) × (state c ≡ (⟦<dyn Advisor as Advisor>⟧ b.vtable).left (state b) choices.now))
+    ensures chosen { IsChosen (λ b. (⟦<dyn Advisor as Advisor>⟧ b.vtable).would (state b)
+        choices.now) (λ b c. (c.vtable ≡ b.vtable) ×
+        (state c ≡ (⟦<dyn Advisor as Advisor>⟧ b.vtable).left (state b) choices.now))
         (length choices.now) advisors.old.items result advisors.new.items }
 {
     while !advisors.is_empty() {
@@ -47,8 +50,8 @@ pub fn choose(advisors: &mut Vec<Box<dyn Advisor>>, choices: &[Candidate]) -> u3
 
 /// Tells each advisor of the entry, once and in order. Every advisor stays in its place. No memory is taken.
 pub fn tell(advisors: &mut Vec<Box<dyn Advisor>>, entry: &Entry)
-    ensures { AllZip
-        (λ b c. (c.vtable ≡ b.vtable) × (state c ≡ (⟦<dyn Advisor as Advisor>⟧ b.vtable).after (state b) entry.now))
+    ensures { AllZip (λ b c. (c.vtable ≡ b.vtable) ×
+        (state c ≡ (⟦<dyn Advisor as Advisor>⟧ b.vtable).after (state b) entry.now))
         advisors.old.items advisors.new.items }
 {
     for advisor in advisors.iter_mut() {

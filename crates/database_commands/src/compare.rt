@@ -66,8 +66,9 @@ fn area_of(network: &Network) -> u32
 
 /// The report of a network beside the LSAs of its area that count.
 fn comparison(alloc: Global, network: &Network, live: &Database) -> Result<Report, OutOfMemory>
-    ensures { IfOk result (ReportsLines network.now.lsdb
-        (difference_lines network.now.configs.items network.now.lsdb (map (present_cost network.now.requests) network.now.lsdb.links) live.now)) }
+    ensures { IfOk result
+        (ReportsLines network.now.lsdb (difference_lines network.now.configs.items network.now.lsdb
+        (map (present_cost network.now.requests) network.now.lsdb.links) live.now)) }
 {
     let costs = costs_of_links(alloc, &network.requests, &network.lsdb)?;
     let lines = compare(alloc, &network.configs, &network.lsdb, &costs, live)?;
@@ -88,7 +89,8 @@ pub fn compare_report<'a, S: Shelf>(
     live: &'a str,
     shelf: &mut S,
 ) -> Result<Report, Stop<'a>>
-    ensures { Gave (S.gave shelf.old shelf.new) (λ came. IsReadAs (compare_read (files_named words.entry) live.now) came
+    ensures { Gave (S.gave shelf.old shelf.new) (λ came. IsReadAs
+        (compare_read (files_named words.entry) live.now) came
         (λ report said. MayCompare said report.status (bytes_in report.text)) result) }
 {
     let network = read_identified(alloc, words, shelf)?;

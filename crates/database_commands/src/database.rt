@@ -28,7 +28,9 @@ fn has_router(lsas: &[Lsa], id: u32) -> bool
 /// Tests that a router has a router-LSA. The place stands for a line where it has none.
 pub fn check_router<'a>(lsas: &[Lsa], id: u32, file: &'a str, place: u32) -> Result<(), Stop<'a>>
     ensures { MatchResult result (λ _. list_any (is_router_of id) lsas.now ≡ true)
-        (λ stop. (list_any (is_router_of id) lsas.now ≡ false) × IsRefusal (record { number = lsa_fault_number NoRouterId; file = file.now; line = place }) stop) }
+        (λ stop. (list_any (is_router_of id) lsas.now ≡ false) ×
+        IsRefusal (record { number = lsa_fault_number NoRouterId; file = file.now; line = place })
+        stop) }
 {
     if has_router(lsas, id) {
         Ok(())

@@ -51,7 +51,9 @@ fn interface_of_link(lsdb: &Lsdb, link: u32) -> &[u8]
 
 /// The line of a router without a router-LSA.
 fn absent_line(alloc: Global, lsdb: &Lsdb, router: u32) -> Result<Vec<u8>, OutOfMemory>
-    ensures { IfOk result (λ line. line.items ≡ line_of_words (difference_words lsdb.now (Difference.Absent router))) }
+    ensures { IfOk result
+        (λ line. line.items ≡
+        line_of_words (difference_words lsdb.now (Difference.Absent router))) }
 {
     let mut line = Vec::new(alloc);
     push_bytes(&mut line, b"absent ")?;
@@ -68,7 +70,9 @@ fn cost_line(
     file: u16,
     live: u16,
 ) -> Result<Vec<u8>, OutOfMemory>
-    ensures { IfOk result (λ line. line.items ≡ line_of_words (difference_words lsdb.now (Difference.Cost link file live))) }
+    ensures { IfOk result
+        (λ line. line.items ≡
+        line_of_words (difference_words lsdb.now (Difference.Cost link file live))) }
 {
     let mut line = Vec::new(alloc);
     push_bytes(&mut line, b"cost ")?;
@@ -85,7 +89,8 @@ fn cost_line(
 
 /// The line of an interface without a link.
 fn missing_line(alloc: Global, lsdb: &Lsdb, link: u32) -> Result<Vec<u8>, OutOfMemory>
-    ensures { IfOk result (λ line. line.items ≡ line_of_words (difference_words lsdb.now (Difference.Missing link))) }
+    ensures { IfOk result
+        (λ line. line.items ≡ line_of_words (difference_words lsdb.now (Difference.Missing link))) }
 {
     let mut line = Vec::new(alloc);
     push_bytes(&mut line, b"missing ")?;
@@ -98,7 +103,8 @@ fn missing_line(alloc: Global, lsdb: &Lsdb, link: u32) -> Result<Vec<u8>, OutOfM
 
 /// The line of a router-LSA whose router ID no configuration has.
 fn stranger_line(alloc: Global, router: u32) -> Result<Vec<u8>, OutOfMemory>
-    ensures { IfOk result (λ line. line.items ≡ line_of_words (codes "stranger" ∷ router_id_text router ∷ [])) }
+    ensures { IfOk result
+        (λ line. line.items ≡ line_of_words (codes "stranger" ∷ router_id_text router ∷ [])) }
 {
     let mut line = Vec::new(alloc);
     push_bytes(&mut line, b"stranger ")?;
@@ -109,7 +115,9 @@ fn stranger_line(alloc: Global, router: u32) -> Result<Vec<u8>, OutOfMemory>
 
 /// The line of a link that is that of no linked interface.
 fn unknown_line(alloc: Global, router: u32, address: u32, live: u16) -> Result<Vec<u8>, OutOfMemory>
-    ensures { IfOk result (λ line. line.items ≡ line_of_words (codes "unknown" ∷ router_id_text router ∷ router_id_text address ∷ codes "live" ∷ decimal live ∷ [])) }
+    ensures { IfOk result
+        (λ line. line.items ≡ line_of_words (codes "unknown" ∷ router_id_text router ∷
+        router_id_text address ∷ codes "live" ∷ decimal live ∷ [])) }
 {
     let mut line = Vec::new(alloc);
     push_bytes(&mut line, b"unknown ")?;
@@ -124,7 +132,9 @@ fn unknown_line(alloc: Global, router: u32, address: u32, live: u16) -> Result<V
 
 /// The line that counts the interfaces.
 fn same_line(alloc: Global, same: u32, linked: u32) -> Result<Vec<u8>, OutOfMemory>
-    ensures { IfOk result (λ line. line.items ≡ line_of_words (codes "same" ∷ decimal same ∷ codes "of" ∷ decimal linked ∷ [])) }
+    ensures { IfOk result
+        (λ line. line.items ≡ line_of_words (codes "same" ∷ decimal same ∷ codes "of" ∷
+        decimal linked ∷ [])) }
 {
     let mut line = Vec::new(alloc);
     push_bytes(&mut line, b"same ")?;

@@ -43,8 +43,9 @@ impl<'a> RoutedGraph<'a> {
         requires room { IsRoomFor self.now.graph.now self.now.room.now }
         requires fits { FitsPoint self.now.graph.now self.now.point.now }
         requires vertex { vertex < length self.now.graph.now.vertices }
-        ensures { OnOk result (line.new.items ≡ line.old.items
-            ++ spaced_quads (map (λ e. slice_index_or self.now.ids.now (edge_at self.now.graph.now e).to 0)
+        ensures { OnOk result (line.new.items ≡ line.old.items ++
+            spaced_quads
+            (map (λ e. slice_index_or self.now.ids.now (edge_at self.now.graph.now e).to 0)
             (tight_out self.now.graph.now self.now.point.now self.now.room.now vertex))) }
     {
         for edge in self.room.next_hops(self.graph, self.point, vertex) {

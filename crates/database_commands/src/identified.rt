@@ -16,7 +16,11 @@ use std::alloc::Global;
 
 /// The stop of a configuration that has no router ID, or that of an earlier one.
 fn stop_of_id(found: IdFault, words: FileWords<'_>) -> Stop<'_>
-    ensures { IsRefusal (record { number = lsa_fault_number found.fault; file = file_of (files_named words.entry) found.config; line = 0 }) result }
+    ensures { IsRefusal (record {
+      number = lsa_fault_number found.fault;
+      file = file_of (files_named words.entry) found.config;
+      line = 0;
+    }) result }
 {
     Stop::Refused {
         number: found.fault.number(),
@@ -29,7 +33,8 @@ fn stop_of_id(found: IdFault, words: FileWords<'_>) -> Stop<'_>
 fn check_router_ids<'a>(configs: &[RouterConfig], words: FileWords<'a>) -> Result<(), Stop<'a>>
     requires { length configs.now < 2 ^ 32 }
     ensures { (d : Input) → routers_of d.files ≡ configs.now →
-        IsReadAs (if_identified (files_named words.entry) d (first_id_fault [] 0 configs.now)) [] (λ _ said. said ≡ d) result }
+        IsReadAs (if_identified (files_named words.entry) d (first_id_fault [] 0 configs.now)) []
+        (λ _ said. said ≡ d) result }
 {
     match check_ids(configs) {
         None => Ok(()),
@@ -43,8 +48,9 @@ pub fn read_identified<'a, S: Shelf>(
     words: FileWords<'a>,
     shelf: &mut S,
 ) -> Result<Network, Stop<'a>>
-    ensures { Gave (S.gave shelf.old shelf.new) (λ came. IsReadAs (identified_read (files_named words.entry)) came
-        (IsIdentified (files_named words.entry)) result) }
+    ensures { Gave (S.gave shelf.old shelf.new) (λ came. IsReadAs
+        (identified_read (files_named words.entry)) came (IsIdentified (files_named words.entry))
+        result) }
 {
     let network = read_network(alloc, View::AtPresent, words, shelf)?;
     check_router_ids(&network.configs, words)?;

@@ -24,8 +24,9 @@ pub fn lsas_report<'a, S: Shelf>(
     words: FileWords<'a>,
     shelf: &mut S,
 ) -> Result<Report, Stop<'a>>
-    ensures { Gave (S.gave shelf.old shelf.new) (λ came. IsReadAs (identified_read (files_named words.entry)) came
-        (λ report d. MayLsas d report.status (bytes_in report.text)) result) }
+    ensures { Gave (S.gave shelf.old shelf.new) (λ came. IsReadAs
+        (identified_read (files_named words.entry)) came (λ report d.
+        MayLsas d report.status (bytes_in report.text)) result) }
 {
     let network = read_identified(alloc, words, shelf)?;
     let costs = costs_of_links(alloc, &network.requests, &network.lsdb)?;

@@ -39,8 +39,8 @@ fn push_end(line: &mut Vec<u8>, routed: &RoutedGraph, start: u32) -> Result<(), 
     requires room { IsRoomFor routed.now.graph.now routed.now.room.now }
     requires fits { FitsPoint routed.now.graph.now routed.now.point.now }
     requires start { start < length routed.now.graph.now.vertices }
-    ensures { OnOk result (line.new.items ≡ line.old.items
-        ++ end_by routed.now.graph.now routed.now.point.now routed.now.room.now routed.now.ids.now start) }
+    ensures { OnOk result (line.new.items ≡ line.old.items ++ end_by routed.now.graph.now
+        routed.now.point.now routed.now.room.now routed.now.ids.now start) }
 {
     match routed.room.distance(start) {
         Some(cost) => {

@@ -87,7 +87,8 @@ fn have_words(vars: &[VarName]) -> bool
 /// Whether each lower bound is from 1 to the upper bound.
 fn are_ranges(low: &[u16], high: &[u16]) -> bool
     requires { length low.now ≡ length high.now }
-    ensures { IsTrue result → (k : ℕ) → k < length low.now → (1 ≤ slice_index low.now k) × (slice_index low.now k ≤ slice_index high.now k) }
+    ensures { IsTrue result → (k : ℕ) → k < length low.now → (1 ≤ slice_index low.now k) ×
+        (slice_index low.now k ≤ slice_index high.now k) }
 {
     for place in 0..low.len() {
         if low[place] < 1 || high[place] < low[place] {
@@ -109,7 +110,8 @@ fn is_priced(price: Price, count: usize) -> bool
 
 /// Whether a wanted path is a simple path of its request, which takes away edges of the graph.
 fn is_request(graph: &Graph, request: &Request) -> bool
-    ensures { IsTrue result → IsPathOf graph.now (request_ends request.now) request.now.path.edges × TakesAway graph.now request.now.excluded }
+    ensures { IsTrue result → IsPathOf graph.now (request_ends request.now) request.now.path.edges ×
+        TakesAway graph.now request.now.excluded }
 {
     let excluded = request.excluded.as_slice();
     is_path_of(graph, &request.path, request.end, excluded)
@@ -129,7 +131,8 @@ fn are_priced(graph: &Graph, count: usize) -> bool
 /// Whether there are at most 10,000 wanted paths, each one of its request.
 fn are_requests(graph: &Graph, paths: &[Request]) -> bool
     ensures few { IsTrue result → length paths.now ≤ 10000 }
-    ensures each { IsTrue result → All (λ r. IsPathOf graph.now (request_ends r) r.path.edges × TakesAway graph.now r.excluded) paths.now }
+    ensures each { IsTrue result → All (λ r. IsPathOf graph.now (request_ends r) r.path.edges ×
+        TakesAway graph.now r.excluded) paths.now }
 {
     paths.len() <= 10_000 && paths.iter().all(|request| is_request(graph, request))
 }
@@ -138,7 +141,8 @@ fn are_requests(graph: &Graph, paths: &[Request]) -> bool
 fn are_bounds(low: &[u16], high: &[u16]) -> bool
     ensures count { IsTrue result → length low.now ≡ length high.now }
     ensures few { IsTrue result → length low.now ≤ 1000 }
-    ensures ordered { IsTrue result → (k : ℕ) → k < length low.now → (1 ≤ slice_index low.now k) × (slice_index low.now k ≤ slice_index high.now k) }
+    ensures ordered { IsTrue result → (k : ℕ) → k < length low.now →
+        (1 ≤ slice_index low.now k) × (slice_index low.now k ≤ slice_index high.now k) }
 {
     if low.len() != high.len() || low.len() > 1000 {
         return false;
@@ -150,14 +154,22 @@ fn are_bounds(low: &[u16], high: &[u16]) -> bool
 fn are_free(vars: &[VarName], count: usize) -> bool
     ensures named { IsTrue result → All (λ name. name.var < count) vars.now }
     ensures each { IsTrue result → (k : ℕ) → k < count → Any (λ name. name.var ≡ k) vars.now }
-    ensures words { IsTrue result → All (λ name. IsWord name.router × IsWord name.interface) vars.now }
+    ensures words { IsTrue result → All (λ name. IsWord name.router × IsWord name.interface)
+        vars.now }
 {
     are_known(vars, count) && are_named(vars, count) && have_words(vars)
 }
 
 /// Whether these are the parts of a problem.
 fn are_parts(graph: &Graph, vars: &[VarName], low: &[u16], high: &[u16], paths: &[Request]) -> bool
-    ensures { IsTrue result → IsProblem (record { graph = graph.now; vars = vars.now; low = low.now; high = high.now; paths = paths.now }) }
+    ensures { IsTrue result →
+        IsProblem (record {
+          graph = graph.now;
+          vars = vars.now;
+          low = low.now;
+          high = high.now;
+          paths = paths.now;
+        }) }
 {
     if !are_bounds(low, high) {
         return false;
@@ -179,7 +191,14 @@ pub(crate) fn is_problem(
     high: &Listed<u16>,
     paths: &Listed<Request>,
 ) -> bool
-    ensures { IsTrue result → IsProblem (record { graph = graph.now; vars = vars.now; low = low.now; high = high.now; paths = paths.now }) }
+    ensures { IsTrue result →
+        IsProblem (record {
+          graph = graph.now;
+          vars = vars.now;
+          low = low.now;
+          high = high.now;
+          paths = paths.now;
+        }) }
 {
     are_parts(
         graph,

@@ -62,7 +62,8 @@ fn push_files(
 /// The texts of a case, each with its name, as a shelf that never fails.
 pub(crate) fn shelf_of(alloc: Global, case: &TrialTexts) -> Result<SureShelf, OutOfMemory>
     requires { length case.now.names ≡ length case.now.configs }
-    ensures { IfOk result (λ shelf. (name : List ℕ) → ⟦<SureShelf as Shelf>⟧.held shelf name ≡ Some (text_named (named_trial_texts case.now) name)) }
+    ensures { IfOk result (λ shelf. (name : List ℕ) → ⟦<SureShelf as Shelf>⟧.held shelf name ≡
+        Some (text_named (named_trial_texts case.now) name)) }
 {
     let mut files = Vec::new(alloc);
     files.push(file_of(alloc, REQUEST.as_bytes(), case.request.as_bytes())?)?;

@@ -48,7 +48,8 @@ pub(crate) fn answer_to(
     // Always true: a function that hands on boxed advisors has to require something.
     requires itself { problem.now ≡ problem.now }
     ensures answered { IfOk result (IsAnswerTo (bounds limits.now) problem.now) }
-    ensures advisors { AreCalled ⟦<dyn Advisor as Advisor>⟧ (λ b. b.vtable) (λ b. state b) advisors.old.items advisors.new.items }
+    ensures advisors { AreCalled ⟦<dyn Advisor as Advisor>⟧ (λ b. b.vtable) (λ b. state b)
+        advisors.old.items advisors.new.items }
 {
     // For the prover: what a problem's type keeps is known once a field of it is read.
     let _bounds = &problem.low;
@@ -72,7 +73,8 @@ pub fn design_report<'a, S: Shelf>(
     ensures read { Gave (S.gave shelf.old shelf.new)
         (λ came. IsReadAs (outcome View.AsRequested (files_named words.entry)) came
         (λ report d. MayDesign (bounds limits.now) d report.status (bytes_in report.text)) result) }
-    ensures advisors { AreCalled ⟦<dyn Advisor as Advisor>⟧ (λ b. b.vtable) (λ b. state b) advisors.old.items advisors.new.items }
+    ensures advisors { AreCalled ⟦<dyn Advisor as Advisor>⟧ (λ b. b.vtable) (λ b. state b)
+        advisors.old.items advisors.new.items }
 {
     let problem = read_problem(alloc, View::AsRequested, words, shelf)?;
     let answer = answer_to(alloc, &problem, limits, advisors)?;

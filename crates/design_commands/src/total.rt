@@ -26,7 +26,8 @@ use wide_fraction::Limits;
 
 /// Adds a line of a word and a number.
 fn push_line(text: &mut Vec<u8>, word: &[u8], number: u64) -> Result<(), OutOfMemory>
-    ensures { OnOk result (text.new.items ≡ text.old.items ++ word.now ++ 32 ∷ decimal number ++ 10 ∷ []) }
+    ensures { OnOk result (text.new.items ≡ text.old.items ++ word.now ++ 32 ∷ decimal number ++
+        10 ∷ []) }
 {
     push_bytes(text, word)?;
     push_bytes(text, b" ")?;
@@ -36,8 +37,8 @@ fn push_line(text: &mut Vec<u8>, word: &[u8], number: u64) -> Result<(), OutOfMe
 
 /// The text up to the line of the total: the whole text of the answer stands in it.
 fn begun_text(alloc: Global, answer: &Answer, total: u64) -> Result<Vec<u8>, OutOfMemory>
-    ensures { IfOk result (λ bytes.
-        bytes.items ≡ with_ends (codes "ospfcost total 1" ∷ []) ++ text answer.now ++ with_ends (spaced (codes "total" ∷ decimal total ∷ []) ∷ [])) }
+    ensures { IfOk result (λ bytes. bytes.items ≡ with_ends (codes "ospfcost total 1" ∷ []) ++
+        text answer.now ++ with_ends (spaced (codes "total" ∷ decimal total ∷ []) ∷ [])) }
 {
     let mut text = Vec::new(alloc);
     push_bytes(&mut text, b"ospfcost total 1\n")?;
@@ -131,9 +132,11 @@ pub fn total_report<'a, S: Shelf>(
     shelf: &mut S,
     advisors: &mut Vec<Box<dyn Advisor>>,
 ) -> Result<Report, Stop<'a>>
-    ensures read { Gave (S.gave shelf.old shelf.new) (λ came. IsReadAs (outcome View.AsRequested (files_named words.entry)) came
+    ensures read { Gave (S.gave shelf.old shelf.new) (λ came. IsReadAs
+        (outcome View.AsRequested (files_named words.entry)) came
         (λ report d. MayTotal (bounds limits.now) d report.status (bytes_in report.text)) result) }
-    ensures advisors { AreCalled ⟦<dyn Advisor as Advisor>⟧ (λ b. b.vtable) (λ b. state b) advisors.old.items advisors.new.items }
+    ensures advisors { AreCalled ⟦<dyn Advisor as Advisor>⟧ (λ b. b.vtable) (λ b. state b)
+        advisors.old.items advisors.new.items }
 {
     let problem = read_problem(alloc, View::AsRequested, words, shelf)?;
     let answer = answer_to(alloc, &problem, limits, advisors)?;

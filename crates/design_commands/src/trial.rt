@@ -45,7 +45,8 @@ fn costless_report(
     answer: &Answer,
 ) -> Result<Report, OutOfMemory>
     requires { trial.blocks ≤ 125 }
-    ensures { IfOk result (Reports (verdict_status answer.now.verdict) (costless_line trial.blocks trial.start verdict.now ++ text answer.now)) }
+    ensures { IfOk result (Reports (verdict_status answer.now.verdict)
+        (costless_line trial.blocks trial.start verdict.now ++ text answer.now)) }
 {
     let mut text = costless_line(alloc, trial, verdict)?;
     let behind = text_of_answer(alloc, answer)?;
@@ -73,8 +74,9 @@ fn best_report(
 ) -> Result<Report, OutOfMemory>
     requires few { trial.blocks ≤ 125 }
     requires lines { length problem.now.vars ≡ length lines.now }
-    ensures { IfOk result (Reports Status.Done (summary_line trial.blocks trial.start (codes "optimal") (decimal greatest)
-        (decimal (sum (costs_given problem.now lines.now))))) }
+    ensures { IfOk result
+        (Reports Status.Done (summary_line trial.blocks trial.start (codes "optimal")
+        (decimal greatest) (decimal (sum (costs_given problem.now lines.now))))) }
 {
     let total = total_of(alloc, problem, lines)?;
     let line = best_line(alloc, trial, greatest, total)?;
@@ -90,7 +92,8 @@ fn report_of_trial(
 ) -> Result<Report, OutOfMemory>
     requires few { trial.blocks ≤ 125 }
     requires answered { IsAnswerTo trial_limits problem.now answer.now }
-    ensures { IfOk result (λ report. (d : Input) → d.problem ≡ problem.now → MayTry trial.blocks trial.start d report.status (bytes_in report.text)) }
+    ensures { IfOk result (λ report. (d : Input) → d.problem ≡ problem.now →
+        MayTry trial.blocks trial.start d report.status (bytes_in report.text)) }
 {
     match answer.verdict {
         Verdict::Optimal(greatest) => {
@@ -110,10 +113,12 @@ fn report_on_texts<'a, S: Shelf>(
     advisors: &mut Vec<Box<dyn Advisor>>,
 ) -> Result<Report, Stop<'a>>
     requires { trial.blocks ≤ 125 }
-    ensures read { Gave (S.gave shelf.old shelf.new)
-        (λ came. IsReadAs (outcome View.AsRequested (files_named words.entry)) came
-        (λ report d. MayTry trial.blocks trial.start d report.status (bytes_in report.text)) result) }
-    ensures advisors { AreCalled ⟦<dyn Advisor as Advisor>⟧ (λ b. b.vtable) (λ b. state b) advisors.old.items advisors.new.items }
+    ensures read { Gave (S.gave shelf.old shelf.new) (λ came. IsReadAs
+        (outcome View.AsRequested (files_named words.entry)) came
+        (λ report d. MayTry trial.blocks trial.start d report.status (bytes_in report.text))
+        result) }
+    ensures advisors { AreCalled ⟦<dyn Advisor as Advisor>⟧ (λ b. b.vtable) (λ b. state b)
+        advisors.old.items advisors.new.items }
 {
     let problem = read_problem(alloc, View::AsRequested, words, shelf)?;
     let answer = answer_to(alloc, &problem, &trial_limits(), advisors)?;
@@ -133,8 +138,10 @@ pub fn trial_report(
     requires some { 1 ≤ trial.blocks }
     requires most { trial.blocks ≤ 125 }
     requires start { trial.start < 2 ^ 31 }
-    ensures tried { IfOk result (λ report. MayTrial trial.blocks trial.start report.status (bytes_in report.text)) }
-    ensures advisors { AreCalled ⟦<dyn Advisor as Advisor>⟧ (λ b. b.vtable) (λ b. state b) advisors.old.items advisors.new.items }
+    ensures tried { IfOk result (λ report. MayTrial trial.blocks trial.start report.status
+        (bytes_in report.text)) }
+    ensures advisors { AreCalled ⟦<dyn Advisor as Advisor>⟧ (λ b. b.vtable) (λ b. state b)
+        advisors.old.items advisors.new.items }
 {
     let case = make_trial(alloc, trial.blocks, trial.start)?;
     let mut shelf = shelf_of(alloc, &case)?;

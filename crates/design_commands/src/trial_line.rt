@@ -47,7 +47,8 @@ pub(crate) fn summary_line(
     total: &[u8],
 ) -> Result<Vec<u8>, OutOfMemory>
     requires { trial.blocks ≤ 125 }
-    ensures { IfOk result (λ line. line.items ≡ summary_line trial.blocks trial.start verdict.now greatest.now total.now) }
+    ensures { IfOk result (λ line. line.items ≡ summary_line trial.blocks trial.start verdict.now
+        greatest.now total.now) }
 {
     let mut line = case_part(alloc, trial)?;
     push_bytes(&mut line, b" verdict ")?;
@@ -77,7 +78,8 @@ pub(crate) fn best_line(
     total: u128,
 ) -> Result<Vec<u8>, OutOfMemory>
     requires { trial.blocks ≤ 125 }
-    ensures { IfOk result (λ line. line.items ≡ summary_line trial.blocks trial.start (codes "optimal") (decimal greatest) (decimal total)) }
+    ensures { IfOk result (λ line. line.items ≡ summary_line trial.blocks trial.start
+        (codes "optimal") (decimal greatest) (decimal total)) }
 {
     let greatest = digits_of(alloc, u128::from(greatest))?;
     let total = digits_of(alloc, total)?;
@@ -91,7 +93,8 @@ pub(crate) fn costless_line(
     verdict: &[u8],
 ) -> Result<Vec<u8>, OutOfMemory>
     requires { trial.blocks ≤ 125 }
-    ensures { IfOk result (λ line. line.items ≡ costless_line trial.blocks trial.start verdict.now) }
+    ensures { IfOk result (λ line. line.items ≡ costless_line trial.blocks trial.start
+        verdict.now) }
 {
     summary_line(alloc, trial, verdict, b"none", b"none")
 }

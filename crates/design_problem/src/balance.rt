@@ -52,7 +52,8 @@ pub(crate) fn terms_of_payments(
     requires rising { IsNonDecreasingBy (λ p. p.var) payments.now }
     requires short { length payments.now < 2 ^ 33 }
     ensures terms { IfOk result (λ terms. AreTerms variables terms.items) }
-    ensures balances { IfOk result (λ terms. (v : ℕ) → coefficient_of terms.items v ≡ balance_of payments.now v) }
+    ensures balances { IfOk result (λ terms. (v : ℕ) → coefficient_of terms.items v ≡
+        balance_of payments.now v) }
 {
     let mut terms = Vec::new(alloc);
     let mut balance = Balance { var: 0, sum: 0 };

@@ -29,7 +29,8 @@ pub fn capped_box(
     high: &[u16],
     cap: u16,
 ) -> Result<CostBox, OutOfMemory>
-    ensures { IfOk result (λ costs. costs ≡ capped (record { low = low.now; high = high.now }) cap) }
+    ensures { IfOk result (λ costs. costs ≡ capped (record { low = low.now; high = high.now })
+        cap) }
 {
     let low = low.to_vec(alloc)?;
     let high = cut_to(alloc, high, cap)?;

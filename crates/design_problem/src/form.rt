@@ -100,7 +100,10 @@ impl Form {
         coefficients: &[i64],
     ) -> Result<Form, OutOfMemory>
         requires { length coefficients.now ≤ 2 ^ 32 }
-        ensures { IfOk result (λ form. form ≡ record { constant = constant; coefficients = coefficients.now }) }
+        ensures { IfOk result (λ form. form ≡ record {
+          constant = constant;
+          coefficients = coefficients.now;
+        }) }
     {
         let terms = terms_of_all(alloc, coefficients)?;
         Ok(Form {

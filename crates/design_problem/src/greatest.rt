@@ -50,7 +50,11 @@ fn greatest_with(form: &Form, costs: &CostBox, var: usize, low_end: u16, high_en
     requires low { length form.now.coefficients ≡ length costs.now.low }
     requires high { length form.now.coefficients ≡ length costs.now.high }
     requires sizes { All (λ c. nat_abs c ≤ 2 ^ 26) form.now.coefficients }
-    ensures { result ≡ greatest form.now (record { low = slice_set costs.now.low var low_end; high = slice_set costs.now.high var high_end }) }
+    ensures { result ≡
+        greatest form.now (record {
+          low = slice_set costs.now.low var low_end;
+          high = slice_set costs.now.high var high_end;
+        }) }
 {
     let low = costs.low.as_slice();
     let high = costs.high.as_slice();

@@ -40,7 +40,8 @@ impl Marks {
     pub(crate) fn is_marked(&self, var: usize, side: Side) -> bool
         requires known { var < length self.now.low.items }
         requires high { var < length self.now.high.items }
-        ensures { (n : ℕ) (entries : List Entry) → KeepsMarks n entries self.now → IsTrue result ↔ Contains (run_of entries) (var, side) }
+        ensures { (n : ℕ) (entries : List Entry) → KeepsMarks n entries self.now →
+            IsTrue result ↔ Contains (run_of entries) (var, side) }
     {
         match side {
             Side::Low => self.begun < self.low[var],
@@ -52,8 +53,9 @@ impl Marks {
     pub(crate) fn mark(&mut self, var: usize, side: Side, count: usize)
         requires low { var < length self.old.low.items }
         requires high { var < length self.old.high.items }
-        ensures { (n : ℕ) (entries : List Entry) (value row : ℕ) → KeepsMarks n entries self.old → count ≡ length entries + 1 →
-            KeepsMarks n (entries ++ Tighten var side value row ∷ []) self.new }
+        ensures { (n : ℕ) (entries : List Entry) (value row : ℕ) → KeepsMarks n entries self.old →
+            count ≡ length entries + 1 → KeepsMarks n (entries ++ Tighten var side value row ∷ [])
+            self.new }
     {
         match side {
             Side::Low => self.low[var] = count,
@@ -63,7 +65,8 @@ impl Marks {
 
     /// Clears all marks, where another entry is the last of so many.
     pub(crate) fn clear(&mut self, count: usize)
-        ensures { (n : ℕ) (entries : List Entry) (entry : Entry) → KeepsMarks n entries self.old → count ≡ length entries + 1 → last_run (entry ∷ []) ≡ [] →
+        ensures { (n : ℕ) (entries : List Entry) (entry : Entry) → KeepsMarks n entries self.old →
+            count ≡ length entries + 1 → last_run (entry ∷ []) ≡ [] →
             KeepsMarks n (entries ++ entry ∷ []) self.new }
     {
         self.begun = count;

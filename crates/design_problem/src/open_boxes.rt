@@ -48,8 +48,8 @@ fn push(changes: &mut Vec<Change>, change: Change) -> Result<(), OutOfMemory>
 /// Puts changes back until a second part is met, goes on with it, and says whether there was one.
 fn put_back(costs: &mut CostBox, changes: &mut Vec<Change>) -> bool
     requires { IsStack costs.old changes.old.items }
-    ensures next { MatchBool result
-        ((open_boxes_of costs.old changes.old.items).behind ≡ costs.new ∷ (open_boxes_of costs.new changes.new.items).behind)
+    ensures next { MatchBool result ((open_boxes_of costs.old changes.old.items).behind ≡
+        costs.new ∷ (open_boxes_of costs.new changes.new.items).behind)
         ((open_boxes_of costs.old changes.old.items).behind ≡ []) }
     ensures stack { IsStack costs.new changes.new.items }
 {
@@ -94,7 +94,11 @@ impl OpenBoxes {
     /// `OutOfMemory` where the stack got no memory. The boxes are as before.
     pub fn tighten(&mut self, var: u32, side: Side, value: u16) -> Result<(), OutOfMemory>
         requires { var < length self.old.present.low }
-        ensures done { OnOk result (self.new ≡ record { present = tightened self.old.present side var value; behind = self.old.behind }) }
+        ensures done { OnOk result
+            (self.new ≡ record {
+              present = tightened self.old.present side var value;
+              behind = self.old.behind;
+            }) }
         ensures same { OnErr result (self.new ≡ self.old) }
     {
         let place = var as usize;
@@ -141,7 +145,8 @@ impl OpenBoxes {
 
     /// Ends the present box, goes on with the next one that waits, and says whether there is one. It takes no memory.
     pub fn close(&mut self) -> bool
-        ensures { MatchBool result (self.old.behind ≡ self.new.present ∷ self.new.behind) (self.old.behind ≡ []) }
+        ensures { MatchBool result (self.old.behind ≡ self.new.present ∷ self.new.behind)
+            (self.old.behind ≡ []) }
     {
         put_back(&mut self.costs, &mut self.changes)
     }

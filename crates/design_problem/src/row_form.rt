@@ -22,7 +22,9 @@ fn sorted_payments(
 ) -> Result<Vec<Payment>, OutOfMemory>
     requires wanted { All (λ e. e < length graph.now.edges) wanted.now }
     requires rival { All (λ e. e < length graph.now.edges) rival.now }
-    ensures same { IfOk result (λ sorted. IsPermutation (payments_of graph.now true rival.now ++ payments_of graph.now false wanted.now) sorted.items) }
+    ensures same { IfOk result
+        (λ sorted. IsPermutation (payments_of graph.now true rival.now ++
+        payments_of graph.now false wanted.now) sorted.items) }
     ensures rising { IfOk result (λ sorted. IsNonDecreasingBy (λ p. p.var) sorted.items) }
 {
     let mut payments = Vec::new(alloc);
@@ -38,7 +40,8 @@ fn constant_of(graph: &Graph, wanted: &[u32], rival: &[u32]) -> i64
     requires wanted_short { length wanted.now < 2 ^ 32 }
     requires rival_known { All (λ e. e < length graph.now.edges) rival.now }
     requires rival_short { length rival.now < 2 ^ 32 }
-    ensures { result ≡ ((pos (fixed_cost graph.now rival.now) -ℤ pos (fixed_cost graph.now wanted.now)) -ℤ pos 1) }
+    ensures { result ≡
+        ((pos (fixed_cost graph.now rival.now) -ℤ pos (fixed_cost graph.now wanted.now)) -ℤ pos 1) }
 {
     fixed_sum(graph, rival) - fixed_sum(graph, wanted) - 1
 }

@@ -58,7 +58,8 @@ pub(crate) fn note_path(
     by_rival: bool,
 ) -> Result<(), OutOfMemory>
     requires { All (λ e. e < length graph.now.edges) path.now }
-    ensures { OnOk result (payments.new.items ≡ payments.old.items ++ payments_of graph.now by_rival path.now) }
+    ensures { OnOk result (payments.new.items ≡ payments.old.items ++
+        payments_of graph.now by_rival path.now) }
 {
     let edges = graph.edges();
     for e in path {

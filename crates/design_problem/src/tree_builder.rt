@@ -81,7 +81,8 @@ impl TreeBuilder {
 
     /// Whether nothing was tightened since the last entry that isn't a Tighten.
     pub fn is_fresh(&self) -> bool
-        ensures { 0 < length self.now.places → IsTrue result ↔ ((first_place self.now.places).since ≡ []) }
+        ensures { 0 < length self.now.places → IsTrue result ↔
+            ((first_place self.now.places).since ≡ []) }
     {
         self.marks.begun == self.entries.len()
     }
@@ -135,7 +136,11 @@ impl TreeBuilder {
     ///
     /// `OutOfMemory`, and then the tree is gone.
     pub fn undone(self) -> Result<TreeBuilder, OutOfMemory>
-        ensures { IfOk result (λ tree. tree ≡ record { entries = self.entries ++ undones (length self.places); places = [] }) }
+        ensures { IfOk result
+            (λ tree. tree ≡ record {
+              entries = self.entries ++ undones (length self.places);
+              places = [];
+            }) }
     {
         let mut tree = self;
         while tree.is_open() {
@@ -164,10 +169,12 @@ fn go_on(
     requires sound { (forms : List Form) × SoundAt forms boxes.old.present entry.now }
     requires low_marks { length marks.old.low.items ≡ length boxes.old.present.low }
     requires high_marks { length marks.old.high.items ≡ length boxes.old.present.low }
-    ensures next { IfOk result (λ more. MatchBool more
-        (subboxes boxes.old.present entry.now ++ boxes.old.behind ≡ boxes.new.present ∷ boxes.new.behind)
-        (subboxes boxes.old.present entry.now ++ boxes.old.behind ≡ [])) }
-    ensures marks { (n : ℕ) (entries : List Entry) → KeepsMarks n entries marks.old → count ≡ length entries + 1 →
+    ensures next { IfOk result
+        (λ more. MatchBool more (subboxes boxes.old.present entry.now ++ boxes.old.behind ≡
+        boxes.new.present ∷ boxes.new.behind) (subboxes boxes.old.present entry.now ++
+        boxes.old.behind ≡ [])) }
+    ensures marks { (n : ℕ) (entries : List Entry) → KeepsMarks n entries marks.old →
+        count ≡ length entries + 1 →
         OnOk result (KeepsMarks n (entries ++ entry.now ∷ []) marks.new) }
 {
     match entry {

@@ -39,7 +39,8 @@ fn made_trial<'a>(
     requires most { blocks ≤ 125 }
     requires start { start < 2 ^ 31 }
     ensures made { IsTried blocks start result }
-    ensures advisors { AreCalled ⟦<dyn Advisor as Advisor>⟧ (λ b. b.vtable) (λ b. state b) advisors.old.items advisors.new.items }
+    ensures advisors { AreCalled ⟦<dyn Advisor as Advisor>⟧ (λ b. b.vtable) (λ b. state b)
+        advisors.old.items advisors.new.items }
 {
     Ok(trial_report(alloc, TrialCase { blocks, start }, advisors)?)
 }
@@ -52,8 +53,8 @@ fn made_audit<'a, S: Shelf>(
     configs: &'a [String],
     shelf: &mut S,
 ) -> Result<Report, Stop<'a>>
-    ensures { Gave (S.gave shelf.old shelf.new)
-        (λ came. IsMadeAs (Audit request.now (option_map string_bytes live.now) (texts configs.now)) came result) }
+    ensures { Gave (S.gave shelf.old shelf.new) (λ came. IsMadeAs
+        (Audit request.now (option_map string_bytes live.now) (texts configs.now)) came result) }
 {
     match live {
         Some(live) => audit_live_report(alloc, files(request, configs), live, shelf),
@@ -90,7 +91,8 @@ pub(crate) fn job_report<'a, S: Shelf>(
 ) -> Result<Report, Stop<'a>>
     requires { IsInRange (seen job.now) }
     ensures made { Gave (S.gave shelf.old shelf.new) (λ came. IsMadeAs (seen job.now) came result) }
-    ensures advisors { AreCalled ⟦<dyn Advisor as Advisor>⟧ (λ b. b.vtable) (λ b. state b) advisors.old.items advisors.new.items }
+    ensures advisors { AreCalled ⟦<dyn Advisor as Advisor>⟧ (λ b. b.vtable) (λ b. state b)
+        advisors.old.items advisors.new.items }
 {
     match job {
         Job::Design(search) => {

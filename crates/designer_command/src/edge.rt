@@ -49,11 +49,11 @@ pub fn recorded_run<S: Shelf, K: Sink>(
 ) -> Status
     ensures { let before = shelf_recorded shelf.old in let now = shelf_recorded shelf.new in
         let sink = sink_recorded out.old in let sink_now = sink_recorded out.new in
-        RunMeets (texts words.now)
-        (IsNoted (S.gave before now) (files_recorded shelf.old) (files_recorded shelf.new))
-        (S.held before) (S.faults before) (S.faults now)
-        (IsNotedInPieces (K.handed sink sink_now) (pieces_recorded out.old) (pieces_recorded out.new))
-        (K.got sink) (K.got sink_now) (K.faults sink) (K.faults sink_now) result }
+        RunMeets (texts words.now) (IsNoted (S.gave before now) (files_recorded shelf.old)
+        (files_recorded shelf.new)) (S.held before) (S.faults before) (S.faults now)
+        (IsNotedInPieces (K.handed sink sink_now) (pieces_recorded out.old)
+        (pieces_recorded out.new)) (K.got sink) (K.got sink_now) (K.faults sink) (K.faults sink_now)
+        result }
 {
     run(alloc, words, shelf, out, advisors)
 }

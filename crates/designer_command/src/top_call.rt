@@ -49,9 +49,8 @@ fn write_made<K: Sink>(made: Result<Report, OutOfMemory>, out: &mut K) -> Status
         (λ report. IsWritten report.status (bytes_in report.text)
         (K.handed out.old out.new) (K.faults out.old) (K.faults out.new) result)
         (λ _. (result ≡ Status.OutOfMemory) × (out.new ≡ out.old)) }
-    ensures pieces { MatchResult made
-        (λ report. PutsPieces K.handed out.old out.new (size_of_piece report.text) (bytes_in report.text) result)
-        (λ _. out.new ≡ out.old) }
+    ensures pieces { MatchResult made (λ report. PutsPieces K.handed out.old out.new
+        (size_of_piece report.text) (bytes_in report.text) result) (λ _. out.new ≡ out.old) }
 {
     match made {
         Ok(report) => write_report(&report, out),
@@ -128,11 +127,13 @@ pub fn run<S: Shelf, K: Sink>(
     out: &mut K,
     advisors: &mut Vec<Box<dyn Advisor>>,
 ) -> Status
-    ensures meets { RunMeets (texts words.now) (S.gave shelf.old shelf.new) (S.held shelf.old) (S.faults shelf.old) (S.faults shelf.new)
-        (K.handed out.old out.new) (K.got out.old) (K.got out.new) (K.faults out.old) (K.faults out.new) result }
+    ensures meets { RunMeets (texts words.now) (S.gave shelf.old shelf.new) (S.held shelf.old)
+        (S.faults shelf.old) (S.faults shelf.new) (K.handed out.old out.new) (K.got out.old)
+        (K.got out.new) (K.faults out.old) (K.faults out.new) result }
     ensures pieces { PutsByPieces K.handed out.old out.new result }
     ensures held { (name : List ℕ) → S.held shelf.new name ≡ S.held shelf.old name }
-    ensures advisors { AreCalled ⟦<dyn Advisor as Advisor>⟧ (λ b. b.vtable) (λ b. state b) advisors.old.items advisors.new.items }
+    ensures advisors { AreCalled ⟦<dyn Advisor as Advisor>⟧ (λ b. b.vtable) (λ b. state b)
+        advisors.old.items advisors.new.items }
 {
     match read_words(alloc, words) {
         Ok(job) => {

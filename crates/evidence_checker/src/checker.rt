@@ -22,9 +22,11 @@ use std::alloc::Global;
 
 /// Tests that an answer has the parts that its verdict needs, and no others.
 fn check_shape(problem: &Problem, answer: &Answer) -> Result<(), Refusal<CheckFault, u64>>
-    ensures shape { IfOk result (λ _.
-        ShapeOfClaim problem.now answer.now.verdict answer.now.costs answer.now.floor answer.now.proof × (answer.now.unfinished ≡ None)) }
-    ensures first { IfErr result (StopsBy (AtNoPlace (check_fault_number WrongShape) (HasWrongShape problem.now answer.now) ∷ [])) }
+    ensures shape { IfOk result (λ _. ShapeOfClaim problem.now answer.now.verdict answer.now.costs
+        answer.now.floor answer.now.proof × (answer.now.unfinished ≡ None)) }
+    ensures first { IfErr result
+        (StopsBy (AtNoPlace (check_fault_number WrongShape) (HasWrongShape problem.now answer.now) ∷
+        [])) }
 {
     let costs = answer.costs.as_ref();
     let proof = answer.proof.as_ref();
@@ -47,8 +49,10 @@ fn check_claim(
     costs: Option<&Costs>,
     floor: Floor,
 ) -> Result<(), Refusal<CheckFault, u64>>
-    ensures holds { IfOk result (λ _. CostsHold problem.now verdict (option_copied costs.entry) floor) }
-    ensures first { IfErr result (StopsBy (cost_tests problem.now verdict (option_copied costs.entry) floor)) }
+    ensures holds { IfOk result (λ _. CostsHold problem.now verdict (option_copied costs.entry)
+        floor) }
+    ensures first { IfErr result
+        (StopsBy (cost_tests problem.now verdict (option_copied costs.entry) floor)) }
 {
     match (verdict, costs) {
         (Verdict::Optimal(greatest), Some(costs)) => {
@@ -67,8 +71,9 @@ fn check_evidence(
 ) -> Result<(), Refusal<CheckFault, u64>>
     ensures rows { IfOk result (λ _. All (IsRow problem.now) rows.now) }
     ensures holds { IfOk result (λ _. ProofHolds problem.now rows.now (option_copied proof.entry)) }
-    ensures first { IfErr result (StopsBy
-        (AtFirstItem (row_tests problem.now) 0 rows.now ∷ proof_tests problem.now rows.now (option_copied proof.entry))) }
+    ensures first { IfErr result
+        (StopsBy (AtFirstItem (row_tests problem.now) 0 rows.now ∷
+        proof_tests problem.now rows.now (option_copied proof.entry))) }
 {
     keeps(problem);
     let forms = forms_of(alloc, problem, rows)?;
@@ -98,7 +103,8 @@ pub fn check(
 ) -> Result<Accepted, Refusal<CheckFault, u64>>
     ensures valid { IfOk result (λ _. IsValid problem.now answer.now) }
     ensures claimed { IfOk result (IsAcceptedAs answer.now.verdict) }
-    ensures true_claim { IfOk result (λ _. IsTrueVerdict problem.now answer.now.verdict answer.now.costs) }
+    ensures true_claim { IfOk result (λ _. IsTrueVerdict problem.now answer.now.verdict
+        answer.now.costs) }
     ensures first { IfErr result (StopsBy (tests problem.now answer.now)) }
     ensures invalid { IfErr result (RefusesInvalid problem.now answer.now) }
 {

@@ -24,7 +24,9 @@ use std::alloc::Global;
 /// Tests that the lines name the free interfaces, each once, in their order.
 fn check_places(problem: &Problem, lines: &[CostLine]) -> Result<(), Refusal<CheckFault, u64>>
     ensures named { IfOk result (λ _. NamesPlaces problem.now.vars lines.now) }
-    ensures first { IfErr result (StopsBy (AtNoPlace (check_fault_number WrongPlaces) (NamesPlaces problem.now.vars lines.now → ⊥) ∷ [])) }
+    ensures first { IfErr result
+        (StopsBy (AtNoPlace (check_fault_number WrongPlaces)
+        (NamesPlaces problem.now.vars lines.now → ⊥) ∷ [])) }
 {
     if names_places(names_of(problem), lines) {
         return Ok(());
@@ -53,7 +55,10 @@ fn check_ends(
     requires named { NamesPlaces problem.now.vars lines.now }
     requires given { costs.now ≡ costs_given problem.now lines.now }
     ensures names { IfOk result (λ _. Names problem.now lines.now costs.now) }
-    ensures first { IfErr result (StopsBy (AtFirst (check_fault_number UnequalEnds) (HasUnequalEnds problem.now.vars lines.now) ∷ [])) }
+    ensures first { IfErr result
+        (StopsBy
+        (AtFirst (check_fault_number UnequalEnds) (HasUnequalEnds problem.now.vars lines.now) ∷
+        [])) }
 {
     keeps(problem);
     match first_unequal(names_of(problem), lines, costs) {
@@ -69,7 +74,10 @@ fn check_ends(
 fn check_bounds(problem: &Problem, costs: &[u16]) -> Result<(), Refusal<CheckFault, u64>>
     requires { length costs.now ≡ length problem.now.low }
     ensures within { IfOk result (λ _. IsInBox (box_of problem.now) costs.now) }
-    ensures first { IfErr result (StopsBy (AtFirst (check_fault_number OutOfBounds) (IsOutside problem.now.low problem.now.high costs.now) ∷ [])) }
+    ensures first { IfErr result
+        (StopsBy
+        (AtFirst (check_fault_number OutOfBounds)
+        (IsOutside problem.now.low problem.now.high costs.now) ∷ [])) }
 {
     keeps(problem);
     match first_outside(low_of(problem), high_of(problem), costs) {
@@ -88,7 +96,9 @@ fn check_greatest(
     costs: &[u16],
 ) -> Result<(), Refusal<CheckFault, u64>>
     ensures same { IfOk result (λ _. (printed ≡ greatest) × (greatest_cost costs.now ≡ greatest)) }
-    ensures first { IfErr result (StopsBy (AtNoPlace (check_fault_number WrongGreatest) (HasWrongGreatest greatest printed costs.now) ∷ [])) }
+    ensures first { IfErr result
+        (StopsBy (AtNoPlace (check_fault_number WrongGreatest)
+        (HasWrongGreatest greatest printed costs.now) ∷ [])) }
 {
     if printed == greatest && greatest_of(costs) == greatest {
         return Ok(());
@@ -107,7 +117,9 @@ fn check_paths(
 ) -> Result<(), Refusal<CheckFault, u64>>
     requires { IsInBox (box_of problem.now) costs.now }
     ensures only { IfOk result (λ _. All (IsOnlyAt problem.now.graph costs.now) problem.now.paths) }
-    ensures first { IfErr result (StopsBy (AtFirst (check_fault_number NotOnlyCheapest) (IsNotOnly problem.now costs.now) ∷ [])) }
+    ensures first { IfErr result
+        (StopsBy (AtFirst (check_fault_number NotOnlyCheapest) (IsNotOnly problem.now costs.now) ∷
+        [])) }
 {
     match first_not_only(alloc, &problem.graph, problem.paths.as_slice(), costs)? {
         Some(place) => Err(Refusal::Refused {
@@ -125,7 +137,9 @@ fn check_floor(
     floor: Floor,
 ) -> Result<(), Refusal<CheckFault, u64>>
     ensures true_floor { IfOk result (λ _. IsFalseFloor problem.now greatest floor → ⊥) }
-    ensures first { IfErr result (StopsBy (AtNoPlace (check_fault_number FalseFloor) (IsFalseFloor problem.now greatest floor) ∷ [])) }
+    ensures first { IfErr result
+        (StopsBy (AtNoPlace (check_fault_number FalseFloor)
+        (IsFalseFloor problem.now greatest floor) ∷ [])) }
 {
     if is_false_floor(problem, greatest, floor) {
         return Err(Refusal::Refused {
@@ -146,7 +160,8 @@ pub(crate) fn check_costs(
 ) -> Result<(), Refusal<CheckFault, u64>>
     ensures gives { IfOk result (λ _. GivesCosts problem.now greatest costs.now) }
     ensures true_floor { IfOk result (λ _. IsFalseFloor problem.now greatest floor → ⊥) }
-    ensures first { IfErr result (StopsBy (cost_tests problem.now (Optimal greatest) (Some costs.now) floor)) }
+    ensures first { IfErr result
+        (StopsBy (cost_tests problem.now (Optimal greatest) (Some costs.now) floor)) }
 {
     let lines = costs.lines.as_slice();
     check_places(problem, lines)?;

@@ -12,7 +12,8 @@ use design_problem::{CostLine, VarName};
 
 /// Whether a line names a free interface.
 fn names_place(name: &VarName, line: &CostLine) -> bool
-    ensures { IsTrue result ↔ (line.now.router ≡ name.now.router) × (line.now.interface ≡ name.now.interface) }
+    ensures { IsTrue result ↔ (line.now.router ≡ name.now.router) ×
+        (line.now.interface ≡ name.now.interface) }
 {
     line.router.as_bytes() == name.router.as_bytes()
         && line.interface.as_bytes() == name.interface.as_bytes()
@@ -36,7 +37,8 @@ pub(crate) fn names_places(names: &[VarName], lines: &[CostLine]) -> bool
 /// Whether a line gives its variable another cost than it has.
 fn is_off(name: &VarName, line: &CostLine, costs: &[u16]) -> bool
     requires { name.now.var < length costs.now }
-    ensures { MatchBool result (line.now.cost ≡ slice_index costs.now name.now.var → ⊥) (line.now.cost ≡ slice_index costs.now name.now.var) }
+    ensures { MatchBool result (line.now.cost ≡ slice_index costs.now name.now.var → ⊥)
+        (line.now.cost ≡ slice_index costs.now name.now.var) }
 {
     line.cost != costs[name.var as usize]
 }

@@ -33,7 +33,8 @@ fn is_only(
 ) -> Result<bool, OutOfMemory>
     requires fits { FitsPoint graph.now point.now }
     requires path { IsPathOf graph.now (request_ends request.now) request.now.path.edges }
-    ensures { IfOk result (λ yes. IsTrue yes ↔ IsOnlyCheapest graph.now point.now (request_ends request.now) request.now.path.edges) }
+    ensures { IfOk result (λ yes. IsTrue yes ↔ IsOnlyCheapest graph.now point.now
+        (request_ends request.now) request.now.path.edges) }
 {
     let requested = RequestedPath {
         path: &request.path,

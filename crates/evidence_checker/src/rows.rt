@@ -30,7 +30,8 @@ fn is_route(
     request: &Request,
     edges: &[u32],
 ) -> Result<bool, OutOfMemory>
-    ensures { IfOk result (λ yes. IsTrue yes ↔ IsPathOf graph.now (request_ends request.now) edges.now) }
+    ensures { IfOk result (λ yes. IsTrue yes ↔ IsPathOf graph.now (request_ends request.now)
+        edges.now) }
 {
     let start = request.path.start;
     let edges = copied(alloc, edges)?;
@@ -60,7 +61,8 @@ fn route_fault(
 
 /// The first test that a row meets.
 fn row_fault(alloc: Global, problem: &Problem, row: &Row) -> Result<Option<CheckFault>, OutOfMemory>
-    ensures { IfOk result (λ fault. MatchOption fault (IsRow problem.now row.now) (λ f. FirstOf (row_tests problem.now row.now) (check_fault_number f))) }
+    ensures { IfOk result (λ fault. MatchOption fault (IsRow problem.now row.now)
+        (λ f. FirstOf (row_tests problem.now row.now) (check_fault_number f))) }
 {
     match problem.paths.as_slice().get(row.request as usize) {
         Some(request) => route_fault(alloc, &problem.graph, request, row.rival.edges.as_slice()),

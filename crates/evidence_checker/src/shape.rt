@@ -15,7 +15,8 @@ use design_problem::{CapTree, Costs, Floor, Problem, Verdict, greatest_of};
 /// What a verdict claims.
 pub(crate) fn claimed(verdict: Verdict) -> Result<Accepted, Refusal<CheckFault, u64>>
     ensures claim { IfOk result (IsAcceptedAs verdict) }
-    ensures first { IfErr result (StopsBy (AtNoPlace (check_fault_number NothingClaimed) (ClaimsNothing verdict) ∷ [])) }
+    ensures first { IfErr result
+        (StopsBy (AtNoPlace (check_fault_number NothingClaimed) (ClaimsNothing verdict) ∷ [])) }
 {
     match verdict {
         Verdict::Optimal(greatest) => Ok(Accepted::Optimal(greatest)),
@@ -65,7 +66,8 @@ pub(crate) fn fits_claim(
     floor: Floor,
     proof: Option<&CapTree>,
 ) -> bool
-    ensures { IsTrue result ↔ ShapeOfClaim problem.now verdict (option_copied costs.entry) floor (option_copied proof.entry) }
+    ensures { IsTrue result ↔ ShapeOfClaim problem.now verdict (option_copied costs.entry) floor
+        (option_copied proof.entry) }
 {
     match (verdict, costs) {
         (Verdict::Optimal(greatest), Some(_)) => shows_least(problem, greatest, floor, proof),

@@ -26,7 +26,8 @@ pub(crate) fn sum_is_small(parts: &[(u64, u128)]) -> bool
 
 /// Whether each row is one of so many.
 pub(crate) fn rows_are_known(parts: &[(u64, u128)], count: usize) -> bool
-    ensures { MatchBool result (All (λ part. part.0 < count) parts.now) (Any (λ part. count ≤ part.0) parts.now) }
+    ensures { MatchBool result (All (λ part. part.0 < count) parts.now)
+        (Any (λ part. count ≤ part.0) parts.now) }
 {
     for part in parts {
         if count <= part.0 as usize {
@@ -40,10 +41,11 @@ pub(crate) fn rows_are_known(parts: &[(u64, u128)], count: usize) -> bool
 fn add_form(sums: &mut [i128], multiplier: u128, form: &Form)
     requires count { length form.now.coefficients ≡ length sums.old }
     requires multiplier { multiplier < 2 ^ 100 }
-    requires room { (i : ℕ) → i < length sums.old →
-        nat_abs (slice_index_or sums.old i (pos 0)) + multiplier * sum_by nat_abs form.now.coefficients < 2 ^ 127 }
-    ensures { (i : ℕ) → i < length sums.old →
-        slice_index_or sums.new i (pos 0) ≡ (slice_index_or sums.old i (pos 0) +ℤ (pos multiplier *ℤ slice_index_or form.now.coefficients i (pos 0))) }
+    requires room { (i : ℕ) → i < length sums.old → nat_abs (slice_index_or sums.old i (pos 0)) +
+        multiplier * sum_by nat_abs form.now.coefficients < 2 ^ 127 }
+    ensures { (i : ℕ) → i < length sums.old → slice_index_or sums.new i (pos 0) ≡
+        (slice_index_or sums.old i (pos 0) +ℤ
+        (pos multiplier *ℤ slice_index_or form.now.coefficients i (pos 0))) }
 {
     let terms = form.terms();
     for term in terms {
@@ -74,8 +76,8 @@ pub fn add_parts(forms: &[Form], parts: &[(u64, u128)], sums: &mut [i128]) -> i1
     requires sum { sum_by (λ part. part.1) parts.now < 2 ^ 100 }
     requires empty { (i : ℕ) → slice_index_or sums.old i (pos 0) ≡ pos 0 }
     ensures constant { result ≡ (weighted forms.now parts.now).constant }
-    ensures coefficients { (i : ℕ) → i < length sums.old →
-        slice_index_or sums.new i (pos 0) ≡ slice_index_or (weighted forms.now parts.now).coefficients i (pos 0) }
+    ensures coefficients { (i : ℕ) → i < length sums.old → slice_index_or sums.new i (pos 0) ≡
+        slice_index_or (weighted forms.now parts.now).coefficients i (pos 0) }
 {
     let mut constant = 0i128;
     for part in parts {

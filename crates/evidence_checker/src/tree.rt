@@ -24,9 +24,10 @@ fn room_for_sums(alloc: Global, count: usize) -> Result<Vec<i128>, OutOfMemory>
 /// Goes on after a line that is sound at the present box, and says whether a box is still open.
 fn go_on(boxes: &mut OpenBoxes, entry: &Entry) -> Result<bool, OutOfMemory>
     requires { (forms : List Form) × SoundAt forms boxes.old.present entry.now }
-    ensures { IfOk result (λ more. MatchBool more
-        (subboxes boxes.old.present entry.now ++ boxes.old.behind ≡ boxes.new.present ∷ boxes.new.behind)
-        (subboxes boxes.old.present entry.now ++ boxes.old.behind ≡ [])) }
+    ensures { IfOk result
+        (λ more. MatchBool more (subboxes boxes.old.present entry.now ++ boxes.old.behind ≡
+        boxes.new.present ∷ boxes.new.behind) (subboxes boxes.old.present entry.now ++
+        boxes.old.behind ≡ [])) }
 {
     match entry {
         Entry::Tighten {
@@ -71,7 +72,8 @@ pub(crate) fn check_tree(
     requires count { length costs.low ≡ length costs.high }
     requires forms { All (IsSmallForm (length costs.low)) forms.now }
     requires whole { IsSingleTree entries.now }
-    ensures sound { IfOk result (λ _. IsSoundTree forms.now costs entries.now × IsClosed entries.now) }
+    ensures sound { IfOk result (λ _. IsSoundTree forms.now costs entries.now ×
+        IsClosed entries.now) }
     ensures first { IfErr result (StopsBy (AtFirstLine forms.now (costs ∷ []) 0 entries.now ∷ [])) }
 {
     let mut sums = room_for_sums(alloc, costs.low.as_slice().len())?;
@@ -98,10 +100,13 @@ pub(crate) fn check_cap_tree(
 ) -> Result<(), Refusal<CheckFault, u64>>
     requires count { length low.now ≡ length high.now }
     requires forms { All (IsSmallForm (length low.now)) forms.now }
-    ensures sound { IfOk result (λ _.
-        IsSoundTree forms.now (capped (record { low = low.now; high = high.now }) proof.now.cap) proof.now.tree × IsClosed proof.now.tree) }
-    ensures first { IfErr result (StopsBy
-        (AtFirstLine forms.now (capped (record { low = low.now; high = high.now }) proof.now.cap ∷ []) 0 proof.now.tree ∷ [])) }
+    ensures sound { IfOk result
+        (λ _. IsSoundTree forms.now (capped (record { low = low.now; high = high.now })
+        proof.now.cap) proof.now.tree × IsClosed proof.now.tree) }
+    ensures first { IfErr result
+        (StopsBy
+        (AtFirstLine forms.now (capped (record { low = low.now; high = high.now }) proof.now.cap ∷
+        []) 0 proof.now.tree ∷ [])) }
 {
     let costs = capped_box(alloc, low, high, proof.cap)?;
     check_tree(alloc, forms, costs, proof.tree.as_slice())

@@ -32,8 +32,9 @@ pub(crate) enum Judgement {
 
 /// The rejection of an answer by the checker.
 fn rejection_of_answer(stop: Refusal<CheckFault, u64>) -> Result<Rejection, OutOfMemory>
-    ensures { (claim : Claim) (answer : AnswerParts) → IsTextOf claim.bytes answer → StopsBy (tests claim.problem answer) stop →
-        RefusesInvalid claim.problem answer stop → IfOk result (IsInvalid claim) }
+    ensures { (claim : Claim) (answer : AnswerParts) → IsTextOf claim.bytes answer →
+        StopsBy (tests claim.problem answer) stop → RefusesInvalid claim.problem answer stop →
+        IfOk result (IsInvalid claim) }
 {
     match stop {
         Refusal::Refused { fault, place } => Ok(Rejection {
@@ -46,7 +47,8 @@ fn rejection_of_answer(stop: Refusal<CheckFault, u64>) -> Result<Rejection, OutO
 
 /// What a check of an answer to a problem comes to.
 fn judge_answer(alloc: Global, problem: &Problem, answer: &Answer) -> Result<Judgement, OutOfMemory>
-    ensures { (bytes : List ℕ) → IsTextOf bytes answer.now → IfOk result (IsJudged (record { problem = problem.now; bytes = bytes })) }
+    ensures { (bytes : List ℕ) → IsTextOf bytes answer.now → IfOk result
+        (IsJudged (record { problem = problem.now; bytes = bytes })) }
 {
     match check(alloc, problem, answer) {
         Ok(accepted) => Ok(Judgement::Accepted(accepted)),
@@ -75,7 +77,8 @@ fn check_files<'a, S: Shelf>(
     answer: &'a str,
     shelf: &mut S,
 ) -> Result<Judgement, Stop<'a>>
-    ensures { Gave (S.gave shelf.old shelf.new) (λ came. IsReadAs (claim_read (files_named words.entry) answer.now) came
+    ensures { Gave (S.gave shelf.old shelf.new) (λ came. IsReadAs
+        (claim_read (files_named words.entry) answer.now) came
         (λ judgement claim. IsJudged claim judgement) result) }
 {
     let problem = read_problem(alloc, View::AsRequested, words, shelf)?;
@@ -110,7 +113,8 @@ pub fn check_report<'a, S: Shelf>(
     answer: &'a str,
     shelf: &mut S,
 ) -> Result<Report, Stop<'a>>
-    ensures { Gave (S.gave shelf.old shelf.new) (λ came. IsReadAs (claim_read (files_named words.entry) answer.now) came
+    ensures { Gave (S.gave shelf.old shelf.new) (λ came. IsReadAs
+        (claim_read (files_named words.entry) answer.now) came
         (λ report claim. MayCheck claim report.status (bytes_in report.text)) result) }
 {
     let judgement = check_files(alloc, words, answer, shelf)?;

@@ -39,7 +39,8 @@ const NO_HEAD: CheckFault = CheckFault::WrongPlaces;
 /// What a configuration that wasn't rewritten comes to.
 fn unwritten(stop: RewriteStop) -> Result<Revised, OutOfMemory>
     ensures { (r : Revision) (costs : List CostLine) → SaysCosts r.bytes (Some costs) →
-        TellsMissing (first_missing (new_costs r.config costs) r.config.bytes) stop → IfOk result (IsRevised r) }
+        TellsMissing (first_missing (new_costs r.config costs) r.config.bytes) stop →
+        IfOk result (IsRevised r) }
 {
     match stop {
         RewriteStop::NoInterface(_) => Ok(Revised::Rejected(Rejection {
@@ -58,7 +59,8 @@ fn revised_by_lines(
 ) -> Result<Revised, OutOfMemory>
     requires few { length lines.now < 2 ^ 32 - 1 }
     requires fit { All FitsCostLine lines.now }
-    ensures { (bytes : List ℕ) → SaysCosts bytes (Some lines.now) → IfOk result (IsRevised (record { config = config.now; bytes = bytes })) }
+    ensures { (bytes : List ℕ) → SaysCosts bytes (Some lines.now) →
+        IfOk result (IsRevised (record { config = config.now; bytes = bytes })) }
 {
     let own = last_lines(alloc, &config.said().name, lines)?;
     match rewrite(alloc, config.name, &config.bytes, &own) {
@@ -75,7 +77,8 @@ fn revised_by_costs(
 ) -> Result<Revised, OutOfMemory>
     requires few { HasFewLines costs }
     requires fit { FitLines costs }
-    ensures { (bytes : List ℕ) → SaysCosts bytes costs → IfOk result (IsRevised (record { config = config.now; bytes = bytes })) }
+    ensures { (bytes : List ℕ) → SaysCosts bytes costs → IfOk result
+        (IsRevised (record { config = config.now; bytes = bytes })) }
 {
     match costs {
         Some(lines) => revised_by_lines(alloc, config, lines.as_slice()),
@@ -108,8 +111,9 @@ fn rewrite_files<'a, S: Shelf>(
     config: &'a str,
     shelf: &mut S,
 ) -> Result<Revised, Stop<'a>>
-    ensures { Gave (S.gave shelf.old shelf.new) (λ came. IsReadAs (revision_read config.now answer.now) came
-        (λ revised revision. IsRevised revision revised) result) }
+    ensures { Gave (S.gave shelf.old shelf.new) (λ came. IsReadAs
+        (revision_read config.now answer.now) came (λ revised revision. IsRevised revision revised)
+        result) }
 {
     let text = read_config_text(alloc, shelf, config)?;
     let bytes = read_answer_file(alloc, shelf, answer)?;
@@ -141,8 +145,9 @@ pub fn rewrite_report<'a, S: Shelf>(
     config: &'a str,
     shelf: &mut S,
 ) -> Result<Report, Stop<'a>>
-    ensures { Gave (S.gave shelf.old shelf.new) (λ came. IsReadAs (revision_read config.now answer.now) came
-        (λ report revision. MayRewrite revision report.status (bytes_in report.text)) result) }
+    ensures { Gave (S.gave shelf.old shelf.new) (λ came. IsReadAs
+        (revision_read config.now answer.now) came (λ report revision.
+        MayRewrite revision report.status (bytes_in report.text)) result) }
 {
     let revised = rewrite_files(alloc, answer, config, shelf)?;
     Ok(report_of_revised(alloc, revised)?)

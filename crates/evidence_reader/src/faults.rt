@@ -12,7 +12,8 @@ use text_lines::cut;
 
 /// The refusal of a text where no lawful line stands first, of which it is known whether a lawful line begins with it.
 pub fn fault_at(text: TextLeft<'_>, begins: bool) -> Refusal<AnswerFault>
-    ensures { (place : TextPlace) → place ≢ AfterEnd → LacksLawful place text.entry.left.now → (IsTrue begins ↔ BeginsLawful place text.entry.left.now) →
+    ensures { (place : TextPlace) → place ≢ AfterEnd → LacksLawful place text.entry.left.now →
+        (IsTrue begins ↔ BeginsLawful place text.entry.left.now) →
         StopsReader place text.entry result }
 {
     Refusal::Refused {
@@ -23,7 +24,8 @@ pub fn fault_at(text: TextLeft<'_>, begins: bool) -> Refusal<AnswerFault>
 
 /// Whether a line is at fault or the end of the text comes too early.
 fn fault_kind(rest: &[u8], begins: bool) -> AnswerFault
-    ensures { (place : TextPlace) → place ≢ AfterEnd → LacksLawful place rest.now → (IsTrue begins ↔ BeginsLawful place rest.now) → IsFault place rest.now result }
+    ensures { (place : TextPlace) → place ≢ AfterEnd → LacksLawful place rest.now →
+        (IsTrue begins ↔ BeginsLawful place rest.now) → IsFault place rest.now result }
 {
     match cut(rest, b'\n') {
         Some(_) => AnswerFault::BadAnswerLine,

@@ -46,7 +46,8 @@ pub(crate) fn read_costs(
     alloc: Global,
     text: TextLeft<'_>,
 ) -> Result<(CostsPart, TextLeft<'_>), Refusal<AnswerFault>>
-    ensures { MatchResult result (λ r. FitsCosts r.0.costs × Goes AtCosts text.entry (costs_lines r.0.costs ++ floor_line r.0.floor ∷ []) AtRows r.1)
+    ensures { MatchResult result (λ r. FitsCosts r.0.costs × Goes AtCosts text.entry
+        (costs_lines r.0.costs ++ floor_line r.0.floor ∷ []) AtRows r.1)
         (StopsReader AtCosts text.entry) }
 {
     let (head, rest) = costs_head(text)?;
@@ -58,7 +59,8 @@ pub(crate) fn read_costs(
 
 /// What the line that costs begin with says, where it has to be the next.
 fn costs_head(text: TextLeft<'_>) -> Result<(CostsHead, TextLeft<'_>), Refusal<AnswerFault>>
-    ensures { MatchResult result (λ r. Goes AtCosts text.entry (costs_head_line r.0 ∷ []) (behind_costs_head r.0) r.1) (StopsReader AtCosts text.entry) }
+    ensures { MatchResult result (λ r. Goes AtCosts text.entry (costs_head_line r.0 ∷ [])
+        (behind_costs_head r.0) r.1) (StopsReader AtCosts text.entry) }
 {
     match costs_head_next(text) {
         Some(found) => Ok(found),
@@ -79,7 +81,8 @@ fn costs_head_next(text: TextLeft<'_>) -> Option<(CostsHead, TextLeft<'_>)>
 /// What a line that costs begin with says.
 fn costs_head_of(line: &[u8]) -> Option<CostsHead>
     ensures { MatchOption result ((next : TextPlace) → Next AtCosts line.now next → ⊥)
-        (λ head. Next AtCosts line.now (behind_costs_head head) × (line.now ≡ costs_head_line head)) }
+        (λ head. Next AtCosts line.now (behind_costs_head head) ×
+        (line.now ≡ costs_head_line head)) }
 {
     if line == b"costs none".as_slice() {
         return Some(CostsHead::NoCosts);
@@ -90,7 +93,8 @@ fn costs_head_of(line: &[u8]) -> Option<CostsHead>
 
 /// The floor, where there are no costs.
 fn no_costs(text: TextLeft<'_>) -> Result<(CostsPart, TextLeft<'_>), Refusal<AnswerFault>>
-    ensures { MatchResult result (λ r. (r.0.costs ≡ None) × Goes AtFloor text.entry (floor_line r.0.floor ∷ []) AtRows r.1) (StopsReader AtFloor text.entry) }
+    ensures { MatchResult result (λ r. (r.0.costs ≡ None) × Goes AtFloor text.entry
+        (floor_line r.0.floor ∷ []) AtRows r.1) (StopsReader AtFloor text.entry) }
 {
     match floor_next(text) {
         Some((floor, rest)) => Ok((CostsPart { costs: None, floor }, rest)),
@@ -104,8 +108,10 @@ fn some_costs(
     greatest: u16,
     text: TextLeft<'_>,
 ) -> Result<(CostsPart, TextLeft<'_>), Refusal<AnswerFault>>
-    ensures { MatchResult result (λ r. (lines : List CostLine) × (r.0.costs ≡ Some (record { greatest = greatest; lines = lines })) ×
-        All FitsCostLine lines × Goes (AtSections None None) text.entry (cost_lines None lines ++ floor_line r.0.floor ∷ []) AtRows r.1)
+    ensures { MatchResult result (λ r. (lines : List CostLine) ×
+        (r.0.costs ≡ Some (record { greatest = greatest; lines = lines })) ×
+        All FitsCostLine lines × Goes (AtSections None None) text.entry
+        (cost_lines None lines ++ floor_line r.0.floor ∷ []) AtRows r.1)
         (StopsReader (AtSections None None) text.entry) }
 {
     let (sections, rest) = read_sections(alloc, text)?;
@@ -129,7 +135,8 @@ fn floor_behind<'a>(
     before: Option<&'a [u8]>,
 ) -> Result<(Floor, TextLeft<'a>), Refusal<AnswerFault>>
     requires { LacksCost None (option_copied before) text.left.now }
-    ensures { MatchResult result (λ r. Goes (AtSections None (option_copied before.entry)) text.entry (floor_line r.0 ∷ []) AtRows r.1)
+    ensures { MatchResult result (λ r. Goes (AtSections None (option_copied before.entry))
+        text.entry (floor_line r.0 ∷ []) AtRows r.1)
         (StopsReader (AtSections None (option_copied before.entry)) text.entry) }
 {
     match floor_next(text) {

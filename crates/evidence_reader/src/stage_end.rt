@@ -19,8 +19,8 @@ use evidence_text::TreePart;
 ///
 /// `Refused` where one of the last lines is at fault, or something stands behind them.
 pub(crate) fn read_end(text: TextLeft<'_>) -> Result<(), Refusal<AnswerFault>>
-    ensures { MatchResult result (λ _. (after : ℕ) ×
-        IsRead (AtTree TreePart.Unfinished zero zero) text.entry.read text.entry.left.now end_lines AfterEnd after [])
+    ensures { MatchResult result (λ _. (after : ℕ) × IsRead (AtTree TreePart.Unfinished zero zero)
+        text.entry.read text.entry.left.now end_lines AfterEnd after [])
         (StopsReader (AtTree TreePart.Unfinished zero zero) text.entry) }
 {
     let wide = wide_line(text)?;
@@ -30,8 +30,9 @@ pub(crate) fn read_end(text: TextLeft<'_>) -> Result<(), Refusal<AnswerFault>>
 
 /// The text behind the line of the wide part.
 fn wide_line(text: TextLeft<'_>) -> Result<TextLeft<'_>, Refusal<AnswerFault>>
-    ensures { MatchResult result (λ rest. Goes (AtTree TreePart.Unfinished zero zero) text.entry (codes "wide none" ∷ []) AtEnd rest)
-        (StopsReader (AtTree TreePart.Unfinished zero zero) text.entry) }
+    ensures { MatchResult result (λ rest. Goes (AtTree TreePart.Unfinished zero zero) text.entry
+        (codes "wide none" ∷ []) AtEnd rest) (StopsReader (AtTree TreePart.Unfinished zero zero)
+        text.entry) }
 {
     match text.behind(b"wide none") {
         Some(rest) => Ok(rest),
@@ -41,7 +42,8 @@ fn wide_line(text: TextLeft<'_>) -> Result<TextLeft<'_>, Refusal<AnswerFault>>
 
 /// The text behind the `end` line.
 fn end_line(text: TextLeft<'_>) -> Result<TextLeft<'_>, Refusal<AnswerFault>>
-    ensures { MatchResult result (λ rest. Goes AtEnd text.entry (codes "end" ∷ []) AfterEnd rest) (StopsReader AtEnd text.entry) }
+    ensures { MatchResult result (λ rest. Goes AtEnd text.entry (codes "end" ∷ []) AfterEnd rest)
+        (StopsReader AtEnd text.entry) }
 {
     match text.behind(b"end") {
         Some(rest) => Ok(rest),

@@ -18,7 +18,8 @@ use design_problem::Verdict;
 ///
 /// `Refused` where the first line or the verdict is at fault.
 pub(crate) fn read_head(text: TextLeft<'_>) -> Result<(Verdict, TextLeft<'_>), Refusal<AnswerFault>>
-    ensures { MatchResult result (λ r. Goes AtHead text.entry (head_lines r.0) AtCosts r.1) (StopsReader AtHead text.entry) }
+    ensures { MatchResult result (λ r. Goes AtHead text.entry (head_lines r.0) AtCosts r.1)
+        (StopsReader AtHead text.entry) }
 {
     let behind = first_line(text)?;
     verdict_at(behind)
@@ -26,7 +27,8 @@ pub(crate) fn read_head(text: TextLeft<'_>) -> Result<(Verdict, TextLeft<'_>), R
 
 /// The text behind the first line.
 fn first_line(text: TextLeft<'_>) -> Result<TextLeft<'_>, Refusal<AnswerFault>>
-    ensures { MatchResult result (λ rest. Goes AtHead text.entry (codes "ospfcost answer 1" ∷ []) AtVerdict rest) (StopsReader AtHead text.entry) }
+    ensures { MatchResult result (λ rest. Goes AtHead text.entry (codes "ospfcost answer 1" ∷ [])
+        AtVerdict rest) (StopsReader AtHead text.entry) }
 {
     match text.behind(b"ospfcost answer 1") {
         Some(rest) => Ok(rest),
@@ -36,7 +38,8 @@ fn first_line(text: TextLeft<'_>) -> Result<TextLeft<'_>, Refusal<AnswerFault>>
 
 /// The verdict, where its line has to be the next.
 fn verdict_at(text: TextLeft<'_>) -> Result<(Verdict, TextLeft<'_>), Refusal<AnswerFault>>
-    ensures { MatchResult result (λ r. Goes AtVerdict text.entry (verdict_line r.0 ∷ []) AtCosts r.1) (StopsReader AtVerdict text.entry) }
+    ensures { MatchResult result (λ r. Goes AtVerdict text.entry (verdict_line r.0 ∷ []) AtCosts
+        r.1) (StopsReader AtVerdict text.entry) }
 {
     match verdict_next(text) {
         Some(found) => Ok(found),

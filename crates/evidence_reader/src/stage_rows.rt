@@ -25,8 +25,8 @@ pub(crate) fn read_rows(
     alloc: Global,
     text: TextLeft<'_>,
 ) -> Result<(Vec<Row>, TextLeft<'_>), Refusal<AnswerFault>>
-    ensures { MatchResult result (λ r. Goes AtRows text.entry (rows_lines r.0.items) (AtRow zero) r.1 × All (λ row. row.rival.start ≡ 0) r.0.items)
-        (StopsReader AtRows text.entry) }
+    ensures { MatchResult result (λ r. Goes AtRows text.entry (rows_lines r.0.items) (AtRow zero)
+        r.1 × All (λ row. row.rival.start ≡ 0) r.0.items) (StopsReader AtRows text.entry) }
 {
     let (count, rest) = rows_count(text)?;
     each_row(alloc, rest, count)
@@ -34,7 +34,8 @@ pub(crate) fn read_rows(
 
 /// How many rows there are, where the line of that has to be the next.
 fn rows_count(text: TextLeft<'_>) -> Result<(u64, TextLeft<'_>), Refusal<AnswerFault>>
-    ensures { MatchResult result (λ r. Goes AtRows text.entry (rows_line r.0 ∷ []) (AtRow r.0) r.1) (StopsReader AtRows text.entry) }
+    ensures { MatchResult result (λ r. Goes AtRows text.entry (rows_line r.0 ∷ []) (AtRow r.0) r.1)
+        (StopsReader AtRows text.entry) }
 {
     match rows_next(text) {
         Some(found) => Ok(found),
@@ -48,7 +49,8 @@ fn each_row(
     text: TextLeft<'_>,
     count: u64,
 ) -> Result<(Vec<Row>, TextLeft<'_>), Refusal<AnswerFault>>
-    ensures { MatchResult result (λ r. (length r.0.items ≡ count) × Goes (AtRow count) text.entry (map row_line r.0.items) (AtRow zero) r.1 ×
+    ensures { MatchResult result (λ r. (length r.0.items ≡ count) ×
+        Goes (AtRow count) text.entry (map row_line r.0.items) (AtRow zero) r.1 ×
         All (λ row. row.rival.start ≡ 0) r.0.items) (StopsReader (AtRow count) text.entry) }
 {
     let mut rows = Vec::new(alloc);
@@ -63,8 +65,9 @@ fn each_row(
 
 /// The row whose line has to be the next.
 fn row_at(alloc: Global, text: TextLeft<'_>) -> Result<(Row, TextLeft<'_>), Refusal<AnswerFault>>
-    ensures { (left : ℕ) → MatchResult result (λ r. Goes (AtRow (suc left)) text.entry (row_line r.0 ∷ []) (AtRow left) r.1 × (r.0.rival.start ≡ 0))
-        (StopsReader (AtRow (suc left)) text.entry) }
+    ensures { (left : ℕ) →
+        MatchResult result (λ r. Goes (AtRow (suc left)) text.entry (row_line r.0 ∷ []) (AtRow left)
+        r.1 × (r.0.rival.start ≡ 0)) (StopsReader (AtRow (suc left)) text.entry) }
 {
     let found = row_next(alloc, text)?;
     match found {
@@ -75,8 +78,10 @@ fn row_at(alloc: Global, text: TextLeft<'_>) -> Result<(Row, TextLeft<'_>), Refu
 
 /// The row whose line is the next, if there is one.
 fn row_next(alloc: Global, text: TextLeft<'_>) -> Result<Option<(Row, TextLeft<'_>)>, OutOfMemory>
-    ensures { IfOk result (λ found. (left : ℕ) → MatchOption found (LacksLawful (AtRow (suc left)) text.entry.left.now)
-        (λ r. Goes (AtRow (suc left)) text.entry (row_line r.0 ∷ []) (AtRow left) r.1 × (r.0.rival.start ≡ 0))) }
+    ensures { IfOk result (λ found. (left : ℕ) → MatchOption found
+        (LacksLawful (AtRow (suc left)) text.entry.left.now)
+        (λ r. Goes (AtRow (suc left)) text.entry (row_line r.0 ∷ []) (AtRow left) r.1 ×
+        (r.0.rival.start ≡ 0))) }
 {
     let Some((line, rest)) = text.line() else {
         return Ok(None);

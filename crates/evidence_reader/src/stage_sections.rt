@@ -58,8 +58,9 @@ pub fn read_sections<'a>(
     text: TextLeft<'a>,
 ) -> Result<(Sections<'a>, TextLeft<'a>), Refusal<AnswerFault>>
     ensures { (of : Option OtherText) → MatchResult result (λ r. All FitsCostLine r.0.lines.items ×
-        Goes (AtSections of None) text.entry (cost_lines None r.0.lines.items) (AtSections of (option_copied r.0.router)) r.1 ×
-        LacksCost of (option_copied r.0.router) r.1.left.now) (StopsReader (AtSections of None) text.entry) }
+        Goes (AtSections of None) text.entry (cost_lines None r.0.lines.items)
+        (AtSections of (option_copied r.0.router)) r.1 × LacksCost of (option_copied r.0.router)
+        r.1.left.now) (StopsReader (AtSections of None) text.entry) }
 {
     let mut lines = Vec::new(alloc);
     let mut before = None;
@@ -80,7 +81,11 @@ pub fn read_sections<'a>(
 
 /// The cost line that these words say.
 fn cost_line_of(alloc: Global, words: CostWords<'_>) -> Result<CostLine, OutOfMemory>
-    ensures { IfOk result (λ line. line ≡ record { router = words.entry.router.now; interface = words.entry.interface.now; cost = words.entry.cost }) }
+    ensures { IfOk result (λ line. line ≡ record {
+      router = words.entry.router.now;
+      interface = words.entry.interface.now;
+      cost = words.entry.cost;
+    }) }
 {
     let router = Name::from_bytes(alloc, words.router)?;
     let interface = Name::from_bytes(alloc, words.interface)?;
@@ -97,11 +102,11 @@ fn next_cost<'a>(
     before: Option<&'a [u8]>,
 ) -> Result<Option<(CostWords<'a>, TextLeft<'a>)>, Refusal<AnswerFault>>
     requires { IfSome (option_copied before) IsOneWord }
-    ensures { (of : Option OtherText) → MatchResult result
-        (λ found. MatchOption found (LacksCost of (option_copied before.entry) text.entry.left.now)
+    ensures { (of : Option OtherText) → MatchResult result (λ found.
+        MatchOption found (LacksCost of (option_copied before.entry) text.entry.left.now)
         (λ r. FitsWords r.0 × Goes (AtSections of (option_copied before.entry)) text.entry
-        (lines_of_words (option_copied before.entry) r.0) (AtSections of (Some r.0.router.now)) r.1))
-        (StopsReader (AtSections of (option_copied before.entry)) text.entry) }
+        (lines_of_words (option_copied before.entry) r.0) (AtSections of (Some r.0.router.now))
+        r.1)) (StopsReader (AtSections of (option_copied before.entry)) text.entry) }
 {
     let Some((line, rest)) = section_line_next(text, before) else {
         return Ok(None);
@@ -123,9 +128,11 @@ fn section_line_next<'a>(
     text: TextLeft<'a>,
     before: Option<&'a [u8]>,
 ) -> Option<(SectionLine<'a>, TextLeft<'a>)>
-    ensures { (of : Option OtherText) → MatchOption result (LacksCost of (option_copied before.entry) text.entry.left.now)
+    ensures { (of : Option OtherText) →
+        MatchOption result (LacksCost of (option_copied before.entry) text.entry.left.now)
         (λ r. (line : List ℕ) × IsSectionLine (option_copied before.entry) line r.0 ×
-        Goes (AtSections of (option_copied before.entry)) text.entry (line ∷ []) (behind_section_line of r.0) r.1) }
+        Goes (AtSections of (option_copied before.entry)) text.entry (line ∷ [])
+        (behind_section_line of r.0) r.1) }
 {
     let (line, rest) = text.line()?;
     let said = section_line_of(line, before)?;
@@ -148,8 +155,10 @@ fn section_line_of<'a>(line: &'a [u8], before: Option<&'a [u8]>) -> Option<Secti
 
 /// The router of a line, where it isn't the one before.
 fn router_of<'a>(line: &'a [u8], before: Option<&'a [u8]>) -> Option<&'a [u8]>
-    ensures { MatchOption result ((of : Option OtherText) (next : TextPlace) → IsRouterNext of (option_copied before.entry) line.now next → ⊥)
-        (λ name. IsOneWord name.now × (option_copied before.entry ≢ Some name.now) × (line.now ≡ router_line name.now)) }
+    ensures { MatchOption result ((of : Option OtherText) (next : TextPlace) →
+        IsRouterNext of (option_copied before.entry) line.now next → ⊥)
+        (λ name. IsOneWord name.now × (option_copied before.entry ≢ Some name.now) ×
+        (line.now ≡ router_line name.now)) }
 {
     let router = name_after(line, b"router ")?;
     if is_same(before, router) {
@@ -175,9 +184,10 @@ fn cost_of_router<'a>(
     text: TextLeft<'a>,
 ) -> Result<(CostWords<'a>, TextLeft<'a>), Refusal<AnswerFault>>
     requires { IsOneWord router.now }
-    ensures { (of : Option OtherText) → MatchResult result (λ r. (r.0.router.now ≡ router.now) × FitsWords r.0 ×
-        Goes (AtInterface of router.now) text.entry (words_lines r.0) (AtSections of (Some router.now)) r.1)
-        (StopsReader (AtInterface of router.now) text.entry) }
+    ensures { (of : Option OtherText) → MatchResult result (λ r. (r.0.router.now ≡ router.now) ×
+        FitsWords r.0 × Goes (AtInterface of router.now) text.entry (words_lines r.0)
+        (AtSections of (Some router.now)) r.1) (StopsReader (AtInterface of router.now)
+        text.entry) }
 {
     let (interface, rest) = interface_at(text)?;
     cost_of_interface(router, interface, rest)
@@ -191,9 +201,10 @@ fn cost_of_interface<'a>(
 ) -> Result<(CostWords<'a>, TextLeft<'a>), Refusal<AnswerFault>>
     requires router { IsOneWord router.now }
     requires interface { IsOneWord interface.now }
-    ensures { (of : Option OtherText) → MatchResult result (λ r. (r.0.router.now ≡ router.now) × (r.0.interface.now ≡ interface.now) × FitsWords r.0 ×
-        Goes (AtCost of router.now) text.entry (answer_cost_line r.0.cost ∷ codes "exit" ∷ []) (AtSections of (Some router.now)) r.1)
-        (StopsReader (AtCost of router.now) text.entry) }
+    ensures { (of : Option OtherText) → MatchResult result (λ r. (r.0.router.now ≡ router.now) ×
+        (r.0.interface.now ≡ interface.now) × FitsWords r.0 ×
+        Goes (AtCost of router.now) text.entry (answer_cost_line r.0.cost ∷ codes "exit" ∷ [])
+        (AtSections of (Some router.now)) r.1) (StopsReader (AtCost of router.now) text.entry) }
 {
     let (cost, rest) = cost_at(text)?;
     let rest = exit_at(rest)?;
@@ -208,7 +219,8 @@ fn cost_of_interface<'a>(
 /// The interface whose line has to be the next, and the text behind it.
 fn interface_at(text: TextLeft<'_>) -> Result<(&[u8], TextLeft<'_>), Refusal<AnswerFault>>
     ensures { (of : Option OtherText) (router : List ℕ) → MatchResult result
-        (λ r. IsOneWord r.0.now × Goes (AtInterface of router) text.entry (interface_line r.0.now ∷ []) (AtCost of router) r.1)
+        (λ r. IsOneWord r.0.now × Goes (AtInterface of router) text.entry
+        (interface_line r.0.now ∷ []) (AtCost of router) r.1)
         (StopsReader (AtInterface of router) text.entry) }
 {
     match interface_next(text) {
@@ -219,8 +231,10 @@ fn interface_at(text: TextLeft<'_>) -> Result<(&[u8], TextLeft<'_>), Refusal<Ans
 
 /// The interface whose line is the next, and the text behind it.
 fn interface_next(text: TextLeft<'_>) -> Option<(&[u8], TextLeft<'_>)>
-    ensures { (of : Option OtherText) (router : List ℕ) → MatchOption result (LacksLawful (AtInterface of router) text.entry.left.now)
-        (λ r. IsOneWord r.0.now × Goes (AtInterface of router) text.entry (interface_line r.0.now ∷ []) (AtCost of router) r.1) }
+    ensures { (of : Option OtherText) (router : List ℕ) → MatchOption result
+        (LacksLawful (AtInterface of router) text.entry.left.now)
+        (λ r. IsOneWord r.0.now × Goes (AtInterface of router) text.entry
+        (interface_line r.0.now ∷ []) (AtCost of router) r.1) }
 {
     let (line, rest) = text.line()?;
     let interface = name_after(line, b"interface ")?;
@@ -229,8 +243,9 @@ fn interface_next(text: TextLeft<'_>) -> Option<(&[u8], TextLeft<'_>)>
 
 /// The cost whose line has to be the next, and the text behind it.
 fn cost_at(text: TextLeft<'_>) -> Result<(u16, TextLeft<'_>), Refusal<AnswerFault>>
-    ensures { (of : Option OtherText) (router : List ℕ) → MatchResult result (λ r. (0 < r.0) × Goes (AtCost of router) text.entry (answer_cost_line r.0 ∷ []) (AtExit of router) r.1)
-        (StopsReader (AtCost of router) text.entry) }
+    ensures { (of : Option OtherText) (router : List ℕ) → MatchResult result
+        (λ r. (0 < r.0) × Goes (AtCost of router) text.entry (answer_cost_line r.0 ∷ [])
+        (AtExit of router) r.1) (StopsReader (AtCost of router) text.entry) }
 {
     match cost_next(text) {
         Some(found) => Ok(found),
@@ -240,8 +255,10 @@ fn cost_at(text: TextLeft<'_>) -> Result<(u16, TextLeft<'_>), Refusal<AnswerFaul
 
 /// The cost whose line is the next, and the text behind it.
 fn cost_next(text: TextLeft<'_>) -> Option<(u16, TextLeft<'_>)>
-    ensures { (of : Option OtherText) (router : List ℕ) → MatchOption result (LacksLawful (AtCost of router) text.entry.left.now)
-        (λ r. (0 < r.0) × Goes (AtCost of router) text.entry (answer_cost_line r.0 ∷ []) (AtExit of router) r.1) }
+    ensures { (of : Option OtherText) (router : List ℕ) → MatchOption result
+        (LacksLawful (AtCost of router) text.entry.left.now)
+        (λ r. (0 < r.0) × Goes (AtCost of router) text.entry (answer_cost_line r.0 ∷ [])
+        (AtExit of router) r.1) }
 {
     let (line, rest) = text.line()?;
     let cost = cost_of(line)?;
@@ -250,7 +267,9 @@ fn cost_next(text: TextLeft<'_>) -> Option<(u16, TextLeft<'_>)>
 
 /// The cost that a line says.
 fn cost_of(line: &[u8]) -> Option<u16>
-    ensures { MatchOption result ((cost : ℕ) → 0 < cost → IsCost cost → line.now ≢ answer_cost_line cost) (λ cost. (0 < cost) × (line.now ≡ answer_cost_line cost)) }
+    ensures { MatchOption result ((cost : ℕ) → 0 < cost → IsCost cost →
+        line.now ≢ answer_cost_line cost) (λ cost. (0 < cost) ×
+        (line.now ≡ answer_cost_line cost)) }
 {
     let cost = number_after(line, b" ip ospf cost ", 65_535)?;
     if cost == 0 { None } else { Some(cost as u16) }
@@ -258,8 +277,9 @@ fn cost_of(line: &[u8]) -> Option<u16>
 
 /// The text behind the line that closes an interface.
 fn exit_at(text: TextLeft<'_>) -> Result<TextLeft<'_>, Refusal<AnswerFault>>
-    ensures { (of : Option OtherText) (router : List ℕ) → MatchResult result (λ rest. Goes (AtExit of router) text.entry (codes "exit" ∷ []) (AtSections of (Some router)) rest)
-        (StopsReader (AtExit of router) text.entry) }
+    ensures { (of : Option OtherText) (router : List ℕ) → MatchResult result
+        (λ rest. Goes (AtExit of router) text.entry (codes "exit" ∷ [])
+        (AtSections of (Some router)) rest) (StopsReader (AtExit of router) text.entry) }
 {
     match text.behind(b"exit") {
         Some(rest) => Ok(rest),

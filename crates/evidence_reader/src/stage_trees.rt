@@ -38,7 +38,8 @@ pub(crate) fn read_tree(
     part: TreePart,
     text: TextLeft<'_>,
 ) -> Result<(Option<CapTree>, TextLeft<'_>), Refusal<AnswerFault>>
-    ensures { MatchResult result (λ r. FitsTree r.0 × Goes (before_part part) text.entry (tree_lines (part_word part) r.0) (AtTree part zero zero) r.1)
+    ensures { MatchResult result (λ r. FitsTree r.0 × Goes (before_part part) text.entry
+        (tree_lines (part_word part) r.0) (AtTree part zero zero) r.1)
         (StopsReader (before_part part) text.entry) }
 {
     let (head, rest) = part_head(part, text)?;
@@ -56,7 +57,8 @@ fn part_head(
     part: TreePart,
     text: TextLeft<'_>,
 ) -> Result<(PartHead, TextLeft<'_>), Refusal<AnswerFault>>
-    ensures { MatchResult result (λ r. Goes (before_part part) text.entry (part_head_line part r.0 ∷ []) (behind_part_head part r.0) r.1)
+    ensures { MatchResult result (λ r. Goes (before_part part) text.entry
+        (part_head_line part r.0 ∷ []) (behind_part_head part r.0) r.1)
         (StopsReader (before_part part) text.entry) }
 {
     match part_head_next(part, text) {
@@ -78,7 +80,8 @@ fn begins_part(part: TreePart, rest: &[u8]) -> bool
 /// What the line that a part begins with says, where it is the next.
 fn part_head_next(part: TreePart, text: TextLeft<'_>) -> Option<(PartHead, TextLeft<'_>)>
     ensures { MatchOption result (LacksLawful (before_part part) text.entry.left.now)
-        (λ r. Goes (before_part part) text.entry (part_head_line part r.0 ∷ []) (behind_part_head part r.0) r.1) }
+        (λ r. Goes (before_part part) text.entry (part_head_line part r.0 ∷ [])
+        (behind_part_head part r.0) r.1) }
 {
     let (line, rest) = text.line()?;
     let head = part_head_of(part, line)?;
@@ -88,7 +91,8 @@ fn part_head_next(part: TreePart, text: TextLeft<'_>) -> Option<(PartHead, TextL
 /// What a line that a part begins with says.
 fn part_head_of(part: TreePart, line: &[u8]) -> Option<PartHead>
     ensures { MatchOption result ((next : TextPlace) → IsPartNext part line.now next → ⊥)
-        (λ head. IsPartNext part line.now (behind_part_head part head) × (line.now ≡ part_head_line part head)) }
+        (λ head. IsPartNext part line.now (behind_part_head part head) ×
+        (line.now ≡ part_head_line part head)) }
 {
     if line == no_tree_line(part) {
         return Some(PartHead::NoTree);
@@ -103,9 +107,9 @@ fn tree_behind(
     count: u32,
     text: TextLeft<'_>,
 ) -> Result<(Tree, TextLeft<'_>), Refusal<AnswerFault>>
-    ensures { (part : TreePart) → MatchResult result
-        (λ r. (length r.0 ≡ count) × All FitsEntry r.0 × Goes (AtTree part 1 count) text.entry (map entry_line r.0) (AtTree part zero zero) r.1)
-        (StopsReader (AtTree part 1 count) text.entry) }
+    ensures { (part : TreePart) → MatchResult result (λ r. (length r.0 ≡ count) ×
+        All FitsEntry r.0 × Goes (AtTree part 1 count) text.entry (map entry_line r.0)
+        (AtTree part zero zero) r.1) (StopsReader (AtTree part 1 count) text.entry) }
 {
     let mut entries = Vec::new(alloc);
     let mut places = 1;
@@ -142,8 +146,9 @@ fn entry_at(
     text: TextLeft<'_>,
 ) -> Result<(Entry, TextLeft<'_>), Refusal<AnswerFault>>
     ensures { (part : TreePart) (left : ℕ) → MatchResult result
-        (λ r. (0 < places) × FitsEntry r.0 × Goes (AtTree part places (suc left)) text.entry (entry_line r.0 ∷ [])
-        (AtTree part (subtree_count r.0 + (places - 1)) left) r.1) (StopsReader (AtTree part places (suc left)) text.entry) }
+        (λ r. (0 < places) × FitsEntry r.0 × Goes (AtTree part places (suc left)) text.entry
+        (entry_line r.0 ∷ []) (AtTree part (subtree_count r.0 + (places - 1)) left) r.1)
+        (StopsReader (AtTree part places (suc left)) text.entry) }
 {
     if places == 0 {
         return Err(fault_at(text, false));
@@ -156,9 +161,10 @@ fn entry_in_place(
     alloc: Global,
     text: TextLeft<'_>,
 ) -> Result<(Entry, TextLeft<'_>), Refusal<AnswerFault>>
-    ensures { (part : TreePart) (places left : ℕ) →
-        MatchResult result (λ r. FitsEntry r.0 × Goes (AtTree part (suc places) (suc left)) text.entry (entry_line r.0 ∷ [])
-        (AtTree part (subtree_count r.0 + places) left) r.1) (StopsReader (AtTree part (suc places) (suc left)) text.entry) }
+    ensures { (part : TreePart) (places left : ℕ) → MatchResult result
+        (λ r. FitsEntry r.0 × Goes (AtTree part (suc places) (suc left)) text.entry
+        (entry_line r.0 ∷ []) (AtTree part (subtree_count r.0 + places) left) r.1)
+        (StopsReader (AtTree part (suc places) (suc left)) text.entry) }
 {
     let found = entry_next(alloc, text)?;
     match found {
@@ -174,8 +180,8 @@ fn entry_next(
 ) -> Result<Option<(Entry, TextLeft<'_>)>, OutOfMemory>
     ensures { IfOk result (λ found. (part : TreePart) (places left : ℕ) →
         MatchOption found (LacksLawful (AtTree part (suc places) (suc left)) text.entry.left.now)
-        (λ r. FitsEntry r.0 × Goes (AtTree part (suc places) (suc left)) text.entry (entry_line r.0 ∷ [])
-        (AtTree part (subtree_count r.0 + places) left) r.1)) }
+        (λ r. FitsEntry r.0 × Goes (AtTree part (suc places) (suc left)) text.entry
+        (entry_line r.0 ∷ []) (AtTree part (subtree_count r.0 + places) left) r.1)) }
 {
     let Some((line, rest)) = text.line() else {
         return Ok(None);

@@ -89,7 +89,8 @@ impl LineBuffer {
 
     /// Puts the line with its LF into the sink, in one piece.
     pub(crate) fn put<K: Sink>(&mut self, out: &mut K) -> Result<(), PutFailed>
-        ensures { IsPieceHanded (K.got out.old) (K.got out.new) (K.faults out.old) (K.faults out.new) (with_ends (self.old ∷ [])) result }
+        ensures { IsPieceHanded (K.got out.old) (K.got out.new) (K.faults out.old)
+            (K.faults out.new) (with_ends (self.old ∷ [])) result }
     {
         self.bytes[self.count] = b'\n';
         out.put(&self.bytes[..self.count + 1])

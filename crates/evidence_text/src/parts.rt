@@ -41,7 +41,8 @@ pub fn push_costs(
     costs: Option<&Costs>,
 ) -> Result<(), OutOfMemory>
     requires { AreShort (costs_lines (option_copied costs)) }
-    ensures { OnOk result (text.new.items ≡ text.old.items ++ with_ends (costs_lines (option_copied costs.entry))) }
+    ensures { OnOk result (text.new.items ≡ text.old.items ++ with_ends
+        (costs_lines (option_copied costs.entry))) }
 {
     let mut buffer = TextBuffer::from_bytes(replace(text, Vec::new(alloc)));
     match put_costs(costs, &mut buffer) {
@@ -64,7 +65,8 @@ pub fn push_cost_lines(
     lines: &[CostLine],
 ) -> Result<(), OutOfMemory>
     requires { AreShort (cost_lines None lines.now) }
-    ensures { OnOk result (text.new.items ≡ text.old.items ++ with_ends (cost_lines None lines.now)) }
+    ensures { OnOk result (text.new.items ≡ text.old.items ++ with_ends
+        (cost_lines None lines.now)) }
 {
     let mut buffer = TextBuffer::from_bytes(replace(text, Vec::new(alloc)));
     match put_cost_lines(lines, &mut buffer) {
@@ -107,7 +109,8 @@ pub fn push_tree(
     tree: Option<&CapTree>,
 ) -> Result<(), OutOfMemory>
     requires { AreShort (tree_lines (part_word part) (option_copied tree)) }
-    ensures { OnOk result (text.new.items ≡ text.old.items ++ with_ends (tree_lines (part_word part) (option_copied tree.entry))) }
+    ensures { OnOk result (text.new.items ≡ text.old.items ++ with_ends
+        (tree_lines (part_word part) (option_copied tree.entry))) }
 {
     let mut buffer = TextBuffer::from_bytes(replace(text, Vec::new(alloc)));
     match put_tree(part, tree, &mut buffer) {
@@ -131,8 +134,10 @@ pub fn push_capped_tree(
     cap: u16,
     tree: &Tree,
 ) -> Result<(), OutOfMemory>
-    requires { AreShort (tree_lines (part_word part) (Some (record { cap = cap; tree = tree.now }))) }
-    ensures { OnOk result (text.new.items ≡ text.old.items ++ with_ends (tree_lines (part_word part) (Some (record { cap = cap; tree = tree.now })))) }
+    requires { AreShort
+        (tree_lines (part_word part) (Some (record { cap = cap; tree = tree.now }))) }
+    ensures { OnOk result (text.new.items ≡ text.old.items ++ with_ends
+        (tree_lines (part_word part) (Some (record { cap = cap; tree = tree.now })))) }
 {
     let mut buffer = TextBuffer::from_bytes(replace(text, Vec::new(alloc)));
     let mut line = LineBuffer::new();
@@ -159,7 +164,8 @@ pub fn push_evidence(
 ) -> Result<(), OutOfMemory>
     requires rows { AreShort (rows_lines rows.now) }
     requires tree { AreShort (tree_lines (part_word part) (Some tree.now)) }
-    ensures { OnOk result (text.new.items ≡ text.old.items ++ with_ends (rows_lines rows.now ++ tree_lines (part_word part) (Some tree.now))) }
+    ensures { OnOk result (text.new.items ≡ text.old.items ++ with_ends
+        (rows_lines rows.now ++ tree_lines (part_word part) (Some tree.now))) }
 {
     push_rows(alloc, text, rows)?;
     push_tree(alloc, text, part, Some(tree))

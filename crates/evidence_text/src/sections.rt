@@ -48,8 +48,10 @@ pub fn put_answer<K: Sink>(answer: &Answer, out: &mut K) -> Result<(), PutFailed
 /// `PutFailed` where the sink refused a line: a prefix of these lines was put.
 pub fn put_costs<K: Sink>(costs: Option<&Costs>, out: &mut K) -> Result<(), PutFailed>
     requires { AreShort (costs_lines (option_copied costs)) }
-    ensures whole { OnOk result (GotAll (K.got out.old) (K.got out.new) (with_ends (costs_lines (option_copied costs.entry)))) }
-    ensures part { OnErr result (GotPart (K.got out.old) (K.got out.new) (with_ends (costs_lines (option_copied costs.entry)))) }
+    ensures whole { OnOk result (GotAll (K.got out.old) (K.got out.new)
+        (with_ends (costs_lines (option_copied costs.entry)))) }
+    ensures part { OnErr result (GotPart (K.got out.old) (K.got out.new)
+        (with_ends (costs_lines (option_copied costs.entry)))) }
     ensures cause { HasCause (K.faults out.old) (K.faults out.new) result }
 {
     let mut line = LineBuffer::new();
@@ -63,8 +65,10 @@ pub fn put_costs<K: Sink>(costs: Option<&Costs>, out: &mut K) -> Result<(), PutF
 /// `PutFailed` where the sink refused a line: a prefix of these lines was put.
 pub(crate) fn put_cost_lines<K: Sink>(costs: &[CostLine], out: &mut K) -> Result<(), PutFailed>
     requires { AreShort (cost_lines None costs.now) }
-    ensures whole { OnOk result (GotAll (K.got out.old) (K.got out.new) (with_ends (cost_lines None costs.now))) }
-    ensures part { OnErr result (GotPart (K.got out.old) (K.got out.new) (with_ends (cost_lines None costs.now))) }
+    ensures whole { OnOk result (GotAll (K.got out.old) (K.got out.new)
+        (with_ends (cost_lines None costs.now))) }
+    ensures part { OnErr result (GotPart (K.got out.old) (K.got out.new)
+        (with_ends (cost_lines None costs.now))) }
     ensures cause { HasCause (K.faults out.old) (K.faults out.new) result }
 {
     let mut line = LineBuffer::new();
@@ -78,8 +82,10 @@ pub(crate) fn put_cost_lines<K: Sink>(costs: &[CostLine], out: &mut K) -> Result
 /// `PutFailed` where the sink refused a line: a prefix of these lines was put.
 pub fn put_rows<K: Sink>(rows: &[Row], out: &mut K) -> Result<(), PutFailed>
     requires { AreShort (rows_lines rows.now) }
-    ensures whole { OnOk result (GotAll (K.got out.old) (K.got out.new) (with_ends (rows_lines rows.now))) }
-    ensures part { OnErr result (GotPart (K.got out.old) (K.got out.new) (with_ends (rows_lines rows.now))) }
+    ensures whole { OnOk result (GotAll (K.got out.old) (K.got out.new)
+        (with_ends (rows_lines rows.now))) }
+    ensures part { OnErr result (GotPart (K.got out.old) (K.got out.new)
+        (with_ends (rows_lines rows.now))) }
     ensures cause { HasCause (K.faults out.old) (K.faults out.new) result }
 {
     let mut line = LineBuffer::new();
@@ -97,8 +103,10 @@ pub fn put_tree<K: Sink>(
     out: &mut K,
 ) -> Result<(), PutFailed>
     requires { AreShort (tree_lines (part_word part) (option_copied tree)) }
-    ensures whole { OnOk result (GotAll (K.got out.old) (K.got out.new) (with_ends (tree_lines (part_word part) (option_copied tree.entry)))) }
-    ensures part { OnErr result (GotPart (K.got out.old) (K.got out.new) (with_ends (tree_lines (part_word part) (option_copied tree.entry)))) }
+    ensures whole { OnOk result (GotAll (K.got out.old) (K.got out.new)
+        (with_ends (tree_lines (part_word part) (option_copied tree.entry)))) }
+    ensures part { OnErr result (GotPart (K.got out.old) (K.got out.new)
+        (with_ends (tree_lines (part_word part) (option_copied tree.entry)))) }
     ensures cause { HasCause (K.faults out.old) (K.faults out.new) result }
 {
     let mut line = LineBuffer::new();
@@ -107,7 +115,8 @@ pub fn put_tree<K: Sink>(
 
 fn put_head<K: Sink>(verdict: Verdict, line: &mut LineBuffer, out: &mut K) -> Result<(), PutFailed>
     requires { AreShort (head_lines verdict) }
-    ensures { IsPieceHanded (K.got out.old) (K.got out.new) (K.faults out.old) (K.faults out.new) (with_ends (head_lines verdict)) result }
+    ensures { IsPieceHanded (K.got out.old) (K.got out.new) (K.faults out.old) (K.faults out.new)
+        (with_ends (head_lines verdict)) result }
 {
     line.start(b"ospfcost answer 1");
     line.put(out)?;
@@ -121,7 +130,8 @@ fn put_costs_part<K: Sink>(
     out: &mut K,
 ) -> Result<(), PutFailed>
     requires { AreShort (costs_lines (option_copied costs)) }
-    ensures { IsPieceHanded (K.got out.old) (K.got out.new) (K.faults out.old) (K.faults out.new) (with_ends (costs_lines (option_copied costs.entry))) result }
+    ensures { IsPieceHanded (K.got out.old) (K.got out.new) (K.faults out.old) (K.faults out.new)
+        (with_ends (costs_lines (option_copied costs.entry))) result }
 {
     match costs {
         None => {
@@ -138,7 +148,8 @@ fn put_some_costs<K: Sink>(
     out: &mut K,
 ) -> Result<(), PutFailed>
     requires { AreShort (costs_lines (Some costs.now)) }
-    ensures { IsPieceHanded (K.got out.old) (K.got out.new) (K.faults out.old) (K.faults out.new) (with_ends (costs_lines (Some costs.now))) result }
+    ensures { IsPieceHanded (K.got out.old) (K.got out.new) (K.faults out.old) (K.faults out.new)
+        (with_ends (costs_lines (Some costs.now))) result }
 {
     write_costs(costs.greatest, line);
     line.put(out)?;
@@ -151,7 +162,8 @@ fn put_lines_of_costs<K: Sink>(
     out: &mut K,
 ) -> Result<(), PutFailed>
     requires { AreShort (cost_lines None costs.now) }
-    ensures { IsPieceHanded (K.got out.old) (K.got out.new) (K.faults out.old) (K.faults out.new) (with_ends (cost_lines None costs.now)) result }
+    ensures { IsPieceHanded (K.got out.old) (K.got out.new) (K.faults out.old) (K.faults out.new)
+        (with_ends (cost_lines None costs.now)) result }
 {
     let mut before = None;
     for cost in costs {
@@ -168,9 +180,11 @@ fn put_cost_line<K: Sink>(
     line: &mut LineBuffer,
     out: &mut K,
 ) -> Result<(), PutFailed>
-    requires { AreShort (router_lines (option_copied before) cost.now.router ++ interface_lines cost.now) }
+    requires { AreShort (router_lines (option_copied before) cost.now.router ++
+        interface_lines cost.now) }
     ensures { IsPieceHanded (K.got out.old) (K.got out.new) (K.faults out.old) (K.faults out.new)
-        (with_ends (router_lines (option_copied before.entry) cost.now.router ++ interface_lines cost.now)) result }
+        (with_ends (router_lines (option_copied before.entry) cost.now.router ++
+        interface_lines cost.now)) result }
 {
     put_router(before, &cost.router, line, out)?;
     put_interface(cost, line, out)
@@ -203,7 +217,8 @@ fn put_interface<K: Sink>(
     out: &mut K,
 ) -> Result<(), PutFailed>
     requires { AreShort (interface_lines cost.now) }
-    ensures { IsPieceHanded (K.got out.old) (K.got out.new) (K.faults out.old) (K.faults out.new) (with_ends (interface_lines cost.now)) result }
+    ensures { IsPieceHanded (K.got out.old) (K.got out.new) (K.faults out.old) (K.faults out.new)
+        (with_ends (interface_lines cost.now)) result }
 {
     write_interface(&cost.interface, line);
     line.put(out)?;
@@ -215,7 +230,8 @@ fn put_interface<K: Sink>(
 
 fn put_floor<K: Sink>(floor: Floor, line: &mut LineBuffer, out: &mut K) -> Result<(), PutFailed>
     requires { AreShort (floor_line floor ∷ []) }
-    ensures { IsPieceHanded (K.got out.old) (K.got out.new) (K.faults out.old) (K.faults out.new) (with_ends (floor_line floor ∷ [])) result }
+    ensures { IsPieceHanded (K.got out.old) (K.got out.new) (K.faults out.old) (K.faults out.new)
+        (with_ends (floor_line floor ∷ [])) result }
 {
     write_floor(floor, line);
     line.put(out)
@@ -223,7 +239,8 @@ fn put_floor<K: Sink>(floor: Floor, line: &mut LineBuffer, out: &mut K) -> Resul
 
 fn put_rows_part<K: Sink>(rows: &[Row], line: &mut LineBuffer, out: &mut K) -> Result<(), PutFailed>
     requires { AreShort (rows_lines rows.now) }
-    ensures { IsPieceHanded (K.got out.old) (K.got out.new) (K.faults out.old) (K.faults out.new) (with_ends (rows_lines rows.now)) result }
+    ensures { IsPieceHanded (K.got out.old) (K.got out.new) (K.faults out.old) (K.faults out.new)
+        (with_ends (rows_lines rows.now)) result }
 {
     write_rows(rows.len(), line);
     line.put(out)?;
@@ -256,7 +273,8 @@ fn put_some_tree<K: Sink>(
     out: &mut K,
 ) -> Result<(), PutFailed>
     requires { AreShort (tree_lines (part_word part) (Some tree.now)) }
-    ensures { IsPieceHanded (K.got out.old) (K.got out.new) (K.faults out.old) (K.faults out.new) (with_ends (tree_lines (part_word part) (Some tree.now))) result }
+    ensures { IsPieceHanded (K.got out.old) (K.got out.new) (K.faults out.old) (K.faults out.new)
+        (with_ends (tree_lines (part_word part) (Some tree.now))) result }
 {
     put_capped_tree(part, tree.cap, &tree.tree, line, out)
 }
@@ -269,9 +287,11 @@ pub(crate) fn put_capped_tree<K: Sink>(
     line: &mut LineBuffer,
     out: &mut K,
 ) -> Result<(), PutFailed>
-    requires { AreShort (tree_lines (part_word part) (Some (record { cap = cap; tree = tree.now }))) }
+    requires { AreShort
+        (tree_lines (part_word part) (Some (record { cap = cap; tree = tree.now }))) }
     ensures { IsPieceHanded (K.got out.old) (K.got out.new) (K.faults out.old) (K.faults out.new)
-        (with_ends (tree_lines (part_word part) (Some (record { cap = cap; tree = tree.now })))) result }
+        (with_ends (tree_lines (part_word part) (Some (record { cap = cap; tree = tree.now }))))
+        result }
 {
     let entries = tree.as_slice();
     write_tree(part, cap, entries.len(), line);
@@ -286,7 +306,8 @@ fn put_each<T: Printed, K: Sink>(
     out: &mut K,
 ) -> Result<(), PutFailed>
     requires { AreShort (map T.printed items.now) }
-    ensures { IsPieceHanded (K.got out.old) (K.got out.new) (K.faults out.old) (K.faults out.new) (with_ends (map T.printed items.now)) result }
+    ensures { IsPieceHanded (K.got out.old) (K.got out.new) (K.faults out.old) (K.faults out.new)
+        (with_ends (map T.printed items.now)) result }
 {
     for item in items {
         item.write(line);
@@ -297,7 +318,8 @@ fn put_each<T: Printed, K: Sink>(
 
 fn put_end<K: Sink>(line: &mut LineBuffer, out: &mut K) -> Result<(), PutFailed>
     requires { AreShort end_lines }
-    ensures { IsPieceHanded (K.got out.old) (K.got out.new) (K.faults out.old) (K.faults out.new) (with_ends end_lines) result }
+    ensures { IsPieceHanded (K.got out.old) (K.got out.new) (K.faults out.old) (K.faults out.new)
+        (with_ends end_lines) result }
 {
     line.start(b"wide none");
     line.put(out)?;

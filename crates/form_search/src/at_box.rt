@@ -39,7 +39,8 @@ fn costs_there<S: RowSource>(
 ) -> Result<Option<CostList>, OutOfMemory>
     requires ranges { IsCostsBox (S.count source.old) costs.now }
     requires least { IsLeastOf (S.accepted source.old) costs.now point.old }
-    ensures found { IfOk result (λ found. IfSome found (λ w. IsInBox costs.now w × S.accepted source.old (at_costs w))) }
+    ensures found { IfOk result (λ found. IfSome found (λ w. IsInBox costs.now w ×
+        S.accepted source.old (at_costs w))) }
     ensures fractional { result ≡ Ok None → IsIntegralPoint point.old → ⊥ }
     ensures point { point.new ≡ point.old }
     ensures in_step { SameFor (S.in_step source.old) (S.in_step source.new) }
@@ -57,8 +58,10 @@ fn costs_there<S: RowSource>(
 /// The Split at one of the candidates.
 fn split_at(candidates: &[Candidate], place: usize) -> Entry
     requires { place < length candidates.now }
-    ensures choice { (choice : Candidate) × (slice_get candidates.now place ≡ Some choice) × (result ≡ Split choice.var choice.floor) }
-    ensures fractional { (costs : CostBox) (point : Point) → All (IsFractional costs point) candidates.now → IsSplitAt costs point result }
+    ensures choice { (choice : Candidate) × (slice_get candidates.now place ≡ Some choice) ×
+        (result ≡ Split choice.var choice.floor) }
+    ensures fractional { (costs : CostBox) (point : Point) → All (IsFractional costs point)
+        candidates.now → IsSplitAt costs point result }
 {
     let picked = candidates[place];
     Entry::Split {
@@ -79,7 +82,8 @@ fn split_there(
     requires inside { IsPointOf costs.now point.now }
     requires fractional { IsIntegralPoint point.now → ⊥ }
     ensures split { IfOk result (IsSplitAt costs.now point.now) }
-    ensures asked { AreAskedAt ⟦<dyn Advisor as Advisor>⟧ (λ b. b.vtable) (λ b. state b) costs.now point.now result advisors.old.items advisors.new.items }
+    ensures asked { AreAskedAt ⟦<dyn Advisor as Advisor>⟧ (λ b. b.vtable) (λ b. state b) costs.now
+        point.now result advisors.old.items advisors.new.items }
 {
     let candidates = candidates_of(alloc, point, costs, watch)?;
     let picked = choose(advisors, &candidates);
@@ -97,12 +101,14 @@ fn at_least_point<S: RowSource>(
     requires ranges { IsCostsBox (S.count source.old) costs.now }
     requires least { IsLeastOf (S.accepted source.old) costs.now desk.old.point }
     ensures next { IfOk result (λ next. (top : ℕ) (old new : List Form) (since : List (ℕ × Side)) →
-        IsNextStep (S.accepted source.old) top old new (record { box = costs.now; since = since }) next) }
+        IsNextStep (S.accepted source.old) top old new (record { box = costs.now; since = since })
+        next) }
     ensures desk { desk.new ≡ desk.old }
     ensures in_step { SameFor (S.in_step source.old) (S.in_step source.new) }
     ensures same { SameSource S.count S.accepted S.true_form S.candidates source.old source.new }
     ensures asked { AreAskedNext ⟦<dyn Advisor as Advisor>⟧ (λ b. b.vtable) (λ b. state b)
-        (IsLeastPoint (S.accepted source.old)) costs.now result advisors.old.items advisors.new.items }
+        (IsLeastPoint (S.accepted source.old)) costs.now result advisors.old.items
+        advisors.new.items }
 {
     match costs_there(alloc, source, costs, &mut desk.point)? {
         Some(found) => Ok(Next::Costs(found)),
@@ -124,11 +130,13 @@ fn at_box<S: RowSource>(
     requires more { costs.now.low ≢ costs.now.high }
     requires desk { IsDesk desk.old.top (S.count source.old) desk.old }
     ensures next { IfOk result (λ next. (since : List (ℕ × Side)) →
-        IsNextStep (S.accepted source.old) desk.old.top pool.old pool.new (record { box = costs.now; since = since }) next) }
+        IsNextStep (S.accepted source.old) desk.old.top pool.old pool.new
+        (record { box = costs.now; since = since }) next) }
     ensures desk { OnOk result (IsDesk desk.old.top (S.count source.old) desk.new) }
     ensures left { Leaves S.RowSource (OnOk result) source.old source.new pool.old pool.new }
     ensures asked { AreAskedNext ⟦<dyn Advisor as Advisor>⟧ (λ b. b.vtable) (λ b. state b)
-        (IsLeastPoint (S.accepted source.old)) costs.now result advisors.old.items advisors.new.items }
+        (IsLeastPoint (S.accepted source.old)) costs.now result advisors.old.items
+        advisors.new.items }
 {
     match relax(source, desk.top, pool, costs, &mut desk.point)? {
         Relaxed::Accepted => at_least_point(pool.allocator(), source, advisors, costs, desk),
@@ -150,11 +158,13 @@ pub(crate) fn next_at<S: RowSource>(
     requires open { 0 < length tree.now.places }
     requires ranges { IsCostsBox (S.count source.old) (first_place tree.now.places).box }
     requires desk { IsDesk desk.old.top (S.count source.old) desk.old }
-    ensures next { IfOk result (IsNextStep (S.accepted source.old) desk.old.top pool.old pool.new (first_place tree.now.places)) }
+    ensures next { IfOk result (IsNextStep (S.accepted source.old) desk.old.top pool.old pool.new
+        (first_place tree.now.places)) }
     ensures desk { OnOk result (IsDesk desk.old.top (S.count source.old) desk.new) }
     ensures left { Leaves S.RowSource (OnOk result) source.old source.new pool.old pool.new }
     ensures asked { AreAskedNext ⟦<dyn Advisor as Advisor>⟧ (λ b. b.vtable) (λ b. state b)
-        (IsLeastPoint (S.accepted source.old)) (first_place tree.now.places).box result advisors.old.items advisors.new.items }
+        (IsLeastPoint (S.accepted source.old)) (first_place tree.now.places).box result
+        advisors.old.items advisors.new.items }
 {
     if let Some(entry) = propagated(pool, tree, &mut desk.watch)? {
         return Ok(Next::Entry(entry));

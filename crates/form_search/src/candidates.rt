@@ -49,10 +49,12 @@ fn push_fractional(
     requires inside { IsPointOf costs.now point.now }
     requires known { var < length point.now.values }
     requires so_far { All (IsFractional costs.now point.now) candidates.old.items }
-    ensures pushed { OnOk result (candidates.new.items ≡ candidates.old.items ++ candidate_of costs.now point.now var) }
+    ensures pushed { OnOk result (candidates.new.items ≡ candidates.old.items ++
+        candidate_of costs.now point.now var) }
     ensures fractional { OnOk result (All (IsFractional costs.now point.now) candidates.new.items) }
     ensures more { OnOk result (length candidates.old.items ≤ length candidates.new.items) }
-    ensures some { OnOk result ((slice_index point.now.values var % point.now.scale ≡ 0 → ⊥) → 0 < length candidates.new.items) }
+    ensures some { OnOk result ((slice_index point.now.values var % point.now.scale ≡ 0 → ⊥) →
+        0 < length candidates.new.items) }
 {
     let scale = point.scale;
     let x = point.values.as_slice()[var];
@@ -92,7 +94,8 @@ pub(crate) fn candidates_of(
 ) -> Result<Vec<Candidate>, OutOfMemory>
     requires ranges { IsCostsBox (length costs.now.low) costs.now }
     requires inside { IsPointOf costs.now point.now }
-    ensures all { IfOk result (λ found. IsPermutation (candidates_at costs.now point.now) found.items) }
+    ensures all { IfOk result (λ found. IsPermutation (candidates_at costs.now point.now)
+        found.items) }
     ensures fractional { IfOk result (λ found. All (IsFractional costs.now point.now) found.items) }
     ensures some { (IsIntegralPoint point.now → ⊥) → IfOk result (λ found. 0 < length found.items) }
 {

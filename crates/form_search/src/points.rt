@@ -80,7 +80,8 @@ pub(crate) fn low_costs(alloc: Global, costs: &CostBox) -> Result<CostList, OutO
 /// Whether each value, not divided by the scale, is at most the upper bound.
 fn is_within(values: &[u128], high: &[u16]) -> bool
     requires { length values.now ≡ length high.now }
-    ensures { IsTrue result → (k : ℕ) → k < length high.now → slice_index values.now k ≤ slice_index high.now k }
+    ensures { IsTrue result → (k : ℕ) → k < length high.now → slice_index values.now k ≤
+        slice_index high.now k }
 {
     values
         .iter()

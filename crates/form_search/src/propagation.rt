@@ -47,7 +47,8 @@ fn entry_of(
     watch: &mut Watch,
 ) -> Result<Option<Entry>, OutOfMemory>
     requires open { 0 < length tree.now.places }
-    requires ranges { IsCostsBox (length (first_place tree.now.places).box.low) (first_place tree.now.places).box }
+    requires ranges { IsCostsBox (length (first_place tree.now.places).box.low)
+        (first_place tree.now.places).box }
     requires form { IsFormIn (length (first_place tree.now.places).box.low) form.now }
     ensures entry { (forms : List Form) → row < length forms → form_at forms row ≡ form.now →
         IfOk result (λ found. IfSome found (IsNextRow forms (first_place tree.now.places))) }
@@ -80,10 +81,12 @@ pub(crate) fn propagated(
     watch: &mut Watch,
 ) -> Result<Option<Entry>, OutOfMemory>
     requires open { 0 < length tree.now.places }
-    requires ranges { IsCostsBox (length (first_place tree.now.places).box.low) (first_place tree.now.places).box }
+    requires ranges { IsCostsBox (length (first_place tree.now.places).box.low)
+        (first_place tree.now.places).box }
     requires forms { AreFormsOf (length (first_place tree.now.places).box.low) pool.now }
     requires watch { IsWatch (length (first_place tree.now.places).box.low) watch.old }
-    ensures entry { IfOk result (λ found. IfSome found (IsNextRow pool.now (first_place tree.now.places))) }
+    ensures entry { IfOk result
+        (λ found. IfSome found (IsNextRow pool.now (first_place tree.now.places))) }
     ensures watch { IsWatch (length (first_place tree.now.places).box.low) watch.new }
 {
     let forms = pool.as_slice();

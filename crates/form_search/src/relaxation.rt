@@ -85,8 +85,8 @@ fn relax_by<S: RowSource>(
     requires some { 0 < S.count source.old }
     requires stands { StandsAt table.old.tableau.top costs.now pool.old table.old }
     requires places { length point.old.values ≡ S.count source.old }
-    ensures relaxed { IfOk result (IsRelaxedWith (S.accepted source.old) table.old.tableau.top costs.now
-        pool.new point.new table.new) }
+    ensures relaxed { IfOk result (IsRelaxedWith (S.accepted source.old) table.old.tableau.top
+        costs.now pool.new point.new table.new) }
     ensures places { length point.new.values ≡ length point.old.values }
     ensures left { Leaves S.RowSource (OnOk result) source.old source.new pool.old pool.new }
 {
@@ -110,7 +110,8 @@ pub(crate) fn relax<S: RowSource>(
     requires ranges { IsCostsBox (S.count source.old) costs.now }
     requires some { 0 < S.count source.old }
     requires places { length point.old.values ≡ S.count source.old }
-    ensures relaxed { IfOk result (IsRelaxation (S.accepted source.old) top costs.now pool.new point.new) }
+    ensures relaxed { IfOk result (IsRelaxation (S.accepted source.old) top costs.now pool.new
+        point.new) }
     ensures places { length point.new.values ≡ length point.old.values }
     ensures left { Leaves S.RowSource (OnOk result) source.old source.new pool.old pool.new }
 {

@@ -26,7 +26,10 @@ use wide_fraction::Limits;
 fn first_tree(alloc: Global, variables: u32, costs: &CostBox) -> Result<TreeBuilder, OutOfMemory>
     requires ranges { IsBox variables costs.now }
     requires lows { All (λ low. 1 ≤ low) costs.now.low }
-    ensures tree { IfOk result (λ tree. tree ≡ record { entries = []; places = fresh costs.now ∷ [] }) }
+    ensures tree { IfOk result (λ tree. tree ≡ record {
+      entries = [];
+      places = fresh costs.now ∷ [];
+    }) }
     ensures ranges { OnOk result (IsCostsBox variables costs.now) }
 {
     let low = costs.low.copy(alloc)?;
@@ -44,9 +47,9 @@ fn with_told(
     requires open { 0 < length tree.places }
     requires sound { (forms : List Form) × SoundAt forms (first_place tree.places).box entry }
     ensures tree { IfOk result (λ longer. longer ≡ grown tree entry) }
-    ensures told { AllZip
-        (λ b c. (c.vtable ≡ b.vtable) × (state c ≡ (⟦<dyn Advisor as Advisor>⟧ b.vtable).after (state b) entry))
-        advisors.old.items advisors.new.items }
+    ensures told { AllZip (λ b c. (c.vtable ≡ b.vtable) ×
+        (state c ≡ (⟦<dyn Advisor as Advisor>⟧ b.vtable).after (state b) entry)) advisors.old.items
+        advisors.new.items }
 {
     tell(advisors, &entry);
     tree.with(entry)
@@ -63,7 +66,8 @@ fn turn(
     requires sound { IsSoundNext (first_place tree.places).box next }
     requires whole { IsSingleTree (tree.entries ++ undones (length tree.places)) }
     ensures outcome { IfOk result (λ outcome. outcome ≡ turned nodes tree next) }
-    ensures told { AreToldNext ⟦<dyn Advisor as Advisor>⟧ (λ b. b.vtable) (λ b. state b) next result advisors.old.items advisors.new.items }
+    ensures told { AreToldNext ⟦<dyn Advisor as Advisor>⟧ (λ b. b.vtable) (λ b. state b) next result
+        advisors.old.items advisors.new.items }
 {
     match next {
         Next::Forms => Ok(ControlFlow::Continue(tree)),
@@ -98,10 +102,12 @@ pub fn search<S: RowSource>(
     requires in_step { AreInStep S.RowSource source.old pool.old }
     requires ranges { IsBox (S.count source.old) costs.now }
     requires lows { All (λ low. 1 ≤ low) costs.now.low }
-    ensures found { IfOk result (IsSearchResult (S.accepted source.old) limits.now.top limits.now.nodes pool.new costs.now) }
+    ensures found { IfOk result (IsSearchResult (S.accepted source.old) limits.now.top
+        limits.now.nodes pool.new costs.now) }
     ensures left { Leaves S.RowSource (OnOk result) source.old source.new pool.old pool.new }
     ensures advisors { AreAdvised ⟦<dyn Advisor as Advisor>⟧ (λ b. b.vtable) (λ b. state b)
-        (IsLeastPoint (S.accepted source.old)) costs.now result advisors.old.items advisors.new.items }
+        (IsLeastPoint (S.accepted source.old)) costs.now result advisors.old.items
+        advisors.new.items }
 {
     let alloc = pool.allocator();
     let mut tree = first_tree(alloc, source.variables(), costs)?;

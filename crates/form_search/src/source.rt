@@ -52,7 +52,8 @@ pub trait RowSource {
         requires in_step { in_step self.old pool.old }
         requires point { IsCostPoint (count self.old) point.now }
         requires met { AreMet pool.old point.now }
-        ensures answer { IfOk result (λ asked. IsSourceAnswer (accepted self.old) point.now pool.old pool.new asked) }
+        ensures answer { IfOk result (λ asked. IsSourceAnswer (accepted self.old) point.now pool.old
+            pool.new asked) }
         ensures grows { Grows (true_form self.old) pool.old pool.new }
         ensures in_step { OnOk result (in_step self.new pool.new) }
         ensures same { SameSource count accepted true_form candidates self.old self.new };

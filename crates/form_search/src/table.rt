@@ -60,7 +60,8 @@ pub(crate) fn moved(
     requires ranges { IsBox (length costs.now.low) costs.now }
     requires few { length costs.now.low < 2 ^ 32 }
     requires fits { (forms : List Form) × IsTableauKept forms kept × All (FitsBox costs.now) forms }
-    ensures { (forms : List Form) → IsTableauKept forms kept → IfOk result (StandsAt top costs.now forms) }
+    ensures { (forms : List Form) → IsTableauKept forms kept →
+        IfOk result (StandsAt top costs.now forms) }
 {
     if let Some(mut table) = kept {
         if table.is_for(costs.low.as_slice().len(), top) {
@@ -95,7 +96,8 @@ impl HeldTableau {
     fn add_rows(&mut self, alloc: Global, forms: &[Form]) -> Result<(), SimplexStop>
         requires stands { StandsAt self.old.tableau.top self.old.tableau.costs forms.now self.old }
         requires fits { All (FitsBox self.old.tableau.costs) forms.now }
-        ensures stands { OnOk result (StandsAt self.old.tableau.top self.old.tableau.costs forms.now self.new) }
+        ensures stands { OnOk result (StandsAt self.old.tableau.top self.old.tableau.costs forms.now
+            self.new) }
         ensures all { OnOk result (self.new.held ≡ length forms.now) }
         ensures held { IsHeldOver self.old.tableau.top self.old.tableau.costs forms.now self.new }
         ensures wide { IfErr result (IsStepTold self.old.tableau.costs forms.now self.new.tableau) }
@@ -117,8 +119,10 @@ impl HeldTableau {
         requires stands { StandsAt self.old.tableau.top self.old.tableau.costs forms.now self.old }
         requires fits { All (FitsBox self.old.tableau.costs) forms.now }
         requires places { length point.old.values ≡ length self.old.tableau.costs.low }
-        ensures told { IfOk result (IsLeastTold self.old.tableau.top self.old.tableau.costs forms.now point.new) }
-        ensures stands { OnOk result (StandsAt self.old.tableau.top self.old.tableau.costs forms.now self.new) }
+        ensures told { IfOk result (IsLeastTold self.old.tableau.top self.old.tableau.costs
+            forms.now point.new) }
+        ensures stands { OnOk result (StandsAt self.old.tableau.top self.old.tableau.costs forms.now
+            self.new) }
         ensures held { IsHeldOver self.old.tableau.top self.old.tableau.costs forms.now self.new }
         ensures places { length point.new.values ≡ length point.old.values }
         ensures wide { IfErr result (IsStepTold self.old.tableau.costs forms.now self.new.tableau) }
@@ -139,9 +143,11 @@ impl HeldTableau {
 
     /// The step that was too wide, with the basis at which it was taken.
     fn wide_at(&self, alloc: Global, wide: Wide) -> Result<WideAt, OutOfMemory>
-        requires wide { IsStepTooWide self.now.tableau.top self.now.tableau.costs self.now.tableau.rows (wide_at wide self.now.tableau.basis) }
+        requires wide { IsStepTooWide self.now.tableau.top self.now.tableau.costs
+            self.now.tableau.rows (wide_at wide self.now.tableau.basis) }
         requires some { 0 < length self.now.tableau.costs.low }
-        ensures { IfOk result (IsPrintedWide self.now.tableau.top self.now.tableau.costs self.now.tableau.rows) }
+        ensures { IfOk result (IsPrintedWide self.now.tableau.top self.now.tableau.costs
+            self.now.tableau.rows) }
     {
         let basis = self.tableau.basis(alloc)?;
         Ok(WideAt {
@@ -163,8 +169,10 @@ impl HeldTableau {
         requires fits { All (FitsBox self.old.tableau.costs) forms.now }
         requires some { 0 < length self.old.tableau.costs.low }
         requires places { length point.old.values ≡ length self.old.tableau.costs.low }
-        ensures told { IfOk result (IsLeastTold self.old.tableau.top self.old.tableau.costs forms.now point.new) }
-        ensures stands { result ≡ Ok Least.Point → StandsAt self.old.tableau.top self.old.tableau.costs forms.now self.new }
+        ensures told { IfOk result (IsLeastTold self.old.tableau.top self.old.tableau.costs
+            forms.now point.new) }
+        ensures stands { result ≡ Ok Least.Point → StandsAt self.old.tableau.top
+            self.old.tableau.costs forms.now self.new }
         ensures held { IsHeldOver self.old.tableau.top self.old.tableau.costs forms.now self.new }
         ensures places { length point.new.values ≡ length point.old.values }
     {

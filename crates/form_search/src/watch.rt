@@ -220,7 +220,8 @@ impl Watch {
     /// the last cut. Each entry of the tree is looked at once.
     pub(crate) fn look(&mut self, tree: &TreeBuilder) -> Result<(), OutOfMemory>
         requires open { 0 < length tree.now.places }
-        requires high { length (first_place tree.now.places).box.high ≡ length (first_place tree.now.places).box.low }
+        requires high { length (first_place tree.now.places).box.high ≡
+            length (first_place tree.now.places).box.low }
         requires watch { IsWatch (length (first_place tree.now.places).box.low) self.old }
         ensures { IsWatch (length (first_place tree.now.places).box.low) self.new }
     {
@@ -246,7 +247,8 @@ impl Watch {
     /// The first form that may say something: it is looked at, and leaves them.
     pub(crate) fn next(&mut self) -> Option<usize>
         ensures watch { (n : ℕ) → IsWatch n self.old → IsWatch n self.new }
-        ensures fewer { IfSome result (λ row. heap_len self.new.waiting < heap_len self.old.waiting) }
+        ensures fewer { IfSome result (λ row. heap_len self.new.waiting <
+            heap_len self.old.waiting) }
     {
         match self.waiting.pop() {
             Some(Reverse(row)) => {

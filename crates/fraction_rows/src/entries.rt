@@ -108,7 +108,8 @@ fn bounded_difference(left: i128, right: i128, most: u128) -> Option<i128>
 /// A word less the product of two, where both this and the product are within `top`.
 #[inline]
 fn word_crossed(old: i64, factor: i64, quotient: i64, top: Top) -> Option<Frac>
-    ensures { IfSome result (λ q. (q ≡ minus (whole old) (times (whole factor) (whole quotient))) × IsTableNumber top q) }
+    ensures { IfSome result (λ q. (q ≡ minus (whole old) (times (whole factor) (whole quotient))) ×
+        IsTableNumber top q) }
 {
     let _ = top.value();
     match bounded_product(factor, quotient, top.size()) {
@@ -164,9 +165,11 @@ pub fn cross_entries(
     requires factor { IsTableNumber extent.top factor }
     requires empty { made.old.items ≡ [] }
     requires room { extent.width ≤ vec_capacity made.old }
-    ensures made { OnOk result (IsMade extent.width (crossed_at factor) olds.now quotients.now made.new.items) }
+    ensures made { OnOk result (IsMade extent.width (crossed_at factor) olds.now quotients.now
+        made.new.items) }
     ensures entries { HasRowEntries extent.width extent.top made.new }
-    ensures wide { IfErr result (IsCrossingTooWide extent.width extent.top factor olds.now quotients.now) }
+    ensures wide { IfErr result (IsCrossingTooWide extent.width extent.top factor olds.now
+        quotients.now) }
 {
     let width = extent.width;
     let top = extent.top;
@@ -226,7 +229,8 @@ pub fn divide_entries(
     requires not_zero { divisor.numerator ≢ pos 0 }
     requires empty { made.old.items ≡ [] }
     requires room { extent.width ≤ vec_capacity made.old }
-    ensures made { OnOk result (IsMade extent.width (divided_at left_out divisor) olds.now [] made.new.items) }
+    ensures made { OnOk result (IsMade extent.width (divided_at left_out divisor) olds.now []
+        made.new.items) }
     ensures entries { HasRowEntries extent.width extent.top made.new }
     ensures wide { IfErr result (IsDivisionTooWide extent.width extent.top divisor olds.now) }
 {

@@ -126,7 +126,8 @@ impl TableRow {
     /// Puts the entry of a column from which on all entries are 0.
     pub fn push(&mut self, column: u32, value: Frac)
         requires within { suc column < length self.old }
-        requires last { (later : ℕ) → column ≤ later → suc later < length self.old → entry self.old (suc later) ≡ nothing }
+        requires last { (later : ℕ) → column ≤ later → suc later < length self.old →
+            entry self.old (suc later) ≡ nothing }
         requires number { IsLowest value }
         ensures { self.new ≡ slice_set self.old (suc column) value }
     {
@@ -165,7 +166,9 @@ impl TableRow {
         ensures crossed { OnOk result (into.new ≡ crossed_by factor self.now quotients.now) }
         ensures numbers { OnOk result (AreTableNumbers top into.new) }
         ensures width { length into.new ≡ length into.old }
-        ensures wide { IfErr result (λ wide. IsWideStep top (IsCrossStep factor self.now quotients.now) wide.step wide.left wide.right) }
+        ensures wide { IfErr result
+            (λ wide. IsWideStep top (IsCrossStep factor self.now quotients.now) wide.step wide.left
+            wide.right) }
     {
         into.entries.clear();
         into.constant = crossed(self.constant, factor, quotients.constant, top)?;
@@ -200,10 +203,12 @@ impl TableRow {
         requires numbers { AreTableNumbers top self.now }
         requires divisor { IsTableNumber top divisor }
         requires not_zero { divisor.numerator ≢ pos 0 }
-        ensures divided { OnOk result (into.new ≡ divided_without (suc left_out) divisor self.now 0) }
+        ensures divided { OnOk result (into.new ≡ divided_without (suc left_out) divisor self.now
+            0) }
         ensures numbers { OnOk result (AreTableNumbers top into.new) }
         ensures width { length into.new ≡ length into.old }
-        ensures wide { IfErr result (λ wide. IsWideStep top (IsDivideStep divisor self.now) wide.step wide.left wide.right) }
+        ensures wide { IfErr result (λ wide. IsWideStep top (IsDivideStep divisor self.now)
+            wide.step wide.left wide.right) }
     {
         into.entries.clear();
         into.constant = div(self.constant, divisor, top)?;

@@ -25,7 +25,8 @@ fn add_term(
     requires line { AreTableNumbers top line.now }
     requires place { place < length line.now }
     requires small { nat_abs coefficient ≤ 2 ^ 26 }
-    ensures exact { IfOk result (λ q. q ≡ plus sum (times (whole coefficient) (entry line.now place))) }
+    ensures exact { IfOk result
+        (λ q. q ≡ plus sum (times (whole coefficient) (entry line.now place))) }
     ensures number { IfOk result (λ q. IsTableNumber top q) }
     ensures step { IfErr result (λ wide. IsTermSum sum coefficient (entry line.now place) wide) }
     ensures passes { IfErr result (λ wide. IsPassing top wide) }
@@ -56,9 +57,11 @@ pub fn sum_at(
     requires small { All (λ c. nat_abs c ≤ 2 ^ 26) form.now.coefficients }
     requires lines { (count : ℕ) × (place < count) × AreTableRows top count lines.now }
     requires many { length form.now.coefficients ≤ length lines.now }
-    ensures exact { IfOk result (λ q. q ≡ sum_of_terms start form.now.coefficients lines.now place) }
+    ensures exact { IfOk result (λ q. q ≡ sum_of_terms start form.now.coefficients lines.now
+        place) }
     ensures number { IfOk result (λ q. IsTableNumber top q) }
-    ensures step { IfErr result (λ wide. IsSumStep start form.now.coefficients lines.now place wide) }
+    ensures step { IfErr result (λ wide. IsSumStep start form.now.coefficients lines.now place
+        wide) }
     ensures passes { IfErr result (λ wide. IsPassing top wide) }
 {
     let terms = form.terms();
@@ -112,11 +115,13 @@ pub fn sum_lines(
     top: Top,
 ) -> Result<(), Wide>
     requires small { All (λ c. nat_abs c ≤ 2 ^ 26) form.now.coefficients }
-    requires lines { AreVariableLines top (length row.old) (length form.now.coefficients) lines.now }
+    requires lines { AreVariableLines top (length row.old) (length form.now.coefficients)
+        lines.now }
     requires scratch { length scratch.old ≡ length row.old }
     requires numbers { AreTableNumbers top row.old }
     ensures sums { OnOk result ((place : ℕ) → place < length row.old →
-        entry row.new place ≡ sum_of_terms (entry row.old place) form.now.coefficients lines.now place) }
+        entry row.new place ≡ sum_of_terms (entry row.old place) form.now.coefficients lines.now
+        place) }
     ensures numbers { OnOk result (AreTableNumbers top row.new) }
     ensures width { length row.new ≡ length row.old }
     ensures scratch_width { length scratch.new ≡ length scratch.old }

@@ -31,14 +31,18 @@ pub fn turn_row(
     scratch: &mut TableRow,
     top: Top,
 ) -> Result<(), Wide>
-    requires pivot { TurnsRows top (length row.old) (suc pivot.now.column) quotients.now pivot.now.inverse }
+    requires pivot { TurnsRows top (length row.old) (suc pivot.now.column) quotients.now
+        pivot.now.inverse }
     requires scratch { length scratch.old ≡ length row.old }
     requires numbers { AreTableNumbers top row.old }
-    ensures turned { OnOk result (row.new ≡ turned_by row.old quotients.now (suc pivot.now.column) pivot.now.inverse) }
+    ensures turned { OnOk result (row.new ≡ turned_by row.old quotients.now (suc pivot.now.column)
+        pivot.now.inverse) }
     ensures numbers { OnOk result (AreTableNumbers top row.new) }
     ensures width { length row.new ≡ length row.old }
     ensures scratch_width { length scratch.new ≡ length scratch.old }
-    ensures wide { IfErr result (λ wide. IsWideStep top (IsTurnStep row.old quotients.now (suc pivot.now.column) pivot.now.inverse) wide.step wide.left wide.right) }
+    ensures wide { IfErr result
+        (λ wide. IsWideStep top (IsTurnStep row.old quotients.now (suc pivot.now.column)
+        pivot.now.inverse) wide.step wide.left wide.right) }
 {
     if row.lacks(pivot.column) {
         return Ok(());
@@ -72,7 +76,8 @@ pub fn take_quotients(
     requires not_zero { (entry row.now (suc column)).numerator ≢ pos 0 }
     ensures divided { IfOk result (IsPivotDivided top (suc column) row.now quotients.new) }
     ensures width { length quotients.new ≡ length quotients.old }
-    ensures wide { IfErr result (λ wide. IsWideStep top (IsQuotientStepOf row.now (suc column)) wide.step wide.left wide.right) }
+    ensures wide { IfErr result (λ wide. IsWideStep top (IsQuotientStepOf row.now (suc column))
+        wide.step wide.left wide.right) }
 {
     let divisor = row.entry(column);
     row.divide(divisor, column, quotients, top)?;
@@ -91,13 +96,17 @@ pub fn turn_rows(
     scratch: &mut TableRow,
     top: Top,
 ) -> Result<(), Wide>
-    requires pivot { TurnsRows top (length quotients.now) (suc pivot.now.column) quotients.now pivot.now.inverse }
+    requires pivot { TurnsRows top (length quotients.now) (suc pivot.now.column) quotients.now
+        pivot.now.inverse }
     requires rows { AreTableRows top (length quotients.now) rows.old }
     requires scratch { length scratch.old ≡ length quotients.now }
-    ensures turned { OnOk result (rows.new ≡ map (λ fs. turned_by fs quotients.now (suc pivot.now.column) pivot.now.inverse) rows.old) }
+    ensures turned { OnOk result
+        (rows.new ≡ map (λ fs. turned_by fs quotients.now (suc pivot.now.column) pivot.now.inverse)
+        rows.old) }
     ensures numbers { OnOk result (AreTableRows top (length quotients.now) rows.new) }
     ensures scratch_width { length scratch.new ≡ length scratch.old }
-    ensures wide { IfErr result (λ wide. TurnsWide top rows.old quotients.now (suc pivot.now.column) pivot.now.inverse wide.step wide.left wide.right) }
+    ensures wide { IfErr result (λ wide. TurnsWide top rows.old quotients.now (suc pivot.now.column)
+        pivot.now.inverse wide.step wide.left wide.right) }
 {
     for row in rows.iter_mut() {
         turn_row(row, pivot, quotients, scratch, top)?;

@@ -136,7 +136,8 @@ fn gather_line(
     top: Top,
 ) -> Result<(), Wide>
     requires row { IsBlankRow costs.now row.old.form row.old.line }
-    requires lines { AreVariableLines top (suc (length costs.now.low)) (length costs.now.low) lines.now }
+    requires lines { AreVariableLines top (suc (length costs.now.low)) (length costs.now.low)
+        lines.now }
     requires scratch { length scratch.old ≡ suc (length costs.now.low) }
     ensures form { row.new.form ≡ row.old.form }
     ensures line { OnOk result (IsAddedLine top costs.now row.old.form lines.now row.new.line) }
@@ -162,7 +163,8 @@ fn fill_line(
 ) -> Result<(), Wide>
     requires row { IsBlankRow costs.now row.old.form row.old.line }
     requires few { length costs.now.low < 2 ^ 32 }
-    requires lines { AreVariableLines top (suc (length costs.now.low)) (length costs.now.low) lines.now }
+    requires lines { AreVariableLines top (suc (length costs.now.low)) (length costs.now.low)
+        lines.now }
     requires scratch { length scratch.old ≡ suc (length costs.now.low) }
     ensures form { row.new.form ≡ row.old.form }
     ensures line { OnOk result (IsAddedLine top costs.now row.old.form lines.now row.new.line) }
@@ -211,7 +213,8 @@ impl Table {
         requires blank { row.line ≡ blank_row (length self.old.costs.low) }
         ensures holds { HoldsRow self.old row.form self.new }
         ensures whole { OnOk result (IsTableau self.new) }
-        ensures wide { IfErr result (λ wide. IsStepTooWide self.new.top self.new.costs self.new.rows.items (wide_at wide self.new.basis.items)) }
+        ensures wide { IfErr result (λ wide. IsStepTooWide self.new.top self.new.costs
+            self.new.rows.items (wide_at wide self.new.basis.items)) }
     {
         let mut row = row;
         let lines = self.lines.as_slice();

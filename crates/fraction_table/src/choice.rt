@@ -22,9 +22,14 @@ fn entry_quotient(line: &TableRow, column: u32, other: u32, top: Top) -> Result<
     requires other { suc other < length line.now }
     requires numbers { AreTableNumbers top line.now }
     requires not_zero { (entry line.now (suc column)).numerator ≢ pos 0 }
-    ensures exact { IfOk result (λ q. q ≡ divided (entry line.now (suc other)) (entry line.now (suc column))) }
+    ensures exact { IfOk result (λ q. q ≡ divided (entry line.now (suc other))
+        (entry line.now (suc column))) }
     ensures within { IfOk result (λ q. IsWithin top q) }
-    ensures named { IfErr result (λ wide. wide ≡ record { step = Div; left = entry line.now (suc other); right = entry line.now (suc column) }) }
+    ensures named { IfErr result (λ wide. wide ≡ record {
+      step = Div;
+      left = entry line.now (suc other);
+      right = entry line.now (suc column);
+    }) }
     ensures passes { IfErr result (λ wide. IsPassing top wide) }
 {
     div(line.entry(other), line.entry(column), top)
@@ -45,7 +50,11 @@ fn entry_order(
     requires quotient { IsWithin top quotient }
     requires lowest { IsLowest quotient }
     ensures order { IfOk result (λ found. found ≡ entries_order line.now column other quotient) }
-    ensures named { IfErr result (λ wide. wide ≡ record { step = Mul; left = entry line.now (suc column); right = quotient }) }
+    ensures named { IfErr result (λ wide. wide ≡ record {
+      step = Mul;
+      left = entry line.now (suc column);
+      right = quotient;
+    }) }
     ensures passes { IfErr result (λ wide. IsPassing top wide) }
 {
     if line.lacks(column) {
@@ -75,7 +84,8 @@ impl Table {
         requires column { IsPivot self.now.basis.items (line_at self.now line) (suc column) }
         requires other { IsPivot self.now.basis.items (line_at self.now line) (suc other) }
         ensures order { IfOk result (λ before. IsOrdered before self.now line column other) }
-        ensures wide { IfErr result (λ wide. IsStepTooWide self.now.top self.now.costs self.now.rows.items (wide_at wide self.now.basis.items)) }
+        ensures wide { IfErr result (λ wide. IsStepTooWide self.now.top self.now.costs
+            self.now.rows.items (wide_at wide self.now.basis.items)) }
     {
         let quotient = entry_quotient(&self.lines[line], column, other, self.top)?;
         for place in 0..self.costs.low.as_slice().len() {
@@ -95,8 +105,10 @@ impl Table {
         requires line { line < length self.now.lines.items }
         requires column { IsPivot self.now.basis.items (line_at self.now line) (suc column) }
         requires best { IsBestBelow self.now line column best }
-        ensures best { IfOk result (λ better. IsBestBelow self.now line (column + 1) (Some better)) }
-        ensures wide { IfErr result (λ wide. IsStepTooWide self.now.top self.now.costs self.now.rows.items (wide_at wide self.now.basis.items)) }
+        ensures best { IfOk result (λ better. IsBestBelow self.now line (column + 1)
+            (Some better)) }
+        ensures wide { IfErr result (λ wide. IsStepTooWide self.now.top self.now.costs
+            self.now.rows.items (wide_at wide self.now.basis.items)) }
     {
         match best {
             None => Ok(column),
@@ -115,7 +127,8 @@ impl Table {
         requires column { column < length self.now.costs.low }
         requires best { IsBestBelow self.now line column best }
         ensures best { IfOk result (λ found. IsBestBelow self.now line (column + 1) found) }
-        ensures wide { IfErr result (λ wide. IsStepTooWide self.now.top self.now.costs self.now.rows.items (wide_at wide self.now.basis.items)) }
+        ensures wide { IfErr result (λ wide. IsStepTooWide self.now.top self.now.costs
+            self.now.rows.items (wide_at wide self.now.basis.items)) }
     {
         let entry = self.lines[line].entry(column);
         if entry.is_positive() {
@@ -137,8 +150,10 @@ impl Table {
         requires room { HasRoom self.now }
         requires line { line < length self.now.lines.items }
         requires below { (entry (line_at self.now line) 0).numerator <ℤ pos 0 }
-        ensures best { IfOk result (λ best. IsBestBelow self.now line (length self.now.costs.low) best) }
-        ensures wide { IfErr result (λ wide. IsStepTooWide self.now.top self.now.costs self.now.rows.items (wide_at wide self.now.basis.items)) }
+        ensures best { IfOk result (λ best. IsBestBelow self.now line (length self.now.costs.low)
+            best) }
+        ensures wide { IfErr result (λ wide. IsStepTooWide self.now.top self.now.costs
+            self.now.rows.items (wide_at wide self.now.basis.items)) }
     {
         let width = self.costs.low.as_slice().len() as u32;
         let mut best = None;

@@ -26,7 +26,11 @@ fn tested(multiple: i128, top: Top) -> Result<u128, Wide>
     requires within { nat_abs multiple ≤ top }
     ensures same { IfOk result (λ same. multiple ≡ pos same) }
     ensures small { IfOk result (λ same. same < 2 ^ 100) }
-    ensures named { IfErr result (λ wide. wide ≡ record { step = Scale; left = whole multiple; right = two_to_27 }) }
+    ensures named { IfErr result (λ wide. wide ≡ record {
+      step = Scale;
+      left = whole multiple;
+      right = two_to_27;
+    }) }
     ensures passes { IfErr result (λ wide. IsPassing top wide) }
 {
     scale(multiple, top)?;
@@ -51,9 +55,11 @@ impl Table {
     /// `Wide` where a multiple on the way passes `top`.
     fn common_denominator(&self) -> Result<i128, Wide>
         requires whole { IsTableau self.now }
-        ensures multiple { IfOk result (λ multiple. multiple ≡ pos (lcm_of (denominators_of self.now))) }
+        ensures multiple { IfOk result
+            (λ multiple. multiple ≡ pos (lcm_of (denominators_of self.now))) }
         ensures within { IfOk result (λ multiple. nat_abs multiple ≤ self.now.top) }
-        ensures wide { IfErr result (λ wide. IsStepTooWide self.now.top self.now.costs self.now.rows.items (wide_at wide self.now.basis.items)) }
+        ensures wide { IfErr result (λ wide. IsStepTooWide self.now.top self.now.costs
+            self.now.rows.items (wide_at wide self.now.basis.items)) }
     {
         let _ = self.top.value();
         let mut multiple: i128 = 1;
@@ -73,7 +79,8 @@ impl Table {
         requires whole { IsTableau self.now }
         ensures common { IfOk result (λ scale. scale ≡ lcm_of (denominators_of self.now)) }
         ensures small { IfOk result (λ scale. scale < 2 ^ 100) }
-        ensures wide { IfErr result (λ wide. IsStepTooWide self.now.top self.now.costs self.now.rows.items (wide_at wide self.now.basis.items)) }
+        ensures wide { IfErr result (λ wide. IsStepTooWide self.now.top self.now.costs
+            self.now.rows.items (wide_at wide self.now.basis.items)) }
     {
         let multiple = self.common_denominator()?;
         tested(multiple, self.top)
@@ -87,7 +94,8 @@ impl Table {
         requires small { scale < 2 ^ 100 }
         requires places { length into.old ≡ length self.now.costs.low }
         ensures places { length into.new ≡ length self.now.costs.low }
-        ensures values { (var : ℕ) → var < length self.now.costs.low → slice_index into.new var ≡ corner_entry self.now scale var }
+        ensures values { (var : ℕ) → var < length self.now.costs.low →
+            slice_index into.new var ≡ corner_entry self.now scale var }
     {
         let low = self.costs.low.as_slice();
         let high = self.costs.high.as_slice();
@@ -109,10 +117,12 @@ impl Table {
         requires whole { IsTableau self.now }
         requires high { AreHigh self.now }
         requires places { length into.old.values ≡ length self.now.costs.low }
-        ensures least { OnOk result (IsLeastPoint (AreMet self.now.rows.items) self.now.costs into.new) }
+        ensures least { OnOk result (IsLeastPoint (AreMet self.now.rows.items) self.now.costs
+            into.new) }
         ensures small { OnOk result (into.new.scale < 2 ^ 100) }
         ensures kept { OnErr result (into.new ≡ into.old) }
-        ensures wide { IfErr result (λ wide. IsStepTooWide self.now.top self.now.costs self.now.rows.items (wide_at wide self.now.basis.items)) }
+        ensures wide { IfErr result (λ wide. IsStepTooWide self.now.top self.now.costs
+            self.now.rows.items (wide_at wide self.now.basis.items)) }
     {
         let scale = self.corner_scale()?;
         self.put_corner_values(scale, &mut into.values);

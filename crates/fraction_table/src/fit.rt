@@ -8,7 +8,8 @@ use design_problem::{CostBox, Form};
 
 /// Whether the ranges are a box of fewer than 2^32 variables: as many ends as starts, and none of them empty.
 pub fn is_box(costs: &CostBox) -> bool
-    ensures { IsTrue result ↔ (IsBox (length costs.now.low) costs.now × (length costs.now.low < 2 ^ 32)) }
+    ensures { IsTrue result ↔ (IsBox (length costs.now.low) costs.now ×
+        (length costs.now.low < 2 ^ 32)) }
 {
     let low = costs.low.as_slice();
     let high = costs.high.as_slice();

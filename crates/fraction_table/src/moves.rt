@@ -32,7 +32,8 @@ fn raise_constant(line: &mut TableRow, column: u32, fall: Frac, top: Top) -> Res
     ensures raised { OnOk result (line.new ≡ raised_line column fall line.old) }
     ensures numbers { AreTableNumbers top line.new }
     ensures width { length line.new ≡ length line.old }
-    ensures wide { IfErr result (λ wide. IsWideStep top (IsRaiseStep line.old column fall) wide.step wide.left wide.right) }
+    ensures wide { IfErr result (λ wide. IsWideStep top (IsRaiseStep line.old column fall) wide.step
+        wide.left wide.right) }
 {
     let entry = line.entry(column);
     if entry.is_zero() {
@@ -53,7 +54,8 @@ fn raise_constants(lines: &mut [TableRow], column: u32, fall: Frac, top: Top) ->
     requires lines { (count : ℕ) × (suc column < count) × AreTableRows top count lines.old }
     requires fall { IsTableNumber top fall }
     ensures raised { OnOk result (lines.new ≡ map (raised_line column fall) lines.old) }
-    ensures numbers { (count : ℕ) → AreTableRows top count lines.old → AreTableRows top count lines.new }
+    ensures numbers { (count : ℕ) → AreTableRows top count lines.old →
+        AreTableRows top count lines.new }
     ensures count { length lines.new ≡ length lines.old }
     ensures wide { IfErr result (λ wide. RaisesWide top lines.old column fall wide) }
 {
@@ -72,10 +74,15 @@ fn lower_constant(line: &mut TableRow, fall: Frac, top: Top) -> Result<(), Wide>
     requires some { 0 < length line.old }
     requires numbers { AreTableNumbers top line.old }
     requires fall { IsTableNumber top fall }
-    ensures lowered { OnOk result (line.new ≡ slice_set line.old 0 (minus (entry line.old 0) fall)) }
+    ensures lowered { OnOk result (line.new ≡ slice_set line.old 0
+        (minus (entry line.old 0) fall)) }
     ensures numbers { AreTableNumbers top line.new }
     ensures width { length line.new ≡ length line.old }
-    ensures named { IfErr result (λ wide. wide ≡ record { step = Sub; left = entry line.old 0; right = fall }) }
+    ensures named { IfErr result (λ wide. wide ≡ record {
+      step = Sub;
+      left = entry line.old 0;
+      right = fall;
+    }) }
     ensures passes { IfErr result (λ wide. IsPassing top wide) }
 {
     let constant = sub(line.constant(), fall, top)?;
@@ -97,10 +104,12 @@ fn shift_lines(
     top: Top,
 ) -> Result<(), Wide>
     requires own { own < length lines.old }
-    requires lines { (count : ℕ) × (0 < count) × IfSome column (λ k. suc k < count) × AreTableRows top count lines.old }
+    requires lines { (count : ℕ) × (0 < count) × IfSome column (λ k. suc k < count) ×
+        AreTableRows top count lines.old }
     requires fall { IsTableNumber top fall }
     ensures shifted { OnOk result (lines.new ≡ shifted_lines column own fall lines.old) }
-    ensures numbers { (count : ℕ) → AreTableRows top count lines.old → AreTableRows top count lines.new }
+    ensures numbers { (count : ℕ) → AreTableRows top count lines.old →
+        AreTableRows top count lines.new }
     ensures count { length lines.new ≡ length lines.old }
     ensures wide { IfErr result (λ wide. ShiftsWide top column own fall lines.old wide) }
 {
@@ -172,10 +181,12 @@ impl Table {
         requires room { HasRoom self.old }
         requires var { var < length self.old.costs.low }
         ensures unboxed { OnOk result (IsUnboxedTable self.new) }
-        ensures moved { OnOk result (IsMoved self.old (with_low self.old.costs var bound) self.new) }
+        ensures moved { OnOk result (IsMoved self.old (with_low self.old.costs var bound)
+            self.new) }
         ensures shape { HasShape self.new }
         ensures keeps { KeepsTableRows self.old self.new }
-        ensures wide { IfErr result (λ wide. IsWideShift self.old (low_shift_of self.old var bound) wide) }
+        ensures wide { IfErr result (λ wide. IsWideShift self.old (low_shift_of self.old var bound)
+            wide) }
     {
         let place = var as usize;
         let low = self.costs.low.as_slice()[place];
@@ -198,10 +209,12 @@ impl Table {
         requires room { HasRoom self.old }
         requires var { var < length self.old.costs.low }
         ensures unboxed { OnOk result (IsUnboxedTable self.new) }
-        ensures moved { OnOk result (IsMoved self.old (with_high self.old.costs var bound) self.new) }
+        ensures moved { OnOk result (IsMoved self.old (with_high self.old.costs var bound)
+            self.new) }
         ensures shape { HasShape self.new }
         ensures keeps { KeepsTableRows self.old self.new }
-        ensures wide { IfErr result (λ wide. IsWideShift self.old (high_shift_of self.old var bound) wide) }
+        ensures wide { IfErr result (λ wide. IsWideShift self.old (high_shift_of self.old var bound)
+            wide) }
     {
         let place = var as usize;
         let high = self.costs.high.as_slice()[place];

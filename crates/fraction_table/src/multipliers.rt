@@ -47,7 +47,8 @@ pub fn put_negated(
     member: Member,
     entry: Frac,
 ) -> Result<(), OutOfMemory>
-    ensures { OnOk result (parts.new.items ≡ parts.old.items ++ numbered member (unless_zero entry.numerator entry)) }
+    ensures { OnOk result (parts.new.items ≡ parts.old.items ++
+        numbered member (unless_zero entry.numerator entry)) }
 {
     if entry.is_zero() {
         Ok(())
@@ -177,7 +178,8 @@ impl Table {
         requires whole { IsTableau self.now }
         requires room { HasRoom self.now }
         requires line { line < length self.now.lines.items }
-        ensures { IfOk result (λ parts. parts.items ≡ fractions_of self.now.basis.items (member_at self.now line) (line_at self.now line)) }
+        ensures { IfOk result (λ parts. parts.items ≡ fractions_of self.now.basis.items
+            (member_at self.now line) (line_at self.now line)) }
     {
         let mut parts = Vec::new(alloc);
         put_fraction(&mut parts, self.member_at(line), Frac::whole(1))?;

@@ -24,7 +24,8 @@ fn put_form_line(line: &mut TableRow, form: &Form, costs: &CostBox, top: Top)
     requires fits { FitsBox costs.now form.now }
     requires few { length costs.now.low < 2 ^ 32 }
     requires width { length line.old ≡ suc (length costs.now.low) }
-    ensures line { line.new ≡ whole (value_for_costs form.now costs.now.low) ∷ map whole form.now.coefficients }
+    ensures line { line.new ≡ whole (value_for_costs form.now costs.now.low) ∷
+        map whole form.now.coefficients }
     ensures numbers { AreTableNumbers top line.new }
 {
     let _ = top.value();
@@ -100,7 +101,8 @@ impl Table {
         requires fits { All (FitsBox costs.now) self.old.rows.items }
         requires shape { HasShape self.old }
         requires line { line < length self.old.lines.items }
-        ensures lines { self.new.lines.items ≡ slice_set self.old.lines.items line (starting_line costs.now self.old.rows.items (member_at self.old line)) }
+        ensures lines { self.new.lines.items ≡ slice_set self.old.lines.items line
+            (starting_line costs.now self.old.rows.items (member_at self.old line)) }
         ensures shape { HasShape self.new }
         ensures keeps { KeepsAllButLines self.old self.new }
     {
@@ -115,7 +117,8 @@ impl Table {
         requires ranges { IsBox (length costs.now.low) costs.now }
         requires fits { All (FitsBox costs.now) self.old.rows.items }
         requires shape { HasShape self.old }
-        ensures lines { self.new.lines.items ≡ map (starting_line costs.now self.old.rows.items) (members_of_box costs.now (length self.old.rows.items)) }
+        ensures lines { self.new.lines.items ≡ map (starting_line costs.now self.old.rows.items)
+            (members_of_box costs.now (length self.old.rows.items)) }
         ensures shape { HasShape self.new }
         ensures keeps { KeepsAllButLines self.old self.new }
     {

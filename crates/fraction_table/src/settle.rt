@@ -24,7 +24,8 @@ impl Table {
     fn first_negative_bound(&self) -> Option<usize>
         requires whole { IsTableau self.now }
         requires room { HasRoom self.now }
-        ensures { IsFirstFound (length self.now.costs.low + length self.now.costs.low) (sign_at self.now) result }
+        ensures { IsFirstFound (length self.now.costs.low + length self.now.costs.low)
+            (sign_at self.now) result }
     {
         let width = self.costs.low.as_slice().len();
         for line in 0..width + width {
@@ -40,8 +41,10 @@ impl Table {
         requires whole { IsTableau self.now }
         requires room { HasRoom self.now }
         requires row { row < length self.now.rows.items }
-        requires shortest { IsShortestFound row self.now.rows.items (row_constant (length self.now.costs.low) (sign_at self.now)) shortest }
-        ensures { IsShortestFound (row + 1) self.now.rows.items (row_constant (length self.now.costs.low) (sign_at self.now)) result }
+        requires shortest { IsShortestFound row self.now.rows.items
+            (row_constant (length self.now.costs.low) (sign_at self.now)) shortest }
+        ensures { IsShortestFound (row + 1) self.now.rows.items
+            (row_constant (length self.now.costs.low) (sign_at self.now)) result }
     {
         let width = self.costs.low.as_slice().len();
         let line = width + width + row;
@@ -58,7 +61,8 @@ impl Table {
     fn shortest_negative_row(&self) -> Option<usize>
         requires whole { IsTableau self.now }
         requires room { HasRoom self.now }
-        ensures { IsShortestFound (length self.now.rows.items) self.now.rows.items (row_constant (length self.now.costs.low) (sign_at self.now)) result }
+        ensures { IsShortestFound (length self.now.rows.items) self.now.rows.items
+            (row_constant (length self.now.costs.low) (sign_at self.now)) result }
     {
         let mut shortest = None;
         for row in 0..self.rows.len() {
@@ -72,7 +76,8 @@ impl Table {
     pub fn pivot_form(&self) -> Option<usize>
         requires whole { IsTableau self.now }
         requires room { HasRoom self.now }
-        ensures { IsPivotFormFound (length self.now.costs.low) self.now.rows.items (sign_at self.now) result }
+        ensures { IsPivotFormFound (length self.now.costs.low) self.now.rows.items
+            (sign_at self.now) result }
     {
         if let Some(line) = self.first_negative_bound() {
             return Some(line);
@@ -94,7 +99,8 @@ impl Table {
         ensures ahead { IfOk result (λ solved. IsAhead self.old self.new solved) }
         ensures keeps { KeepsBoxAndRows self.old self.new }
         ensures room { HasRoom self.new }
-        ensures wide { IfErr result (λ wide. IsStepTooWide self.new.top self.new.costs self.new.rows.items (wide_at wide self.new.basis.items)) }
+        ensures wide { IfErr result (λ wide. IsStepTooWide self.new.top self.new.costs
+            self.new.rows.items (wide_at wide self.new.basis.items)) }
     {
         match self.choose(line)? {
             None => Ok(Some(Solved::Refuted(line as u64))),
@@ -117,7 +123,8 @@ impl Table {
         ensures ahead { IfOk result (λ solved. IsAhead self.old self.new solved) }
         ensures keeps { KeepsBoxAndRows self.old self.new }
         ensures room { HasRoom self.new }
-        ensures wide { IfErr result (λ wide. IsStepTooWide self.new.top self.new.costs self.new.rows.items (wide_at wide self.new.basis.items)) }
+        ensures wide { IfErr result (λ wide. IsStepTooWide self.new.top self.new.costs
+            self.new.rows.items (wide_at wide self.new.basis.items)) }
     {
         match self.pivot_form() {
             None => Ok(Some(Solved::Feasible)),

@@ -37,7 +37,8 @@ pub fn copy_box(alloc: Global, costs: &CostBox) -> Result<CostBox, OutOfMemory>
 /// The forms x - low, by the lower bounds.
 pub fn starting_basis(alloc: Global, low: &[u16]) -> Result<Vec<Member>, OutOfMemory>
     requires few { length low.now < 2 ^ 32 }
-    ensures { IfOk result (λ basis. basis.items ≡ map (λ v. Low v (slice_index low.now v)) (numbers_from 0 (length low.now))) }
+    ensures { IfOk result (λ basis. basis.items ≡ map (λ v. Low v (slice_index low.now v))
+        (numbers_from 0 (length low.now))) }
 {
     let mut basis = Vec::new(alloc);
     for (var, bound) in low.iter().enumerate() {
@@ -64,7 +65,8 @@ pub fn put_unit_line(line: &mut TableRow, width: u32, form: UnitForm, top: Top)
     requires var { form.var < width }
     requires constant_small { nat_abs form.constant < 2 ^ 27 }
     requires coefficient_small { nat_abs form.coefficient < 2 ^ 27 }
-    ensures line { line.new ≡ whole form.constant ∷ map whole (unit width form.var form.coefficient) }
+    ensures line { line.new ≡ whole form.constant ∷ map whole
+        (unit width form.var form.coefficient) }
     ensures numbers { AreTableNumbers top line.new }
 {
     let _ = top.value();
@@ -78,7 +80,8 @@ fn bound_row(alloc: Global, width: u32, form: UnitForm, top: Top) -> Result<Tabl
     requires var { form.var < width }
     requires constant_small { nat_abs form.constant < 2 ^ 27 }
     requires coefficient_small { nat_abs form.coefficient < 2 ^ 27 }
-    ensures row { IfOk result (λ row. row ≡ whole form.constant ∷ map whole (unit width form.var form.coefficient)) }
+    ensures row { IfOk result (λ row. row ≡ whole form.constant ∷
+        map whole (unit width form.var form.coefficient)) }
     ensures numbers { IfOk result (λ row. AreTableNumbers top row) }
 {
     let mut row = TableRow::zero(alloc, width)?;
@@ -100,7 +103,8 @@ fn push_low_rows(
     top: Top,
 ) -> Result<(), OutOfMemory>
     requires numbers { AreTableRows top (suc width) rows.old.items }
-    ensures rows { OnOk result (rows.new.items ≡ rows.old.items ++ map (λ v. whole (pos 0) ∷ map whole (unit width v (pos 1))) (numbers_from 0 width)) }
+    ensures rows { OnOk result (rows.new.items ≡ rows.old.items ++
+        map (λ v. whole (pos 0) ∷ map whole (unit width v (pos 1))) (numbers_from 0 width)) }
     ensures numbers { OnOk result (AreTableRows top (suc width) rows.new.items) }
 {
     for var in 0..width {
@@ -134,8 +138,8 @@ fn push_high_rows(
     requires few { length low.now < 2 ^ 32 }
     requires numbers { AreTableRows top (suc (length low.now)) rows.old.items }
     ensures rows { OnOk result (rows.new.items ≡ rows.old.items ++
-        map (λ v. whole (pos (slice_index high.now v) -ℤ pos (slice_index low.now v)) ∷ map whole (unit (length low.now) v (negsuc 0)))
-        (numbers_from 0 (length low.now))) }
+        map (λ v. whole (pos (slice_index high.now v) -ℤ pos (slice_index low.now v)) ∷
+        map whole (unit (length low.now) v (negsuc 0))) (numbers_from 0 (length low.now))) }
     ensures numbers { OnOk result (AreTableRows top (suc (length low.now)) rows.new.items) }
 {
     let width = low.len() as u32;
@@ -155,8 +159,10 @@ fn push_high_rows(
 pub fn bound_rows(alloc: Global, costs: &CostBox, top: Top) -> Result<Vec<TableRow>, OutOfMemory>
     requires ranges { IsBox (length costs.now.low) costs.now }
     requires few { length costs.now.low < 2 ^ 32 }
-    ensures rows { IfOk result (λ rows. rows.items ≡ map (starting_line costs.now []) (members_of_box costs.now 0)) }
-    ensures numbers { IfOk result (λ rows. AreTableRows top (suc (length costs.now.low)) rows.items) }
+    ensures rows { IfOk result (λ rows. rows.items ≡ map (starting_line costs.now [])
+        (members_of_box costs.now 0)) }
+    ensures numbers { IfOk result (λ rows. AreTableRows top (suc (length costs.now.low))
+        rows.items) }
 {
     let low = costs.low.as_slice();
     let mut rows = Vec::new(alloc);
@@ -173,7 +179,8 @@ pub fn bound_rows(alloc: Global, costs: &CostBox, top: Top) -> Result<Vec<TableR
 pub fn starting_table(alloc: Global, costs: &CostBox, top: Top) -> Result<Table, OutOfMemory>
     requires ranges { IsBox (length costs.now.low) costs.now }
     requires few { length costs.now.low < 2 ^ 32 }
-    ensures held { IfOk result (λ table. held_of table Open ≡ record { top = top; costs = costs.now; rows = []; basis = starting costs.now; stage = Open }) }
+    ensures held { IfOk result (λ table. held_of table Open ≡ record
+        { top = top; costs = costs.now; rows = []; basis = starting costs.now; stage = Open }) }
     ensures sound { IfOk result (λ table. IsSound table Open) }
 {
     let width = costs.low.as_slice().len() as u32;

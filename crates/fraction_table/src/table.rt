@@ -65,7 +65,8 @@ impl Table {
         ensures rises { OnOk result (rank self.old < rank self.new) }
         ensures keeps { KeepsBoxAndRows self.old self.new }
         ensures room { HasRoom self.new }
-        ensures wide { IfErr result (λ wide. IsStepTooWide self.new.top self.new.costs self.new.rows.items (wide_at wide self.new.basis.items)) }
+        ensures wide { IfErr result (λ wide. IsStepTooWide self.new.top self.new.costs
+            self.new.rows.items (wide_at wide self.new.basis.items)) }
     {
         let member = self.member_at(line);
         let inverse = take_quotients(&self.lines[line], column, &mut self.quotients, self.top)?;

@@ -33,7 +33,8 @@ fn read_area<'a, S: Shelf>(
     words: FileWords<'a>,
     shelf: &mut S,
 ) -> Result<Layout, Stop<'a>>
-    ensures { Gave (S.gave shelf.old shelf.new) (λ came. IsReadAs (area_read (files_named words.entry)) came IsLayoutOf result) }
+    ensures { Gave (S.gave shelf.old shelf.new) (λ came. IsReadAs
+        (area_read (files_named words.entry)) came IsLayoutOf result) }
 {
     let requests = read_request(alloc, shelf, words.request)?;
     let configs = read_configs(alloc, shelf, words.configs)?;
@@ -52,7 +53,8 @@ fn resolve_each_line(
     lsdb: &Lsdb,
 ) -> Result<(), Refusal<ResolutionFault, ()>>
     ensures made { OnOk result (line_faults lsdb.now requests.now.items ≡ []) }
-    ensures refused { IfErr result (TellsResolution (first_of (line_faults lsdb.now requests.now.items))) }
+    ensures refused { IfErr result
+        (TellsResolution (first_of (line_faults lsdb.now requests.now.items))) }
 {
     let names = Names::new(alloc, lsdb)?;
     let outline = names.outline(alloc)?;
@@ -62,7 +64,8 @@ fn resolve_each_line(
 
 /// Tests that each line of the requests of a layout can be resolved.
 fn check_lines<'a>(alloc: Global, layout: &Layout, words: FileWords<'a>) -> Result<(), Stop<'a>>
-    ensures { IsReadAs (lines_read (files_named words.entry) layout.now.requests layout.now.lsdb) [] (λ _ none. none ≡ tt) result }
+    ensures { IsReadAs (lines_read (files_named words.entry) layout.now.requests layout.now.lsdb) []
+        (λ _ none. none ≡ tt) result }
 {
     match resolve_each_line(alloc, &layout.requests, &layout.lsdb) {
         Ok(()) => Ok(()),
@@ -81,7 +84,8 @@ pub fn read_layout<'a, S: Shelf>(
     words: FileWords<'a>,
     shelf: &mut S,
 ) -> Result<Layout, Stop<'a>>
-    ensures { Gave (S.gave shelf.old shelf.new) (λ came. IsReadAs (layout_read (files_named words.entry)) came IsLayoutOf result) }
+    ensures { Gave (S.gave shelf.old shelf.new) (λ came. IsReadAs
+        (layout_read (files_named words.entry)) came IsLayoutOf result) }
 {
     let layout = read_area(alloc, words, shelf)?;
     check_lines(alloc, &layout, words)?;

@@ -40,8 +40,9 @@ pub fn read_network<'a, S: Shelf>(
     shelf: &mut S,
 ) -> Result<Network, Stop<'a>>
     ensures present { IfOk result (λ network. view ≡ View.AtPresent → network.problem.low ≡ []) }
-    ensures read { Gave (S.gave shelf.old shelf.new)
-        (λ came. IsReadAs (outcome view (files_named words.entry)) came (IsNetworkOf view (files_named words.entry)) result) }
+    ensures read { Gave (S.gave shelf.old shelf.new) (λ came. IsReadAs
+        (outcome view (files_named words.entry)) came (IsNetworkOf view (files_named words.entry))
+        result) }
 {
     let requests = read_request(alloc, shelf, words.request)?;
     let configs = read_configs(alloc, shelf, words.configs)?;

@@ -61,7 +61,8 @@ pub(crate) fn topology<'a>(
     area: u32,
     words: FileWords<'a>,
 ) -> Result<Lsdb, Stop<'a>>
-    ensures { IsReadAs (topology_read (files_named words.entry) area configs.now) [] (λ d read. d ≡ read) result }
+    ensures { IsReadAs (topology_read (files_named words.entry) area configs.now) []
+        (λ d read. d ≡ read) result }
 {
     match build(alloc, configs, area) {
         Ok(lsdb) => Ok(lsdb),
@@ -72,7 +73,8 @@ pub(crate) fn topology<'a>(
 /// The place of a fault of resolution: the file, and the line in it. An interface without a cost is refused at its first
 /// head, any other fault in the request.
 fn place_of<'a>(fault: ResolutionFault, lsdb: &Lsdb, words: FileWords<'a>) -> (&'a str, u32)
-    ensures { resolution_place (files_named words.entry) lsdb.now fault ≡ record { file = result.0.now; line = result.1 } }
+    ensures { resolution_place (files_named words.entry) lsdb.now fault ≡
+        record { file = result.0.now; line = result.1 } }
 {
     match fault {
         ResolutionFault::NoCost { link } => match lsdb.links.as_slice().get(link as usize) {
@@ -111,7 +113,8 @@ fn resolution_as_requested<'a>(
     lsdb: &Lsdb,
     words: FileWords<'a>,
 ) -> Result<Problem, Stop<'a>>
-    ensures { IsReadAs (problem_read View.AsRequested (files_named words.entry) requests.now lsdb.now) [] (λ p read. p ≡ read) result }
+    ensures { IsReadAs (problem_read View.AsRequested (files_named words.entry) requests.now
+        lsdb.now) [] (λ p read. p ≡ read) result }
 {
     match resolve(alloc, requests, lsdb) {
         Ok(problem) => Ok(problem),
@@ -126,7 +129,8 @@ fn resolution_beside_present<'a>(
     lsdb: &Lsdb,
     words: FileWords<'a>,
 ) -> Result<Problem, Stop<'a>>
-    ensures { IsReadAs (problem_read View.BesidePresent (files_named words.entry) requests.now lsdb.now) [] (λ p read. p ≡ read) result }
+    ensures { IsReadAs (problem_read View.BesidePresent (files_named words.entry) requests.now
+        lsdb.now) [] (λ p read. p ≡ read) result }
 {
     match resolve_beside_present(alloc, requests, lsdb) {
         Ok(problem) => Ok(problem),
@@ -146,7 +150,8 @@ pub fn resolution_at_present<'a>(
     words: FileWords<'a>,
 ) -> Result<Problem, Stop<'a>>
     ensures present { IfOk result (λ p. p.low ≡ []) }
-    ensures read { IsReadAs (problem_read View.AtPresent (files_named words.entry) requests.now lsdb.now) [] (λ p read. p ≡ read) result }
+    ensures read { IsReadAs (problem_read View.AtPresent (files_named words.entry) requests.now
+        lsdb.now) [] (λ p read. p ≡ read) result }
 {
     match resolve_present(alloc, requests, lsdb) {
         Ok(problem) => Ok(problem),
@@ -163,7 +168,8 @@ pub(crate) fn resolution<'a>(
     words: FileWords<'a>,
 ) -> Result<Problem, Stop<'a>>
     ensures present { IfOk result (λ p. view ≡ View.AtPresent → p.low ≡ []) }
-    ensures read { IsReadAs (problem_read view (files_named words.entry) requests.now lsdb.now) [] (λ p read. p ≡ read) result }
+    ensures read { IsReadAs (problem_read view (files_named words.entry) requests.now lsdb.now) []
+        (λ p read. p ≡ read) result }
 {
     match view {
         View::AsRequested => resolution_as_requested(alloc, requests, lsdb, words),
@@ -184,8 +190,9 @@ pub fn read_problem<'a, S: Shelf>(
     shelf: &mut S,
 ) -> Result<Problem, Stop<'a>>
     ensures present { IfOk result (λ p. view ≡ View.AtPresent → p.low ≡ []) }
-    ensures read { Gave (S.gave shelf.old shelf.new)
-        (λ came. IsReadAs (outcome view (files_named words.entry)) came (λ p d. (d.problem ≡ p) × IsAreaDatabase d.database) result) }
+    ensures read { Gave (S.gave shelf.old shelf.new) (λ came. IsReadAs
+        (outcome view (files_named words.entry)) came (λ p d. (d.problem ≡ p) ×
+        IsAreaDatabase d.database) result) }
 {
     let network = read_network(alloc, view, words, shelf)?;
     Ok(network.problem)

@@ -55,7 +55,8 @@ pub fn read_file<'a, S: Shelf>(
     most: usize,
 ) -> Result<Vec<u8>, Stop<'a>>
     requires { most < 2 ^ 31 }
-    ensures read { Gave (S.gave shelf.old shelf.new) (λ came. IsReadAs (file_read most name.now) came (λ bytes read. bytes.items ≡ read) result) }
+    ensures read { Gave (S.gave shelf.old shelf.new) (λ came. IsReadAs (file_read most name.now)
+        came (λ bytes read. bytes.items ≡ read) result) }
     ensures within { IfOk result (λ bytes. length bytes.items ≤ most) }
 {
     let mut bytes = Vec::new(alloc);
@@ -71,7 +72,8 @@ pub(crate) fn read_request<'a, S: Shelf>(
     shelf: &mut S,
     name: &'a str,
 ) -> Result<RequestFile, Stop<'a>>
-    ensures { Gave (S.gave shelf.old shelf.new) (λ came. IsReadAs (request_read name.now) came (λ r asked. r ≡ asked) result) }
+    ensures { Gave (S.gave shelf.old shelf.new) (λ came. IsReadAs (request_read name.now) came
+        (λ r asked. r ≡ asked) result) }
 {
     let bytes = read_file(alloc, shelf, name, LONGEST_FILE)?;
     match read_requests(alloc, &bytes) {
@@ -120,7 +122,8 @@ pub fn read_config_text<'a, S: Shelf>(
     shelf: &mut S,
     name: &'a str,
 ) -> Result<ConfigText<'a>, Stop<'a>>
-    ensures { Gave (S.gave shelf.old shelf.new) (λ came. IsReadAs (config_read name.now) came (λ text file. text ≡ file) result) }
+    ensures { Gave (S.gave shelf.old shelf.new) (λ came. IsReadAs (config_read name.now) came
+        (λ text file. text ≡ file) result) }
 {
     let bytes = read_file(alloc, shelf, name, LONGEST_FILE)?;
     match config_reader::read_config(alloc, name, &bytes) {
@@ -139,7 +142,8 @@ pub(crate) fn read_config<'a, S: Shelf>(
     shelf: &mut S,
     name: &'a str,
 ) -> Result<RouterConfig, Stop<'a>>
-    ensures { Gave (S.gave shelf.old shelf.new) (λ came. IsReadAs (config_read name.now) came (λ r file. r ≡ config_of file.name file.bytes) result) }
+    ensures { Gave (S.gave shelf.old shelf.new) (λ came. IsReadAs (config_read name.now) came
+        (λ r file. r ≡ config_of file.name file.bytes) result) }
 {
     let text = read_config_text(alloc, shelf, name)?;
     Ok(text.router)
@@ -151,8 +155,8 @@ pub(crate) fn read_configs<'a, S: Shelf>(
     shelf: &mut S,
     names: &'a [String],
 ) -> Result<Vec<RouterConfig>, Stop<'a>>
-    ensures { Gave (S.gave shelf.old shelf.new) (λ came. IsReadAs (configs_read (texts names.now)) came
-        (λ configs files. configs.items ≡ routers_of files) result) }
+    ensures { Gave (S.gave shelf.old shelf.new) (λ came. IsReadAs (configs_read (texts names.now))
+        came (λ configs files. configs.items ≡ routers_of files) result) }
 {
     let mut configs = Vec::new(alloc);
     for name in names {
@@ -175,7 +179,8 @@ pub fn read_answer_file<'a, S: Shelf>(
     shelf: &mut S,
     name: &'a str,
 ) -> Result<Vec<u8>, Stop<'a>>
-    ensures read { Gave (S.gave shelf.old shelf.new) (λ came. IsReadAs (file_read longest_answer name.now) came (λ bytes read. bytes.items ≡ read) result) }
+    ensures read { Gave (S.gave shelf.old shelf.new) (λ came. IsReadAs
+        (file_read longest_answer name.now) came (λ bytes read. bytes.items ≡ read) result) }
     ensures within { IfOk result (λ bytes. length bytes.items ≤ longest_answer) }
 {
     read_file(alloc, shelf, name, LONGEST_ANSWER)

@@ -26,9 +26,11 @@ pub(crate) fn impossible(
 ) -> Result<Answer, OutOfMemory>
     requires pool { IsRowPool problem.now pool }
     requires ceiling { ceiling ≡ greatest_bound problem.now }
-    requires refuted { (top : ℕ) × (nodes : ℕ) × (nodes ≤ 10000000) × IsRefuted problem.now top nodes pool (record { cap = ceiling; tree = tree }) }
-    ensures { (top nodes : ℕ) → IsRefuted problem.now top nodes pool (record { cap = ceiling; tree = tree }) →
-        IfOk result (IsDesignAnswer problem.now top nodes) }
+    requires refuted { (top : ℕ) × (nodes : ℕ) × (nodes ≤ 10000000) ×
+        IsRefuted problem.now top nodes pool (record { cap = ceiling; tree = tree }) }
+    ensures { (top nodes : ℕ) → IsRefuted problem.now top nodes pool
+        (record { cap = ceiling; tree = tree }) → IfOk result
+        (IsDesignAnswer problem.now top nodes) }
 {
     keeps_conditions(problem);
     let alloc = pool.allocator();
@@ -63,8 +65,10 @@ fn optimal(
 ) -> Result<Answer, OutOfMemory>
     requires pool { IsRowPool problem.now pool }
     requires fit { IsFit problem.now costs.now }
-    requires kept { (top : ℕ) × (nodes : ℕ) × (nodes ≤ 10000000) × IsKeptAt problem.now top nodes pool (greatest_cost costs.now) kept }
-    ensures { (top nodes : ℕ) → IsKeptAt problem.now top nodes pool (greatest_cost costs.now) kept → IfOk result (IsDesignAnswer problem.now top nodes) }
+    requires kept { (top : ℕ) × (nodes : ℕ) × (nodes ≤ 10000000) ×
+        IsKeptAt problem.now top nodes pool (greatest_cost costs.now) kept }
+    ensures { (top nodes : ℕ) → IsKeptAt problem.now top nodes pool (greatest_cost costs.now) kept →
+        IfOk result (IsDesignAnswer problem.now top nodes) }
 {
     keeps_conditions(problem);
     let alloc = pool.allocator();
@@ -124,9 +128,11 @@ fn undecided(
     requires pool { IsRowPool problem.now pool }
     requires from_floor { greatest_cost problem.now.low ≤ unfinished.cap }
     requires costs { CostsFound problem.now unfinished.cap (option_copied costs) }
-    requires trees { (top : ℕ) × (nodes : ℕ) × (nodes ≤ 10000000) × IsTreeKeptBelow problem.now top nodes pool unfinished.cap kept ×
+    requires trees { (top : ℕ) × (nodes : ℕ) × (nodes ≤ 10000000) ×
+        IsTreeKeptBelow problem.now top nodes pool unfinished.cap kept ×
         IsUndecidedAt problem.now top nodes pool unfinished }
-    ensures { (top nodes : ℕ) → IsTreeKeptBelow problem.now top nodes pool unfinished.cap kept → IsUndecidedAt problem.now top nodes pool unfinished →
+    ensures { (top nodes : ℕ) → IsTreeKeptBelow problem.now top nodes pool unfinished.cap kept →
+        IsUndecidedAt problem.now top nodes pool unfinished →
         IfOk result (IsDesignAnswer problem.now top nodes) }
 {
     keeps_conditions(problem);
@@ -148,8 +154,10 @@ impl Progress {
     pub(crate) fn answer(self, problem: &Problem, pool: Pool) -> Result<Answer, OutOfMemory>
         requires pool { IsRowPool problem.now pool }
         requires ended { IsLeastFound self.least self.most self.best }
-        requires progress { (top : ℕ) × (nodes : ℕ) × (nodes ≤ 10000000) × IsProgress problem.now top nodes pool self }
-        ensures { (top nodes : ℕ) → IsProgress problem.now top nodes pool self → IfOk result (IsDesignAnswer problem.now top nodes) }
+        requires progress { (top : ℕ) × (nodes : ℕ) × (nodes ≤ 10000000) ×
+            IsProgress problem.now top nodes pool self }
+        ensures { (top nodes : ℕ) → IsProgress problem.now top nodes pool self →
+            IfOk result (IsDesignAnswer problem.now top nodes) }
     {
         let Progress { kept, best, .. } = self;
         match best {

@@ -25,7 +25,8 @@ fn narrowed(
     requires pool { IsRowPool problem.now pool }
     requires progress { IsProgress problem.now limits.now.top limits.now.nodes pool progress }
     ensures answered { IfOk result (IsDesignAnswer problem.now limits.now.top limits.now.nodes) }
-    ensures advisors { AreCalled ⟦<dyn Advisor as Advisor>⟧ (λ b. b.vtable) (λ b. state b) advisors.old.items advisors.new.items }
+    ensures advisors { AreCalled ⟦<dyn Advisor as Advisor>⟧ (λ b. b.vtable) (λ b. state b)
+        advisors.old.items advisors.new.items }
 {
     keeps_conditions(problem);
     let mut pool = pool;
@@ -54,7 +55,8 @@ pub fn least(
     advisors: &mut Vec<Box<dyn Advisor>>,
 ) -> Result<Answer, OutOfMemory>
     ensures answered { IfOk result (IsDesignAnswer problem.now limits.now.top limits.now.nodes) }
-    ensures advisors { AreCalled ⟦<dyn Advisor as Advisor>⟧ (λ b. b.vtable) (λ b. state b) advisors.old.items advisors.new.items }
+    ensures advisors { AreCalled ⟦<dyn Advisor as Advisor>⟧ (λ b. b.vtable) (λ b. state b)
+        advisors.old.items advisors.new.items }
 {
     keeps_conditions(problem);
     let ceiling = greatest_of(problem.high.as_slice());

@@ -69,7 +69,8 @@ impl Best {
     /// Where the budget was used up at a further cap: with costs this tree stands there.
     fn stuck_at(self, stuck: CapTree) -> Best
         ensures { (p : DesignProblem) (top nodes : ℕ) (old new : Pooled) (most : ℕ) →
-            BestHolds p top nodes old most self → MoreRows old new → IsUndecidedAt p top nodes new stuck → stuck.cap < most →
+            BestHolds p top nodes old most self → MoreRows old new →
+            IsUndecidedAt p top nodes new stuck → stuck.cap < most →
             BestHolds p top nodes new stuck.cap result }
     {
         match self {
@@ -84,7 +85,8 @@ impl Progress {
     /// After the greatest upper bound was decided.
     pub(crate) fn start(problem: &Problem, most: u16, best: Best) -> Progress
         requires { greatest_cost problem.now.low ≤ most }
-        ensures { (top nodes : ℕ) (pool : Pooled) → BestHolds problem.now top nodes pool most best → IsProgress problem.now top nodes pool result }
+        ensures { (top nodes : ℕ) (pool : Pooled) → BestHolds problem.now top nodes pool most best →
+            IsProgress problem.now top nodes pool result }
     {
         let floor = greatest_of(problem.low.as_slice());
         Progress {
@@ -112,11 +114,12 @@ impl Progress {
     pub(crate) fn after(self, cap: u16, found: Found) -> Progress
         requires from_least { self.least ≤ cap }
         requires below_most { cap < self.most }
-        ensures holds { (p : DesignProblem) (top nodes : ℕ) (old new : Pooled) →
-            IsProblem p → IsRowPool p new → MoreRows old new → IsProgress p top nodes old self → IsDecided p top nodes cap new found →
-            IsProgress p top nodes new result }
-        ensures nearer { (p : DesignProblem) (top nodes : ℕ) (pool : Pooled) → IsDecided p top nodes cap pool found →
-            result.most + self.least < self.most + result.least }
+        ensures holds { (p : DesignProblem) (top nodes : ℕ) (old new : Pooled) → IsProblem p →
+            IsRowPool p new → MoreRows old new → IsProgress p top nodes old self →
+            IsDecided p top nodes cap new found → IsProgress p top nodes new result }
+        ensures nearer { (p : DesignProblem) (top nodes : ℕ) (pool : Pooled) →
+            IsDecided p top nodes cap pool found → result.most + self.least <
+            self.most + result.least }
     {
         let Progress {
             floor,

@@ -48,7 +48,8 @@ pub(crate) fn kept_box(
     kept: &[u32],
 ) -> Result<CostBox, OutOfMemory>
     requires { All (λ v. v < length question.now.problem.low) kept.now }
-    ensures { IfOk result (λ costs. costs ≡ kept_box question.now.problem question.now.present kept.now) }
+    ensures { IfOk result (λ costs. costs ≡ kept_box question.now.problem question.now.present
+        kept.now) }
 {
     question.keeps_conditions();
     let present = question.present();

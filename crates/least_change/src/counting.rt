@@ -44,7 +44,8 @@ pub(crate) fn unkept_count(present: &[Option<u16>]) -> u32
 
 /// Puts a variable at the end, if it is one of those that are sought.
 pub(crate) fn push_if(vars: &mut Vec<u32>, var: u32, is_sought: bool) -> Result<(), OutOfMemory>
-    ensures { OnOk result (vars.new.items ≡ cond is_sought (vars.old.items ++ var ∷ []) vars.old.items) }
+    ensures { OnOk result (vars.new.items ≡ cond is_sought (vars.old.items ++ var ∷ [])
+        vars.old.items) }
 {
     if is_sought {
         vars.push(var)?;

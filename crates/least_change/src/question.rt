@@ -35,7 +35,12 @@ impl<'a> Question<'a> {
         limits: &'a Limits,
     ) -> Question<'a>
         requires { ArePresentCosts problem.now present.now }
-        ensures { result ≡ record { problem = problem.now; present = present.now; top = limits.now.top; nodes = limits.now.nodes } }
+        ensures { result ≡ record {
+          problem = problem.now;
+          present = present.now;
+          top = limits.now.top;
+          nodes = limits.now.nodes;
+        } }
     {
         Question {
             problem,

@@ -51,7 +51,11 @@ impl<'a, B: Begun> Bounded<'a, B> {
         requires asker { IsAskerFor problem.now.graph problem.now.paths asker }
         requires begun { B.rows ≡ [] }
         requires small { most < 2 ^ 26 }
-        ensures { result ≡ record { known = record { problem = problem.now; rows = [] }; most = most; before = None } }
+        ensures { result ≡ record {
+          known = record { problem = problem.now; rows = [] };
+          most = most;
+          before = None;
+        } }
     {
         Bounded {
             rivals: Rivals::new(problem, asker, Vec::new(alloc)),
@@ -77,7 +81,8 @@ impl<'a, B: Begun> Bounded<'a, B> {
     /// Whether the form of the total is negative at the point.
     fn is_over(&self, point: &Point) -> bool
         requires { IsCostPoint (length self.now.known.problem.low) point.now }
-        ensures { MatchBool result (value_at (form_of_total self.now.known.problem self.now.most) point.now <ℤ pos 0)
+        ensures { MatchBool result (value_at (form_of_total self.now.known.problem self.now.most)
+            point.now <ℤ pos 0)
             (pos 0 ≤ℤ value_at (form_of_total self.now.known.problem self.now.most) point.now) }
     {
         keeps_conditions(self.rivals.problem());
@@ -89,7 +94,8 @@ impl<'a, B: Begun> Bounded<'a, B> {
         ensures known { self.new.known ≡ self.old.known }
         ensures most { self.new.most ≡ self.old.most }
         ensures place { OnOk result (self.new.before ≡ Some (length self.old.known.rows)) }
-        ensures form { OnOk result (pool.new ≡ pool.old ++ form_of_total self.old.known.problem self.old.most ∷ []) }
+        ensures form { OnOk result (pool.new ≡ pool.old ++ form_of_total self.old.known.problem
+            self.old.most ∷ []) }
         ensures same_place { OnErr result (self.new.before ≡ self.old.before) }
         ensures same_forms { OnErr result (pool.new ≡ pool.old) }
     {

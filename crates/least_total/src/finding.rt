@@ -92,9 +92,11 @@ fn run_rounds(
 
 /// The proof that a kept tree is, or the floor where none is kept.
 fn proof_of(alloc: Global, kept: Option<TotalTree>) -> Result<TotalProof, OutOfMemory>
-    requires { (p : DesignProblem) × (top : ℕ) × (nodes : ℕ) × (cap : ℕ) × (least : ℕ) × IsKeptBelowTotal p top nodes cap least kept }
+    requires { (p : DesignProblem) × (top : ℕ) × (nodes : ℕ) × (cap : ℕ) × (least : ℕ) ×
+        IsKeptBelowTotal p top nodes cap least kept }
     ensures { IfOk result (λ proof. (p : DesignProblem) (top nodes cap least : ℕ) →
-        CanPrintTotals p nodes cap → IsKeptBelowTotal p top nodes cap least kept → ShowsLeastTotal p top nodes cap least proof) }
+        CanPrintTotals p nodes cap → IsKeptBelowTotal p top nodes cap least kept →
+        ShowsLeastTotal p top nodes cap least proof) }
 {
     match kept {
         None => Ok(TotalProof::Floor),

@@ -41,8 +41,9 @@ impl Move {
         own: bool,
     ) -> Result<(), OutOfMemory>
         requires { All (λ part. part.0 < self.others + 1) parts.now }
-        ensures { OnOk result
-            (pairs.new.items ≡ pairs.old.items ++ map (renumbered_part (moved_number self.place self.others)) (picked own self.place parts.now)) }
+        ensures { OnOk result (pairs.new.items ≡ pairs.old.items ++
+            map (renumbered_part (moved_number self.place self.others))
+            (picked own self.place parts.now)) }
     {
         for (row, multiplier) in parts {
             if (*row == self.place) == own {
@@ -56,7 +57,9 @@ impl Move {
     fn parts(self, alloc: Global, parts: &Parts) -> Result<Parts, OutOfMemory>
         requires place { self.place ≤ self.others }
         requires known { All (λ part. part.0 < self.others + 1) parts.now }
-        ensures { IfOk result (λ new. new ≡ map (renumbered_part (moved_number self.place self.others)) (put_last self.place parts.now)) }
+        ensures { IfOk result
+            (λ new. new ≡ map (renumbered_part (moved_number self.place self.others))
+            (put_last self.place parts.now)) }
     {
         let mut pairs = Vec::new(alloc);
         self.push_parts(&mut pairs, parts.as_slice(), false)?;
@@ -103,7 +106,8 @@ impl Move {
         requires place { self.place ≤ self.others }
         requires numbers { AreMovedNumbers self.place self.others numbers.now }
         requires known { All (NamesBelow (self.others + 1)) entries.now }
-        ensures { IfOk result (λ new. new.items ≡ map (moved_entry self.place self.others) entries.now) }
+        ensures { IfOk result (λ new. new.items ≡ map (moved_entry self.place self.others)
+            entries.now) }
     {
         let mut new = Vec::new(alloc);
         for entry in entries {

@@ -85,7 +85,8 @@ fn moved_from(
 ///
 /// `OutOfMemory`.
 pub(crate) fn printed_total(alloc: Global, tree: TotalTree) -> Result<PrintedTotal, OutOfMemory>
-    requires { (p : DesignProblem) × (top : ℕ) × (cap : ℕ) × (most : ℕ) × IsTreeWithin p top cap most tree }
+    requires { (p : DesignProblem) × (top : ℕ) × (cap : ℕ) × (most : ℕ) ×
+        IsTreeWithin p top cap most tree }
     ensures { IfOk result (IsPrintedLast tree) }
 {
     let TotalTree { rows, before, tree } = tree;

@@ -56,7 +56,8 @@ pub(crate) fn recosted(
     costs: &CostList,
 ) -> Result<Answer, OutOfMemory>
     requires valid { IsValid problem.now answer }
-    requires optimal { (k : ℕ) × (answer.verdict ≡ Optimal k) × IsFitWithin problem.now k costs.now }
+    requires optimal { (k : ℕ) × (answer.verdict ≡ Optimal k) × IsFitWithin problem.now k
+        costs.now }
     ensures { IfOk result (λ new. IsRecosted problem.now answer new costs.now) }
 {
     keeps_conditions(problem);

@@ -54,7 +54,8 @@ fn search_within<B: Begun>(
     requires ranges { IsBox (length problem.now.low) costs.now }
     requires lows { All (λ low. 1 ≤ low) costs.now.low }
     requires small { most < 2 ^ 26 }
-    ensures { IfOk result (IsTotalSought problem.now limits.now.top limits.now.nodes most costs.now) }
+    ensures { IfOk result (IsTotalSought problem.now limits.now.top limits.now.nodes most
+        costs.now) }
 {
     keeps_conditions(problem);
     let asker = Asker::new(alloc, &problem.graph, problem.paths.as_slice())?;

@@ -26,7 +26,8 @@ impl Standing {
     /// Before the first round: only the lower bounds are known.
     pub(crate) fn start(problem: &Problem, costs: CostList) -> Standing
         requires { length costs ≡ length problem.now.low }
-        ensures { (top nodes cap : ℕ) → IsFitWithin problem.now cap costs → IsStanding problem.now top nodes cap result }
+        ensures { (top nodes cap : ℕ) → IsFitWithin problem.now cap costs →
+            IsStanding problem.now top nodes cap result }
     {
         keeps_conditions(problem);
         Standing {
@@ -53,8 +54,9 @@ impl Standing {
     /// After a round that found costs.
     pub(crate) fn with_costs(self, costs: CostList) -> Standing
         requires { length costs ≤ 1000 }
-        ensures holds { (p : DesignProblem) (top nodes cap : ℕ) →
-            IsProblem p → IsStanding p top nodes cap self → IsFitWithin p cap costs → IsStanding p top nodes cap result }
+        ensures holds { (p : DesignProblem) (top nodes cap : ℕ) → IsProblem p →
+            IsStanding p top nodes cap self → IsFitWithin p cap costs →
+            IsStanding p top nodes cap result }
         ensures least { result.least ≡ self.least }
         ensures total { result.total ≡ total costs }
     {
@@ -70,8 +72,8 @@ impl Standing {
     pub(crate) fn without(self, most: u32, tree: TotalTree) -> Standing
         requires below { most < self.total }
         requires above { self.least ≤ most }
-        ensures holds { (p : DesignProblem) (top nodes cap : ℕ) →
-            IsStanding p top nodes cap self → IsRefutedWithin p top nodes cap most tree → IsStanding p top nodes cap result }
+        ensures holds { (p : DesignProblem) (top nodes cap : ℕ) → IsStanding p top nodes cap self →
+            IsRefutedWithin p top nodes cap most tree → IsStanding p top nodes cap result }
         ensures least { result.least ≡ most + 1 }
         ensures total { result.total ≡ self.total }
     {

@@ -53,8 +53,8 @@ pub(crate) fn is_over(point: &Point, most: u32) -> bool
     requires point { IsCostPoint (length point.now.values) point.now }
     requires few { length point.now.values ≤ 1000 }
     requires small { most < 2 ^ 26 }
-    ensures { MatchBool result (value_at (total_form (length point.now.values) most) point.now <ℤ pos 0)
-        (pos 0 ≤ℤ value_at (total_form (length point.now.values) most) point.now) }
+    ensures { MatchBool result (value_at (total_form (length point.now.values) most) point.now <ℤ
+        pos 0) (pos 0 ≤ℤ value_at (total_form (length point.now.values) most) point.now) }
 {
     sum_of(point) > u128::from(most) * point.scale
 }

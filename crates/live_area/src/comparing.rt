@@ -33,7 +33,8 @@ pub fn compare(
     live: &Database,
 ) -> Result<Vec<Difference>, OutOfMemory>
     requires { length costs.now ≡ length lsdb.now.links }
-    ensures { IfOk result (λ lines. lines.items ≡ difference_lines configs.now lsdb.now costs.now live.now) }
+    ensures { IfOk result (λ lines. lines.items ≡ difference_lines configs.now lsdb.now costs.now
+        live.now) }
 {
     let links = lsdb.links.as_slice();
     let ends = ends_of(alloc, configs, links)?;

@@ -30,7 +30,8 @@ pub struct Compared {
 
 /// The advertising routers of the router-LSAs.
 fn router_ids(alloc: Global, lsas: &[Lsa]) -> Result<BTreeSet<u32>, OutOfMemory>
-    ensures { IfOk result (λ ids. (router : ℕ) → contains nat_cmp ids router ≡ list_any (is_router_of router) lsas.now) }
+    ensures { IfOk result (λ ids. (router : ℕ) → contains nat_cmp ids router ≡
+        list_any (is_router_of router) lsas.now) }
 {
     let mut ids = BTreeSet::new(alloc);
     for lsa in lsas {
@@ -66,8 +67,10 @@ pub fn compare_interfaces(
     of: CostedLinks<'_>,
 ) -> Result<Vec<Compared>, OutOfMemory>
     requires { length of.ends.now ≤ 4000 }
-    ensures { IfOk result (λ interfaces. (all : List OneLink) → HasLinkMetrics metrics.now.by_name of.entry.ends.now all →
-        interfaces.items ≡ definition.compared_from lsas.now all of.entry.links.now of.entry.costs.now 0 of.entry.ends.now) }
+    ensures { IfOk result (λ interfaces. (all : List OneLink) →
+        HasLinkMetrics metrics.now.by_name of.entry.ends.now all →
+        interfaces.items ≡ definition.compared_from lsas.now all of.entry.links.now
+        of.entry.costs.now 0 of.entry.ends.now) }
 {
     let routers = router_ids(alloc, lsas)?;
     let mut interfaces = Vec::new(alloc);
@@ -136,7 +139,8 @@ pub fn push_interface_lines(
     lines: &mut Vec<Difference>,
     interfaces: &[Compared],
 ) -> Result<(), OutOfMemory>
-    ensures { OnOk result (lines.new.items ≡ lines.old.items ++ definition.compared_lines None interfaces.now) }
+    ensures { OnOk result (lines.new.items ≡ lines.old.items ++
+        definition.compared_lines None interfaces.now) }
 {
     let mut before = None;
     for interface in interfaces {

@@ -24,7 +24,8 @@ fn is_area_link(link: &LsaLink) -> bool
 
 /// Adds the links of type 1 and 2 of a router, in order.
 fn push_links(found: &mut Vec<LiveLink>, router: u32, links: &[LsaLink]) -> Result<(), OutOfMemory>
-    ensures { OnOk result (found.new.items ≡ found.old.items ++ definition.live_links_among router links.now) }
+    ensures { OnOk result (found.new.items ≡ found.old.items ++
+        definition.live_links_among router links.now) }
 {
     for link in links {
         if is_area_link(link) {

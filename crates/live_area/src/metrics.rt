@@ -90,8 +90,9 @@ impl EndMetrics {
 
     /// Adds a link behind those that are there.
     fn add(&mut self, link: LiveLink) -> Result<(), OutOfMemory>
-        ensures { OnOk result ((ends : List OneEnd) (links : List OneLink) → HasLinkMetrics self.old.by_name ends links →
-            HasLinkMetrics self.new.by_name ends (links ++ link ∷ [])) }
+        ensures { OnOk result ((ends : List OneEnd) (links : List OneLink) →
+            HasLinkMetrics self.old.by_name ends links → HasLinkMetrics self.new.by_name ends
+            (links ++ link ∷ [])) }
     {
         let name = name_of_link(link);
         if let Some(metric) = noted(self.of(name), link.metric) {
@@ -118,8 +119,9 @@ impl EndMetrics {
 
     /// The metric of the link of one of the ends.
     pub fn at(&self, end: LinkEnd) -> Option<u16>
-        ensures { (ends : List OneEnd) (links : List OneLink) → HasLinkMetrics self.now.by_name ends links →
-            list_any (definition.is_end_named (definition.name_of_end end)) ends ≡ true → result ≡ metric_at end links }
+        ensures { (ends : List OneEnd) (links : List OneLink) → HasLinkMetrics self.now.by_name ends
+            links → list_any (definition.is_end_named (definition.name_of_end end)) ends ≡ true →
+            result ≡ metric_at end links }
     {
         match self.of(name_of_end(end)) {
             Some(metric) => metric,
@@ -129,8 +131,8 @@ impl EndMetrics {
 
     /// Whether one of the ends has the router ID and the address of a link.
     pub fn has_end(&self, link: LiveLink) -> bool
-        ensures { (ends : List OneEnd) (links : List OneLink) → HasLinkMetrics self.now.by_name ends links →
-            result ≡ list_any (is_end_of link) ends }
+        ensures { (ends : List OneEnd) (links : List OneLink) → HasLinkMetrics self.now.by_name ends
+            links → result ≡ list_any (is_end_of link) ends }
     {
         self.of(name_of_link(link)).is_some()
     }

@@ -33,7 +33,9 @@ fn is_known(configs: &[RouterConfig], id: u32) -> bool
 
 /// The line of a link: none where it is the first of its data that its router-LSA has, and that of a linked interface.
 fn unknown_line(known: bool, first: bool, link: LiveLink) -> Option<Difference>
-    ensures { result ≡ (if known && first then None else Some (Difference.Unknown link.router link.address link.metric)) }
+    ensures { result ≡
+        (if known && first then None
+        else Some (Difference.Unknown link.router link.address link.metric)) }
 {
     if known && first {
         return None;
@@ -47,8 +49,10 @@ fn unknown_line(known: bool, first: bool, link: LiveLink) -> Option<Difference>
 
 /// Notes the data of a link behind others; tells whether none of them has these data.
 fn see(seen: &mut BTreeSet<u32>, link: LiveLink) -> Result<bool, OutOfMemory>
-    ensures first { IfOk result (λ first. (before : List OneLink) → HaveAddresses seen.old before → first ≡ not (list_any (definition.has_address link.address) before)) }
-    ensures seen { OnOk result ((before : List OneLink) → HaveAddresses seen.old before → HaveAddresses seen.new (before ++ link ∷ [])) }
+    ensures first { IfOk result (λ first. (before : List OneLink) → HaveAddresses seen.old before →
+        first ≡ not (list_any (definition.has_address link.address) before)) }
+    ensures seen { OnOk result ((before : List OneLink) → HaveAddresses seen.old before →
+        HaveAddresses seen.new (before ++ link ∷ [])) }
 {
     Ok(seen.insert(link.address)?)
 }
@@ -60,8 +64,9 @@ fn push_unknown_lines(
     metrics: &EndMetrics,
     links: &[LiveLink],
 ) -> Result<(), OutOfMemory>
-    ensures { OnOk result ((ends : List OneEnd) (all : List OneLink) → HasLinkMetrics metrics.now.by_name ends all →
-        lines.new.items ≡ lines.old.items ++ definition.unknown_lines ends [] links.now) }
+    ensures { OnOk result ((ends : List OneEnd) (all : List OneLink) →
+        HasLinkMetrics metrics.now.by_name ends all → lines.new.items ≡
+        lines.old.items ++ definition.unknown_lines ends [] links.now) }
 {
     let mut seen = BTreeSet::new(alloc);
     for link in links {
@@ -79,8 +84,9 @@ fn push_lsa_lines(
     metrics: &EndMetrics,
     lsa: &Lsa,
 ) -> Result<(), OutOfMemory>
-    ensures { OnOk result ((ends : List OneEnd) (all : List OneLink) → HasLinkMetrics metrics.now.by_name ends all →
-        lines.new.items ≡ lines.old.items ++ definition.lsa_lines configs.now ends lsa.now) }
+    ensures { OnOk result ((ends : List OneEnd) (all : List OneLink) →
+        HasLinkMetrics metrics.now.by_name ends all → lines.new.items ≡
+        lines.old.items ++ definition.lsa_lines configs.now ends lsa.now) }
 {
     if !is_router(lsa) {
         return Ok(());
@@ -101,8 +107,9 @@ pub fn push_router_lines(
     metrics: &EndMetrics,
     lsas: &[Lsa],
 ) -> Result<(), OutOfMemory>
-    ensures { OnOk result ((ends : List OneEnd) (all : List OneLink) → HasLinkMetrics metrics.now.by_name ends all →
-        lines.new.items ≡ lines.old.items ++ flat_map (definition.lsa_lines configs.now ends) lsas.now) }
+    ensures { OnOk result ((ends : List OneEnd) (all : List OneLink) →
+        HasLinkMetrics metrics.now.by_name ends all → lines.new.items ≡
+        lines.old.items ++ flat_map (definition.lsa_lines configs.now ends) lsas.now) }
 {
     for lsa in lsas {
         push_lsa_lines(alloc, lines, configs, metrics, lsa)?;

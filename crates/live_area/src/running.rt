@@ -57,7 +57,8 @@ fn metrics_among(
     found: &[LiveLink],
     links: &[Linked],
 ) -> Result<Vec<Option<u16>>, OutOfMemory>
-    ensures { IfOk result (λ metrics. metrics.items ≡ map (definition.metric_among configs.now found.now) links.now) }
+    ensures { IfOk result
+        (λ metrics. metrics.items ≡ map (definition.metric_among configs.now found.now) links.now) }
 {
     let ends = ends_of(alloc, configs, links)?;
     let mut metrics = Vec::new(alloc);
@@ -74,7 +75,8 @@ fn live_metrics(
     links: &[Linked],
     lsas: &[Lsa],
 ) -> Result<Vec<Option<u16>>, OutOfMemory>
-    ensures { IfOk result (λ metrics. metrics.items ≡ map (definition.live_metric configs.now lsas.now) links.now) }
+    ensures { IfOk result
+        (λ metrics. metrics.items ≡ map (definition.live_metric configs.now lsas.now) links.now) }
 {
     let found = live_links(alloc, lsas)?;
     metrics_among(alloc, configs, &found, links)
@@ -96,7 +98,8 @@ fn missing_of(alloc: Global, metrics: &[Option<u16>]) -> Result<Vec<u32>, OutOfM
 
 /// A linked interface with a metric in place of its cost, if there is one.
 fn costed(alloc: Global, link: &Linked, metric: Option<u16>) -> Result<Linked, OutOfMemory>
-    ensures { IfOk result (λ made. made ≡ record link.now { cost = option_or metric link.now.cost }) }
+    ensures { IfOk result
+        (λ made. made ≡ record link.now { cost = option_or metric link.now.cost }) }
 {
     Ok(Linked {
         router: link.router,
@@ -146,8 +149,10 @@ pub fn running_area(
     lsdb: Lsdb,
     live: &Database,
 ) -> Result<RunningArea, OutOfMemory>
-    ensures costs { IfOk result (λ area. area.lsdb ≡ definition.with_live_costs configs.now live.now lsdb) }
-    ensures missing { IfOk result (λ area. area.missing.items ≡ definition.missing_links configs.now live.now lsdb.links) }
+    ensures costs { IfOk result (λ area. area.lsdb ≡ definition.with_live_costs configs.now live.now
+        lsdb) }
+    ensures missing { IfOk result (λ area. area.missing.items ≡ definition.missing_links configs.now
+        live.now lsdb.links) }
 {
     let metrics = live_metrics(alloc, configs, lsdb.links.as_slice(), live.as_slice())?;
     let links = costed_links(alloc, lsdb.links.as_slice(), &metrics)?;

@@ -23,7 +23,8 @@ pub fn read_live_file<'a, S: Shelf>(
     name: &'a str,
     area: u32,
 ) -> Result<Database, Stop<'a>>
-    ensures { Gave (S.gave shelf.old shelf.new) (λ came. IsReadAs (live_read name.now area) came (λ database lsas. database ≡ lsas) result) }
+    ensures { Gave (S.gave shelf.old shelf.new) (λ came. IsReadAs (live_read name.now area) came
+        (λ database lsas. database ≡ lsas) result) }
 {
     let bytes = read_file(alloc, shelf, name, LONGEST_DATABASE)?;
     match read_live(alloc, &bytes, area) {

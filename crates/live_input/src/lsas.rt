@@ -20,7 +20,8 @@ pub fn read_database<'a, S: Shelf>(
     shelf: &mut S,
     name: &'a str,
 ) -> Result<Database, Stop<'a>>
-    ensures { Gave (S.gave shelf.old shelf.new) (λ came. IsReadAs (lsas_read name.now) came (λ database lsas. database ≡ lsas) result) }
+    ensures { Gave (S.gave shelf.old shelf.new) (λ came. IsReadAs (lsas_read name.now) came
+        (λ database lsas. database ≡ lsas) result) }
 {
     let bytes = read_file(alloc, shelf, name, LONGEST_DATABASE)?;
     match read_lsas(alloc, &bytes) {

@@ -12,7 +12,8 @@ use text_lines::{number, quad};
 
 /// The text of the last member of a name of the object at a place.
 pub fn text_of_name<'a>(tape: &Tape<'a>, place: usize, name: &[u8]) -> Option<&'a str>
-    ensures { (j : Json) → Stands tape.now place j → option_map (λ s. s.now) result ≡ option_and_then (definition.text_of_name name.now) (object_members place j) }
+    ensures { (j : Json) → Stands tape.now place j → option_map (λ s. s.now) result ≡
+        option_and_then (definition.text_of_name name.now) (object_members place j) }
 {
     let member = place_named(tape, place, name)?;
     text_at(tape, member)
@@ -20,7 +21,8 @@ pub fn text_of_name<'a>(tape: &Tape<'a>, place: usize, name: &[u8]) -> Option<&'
 
 /// The dotted quad that it is.
 pub fn quad_named(tape: &Tape<'_>, place: usize, name: &[u8]) -> Option<u32>
-    ensures { (j : Json) → Stands tape.now place j → result ≡ option_and_then (definition.quad_named name.now) (object_members place j) }
+    ensures { (j : Json) → Stands tape.now place j → result ≡ option_and_then
+        (definition.quad_named name.now) (object_members place j) }
 {
     let text = text_of_name(tape, place, name)?;
     quad(text.as_bytes())
@@ -28,7 +30,8 @@ pub fn quad_named(tape: &Tape<'_>, place: usize, name: &[u8]) -> Option<u32>
 
 /// The text of the number that the last member of a name is.
 fn digits_named<'a>(tape: &Tape<'a>, place: usize, name: &[u8]) -> Option<&'a str>
-    ensures { (j : Json) → Stands tape.now place j → option_map (λ s. s.now) result ≡ option_and_then (definition.digits_named name.now) (object_members place j) }
+    ensures { (j : Json) → Stands tape.now place j → option_map (λ s. s.now) result ≡
+        option_and_then (definition.digits_named name.now) (object_members place j) }
 {
     let member = place_named(tape, place, name)?;
     number_at(tape, member)
@@ -36,7 +39,8 @@ fn digits_named<'a>(tape: &Tape<'a>, place: usize, name: &[u8]) -> Option<&'a st
 
 /// The whole number, up to the greatest, that the last member of a name is.
 pub fn number_named(tape: &Tape<'_>, place: usize, name: &[u8], greatest: u16) -> Option<u16>
-    ensures { (j : Json) → Stands tape.now place j → result ≡ option_and_then (definition.number_named name.now greatest) (object_members place j) }
+    ensures { (j : Json) → Stands tape.now place j → result ≡ option_and_then
+        (definition.number_named name.now greatest) (object_members place j) }
 {
     let text = digits_named(tape, place, name)?;
     small_number(text.as_bytes(), greatest)
@@ -81,7 +85,8 @@ fn hex_number(text: &[u8]) -> Option<u32>
 
 /// The eight hexadecimal digits of the last member of a name.
 pub fn hex_named(tape: &Tape<'_>, place: usize, name: &[u8]) -> Option<u32>
-    ensures { (j : Json) → Stands tape.now place j → result ≡ option_and_then (definition.hex_named name.now 8 8) (object_members place j) }
+    ensures { (j : Json) → Stands tape.now place j → result ≡ option_and_then
+        (definition.hex_named name.now 8 8) (object_members place j) }
 {
     let text = text_of_name(tape, place, name)?;
     if text.len() == 8 {
@@ -93,7 +98,8 @@ pub fn hex_named(tape: &Tape<'_>, place: usize, name: &[u8]) -> Option<u32>
 
 /// The one to four hexadecimal digits of the last member of a name.
 pub fn short_hex_named(tape: &Tape<'_>, place: usize, name: &[u8]) -> Option<u16>
-    ensures { (j : Json) → Stands tape.now place j → result ≡ option_and_then (definition.hex_named name.now 1 4) (object_members place j) }
+    ensures { (j : Json) → Stands tape.now place j → result ≡ option_and_then
+        (definition.hex_named name.now 1 4) (object_members place j) }
 {
     let text = text_of_name(tape, place, name)?;
     if text.is_empty() || text.len() > 4 {

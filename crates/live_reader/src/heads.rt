@@ -22,7 +22,8 @@ pub struct Head {
 
 /// What the object at a place says of its LSA.
 pub fn head_at(tape: &Tape<'_>, place: usize) -> Option<Head>
-    ensures { (j : Json) → Stands tape.now place j → result ≡ option_and_then head_of (object_members place j) }
+    ensures { (j : Json) → Stands tape.now place j → result ≡ option_and_then head_of
+        (object_members place j) }
 {
     let id = quad_named(tape, place, b"linkStateId")?;
     let router = quad_named(tape, place, b"advertisingRouter")?;

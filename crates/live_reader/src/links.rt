@@ -49,7 +49,8 @@ fn far_name(kind: u8) -> &'static [u8]
 
 /// The link of a kind that the object at a place says.
 fn link_with(tape: &Tape<'_>, place: usize, kind: u8) -> Option<LsaLink>
-    ensures { (j : Json) → Stands tape.now place j → result ≡ option_and_then (definition.link_with kind) (object_members place j) }
+    ensures { (j : Json) → Stands tape.now place j → result ≡ option_and_then
+        (definition.link_with kind) (object_members place j) }
 {
     let id = quad_named(tape, place, far_name(kind))?;
     let address = quad_named(tape, place, b"routerInterfaceAddress")?;
@@ -64,7 +65,8 @@ fn link_with(tape: &Tape<'_>, place: usize, kind: u8) -> Option<LsaLink>
 
 /// The same, or nothing where links of that type are passed over.
 fn link_of_kind(tape: &Tape<'_>, place: usize, kind: u8) -> Option<Option<LsaLink>>
-    ensures { (ms : SpecMembers) → Stands tape.now place (object ms) → result ≡ definition.link_of_kind kind (members_at (place + 1) ms) }
+    ensures { (ms : SpecMembers) → Stands tape.now place (object ms) →
+        result ≡ definition.link_of_kind kind (members_at (place + 1) ms) }
 {
     if kind == 0 {
         return Some(None);
@@ -77,7 +79,8 @@ fn link_of_kind(tape: &Tape<'_>, place: usize, kind: u8) -> Option<Option<LsaLin
 
 /// The link that the object at a place says; None where a member is missing or off its form.
 fn link_said(tape: &Tape<'_>, place: usize) -> Option<Option<LsaLink>>
-    ensures { (ms : SpecMembers) → Stands tape.now place (object ms) → result ≡ definition.link_said (members_at (place + 1) ms) }
+    ensures { (ms : SpecMembers) → Stands tape.now place (object ms) →
+        result ≡ definition.link_said (members_at (place + 1) ms) }
 {
     let text = text_of_name(tape, place, b"linkType")?;
     link_of_kind(tape, place, link_kind_of(text.as_bytes()))
@@ -89,8 +92,10 @@ fn link_at(
     around: usize,
     place: usize,
 ) -> Result<Option<LsaLink>, Refusal<Lack, usize>>
-    ensures { MatchResult result (λ link. (j : Json) → Stands tape.now place j → link_read around place (object_members place j) ≡ Ok link)
-        (λ refusal. (j : Json) → Stands tape.now place j → TellsLack (link_read around place (object_members place j)) refusal) }
+    ensures { MatchResult result (λ link. (j : Json) → Stands tape.now place j →
+        link_read around place (object_members place j) ≡ Ok link)
+        (λ refusal. (j : Json) → Stands tape.now place j → TellsLack
+        (link_read around place (object_members place j)) refusal) }
 {
     if !opens_object(tape, place) {
         return Err(Refusal::Refused {
@@ -121,8 +126,9 @@ fn links_of(
     around: usize,
     places: &[usize],
 ) -> Result<Vec<LsaLink>, Refusal<Lack, usize>>
-    ensures { MatchResult result (λ links. (said : List Placed) → StandAt tape.now places.now said → links_in around said ≡ Ok links.items)
-        (λ refusal. (said : List Placed) → StandAt tape.now places.now said → TellsLack (links_in around said) refusal) }
+    ensures { MatchResult result (λ links. (said : List Placed) → StandAt tape.now places.now said →
+        links_in around said ≡ Ok links.items) (λ refusal. (said : List Placed) →
+        StandAt tape.now places.now said → TellsLack (links_in around said) refusal) }
 {
     let mut links = Vec::new(alloc);
     for place in places {
@@ -138,8 +144,11 @@ pub fn links_at(
     tape: &Tape<'_>,
     place: usize,
 ) -> Result<Vec<LsaLink>, Refusal<Lack, usize>>
-    ensures { MatchResult result (λ links. (ms : SpecMembers) → Stands tape.now place (object ms) → links_in place (member_values (those_last (members_at (place + 1) ms))) ≡ Ok links.items)
-        (λ refusal. (ms : SpecMembers) → Stands tape.now place (object ms) → TellsLack (links_in place (member_values (those_last (members_at (place + 1) ms)))) refusal) }
+    ensures { MatchResult result (λ links. (ms : SpecMembers) → Stands tape.now place (object ms) →
+        links_in place (member_values (those_last (members_at (place + 1) ms))) ≡ Ok links.items)
+        (λ refusal. (ms : SpecMembers) → Stands tape.now place (object ms) →
+        TellsLack (links_in place (member_values (those_last (members_at (place + 1) ms))))
+        refusal) }
 {
     let places = last_places(alloc, tape, place)?;
     links_of(alloc, tape, place, &places)

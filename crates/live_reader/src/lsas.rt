@@ -19,7 +19,8 @@ use std::alloc::Global;
 
 /// The place of the object that is the last member of a name of the object at a place.
 fn inner_place(tape: &Tape<'_>, place: usize, name: &[u8]) -> Option<usize>
-    ensures { (j : Json) → Stands tape.now place j → result ≡ option_map (λ found. found.0) (option_and_then (inner name.now) (object_members place j)) }
+    ensures { (j : Json) → Stands tape.now place j → result ≡ option_map (λ found. found.0)
+        (option_and_then (inner name.now) (object_members place j)) }
 {
     let member = place_named(tape, place, name)?;
     if opens_object(tape, member) {
@@ -36,8 +37,10 @@ fn lsa_at(
     around: usize,
     place: u32,
 ) -> Result<Instance, Refusal<Lack, usize>>
-    ensures { MatchResult result (λ lsa. (j : Json) → Stands tape.now place j → lsa_read around place (object_members place j) ≡ Ok lsa)
-        (λ refusal. (j : Json) → Stands tape.now place j → TellsLack (lsa_read around place (object_members place j)) refusal) }
+    ensures { MatchResult result (λ lsa. (j : Json) → Stands tape.now place j →
+        lsa_read around place (object_members place j) ≡ Ok lsa)
+        (λ refusal. (j : Json) → Stands tape.now place j → TellsLack
+        (lsa_read around place (object_members place j)) refusal) }
 {
     let object = place as usize;
     if !opens_object(tape, object) {
@@ -69,8 +72,9 @@ fn lsas_of(
     around: usize,
     places: &[u32],
 ) -> Result<Vec<Instance>, Refusal<Lack, usize>>
-    ensures { MatchResult result (λ lsas. (said : List Placed) → StandAt tape.now places.now said → instances_of_values around said ≡ Ok lsas.items)
-        (λ refusal. (said : List Placed) → StandAt tape.now places.now said → TellsLack (instances_of_values around said) refusal) }
+    ensures { MatchResult result (λ lsas. (said : List Placed) → StandAt tape.now places.now said →
+        instances_of_values around said ≡ Ok lsas.items) (λ refusal. (said : List Placed) →
+        StandAt tape.now places.now said → TellsLack (instances_of_values around said) refusal) }
 {
     let mut lsas = Vec::new(alloc);
     for place in places {
@@ -88,8 +92,10 @@ fn lsas_at(
     place: usize,
 ) -> Result<Vec<Instance>, Refusal<Lack, usize>>
     requires { length tape.now < 2 ^ 32 }
-    ensures { MatchResult result (λ lsas. (j : Json) → Stands tape.now place j → items_read around (items_of place j) ≡ Ok lsas.items)
-        (λ refusal. (j : Json) → Stands tape.now place j → TellsLack (items_read around (items_of place j)) refusal) }
+    ensures { MatchResult result (λ lsas. (j : Json) → Stands tape.now place j →
+        items_read around (items_of place j) ≡ Ok lsas.items)
+        (λ refusal. (j : Json) → Stands tape.now place j → TellsLack
+        (items_read around (items_of place j)) refusal) }
 {
     if !opens_array(tape, place) {
         return Err(Refusal::Refused {
@@ -110,8 +116,9 @@ fn found_lsas(
     found: Option<usize>,
 ) -> Result<Vec<Instance>, Refusal<Lack, usize>>
     requires { length tape.now < 2 ^ 32 }
-    ensures { MatchResult result (λ lsas. (o : Option Member) → StandsIf tape.now found o → found_read areas o ≡ Ok lsas.items)
-        (λ refusal. (o : Option Member) → StandsIf tape.now found o → TellsLack (found_read areas o) refusal) }
+    ensures { MatchResult result (λ lsas. (o : Option Member) → StandsIf tape.now found o →
+        found_read areas o ≡ Ok lsas.items) (λ refusal. (o : Option Member) →
+        StandsIf tape.now found o → TellsLack (found_read areas o) refusal) }
 {
     match found {
         Some(place) => lsas_at(alloc, tape, areas, place),
@@ -127,8 +134,12 @@ fn area_lsas(
     around: usize,
 ) -> Result<Vec<Instance>, Refusal<Lack, usize>>
     requires { length tape.now < 2 ^ 32 }
-    ensures { MatchResult result (λ lsas. (j : Json) → Stands tape.now around j → areas_read area around (option_and_then (inner (codes "areas")) (object_members around j)) ≡ Ok lsas.items)
-        (λ refusal. (j : Json) → Stands tape.now around j → TellsLack (areas_read area around (option_and_then (inner (codes "areas")) (object_members around j))) refusal) }
+    ensures { MatchResult result (λ lsas. (j : Json) → Stands tape.now around j →
+        areas_read area around (option_and_then (inner (codes "areas")) (object_members around j)) ≡
+        Ok lsas.items) (λ refusal. (j : Json) → Stands tape.now around j →
+        TellsLack
+        (areas_read area around (option_and_then (inner (codes "areas")) (object_members around j)))
+        refusal) }
 {
     let Some(areas) = inner_place(tape, around, b"areas") else {
         return Err(Refusal::Refused {
@@ -153,8 +164,9 @@ pub fn live_lsas(
     area: u32,
 ) -> Result<Vec<Instance>, Refusal<Lack, usize>>
     requires { length tape.now < 2 ^ 32 }
-    ensures { MatchResult result (λ lsas. (j : Json) → Stands tape.now 0 j → live_lsas area j ≡ Ok lsas.items)
-        (λ refusal. (j : Json) → Stands tape.now 0 j → TellsLack (live_lsas area j) refusal) }
+    ensures { MatchResult result (λ lsas. (j : Json) → Stands tape.now 0 j →
+        live_lsas area j ≡ Ok lsas.items) (λ refusal. (j : Json) → Stands tape.now 0 j →
+        TellsLack (live_lsas area j) refusal) }
 {
     let Some(states) = inner_place(tape, 0, b"routerLinkStates") else {
         return Err(Refusal::Refused {

@@ -81,7 +81,8 @@ fn good_tokens(alloc: Global, text: &str) -> Result<usize, OutOfMemory>
 /// The refusal of a text that isn't JSON.
 fn not_json(alloc: Global, text: &str) -> Result<Refusal<LiveFault>, OutOfMemory>
     requires { length text.now < 2 ^ 32 - 1 }
-    ensures { IfOk result (λ refusal. refusal ≡ Refusal.Refused LiveFault.BadJson (stop_line text.now)) }
+    ensures { IfOk result (λ refusal. refusal ≡ Refusal.Refused LiveFault.BadJson
+        (stop_line text.now)) }
 {
     let good = good_tokens(alloc, text)?;
     Ok(Refusal::at(token_line(text.as_bytes(), good), LiveFault::BadJson))
@@ -95,7 +96,9 @@ fn decide(
 ) -> Result<Database, Refusal<LiveFault>>
     requires few { length text.now < 2 ^ 32 - 1 }
     requires small { AreSmall instances.items (2 ^ 32 - 2) }
-    ensures { MatchResult result (λ database. decided_in text.now (files.decided instances.items None) ≡ Ok database) (TellsSaid (decided_in text.now (files.decided instances.items None))) }
+    ensures { MatchResult result (λ database. decided_in text.now
+        (files.decided instances.items None) ≡ Ok database)
+        (TellsSaid (decided_in text.now (files.decided instances.items None))) }
 {
     match database_of(alloc, instances) {
         Ok(database) => Ok(database),
@@ -121,8 +124,10 @@ fn lacking(text: &[u8], refusal: Refusal<Lack, usize>) -> Refusal<LiveFault>
 /// The LSAs of an area that a JSON text says.
 fn read_value(alloc: Global, text: &str, area: u32) -> Result<Database, Refusal<LiveFault>>
     requires { length text.now ≤ 2 ^ 26 }
-    ensures { MatchResult result (λ database. (j : Json) → value_of_text text.now ≡ Some j → read_in text.now (json_lsas.live_lsas area j) ≡ Ok database)
-        (λ refusal. (j : Json) → value_of_text text.now ≡ Some j → TellsSaid (read_in text.now (json_lsas.live_lsas area j)) refusal) }
+    ensures { MatchResult result (λ database. (j : Json) → value_of_text text.now ≡ Some j →
+        read_in text.now (json_lsas.live_lsas area j) ≡ Ok database)
+        (λ refusal. (j : Json) → value_of_text text.now ≡ Some j →
+        TellsSaid (read_in text.now (json_lsas.live_lsas area j)) refusal) }
 {
     let mut scratch = Scratch::new(alloc);
     let Ok(tape) = Tape::parse(text, &mut scratch, Vec::new(alloc)) else {
@@ -140,7 +145,8 @@ fn read_value(alloc: Global, text: &str, area: u32) -> Result<Database, Refusal<
 /// The LSAs of an area that a text says.
 fn read_text(alloc: Global, text: &str, area: u32) -> Result<Database, Refusal<LiveFault>>
     requires { length text.now ≤ 2 ^ 26 }
-    ensures { MatchResult result (λ database. said_by_json area text.now ≡ Ok database) (TellsSaid (said_by_json area text.now)) }
+    ensures { MatchResult result (λ database. said_by_json area text.now ≡ Ok database)
+        (TellsSaid (said_by_json area text.now)) }
 {
     if is_json(alloc, text)? {
         read_value(alloc, text, area)
@@ -152,7 +158,8 @@ fn read_text(alloc: Global, text: &str, area: u32) -> Result<Database, Refusal<L
 /// The LSAs of an area that bytes say as JSON.
 fn read_json(alloc: Global, bytes: &[u8], area: u32) -> Result<Database, Refusal<LiveFault>>
     requires { length bytes.now ≤ 2 ^ 26 }
-    ensures { MatchResult result (λ database. JsonComesTo area bytes.now (Ok database)) (definition.RefusesJson area bytes.now) }
+    ensures { MatchResult result (λ database. JsonComesTo area bytes.now (Ok database))
+        (definition.RefusesJson area bytes.now) }
 {
     match std::str::from_utf8(bytes) {
         Ok(text) => read_text(alloc, text, area),
@@ -166,7 +173,8 @@ fn read_json(alloc: Global, bytes: &[u8], area: u32) -> Result<Database, Refusal
 /// The LSAs that bytes say.
 fn read_bytes(alloc: Global, bytes: &[u8]) -> Result<Database, Refusal<LiveFault>>
     requires { length bytes.now < 2 ^ 32 - 1 }
-    ensures { MatchResult result (λ database. BytesComeTo bytes.now (Ok database)) (definition.RefusesBytes bytes.now) }
+    ensures { MatchResult result (λ database. BytesComeTo bytes.now (Ok database))
+        (definition.RefusesBytes bytes.now) }
 {
     match read_lsas(alloc, bytes) {
         Ok(database) => Ok(database),
@@ -187,7 +195,8 @@ fn read_bytes(alloc: Global, bytes: &[u8]) -> Result<Database, Refusal<LiveFault
 /// - `OutOfMemory` where memory runs out.
 pub fn read_live(alloc: Global, bytes: &[u8], area: u32) -> Result<Database, Refusal<LiveFault>>
     requires { length bytes.now ≤ 2 ^ 26 }
-    ensures { MatchResult result (λ live. LiveComesTo area bytes.now (Ok live)) (RefusesLive area bytes.now) }
+    ensures { MatchResult result (λ live. LiveComesTo area bytes.now (Ok live))
+        (RefusesLive area bytes.now) }
 {
     if begins_object(bytes) {
         read_json(alloc, bytes, area)

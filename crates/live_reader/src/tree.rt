@@ -32,7 +32,8 @@ fn after(tape: &Tape<'_>, place: usize) -> usize
 
 /// The member of an object that begins at a place.
 pub fn step_at<'a>(tape: &Tape<'a>, place: usize) -> Option<Step<'a>>
-    ensures member { (ms : SpecMembers) (more : List OneToken) → drop place tape.now ≡ members_tokens ms ++ more → IsStep place ms result }
+    ensures member { (ms : SpecMembers) (more : List OneToken) → drop place tape.now ≡
+        members_tokens ms ++ more → IsStep place ms result }
     ensures later { IfSome result (λ step. (place < step.next) × (step.next ≤ length tape.now)) }
 {
     let nodes = tape.nodes();
@@ -51,7 +52,8 @@ pub fn step_at<'a>(tape: &Tape<'a>, place: usize) -> Option<Step<'a>>
 
 /// The place behind the item of an array that begins at a place.
 pub fn item_end(tape: &Tape<'_>, place: usize) -> Option<usize>
-    ensures item { (js : SpecItems) (more : List OneToken) → drop place tape.now ≡ items_tokens js ++ more → IsItemStep place js result }
+    ensures item { (js : SpecItems) (more : List OneToken) → drop place tape.now ≡
+        items_tokens js ++ more → IsItemStep place js result }
     ensures later { IfSome result (λ next. (place < next) × (next ≤ length tape.now)) }
 {
     let nodes = tape.nodes();

@@ -15,7 +15,8 @@ use text_lines::quad;
 
 /// Where the first member of the object at a place begins; None where no object begins there.
 fn first_member(tape: &Tape<'_>, place: usize) -> Option<usize>
-    ensures { (j : Json) → Stands tape.now place j → result ≡ option_map (λ ms. place + 1) (object_members place j) }
+    ensures { (j : Json) → Stands tape.now place j → result ≡ option_map (λ ms. place + 1)
+        (object_members place j) }
 {
     if tape.len() <= place {
         return None;
@@ -29,7 +30,8 @@ fn first_member(tape: &Tape<'_>, place: usize) -> Option<usize>
 
 /// Where the first item of the array at a place begins; None where no array begins there.
 fn first_item(tape: &Tape<'_>, place: usize) -> Option<usize>
-    ensures { (j : Json) → Stands tape.now place j → result ≡ option_map (λ js. place + 1) (items_of place j) }
+    ensures { (j : Json) → Stands tape.now place j → result ≡ option_map (λ js. place + 1)
+        (items_of place j) }
 {
     if tape.len() <= place {
         return None;
@@ -43,7 +45,8 @@ fn first_item(tape: &Tape<'_>, place: usize) -> Option<usize>
 
 /// The place of the last member of a name of the object at a place.
 pub fn place_named(tape: &Tape<'_>, place: usize, name: &[u8]) -> Option<usize>
-    ensures { (j : Json) → Stands tape.now place j → result ≡ option_map (λ m. m.place) (option_and_then (member_named name.now) (object_members place j)) }
+    ensures { (j : Json) → Stands tape.now place j → result ≡ option_map (λ m. m.place)
+        (option_and_then (member_named name.now) (object_members place j)) }
 {
     let mut next = first_member(tape, place)?;
     let mut last = None;
@@ -58,7 +61,8 @@ pub fn place_named(tape: &Tape<'_>, place: usize, name: &[u8]) -> Option<usize>
 
 /// The members of the object at a place, in order.
 fn steps_at<'a>(alloc: Global, tape: &Tape<'a>, place: usize) -> Result<Vec<Step<'a>>, OutOfMemory>
-    ensures { IfOk result (λ steps. (ms : SpecMembers) → Stands tape.now place (object ms) → StepOver tape.now steps.items (members_at (place + 1) ms)) }
+    ensures { IfOk result (λ steps. (ms : SpecMembers) → Stands tape.now place (object ms) →
+        StepOver tape.now steps.items (members_at (place + 1) ms)) }
 {
     let mut steps = Vec::new(alloc);
     let Some(start) = first_member(tape, place) else {
@@ -100,7 +104,8 @@ fn places_of_last(alloc: Global, steps: &[Step<'_>]) -> Result<Vec<usize>, OutOf
 
 /// The places of the members of the object at a place, without those of whose name a later one comes, in order.
 pub fn last_places(alloc: Global, tape: &Tape<'_>, place: usize) -> Result<Vec<usize>, OutOfMemory>
-    ensures { IfOk result (λ places. (ms : SpecMembers) → Stands tape.now place (object ms) → StandAt tape.now places.items (member_values (those_last (members_at (place + 1) ms)))) }
+    ensures { IfOk result (λ places. (ms : SpecMembers) → Stands tape.now place (object ms) →
+        StandAt tape.now places.items (member_values (those_last (members_at (place + 1) ms)))) }
 {
     let steps = steps_at(alloc, tape, place)?;
     let places = places_of_last(alloc, &steps)?;
@@ -110,7 +115,8 @@ pub fn last_places(alloc: Global, tape: &Tape<'_>, place: usize) -> Result<Vec<u
 /// The places of the items of the array at a place, in order.
 pub fn item_places(alloc: Global, tape: &Tape<'_>, place: usize) -> Result<Vec<u32>, OutOfMemory>
     requires { length tape.now < 2 ^ 32 }
-    ensures { IfOk result (λ places. (js : SpecItems) → Stands tape.now place (array js) → StandAt tape.now places.items (items_at (place + 1) js)) }
+    ensures { IfOk result (λ places. (js : SpecItems) → Stands tape.now place (array js) →
+        StandAt tape.now places.items (items_at (place + 1) js)) }
 {
     let mut places = Vec::new(alloc);
     let Some(start) = first_item(tape, place) else {
@@ -127,7 +133,9 @@ pub fn item_places(alloc: Global, tape: &Tape<'_>, place: usize) -> Result<Vec<u
 /// The place of the last member whose name is that of an area, if there is one, of the object at a place; None where some
 /// name is no dotted quad.
 pub fn area_place(tape: &Tape<'_>, place: usize, area: u32) -> Option<Option<usize>>
-    ensures { (ms : SpecMembers) → Stands tape.now place (object ms) → result ≡ option_map (option_map (λ m. m.place)) (area_member area (members_at (place + 1) ms)) }
+    ensures { (ms : SpecMembers) → Stands tape.now place (object ms) →
+        result ≡ option_map (option_map (λ m. m.place))
+        (area_member area (members_at (place + 1) ms)) }
 {
     let mut next = first_member(tape, place)?;
     let mut found = None;

@@ -122,7 +122,9 @@ fn stamp_of(lsa: &[u8], place: u32) -> Stamp
 /// What one LSA at a place says, or None where its type isn't read.
 pub fn said_at(alloc: Global, lsa: &[u8], place: u32) -> Result<Option<Instance>, Refusal<LsaFault>>
     requires { 20 ≤ length lsa.now }
-    ensures { MatchResult result (λ said. (body_fault lsa.now ≡ None) × (option_to_list said ≡ said_at place lsa.now)) (TellsLsaFault (placed place (body_fault lsa.now))) }
+    ensures { MatchResult result (λ said. (body_fault lsa.now ≡ None) ×
+        (option_to_list said ≡ said_at place lsa.now))
+        (TellsLsaFault (placed place (body_fault lsa.now))) }
 {
     match body_of(alloc, lsa)? {
         None if is_read(lsa[3]) => Err(Refusal::at(place, LsaFault::BadBody)),

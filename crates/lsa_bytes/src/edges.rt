@@ -42,7 +42,8 @@ fn push_link_edges(
     router: u32,
     links: &[LsaLink],
 ) -> Result<(), OutOfMemory>
-    ensures { OnOk result (edges.new.items ≡ edges.old.items ++ flat_map (link_edge vertices.now vertex router) links.now) }
+    ensures { OnOk result (edges.new.items ≡ edges.old.items ++
+        flat_map (link_edge vertices.now vertex router) links.now) }
 {
     for link in links {
         let to = far_end(vertices, router, link);
@@ -59,7 +60,8 @@ fn push_attached_edges(
     id: u32,
     attached: &[u32],
 ) -> Result<(), OutOfMemory>
-    ensures { OnOk result (edges.new.items ≡ edges.old.items ++ flat_map (attached_edge vertices.now vertex id) attached.now) }
+    ensures { OnOk result (edges.new.items ≡ edges.old.items ++
+        flat_map (attached_edge vertices.now vertex id) attached.now) }
 {
     for router in attached {
         let to = vertices.router_with_link(*router, TRANSIT_LINK, id);
@@ -75,7 +77,8 @@ fn push_lsa_edges(
     vertex: u32,
     lsa: &Lsa,
 ) -> Result<(), OutOfMemory>
-    ensures { OnOk result (edges.new.items ≡ edges.old.items ++ edges_from vertices.now vertex lsa.now lsa.now.body) }
+    ensures { OnOk result (edges.new.items ≡ edges.old.items ++
+        edges_from vertices.now vertex lsa.now lsa.now.body) }
 {
     match &lsa.body {
         Body::Links(links) => {
@@ -97,8 +100,9 @@ fn push_edges_of_kind(
 ) -> Result<u32, OutOfMemory>
     requires { vertex < 2 ^ 32 - 1 }
     ensures next { IfOk result (λ next. next ≡ vertex + (if is_kind kind lsa.now then 1 else 0)) }
-    ensures pushed { OnOk result (edges.new.items ≡ edges.old.items
-        ++ (if is_kind kind lsa.now then edges_from vertices.now vertex lsa.now lsa.now.body else [])) }
+    ensures pushed { OnOk result (edges.new.items ≡ edges.old.items ++
+        (if is_kind kind lsa.now then edges_from vertices.now vertex lsa.now lsa.now.body
+        else [])) }
 {
     if !is_kind(kind, lsa) {
         return Ok(vertex);
@@ -115,7 +119,8 @@ pub fn push_edges(
     first: u32,
 ) -> Result<(), OutOfMemory>
     requires { first + length vertices.now < 2 ^ 32 - 1 }
-    ensures { OnOk result (edges.new.items ≡ edges.old.items ++ edges_in_order vertices.now first (filter (is_kind kind) vertices.now)) }
+    ensures { OnOk result (edges.new.items ≡ edges.old.items ++
+        edges_in_order vertices.now first (filter (is_kind kind) vertices.now)) }
 {
     let mut vertex = first;
     for lsa in vertices.lsas() {

@@ -24,7 +24,8 @@ impl Model for Members {
 impl Members {
     /// The members that these numbers are, which it sorts.
     pub fn of(numbers: Vec<u32>) -> Members
-        ensures { (number : ℕ) → list_any (λ other. other == number) result ≡ list_any (λ other. other == number) numbers.items }
+        ensures { (number : ℕ) → list_any (λ other. other == number) result ≡
+            list_any (λ other. other == number) numbers.items }
     {
         let mut sorted = numbers;
         sorted.sort_unstable();

@@ -50,7 +50,8 @@ impl Newest {
 
     /// Adds an instance behind those that are there.
     fn add(&mut self, instance: &Instance) -> Result<(), OutOfMemory>
-        ensures { OnOk result ((all : List OneInstance) → HasNewest self.old.by_name all → HasNewest self.new.by_name (all ++ instance.now ∷ [])) }
+        ensures { OnOk result ((all : List OneInstance) → HasNewest self.old.by_name all →
+            HasNewest self.new.by_name (all ++ instance.now ∷ [])) }
     {
         let name = name_of(&instance.lsa);
         let stamp = newer_of(self.of(name), instance.stamp);
@@ -76,7 +77,8 @@ impl Newest {
 
     /// Whether an instance counts: whether it is the newest of its LSA's and isn't of the greatest age.
     pub fn counts(&self, instance: &Instance) -> bool
-        ensures { (all : List OneInstance) → HasNewest self.now.by_name all → result ≡ counts_among all instance.now }
+        ensures { (all : List OneInstance) → HasNewest self.now.by_name all →
+            result ≡ counts_among all instance.now }
     {
         let newest = self.of(name_of(&instance.lsa));
         !is_gone(instance.stamp) && stands_at(newest, instance.stamp.place)

@@ -48,7 +48,9 @@ impl Reader {
     /// With one more LSA.
     pub fn with(self, lsa: Lsa, place: u32) -> Result<Reader, Refusal<LsaFault>>
         requires { has_link_types lsa.body ≡ true }
-        ensures { MatchResult result (λ reader. (lsa_fault_behind self lsa ≡ None) × (reader ≡ self ++ lsa ∷ [])) (TellsLsaFault (placed place (lsa_fault_behind self lsa))) }
+        ensures { MatchResult result (λ reader. (lsa_fault_behind self lsa ≡ None) ×
+            (reader ≡ self ++ lsa ∷ []))
+            (TellsLsaFault (placed place (lsa_fault_behind self lsa))) }
     {
         if self.has_no_room(&lsa) {
             return Err(Refusal::at(place, LsaFault::TooManyRouters));
@@ -66,7 +68,8 @@ impl Reader {
 
     /// Whether an LSA is a router-LSA more than a database may have.
     fn has_no_room(&self, lsa: &Lsa) -> bool
-        ensures { result ≡ (is_router_lsa lsa.now && nat_le 1000 (count_by is_router_lsa self.now)) }
+        ensures { result ≡ (is_router_lsa lsa.now && nat_le 1000
+            (count_by is_router_lsa self.now)) }
     {
         is_router(lsa) && self.seen.router_count() >= MOST_ROUTERS
     }

@@ -21,7 +21,8 @@ use std::alloc::Global;
 
 /// The length of the LSA that begins the bytes, all of which they have.
 fn whole_length(rest: &[u8], offset: u32) -> Result<usize, Refusal<LsaFault>>
-    ensures { MatchResult result (λ length. (length_fault rest.now ≡ None) × (length ≡ length_of rest.now)) (TellsLsaFault (placed offset (length_fault rest.now))) }
+    ensures { MatchResult result (λ length. (length_fault rest.now ≡ None) ×
+        (length ≡ length_of rest.now)) (TellsLsaFault (placed offset (length_fault rest.now))) }
 {
     if rest.len() < HEADER_LENGTH {
         return Err(Refusal::at(offset, LsaFault::ShortLsa));
@@ -54,7 +55,8 @@ fn push_instances(
 ) -> Result<(), Refusal<LsaFault>>
     requires empty { instances.old.items ≡ [] }
     requires few { length bytes.now < 2 ^ 32 - 1 }
-    ensures { MatchResult result (λ _. AreReadFrom bytes.now instances.new.items None) (EndAt bytes.now instances.new.items) }
+    ensures { MatchResult result (λ _. AreReadFrom bytes.now instances.new.items None)
+        (EndAt bytes.now instances.new.items) }
 {
     let mut rest = bytes;
     while !rest.is_empty() {
@@ -76,7 +78,8 @@ fn push_instances(
 /// `TooManyRouters`, `LsaTwice`, `ZeroMetric`. `OutOfMemory` where memory runs out.
 pub fn database_of(alloc: Global, instances: Vec<Instance>) -> Result<Database, Refusal<LsaFault>>
     requires { AreSmall instances.items (2 ^ 32 - 2) }
-    ensures { MatchResult result (λ database. (fault_among instances.items ≡ None) × (database ≡ lsas_of (those_that_count instances.items)))
+    ensures { MatchResult result (λ database. (fault_among instances.items ≡ None) ×
+        (database ≡ lsas_of (those_that_count instances.items)))
         (TellsLsaFault (fault_among instances.items)) }
 {
     let newest = Newest::among(alloc, instances.as_slice())?;
@@ -129,10 +132,12 @@ pub fn read_lsas(alloc: Global, bytes: &[u8]) -> Result<Database, Refusal<LsaFau
 
 /// Bytes come to one thing: to one list of LSAs, or to one fault at one offset. A law, which takes no time.
 pub fn comes_to_one()
-    ensures { (bytes : List ℕ) (a b : Result (List OneLsa) (OneFault × ℕ)) → ComesTo bytes a → ComesTo bytes b → a ≡ b }
+    ensures { (bytes : List ℕ) (a b : Result (List OneLsa) (OneFault × ℕ)) → ComesTo bytes a →
+        ComesTo bytes b → a ≡ b }
 {}
 
 /// The bytes of LSAs without a fault, one after the other, say these LSAs. A law, which takes no time.
 pub fn written_is_read()
-    ensures { (lsas : List Masked) → All IsWritable lsas → HaveNoFault (map (λ m. m.lsa) lsas) → Say (bytes_of_all lsas) (map (λ m. m.lsa) lsas) }
+    ensures { (lsas : List Masked) → All IsWritable lsas → HaveNoFault (map (λ m. m.lsa) lsas) →
+        Say (bytes_of_all lsas) (map (λ m. m.lsa) lsas) }
 {}

@@ -38,8 +38,10 @@ impl Seen {
 
     /// Adds an LSA; tells whether no other of its name was seen.
     pub fn add(&mut self, lsa: &Lsa) -> Result<bool, OutOfMemory>
-        ensures new { IfOk result (λ new. (lsas : List OneLsa) → HasSeen self.old lsas → new ≡ not (list_any (is_same lsa.now) lsas)) }
-        ensures added { IfOk result (λ new. (lsas : List OneLsa) → HasSeen self.old lsas → IsTrue new → HasSeen self.new (lsas ++ lsa.now ∷ [])) }
+        ensures new { IfOk result (λ new. (lsas : List OneLsa) → HasSeen self.old lsas →
+            new ≡ not (list_any (is_same lsa.now) lsas)) }
+        ensures added { IfOk result (λ new. (lsas : List OneLsa) → HasSeen self.old lsas →
+            IsTrue new → HasSeen self.new (lsas ++ lsa.now ∷ [])) }
     {
         match lsa.body {
             Body::Links(_) => Ok(self.routers.insert(lsa.router)?),

@@ -60,7 +60,8 @@ fn name_as(kind: Kind, lsa: &Lsa) -> Option<u32>
 
 /// Keeps a spot by a name, unless the name has one.
 fn keep(spots: &mut BTreeMap<u32, Spot>, name: u32, spot: Spot) -> Result<(), OutOfMemory>
-    ensures { OnOk result ((id : ℕ) → get nat_cmp spots.new id ≡ option_or (get nat_cmp spots.old id) (if name == id then Some spot else None)) }
+    ensures { OnOk result ((id : ℕ) → get nat_cmp spots.new id ≡
+        option_or (get nat_cmp spots.old id) (if name == id then Some spot else None)) }
 {
     spots.entry(name)?.or_insert(spot);
     Ok(())

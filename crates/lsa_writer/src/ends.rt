@@ -60,7 +60,8 @@ fn has_name(interface: &Interface, name: &[u8]) -> bool
 
 /// The place of the interface of a name.
 fn place_of(interfaces: &[Interface], name: &[u8]) -> Option<usize>
-    ensures found { option_and_then (slice_get interfaces.now) result ≡ interface_named name.now interfaces.now }
+    ensures found { option_and_then (slice_get interfaces.now) result ≡
+        interface_named name.now interfaces.now }
     ensures within { MatchOption result (Unit {0}) (λ place. place < length interfaces.now) }
 {
     for (place, interface) in interfaces.iter().enumerate() {
@@ -75,7 +76,8 @@ fn place_of(interfaces: &[Interface], name: &[u8]) -> Option<usize>
 /// where names are looked up in the order of the interfaces.
 fn place_from(interfaces: &[Interface], name: &[u8], from: usize) -> Option<usize>
     requires { AllPairs (λ a b. a.name ≢ b.name) interfaces.now }
-    ensures { option_and_then (slice_get interfaces.now) result ≡ interface_named name.now interfaces.now }
+    ensures { option_and_then (slice_get interfaces.now) result ≡
+        interface_named name.now interfaces.now }
 {
     let (before, behind) = interfaces.split_at(from.min(interfaces.len()));
     match place_of(behind, name) {

@@ -15,7 +15,8 @@ const FIRST_SEQUENCE: u32 = 0x8000_0001;
 
 /// Adds what ends the header of an LSA: the first sequence number, checksum 0, the length.
 fn push_length(bytes: &mut Vec<u8>, length: u16) -> Result<(), OutOfMemory>
-    ensures { OnOk result (bytes.new.items ≡ bytes.old.items ++ (to_be_bytes w32 2147483649 ++ (0 ∷ 0 ∷ to_be_bytes w16 length))) }
+    ensures { OnOk result (bytes.new.items ≡ bytes.old.items ++
+        (to_be_bytes w32 2147483649 ++ (0 ∷ 0 ∷ to_be_bytes w16 length))) }
 {
     bytes.extend_from_slice(&FIRST_SEQUENCE.to_be_bytes())?;
     bytes.extend_from_slice(&[0, 0])?;
@@ -62,7 +63,8 @@ fn push_count(bytes: &mut Vec<u8>, count: u16) -> Result<(), OutOfMemory>
 
 /// Adds links of a router-LSA, in order.
 fn push_links(bytes: &mut Vec<u8>, links: &[OwnedLink]) -> Result<(), OutOfMemory>
-    ensures { OnOk result (bytes.new.items ≡ bytes.old.items ++ flat_map link_bytes (links_alone links.now)) }
+    ensures { OnOk result (bytes.new.items ≡ bytes.old.items ++
+        flat_map link_bytes (links_alone links.now)) }
 {
     for said in links {
         push_link(bytes, said.link)?;
@@ -73,7 +75,8 @@ fn push_links(bytes: &mut Vec<u8>, links: &[OwnedLink]) -> Result<(), OutOfMemor
 /// Adds the router-LSA of a router with these links, of which its length has room for.
 pub fn push_router_lsa(bytes: &mut Vec<u8>, id: u32, links: &[OwnedLink]) -> Result<(), OutOfMemory>
     requires { 24 + 12 * length links.now < 2 ^ 16 }
-    ensures { OnOk result (bytes.new.items ≡ bytes.old.items ++ lsa_bytes (router_lsa id (links_alone links.now))) }
+    ensures { OnOk result (bytes.new.items ≡ bytes.old.items ++
+        lsa_bytes (router_lsa id (links_alone links.now))) }
 {
     let count = links.len() as u16;
     push_header(bytes, ROUTER_LSA, id, id, 24 + 12 * count)?;
@@ -108,7 +111,8 @@ fn push_mask(bytes: &mut Vec<u8>, length: u8) -> Result<(), OutOfMemory>
 
 /// Adds the router IDs of members, in order.
 fn push_members(bytes: &mut Vec<u8>, ends: &[LinkEnd], members: &[u32]) -> Result<(), OutOfMemory>
-    ensures { OnOk result (bytes.new.items ≡ bytes.old.items ++ flat_map (to_be_bytes w32) (routers_in (member_ends ends.now members.now))) }
+    ensures { OnOk result (bytes.new.items ≡ bytes.old.items ++
+        flat_map (to_be_bytes w32) (routers_in (member_ends ends.now members.now))) }
 {
     for member in members {
         bytes.extend_from_slice(&end_at(ends, *member).router.to_be_bytes())?;
@@ -124,7 +128,8 @@ pub fn push_network_lsa(
     members: &[u32],
 ) -> Result<(), OutOfMemory>
     requires { 24 + 4 * length members.now < 2 ^ 16 }
-    ensures { OnOk result (bytes.new.items ≡ bytes.old.items ++ lsa_bytes (network_lsa from (member_ends ends.now members.now))) }
+    ensures { OnOk result (bytes.new.items ≡ bytes.old.items ++
+        lsa_bytes (network_lsa from (member_ends ends.now members.now))) }
 {
     let count = members.len() as u16;
     push_header(

@@ -64,7 +64,8 @@ pub fn said_links(
     requires ends { of.ends.now ≡ link_ends configs.now of.links.now }
     requires one_each { length of.costs.now ≡ length of.links.now }
     requires few { length of.links.now ≤ 4000 }
-    ensures { IfOk result (λ said. said.items ≡ said_links configs.now designated.now of.entry.links.now of.entry.costs.now) }
+    ensures { IfOk result (λ said. said.items ≡ said_links configs.now designated.now
+        of.entry.links.now of.entry.costs.now) }
 {
     let mut said = Vec::new(alloc);
     for (i, link) in of.links.iter().enumerate() {

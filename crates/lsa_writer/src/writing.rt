@@ -40,7 +40,8 @@ fn push_router_lsas(
     requires in_order { AllPairs (λ a b. a.router ≤ b.router) said.now }
     requires few { length said.now ≤ 4000 }
     requires configs { length configs.now ≤ 1000 }
-    ensures { OnOk result (bytes.new.items ≡ bytes.old.items ++ bytes_of_all (router_lsas configs.now said.now)) }
+    ensures { OnOk result (bytes.new.items ≡ bytes.old.items ++
+        bytes_of_all (router_lsas configs.now said.now)) }
 {
     let mut rest = said;
     for router in 0..configs.len() as u32 {
@@ -61,7 +62,8 @@ fn push_network_lsas(
     requires few { length subnets.now ≤ 4000 }
     requires few_members { All (λ members. length members ≤ 4000) subnets.now }
     requires designated { designated.now ≡ designated_ends ends.now subnets.now }
-    ensures { OnOk result (bytes.new.items ≡ bytes.old.items ++ bytes_of_all (network_lsas ends.now subnets.now)) }
+    ensures { OnOk result (bytes.new.items ≡ bytes.old.items ++
+        bytes_of_all (network_lsas ends.now subnets.now)) }
 {
     for (i, members) in subnets.iter().enumerate() {
         let from = end_at(designated, i as u32);
@@ -91,8 +93,10 @@ pub fn lsas_of(
     requires ids { first_id_fault [] 0 configs.now ≡ None }
     requires one_each { length costs.now ≡ length lsdb.now.links }
     requires priced { All (λ cost. 0 < cost) costs.now }
-    ensures written { IfOk result (λ bytes. bytes.items ≡ bytes_of_all (written_lsas configs.now lsdb.now costs.now)) }
-    ensures one_graph { IfOk result (λ bytes. SayGraph bytes.items (graph_at lsdb.now (map Fixed costs.now))) }
+    ensures written { IfOk result (λ bytes. bytes.items ≡ bytes_of_all
+        (written_lsas configs.now lsdb.now costs.now)) }
+    ensures one_graph { IfOk result (λ bytes. SayGraph bytes.items
+        (graph_at lsdb.now (map Fixed costs.now))) }
 {
     keeps_configs(configs);
     let links = lsdb.links.as_slice();

@@ -23,7 +23,8 @@ const MOST_INTERFACES: usize = 4000;
 
 /// The refusal of an interface.
 pub fn refusal_at(fault: TopologyFault, port: &Port) -> Refusal<TopologyFault, ConfigLine>
-    ensures { result ≡ Refusal.Refused fault (record { config = port.now.router; line = port.now.interface.line }) }
+    ensures { result ≡ Refusal.Refused fault
+        (record { config = port.now.router; line = port.now.interface.line }) }
 {
     Refusal::Refused {
         fault,
@@ -86,7 +87,8 @@ fn kind_on(port: &Port) -> (bool, Subnet)
 
 /// Whether an interface before on the same subnet has another network kind.
 fn is_mismatch(seen: &Tally<(bool, Subnet)>, port: &Port) -> bool
-    ensures { (before : List Port) → IsTally same_trait seen.now.counts (map kind_on before) → result ≡ is_mismatch before port.now }
+    ensures { (before : List Port) → IsTally same_trait seen.now.counts (map kind_on before) →
+        result ≡ is_mismatch before port.now }
 {
     let (broadcast, subnet) = kind_on(port);
     seen.count((!broadcast, subnet)) > 0
@@ -94,7 +96,8 @@ fn is_mismatch(seen: &Tally<(bool, Subnet)>, port: &Port) -> bool
 
 /// How many interfaces before stand on an interface's subnet, of whichever kind.
 fn members_before(seen: &Tally<(bool, Subnet)>, port: &Port) -> u64
-    ensures { (before : List Port) → IsTally same_trait seen.now.counts (map kind_on before) → result ≡ count_by (λ q. shares_subnet q port.now) before }
+    ensures { (before : List Port) → IsTally same_trait seen.now.counts (map kind_on before) →
+        result ≡ count_by (λ q. shares_subnet q port.now) before }
 {
     let subnet = subnet_of(port);
     u64::from(seen.count((true, subnet))) + u64::from(seen.count((false, subnet)))
@@ -102,7 +105,8 @@ fn members_before(seen: &Tally<(bool, Subnet)>, port: &Port) -> u64
 
 /// Whether two interfaces before are on the same point-to-point subnet.
 fn is_crowding(seen: &Tally<(bool, Subnet)>, port: &Port) -> bool
-    ensures { (before : List Port) → IsTally same_trait seen.now.counts (map kind_on before) → result ≡ is_crowding before port.now }
+    ensures { (before : List Port) → IsTally same_trait seen.now.counts (map kind_on before) →
+        result ≡ is_crowding before port.now }
 {
     let members = members_before(seen, port);
     !is_broadcast(port) && members >= 2
@@ -119,7 +123,8 @@ pub enum SubnetCheck {
 
 /// Whether an interface fails a check.
 fn fails(check: SubnetCheck, seen: &Tally<(bool, Subnet)>, port: &Port) -> bool
-    ensures { (before : List Port) → IsTally same_trait seen.now.counts (map kind_on before) → result ≡ fails check before port.now }
+    ensures { (before : List Port) → IsTally same_trait seen.now.counts (map kind_on before) →
+        result ≡ fails check before port.now }
 {
     match check {
         SubnetCheck::Kinds => is_mismatch(seen, port),
@@ -178,7 +183,8 @@ fn count_ranks(alloc: Global, ports: &[Port]) -> Result<Tally<(bool, Subnet)>, O
 
 /// Whether no member of an interface's subnet may become its designated router.
 fn lacks_designated(ranks: &Tally<(bool, Subnet)>, port: &Port) -> bool
-    ensures { (all : List Port) → IsTally same_trait ranks.now.counts (map rank_on all) → result ≡ lacks_designated all port.now }
+    ensures { (all : List Port) → IsTally same_trait ranks.now.counts (map rank_on all) →
+        result ≡ lacks_designated all port.now }
 {
     ranks.count((true, subnet_of(port))) == 0
 }
@@ -190,7 +196,8 @@ pub fn refuse_undesignated(
     transit: &[Port],
 ) -> Result<(), Refusal<TopologyFault, ConfigLine>>
     requires { length ports.now ≤ 4000 }
-    ensures { let fault = at_port NoDesignated (first_where (λ before p. lacks_designated ports.now p) [] transit.now) in
+    ensures { let fault = at_port NoDesignated
+        (first_where (λ before p. lacks_designated ports.now p) [] transit.now) in
         MatchResult result (λ _. fault ≡ None) (Tells fault) }
 {
     let ranks = count_ranks(alloc, ports)?;
@@ -208,8 +215,10 @@ pub fn refuse_many_configs(
 ) -> Result<(), Refusal<TopologyFault, ConfigLine>>
     ensures fault { let fault = at_config TooMany (past 1000 (length configs.now)) in
         MatchResult result (λ _. fault ≡ None) (Tells fault) }
-    ensures refused { IfErr result (λ refusal. refusal ≡ Refusal.Refused TooMany (record { config = 1000; line = 0 })) }
-    ensures few { MatchResult result (λ _. length configs.now ≤ 1000) (λ _. 1000 < length configs.now) }
+    ensures refused { IfErr result (λ refusal. refusal ≡ Refusal.Refused TooMany
+        (record { config = 1000; line = 0 })) }
+    ensures few { MatchResult result (λ _. length configs.now ≤ 1000)
+        (λ _. 1000 < length configs.now) }
 {
     if configs.len() > MOST_ROUTERS {
         return Err(Refusal::Refused {
@@ -228,7 +237,8 @@ pub fn refuse_many_ports(ports: &[Port]) -> Result<(), Refusal<TopologyFault, Co
     ensures fault { let fault = at_port TooMany (slice_get ports.now 4000) in
         MatchResult result (λ _. fault ≡ None) (Tells fault) }
     ensures refused { IfErr result (λ refusal. IfSome (slice_get ports.now 4000)
-        (λ port. refusal ≡ Refusal.Refused TooMany (record { config = port.router; line = port.interface.line }))) }
+        (λ port. refusal ≡ Refusal.Refused TooMany
+        (record { config = port.router; line = port.interface.line }))) }
     ensures few { MatchResult result (λ _. length ports.now ≤ 4000) (λ _. 4000 < length ports.now) }
 {
     match ports.get(MOST_INTERFACES) {
@@ -239,8 +249,10 @@ pub fn refuse_many_ports(ports: &[Port]) -> Result<(), Refusal<TopologyFault, Co
 
 /// Adds a name to those seen; tells whether it is new.
 fn see<'a>(seen: &mut IndexSet<&'a [u8]>, name: &'a Name) -> Result<bool, OutOfMemory>
-    ensures new { IfOk result (λ new. new ≡ not (list_any (same_bytes name.now) (map (λ n. n.now) seen.old.keys))) }
-    ensures added { IfOk result (λ new. IsTrue new → map (λ n. n.now) seen.new.keys ≡ map (λ n. n.now) seen.old.keys ++ name.now ∷ []) }
+    ensures new { IfOk result
+        (λ new. new ≡ not (list_any (same_bytes name.now) (map (λ n. n.now) seen.old.keys))) }
+    ensures added { IfOk result (λ new. IsTrue new → map (λ n. n.now) seen.new.keys ≡
+        map (λ n. n.now) seen.old.keys ++ name.now ∷ []) }
 {
     Ok(seen.insert(name.as_bytes())?)
 }

@@ -60,7 +60,8 @@ fn push_members(
     members: &[u32],
 ) -> Result<(), OutOfMemory>
     requires { All (λ l. l < length links.now) members.now }
-    ensures { OnOk result (edges.new.items ≡ edges.old.items ++ map (λ l. record { from = vertex; to = router_of links.now l; price = Zero }) members.now) }
+    ensures { OnOk result (edges.new.items ≡ edges.old.items ++
+        map (λ l. record { from = vertex; to = router_of links.now l; price = Zero }) members.now) }
 {
     for member in members {
         edges.push(member_edge(vertex, links[*member as usize].router))?;
@@ -77,7 +78,8 @@ fn push_subnet_edges(
 ) -> Result<(), OutOfMemory>
     requires members { All (λ members. All (λ l. l < length links.now) members) subnets.now }
     requires few { routers + length subnets.now < 2 ^ 32 }
-    ensures { OnOk result (edges.new.items ≡ edges.old.items ++ subnet_edges links.now routers subnets.now) }
+    ensures { OnOk result (edges.new.items ≡ edges.old.items ++
+        subnet_edges links.now routers subnets.now) }
 {
     for (i, members) in subnets.iter().enumerate() {
         push_members(edges, routers + i as u32, links, members.as_slice())?;

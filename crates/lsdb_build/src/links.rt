@@ -27,7 +27,8 @@ fn links_members(kind: Kind, members: u32) -> bool
 
 /// Whether an interface is linked, from how many interfaces stand on each subnet.
 fn is_linked(members: &Tally<Subnet>, port: &Port) -> bool
-    ensures { (all : List Port) → IsTally same_subnet members.now.counts (map subnet_of all) → result ≡ is_linked all port.now }
+    ensures { (all : List Port) → IsTally same_subnet members.now.counts (map subnet_of all) →
+        result ≡ is_linked all port.now }
 {
     links_members(port.interface.kind, members_on(members, port))
 }
@@ -105,7 +106,8 @@ fn place_of_other(links: &[Port], places: &Places, port: &Port) -> Option<u32>
 
 /// The place of an interface's transit subnet.
 fn place_of_subnet(firsts: &Places, port: &Port) -> Option<u32>
-    ensures { (transit : List Port) → ArePlaces firsts.now.by_subnet transit → result ≡ place_from 0 (shares_subnet port.now) transit }
+    ensures { (transit : List Port) → ArePlaces firsts.now.by_subnet transit →
+        result ≡ place_from 0 (shares_subnet port.now) transit }
 {
     firsts.on(port).first().copied()
 }
@@ -131,7 +133,8 @@ fn far_and_link_back(
     port: &Port,
 ) -> (Far, Option<u32>)
     requires { ArePlaces places.now.by_subnet links.now }
-    ensures far { (transit : List Port) → ArePlaces firsts.now.by_subnet transit → result.0 ≡ far_among links.now transit port.now port.now.interface.kind }
+    ensures far { (transit : List Port) → ArePlaces firsts.now.by_subnet transit →
+        result.0 ≡ far_among links.now transit port.now port.now.interface.kind }
     ensures link_back { result.1 ≡ link_back_among links.now port.now port.now.interface.kind }
 {
     match port.interface.kind {
@@ -155,7 +158,8 @@ fn link_of(
     port: &Port,
 ) -> Result<Linked, OutOfMemory>
     requires { ArePlaces places.now.by_subnet links.now }
-    ensures { (transit : List Port) → ArePlaces firsts.now.by_subnet transit → IfOk result (λ link. link ≡ link_among links.now transit port.now) }
+    ensures { (transit : List Port) → ArePlaces firsts.now.by_subnet transit →
+        IfOk result (λ link. link ≡ link_among links.now transit port.now) }
 {
     let (to, link_back) = far_and_link_back(links, places, firsts, port);
     let interface = port.interface;
@@ -191,7 +195,8 @@ pub fn links_of(
 
 /// The places of the linked interfaces on one subnet, in order.
 fn members_of(alloc: Global, places: &Places, first: &Port) -> Result<Listed<u32>, OutOfMemory>
-    ensures { IfOk result (λ members. members ≡ places_at places.now.by_subnet (subnet_of first.now)) }
+    ensures { IfOk result (λ members. members ≡ places_at places.now.by_subnet
+        (subnet_of first.now)) }
 {
     let members = places.on(first).to_vec(alloc)?;
     Ok(Listed::from_items(members))

@@ -11,7 +11,8 @@ use std::alloc::Global;
 /// Counts the interfaces on each subnet.
 pub fn count_members(alloc: Global, ports: &[Port]) -> Result<Tally<Subnet>, OutOfMemory>
     requires { length ports.now ≤ 4000 }
-    ensures { IfOk result (λ members. IsTally same_subnet members.counts (map subnet_of ports.now)) }
+    ensures { IfOk result (λ members. IsTally same_subnet members.counts
+        (map subnet_of ports.now)) }
 {
     let mut members = Tally::new(alloc);
     for port in ports {
@@ -22,7 +23,8 @@ pub fn count_members(alloc: Global, ports: &[Port]) -> Result<Tally<Subnet>, Out
 
 /// How many of the counted interfaces stand on an interface's subnet.
 pub fn members_on(members: &Tally<Subnet>, port: &Port) -> u32
-    ensures { (all : List Port) → IsTally same_subnet members.now.counts (map subnet_of all) → result ≡ count_by (shares_subnet port.now) all }
+    ensures { (all : List Port) → IsTally same_subnet members.now.counts (map subnet_of all) →
+        result ≡ count_by (shares_subnet port.now) all }
 {
     members.count(subnet_of(port))
 }

@@ -25,7 +25,8 @@ fn holds(outer: &Port, inner: &Port) -> bool
 
 /// Whether two interfaces of different routers are on different subnets of which one contains the other.
 fn overlaps(port: &Port, other: &Port) -> bool
-    ensures { result ≡ (not (port.now.router == other.now.router) && not (shares_subnet port.now other.now) &&
+    ensures { result ≡ (not (port.now.router == other.now.router) &&
+        not (shares_subnet port.now other.now) &&
         (holds port.now other.now || holds other.now port.now)) }
 {
     port.router != other.router
@@ -54,7 +55,8 @@ fn prefix_of(port: &Port, length: u8) -> Subnet
 /// Whether an interface's address lies in a shorter one of the subnets seen, which another router has.
 fn is_inside(seen: &Owners, port: &Port) -> bool
     ensures { result ≡ false → (l : ℕ) → l < port.now.interface.length →
-        has_other (get same_subnet seen.now.by_prefix (subnet_of_length port.now l)) port.now.router ≡ false }
+        has_other (get same_subnet seen.now.by_prefix (subnet_of_length port.now l))
+        port.now.router ≡ false }
 {
     for length in 0..port.interface.length {
         if seen.has_other(port.router, prefix_of(port, length)) {
@@ -67,7 +69,8 @@ fn is_inside(seen: &Owners, port: &Port) -> bool
 /// Notes an interface's router at the shorter prefixes in which its subnet lies.
 fn note_prefixes(enclosing: &mut Owners, port: &Port) -> Result<(), OutOfMemory>
     ensures noted { OnOk result (HasPrefixes enclosing.new.by_prefix port.now) }
-    ensures kept { OnOk result ((router : ℕ) (key : Subnet) → IsOwnerNoted enclosing.old.by_prefix router key → IsOwnerNoted enclosing.new.by_prefix router key) }
+    ensures kept { OnOk result ((router : ℕ) (key : Subnet) → IsOwnerNoted enclosing.old.by_prefix
+        router key → IsOwnerNoted enclosing.new.by_prefix router key) }
 {
     for length in 0..port.interface.length {
         enclosing.note(port.router, prefix_of(port, length))?;
@@ -78,8 +81,9 @@ fn note_prefixes(enclosing: &mut Owners, port: &Port) -> Result<(), OutOfMemory>
 /// Whether an earlier interface of another router may have an overlapping subnet: one of the subnets seen contains the
 /// interface's, or one of the prefixes that enclose them is the interface's subnet. Where neither holds, none overlaps.
 fn may_overlap(seen: &Owners, enclosing: &Owners, port: &Port) -> bool
-    ensures { (before : List Port) → All (HasSubnet seen.now.by_prefix) before → All (HasPrefixes enclosing.now.by_prefix) before →
-        is_overlap before port.now ≡ true → result ≡ true }
+    ensures { (before : List Port) → All (HasSubnet seen.now.by_prefix) before →
+        All (HasPrefixes enclosing.now.by_prefix) before → is_overlap before port.now ≡ true →
+        result ≡ true }
 {
     is_inside(seen, port) || enclosing.has_other(port.router, subnet_of(port))
 }

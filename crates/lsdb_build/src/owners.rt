@@ -58,7 +58,8 @@ impl Owners {
     /// Notes a router at a prefix.
     pub fn note(&mut self, router: u32, prefix: Subnet) -> Result<(), OutOfMemory>
         ensures noted { OnOk result (IsOwnerNoted self.new.by_prefix router prefix) }
-        ensures kept { OnOk result ((other : ℕ) (key : Key) → IsOwnerNoted self.old.by_prefix other key → IsOwnerNoted self.new.by_prefix other key) }
+        ensures kept { OnOk result ((other : ℕ) (key : Key) → IsOwnerNoted self.old.by_prefix other
+            key → IsOwnerNoted self.new.by_prefix other key) }
     {
         let owner = joined(self.by_prefix.get(&prefix).copied(), router);
         self.by_prefix.insert(prefix, owner)?;

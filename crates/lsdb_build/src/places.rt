@@ -27,8 +27,9 @@ impl Places {
 
     /// Adds a place on a subnet, behind those that are there.
     fn add(&mut self, alloc: Global, subnet: Subnet, place: u32) -> Result<(), OutOfMemory>
-        ensures { OnOk result ((key : Key) → places_at self.new.by_subnet key ≡ places_at self.old.by_subnet key ++
-            (if same_subnet subnet key then place ∷ [] else [])) }
+        ensures { OnOk result ((key : Key) → places_at self.new.by_subnet key ≡
+            places_at self.old.by_subnet key ++ (if same_subnet subnet key then place ∷ []
+            else [])) }
     {
         self.by_subnet
             .entry(subnet)?

@@ -61,7 +61,8 @@ fn push_ports<'a>(
     router: u32,
     area: u32,
 ) -> Result<(), OutOfMemory>
-    ensures pushed { OnOk result (into.new.items ≡ into.old.items ++ ports_of area router config.now.interfaces) }
+    ensures pushed { OnOk result (into.new.items ≡ into.old.items ++
+        ports_of area router config.now.interfaces) }
     ensures valid { IsRouter config.now }
 {
     for interface in config.interfaces.as_slice() {

@@ -37,7 +37,8 @@ impl<K: Copy + Eq + Hash> Tally<K> {
     pub fn add(&mut self, key: K) -> Result<u32, OutOfMemory>
         requires few { count_of K.eq self.old.counts key < 2 ^ 31 }
         ensures before { IfOk result (λ count. count ≡ count_of K.eq self.old.counts key) }
-        ensures added { IfOk result (λ _. (keys : List K) → IsTally K.eq self.old.counts keys → IsTally K.eq self.new.counts (key ∷ keys)) }
+        ensures added { IfOk result (λ _. (keys : List K) → IsTally K.eq self.old.counts keys →
+            IsTally K.eq self.new.counts (key ∷ keys)) }
     {
         let count = self.count(key);
         self.counts.insert(key, count + 1)?;

@@ -89,7 +89,8 @@ pub fn build(
     configs: &[RouterConfig],
     area: u32,
 ) -> Result<Lsdb, Refusal<TopologyFault, ConfigLine>>
-    ensures made { IfOk result (λ d. (topology_fault area configs.now ≡ None) × (d ≡ database_of area configs.now)) }
+    ensures made { IfOk result (λ d. (topology_fault area configs.now ≡ None) ×
+        (d ≡ database_of area configs.now)) }
     ensures refused { IfErr result (Tells (topology_fault area configs.now)) }
 {
     refuse_many_configs(configs)?;

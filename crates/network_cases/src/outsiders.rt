@@ -51,7 +51,8 @@ fn other_paths(
 fn ties_with(outlook: &Outlook<'_>, path: &Path) -> bool
     requires fits { FitsOutlook outlook.now }
     requires first { HasItsPath outlook.now }
-    ensures { IsTrue result → TiesWith outlook.now.graph.now outlook.now.point.now outlook.now.request.now path.now }
+    ensures { IsTrue result → TiesWith outlook.now.graph.now outlook.now.point.now
+        outlook.now.request.now path.now }
 {
     let request = outlook.request;
     if path.start != request.path.start {
@@ -73,7 +74,9 @@ fn ties_with(outlook: &Outlook<'_>, path: &Path) -> bool
 fn all_tie(outlook: &Outlook<'_>, others: &[Path]) -> bool
     requires fits { FitsOutlook outlook.now }
     requires first { HasItsPath outlook.now }
-    ensures { IsTrue result → All (TiesWith outlook.now.graph.now outlook.now.point.now outlook.now.request.now) others.now }
+    ensures { IsTrue result →
+        All (TiesWith outlook.now.graph.now outlook.now.point.now outlook.now.request.now)
+        others.now }
 {
     for path in others {
         if !ties_with(outlook, path) {
@@ -85,7 +88,8 @@ fn all_tie(outlook: &Outlook<'_>, others: &[Path]) -> bool
 
 /// The tree of a path's prefixes.
 fn tree_of_one(alloc: Global, first: &Path) -> Result<PrefixTree, OutOfMemory>
-    ensures { IfOk result (λ tree. (others : List Path) → IsGrown (wanted_of first.now.edges others) (first.now.edges ∷ []) tree) }
+    ensures { IfOk result (λ tree. (others : List Path) → IsGrown (wanted_of first.now.edges others)
+        (first.now.edges ∷ []) tree) }
 {
     let mut tree = PrefixTree::new(alloc);
     tree.insert(first.edges.as_slice())?;
@@ -94,7 +98,8 @@ fn tree_of_one(alloc: Global, first: &Path) -> Result<PrefixTree, OutOfMemory>
 
 /// The tree of the common prefixes of several paths.
 fn tree_of(alloc: Global, first: &Path, others: &[Path]) -> Result<PrefixTree, OutOfMemory>
-    ensures { IfOk result (IsGrown (wanted_of first.now.edges others.now) (wanted_of first.now.edges others.now)) }
+    ensures { IfOk result (IsGrown (wanted_of first.now.edges others.now)
+        (wanted_of first.now.edges others.now)) }
 {
     let mut tree = tree_of_one(alloc, first)?;
     for path in others {
@@ -134,7 +139,8 @@ fn kept_text(
 fn outsider_of(alloc: Global, outlook: &Outlook<'_>, others: &[Path]) -> Result<String, OutOfMemory>
     requires fits { FitsOutlook outlook.now }
     requires first { HasItsPath outlook.now }
-    requires others { All (TiesWith outlook.now.graph.now outlook.now.point.now outlook.now.request.now) others.now }
+    requires others { All (TiesWith outlook.now.graph.now outlook.now.point.now
+        outlook.now.request.now) others.now }
 {
     let mut room = Room::new(alloc, outlook.graph)?;
     let tree = tree_of(alloc, &outlook.request.path, others)?;

@@ -75,7 +75,8 @@ fn is_only(graph: &Graph, request: &Request, point: &Point, room: &mut Room) -> 
     requires fits { FitsPoint graph.now point.now }
     requires path { IsPathOf graph.now (request_ends request.now) request.now.path.edges }
     ensures room { IsRoomFor graph.now room.new }
-    ensures only { IsTrue result ↔ IsOnlyCheapest graph.now point.now (request_ends request.now) request.now.path.edges }
+    ensures only { IsTrue result ↔ IsOnlyCheapest graph.now point.now (request_ends request.now)
+        request.now.path.edges }
 {
     !find_rival(graph, request, point, room)
 }
@@ -107,7 +108,8 @@ pub(crate) fn audited(
 /// What is found of the wanted paths of a problem without variables.
 fn audit(alloc: Global, problem: &Problem) -> Result<Vec<AuditedPath>, OutOfMemory>
     requires { problem.now.low ≡ [] }
-    ensures { IfOk result (λ found. AllZip (IsAudited problem.now.graph) problem.now.paths found.items) }
+    ensures { IfOk result (λ found. AllZip (IsAudited problem.now.graph) problem.now.paths
+        found.items) }
 {
     let point = Point {
         scale: 1,
@@ -176,7 +178,8 @@ pub fn audit_report<'a, S: Shelf>(
     words: FileWords<'a>,
     shelf: &mut S,
 ) -> Result<Report, Stop<'a>>
-    ensures { Gave (S.gave shelf.old shelf.new) (λ came. IsReadAs (outcome View.AtPresent (files_named words.entry)) came
+    ensures { Gave (S.gave shelf.old shelf.new) (λ came. IsReadAs
+        (outcome View.AtPresent (files_named words.entry)) came
         (λ report d. MayAudit d report.status (bytes_in report.text)) result) }
 {
     let problem = read_problem(alloc, View::AtPresent, words, shelf)?;

@@ -113,7 +113,8 @@ fn audit_left(
     gone: &Removal<'_>,
 ) -> Result<Vec<LivePath>, OutOfMemory>
     requires { problem.now.low ≡ [] }
-    ensures { IfOk result (λ found. AllZip (IsFoundLive problem.now.graph gone.now) problem.now.paths found.items) }
+    ensures { IfOk result (λ found. AllZip (IsFoundLive problem.now.graph gone.now)
+        problem.now.paths found.items) }
 {
     let mut room = Room::new(alloc, &problem.graph)?;
     let mut found = Vec::new(alloc);
@@ -130,8 +131,11 @@ fn audit_running(
     running: &RunningArea,
 ) -> Result<Vec<LivePath>, OutOfMemory>
     requires { problem.now.low ≡ [] }
-    ensures { IfOk result (λ found. AllZip (IsFoundLive problem.now.graph
-        (edges_of_links running.now.lsdb problem.now.graph running.now.missing.items)) problem.now.paths found.items) }
+    ensures { IfOk result
+        (λ found.
+        AllZip
+        (IsFoundLive problem.now.graph (edges_of_links running.now.lsdb problem.now.graph
+        running.now.missing.items)) problem.now.paths found.items) }
 {
     let edges = edges_of_links(alloc, &running.lsdb, &problem.graph, &running.missing)?;
     let mut marks = vec![in alloc; false; problem.graph.edges().len()]?;
@@ -197,7 +201,8 @@ fn report_of_running<'a>(
     live: &Database,
     words: FileWords<'a>,
 ) -> Result<Report, Stop<'a>>
-    ensures { (laid : LaidOut) → IsLayoutOf layout laid → IsReadAs (running_read (files_named words.entry) laid live.now) []
+    ensures { (laid : LaidOut) → IsLayoutOf layout laid → IsReadAs
+        (running_read (files_named words.entry) laid live.now) []
         (λ report said. MayAuditLive said report.status (bytes_in report.text)) result }
 {
     let Layout {
@@ -226,7 +231,8 @@ pub fn audit_live_report<'a, S: Shelf>(
     live: &'a str,
     shelf: &mut S,
 ) -> Result<Report, Stop<'a>>
-    ensures { Gave (S.gave shelf.old shelf.new) (λ came. IsReadAs (live_audit_read (files_named words.entry) live.now) came
+    ensures { Gave (S.gave shelf.old shelf.new) (λ came. IsReadAs
+        (live_audit_read (files_named words.entry) live.now) came
         (λ report said. MayAuditLive said report.status (bytes_in report.text)) result) }
 {
     let layout = read_layout(alloc, words, shelf)?;

@@ -35,8 +35,10 @@ fn report_of_conflict(
     problem: &Problem,
     conflict: Conflict,
 ) -> Result<Report, OutOfMemory>
-    requires { (top : ℕ) × (nodes : ℕ) × (nodes ≤ 10000000) × IsConflictFound problem.now top nodes conflict }
-    ensures { IfOk result (Reports (conflict_status conflict) (conflict_text problem.now conflict)) }
+    requires { (top : ℕ) × (nodes : ℕ) × (nodes ≤ 10000000) × IsConflictFound problem.now top nodes
+        conflict }
+    ensures { IfOk result
+        (Reports (conflict_status conflict) (conflict_text problem.now conflict)) }
 {
     let status = status_of(&conflict);
     let text = text_of_conflict(alloc, problem, conflict)?;
@@ -58,10 +60,12 @@ pub fn conflict_report<'a, S: Shelf>(
 ) -> Result<Report, Stop<'a>>
     // Always true: a function that hands on boxed advisors has to require something.
     requires itself { limits.now ≡ limits.now }
-    ensures read { Gave (S.gave shelf.old shelf.new)
-        (λ came. IsReadAs (outcome View.AsRequested (files_named words.entry)) came
-        (λ report d. MayConflict (bounds limits.now) d report.status (bytes_in report.text)) result) }
-    ensures advisors { AreCalled ⟦<dyn Advisor as Advisor>⟧ (λ b. b.vtable) (λ b. state b) advisors.old.items advisors.new.items }
+    ensures read { Gave (S.gave shelf.old shelf.new) (λ came. IsReadAs
+        (outcome View.AsRequested (files_named words.entry)) came
+        (λ report d. MayConflict (bounds limits.now) d report.status (bytes_in report.text))
+        result) }
+    ensures advisors { AreCalled ⟦<dyn Advisor as Advisor>⟧ (λ b. b.vtable) (λ b. state b)
+        advisors.old.items advisors.new.items }
 {
     let problem = read_problem(alloc, View::AsRequested, words, shelf)?;
     let conflict = find_conflict(alloc, &problem, limits, advisors)?;

@@ -29,7 +29,9 @@ fn members_line(alloc: Global, members: &[u32]) -> Result<Vec<u8>, OutOfMemory>
 
 /// The first lines, up to that of the requests.
 fn head_of(alloc: Global, verdict: &[u8], members: &[u32]) -> Result<Vec<u8>, OutOfMemory>
-    ensures { IfOk result (λ text. text.items ≡ with_ends (codes "ospfcost conflict 1" ∷ verdict.now ∷ members_line members.now ∷ [])) }
+    ensures { IfOk result
+        (λ text. text.items ≡ with_ends (codes "ospfcost conflict 1" ∷ verdict.now ∷
+        members_line members.now ∷ [])) }
 {
     let members = members_line(alloc, members)?;
     let mut text = Vec::new(alloc);
@@ -47,7 +49,8 @@ fn push_costs_part(
     costs: &CostList,
 ) -> Result<(), OutOfMemory>
     requires { IsInBox (box_of problem.now) costs.now }
-    ensures { OnOk result (text.new.items ≡ text.old.items ++ with_ends (costs_part problem.now costs.now)) }
+    ensures { OnOk result (text.new.items ≡ text.old.items ++ with_ends
+        (costs_part problem.now costs.now)) }
 {
     let costs = costs_by_name(alloc, problem, costs)?;
     push_costs(alloc, text, Some(&costs))
@@ -71,7 +74,8 @@ fn push_without_one(
     costs: &CostList,
 ) -> Result<(), OutOfMemory>
     requires { IsInBox (box_of problem.now) costs.now }
-    ensures { OnOk result (text.new.items ≡ text.old.items ++ with_ends (without_line member ∷ costs_part problem.now costs.now)) }
+    ensures { OnOk result (text.new.items ≡ text.old.items ++ with_ends
+        (without_line member ∷ costs_part problem.now costs.now)) }
 {
     let line = without_line(alloc, member)?;
     push_line(text, line.as_slice())?;
@@ -88,7 +92,8 @@ fn push_without(
 ) -> Result<(), OutOfMemory>
     requires counted { length without.now ≡ length members.now }
     requires within { All (IsInBox (box_of problem.now)) without.now }
-    ensures { OnOk result (text.new.items ≡ text.old.items ++ with_ends (without_parts problem.now members.now without.now)) }
+    ensures { OnOk result (text.new.items ≡ text.old.items ++ with_ends
+        (without_parts problem.now members.now without.now)) }
 {
     for (place, costs) in without.iter().enumerate() {
         push_without_one(alloc, text, problem, members[place], costs)?;
@@ -124,8 +129,8 @@ fn core_text(
 ) -> Result<Vec<u8>, OutOfMemory>
     requires { (top : ℕ) × (nodes : ℕ) × (nodes ≤ 10000000) × IsCore problem.now top nodes
         core.now.members.now core.now.rows.now tree core.now.without.now }
-    ensures { IfOk result (λ text. text.items ≡
-        conflict_text problem.now (Core core.now.members.now core.now.rows.now tree core.now.without.now)) }
+    ensures { IfOk result (λ text. text.items ≡ conflict_text problem.now
+        (Core core.now.members.now core.now.rows.now tree core.now.without.now)) }
 {
     keeps_conditions(problem);
     let mut text = head_of(alloc, b"verdict core", core.members)?;
@@ -144,8 +149,10 @@ fn unknown_text(
     rows: &[Row],
     tree: Tree,
 ) -> Result<Vec<u8>, OutOfMemory>
-    requires { (top : ℕ) × (nodes : ℕ) × (nodes ≤ 10000000) × IsUndecidedConflict problem.now top nodes members.now rows.now tree }
-    ensures { IfOk result (λ text. text.items ≡ conflict_text problem.now (ConflictUndecided members.now rows.now tree)) }
+    requires { (top : ℕ) × (nodes : ℕ) × (nodes ≤ 10000000) × IsUndecidedConflict problem.now top
+        nodes members.now rows.now tree }
+    ensures { IfOk result (λ text. text.items ≡ conflict_text problem.now
+        (ConflictUndecided members.now rows.now tree)) }
 {
     keeps_conditions(problem);
     let mut text = head_of(alloc, b"verdict undecided", members)?;
@@ -165,7 +172,8 @@ pub(crate) fn text_of_conflict(
     problem: &Problem,
     conflict: Conflict,
 ) -> Result<Vec<u8>, OutOfMemory>
-    requires { (top : ℕ) × (nodes : ℕ) × (nodes ≤ 10000000) × IsConflictFound problem.now top nodes conflict }
+    requires { (top : ℕ) × (nodes : ℕ) × (nodes ≤ 10000000) × IsConflictFound problem.now top nodes
+        conflict }
     ensures { IfOk result (λ text. text.items ≡ conflict_text problem.now conflict) }
 {
     match conflict {

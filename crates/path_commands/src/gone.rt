@@ -38,7 +38,8 @@ fn leads_back(routers: usize, far: Far, router: u32, edge: Edge) -> bool
 fn is_of_link(routers: usize, graph: &Graph, number: u32, link: &Linked, edge: u32) -> bool
     requires few { routers < 2 ^ 32 }
     requires edge { edge < length graph.now.edges }
-    ensures { result ≡ (edge == number || is_link_back link.now.link_back edge || leads_back routers link.now.to link.now.router (edge_at graph.now edge)) }
+    ensures { result ≡ (edge == number || is_link_back link.now.link_back edge ||
+        leads_back routers link.now.to link.now.router (edge_at graph.now edge)) }
 {
     edge == number
         || is_link_back(link.link_back, edge)
@@ -59,7 +60,8 @@ fn link_takes(lsdb: &Lsdb, graph: &Graph, number: u32, edge: u32) -> bool
 /// Whether an edge is of one of some links, in one direction or the other.
 fn is_taken(lsdb: &Lsdb, graph: &Graph, links: &[u32], edge: u32) -> bool
     requires { edge < length graph.now.edges }
-    ensures { result ≡ list_any (λ l. link_takes lsdb.now graph.now l (slice_get lsdb.now.links l) edge) links.now }
+    ensures { result ≡ list_any (λ l. link_takes lsdb.now graph.now l (slice_get lsdb.now.links l)
+        edge) links.now }
 {
     links
         .iter()
@@ -68,7 +70,8 @@ fn is_taken(lsdb: &Lsdb, graph: &Graph, links: &[u32], edge: u32) -> bool
 
 /// Adds an edge, if it is one of those that are sought.
 fn push_if(edges: &mut Vec<u32>, edge: u32, is_sought: bool) -> Result<(), OutOfMemory>
-    ensures { OnOk result (edges.new.items ≡ edges.old.items ++ (if is_sought then edge ∷ [] else [])) }
+    ensures { OnOk result (edges.new.items ≡ edges.old.items ++
+        (if is_sought then edge ∷ [] else [])) }
 {
     if is_sought {
         edges.push(edge)?;

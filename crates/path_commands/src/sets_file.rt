@@ -27,7 +27,8 @@ pub(crate) fn read_sets_file<'a, S: Shelf>(
     problem: &Problem,
 ) -> Result<Sets, Stop<'a>>
     ensures read { (d : Input) → d.problem ≡ problem.now → Gave (S.gave shelf.old shelf.new)
-        (λ came. IsReadAs (sets_read name.now d) came (λ sets sharing. (sharing.input ≡ d) × AreSetsIn sets sharing) result) }
+        (λ came. IsReadAs (sets_read name.now d) came (λ sets sharing. (sharing.input ≡ d) ×
+        AreSetsIn sets sharing) result) }
     ensures lawful { IfOk result (AreSetsOf problem.now) }
 {
     let bytes = read_file(alloc, shelf, name, LONGEST_SETS)?;

@@ -32,7 +32,8 @@ fn status_of(spread: &Spread) -> Status
 
 /// The report of what was found for sets of a problem's wanted paths.
 fn report_of_spread(alloc: Global, problem: &Problem, spread: Spread) -> Result<Report, OutOfMemory>
-    requires { (lines : List (List ℕ)) × (top : ℕ) × (nodes : ℕ) × IsSpreadFound problem.now lines top nodes spread }
+    requires { (lines : List (List ℕ)) × (top : ℕ) × (nodes : ℕ) ×
+        IsSpreadFound problem.now lines top nodes spread }
     ensures { IfOk result (Reports (spread_status spread) (spread_text problem.now spread)) }
 {
     let status = status_of(&spread);
@@ -53,8 +54,10 @@ pub fn spread_report<'a, S: Shelf>(
     limits: &Limits,
     shelf: &mut S,
 ) -> Result<Report, Stop<'a>>
-    ensures { Gave (S.gave shelf.old shelf.new) (λ came. IsReadAs (spread_read (files_named words.entry) sets.now) came
-        (λ report sharing. MaySpread (bounds limits.now) sharing report.status (bytes_in report.text)) result) }
+    ensures { Gave (S.gave shelf.old shelf.new) (λ came. IsReadAs
+        (spread_read (files_named words.entry) sets.now) came
+        (λ report sharing. MaySpread (bounds limits.now) sharing report.status
+        (bytes_in report.text)) result) }
 {
     let problem = read_problem(alloc, View::AsRequested, words, shelf)?;
     let sets = read_sets_file(alloc, shelf, sets, &problem)?;

@@ -26,7 +26,8 @@ use text_lines::push_number;
 
 /// The line of a rival: its set, and its edges.
 fn rival_line(alloc: Global, set: u32, edges: &[u32]) -> Result<Vec<u8>, OutOfMemory>
-    ensures { IfOk result (λ line. line.items ≡ spaced (codes "row" ∷ decimal set ∷ map decimal edges.now)) }
+    ensures { IfOk result
+        (λ line. line.items ≡ spaced (codes "row" ∷ decimal set ∷ map decimal edges.now)) }
 {
     let mut line = Vec::from_slice(alloc, b"row")?;
     push_word(&mut line, set)?;
@@ -66,7 +67,8 @@ fn rows_line(alloc: Global, count: usize) -> Result<Vec<u8>, OutOfMemory>
 
 /// Adds the line of a row.
 fn push_set_row(alloc: Global, text: &mut Vec<u8>, row: &SetRow) -> Result<(), OutOfMemory>
-    ensures { OnOk result (text.new.items ≡ text.old.items ++ with_ends (set_row_line row.now ∷ [])) }
+    ensures { OnOk result (text.new.items ≡ text.old.items ++ with_ends
+        (set_row_line row.now ∷ [])) }
 {
     let line = set_row_line(alloc, row)?;
     push_line(text, line.as_slice())
@@ -86,7 +88,8 @@ fn push_set_rows(alloc: Global, text: &mut Vec<u8>, rows: &[SetRow]) -> Result<(
 
 /// The first lines, up to that of the verdict.
 fn head_of(alloc: Global, verdict: &[u8]) -> Result<Vec<u8>, OutOfMemory>
-    ensures { IfOk result (λ text. text.items ≡ with_ends (codes "ospfcost spread answer 1" ∷ verdict.now ∷ [])) }
+    ensures { IfOk result
+        (λ text. text.items ≡ with_ends (codes "ospfcost spread answer 1" ∷ verdict.now ∷ [])) }
 {
     let mut text = Vec::new(alloc);
     push_line(&mut text, b"ospfcost spread answer 1")?;
@@ -103,8 +106,11 @@ fn push_trees(
 ) -> Result<(), OutOfMemory>
     requires proof { AreShort (tree_lines (codes "proof") (option_copied proof)) }
     requires unfinished { AreShort (tree_lines (codes "open") (option_copied unfinished)) }
-    ensures { OnOk result (text.new.items ≡ ((text.old.items ++ with_ends (tree_lines (codes "proof") (option_copied proof.entry))) ++
-        with_ends (tree_lines (codes "open") (option_copied unfinished.entry))) ++ with_ends (codes "end" ∷ [])) }
+    ensures { OnOk result
+        (text.new.items ≡
+        ((text.old.items ++ with_ends (tree_lines (codes "proof") (option_copied proof.entry))) ++
+        with_ends (tree_lines (codes "open") (option_copied unfinished.entry))) ++
+        with_ends (codes "end" ∷ [])) }
 {
     push_tree(alloc, text, TreePart::Proof, proof)?;
     push_tree(alloc, text, TreePart::Unfinished, unfinished)?;
@@ -127,9 +133,12 @@ fn text_of_parts(
 ) -> Result<Vec<u8>, OutOfMemory>
     requires costs { AreShort (costs_lines (option_copied costs)) }
     requires proof { AreShort (tree_lines (codes "proof") (option_copied evidence.now.proof)) }
-    requires unfinished { AreShort (tree_lines (codes "open") (option_copied evidence.now.unfinished)) }
-    ensures { IfOk result (λ text. text.items ≡ with_ends (spread_lines verdict.now (option_copied costs.entry)
-        evidence.now.rows.now (option_copied evidence.now.proof) (option_copied evidence.now.unfinished))) }
+    requires unfinished { AreShort
+        (tree_lines (codes "open") (option_copied evidence.now.unfinished)) }
+    ensures { IfOk result
+        (λ text. text.items ≡
+        with_ends (spread_lines verdict.now (option_copied costs.entry) evidence.now.rows.now
+        (option_copied evidence.now.proof) (option_copied evidence.now.unfinished))) }
 {
     let mut text = head_of(alloc, verdict)?;
     push_costs(alloc, &mut text, costs)?;
@@ -141,7 +150,10 @@ fn text_of_parts(
 /// The text of spread-fit costs.
 fn fit_text(alloc: Global, problem: &Problem, costs: &CostList) -> Result<Vec<u8>, OutOfMemory>
     requires { IsInBox (box_of problem.now) costs.now }
-    ensures { IfOk result (λ text. text.items ≡ with_ends (spread_lines (codes "verdict fit") (Some (named_costs problem.now costs.now)) [] None None)) }
+    ensures { IfOk result
+        (λ text. text.items ≡
+        with_ends (spread_lines (codes "verdict fit") (Some (named_costs problem.now costs.now)) []
+        None None)) }
 {
     let costs = costs_by_name(alloc, problem, costs)?;
     let evidence = Evidence {
@@ -160,8 +172,10 @@ fn impossible_text(
     tree: Tree,
 ) -> Result<Vec<u8>, OutOfMemory>
     requires { FitText set_row_line (greatest_bound problem.now) rows.now tree }
-    ensures { IfOk result (λ text.
-        text.items ≡ with_ends (spread_lines (codes "verdict impossible") None rows.now (Some (at_ceiling problem.now tree)) None)) }
+    ensures { IfOk result
+        (λ text. text.items ≡
+        with_ends (spread_lines (codes "verdict impossible") None rows.now
+        (Some (at_ceiling problem.now tree)) None)) }
 {
     let tree = at_ceiling(problem, tree);
     let evidence = Evidence {
@@ -180,7 +194,10 @@ fn unknown_text(
     tree: Tree,
 ) -> Result<Vec<u8>, OutOfMemory>
     requires { FitText set_row_line (greatest_bound problem.now) rows.now tree }
-    ensures { IfOk result (λ text. text.items ≡ with_ends (spread_lines (codes "verdict undecided") None rows.now None (Some (at_ceiling problem.now tree)))) }
+    ensures { IfOk result
+        (λ text. text.items ≡
+        with_ends (spread_lines (codes "verdict undecided") None rows.now None
+        (Some (at_ceiling problem.now tree)))) }
 {
     let tree = at_ceiling(problem, tree);
     let evidence = Evidence {
@@ -201,7 +218,8 @@ pub(crate) fn text_of_spread(
     problem: &Problem,
     spread: Spread,
 ) -> Result<Vec<u8>, OutOfMemory>
-    requires { (lines : List (List ℕ)) × (top : ℕ) × (nodes : ℕ) × IsSpreadFound problem.now lines top nodes spread }
+    requires { (lines : List (List ℕ)) × (top : ℕ) × (nodes : ℕ) ×
+        IsSpreadFound problem.now lines top nodes spread }
     ensures { IfOk result (λ text. text.items ≡ spread_text problem.now spread) }
 {
     match spread {

@@ -54,7 +54,10 @@ impl<'a> Choices<'a> {
         names: &'a Names<'a>,
         requests: &'a RequestFile,
     ) -> Result<Choices<'a>, OutOfMemory>
-        ensures { IfOk result (λ choices. choices ≡ record { asked = requests.now; database = names.now }) }
+        ensures { IfOk result (λ choices. choices ≡ record {
+          asked = requests.now;
+          database = names.now;
+        }) }
     {
         let lines = items(requests);
         let ranges = ranges_by(alloc, names, lines)?;
@@ -93,21 +96,24 @@ impl<'a> Choices<'a> {
 
     /// The range of the link of a number, where there is one.
     pub fn range_at(&self, number: u32) -> Option<Range>
-        ensures { result ≡ range_at self.now.asked self.now.database (slice_get self.now.database.links number) }
+        ensures { result ≡ range_at self.now.asked self.now.database
+            (slice_get self.now.database.links number) }
     {
         self.ranges.get(number as usize).copied()
     }
 
     /// The range of a link, by its number.
     pub fn range_of(&self, number: u32) -> Range
-        ensures { (link : LinkValue) → slice_get self.now.database.links number ≡ Some link → result ≡ range_of self.now.asked self.now.database link }
+        ensures { (link : LinkValue) → slice_get self.now.database.links number ≡ Some link →
+            result ≡ range_of self.now.asked self.now.database link }
     {
         self.range_at(number).unwrap_or(Range::AsItIs)
     }
 
     /// Whether lines make the link of a number symmetric.
     fn any_symmetric(&self, number: Option<u32>) -> bool
-        ensures { result ≡ any_symmetric self.now.asked self.now.database (option_and_then (slice_get self.now.database.links) number) }
+        ensures { result ≡ any_symmetric self.now.asked self.now.database
+            (option_and_then (slice_get self.now.database.links) number) }
     {
         match number {
             Some(number) => self

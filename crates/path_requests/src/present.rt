@@ -23,7 +23,8 @@ use wanted_paths::{Names, ResolutionFault};
 
 /// Whether a link has no present cost, and there is no default.
 fn lacks_present(names: &Names, requests: &RequestFile, link: &Linked) -> bool
-    ensures { result ≡ lacks_cost (present_asked requests.now) link.now (range_of (present_asked requests.now) names.now link.now) }
+    ensures { result ≡ lacks_cost (present_asked requests.now) link.now
+        (range_of (present_asked requests.now) names.now link.now) }
 {
     lacks_cost(requests, link, Range::AsItIs)
 }
@@ -33,8 +34,11 @@ pub fn check_present(
     names: &Names,
     requests: &RequestFile,
 ) -> Result<(), Refusal<ResolutionFault, ()>>
-    ensures made { OnOk result (cost_faults (present_asked requests.now) names.now 0 names.now.links ≡ []) }
-    ensures refused { IfErr result (TellsResolution (first_of (cost_faults (present_asked requests.now) names.now 0 names.now.links))) }
+    ensures made { OnOk result (cost_faults (present_asked requests.now) names.now 0
+        names.now.links ≡ []) }
+    ensures refused { IfErr result
+        (TellsResolution
+        (first_of (cost_faults (present_asked requests.now) names.now 0 names.now.links))) }
 {
     for (i, link) in names.links().iter().enumerate() {
         if lacks_present(names, requests, link) {
@@ -53,7 +57,8 @@ fn present_prices(
     names: &Names,
     requests: &RequestFile,
 ) -> Result<Vec<Price>, OutOfMemory>
-    ensures { IfOk result (λ made. made.items ≡ map (λ link. Fixed (present_cost requests.now link)) names.now.links) }
+    ensures { IfOk result (λ made. made.items ≡ map (λ link. Fixed (present_cost requests.now link))
+        names.now.links) }
 {
     let mut made = Vec::new(alloc);
     for link in names.links() {
@@ -69,7 +74,8 @@ pub fn assemble_present(
     requests: &RequestFile,
     paths: Vec<Request>,
 ) -> Result<Problem, OutOfMemory>
-    requires paths { paths.items ≡ filter_map (λ item. request_of names.now (outline names.now) item.what) requests.now.items }
+    requires paths { paths.items ≡ filter_map (λ item. request_of names.now (outline names.now)
+        item.what) requests.now.items }
     requires lines { line_faults names.now requests.now.items ≡ [] }
     requires costs { cost_faults (present_asked requests.now) names.now 0 names.now.links ≡ [] }
     ensures { IfOk result (λ problem. problem ≡ present_problem_of requests.now names.now) }

@@ -27,7 +27,12 @@ pub fn present_cost(requests: &RequestFile, link: &Linked) -> u16
 
 /// The name of a link with the number of its variable.
 fn name_of(alloc: Global, names: &Names, link: &Linked, var: u32) -> Result<VarName, OutOfMemory>
-    ensures { IfOk result (λ name. name ≡ record { router = slice_index_or names.now.routers link.now.router []; interface = link.now.interface; var = var }) }
+    ensures { IfOk result
+        (λ name. name ≡ record {
+          router = slice_index_or names.now.routers link.now.router [];
+          interface = link.now.interface;
+          var = var;
+        }) }
 {
     Ok(VarName {
         router: Name::from_bytes(alloc, names.router_name(link.router))?,
@@ -50,7 +55,8 @@ impl<'a> Numbering<'a> {
     /// in order, so it is found by halving.
     fn variable_of(&self, number: u32, link: &Linked) -> u32
         requires { slice_get self.now.choices.now.database.links number ≡ Some link.now }
-        ensures { result ≡ variable_of self.now.choices.now.asked self.now.choices.now.database number }
+        ensures { result ≡ variable_of self.now.choices.now.asked self.now.choices.now.database
+            number }
     {
         let owner = owner(self.choices, number, link);
         self.own.partition_point(
@@ -63,8 +69,8 @@ impl<'a> Numbering<'a> {
     /// The price of a link: its variable where it is free, else its present cost.
     fn price_of(&self, number: u32, link: &Linked) -> Price
         requires { slice_get self.now.choices.now.database.links number ≡ Some link.now }
-        ensures { result ≡ price_of self.now.choices.now.asked self.now.choices.now.database number link.now
-            (range_of self.now.choices.now.asked self.now.choices.now.database link.now) }
+        ensures { result ≡ price_of self.now.choices.now.asked self.now.choices.now.database number
+            link.now (range_of self.now.choices.now.asked self.now.choices.now.database link.now) }
     {
         match self.choices.range_of(number) {
             Range::Within(_, _) => Price::Var(self.variable_of(number, link)),
@@ -74,8 +80,8 @@ impl<'a> Numbering<'a> {
 
     /// The prices of the links, in order.
     fn prices(&self, alloc: Global) -> Result<Vec<Price>, OutOfMemory>
-        ensures { IfOk result (λ made. made.items ≡
-            prices_from self.now.choices.now.asked self.now.choices.now.database 0 self.now.choices.now.database.links) }
+        ensures { IfOk result (λ made. made.items ≡ prices_from self.now.choices.now.asked
+            self.now.choices.now.database 0 self.now.choices.now.database.links) }
     {
         let mut made = Vec::new(alloc);
         for (i, link) in self.choices.links().iter().enumerate() {
@@ -111,8 +117,8 @@ impl<'a> Numbering<'a> {
 
     /// The names of the free links, in order, each with the number of its variable.
     fn var_names(&self, alloc: Global) -> Result<Vec<VarName>, OutOfMemory>
-        ensures { IfOk result (λ made. made.items ≡
-            names_from self.now.choices.now.asked self.now.choices.now.database 0 self.now.choices.now.database.links) }
+        ensures { IfOk result (λ made. made.items ≡ names_from self.now.choices.now.asked
+            self.now.choices.now.database 0 self.now.choices.now.database.links) }
     {
         let mut made = Vec::new(alloc);
         for (i, link) in self.choices.links().iter().enumerate() {
@@ -131,10 +137,13 @@ pub fn assemble(
 ) -> Result<Problem, OutOfMemory>
     requires few { length own.now ≤ 1000 }
     requires own { own.now ≡ owners choices.now.asked choices.now.database }
-    requires paths { paths.items ≡ filter_map (λ item. request_of choices.now.database (outline choices.now.database) item.what) choices.now.asked.items }
+    requires paths { paths.items ≡ filter_map (λ item. request_of choices.now.database
+        (outline choices.now.database) item.what) choices.now.asked.items }
     requires lines { line_faults choices.now.database choices.now.asked.items ≡ [] }
-    requires ends { ends_faults choices.now.asked choices.now.database choices.now.asked.items ≡ [] }
-    requires costs { cost_faults choices.now.asked choices.now.database 0 choices.now.database.links ≡ [] }
+    requires ends { ends_faults choices.now.asked choices.now.database choices.now.asked.items ≡
+        [] }
+    requires costs { cost_faults choices.now.asked choices.now.database 0
+        choices.now.database.links ≡ [] }
     ensures { IfOk result (λ problem. problem ≡ problem_of choices.now.asked choices.now.database) }
 {
     let _requests = choices.requests();

@@ -53,7 +53,9 @@ fn decide(
     decided: &mut Vec<Option<Range>>,
 )
     ensures { (f : LinkValue → Option Range) → decided.old.items ≡ map f names.now.links →
-        decided.new.items ≡ map (λ link. option_or (f link) (if is_link_named names.now router.now interface.now link then Some range else None)) names.now.links }
+        decided.new.items ≡ map (λ link. option_or (f link)
+        (if is_link_named names.now router.now interface.now link then Some range else None))
+        names.now.links }
 {
     match names.find_interface(router, interface) {
         Some(link) => {
@@ -69,7 +71,8 @@ fn decide(
 /// Decides the range of the link that a line names, if it is undecided.
 fn decide_named(names: &Names, directive: &Directive, decided: &mut Vec<Option<Range>>)
     ensures { (f : LinkValue → Option Range) → decided.old.items ≡ map f names.now.links →
-        decided.new.items ≡ map (λ link. option_or (f link) (said_of_one names.now link directive.now)) names.now.links }
+        decided.new.items ≡ map (λ link. option_or (f link)
+        (said_of_one names.now link directive.now)) names.now.links }
 {
     match directive {
         Directive::Free(router, interface, low, high) => {
@@ -99,7 +102,8 @@ fn decide_named(names: &Names, directive: &Directive, decided: &mut Vec<Option<R
 /// Decides ranges from the last line back to one that frees all links; the range of those that stay undecided.
 fn decide_lines(names: &Names, items: &[Item], decided: &mut Vec<Option<Range>>) -> Range
     requires { decided.old.items ≡ map (λ link. None) names.now.links }
-    ensures { map (λ said. unwrap_or said result) decided.new.items ≡ map (λ link. range_by names.now link items.now) names.now.links }
+    ensures { map (λ said. unwrap_or said result) decided.new.items ≡
+        map (λ link. range_by names.now link items.now) names.now.links }
 {
     for place in (0..items.len()).rev() {
         let directive = &items[place].what;
@@ -128,7 +132,8 @@ fn ranges_or(
     decided: &[Option<Range>],
     other: Range,
 ) -> Result<Vec<Range>, OutOfMemory>
-    ensures { IfOk result (λ ranges. ranges.items ≡ map (λ said. unwrap_or said other) decided.now) }
+    ensures { IfOk result (λ ranges. ranges.items ≡ map (λ said. unwrap_or said other)
+        decided.now) }
 {
     let mut ranges = Vec::new(alloc);
     for said in decided {
@@ -140,7 +145,8 @@ fn ranges_or(
 /// The range of each link: the last line that says it counts. One pass over the lines, whose links are looked up by
 /// their names.
 pub fn ranges_by(alloc: Global, names: &Names, items: &[Item]) -> Result<Vec<Range>, OutOfMemory>
-    ensures { IfOk result (λ ranges. ranges.items ≡ map (λ link. range_by names.now link items.now) names.now.links) }
+    ensures { IfOk result (λ ranges. ranges.items ≡ map (λ link. range_by names.now link items.now)
+        names.now.links) }
 {
     let mut decided = undecided(alloc, names)?;
     let other = decide_lines(names, items, &mut decided);

@@ -28,7 +28,8 @@ const MOST_VARIABLES: usize = 1000;
 fn check_count(count: usize) -> Result<(), Refusal<ResolutionFault, ()>>
     ensures made { OnOk result (fault_unless (nat_le count 1000) TooManyVariables ≡ []) }
     ensures few { OnOk result (count ≤ 1000) }
-    ensures refused { IfErr result (TellsResolution (first_of (fault_unless (nat_le count 1000) TooManyVariables))) }
+    ensures refused { IfErr result
+        (TellsResolution (first_of (fault_unless (nat_le count 1000) TooManyVariables))) }
 {
     if count > MOST_VARIABLES {
         return Err(Refusal::Refused {
@@ -42,7 +43,8 @@ fn check_count(count: usize) -> Result<(), Refusal<ResolutionFault, ()>>
 /// The links that have a variable of their own; the first fault after all lines.
 fn check_whole(alloc: Global, choices: &Choices) -> Result<Vec<u32>, Refusal<ResolutionFault, ()>>
     ensures made { IfOk result (λ own. AreOwners choices.now.asked choices.now.database own.items) }
-    ensures refused { IfErr result (TellsResolution (first_of (whole_faults choices.now.asked choices.now.database))) }
+    ensures refused { IfErr result
+        (TellsResolution (first_of (whole_faults choices.now.asked choices.now.database))) }
 {
     check_ends(choices, items(choices.requests()))?;
     let own = own_links(alloc, choices)?;
@@ -58,9 +60,12 @@ fn resolve_choices(
     paths: Vec<Request>,
 ) -> Result<Problem, Refusal<ResolutionFault, ()>>
     requires lines { line_faults choices.now.database choices.now.asked.items ≡ [] }
-    requires paths { paths.items ≡ filter_map (λ item. request_of choices.now.database (outline choices.now.database) item.what) choices.now.asked.items }
-    ensures made { IfOk result (λ p. (whole_faults choices.now.asked choices.now.database ≡ []) × (p ≡ problem_of choices.now.asked choices.now.database)) }
-    ensures refused { IfErr result (TellsResolution (first_of (whole_faults choices.now.asked choices.now.database))) }
+    requires paths { paths.items ≡ filter_map (λ item. request_of choices.now.database
+        (outline choices.now.database) item.what) choices.now.asked.items }
+    ensures made { IfOk result (λ p. (whole_faults choices.now.asked choices.now.database ≡ []) ×
+        (p ≡ problem_of choices.now.asked choices.now.database)) }
+    ensures refused { IfErr result
+        (TellsResolution (first_of (whole_faults choices.now.asked choices.now.database))) }
 {
     let own = check_whole(alloc, choices)?;
     Ok(assemble(alloc, choices, &own, paths)?)
@@ -74,9 +79,12 @@ fn resolve_whole(
     paths: Vec<Request>,
 ) -> Result<Problem, Refusal<ResolutionFault, ()>>
     requires lines { line_faults names.now requests.now.items ≡ [] }
-    requires paths { paths.items ≡ filter_map (λ item. request_of names.now (outline names.now) item.what) requests.now.items }
-    ensures made { IfOk result (λ p. (whole_faults requests.now names.now ≡ []) × (p ≡ problem_of requests.now names.now)) }
-    ensures refused { IfErr result (TellsResolution (first_of (whole_faults requests.now names.now))) }
+    requires paths { paths.items ≡ filter_map (λ item. request_of names.now (outline names.now)
+        item.what) requests.now.items }
+    ensures made { IfOk result (λ p. (whole_faults requests.now names.now ≡ []) ×
+        (p ≡ problem_of requests.now names.now)) }
+    ensures refused { IfErr result
+        (TellsResolution (first_of (whole_faults requests.now names.now))) }
 {
     let choices = Choices::new(alloc, names, requests)?;
     resolve_choices(alloc, &choices, paths)
@@ -96,7 +104,8 @@ pub fn resolve(
     requests: &RequestFile,
     lsdb: &Lsdb,
 ) -> Result<Problem, Refusal<ResolutionFault, ()>>
-    ensures made { IfOk result (λ p. (resolution_fault requests.now lsdb.now ≡ None) × (p ≡ problem_of requests.now lsdb.now)) }
+    ensures made { IfOk result (λ p. (resolution_fault requests.now lsdb.now ≡ None) ×
+        (p ≡ problem_of requests.now lsdb.now)) }
     ensures refused { IfErr result (TellsResolution (resolution_fault requests.now lsdb.now)) }
 {
     let names = Names::new(alloc, lsdb)?;
@@ -117,7 +126,8 @@ pub fn resolve_present(
     requests: &RequestFile,
     lsdb: &Lsdb,
 ) -> Result<Problem, Refusal<ResolutionFault, ()>>
-    ensures made { IfOk result (λ p. (present_fault requests.now lsdb.now ≡ None) × (p ≡ present_problem_of requests.now lsdb.now)) }
+    ensures made { IfOk result (λ p. (present_fault requests.now lsdb.now ≡ None) ×
+        (p ≡ present_problem_of requests.now lsdb.now)) }
     ensures refused { IfErr result (TellsResolution (present_fault requests.now lsdb.now)) }
 {
     let names = Names::new(alloc, lsdb)?;

@@ -38,7 +38,8 @@ fn is_tied(all: bool, link: &Linked) -> bool
 
 /// Marks each link that has another end, if all such are symmetric.
 fn tied_by_all(alloc: Global, names: &Names, all: bool) -> Result<Vec<bool>, OutOfMemory>
-    ensures { IfOk result (λ marks. marks.items ≡ map (λ link. all && is_some link.link_back) names.now.links) }
+    ensures { IfOk result (λ marks. marks.items ≡ map (λ link. all && is_some link.link_back)
+        names.now.links) }
 {
     let mut marks = Vec::new(alloc);
     for link in names.links() {
@@ -50,7 +51,8 @@ fn tied_by_all(alloc: Global, names: &Names, all: bool) -> Result<Vec<bool>, Out
 /// Marks the link of an interface.
 fn mark(names: &Names, router: &[u8], interface: &[u8], marks: &mut Vec<bool>)
     ensures { (f : LinkValue → Bool) → marks.old.items ≡ map f names.now.links →
-        marks.new.items ≡ map (λ link. f link || is_link_named names.now router.now interface.now link) names.now.links }
+        marks.new.items ≡ map (λ link. f link || is_link_named names.now router.now interface.now
+        link) names.now.links }
 {
     match names.find_interface(router, interface) {
         Some(link) => {
@@ -66,7 +68,8 @@ fn mark(names: &Names, router: &[u8], interface: &[u8], marks: &mut Vec<bool>)
 /// Marks the link that a line names as symmetric.
 fn mark_named(names: &Names, directive: &Directive, marks: &mut Vec<bool>)
     ensures { (f : LinkValue → Bool) → marks.old.items ≡ map f names.now.links →
-        marks.new.items ≡ map (λ link. f link || ties_one names.now link directive.now) names.now.links }
+        marks.new.items ≡ map (λ link. f link || ties_one names.now link directive.now)
+        names.now.links }
 {
     if let Directive::Symmetric(router, interface) = directive {
         mark(names, router.as_bytes(), interface.as_bytes(), marks);
@@ -76,7 +79,9 @@ fn mark_named(names: &Names, directive: &Directive, marks: &mut Vec<bool>)
 /// Marks the links that lines name as symmetric.
 fn mark_lines(names: &Names, items: &[Item], marks: &mut Vec<bool>)
     ensures { (f : LinkValue → Bool) → marks.old.items ≡ map f names.now.links →
-        marks.new.items ≡ map (λ link. f link || list_any (λ item. ties_one names.now link item.what) items.now) names.now.links }
+        marks.new.items ≡
+        map (λ link. f link || list_any (λ item. ties_one names.now link item.what) items.now)
+        names.now.links }
 {
     for item in items {
         mark_named(names, &item.what, marks);
@@ -86,7 +91,8 @@ fn mark_lines(names: &Names, items: &[Item], marks: &mut Vec<bool>)
 /// Whether a line makes each link symmetric, without the lines of its other end. One pass over the lines, whose links are looked
 /// up by their names.
 pub fn symmetric_by(alloc: Global, names: &Names, items: &[Item]) -> Result<Vec<bool>, OutOfMemory>
-    ensures { IfOk result (λ marks. marks.items ≡ map (λ link. list_any (λ item. says_symmetric names.now link item.what) items.now) names.now.links) }
+    ensures { IfOk result (λ marks. marks.items ≡ map (λ link.
+        list_any (λ item. says_symmetric names.now link item.what) items.now) names.now.links) }
 {
     let mut marks = tied_by_all(alloc, names, any_ties_all(items))?;
     mark_lines(names, items, &mut marks);

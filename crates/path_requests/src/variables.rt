@@ -80,7 +80,8 @@ fn push_own(
     made: &mut Vec<u32>,
 ) -> Result<(), OutOfMemory>
     requires { slice_get choices.now.database.links number ≡ Some link.now }
-    ensures { OnOk result (made.new.items ≡ made.old.items ++ filter (own choices.now.asked choices.now.database) (number ∷ [])) }
+    ensures { OnOk result (made.new.items ≡ made.old.items ++ filter
+        (own choices.now.asked choices.now.database) (number ∷ [])) }
 {
     if is_own(choices, number, link) {
         made.push(number)?;
@@ -101,8 +102,9 @@ pub fn own_links(alloc: Global, choices: &Choices) -> Result<Vec<u32>, OutOfMemo
 
 /// Appends the lower bound of the link of a number.
 fn push_low(choices: &Choices, number: u32, made: &mut Vec<u16>) -> Result<(), OutOfMemory>
-    ensures { OnOk result (made.new.items ≡ made.old.items ++
-        map low_of (option_to_list (range_at choices.now.asked choices.now.database (slice_get choices.now.database.links number)))) }
+    ensures { OnOk result (made.new.items ≡ made.old.items ++ map low_of
+        (option_to_list (range_at choices.now.asked choices.now.database
+        (slice_get choices.now.database.links number)))) }
 {
     match choices.range_at(number) {
         Some(range) => Ok(made.push(low_of(range))?),
@@ -112,8 +114,9 @@ fn push_low(choices: &Choices, number: u32, made: &mut Vec<u16>) -> Result<(), O
 
 /// Appends the upper bound of the link of a number.
 fn push_high(choices: &Choices, number: u32, made: &mut Vec<u16>) -> Result<(), OutOfMemory>
-    ensures { OnOk result (made.new.items ≡ made.old.items ++
-        map high_of (option_to_list (range_at choices.now.asked choices.now.database (slice_get choices.now.database.links number)))) }
+    ensures { OnOk result (made.new.items ≡ made.old.items ++ map high_of
+        (option_to_list (range_at choices.now.asked choices.now.database
+        (slice_get choices.now.database.links number)))) }
 {
     match choices.range_at(number) {
         Some(range) => Ok(made.push(high_of(range))?),
@@ -123,8 +126,11 @@ fn push_high(choices: &Choices, number: u32, made: &mut Vec<u16>) -> Result<(), 
 
 /// The lower bounds of some links.
 pub fn low_bounds(alloc: Global, choices: &Choices, own: &[u32]) -> Result<Vec<u16>, OutOfMemory>
-    ensures { IfOk result (λ made. made.items ≡
-        map low_of (filter_map (λ l. range_at choices.now.asked choices.now.database (slice_get choices.now.database.links l)) own.now)) }
+    ensures { IfOk result
+        (λ made. made.items ≡
+        map low_of
+        (filter_map (λ l. range_at choices.now.asked choices.now.database
+        (slice_get choices.now.database.links l)) own.now)) }
 {
     let mut made = Vec::new(alloc);
     for link in own {
@@ -135,8 +141,11 @@ pub fn low_bounds(alloc: Global, choices: &Choices, own: &[u32]) -> Result<Vec<u
 
 /// The upper bounds of some links.
 pub fn high_bounds(alloc: Global, choices: &Choices, own: &[u32]) -> Result<Vec<u16>, OutOfMemory>
-    ensures { IfOk result (λ made. made.items ≡
-        map high_of (filter_map (λ l. range_at choices.now.asked choices.now.database (slice_get choices.now.database.links l)) own.now)) }
+    ensures { IfOk result
+        (λ made. made.items ≡
+        map high_of
+        (filter_map (λ l. range_at choices.now.asked choices.now.database
+        (slice_get choices.now.database.links l)) own.now)) }
 {
     let mut made = Vec::new(alloc);
     for link in own {
@@ -161,15 +170,20 @@ pub fn lacks_cost(requests: &RequestFile, link: &Linked, range: Range) -> bool
 /// Whether a link is fixed, and has no cost.
 fn lacks_cost_at(choices: &Choices, number: u32, link: &Linked) -> bool
     requires { slice_get choices.now.database.links number ≡ Some link.now }
-    ensures { result ≡ lacks_cost choices.now.asked link.now (range_of choices.now.asked choices.now.database link.now) }
+    ensures { result ≡ lacks_cost choices.now.asked link.now
+        (range_of choices.now.asked choices.now.database link.now) }
 {
     lacks_cost(choices.requests(), link, choices.range_of(number))
 }
 
 /// Whether each fixed link has a cost; the first one that has none where one hasn't.
 pub fn check_costs(choices: &Choices) -> Result<(), Refusal<ResolutionFault, ()>>
-    ensures made { OnOk result (cost_faults choices.now.asked choices.now.database 0 choices.now.database.links ≡ []) }
-    ensures refused { IfErr result (TellsResolution (first_of (cost_faults choices.now.asked choices.now.database 0 choices.now.database.links))) }
+    ensures made { OnOk result (cost_faults choices.now.asked choices.now.database 0
+        choices.now.database.links ≡ []) }
+    ensures refused { IfErr result
+        (TellsResolution
+        (first_of (cost_faults choices.now.asked choices.now.database 0
+        choices.now.database.links))) }
 {
     for (i, link) in choices.links().iter().enumerate() {
         if lacks_cost_at(choices, i as u32, link) {
@@ -201,7 +215,8 @@ fn ends_differ(choices: &Choices, number: u32, link: &Linked) -> bool
 
 /// Whether the ends of the link of a number differ.
 fn ends_differ_at(choices: &Choices, number: u32) -> bool
-    ensures { result ≡ ends_differ_at choices.now.asked choices.now.database (slice_get choices.now.database.links number) }
+    ensures { result ≡ ends_differ_at choices.now.asked choices.now.database
+        (slice_get choices.now.database.links number) }
 {
     match choices.links().get(number as usize) {
         Some(link) => ends_differ(choices, number, link),
@@ -211,7 +226,8 @@ fn ends_differ_at(choices: &Choices, number: u32) -> bool
 
 /// Whether the ends of one of the links differ.
 fn any_ends_differ(choices: &Choices) -> bool
-    ensures { result ≡ list_any (ends_differ choices.now.asked choices.now.database) choices.now.database.links }
+    ensures { result ≡ list_any (ends_differ choices.now.asked choices.now.database)
+        choices.now.database.links }
 {
     for (i, link) in choices.links().iter().enumerate() {
         if ends_differ(choices, i as u32, link) {
@@ -223,7 +239,8 @@ fn any_ends_differ(choices: &Choices) -> bool
 
 /// Whether a line makes a link symmetric whose ends differ. `any` tells whether there is such a link.
 fn ties_different(choices: &Choices, any: bool, directive: &Directive) -> bool
-    requires { any ≡ list_any (ends_differ choices.now.asked choices.now.database) choices.now.database.links }
+    requires { any ≡ list_any (ends_differ choices.now.asked choices.now.database)
+        choices.now.database.links }
     ensures { result ≡ ties_different choices.now.asked choices.now.database directive.now }
 {
     match directive {
@@ -240,7 +257,9 @@ fn ties_different(choices: &Choices, any: bool, directive: &Directive) -> bool
 /// Whether no line makes a link symmetric whose ends differ; the first that does.
 pub fn check_ends(choices: &Choices, items: &[Item]) -> Result<(), Refusal<ResolutionFault, ()>>
     ensures made { OnOk result (ends_faults choices.now.asked choices.now.database items.now ≡ []) }
-    ensures refused { IfErr result (TellsResolution (first_of (ends_faults choices.now.asked choices.now.database items.now))) }
+    ensures refused { IfErr result
+        (TellsResolution
+        (first_of (ends_faults choices.now.asked choices.now.database items.now))) }
 {
     let any = any_ends_differ(choices);
     for item in items {

@@ -24,7 +24,8 @@ fn lacks_present(requests: &RequestFile, link: &Linked) -> bool
 
 /// The fault of the first link without a present cost.
 fn first_without_cost(requests: &RequestFile, lsdb: &Lsdb) -> Option<ResolutionFault>
-    ensures { result ≡ first_of (cost_faults (present_asked requests.now) lsdb.now 0 lsdb.now.links) }
+    ensures { result ≡ first_of (cost_faults (present_asked requests.now) lsdb.now 0
+        lsdb.now.links) }
 {
     for (i, link) in links_of(lsdb).iter().enumerate() {
         if lacks_present(requests, link) {
@@ -87,7 +88,8 @@ pub fn resolve_beside_present(
     requests: &RequestFile,
     lsdb: &Lsdb,
 ) -> Result<Problem, Refusal<ResolutionFault, ()>>
-    ensures made { IfOk result (λ p. (fault_beside_present requests.now lsdb.now ≡ None) × (p ≡ problem_of requests.now lsdb.now)) }
+    ensures made { IfOk result (λ p. (fault_beside_present requests.now lsdb.now ≡ None) ×
+        (p ≡ problem_of requests.now lsdb.now)) }
     ensures refused { IfErr result (TellsResolution (fault_beside_present requests.now lsdb.now)) }
 {
     match resolve(alloc, requests, lsdb) {

@@ -55,7 +55,8 @@ fn price_of_link(graph: &Graph, number: u32) -> Price
 /// Notes the cost of a link whose price is a variable.
 fn note(price: Price, cost: u16, noted: &mut Vec<Noted>)
     ensures { (f : ℕ → NotedValue) (n : ℕ) → noted.old.items ≡ map f (numbers_from 0 n) →
-        noted.new.items ≡ map (λ k. if is_variable price k then noted_with (f k) cost else f k) (numbers_from 0 n) }
+        noted.new.items ≡ map (λ k. if is_variable price k then noted_with (f k) cost else f k)
+        (numbers_from 0 n) }
 {
     match price {
         Price::Var(variable) => {
@@ -88,8 +89,10 @@ fn noted_of_links(
     count: usize,
 ) -> Result<Vec<Noted>, OutOfMemory>
     requires { graph.now ≡ (problem_of requests.now lsdb.now).graph }
-    ensures { IfOk result (λ noted. noted.items ≡
-        map (λ k. noted_after Nothing (costs_of_variable requests.now lsdb.now k 0 lsdb.now.links)) (numbers_from 0 count)) }
+    ensures { IfOk result
+        (λ noted. noted.items ≡
+        map (λ k. noted_after Nothing (costs_of_variable requests.now lsdb.now k 0 lsdb.now.links))
+        (numbers_from 0 count)) }
 {
     let mut noted = nothing_noted(alloc, count)?;
     for (i, link) in links_of(lsdb).iter().enumerate() {
@@ -127,7 +130,8 @@ fn costs_within(
 ) -> Result<Vec<Option<u16>>, OutOfMemory>
     requires noted { length noted.now ≡ length low.now }
     requires high { length high.now ≡ length low.now }
-    ensures { IfOk result (λ costs. costs.items ≡ map (noted_within low.now high.now noted.now) (numbers_from 0 (length low.now))) }
+    ensures { IfOk result (λ costs. costs.items ≡ map (noted_within low.now high.now noted.now)
+        (numbers_from 0 (length low.now))) }
 {
     let mut costs = Vec::new(alloc);
     for i in 0..low.len() {

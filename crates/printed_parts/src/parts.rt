@@ -114,7 +114,8 @@ pub fn push_tree_at_ceiling(
     tree: &Tree,
 ) -> Result<(), OutOfMemory>
     requires { AreShort (tree_lines (part_word part) (Some (at_ceiling problem.now tree.now))) }
-    ensures { OnOk result (text.new.items ≡ text.old.items ++ with_ends (tree_lines (part_word part) (Some (at_ceiling problem.now tree.now)))) }
+    ensures { OnOk result (text.new.items ≡ text.old.items ++ with_ends
+        (tree_lines (part_word part) (Some (at_ceiling problem.now tree.now)))) }
 {
     push_capped_tree(alloc, text, part, ceiling(problem), tree)
 }

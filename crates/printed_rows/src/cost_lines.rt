@@ -9,7 +9,11 @@ use std::alloc::Global;
 /// The line that gives an interface the cost of its variable.
 fn cost_line(alloc: Global, name: &VarName, costs: &[u16]) -> Result<CostLine, OutOfMemory>
     requires { name.now.var < length costs.now }
-    ensures { IfOk result (λ line. line ≡ record { router = name.now.router; interface = name.now.interface; cost = slice_index costs.now name.now.var }) }
+    ensures { IfOk result (λ line. line ≡ record {
+      router = name.now.router;
+      interface = name.now.interface;
+      cost = slice_index costs.now name.now.var;
+    }) }
 {
     Ok(CostLine {
         router: Name::from_bytes(alloc, name.router.as_bytes())?,

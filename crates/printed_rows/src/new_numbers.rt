@@ -15,7 +15,8 @@ use std::alloc::Global;
 ///
 /// `OutOfMemory`.
 pub fn new_numbers(alloc: Global, marks: &[bool]) -> Result<Vec<u64>, OutOfMemory>
-    ensures { IfOk result (λ numbers. AreNewNumbers (is_marked marks.now) (length marks.now) numbers.items) }
+    ensures { IfOk result (λ numbers. AreNewNumbers (is_marked marks.now) (length marks.now)
+        numbers.items) }
 {
     let mut numbers = Vec::new(alloc);
     let mut next = 0;
@@ -30,7 +31,8 @@ pub fn new_numbers(alloc: Global, marks: &[bool]) -> Result<Vec<u64>, OutOfMemor
 
 /// Puts a row at the end, if it is kept.
 fn push_if_kept<R: Drop>(kept: &mut Vec<R>, row: R, is_kept: bool) -> Result<(), OutOfMemory>
-    ensures { OnOk result (kept.new.items ≡ cond is_kept (kept.old.items ++ row ∷ []) kept.old.items) }
+    ensures { OnOk result (kept.new.items ≡ cond is_kept (kept.old.items ++ row ∷ [])
+        kept.old.items) }
 {
     if is_kept {
         kept.push(row)?;
@@ -74,7 +76,8 @@ fn new_member(member: &Member, numbers: &[u64]) -> Member
 /// The basis with the new numbers of its rows.
 fn new_basis(alloc: Global, basis: &[Member], numbers: &[u64]) -> Result<Vec<Member>, OutOfMemory>
     requires { All (MemberBelow (length numbers.now)) basis.now }
-    ensures { IfOk result (λ members. members.items ≡ map (renumbered_member (number_given numbers.now)) basis.now) }
+    ensures { IfOk result
+        (λ members. members.items ≡ map (renumbered_member (number_given numbers.now)) basis.now) }
 {
     let mut members = Vec::new(alloc);
     for member in basis {
@@ -90,7 +93,8 @@ fn new_pairs(
     numbers: &[u64],
 ) -> Result<Vec<(u64, u128)>, OutOfMemory>
     requires { All (λ part. part.0 < length numbers.now) parts.now }
-    ensures { IfOk result (λ pairs. pairs.items ≡ map (renumbered_part (number_given numbers.now)) parts.now) }
+    ensures { IfOk result (λ pairs. pairs.items ≡ map (renumbered_part (number_given numbers.now))
+        parts.now) }
 {
     let mut pairs = Vec::new(alloc);
     for (row, multiplier) in parts {
@@ -103,7 +107,8 @@ fn new_pairs(
 fn new_parts(alloc: Global, parts: &Parts, numbers: &[u64]) -> Result<Parts, OutOfMemory>
     requires known { All (λ part. part.0 < length numbers.now) parts.now }
     requires order { PartsKeepOrder (number_given numbers.now) parts.now }
-    ensures { IfOk result (λ new. new ≡ map (renumbered_part (number_given numbers.now)) parts.now) }
+    ensures { IfOk result (λ new. new ≡ map (renumbered_part (number_given numbers.now))
+        parts.now) }
 {
     let pairs = new_pairs(alloc, parts.as_slice(), numbers)?;
     Ok(Parts::from_items(pairs))
@@ -163,8 +168,10 @@ fn new_wide(alloc: Global, wide: &WideAt, numbers: &[u64]) -> Result<WideAt, Out
 
 /// The entries with the new numbers of their rows.
 fn new_entries(alloc: Global, entries: &[Entry], numbers: &[u64]) -> Result<Vec<Entry>, OutOfMemory>
-    requires { (named : ℕ → Bool) × AreNewNumbers named (length numbers.now) numbers.now × All (NamesKnown named (length numbers.now)) entries.now }
-    ensures { IfOk result (λ new. new.items ≡ map (renumbered (number_given numbers.now)) entries.now) }
+    requires { (named : ℕ → Bool) × AreNewNumbers named (length numbers.now) numbers.now ×
+        All (NamesKnown named (length numbers.now)) entries.now }
+    ensures { IfOk result (λ new. new.items ≡ map (renumbered (number_given numbers.now))
+        entries.now) }
 {
     let mut new = Vec::new(alloc);
     for entry in entries {
@@ -179,7 +186,8 @@ fn new_entries(alloc: Global, entries: &[Entry], numbers: &[u64]) -> Result<Vec<
 ///
 /// `OutOfMemory`.
 pub(crate) fn new_tree(alloc: Global, tree: &Tree, numbers: &[u64]) -> Result<Tree, OutOfMemory>
-    requires { (named : ℕ → Bool) × AreNewNumbers named (length numbers.now) numbers.now × All (NamesKnown named (length numbers.now)) tree.now }
+    requires { (named : ℕ → Bool) × AreNewNumbers named (length numbers.now) numbers.now ×
+        All (NamesKnown named (length numbers.now)) tree.now }
     ensures { IfOk result (λ new. new ≡ map (renumbered (number_given numbers.now)) tree.now) }
 {
     let entries = new_entries(alloc, tree.as_slice(), numbers)?;
@@ -196,8 +204,10 @@ pub(crate) fn new_trees(
     trees: &[Tree],
     numbers: &[u64],
 ) -> Result<Vec<Tree>, OutOfMemory>
-    requires { (named : ℕ → Bool) × AreNewNumbers named (length numbers.now) numbers.now × All (All (NamesKnown named (length numbers.now))) trees.now }
-    ensures { IfOk result (λ new. new.items ≡ map (map (renumbered (number_given numbers.now))) trees.now) }
+    requires { (named : ℕ → Bool) × AreNewNumbers named (length numbers.now) numbers.now ×
+        All (All (NamesKnown named (length numbers.now))) trees.now }
+    ensures { IfOk result (λ new. new.items ≡ map (map (renumbered (number_given numbers.now)))
+        trees.now) }
 {
     let mut new = Vec::new(alloc);
     for tree in trees {
@@ -216,7 +226,8 @@ pub(crate) fn new_if_any(
     tree: Option<&CapTree>,
     numbers: &[u64],
 ) -> Result<Option<CapTree>, OutOfMemory>
-    requires { (named : ℕ → Bool) × AreNewNumbers named (length numbers.now) numbers.now × TreeNamesKnown named (length numbers.now) (option_copied tree) }
+    requires { (named : ℕ → Bool) × AreNewNumbers named (length numbers.now) numbers.now ×
+        TreeNamesKnown named (length numbers.now) (option_copied tree) }
     ensures { IfOk result (HasNumbers (number_given numbers.now) (option_copied tree.entry)) }
 {
     match tree {

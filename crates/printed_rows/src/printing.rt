@@ -74,8 +74,8 @@ pub fn printed_both<R: Drop>(
 ) -> Result<PrintedTrees<R>, OutOfMemory>
     requires proof { TreeNamesBelow (length rows.items) (option_copied proof) }
     requires unfinished { TreeNamesBelow (length rows.items) (option_copied unfinished) }
-    ensures { IfOk result (λ sheet.
-        ArePrinted rows.items (option_copied proof.entry) (option_copied unfinished.entry) sheet.rows sheet.proof sheet.unfinished) }
+    ensures { IfOk result (λ sheet. ArePrinted rows.items (option_copied proof.entry)
+        (option_copied unfinished.entry) sheet.rows sheet.proof sheet.unfinished) }
 {
     let mut marks = no_marks(alloc, rows.len())?;
     mark_if_any(&mut marks, proof);
@@ -102,7 +102,8 @@ pub fn printed_all<R: Drop>(
     trees: &[Tree],
 ) -> Result<PrintedForest<R>, OutOfMemory>
     requires { All (All (NamesBelow (length rows.items))) trees.now }
-    ensures { IfOk result (λ sheet. AreAllPrinted rows.items trees.now sheet.rows.items sheet.trees.items) }
+    ensures { IfOk result (λ sheet. AreAllPrinted rows.items trees.now sheet.rows.items
+        sheet.trees.items) }
 {
     let mut marks = no_marks(alloc, rows.len())?;
     mark_trees(&mut marks, trees);

@@ -104,7 +104,8 @@ pub(crate) fn mark_trees(marks: &mut Vec<bool>, trees: &[Tree])
 /// Marks the rows that a tree names, if there is one.
 pub(crate) fn mark_if_any(marks: &mut Vec<bool>, tree: Option<&CapTree>)
     requires { TreeNamesBelow (length marks.old.items) (option_copied tree) }
-    ensures { AreMarked (is_row_named (entries_in (option_copied tree.entry))) marks.old.items marks.new.items }
+    ensures { AreMarked (is_row_named (entries_in (option_copied tree.entry))) marks.old.items
+        marks.new.items }
 {
     if let Some(tree) = tree {
         mark_tree(marks, &tree.tree);

@@ -61,7 +61,8 @@ impl<K: Sink> Sink for FirstPiece<K> {
 
     fn put(&mut self, piece: &[u8]) -> Result<(), PutFailed>
         ensures whole { OnOk result (GotAll (K.got self.old.sink) (K.got self.new.sink) piece.now) }
-        ensures part { OnErr result (GotPart (K.got self.old.sink) (K.got self.new.sink) piece.now) }
+        ensures part { OnErr result (GotPart (K.got self.old.sink) (K.got self.new.sink)
+            piece.now) }
         ensures cause { HasCause (K.faults self.old.sink) (K.faults self.new.sink) result }
         ensures handed { Hands (K.handed self.old.sink self.new.sink) piece.now result }
         ensures kept { KeepsFirst self.old self.new piece.now }

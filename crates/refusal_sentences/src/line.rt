@@ -20,14 +20,16 @@ pub(crate) struct LineParts<'a> {
 
 /// The first word of a text, and what stands behind the space behind it; None where it has no space.
 fn cut_at_first_space(text: &[u8]) -> Option<(&[u8], &[u8])>
-    ensures { (word rest : List ℕ) → HasNoSpace word → text.now ≡ word ++ 32 ∷ rest → IsCutIn word rest result }
+    ensures { (word rest : List ℕ) → HasNoSpace word → text.now ≡ word ++ 32 ∷ rest →
+        IsCutIn word rest result }
 {
     cut(text, b' ')
 }
 
 /// What stands before the space before the last word of a text, and that word; None where it has no space.
 fn cut_at_last_space(text: &[u8]) -> Option<(&[u8], &[u8])>
-    ensures { (rest word : List ℕ) → HasNoSpace word → text.now ≡ rest ++ 32 ∷ word → IsCutIn rest word result }
+    ensures { (rest word : List ℕ) → HasNoSpace word → text.now ≡ rest ++ 32 ∷ word →
+        IsCutIn rest word result }
 {
     let end = memrchr(b' ', text)?;
     Some((&text[..end], &text[end + 1..]))
@@ -81,8 +83,9 @@ fn without_end(line: &[u8]) -> &[u8]
 
 /// The parts of the line of a refusal or of a rejection; None where it is no such line.
 pub(crate) fn parts_of(line: &[u8]) -> Option<LineParts<'_>>
-    ensures { (number place : ℕ) (file : Option (List ℕ)) → number < 256 → line.now ≡ told_line number file place
-        → IsSomeAnd result (IsParted number file (decimal place)) }
+    ensures { (number place : ℕ) (file : Option (List ℕ)) → number < 256 →
+        line.now ≡ told_line number file place → IsSomeAnd result
+        (IsParted number file (decimal place)) }
 {
     let (first, rest) = cut_at_first_space(without_end(line))?;
     if first == b"refused".as_slice() {

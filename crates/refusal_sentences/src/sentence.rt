@@ -67,8 +67,9 @@ fn sentence<'a>(
 ///
 /// `OutOfMemory`.
 pub fn sentence_of(alloc: Global, line: &[u8]) -> Result<Option<Name>, OutOfMemory>
-    ensures { IfOk result (λ sentence. (number place : ℕ) (file : Option (List ℕ)) → number < 256
-        → line.now ≡ told_line number file place → sentence ≡ sentence_by number file (decimal place)) }
+    ensures { IfOk result (λ sentence. (number place : ℕ) (file : Option (List ℕ)) → number < 256 →
+        line.now ≡ told_line number file place → sentence ≡
+        sentence_by number file (decimal place)) }
 {
     let Some(parts) = parts_of(line) else {
         return Ok(None);

@@ -13,7 +13,9 @@ pub(crate) fn refused_line_of(
     file: &str,
     line: u32,
 ) -> Result<Vec<u8>, OutOfMemory>
-    ensures { IfOk result (λ text. text.items ≡ refused_line (record { number = number; file = file.now; line = line })) }
+    ensures { IfOk result
+        (λ text. text.items ≡
+        refused_line (record { number = number; file = file.now; line = line })) }
 {
     let mut text = Vec::new(alloc);
     push_bytes(&mut text, b"refused ")?;

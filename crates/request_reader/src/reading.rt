@@ -53,8 +53,11 @@ fn read_line(
     text: &[u8],
 ) -> Result<(), Refusal<RequestFault>>
     ensures taken { OnOk result (fault_said reader.old (said_by_request_line text.now) ≡ None) }
-    ensures told { OnOk result (reader.new ≡ told_with reader.old number (said_by_request_line text.now)) }
-    ensures refused { IfErr result (TellsRequestFault (fault_in_line number (fault_said reader.old (said_by_request_line text.now)))) }
+    ensures told { OnOk result (reader.new ≡ told_with reader.old number
+        (said_by_request_line text.now)) }
+    ensures refused { IfErr result
+        (TellsRequestFault
+        (fault_in_line number (fault_said reader.old (said_by_request_line text.now)))) }
 {
     let said = statement_of(alloc, text)?;
     reader.take(number, said)

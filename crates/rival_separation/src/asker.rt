@@ -63,7 +63,8 @@ fn target_of(requests: &[Request], number: u32) -> (u32, usize, Option<u32>) {
 fn by_target(alloc: Global, requests: &[Request]) -> Result<Vec<u32>, OutOfMemory>
     requires few { length requests.now ≤ 10000 }
     ensures known { IfOk result (λ order. All (λ k. k < length requests.now) order.items) }
-    ensures each { IfOk result (λ order. (k : ℕ) → k < length requests.now → Contains order.items k) }
+    ensures each { IfOk result (λ order. (k : ℕ) → k < length requests.now →
+        Contains order.items k) }
 {
     let mut order = Vec::new(alloc);
     for number in 0..requests.len() {
@@ -157,7 +158,8 @@ impl Asker {
         requires fits { FitsPoint survey.now.graph.now survey.now.point.now }
         requires paths { ArePathsOf survey.now.graph.now survey.now.requests.now }
         requires place { place < length self.now.order }
-        ensures { lead_at survey.now.graph.now survey.now.point.now (request_seen survey.now self.now place) ≤ result }
+        ensures { lead_at survey.now.graph.now survey.now.point.now
+            (request_seen survey.now self.now place) ≤ result }
     {
         let first = self.outlook_at(survey, place);
         let mut limit = least_lead(&first);
@@ -179,7 +181,8 @@ impl Asker {
         requires place { place < length self.old.order }
         ensures asker { IsAskerFor survey.now.graph.now survey.now.requests.now self.new }
         ensures same { self.new ≡ record self.old { room = self.new.room } }
-        ensures ready { IsReadyToCompare survey.now self.new.room (slice_index self.old.order place) result }
+        ensures ready { IsReadyToCompare survey.now self.new.room (slice_index self.old.order place)
+            result }
     {
         let limit = self.limit_at(survey, place);
         let outlook = self.outlook_at(survey, place);
@@ -198,7 +201,8 @@ impl Asker {
         requires paths { ArePathsOf survey.now.graph.now survey.now.requests.now }
         requires place { place < length self.now.order }
         requires shared { IsShared survey.now self.now.room shared }
-        ensures { IsTrue result → IsReadyToCompare survey.now self.now.room (slice_index self.now.order place)
+        ensures { IsTrue result → IsReadyToCompare survey.now self.now.room
+            (slice_index self.now.order place)
             (record { request = slice_index self.now.order place; limit = shared.limit }) }
     {
         let outlook = self.outlook_at(survey, place);
@@ -218,7 +222,8 @@ impl Asker {
         requires shared { MayShare survey.now self.old.room shared }
         ensures asker { IsAskerFor survey.now.graph.now survey.now.requests.now self.new }
         ensures same { self.new ≡ record self.old { room = self.new.room } }
-        ensures ready { IsReadyToCompare survey.now self.new.room (slice_index self.old.order place) result }
+        ensures ready { IsReadyToCompare survey.now self.new.room (slice_index self.old.order place)
+            result }
     {
         if let Some(shared) = shared {
             if self.serves(survey, place, shared) {
@@ -237,10 +242,12 @@ impl Asker {
         requires fits { FitsPoint survey.now.graph.now survey.now.point.now }
         requires paths { ArePathsOf survey.now.graph.now survey.now.requests.now }
         requires place { place < length self.now.order }
-        requires found { CanCompareWith survey.now (request_seen survey.now self.now place) self.now.room }
-        ensures { MatchBool result
-            (RequestLeads survey.now.graph.now survey.now.point.now (request_seen survey.now self.now place) → ⊥)
-            (RequestLeads survey.now.graph.now survey.now.point.now (request_seen survey.now self.now place)) }
+        requires found { CanCompareWith survey.now (request_seen survey.now self.now place)
+            self.now.room }
+        ensures { MatchBool result (RequestLeads survey.now.graph.now survey.now.point.now
+            (request_seen survey.now self.now place) → ⊥)
+            (RequestLeads survey.now.graph.now survey.now.point.now
+            (request_seen survey.now self.now place)) }
     {
         is_beaten(&self.outlook_at(survey, place), &self.room)
     }
@@ -257,9 +264,14 @@ impl Asker {
         requires fits { FitsPoint survey.now.graph.now survey.now.point.now }
         requires paths { ArePathsOf survey.now.graph.now survey.now.requests.now }
         requires place { place < length self.old.order }
-        requires found { CanCompareWith survey.now (request_seen survey.now self.old place) self.old.room }
-        ensures same { self.new ≡ record self.old { room = record self.old.room { path = self.new.room.path } } }
-        ensures rival { IfOk result (IsCheapestIfAny survey.now.graph.now survey.now.point.now (request_seen survey.now self.old place)) }
+        requires found { CanCompareWith survey.now (request_seen survey.now self.old place)
+            self.old.room }
+        ensures same { self.new ≡ record self.old {
+          room = record self.old.room
+              { path = self.new.room.path };
+        } }
+        ensures rival { IfOk result (IsCheapestIfAny survey.now.graph.now survey.now.point.now
+            (request_seen survey.now self.old place)) }
     {
         let outlook = self.outlook_at(survey, place);
         if !find_rival_at_hand(&outlook, &mut self.room) {
@@ -287,7 +299,8 @@ impl Asker {
         requires fits { FitsPoint graph.now point.now }
         requires paths { ArePathsOf graph.now requests.now }
         ensures asker { IsAskerFor graph.now requests.now self.new }
-        ensures rivals { IfOk result (λ rivals. AreCheapestRivals graph.now point.now requests.now rivals.items) }
+        ensures rivals { IfOk result (λ rivals. AreCheapestRivals graph.now point.now requests.now
+            rivals.items) }
     {
         let survey = Survey {
             graph,

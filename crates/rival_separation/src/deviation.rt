@@ -27,11 +27,10 @@ pub fn onward(outlook: &Outlook<'_>, room: &Room, number: u32) -> Option<u128>
     requires fits { FitsOutlook outlook.now }
     requires found { HasDistances outlook.now room.now }
     requires known { number < length outlook.now.graph.now.edges }
-    ensures onward { MatchOption result
-        ((total : ℕ) → IsOnward outlook.now.graph.now outlook.now.point.now outlook.now.request.now.excluded
-        room.now number total → ⊥)
-        (λ total. IsOnward outlook.now.graph.now outlook.now.point.now outlook.now.request.now.excluded
-        room.now number total) }
+    ensures onward { MatchOption result ((total : ℕ) → IsOnward outlook.now.graph.now
+        outlook.now.point.now outlook.now.request.now.excluded room.now number total → ⊥)
+        (λ total. IsOnward outlook.now.graph.now outlook.now.point.now
+        outlook.now.request.now.excluded room.now number total) }
     ensures below { IfSome result (λ total. total < 2 ^ 27 * outlook.now.point.now.scale) }
 {
     outlook.graph.keeps_conditions();
@@ -57,16 +56,18 @@ fn offer(
     requires fits { FitsOutlook outlook.now }
     requires found { HasDistances outlook.now room.now }
     requires place { place < length outlook.now.request.now.path.edges }
-    requires before { before ≡ cost outlook.now.graph.now outlook.now.point.now (take place outlook.now.request.now.path.edges) }
+    requires before { before ≡ cost outlook.now.graph.now outlook.now.point.now
+        (take place outlook.now.request.now.path.edges) }
     requires near { before < 2 ^ 26 * outlook.now.point.now.scale }
     requires known { number < length outlook.now.graph.now.edges }
     requires from { (edge_at outlook.now.graph.now number).from ≡
-        (edge_at outlook.now.graph.now (slice_index outlook.now.request.now.path.edges place)).from }
-    ensures { MatchOption result
-        ((total : ℕ) → Offers outlook.now.graph.now outlook.now.point.now outlook.now.request.now.excluded
-        room.now outlook.now.request.now.path.edges place number total → ⊥)
-        (λ total. Offers outlook.now.graph.now outlook.now.point.now outlook.now.request.now.excluded
-        room.now outlook.now.request.now.path.edges place number total) }
+        (edge_at outlook.now.graph.now (slice_index outlook.now.request.now.path.edges
+        place)).from }
+    ensures { MatchOption result ((total : ℕ) → Offers outlook.now.graph.now outlook.now.point.now
+        outlook.now.request.now.excluded room.now outlook.now.request.now.path.edges place number
+        total → ⊥) (λ total. Offers outlook.now.graph.now outlook.now.point.now
+        outlook.now.request.now.excluded room.now outlook.now.request.now.path.edges place number
+        total) }
 {
     if number == outlook.request.path.edges.as_slice()[place] {
         return None;
@@ -120,7 +121,8 @@ fn better_at(
     requires found { HasDistances outlook.now room.now }
     requires path { HasItsPath outlook.now }
     requires place { place < length outlook.now.request.now.path.edges }
-    requires before { before ≡ cost outlook.now.graph.now outlook.now.point.now (take place outlook.now.request.now.path.edges) }
+    requires before { before ≡ cost outlook.now.graph.now outlook.now.point.now
+        (take place outlook.now.request.now.path.edges) }
     requires near { before < 2 ^ 26 * outlook.now.point.now.scale }
     requires best { IsBestDeviation outlook.now room.now (λ earlier e. earlier < place) best }
     ensures { IsBestDeviation outlook.now room.now (λ earlier e. earlier < place + 1) result }
@@ -141,7 +143,8 @@ pub(crate) fn least_deviation(outlook: &Outlook<'_>, room: &Room) -> Option<Devi
     requires fits { FitsOutlook outlook.now }
     requires found { HasDistances outlook.now room.now }
     requires path { HasItsPath outlook.now }
-    ensures { IsBestDeviation outlook.now room.now (λ place e. place < length outlook.now.request.now.path.edges) result }
+    ensures { IsBestDeviation outlook.now room.now (λ place e.
+        place < length outlook.now.request.now.path.edges) result }
 {
     outlook.graph.keeps_conditions();
     let mut best = None;

@@ -33,7 +33,8 @@ fn leads_on(graph: &Graph, point: &Point, room: &Room, number: u32) -> bool
     requires room { IsRoomFor graph.now room.now }
     requires fits { FitsPoint graph.now point.now }
     requires known { number < length graph.now.edges }
-    ensures { IsTrue result ↔ (is_tight graph.now point.now room.now number ≡ true) × (slice_index_or room.now.marks number true ≡ false) }
+    ensures { IsTrue result ↔ (is_tight graph.now point.now room.now number ≡ true) ×
+        (slice_index_or room.now.marks number true ≡ false) }
 {
     room.leaves(number) && room.tight(graph, point, number)
 }
@@ -43,8 +44,8 @@ fn next_edge(graph: &Graph, point: &Point, room: &Room, vertex: u32) -> Option<u
     requires room { IsRoomFor graph.now room.now }
     requires fits { FitsPoint graph.now point.now }
     requires vertex { vertex < length graph.now.vertices }
-    ensures { MatchOption result
-        (All (λ e. is_tight graph.now point.now room.now e ≡ true → slice_index_or room.now.marks e true ≡ false → ⊥) (edges_out graph.now vertex))
+    ensures { MatchOption result (All (λ e. is_tight graph.now point.now room.now e ≡ true →
+        slice_index_or room.now.marks e true ≡ false → ⊥) (edges_out graph.now vertex))
         (λ e. IsNextEdge graph.now point.now room.now vertex e) }
 {
     for number in graph.edges_out(vertex) {
@@ -71,9 +72,11 @@ pub fn put_front(room: &mut Room, edges: &[u32])
 fn follow(outlook: &Outlook<'_>, start: u32, room: &mut Room)
     requires fits { FitsOutlook outlook.now }
     requires found { HasDistances outlook.now room.old }
-    requires way { HasWay outlook.now.graph.now outlook.now.point.now (request_ends outlook.now.request.now) room.old start }
+    requires way { HasWay outlook.now.graph.now outlook.now.point.now
+        (request_ends outlook.now.request.now) room.old start }
     ensures room { IsRoomFor outlook.now.graph.now room.new }
-    ensures followed { IsFollowedByLeast outlook.now.graph.now outlook.now.point.now (request_ends outlook.now.request.now) room.old start room.new.path }
+    ensures followed { IsFollowedByLeast outlook.now.graph.now outlook.now.point.now
+        (request_ends outlook.now.request.now) room.old start room.new.path }
     ensures same { room.new ≡ record room.old { path = room.new.path } }
 {
     outlook.graph.keeps_conditions();
@@ -95,9 +98,13 @@ pub fn leave_by(outlook: &Outlook<'_>, edge: u32, room: &mut Room)
     requires fits { FitsOutlook outlook.now }
     requires known { edge < length outlook.now.graph.now.edges }
     requires found { HasDistances outlook.now room.old }
-    requires way { HasWay outlook.now.graph.now outlook.now.point.now (request_ends outlook.now.request.now) (with_edge room.old edge) (edge_at outlook.now.graph.now edge).to }
+    requires way { HasWay outlook.now.graph.now outlook.now.point.now
+        (request_ends outlook.now.request.now) (with_edge room.old edge)
+        (edge_at outlook.now.graph.now edge).to }
     ensures room { IsRoomFor outlook.now.graph.now room.new }
-    ensures followed { IsFollowedByLeast outlook.now.graph.now outlook.now.point.now (request_ends outlook.now.request.now) (with_edge room.old edge) (edge_at outlook.now.graph.now edge).to room.new.path }
+    ensures followed { IsFollowedByLeast outlook.now.graph.now outlook.now.point.now
+        (request_ends outlook.now.request.now) (with_edge room.old edge)
+        (edge_at outlook.now.graph.now edge).to room.new.path }
     ensures same { room.new ≡ record room.old { path = room.new.path } }
 {
     outlook.graph.keeps_conditions();
@@ -119,7 +126,8 @@ pub fn find_distances(outlook: &Outlook<'_>, limit: u128, room: &mut Room)
     requires room { IsRoomFor outlook.now.graph.now room.old }
     requires fits { FitsOutlook outlook.now }
     requires path { HasItsPath outlook.now }
-    ensures { HasDistancesBelow outlook.now.graph.now outlook.now.point.now (request_ends outlook.now.request.now) limit room.new }
+    ensures { HasDistancesBelow outlook.now.graph.now outlook.now.point.now
+        (request_ends outlook.now.request.now) limit room.new }
 {
     let aim = Aim {
         target: outlook.request.end,
@@ -135,10 +143,10 @@ pub(crate) fn cheap_deviation(outlook: &Outlook<'_>, room: &Room) -> Option<Devi
     requires fits { FitsOutlook outlook.now }
     requires found { CanCompare outlook.now room.now }
     requires path { HasItsPath outlook.now }
-    ensures { MatchOption result
-        (RequestLeads outlook.now.graph.now outlook.now.point.now outlook.now.request.now)
-        (λ best. IsBestDeviation outlook.now room.now (λ place e. place < length outlook.now.request.now.path.edges) (Some best)
-        × (best.cost < lead_in outlook.now)) }
+    ensures { MatchOption result (RequestLeads outlook.now.graph.now outlook.now.point.now
+        outlook.now.request.now) (λ best. IsBestDeviation outlook.now room.now
+        (λ place e. place < length outlook.now.request.now.path.edges) (Some best) ×
+        (best.cost < lead_in outlook.now)) }
 {
     outlook.graph.keeps_conditions();
     let best = match least_deviation(outlook, room) {
@@ -162,9 +170,9 @@ pub fn find_rival(graph: &Graph, request: &Request, point: &Point, room: &mut Ro
     requires fits { FitsPoint graph.now point.now }
     requires path { IsPathOf graph.now (request_ends request.now) request.now.path.edges }
     ensures room { IsRoomFor graph.now room.new }
-    ensures rival { MatchBool result
-        (IsCheapestRival graph.now point.now (request_ends request.now) request.now.path.edges room.new.path)
-        (LeadsBy point.now.scale graph.now point.now (request_ends request.now) request.now.path.edges) }
+    ensures rival { MatchBool result (IsCheapestRival graph.now point.now (request_ends request.now)
+        request.now.path.edges room.new.path) (LeadsBy point.now.scale graph.now point.now
+        (request_ends request.now) request.now.path.edges) }
 {
     let outlook = Outlook {
         graph,
@@ -202,7 +210,8 @@ fn lay_out(outlook: &Outlook<'_>, best: Deviation, room: &mut Room)
     requires fits { FitsOutlook outlook.now }
     requires found { CanCompare outlook.now room.old }
     requires path { HasItsPath outlook.now }
-    requires best { IsBestDeviation outlook.now room.old (λ place e. place < length outlook.now.request.now.path.edges) (Some best) }
+    requires best { IsBestDeviation outlook.now room.old (λ place e.
+        place < length outlook.now.request.now.path.edges) (Some best) }
     requires cheap { best.cost < lead_in outlook.now }
     ensures room { IsRoomFor outlook.now.graph.now room.new }
     ensures cheapest { IsCheapestRivalSeen outlook.now room.new.path }
@@ -225,7 +234,8 @@ pub fn cheapest_rival<'a>(
     requires room { IsRoomFor graph.now room.old }
     requires fits { FitsPoint graph.now point.now }
     requires path { IsPathOf graph.now (request_ends request.now) request.now.path.edges }
-    ensures { IsRivalAnswer graph.now point.now (request_ends request.now) request.now.path.edges result }
+    ensures { IsRivalAnswer graph.now point.now (request_ends request.now) request.now.path.edges
+        result }
 {
     if find_rival(graph, request, point, room) {
         Rival::Cheaper(room.path())

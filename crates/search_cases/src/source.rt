@@ -120,7 +120,8 @@ impl FormList {
     fn ask_one(&self, place: usize, point: &Point, pool: &mut FormPool) -> Result<bool, OutOfMemory>
         requires point { IsCostPoint self.now.variables point.now }
         requires place { place < length self.now.forms }
-        ensures one { IfOk result (IsFormAsked point.now (form_at self.now.forms place) pool.old pool.new) }
+        ensures one { IfOk result (IsFormAsked point.now (form_at self.now.forms place) pool.old
+            pool.new) }
         ensures same { OnErr result (pool.new ≡ pool.old) }
     {
         let form = &self.forms[place];

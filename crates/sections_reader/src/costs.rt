@@ -28,8 +28,9 @@ pub(crate) fn read_other_costs(
     text: TextLeft<'_>,
     of: OtherText,
 ) -> Result<(Option<Listed<CostLine>>, TextLeft<'_>), Refusal<AnswerFault>>
-    ensures { MatchResult result (λ r. (number : ℕ) × (behind : List ℕ) × FitLines r.0 × IsSectionsEnd of behind ×
-        Goes (AtOtherCosts of) text.entry (other_costs_lines of number r.0 ++ behind ∷ []) (AtUnread (inner_ends of)) r.1)
+    ensures { MatchResult result (λ r. (number : ℕ) × (behind : List ℕ) × FitLines r.0 ×
+        IsSectionsEnd of behind × Goes (AtOtherCosts of) text.entry
+        (other_costs_lines of number r.0 ++ behind ∷ []) (AtUnread (inner_ends of)) r.1)
         (StopsReader (AtOtherCosts of) text.entry) }
 {
     let (number, rest) = costs_head_at(text, of)?;
@@ -50,8 +51,8 @@ fn costs_head_at(
     text: TextLeft<'_>,
     of: OtherText,
 ) -> Result<(Option<u32>, TextLeft<'_>), Refusal<AnswerFault>>
-    ensures { MatchResult result (λ r. Goes (AtOtherCosts of) text.entry (costs_head_of of r.0 ∷ []) (behind_costs_head_of of r.0) r.1)
-        (StopsReader (AtOtherCosts of) text.entry) }
+    ensures { MatchResult result (λ r. Goes (AtOtherCosts of) text.entry (costs_head_of of r.0 ∷ [])
+        (behind_costs_head_of of r.0) r.1) (StopsReader (AtOtherCosts of) text.entry) }
 {
     match costs_head_next(text, of) {
         Some(found) => Ok(found),
@@ -62,7 +63,8 @@ fn costs_head_at(
 /// The number that the line before the costs says, where that line is the next.
 fn costs_head_next(text: TextLeft<'_>, of: OtherText) -> Option<(Option<u32>, TextLeft<'_>)>
     ensures { MatchOption result (LacksLawful (AtOtherCosts of) text.entry.left.now)
-        (λ r. Goes (AtOtherCosts of) text.entry (costs_head_of of r.0 ∷ []) (behind_costs_head_of of r.0) r.1) }
+        (λ r. Goes (AtOtherCosts of) text.entry (costs_head_of of r.0 ∷ [])
+        (behind_costs_head_of of r.0) r.1) }
 {
     let (line, rest) = text.line()?;
     let number = costs_head(line, of)?;
@@ -72,7 +74,8 @@ fn costs_head_next(text: TextLeft<'_>, of: OtherText) -> Option<(Option<u32>, Te
 /// The number that a line before costs says.
 fn costs_head(line: &[u8], of: OtherText) -> Option<Option<u32>>
     ensures { MatchOption result ((next : TextPlace) → Next (AtOtherCosts of) line.now next → ⊥)
-        (λ number. Next (AtOtherCosts of) line.now (behind_costs_head_of of number) × (line.now ≡ costs_head_of of number)) }
+        (λ number. Next (AtOtherCosts of) line.now (behind_costs_head_of of number) ×
+        (line.now ≡ costs_head_of of number)) }
 {
     if line == of.no_costs() {
         return Some(None);
@@ -88,8 +91,9 @@ fn sections_to_end(
     text: TextLeft<'_>,
     of: OtherText,
 ) -> Result<(Listed<CostLine>, TextLeft<'_>), Refusal<AnswerFault>>
-    ensures { MatchResult result (λ r. (behind : List ℕ) × All FitsCostLine r.0 × IsSectionsEnd of behind ×
-        Goes (AtSections (Some of) None) text.entry (cost_lines None r.0 ++ behind ∷ []) (AtUnread (inner_ends of)) r.1)
+    ensures { MatchResult result (λ r. (behind : List ℕ) × All FitsCostLine r.0 ×
+        IsSectionsEnd of behind × Goes (AtSections (Some of) None) text.entry
+        (cost_lines None r.0 ++ behind ∷ []) (AtUnread (inner_ends of)) r.1)
         (StopsReader (AtSections (Some of) None) text.entry) }
 {
     let (sections, rest) = read_sections(alloc, text)?;
@@ -105,7 +109,8 @@ fn end_behind<'a>(
 ) -> Result<TextLeft<'a>, Refusal<AnswerFault>>
     requires { LacksCost (Some of) (option_copied before) text.left.now }
     ensures { MatchResult result (λ rest. (behind : List ℕ) × IsSectionsEnd of behind ×
-        Goes (AtSections (Some of) (option_copied before.entry)) text.entry (behind ∷ []) (AtUnread (inner_ends of)) rest)
+        Goes (AtSections (Some of) (option_copied before.entry)) text.entry (behind ∷ [])
+        (AtUnread (inner_ends of)) rest)
         (StopsReader (AtSections (Some of) (option_copied before.entry)) text.entry) }
 {
     match end_next(text, of) {
@@ -117,7 +122,8 @@ fn end_behind<'a>(
 /// The text behind the line that ends the sections, where there are none.
 fn end_at(text: TextLeft<'_>, of: OtherText) -> Result<TextLeft<'_>, Refusal<AnswerFault>>
     ensures { MatchResult result (λ rest. (behind : List ℕ) × IsSectionsEnd of behind ×
-        Goes (AtSectionsEnd of) text.entry (behind ∷ []) (AtUnread (inner_ends of)) rest) (StopsReader (AtSectionsEnd of) text.entry) }
+        Goes (AtSectionsEnd of) text.entry (behind ∷ []) (AtUnread (inner_ends of)) rest)
+        (StopsReader (AtSectionsEnd of) text.entry) }
 {
     match end_next(text, of) {
         Some(rest) => Ok(rest),
@@ -128,7 +134,8 @@ fn end_at(text: TextLeft<'_>, of: OtherText) -> Result<TextLeft<'_>, Refusal<Ans
 /// The text behind the line that ends the sections, where it is the next.
 fn end_next(text: TextLeft<'_>, of: OtherText) -> Option<TextLeft<'_>>
     ensures { MatchOption result (LacksLawful (AtSectionsEnd of) text.entry.left.now)
-        (λ rest. (behind : List ℕ) × IsSectionsEnd of behind × Goes (AtSectionsEnd of) text.entry (behind ∷ []) (AtUnread (inner_ends of)) rest) }
+        (λ rest. (behind : List ℕ) × IsSectionsEnd of behind ×
+        Goes (AtSectionsEnd of) text.entry (behind ∷ []) (AtUnread (inner_ends of)) rest) }
 {
     let (line, rest) = text.line()?;
     if of.ends_sections(line) {

@@ -22,7 +22,8 @@ pub(crate) fn read_top(
     text: TextLeft<'_>,
     of: OtherText,
 ) -> Result<TextLeft<'_>, Refusal<AnswerFault>>
-    ensures { MatchResult result (λ rest. (verdict : List ℕ) × Goes (AtOtherHead of) text.entry (top_lines of verdict) (AtOtherCosts of) rest)
+    ensures { MatchResult result (λ rest. (verdict : List ℕ) ×
+        Goes (AtOtherHead of) text.entry (top_lines of verdict) (AtOtherCosts of) rest)
         (StopsReader (AtOtherHead of) text.entry) }
 {
     let behind = read_heads(text, of)?;
@@ -31,7 +32,8 @@ pub(crate) fn read_top(
 
 /// The text behind its head, and behind that of the answer inside.
 fn read_heads(text: TextLeft<'_>, of: OtherText) -> Result<TextLeft<'_>, Refusal<AnswerFault>>
-    ensures { MatchResult result (Goes (AtOtherHead of) text.entry (heads_of of) (AtOtherVerdict of)) (StopsReader (AtOtherHead of) text.entry) }
+    ensures { MatchResult result (Goes (AtOtherHead of) text.entry (heads_of of)
+        (AtOtherVerdict of)) (StopsReader (AtOtherHead of) text.entry) }
 {
     let behind = head_at(text, of)?;
     match of {
@@ -42,7 +44,8 @@ fn read_heads(text: TextLeft<'_>, of: OtherText) -> Result<TextLeft<'_>, Refusal
 
 /// The text behind its first line.
 fn head_at(text: TextLeft<'_>, of: OtherText) -> Result<TextLeft<'_>, Refusal<AnswerFault>>
-    ensures { MatchResult result (Goes (AtOtherHead of) text.entry (other_head of ∷ []) (behind_other_head of)) (StopsReader (AtOtherHead of) text.entry) }
+    ensures { MatchResult result (Goes (AtOtherHead of) text.entry (other_head of ∷ [])
+        (behind_other_head of)) (StopsReader (AtOtherHead of) text.entry) }
 {
     match text.behind(of.head()) {
         Some(rest) => Ok(rest),
@@ -52,7 +55,8 @@ fn head_at(text: TextLeft<'_>, of: OtherText) -> Result<TextLeft<'_>, Refusal<An
 
 /// The text behind the first line of the answer inside.
 fn inner_head_at(text: TextLeft<'_>) -> Result<TextLeft<'_>, Refusal<AnswerFault>>
-    ensures { MatchResult result (Goes AtInnerHead text.entry (answer_head ∷ []) (AtOtherVerdict other.Total)) (StopsReader AtInnerHead text.entry) }
+    ensures { MatchResult result (Goes AtInnerHead text.entry (answer_head ∷ [])
+        (AtOtherVerdict other.Total)) (StopsReader AtInnerHead text.entry) }
 {
     match text.behind(b"ospfcost answer 1") {
         Some(rest) => Ok(rest),
@@ -62,7 +66,8 @@ fn inner_head_at(text: TextLeft<'_>) -> Result<TextLeft<'_>, Refusal<AnswerFault
 
 /// The text behind the verdict, whose line has to be the next.
 fn verdict_at(text: TextLeft<'_>, of: OtherText) -> Result<TextLeft<'_>, Refusal<AnswerFault>>
-    ensures { MatchResult result (λ rest. (verdict : List ℕ) × Goes (AtOtherVerdict of) text.entry (verdict ∷ []) (AtOtherCosts of) rest)
+    ensures { MatchResult result (λ rest. (verdict : List ℕ) ×
+        Goes (AtOtherVerdict of) text.entry (verdict ∷ []) (AtOtherCosts of) rest)
         (StopsReader (AtOtherVerdict of) text.entry) }
 {
     match verdict_next(text, of) {
@@ -74,7 +79,8 @@ fn verdict_at(text: TextLeft<'_>, of: OtherText) -> Result<TextLeft<'_>, Refusal
 /// The text behind the verdict, where its line is the next.
 fn verdict_next(text: TextLeft<'_>, of: OtherText) -> Option<TextLeft<'_>>
     ensures { MatchOption result (LacksLawful (AtOtherVerdict of) text.entry.left.now)
-        (λ rest. (verdict : List ℕ) × Goes (AtOtherVerdict of) text.entry (verdict ∷ []) (AtOtherCosts of) rest) }
+        (λ rest. (verdict : List ℕ) × Goes (AtOtherVerdict of) text.entry (verdict ∷ [])
+        (AtOtherCosts of) rest) }
 {
     let (line, rest) = text.line()?;
     if of.is_verdict(line) {

@@ -42,7 +42,8 @@ pub fn read_costs(
 /// The cost lines of an answer's text.
 fn read_own(alloc: Global, bytes: &[u8]) -> Result<Option<Listed<CostLine>>, Refusal<AnswerFault>>
     requires { length bytes.now < 2 ^ 32 - 1 }
-    ensures { MatchResult result (λ costs. IsSaidByAnswer bytes.now costs) (IsReaderStop AtHead 0 bytes.now) }
+    ensures { MatchResult result (λ costs. IsSaidByAnswer bytes.now costs)
+        (IsReaderStop AtHead 0 bytes.now) }
 {
     let answer = read_answer(alloc, bytes)?;
     keeps_answer(&answer);
@@ -66,7 +67,8 @@ fn read_other(
     of: OtherText,
 ) -> Result<Option<Listed<CostLine>>, Refusal<AnswerFault>>
     requires { length bytes.now < 2 ^ 32 - 1 }
-    ensures { MatchResult result (λ costs. IsSaidByOther of bytes.now costs) (IsReaderStop (AtOtherHead of) 0 bytes.now) }
+    ensures { MatchResult result (λ costs. IsSaidByOther of bytes.now costs)
+        (IsReaderStop (AtOtherHead of) 0 bytes.now) }
 {
     let behind_top = read_top(TextLeft::new(bytes), of)?;
     let (costs, behind_costs) = read_other_costs(alloc, behind_top, of)?;

@@ -16,8 +16,8 @@ use evidence_reader::{AnswerFault, fault_at, nothing_left};
 /// `Refused` where the text ends before that line, or something stands behind it.
 pub(crate) fn pass_unread(text: TextLeft<'_>, of: OtherText) -> Result<(), Refusal<AnswerFault>>
     ensures { MatchResult result (λ _. (unread : List (List ℕ)) × (after : ℕ) ×
-        IsRead (AtUnread (inner_ends of)) text.entry.read text.entry.left.now unread AfterEnd after [])
-        (StopsReader (AtUnread (inner_ends of)) text.entry) }
+        IsRead (AtUnread (inner_ends of)) text.entry.read text.entry.left.now unread AfterEnd after
+        []) (StopsReader (AtUnread (inner_ends of)) text.entry) }
 {
     match of {
         OtherText::Total => {
@@ -40,7 +40,8 @@ fn pass_last(text: TextLeft<'_>) -> Result<(), Refusal<AnswerFault>>
 
 /// The text behind its next line `end`.
 fn pass_end(text: TextLeft<'_>) -> Result<TextLeft<'_>, Refusal<AnswerFault>>
-    ensures { (more : ℕ) → MatchResult result (λ rest. (unread : List (List ℕ)) × Goes (AtUnread more) text.entry unread (behind_end more) rest)
+    ensures { (more : ℕ) → MatchResult result (λ rest. (unread : List (List ℕ)) ×
+        Goes (AtUnread more) text.entry unread (behind_end more) rest)
         (StopsReader (AtUnread more) text.entry) }
 {
     let mut left = text;

@@ -34,7 +34,8 @@ const LONGEST_LINE: usize = 65_536;
 /// is refused as `BadSetLine` behind the last line. `OutOfMemory` where there is no memory.
 pub fn read_sets(alloc: Global, bytes: &[u8], problem: &Problem) -> Result<Sets, Refusal<SetFault>>
     requires few { length bytes.now < 2 ^ 32 - 1 }
-    ensures made { IfOk result (λ sets. (set_fault problem.now bytes.now ≡ None) × AreSaid bytes.now sets) }
+    ensures made { IfOk result (λ sets. (set_fault problem.now bytes.now ≡ None) ×
+        AreSaid bytes.now sets) }
     ensures lawful { IfOk result (AreSetsOf problem.now) }
     ensures refused { IfErr result (TellsReading (set_fault problem.now bytes.now)) }
 {
@@ -56,9 +57,13 @@ fn read_line(
     number: u32,
     text: &[u8],
 ) -> Result<(), Refusal<SetFault>>
-    ensures taken { OnOk result (set_fault_said reader.old.problem.paths (told_of reader.old) (said_by_set_line text.now) ≡ None) }
+    ensures taken { OnOk result (set_fault_said reader.old.problem.paths (told_of reader.old)
+        (said_by_set_line text.now) ≡ None) }
     ensures told { OnOk result (TakesLine reader.old (said_by_set_line text.now) reader.new) }
-    ensures refused { IfErr result (TellsReading (fault_in_line number (set_fault_said reader.old.problem.paths (told_of reader.old) (said_by_set_line text.now)))) }
+    ensures refused { IfErr result
+        (TellsReading
+        (fault_in_line number (set_fault_said reader.old.problem.paths (told_of reader.old)
+        (said_by_set_line text.now)))) }
 {
     let said = statement_of(alloc, text)?;
     reader.take(alloc, number, said)

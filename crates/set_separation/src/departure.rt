@@ -27,7 +27,8 @@ pub(crate) fn put_place_costs(outlook: &Outlook<'_>, tree: &PrefixTree, costs: &
     requires fits { FitsOutlook outlook.now }
     requires tree { HasPrefixTree outlook.now tree.now }
     requires enough { length tree.now + 1 ≤ length costs.old }
-    ensures costs { ArePlaceCosts outlook.now.graph.now outlook.now.point.now tree.now (length tree.now) costs.new }
+    ensures costs { ArePlaceCosts outlook.now.graph.now outlook.now.point.now tree.now
+        (length tree.now) costs.new }
     ensures count { length costs.new ≡ length costs.old }
 {
     outlook.graph.keeps_conditions();
@@ -42,7 +43,8 @@ pub(crate) fn put_place_costs(outlook: &Outlook<'_>, tree: &PrefixTree, costs: &
 fn vertex_of(outlook: &Outlook<'_>, tree: &PrefixTree, place: usize) -> u32
     requires tree { HasPrefixTree outlook.now tree.now }
     requires place { place ≤ length tree.now }
-    ensures { result ≡ place_vertex outlook.now.graph.now (request_ends outlook.now.request.now) tree.now place }
+    ensures { result ≡ place_vertex outlook.now.graph.now (request_ends outlook.now.request.now)
+        tree.now place }
 {
     if place == 0 {
         return outlook.request.path.start;
@@ -66,7 +68,8 @@ fn departure(
     requires place { place ≤ length costed.now.tree.now }
     requires known { number < length outlook.now.graph.now.edges }
     requires from { (edge_at outlook.now.graph.now number).from ≡
-        place_vertex outlook.now.graph.now (request_ends outlook.now.request.now) costed.now.tree.now place }
+        place_vertex outlook.now.graph.now (request_ends outlook.now.request.now)
+        costed.now.tree.now place }
     ensures { MatchOption result
         ((total : ℕ) → DepartsHere outlook.now room.now costed.now place number total → ⊥)
         (λ total. DepartsHere outlook.now room.now costed.now place number total) }
@@ -94,8 +97,10 @@ fn best_at(
     requires tree { HasPrefixTree outlook.now costed.now.tree.now }
     requires costs { IsCosted outlook.now costed.now }
     requires place { place ≤ length costed.now.tree.now }
-    requires best { IsBestOffer (DepartsHere outlook.now room.now costed.now) (λ earlier e. earlier < place) best }
-    ensures { IsBestOffer (DepartsHere outlook.now room.now costed.now) (λ earlier e. earlier < place + 1) result }
+    requires best { IsBestOffer (DepartsHere outlook.now room.now costed.now)
+        (λ earlier e. earlier < place) best }
+    ensures { IsBestOffer (DepartsHere outlook.now room.now costed.now)
+        (λ earlier e. earlier < place + 1) result }
 {
     outlook.graph.keeps_conditions();
     let mut found = best;
@@ -118,7 +123,8 @@ pub(crate) fn least_departure(
     requires found { HasDistances outlook.now room.now }
     requires tree { HasPrefixTree outlook.now costed.now.tree.now }
     requires costs { IsCosted outlook.now costed.now }
-    ensures { IsBestOffer (DepartsHere outlook.now room.now costed.now) (λ place e. place ≤ length costed.now.tree.now) result }
+    ensures { IsBestOffer (DepartsHere outlook.now room.now costed.now)
+        (λ place e. place ≤ length costed.now.tree.now) result }
 {
     let mut best = None;
     for place in 0..costed.tree.steps().len() + 1 {

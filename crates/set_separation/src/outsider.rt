@@ -50,12 +50,14 @@ fn cheap_departure(
     requires found { CanCompare outlook.now room.now }
     requires tree { HasTiedTree outlook.now tree.now }
     requires enough { length tree.now + 1 ≤ length costs.old }
-    ensures costs { ArePlaceCosts outlook.now.graph.now outlook.now.point.now tree.now (length tree.now) costs.new }
+    ensures costs { ArePlaceCosts outlook.now.graph.now outlook.now.point.now tree.now
+        (length tree.now) costs.new }
     ensures count { length costs.new ≡ length costs.old }
-    ensures best { MatchOption result
-        ((wanted : List (List ℕ)) → IsTiedHere outlook.now wanted tree.now → AreOutsidersDear outlook.now wanted)
-        (λ best. IsBestOffer (Departs outlook.now.graph.now outlook.now.point.now (request_ends outlook.now.request.now)
-        room.now tree.now costs.new) (λ place e. place ≤ length tree.now) (Some best) × (best.cost < lead_in outlook.now)) }
+    ensures best { MatchOption result ((wanted : List (List ℕ)) →
+        IsTiedHere outlook.now wanted tree.now → AreOutsidersDear outlook.now wanted)
+        (λ best. IsBestOffer (Departs outlook.now.graph.now outlook.now.point.now
+        (request_ends outlook.now.request.now) room.now tree.now costs.new)
+        (λ place e. place ≤ length tree.now) (Some best) × (best.cost < lead_in outlook.now)) }
 {
     outlook.graph.keeps_conditions();
     put_place_costs(outlook, tree, costs);
@@ -82,8 +84,8 @@ fn lay_out(outlook: &Outlook<'_>, costed: &CostedTree<'_>, best: Deviation, room
         (λ place e. place ≤ length costed.now.tree.now) (Some best) }
     requires cheap { best.cost < lead_in outlook.now }
     ensures same { room.new ≡ record room.old { path = room.new.path } }
-    ensures cheapest { (wanted : List (List ℕ)) → IsTiedHere outlook.now wanted costed.now.tree.now →
-        IsCheapestOutsiderHere outlook.now wanted room.new.path }
+    ensures cheapest { (wanted : List (List ℕ)) → IsTiedHere outlook.now wanted
+        costed.now.tree.now → IsCheapestOutsiderHere outlook.now wanted room.new.path }
 {
     outlook.graph.keeps_conditions();
     put_prefix(outlook, costed.tree, best.place, room);
@@ -108,7 +110,8 @@ pub fn find_outsider(
     ensures room { IsRoomFor outlook.now.graph.now room.new }
     ensures count { length costs.new ≡ length costs.old }
     ensures outsider { (wanted : List (List ℕ)) → IsTiedHere outlook.now wanted tree.now →
-        MatchBool result (IsCheapestOutsiderHere outlook.now wanted room.new.path) (AreOutsidersDear outlook.now wanted) }
+        MatchBool result (IsCheapestOutsiderHere outlook.now wanted room.new.path)
+        (AreOutsidersDear outlook.now wanted) }
 {
     let cost = path_cost(outlook.graph, &outlook.request.path, outlook.point);
     find_distances(outlook, cost + outlook.point.scale, room);
@@ -132,7 +135,8 @@ pub fn find_outsider_at_hand(
     ensures same { room.new ≡ record room.old { path = room.new.path } }
     ensures count { length costs.new ≡ length costs.old }
     ensures outsider { (wanted : List (List ℕ)) → IsTiedHere outlook.now wanted tree.now →
-        MatchBool result (IsCheapestOutsiderHere outlook.now wanted room.new.path) (AreOutsidersDear outlook.now wanted) }
+        MatchBool result (IsCheapestOutsiderHere outlook.now wanted room.new.path)
+        (AreOutsidersDear outlook.now wanted) }
 {
     match cheap_departure(outlook, tree, costs, room) {
         Some(best) => {

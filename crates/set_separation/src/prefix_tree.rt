@@ -53,7 +53,8 @@ impl PrefixTree {
 
     /// The place that the step from a place by an edge leads to.
     pub fn next(&self, place: usize, edge: u32) -> Option<usize>
-        ensures { MatchOption result (HasStep self.now place edge → ⊥) (λ next. (i : ℕ) × IsPrefixStep self.now place edge i × (next ≡ i + 1)) }
+        ensures { MatchOption result (HasStep self.now place edge → ⊥)
+            (λ next. (i : ℕ) × IsPrefixStep self.now place edge i × (next ≡ i + 1)) }
     {
         let _few = self.steps.len();
         match self.steps.get_index_of(&Step { place, edge }) {
@@ -65,7 +66,9 @@ impl PrefixTree {
     /// Makes a step that isn't there, and gives its place.
     fn grow(&mut self, place: usize, edge: u32) -> Result<usize, OutOfMemory>
         requires { HasStep self.old place edge → ⊥ }
-        ensures { IfOk result (λ next. (self.new ≡ self.old ++ record { place = place; edge = edge } ∷ []) × (next ≡ length self.old + 1)) }
+        ensures { IfOk result
+            (λ next. (self.new ≡ self.old ++ record { place = place; edge = edge } ∷ []) ×
+            (next ≡ length self.old + 1)) }
     {
         self.steps.insert(Step { place, edge })?;
         Ok(self.steps.as_slice().len())
@@ -87,8 +90,8 @@ impl PrefixTree {
     ///
     /// `OutOfMemory`. Then the tree may have some of the path's prefixes.
     pub fn insert(&mut self, edges: &[u32]) -> Result<(), OutOfMemory>
-        ensures { OnOk result ((wanted done : List (List ℕ)) → Contains wanted edges.now → IsGrown wanted done self.old →
-            IsGrown wanted (done ++ edges.now ∷ []) self.new) }
+        ensures { OnOk result ((wanted done : List (List ℕ)) → Contains wanted edges.now →
+            IsGrown wanted done self.old → IsGrown wanted (done ++ edges.now ∷ []) self.new) }
     {
         let mut place = 0;
         for edge in edges {

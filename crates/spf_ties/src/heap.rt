@@ -66,8 +66,10 @@ impl Heap {
 
     /// Takes out an entry of least distance; None where there is none.
     pub(crate) fn pop(&mut self) -> Option<Entry>
-        ensures entry { MatchOption result (self.new.entries ≡ []) (λ entry. IsPermutation self.old.entries (entry ∷ self.new.entries)) }
-        ensures none { MatchOption result (self.old.entries ≡ []) (λ entry. All (λ other. entry.distance ≤ other.distance) self.old.entries) }
+        ensures entry { MatchOption result (self.new.entries ≡ [])
+            (λ entry. IsPermutation self.old.entries (entry ∷ self.new.entries)) }
+        ensures none { MatchOption result (self.old.entries ≡ []) (λ entry.
+            All (λ other. entry.distance ≤ other.distance) self.old.entries) }
         ensures places { self.new.places ≡ self.old.places }
     {
         match self.entries.pop() {

@@ -66,9 +66,11 @@ fn first_tight<'a>(
     requires room { IsRoomFor graph.now room.now }
     requires fits { FitsPoint graph.now point.now }
     requires known { All (λ e. e < length graph.now.edges) edges.now }
-    ensures tight { MatchOption result (filter (is_tight graph.now point.now room.now) edges.now ≡ [])
-        (λ p. filter (is_tight graph.now point.now room.now) edges.now ≡ p.0 ∷ filter (is_tight graph.now point.now room.now) p.1.now) }
-    ensures known { MatchOption result (Unit {0}) (λ p. All (λ e. e < length graph.now.edges) p.1.now) }
+    ensures tight { MatchOption result (filter (is_tight graph.now point.now room.now) edges.now ≡
+        []) (λ p. filter (is_tight graph.now point.now room.now) edges.now ≡
+        p.0 ∷ filter (is_tight graph.now point.now room.now) p.1.now) }
+    ensures known { MatchOption result (Unit {0}) (λ p. All (λ e. e < length graph.now.edges)
+        p.1.now) }
 {
     let mut left = edges;
     while let [first, rest @ ..] = left {

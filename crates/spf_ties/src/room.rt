@@ -86,10 +86,12 @@ impl Room {
         requires target { target < length graph.now.vertices }
         ensures room { IsRoomFor graph.now self.new }
         ensures marks { AreEdgeMarks [] self.new.marks }
-        ensures least { (v : ℕ) → v < length graph.now.vertices →
-            IsLeastCost graph.now point.now (record { start = v; end = target; excluded = [] }) (distance_at self.new v) }
-        ensures tight { (v : ℕ) (path : List ℕ) → IsPathOf graph.now (record { start = v; end = target; excluded = [] }) path →
-            (distance_at self.new v ≡ Some (cost graph.now point.now path)) ↔ AreTight graph.now point.now self.new path }
+        ensures least { (v : ℕ) → v < length graph.now.vertices → IsLeastCost graph.now point.now
+            (record { start = v; end = target; excluded = [] }) (distance_at self.new v) }
+        ensures tight { (v : ℕ) (path : List ℕ) → IsPathOf graph.now
+            (record { start = v; end = target; excluded = [] }) path →
+            (distance_at self.new v ≡ Some (cost graph.now point.now path)) ↔
+            AreTight graph.now point.now self.new path }
     {
         self.distances_without(graph, point, target, &[]);
     }
@@ -102,10 +104,12 @@ impl Room {
         requires target { target < length graph.now.vertices }
         ensures room { IsRoomFor graph.now self.new }
         ensures marks { AreEdgeMarks excluded.now self.new.marks }
-        ensures least { (v : ℕ) → v < length graph.now.vertices →
-            IsLeastCost graph.now point.now (record { start = v; end = target; excluded = excluded.now }) (distance_at self.new v) }
-        ensures tight { (v : ℕ) (path : List ℕ) → IsPathOf graph.now (record { start = v; end = target; excluded = excluded.now }) path →
-            (distance_at self.new v ≡ Some (cost graph.now point.now path)) ↔ AreTight graph.now point.now self.new path }
+        ensures least { (v : ℕ) → v < length graph.now.vertices → IsLeastCost graph.now point.now
+            (record { start = v; end = target; excluded = excluded.now }) (distance_at self.new v) }
+        ensures tight { (v : ℕ) (path : List ℕ) → IsPathOf graph.now
+            (record { start = v; end = target; excluded = excluded.now }) path →
+            (distance_at self.new v ≡ Some (cost graph.now point.now path)) ↔
+            AreTight graph.now point.now self.new path }
     {
         graph.keeps_conditions();
         let aim = Aim {
@@ -126,11 +130,12 @@ impl Room {
         requires target { aim.now.target < length graph.now.vertices }
         ensures room { IsRoomFor graph.now self.new }
         ensures marks { AreEdgeMarks aim.now.excluded.now self.new.marks }
-        ensures least { (v : ℕ) → v < length graph.now.vertices →
-            IsLeastBelow graph.now point.now (ends_to aim.now v) aim.now.limit (distance_at self.new v) }
+        ensures least { (v : ℕ) → v < length graph.now.vertices → IsLeastBelow graph.now point.now
+            (ends_to aim.now v) aim.now.limit (distance_at self.new v) }
         ensures tight { (v : ℕ) (path : List ℕ) → IsPathOf graph.now (ends_to aim.now v) path →
             cost graph.now point.now path < aim.now.limit →
-            (distance_at self.new v ≡ Some (cost graph.now point.now path)) ↔ AreTight graph.now point.now self.new path }
+            (distance_at self.new v ≡ Some (cost graph.now point.now path)) ↔
+            AreTight graph.now point.now self.new path }
     {
         graph.keeps_conditions();
         mark_excluded(&mut self.marks, aim.excluded);

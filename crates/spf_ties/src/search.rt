@@ -53,10 +53,10 @@ fn look(subgraph: &Subgraph<'_>, number: u32, front: &mut Front)
     ensures front { AreFrontNumbers subgraph.now front.new }
     ensures settled { front.new.settled.items ≡ front.old.settled.items }
     ensures waiting { GrowsByOne front.old.waiting front.new.waiting }
-    ensures underway { (t limit least : ℕ) (todo : List ℕ) →
-        UnderwayIn subgraph.now t limit least (number ∷ todo) front.old.numbers.items front.old.settled.items
-        front.old.waiting.entries →
-        UnderwayIn subgraph.now t limit least todo front.new.numbers.items front.new.settled.items front.new.waiting.entries }
+    ensures underway { (t limit least : ℕ) (todo : List ℕ) → UnderwayIn subgraph.now t limit least
+        (number ∷ todo) front.old.numbers.items front.old.settled.items front.old.waiting.entries →
+        UnderwayIn subgraph.now t limit least todo front.new.numbers.items front.new.settled.items
+        front.new.waiting.entries }
 {
     subgraph.graph.keeps_conditions();
     if !subgraph.removal.leaves(number) {
@@ -82,10 +82,11 @@ fn settle(subgraph: &Subgraph<'_>, vertex: u32, front: &mut Front)
     requires room { HasPlaces subgraph.now front.old }
     ensures front { AreFrontNumbers subgraph.now front.new }
     ensures waiting { NeedsNoMore subgraph.now front.old front.new }
-    ensures underway { (t limit least : ℕ) →
-        UnderwayIn subgraph.now t limit least (edges_in subgraph.now.graph.now vertex) front.old.numbers.items
+    ensures underway { (t limit least : ℕ) → UnderwayIn subgraph.now t limit least
+        (edges_in subgraph.now.graph.now vertex) front.old.numbers.items
         (slice_set front.old.settled.items vertex true) front.old.waiting.entries →
-        UnderwayIn subgraph.now t limit least [] front.new.numbers.items front.new.settled.items front.new.waiting.entries }
+        UnderwayIn subgraph.now t limit least [] front.new.numbers.items front.new.settled.items
+        front.new.waiting.entries }
 {
     front.settled[vertex as usize] = true;
     for number in subgraph.graph.edges_in(vertex) {
@@ -102,10 +103,11 @@ fn take_in(subgraph: &Subgraph<'_>, entry: Entry, front: &mut Front)
     ensures front { AreFrontNumbers subgraph.now front.new }
     ensures waiting { NeedsNoMore subgraph.now front.old front.new }
     ensures underway { (t limit least : ℕ) (waiting : List Entry) →
-        UnderwayIn subgraph.now t limit least [] front.old.numbers.items front.old.settled.items waiting →
-        IsPermutation waiting (entry ∷ front.old.waiting.entries) → All (λ other. entry.distance ≤ other.distance) waiting →
-        (last : ℕ) × UnderwayIn subgraph.now t limit last []
-        front.new.numbers.items front.new.settled.items front.new.waiting.entries }
+        UnderwayIn subgraph.now t limit least [] front.old.numbers.items front.old.settled.items
+        waiting → IsPermutation waiting (entry ∷ front.old.waiting.entries) →
+        All (λ other. entry.distance ≤ other.distance) waiting →
+        (last : ℕ) × UnderwayIn subgraph.now t limit last [] front.new.numbers.items
+        front.new.settled.items front.new.waiting.entries }
 {
     if !front.settled[entry.vertex as usize] {
         settle(subgraph, entry.vertex, front);
@@ -153,7 +155,8 @@ pub(crate) fn find_in_either(
     requires wide { length wide.old.items ≡ length subgraph.now.graph.now.vertices }
     ensures front { IsFrontFor subgraph.now front.new }
     ensures wide { length wide.new.items ≡ length subgraph.now.graph.now.vertices }
-    ensures distances { AreDistancesTo subgraph.now target limit (numbers_of result front.new.numbers.items wide.new.items) }
+    ensures distances { AreDistancesTo subgraph.now target limit
+        (numbers_of result front.new.numbers.items wide.new.items) }
 {
     if subgraph.point.scale < 1 << 37 {
         find(subgraph, target, limit as u64, front);

@@ -40,7 +40,8 @@ fn search_sets<B: Begun>(
     requires trees { All (HasTree problem.now) sets.items }
     requires ranges { IsBox (length problem.now.low) costs.now }
     requires lows { All (λ low. 1 ≤ low) costs.now.low }
-    ensures { IfOk result (IsSpreadSought problem.now (sets_in sets.items) limits.now.top limits.now.nodes costs.now) }
+    ensures { IfOk result (IsSpreadSought problem.now (sets_in sets.items) limits.now.top
+        limits.now.nodes costs.now) }
 {
     keeps_conditions(problem);
     let mut source = Spreads::<B>::new(alloc, problem, sets)?;
@@ -63,10 +64,11 @@ fn answered(
 ) -> Result<Spread, OutOfMemory>
     requires ceiling { greatest_bound problem.now ≤ 65535 }
     requires sought { (sets : List (List ℕ)) × AreMemberSets problem.now sets ×
-        IsSpreadSought problem.now sets limits.now.top limits.now.nodes (whole_box problem.now) sought }
+        IsSpreadSought problem.now sets limits.now.top limits.now.nodes (whole_box problem.now)
+        sought }
     ensures { (sets : List (List ℕ)) → AreMemberSets problem.now sets → AreDistinctSets sets →
-        IsSpreadSought problem.now sets limits.now.top limits.now.nodes (whole_box problem.now) sought →
-        IfOk result (IsFoundOf problem.now sets limits.now.top limits.now.nodes) }
+        IsSpreadSought problem.now sets limits.now.top limits.now.nodes (whole_box problem.now)
+        sought → IfOk result (IsFoundOf problem.now sets limits.now.top limits.now.nodes) }
 {
     keeps_conditions(problem);
     let Sought { rows, found } = sought;

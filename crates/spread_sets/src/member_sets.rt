@@ -73,7 +73,8 @@ fn push_first(
     sets: &mut Vec<Listed<u32>>,
 ) -> Result<(), OutOfMemory>
     requires { line ≡ line_with_path 0 lines.now path }
-    ensures { OnOk result (sets.new.items ≡ cond (is_first lines.now path) (sets.old.items ++ set_of lines.now path ∷ []) sets.old.items) }
+    ensures { OnOk result (sets.new.items ≡ cond (is_first lines.now path)
+        (sets.old.items ++ set_of lines.now path ∷ []) sets.old.items) }
 {
     if is_first(lines, line, path) {
         let set = set_of(alloc, lines, line, path)?;
@@ -88,7 +89,8 @@ pub(crate) fn all_sets(
     lines: &[Listed<u32>],
     paths: u32,
 ) -> Result<Vec<Listed<u32>>, OutOfMemory>
-    ensures { IfOk result (λ sets. sets.items ≡ map (set_of lines.now) (filter (is_first lines.now) (numbers_from 0 paths))) }
+    ensures { IfOk result (λ sets. sets.items ≡ map (set_of lines.now)
+        (filter (is_first lines.now) (numbers_from 0 paths))) }
 {
     let numbers = line_numbers(alloc, lines, paths)?;
     let mut sets = Vec::new(alloc);
@@ -110,7 +112,8 @@ pub(crate) fn request_of(problem: &Problem, path: u32) -> &Request
 /// The tree of the common prefixes of the members' paths.
 fn tree_of(alloc: Global, problem: &Problem, members: &[u32]) -> Result<PrefixTree, OutOfMemory>
     requires { IsMemberSet problem.now members.now }
-    ensures { IfOk result (IsGrown (paths_of problem.now members.now) (paths_of problem.now members.now)) }
+    ensures { IfOk result (IsGrown (paths_of problem.now members.now)
+        (paths_of problem.now members.now)) }
 {
     let mut tree = PrefixTree::new(alloc);
     for member in members {

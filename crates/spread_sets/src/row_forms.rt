@@ -19,7 +19,8 @@ fn copied(alloc: Global, terms: &[Term]) -> Result<Vec<Term>, OutOfMemory>
 /// The form with 1 more.
 fn with_one_more(alloc: Global, form: &Form) -> Result<Form, OutOfMemory>
     requires { nat_abs form.now.constant < 2 ^ 27 }
-    ensures { IfOk result (λ more. more ≡ record form.now { constant = form.now.constant +ℤ pos 1 }) }
+    ensures { IfOk result
+        (λ more. more ≡ record form.now { constant = form.now.constant +ℤ pos 1 }) }
 {
     let terms = copied(alloc, form.terms())?;
     Ok(Form::from_terms(form.variables(), form.constant() + 1, terms))
@@ -33,9 +34,10 @@ pub(crate) fn form_of_tie(
     second: u32,
 ) -> Result<Form, OutOfMemory>
     requires second { second < length problem.now.paths }
-    requires same_ends { IsRouteOf problem.now.graph (slice_get problem.now.paths first) (edges_of problem.now second) }
-    ensures { IfOk result (λ form.
-        form ≡ form_of_tie problem.now.graph (length problem.now.low) (edges_of problem.now first) (edges_of problem.now second)) }
+    requires same_ends { IsRouteOf problem.now.graph (slice_get problem.now.paths first)
+        (edges_of problem.now second) }
+    ensures { IfOk result (λ form. form ≡ form_of_tie problem.now.graph (length problem.now.low)
+        (edges_of problem.now first) (edges_of problem.now second)) }
 {
     let other = request_of(problem, second);
     let row = row_of(alloc, first, other.path.edges.as_slice())?;

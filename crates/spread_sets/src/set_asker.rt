@@ -103,8 +103,10 @@ fn request_in<'a>(problem: &'a Problem, set: &MemberSet) -> &'a Request
 fn have_one_end(problem: &Problem, first: &MemberSet, other: &MemberSet) -> bool
     requires first { IsMemberSet problem.now first.now.members }
     requires other { IsMemberSet problem.now other.now.members }
-    ensures end { IsTrue result → (ends_in problem.now first.now.members).end ≡ (ends_in problem.now other.now.members).end }
-    ensures excluded { IsTrue result → (ends_in problem.now first.now.members).excluded ≡ (ends_in problem.now other.now.members).excluded }
+    ensures end { IsTrue result → (ends_in problem.now first.now.members).end ≡
+        (ends_in problem.now other.now.members).end }
+    ensures excluded { IsTrue result → (ends_in problem.now first.now.members).excluded ≡
+        (ends_in problem.now other.now.members).excluded }
 {
     let first = request_in(problem, first);
     let other = request_in(problem, other);
@@ -136,7 +138,8 @@ fn cost_the_same(problem: &Problem, members: &[u32], point: &Point) -> bool
     requires point { IsCostPoint (length problem.now.low) point.now }
     requires some { 0 < length members.now }
     requires members { All (λ path. path < length problem.now.paths) members.now }
-    ensures { MatchBool result (AreTied problem.now point.now members.now) (AreTied problem.now point.now members.now → ⊥) }
+    ensures { MatchBool result (AreTied problem.now point.now members.now)
+        (AreTied problem.now point.now members.now → ⊥) }
 {
     let first = cost_of(problem, first_of(members), point);
     for member in members {
@@ -194,7 +197,8 @@ impl SetAsker {
         requires asker { IsAskerOfSets survey.now.problem.now survey.now.sets.now self.now }
         requires point { IsCostPoint (length survey.now.problem.now.low) survey.now.point.now }
         requires place { place < length self.now.order }
-        ensures { dearer_from survey.now.problem.now survey.now.point.now (members_seen survey.now self.now place) ≤ result }
+        ensures { dearer_from survey.now.problem.now survey.now.point.now
+            (members_seen survey.now self.now place) ≤ result }
     {
         let problem = survey.problem;
         let first = self.set_at(survey.sets, place);
@@ -216,7 +220,8 @@ impl SetAsker {
         requires place { place < length self.old.order }
         ensures asker { IsAskerOfSets survey.now.problem.now survey.now.sets.now self.new }
         ensures same { self.new ≡ record self.old { room = self.new.room } }
-        ensures ready { IsReadyForSet survey.now self.new.room (slice_index self.old.order place) result }
+        ensures ready { IsReadyForSet survey.now self.new.room (slice_index self.old.order place)
+            result }
     {
         let problem = survey.problem;
         keeps_conditions(problem);
@@ -237,7 +242,8 @@ impl SetAsker {
         requires point { IsCostPoint (length survey.now.problem.now.low) survey.now.point.now }
         requires place { place < length self.now.order }
         requires reach { ReachesSet survey.now self.now.room reach }
-        ensures { IsTrue result → IsReadyForSet survey.now self.now.room (slice_index self.now.order place)
+        ensures { IsTrue result → IsReadyForSet survey.now self.now.room
+            (slice_index self.now.order place)
             (record { set = slice_index self.now.order place; limit = reach.limit }) }
     {
         let set = self.set_at(survey.sets, place);
@@ -256,7 +262,8 @@ impl SetAsker {
         requires reach { MayReach survey.now self.old.room reach }
         ensures asker { IsAskerOfSets survey.now.problem.now survey.now.sets.now self.new }
         ensures same { self.new ≡ record self.old { room = self.new.room } }
-        ensures ready { IsReadyForSet survey.now self.new.room (slice_index self.old.order place) result }
+        ensures ready { IsReadyForSet survey.now self.new.room (slice_index self.old.order place)
+            result }
     {
         if let Some(reach) = reach {
             if self.serves(survey, place, reach) {
@@ -275,12 +282,15 @@ impl SetAsker {
         requires asker { IsAskerOfSets survey.now.problem.now survey.now.sets.now self.old }
         requires point { IsCostPoint (length survey.now.problem.now.low) survey.now.point.now }
         requires place { place < length self.old.order }
-        requires tied { AreTied survey.now.problem.now survey.now.point.now (members_seen survey.now self.old place) }
-        requires found { CanCompareSet survey.now (members_seen survey.now self.old place) self.old.room }
+        requires tied { AreTied survey.now.problem.now survey.now.point.now
+            (members_seen survey.now self.old place) }
+        requires found { CanCompareSet survey.now (members_seen survey.now self.old place)
+            self.old.room }
         ensures same { self.new ≡ self.old }
-        ensures answer { MatchBool result
-            (OutsidersAreDearer survey.now.problem.now survey.now.point.now (members_seen survey.now self.old place) → ⊥)
-            (OutsidersAreDearer survey.now.problem.now survey.now.point.now (members_seen survey.now self.old place)) }
+        ensures answer { MatchBool result (OutsidersAreDearer survey.now.problem.now
+            survey.now.point.now (members_seen survey.now self.old place) → ⊥)
+            (OutsidersAreDearer survey.now.problem.now survey.now.point.now
+            (members_seen survey.now self.old place)) }
     {
         let problem = survey.problem;
         keeps_conditions(problem);
@@ -305,11 +315,16 @@ impl SetAsker {
         requires asker { IsAskerOfSets survey.now.problem.now survey.now.sets.now self.old }
         requires point { IsCostPoint (length survey.now.problem.now.low) survey.now.point.now }
         requires place { place < length self.old.order }
-        requires tied { AreTied survey.now.problem.now survey.now.point.now (members_seen survey.now self.old place) }
-        requires found { CanCompareSet survey.now (members_seen survey.now self.old place) self.old.room }
-        ensures same { self.new ≡ record self.old { room = record self.old.room { path = self.new.room.path } } }
-        ensures outsider { IfOk result
-            (IsOutsiderIfAny survey.now.problem.now survey.now.point.now (members_seen survey.now self.old place)) }
+        requires tied { AreTied survey.now.problem.now survey.now.point.now
+            (members_seen survey.now self.old place) }
+        requires found { CanCompareSet survey.now (members_seen survey.now self.old place)
+            self.old.room }
+        ensures same { self.new ≡ record self.old {
+          room = record self.old.room
+              { path = self.new.room.path };
+        } }
+        ensures outsider { IfOk result (IsOutsiderIfAny survey.now.problem.now survey.now.point.now
+            (members_seen survey.now self.old place)) }
     {
         let problem = survey.problem;
         keeps_conditions(problem);
@@ -380,7 +395,8 @@ impl SetAsker {
         requires point { IsCostPoint (length problem.now.low) point.now }
         requires tied { All (λ set. AreTied problem.now point.now set.members) sets.now }
         ensures asker { IsAskerOfSets problem.now sets.now self.new }
-        ensures outsiders { IfOk result (λ outsiders. AreOutsidersIfAny problem.now point.now sets.now outsiders.items) }
+        ensures outsiders { IfOk result (λ outsiders. AreOutsidersIfAny problem.now point.now
+            sets.now outsiders.items) }
     {
         let survey = SetSurvey {
             problem,

@@ -90,7 +90,11 @@ impl<'a, B: Begun> Spreads<'a, B> {
         requires problem { problem.now ≡ B.problem }
         requires sets { sets_in sets.items ≡ B.sets }
         requires trees { All (HasTree problem.now) sets.items }
-        ensures { IfOk result (λ source. source ≡ record { problem = problem.now; sets = sets_in sets.items; rows = [] }) }
+        ensures { IfOk result (λ source. source ≡ record {
+          problem = problem.now;
+          sets = sets_in sets.items;
+          rows = [];
+        }) }
     {
         let asker = SetAsker::new(alloc, problem, &sets)?;
         Ok(Spreads {
@@ -136,7 +140,8 @@ impl<'a, B: Begun> Spreads<'a, B> {
     /// Puts a row at the end, and its form at the end of the pool. Where memory is wanting both are as before.
     fn push_row(&mut self, row: SetRow, form: Form, pool: &mut FormPool) -> Result<(), OutOfMemory>
         requires { form ≡ form_of_set_row self.old.problem row }
-        ensures row { OnOk result (self.new ≡ record self.old { rows = self.old.rows ++ row ∷ [] }) }
+        ensures row { OnOk result
+            (self.new ≡ record self.old { rows = self.old.rows ++ row ∷ [] }) }
         ensures form { OnOk result (pool.new ≡ pool.old ++ form ∷ []) }
         ensures same_rows { OnErr result (self.new ≡ self.old) }
         ensures same_forms { OnErr result (pool.new ≡ pool.old) }
@@ -228,8 +233,13 @@ impl<'a, B: Begun> Spreads<'a, B> {
         pool: &mut FormPool,
     ) -> Result<(), OutOfMemory>
         requires { place < length self.old.sets }
-        ensures rows { OnOk result (self.new ≡ record self.old { rows = self.old.rows ++ ties_in (set_at self.old.sets place) }) }
-        ensures forms { OnOk result (pool.new ≡ pool.old ++ forms_of_set_rows self.old.problem (ties_in (set_at self.old.sets place))) }
+        ensures rows { OnOk result
+            (self.new ≡ record self.old {
+              rows = self.old.rows ++
+                  ties_in (set_at self.old.sets place);
+            }) }
+        ensures forms { OnOk result (pool.new ≡ pool.old ++ forms_of_set_rows self.old.problem
+            (ties_in (set_at self.old.sets place))) }
     {
         for number in 1..self.members(place) {
             let first = self.member(place, number - 1);
@@ -266,7 +276,8 @@ impl<'a, B: Begun> Spreads<'a, B> {
         pool: &mut FormPool,
     ) -> Result<(), OutOfMemory>
         requires place { place < length self.old.sets }
-        requires cheap { (point : Point) × IsOutsiderTooCheap self.old.problem point (set_at self.old.sets place) edges.now }
+        requires cheap { (point : Point) × IsOutsiderTooCheap self.old.problem point
+            (set_at self.old.sets place) edges.now }
         ensures one { IfOk result (λ _. (point : Point) →
             IsOutsiderTooCheap self.old.problem point (set_at self.old.sets place) edges.now →
             OneSetRow point place self.old pool.old self.new pool.new) }
@@ -290,7 +301,8 @@ impl<'a, B: Begun> Spreads<'a, B> {
         pool: &mut FormPool,
     ) -> Result<bool, OutOfMemory>
         requires place { place < length self.old.sets }
-        requires told { (point : Point) × IsSetAnswer self.old.problem point (set_at self.old.sets place) outsider.now }
+        requires told { (point : Point) × IsSetAnswer self.old.problem point
+            (set_at self.old.sets place) outsider.now }
         ensures one { IfOk result (λ added. (point : Point) →
             IsSetAnswer self.old.problem point (set_at self.old.sets place) outsider.now →
             IsSetAsked point place self.old pool.old self.new pool.new added) }
@@ -315,7 +327,8 @@ impl<'a, B: Begun> Spreads<'a, B> {
         requires point { IsCostPoint (length self.old.problem.low) point.now }
         requires tied { All (AreTied self.old.problem point.now) self.old.sets }
         ensures same { self.new ≡ self.old }
-        ensures told { IfOk result (λ outsiders. AreSetAnswers self.old.problem point.now self.old.sets outsiders.items) }
+        ensures told { IfOk result (λ outsiders. AreSetAnswers self.old.problem point.now
+            self.old.sets outsiders.items) }
     {
         self.asker
             .cheap_outsiders(alloc, self.problem, &self.sets, point)
@@ -332,7 +345,8 @@ impl<'a, B: Begun> Spreads<'a, B> {
         requires in_step { IsPoolOfSets self.old pool.old }
         requires point { IsCostPoint (length self.old.problem.low) point.now }
         requires met { AreMet pool.old point.now }
-        ensures asked { IfOk result (AreAllSetsAsked point.now self.old pool.old self.new pool.new) }
+        ensures asked { IfOk result (AreAllSetsAsked point.now self.old pool.old self.new
+            pool.new) }
         ensures grows { Grows (IsTrueOfSets self.old.problem self.old.sets) pool.old pool.new }
         ensures problem { self.new.problem ≡ self.old.problem }
         ensures sets { self.new.sets ≡ self.old.sets }

@@ -60,7 +60,8 @@ impl<'a> Lines<'a> {
     /// The next line, or its number alone where it has more than `longest` bytes; None at the end of the text.
     pub fn next_line(&mut self) -> Option<Result<Line<'a>, LongLine>>
         ensures end { IsNone result ↔ (self.old.bytes ≡ []) }
-        ensures line { IfSome result (λ found. MatchResult found (IsLineRead self.old self.new) (IsLongLine self.old self.new)) }
+        ensures line { IfSome result (λ found. MatchResult found (IsLineRead self.old self.new)
+            (IsLongLine self.old self.new)) }
         ensures stays { IfNone result (self.new ≡ self.old) }
     {
         if self.left.is_empty() {
@@ -135,7 +136,8 @@ fn first_line(bytes: &[u8]) -> FirstLine<'_>
 
 /// The line with its number, or its number alone where it is too long.
 fn numbered(text: &[u8], number: u32, longest: usize) -> Result<Line<'_>, LongLine>
-    ensures { MatchResult result (IsNumbered text.now number longest) (IsNumberedLong text.now number longest) }
+    ensures { MatchResult result (IsNumbered text.now number longest)
+        (IsNumberedLong text.now number longest) }
 {
     if text.len() > longest {
         return Err(LongLine { number });

@@ -17,7 +17,8 @@ pub fn number(text: &[u8], greatest: u64) -> Option<u64>
 
 /// A number as texts are printed: decimal digits without leading zeros, at most `greatest`; None for any other text.
 pub fn printed_number(text: &[u8], greatest: u128) -> Option<u128>
-    ensures { MatchOption result ((n : ℕ) → n ≤ greatest → text.now ≢ decimal n) (λ n. (text.now ≡ decimal n) × (n ≤ greatest)) }
+    ensures { MatchOption result ((n : ℕ) → n ≤ greatest → text.now ≢ decimal n)
+        (λ n. (text.now ≡ decimal n) × (n ≤ greatest)) }
 {
     if !begins_as_printed(text) {
         return None;
@@ -55,8 +56,9 @@ fn number_within(text: &[u8], most: usize, greatest: u64) -> Option<u64>
 
 /// The value of decimal digits; None where some byte is no digit, or the value is 2^128 or more.
 fn digits_value(text: &[u8]) -> Option<u128>
-    ensures { MatchOption result (list_all is_digit text.now ≡ true → 2 ^ 128 ≤ decimal_value text.now)
-        (λ value. (list_all is_digit text.now ≡ true) × (value ≡ decimal_value text.now)) }
+    ensures { MatchOption result (list_all is_digit text.now ≡ true →
+        2 ^ 128 ≤ decimal_value text.now) (λ value. (list_all is_digit text.now ≡ true) ×
+        (value ≡ decimal_value text.now)) }
 {
     let mut value: u128 = 0;
     for byte in text {

@@ -55,8 +55,10 @@ impl<'a> Iterator for Words<'a> {
 
 /// The first word of a text, and the bytes behind it; None where no word is left.
 pub fn first_word(text: &[u8]) -> Option<(&[u8], &[u8])>
-    ensures words { MatchOption result (words text.now ≡ []) (λ p. words text.now ≡ p.0.now ∷ words p.1.now) }
-    ensures shorter { MatchOption result (Unit {0}) (λ p. length p.0.now + length p.1.now ≤ length text.now) }
+    ensures words { MatchOption result (words text.now ≡ []) (λ p.
+        words text.now ≡ p.0.now ∷ words p.1.now) }
+    ensures shorter { MatchOption result (Unit {0}) (λ p. length p.0.now + length p.1.now ≤
+        length text.now) }
 {
     let start = skip_separators(text);
     if start.is_empty() {

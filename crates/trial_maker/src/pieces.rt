@@ -34,7 +34,8 @@ fn push_between(
     number: u32,
     after: &[u8],
 ) -> Result<(), OutOfMemory>
-    ensures { OnOk result (text.new.items ≡ text.old.items ++ (before.now ++ (decimal number ++ after.now))) }
+    ensures { OnOk result (text.new.items ≡ text.old.items ++
+        (before.now ++ (decimal number ++ after.now))) }
 {
     push_bytes(text, before)?;
     push_number(text, u128::from(number))?;

@@ -33,8 +33,12 @@ fn check_symmetric(
     router: &[u8],
     interface: &[u8],
 ) -> Result<(), Refusal<ResolutionFault, ()>>
-    ensures made { OnOk result (directive_faults names.now line (SymmetricDirective router.now interface.now) ≡ []) }
-    ensures refused { IfErr result (TellsResolution (first_of (directive_faults names.now line (SymmetricDirective router.now interface.now)))) }
+    ensures made { OnOk result
+        (directive_faults names.now line (SymmetricDirective router.now interface.now) ≡ []) }
+    ensures refused { IfErr result
+        (TellsResolution
+        (first_of
+        (directive_faults names.now line (SymmetricDirective router.now interface.now)))) }
 {
     let number = names.link(line, router, interface)?;
     if !has_link_back(names, number) {
@@ -52,9 +56,12 @@ fn push_request(
     item: &Item,
     made: &mut Vec<Request>,
 ) -> Result<(), Refusal<ResolutionFault, ()>>
-    ensures resolves { OnOk result (directive_faults resolver.old item.now.line item.now.what ≡ []) }
-    ensures made { OnOk result (made.new.items ≡ made.old.items ++ option_to_list (request_of resolver.old (outline resolver.old) item.now.what)) }
-    ensures refused { IfErr result (TellsResolution (first_of (directive_faults resolver.old item.now.line item.now.what))) }
+    ensures resolves { OnOk result (directive_faults resolver.old item.now.line item.now.what ≡
+        []) }
+    ensures made { OnOk result (made.new.items ≡ made.old.items ++
+        option_to_list (request_of resolver.old (outline resolver.old) item.now.what)) }
+    ensures refused { IfErr result
+        (TellsResolution (first_of (directive_faults resolver.old item.now.line item.now.what))) }
     ensures same { resolver.new ≡ resolver.old }
 {
     let line = item.line;
@@ -102,7 +109,8 @@ pub fn resolve_lines(
 ) -> Result<Vec<Request>, Refusal<ResolutionFault, ()>>
     requires { graph.now ≡ outline names.now }
     ensures made { IfOk result (λ made. (line_faults names.now items.now ≡ []) ×
-        (made.items ≡ filter_map (λ item. request_of names.now (outline names.now) item.what) items.now)) }
+        (made.items ≡ filter_map (λ item. request_of names.now (outline names.now) item.what)
+        items.now)) }
     ensures refused { IfErr result (TellsResolution (first_of (line_faults names.now items.now))) }
 {
     let mut resolver = Resolver::new(alloc, names, graph)?;

@@ -76,7 +76,8 @@ fn link_set<'a>(
     links: &'a [Linked],
 ) -> Result<IndexSet<(u32, &'a [u8])>, OutOfMemory>
     requires { AllPairs (λ a b. a ≢ b) (map link_key links.now) }
-    ensures { IfOk result (λ set. map {B = ℕ × List ℕ} (λ key. (key.0, key.1.now)) set.keys ≡ map link_key links.now) }
+    ensures { IfOk result (λ set. map {B = ℕ × List ℕ} (λ key. (key.0, key.1.now)) set.keys ≡
+        map link_key links.now) }
 {
     let mut set = IndexSet::new(alloc);
     for link in links {
@@ -135,9 +136,11 @@ impl<'a> Names<'a> {
 
     /// The number of the link of an interface, by the number of its router.
     fn find_link(&self, router: u32, interface: &[u8]) -> Option<u32>
-        ensures { (name : List ℕ) → knows_router self.now name ≡ true → router ≡ router_number self.now name →
-            MatchOption result (knows_link self.now name interface.now ≡ false)
-            (λ l. (knows_link self.now name interface.now ≡ true) × (l ≡ link_number self.now name interface.now)) }
+        ensures { (name : List ℕ) → knows_router self.now name ≡ true →
+            router ≡ router_number self.now name → MatchOption result
+            (knows_link self.now name interface.now ≡ false) (λ l.
+            (knows_link self.now name interface.now ≡ true) ×
+            (l ≡ link_number self.now name interface.now)) }
     {
         match self.links.get_index_of(&(router, interface)) {
             Some(place) => Some(place as u32),
@@ -156,7 +159,8 @@ impl<'a> Names<'a> {
     pub fn find_interface(&self, router: &[u8], interface: &[u8]) -> Option<u32>
         ensures base { IsAreaDatabase self.now }
         ensures found { MatchOption result (knows_link self.now router.now interface.now ≡ false)
-            (λ l. (knows_link self.now router.now interface.now ≡ true) × (l ≡ link_number self.now router.now interface.now)) }
+            (λ l. (knows_link self.now router.now interface.now ≡ true) ×
+            (l ≡ link_number self.now router.now interface.now)) }
     {
         match self.find_router(router) {
             Some(number) => self.find_link(number, interface),
@@ -177,8 +181,10 @@ impl<'a> Names<'a> {
     ///
     /// The fault of a line that names an unknown router.
     pub fn router(&self, line: u32, name: &[u8]) -> Result<u32, Refusal<ResolutionFault, ()>>
-        ensures made { IfOk result (λ r. (router_faults self.now line name.now ≡ []) × (r ≡ router_number self.now name.now)) }
-        ensures refused { IfErr result (TellsResolution (first_of (router_faults self.now line name.now))) }
+        ensures made { IfOk result (λ r. (router_faults self.now line name.now ≡ []) ×
+            (r ≡ router_number self.now name.now)) }
+        ensures refused { IfErr result
+            (TellsResolution (first_of (router_faults self.now line name.now))) }
     {
         match self.find_router(name) {
             Some(router) => Ok(router),
@@ -200,8 +206,11 @@ impl<'a> Names<'a> {
         router: &[u8],
         interface: &[u8],
     ) -> Result<u32, Refusal<ResolutionFault, ()>>
-        ensures made { IfOk result (λ l. (interface_faults self.now line router.now interface.now ≡ []) × (l ≡ link_number self.now router.now interface.now)) }
-        ensures refused { IfErr result (TellsResolution (first_of (interface_faults self.now line router.now interface.now))) }
+        ensures made { IfOk result
+            (λ l. (interface_faults self.now line router.now interface.now ≡ []) ×
+            (l ≡ link_number self.now router.now interface.now)) }
+        ensures refused { IfErr result
+            (TellsResolution (first_of (interface_faults self.now line router.now interface.now))) }
     {
         let number = self.router(line, router)?;
         match self.find_link(number, interface) {

@@ -24,7 +24,8 @@ fn push_into(
     vertex: u32,
     taken: &mut Vec<u32>,
 ) -> Result<(), OutOfMemory>
-    ensures { OnOk result (taken.new.items ≡ taken.old.items ++ filter (λ e. (edge_at graph.now e).to == vertex) edges.now) }
+    ensures { OnOk result (taken.new.items ≡ taken.old.items ++
+        filter (λ e. (edge_at graph.now e).to == vertex) edges.now) }
 {
     for edge in edges {
         if far_end(graph, *edge) == vertex {
@@ -44,7 +45,8 @@ fn push_from(
 ) -> Result<(), OutOfMemory>
     requires graph { graph.now ≡ outline names.now }
     requires far { IsFar names.now far }
-    ensures { OnOk result (taken.new.items ≡ taken.old.items ++ taken_from names.now graph.now router far) }
+    ensures { OnOk result (taken.new.items ≡ taken.old.items ++
+        taken_from names.now graph.now router far) }
 {
     match far {
         Far::Router(_) => Ok(()),
@@ -65,7 +67,8 @@ fn push_link(
 ) -> Result<(), OutOfMemory>
     requires graph { graph.now ≡ outline names.now }
     requires far { IsFar names.now link.now.to }
-    ensures { OnOk result (taken.new.items ≡ taken.old.items ++ taken_by_link names.now graph.now number link.now) }
+    ensures { OnOk result (taken.new.items ≡ taken.old.items ++
+        taken_by_link names.now graph.now number link.now) }
 {
     taken.push(number)?;
     if let Some(link_back) = link.link_back {
@@ -82,7 +85,8 @@ fn push_interface(
     taken: &mut Vec<u32>,
 ) -> Result<(), OutOfMemory>
     requires { graph.now ≡ outline names.now }
-    ensures { OnOk result (taken.new.items ≡ taken.old.items ++ taken_at names.now graph.now number (slice_get names.now.links number)) }
+    ensures { OnOk result (taken.new.items ≡ taken.old.items ++
+        taken_at names.now graph.now number (slice_get names.now.links number)) }
 {
     match names.links().get(number as usize) {
         Some(link) => push_link(names, graph, number, link, taken),
@@ -93,7 +97,8 @@ fn push_interface(
 /// Appends the edges out of a vertex and those into it.
 fn push_router(graph: &Graph, vertex: u32, taken: &mut Vec<u32>) -> Result<(), OutOfMemory>
     requires { vertex < length graph.now.vertices }
-    ensures { OnOk result (taken.new.items ≡ taken.old.items ++ (edges_out graph.now vertex ++ edges_in graph.now vertex)) }
+    ensures { OnOk result (taken.new.items ≡ taken.old.items ++
+        (edges_out graph.now vertex ++ edges_in graph.now vertex)) }
 {
     taken.extend_from_slice(graph.edges_out(vertex))?;
     taken.extend_from_slice(graph.edges_in(vertex))?;
@@ -110,8 +115,10 @@ fn push_part(
 ) -> Result<(), Refusal<ResolutionFault, ()>>
     requires { graph.now ≡ outline names.now }
     ensures made { OnOk result (part_faults names.now line part.now ≡ []) }
-    ensures taken { OnOk result (taken.new.items ≡ taken.old.items ++ taken_by names.now graph.now part.now) }
-    ensures refused { IfErr result (TellsResolution (first_of (part_faults names.now line part.now))) }
+    ensures taken { OnOk result (taken.new.items ≡ taken.old.items ++
+        taken_by names.now graph.now part.now) }
+    ensures refused { IfErr result
+        (TellsResolution (first_of (part_faults names.now line part.now))) }
 {
     match part {
         Part::Router(name) => {
@@ -135,8 +142,10 @@ pub fn taken_by(
     parts: &[Part],
 ) -> Result<Vec<u32>, Refusal<ResolutionFault, ()>>
     requires { graph.now ≡ outline names.now }
-    ensures made { IfOk result (λ taken. (parts_faults names.now line parts.now ≡ []) × (taken.items ≡ taken_by_all names.now graph.now parts.now)) }
-    ensures refused { IfErr result (TellsResolution (first_of (parts_faults names.now line parts.now))) }
+    ensures made { IfOk result (λ taken. (parts_faults names.now line parts.now ≡ []) ×
+        (taken.items ≡ taken_by_all names.now graph.now parts.now)) }
+    ensures refused { IfErr result
+        (TellsResolution (first_of (parts_faults names.now line parts.now))) }
 {
     let mut taken = Vec::new(alloc);
     for part in parts {
@@ -181,7 +190,8 @@ pub fn has_marked(marks: &[bool], edges: &[u32]) -> bool
 
 /// Appends an edge that is marked.
 fn push_marked(marks: &[bool], edge: u32, found: &mut Vec<u32>) -> Result<(), OutOfMemory>
-    ensures { OnOk result (found.new.items ≡ found.old.items ++ filter (λ e. slice_index_or marks.now e false) (edge ∷ [])) }
+    ensures { OnOk result (found.new.items ≡ found.old.items ++
+        filter (λ e. slice_index_or marks.now e false) (edge ∷ [])) }
 {
     if is_marked(marks, edge) {
         found.push(edge)?;
@@ -192,7 +202,8 @@ fn push_marked(marks: &[bool], edge: u32, found: &mut Vec<u32>) -> Result<(), Ou
 /// The numbers of the marked edges, in rising order.
 pub fn marked(alloc: Global, marks: &[bool]) -> Result<Vec<u32>, OutOfMemory>
     requires { length marks.now < 2 ^ 32 }
-    ensures { IfOk result (λ found. found.items ≡ filter (λ e. slice_index_or marks.now e false) (numbers_from 0 (length marks.now))) }
+    ensures { IfOk result (λ found. found.items ≡ filter (λ e. slice_index_or marks.now e false)
+        (numbers_from 0 (length marks.now))) }
 {
     let mut found = Vec::new(alloc);
     for edge in 0..marks.len() as u32 {

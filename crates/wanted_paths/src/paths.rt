@@ -21,8 +21,8 @@ use std::marker::Model;
 
 /// Whether the start of a walk is taken away, or one of its edges is marked.
 fn is_excluded(route: &Hops, walk: &Walk, parts: &[Part], marks: &[bool]) -> bool
-    ensures { result ≡ (list_any (is_router_part (next_name route.now.hops route.now.last)) parts.now ||
-        list_any (λ e. slice_index_or marks.now e false) walk.now.path.edges) }
+    ensures { result ≡ (list_any (is_router_part (next_name route.now.hops route.now.last))
+        parts.now || list_any (λ e. slice_index_or marks.now e false) walk.now.path.edges) }
 {
     let start = next_name(route.as_slice(), route.last().as_bytes());
     has_router(start, parts) || has_marked(marks, walk.path.edges.as_slice())
@@ -81,8 +81,10 @@ impl<'a> Resolver<'a> {
 
     /// The walk of a route; its first fault where it doesn't resolve.
     fn walk(&self, line: u32, route: &Hops) -> Result<Walk, Refusal<ResolutionFault, ()>>
-        ensures made { IfOk result (λ walk. (walk_faults self.now line route.now ≡ []) × IsWalk self.now route.now walk) }
-        ensures refused { IfErr result (TellsResolution (first_of (walk_faults self.now line route.now))) }
+        ensures made { IfOk result (λ walk. (walk_faults self.now line route.now ≡ []) ×
+            IsWalk self.now route.now walk) }
+        ensures refused { IfErr result
+            (TellsResolution (first_of (walk_faults self.now line route.now))) }
     {
         resolve_walk(self.alloc, self.names, self.graph, line, route)
     }
@@ -97,9 +99,11 @@ impl<'a> Resolver<'a> {
     ) -> Result<Vec<u32>, Refusal<ResolutionFault, ()>>
         requires walk { IsWalk self.old route.now walk.now }
         requires walks { walk_faults self.old line route.now ≡ [] }
-        ensures made { IfOk result (λ excluded. (without_faults self.old line route.now parts.now ≡ []) ×
+        ensures made { IfOk result
+            (λ excluded. (without_faults self.old line route.now parts.now ≡ []) ×
             (excluded.items ≡ excluded_edges self.old (outline self.old) parts.now)) }
-        ensures refused { IfErr result (TellsResolution (first_of (without_faults self.old line route.now parts.now))) }
+        ensures refused { IfErr result
+            (TellsResolution (first_of (without_faults self.old line route.now parts.now))) }
         ensures same { self.new ≡ self.old }
     {
         let _links = self.names.links();
@@ -122,9 +126,12 @@ impl<'a> Resolver<'a> {
         route: &Hops,
         parts: &[Part],
     ) -> Result<Request, Refusal<ResolutionFault, ()>>
-        ensures made { IfOk result (λ request. (path_faults self.old line route.now parts.now ≡ []) ×
-            (request_of self.old (outline self.old) (WantedPath route.now parts.now) ≡ Some request)) }
-        ensures refused { IfErr result (TellsResolution (first_of (path_faults self.old line route.now parts.now))) }
+        ensures made { IfOk result
+            (λ request. (path_faults self.old line route.now parts.now ≡ []) ×
+            (request_of self.old (outline self.old) (WantedPath route.now parts.now) ≡
+            Some request)) }
+        ensures refused { IfErr result
+            (TellsResolution (first_of (path_faults self.old line route.now parts.now))) }
         ensures same { self.new ≡ self.old }
     {
         let walk = self.walk(line, route)?;

@@ -23,7 +23,8 @@ use std::alloc::Global;
 
 /// Whether a transit subnet has a member of that router.
 fn has_member(names: &Names, subnet: u32, router: u32) -> bool
-    ensures { result ≡ list_any (λ l. router_of names.now.links l == router) (slice_index_or names.now.subnets subnet []) }
+    ensures { result ≡ list_any (λ l. router_of names.now.links l == router)
+        (slice_index_or names.now.subnets subnet []) }
 {
     names
         .members(subnet)
@@ -59,7 +60,8 @@ fn check_words(
     last: &[u8],
 ) -> Result<(), Refusal<ResolutionFault, ()>>
     ensures made { OnOk result (hop_faults names.now line hops.now last.now ≡ []) }
-    ensures refused { IfErr result (TellsResolution (first_of (hop_faults names.now line hops.now last.now))) }
+    ensures refused { IfErr result
+        (TellsResolution (first_of (hop_faults names.now line hops.now last.now))) }
 {
     for hop in hops {
         names.link(line, hop.0.as_bytes(), hop.1.as_bytes())?;
@@ -102,7 +104,8 @@ fn check_hops(
     last: &[u8],
 ) -> Result<(), Refusal<ResolutionFault, ()>>
     ensures made { OnOk result (broken_faults names.now line 1 hops.now last.now ≡ []) }
-    ensures refused { IfErr result (TellsResolution (first_of (broken_faults names.now line 1 hops.now last.now))) }
+    ensures refused { IfErr result
+        (TellsResolution (first_of (broken_faults names.now line 1 hops.now last.now))) }
 {
     for (i, hop) in hops.iter().enumerate() {
         if !leads_on(names, hop, next_name(&hops[i + 1..], last)) {
@@ -145,7 +148,8 @@ pub fn subnet_vertex(names: &Names, subnet: u32) -> u32
 fn edge_on(names: &Names, graph: &Graph, link: &Linked, next: u32) -> Option<u32>
     requires graph { graph.now ≡ outline names.now }
     requires far { IsFar names.now link.now.to }
-    ensures { (number : ℕ) → hop_edges names.now graph.now number (Some link.now) next ≡ number ∷ option_to_list result }
+    ensures { (number : ℕ) → hop_edges names.now graph.now number (Some link.now) next ≡
+        number ∷ option_to_list result }
 {
     match link.to {
         Far::Router(_) => None,
@@ -173,8 +177,10 @@ fn push_hop(
     edges: &mut Vec<u32>,
 ) -> Result<(), OutOfMemory>
     requires { graph.now ≡ outline names.now }
-    ensures { OnOk result (edges.new.items ≡ edges.old.items ++ hop_edges names.now graph.now (link_number names.now hop.now.0 hop.now.1)
-        (slice_get names.now.links (link_number names.now hop.now.0 hop.now.1)) (router_number names.now next.now)) }
+    ensures { OnOk result (edges.new.items ≡ edges.old.items ++
+        hop_edges names.now graph.now (link_number names.now hop.now.0 hop.now.1)
+        (slice_get names.now.links (link_number names.now hop.now.0 hop.now.1))
+        (router_number names.now next.now)) }
 {
     let number = names.link_number(hop.0.as_bytes(), hop.1.as_bytes());
     match names.links().get(number as usize) {
@@ -196,7 +202,8 @@ fn route_edges(
     last: &[u8],
 ) -> Result<Vec<u32>, OutOfMemory>
     requires { graph.now ≡ outline names.now }
-    ensures { IfOk result (λ edges. edges.items ≡ route_edges names.now graph.now hops.now last.now) }
+    ensures { IfOk result (λ edges. edges.items ≡ route_edges names.now graph.now hops.now
+        last.now) }
 {
     let mut edges = Vec::new(alloc);
     for (i, hop) in hops.iter().enumerate() {
@@ -232,7 +239,8 @@ fn walk_of(alloc: Global, names: &Names, graph: &Graph, route: &Hops) -> Result<
 
 /// Whether a walk is a simple path.
 fn is_simple_walk(graph: &Graph, walk: &Walk) -> bool
-    ensures { IsTrue result ↔ IsSimple graph.now walk.now.path.start walk.now.path.edges walk.now.end }
+    ensures { IsTrue result ↔ IsSimple graph.now walk.now.path.start walk.now.path.edges
+        walk.now.end }
 {
     is_simple(graph, &walk.path, walk.end)
 }
@@ -246,8 +254,10 @@ pub fn resolve_walk(
     route: &Hops,
 ) -> Result<Walk, Refusal<ResolutionFault, ()>>
     requires { graph.now ≡ outline names.now }
-    ensures made { IfOk result (λ walk. (walk_faults names.now line route.now ≡ []) × IsWalk names.now route.now walk) }
-    ensures refused { IfErr result (TellsResolution (first_of (walk_faults names.now line route.now))) }
+    ensures made { IfOk result (λ walk. (walk_faults names.now line route.now ≡ []) ×
+        IsWalk names.now route.now walk) }
+    ensures refused { IfErr result
+        (TellsResolution (first_of (walk_faults names.now line route.now))) }
 {
     let _links = names.links();
     let hops = route.as_slice();

@@ -30,7 +30,8 @@ impl Model for Top {
 impl Top {
     /// The greatest number of `bits` bits. None exactly where `bits` isn't from 28 to 127.
     pub fn new(bits: u32) -> Option<Top>
-        ensures { MatchOption result ((bits < 28) ⊎ (127 < bits)) (λ top. (28 ≤ bits) × (bits ≤ 127) × (top ≡ 2 ^ bits - 1)) }
+        ensures { MatchOption result ((bits < 28) ⊎ (127 < bits))
+            (λ top. (28 ≤ bits) × (bits ≤ 127) × (top ≡ 2 ^ bits - 1)) }
     {
         if bits < 28 {
             None
@@ -75,7 +76,8 @@ impl Limits {
     /// The two limits together. None exactly where `nodes` isn't from 1 to 10,000,000.
     pub fn new(nodes: u64, top: Top) -> Option<Limits>
         ensures { MatchOption result ((nodes < 1) ⊎ (10000000 < nodes))
-            (λ limits. (1 ≤ nodes) × (nodes ≤ 10000000) × (limits.nodes ≡ nodes) × (limits.top ≡ top)) }
+            (λ limits. (1 ≤ nodes) × (nodes ≤ 10000000) × (limits.nodes ≡ nodes) ×
+            (limits.top ≡ top)) }
     {
         if nodes < 1 || 10_000_000 < nodes {
             None

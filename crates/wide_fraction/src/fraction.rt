@@ -33,7 +33,8 @@ impl Frac {
     pub fn new(numerator: i128, denominator: i128, top: Top) -> Option<Frac>
         requires positive { pos 0 <ℤ denominator }
         requires not_least { nat_abs numerator < 2 ^ 127 }
-        ensures { MatchOption result (IsFractionTooWide top (reduced numerator (nat_abs denominator)))
+        ensures { MatchOption result
+            (IsFractionTooWide top (reduced numerator (nat_abs denominator)))
             (λ q. (q ≡ reduced numerator (nat_abs denominator)) × IsWithin top q) }
     {
         let fraction = Frac::reduced(numerator, denominator as u128);

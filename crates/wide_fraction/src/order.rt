@@ -10,7 +10,8 @@ use std::cmp::Ordering;
 /// How two fractions are ordered.
 pub fn cmp(left: Frac, right: Frac) -> Ordering
     ensures value { result ≡ order left right }
-    ensures ranks { MatchOrdering result (IsLess left right) (IsSame left right) (IsLess right left) }
+    ensures ranks { MatchOrdering result (IsLess left right) (IsSame left right)
+        (IsLess right left) }
 {
     if left.denominator == right.denominator {
         left.numerator.cmp(&right.numerator)
@@ -25,7 +26,8 @@ pub fn cmp(left: Frac, right: Frac) -> Ordering
 /// Numerator and denominator as words, where both fit.
 #[inline]
 fn narrow(value: Frac) -> Option<(i64, i64)>
-    ensures { IfSome result (λ words. (words.0 ≡ value.numerator) × (words.1 ≡ pos value.denominator)) }
+    ensures { IfSome result (λ words. (words.0 ≡ value.numerator) ×
+        (words.1 ≡ pos value.denominator)) }
 {
     match (
         i64::try_from(value.numerator),

@@ -115,7 +115,8 @@ fn sum(left: Frac, right: Frac, top: Top) -> Option<Frac>
 fn whole_sum(left: i128, right: i128, top: Top) -> Option<Frac>
     requires left_within { IsWithin top (whole left) }
     requires right_within { IsWithin top (whole right) }
-    ensures { IsExactOrTooWide top (numbers_of_sum (whole left) (whole right)) (plus (whole left) (whole right)) result }
+    ensures { IsExactOrTooWide top (numbers_of_sum (whole left) (whole right))
+        (plus (whole left) (whole right)) result }
 {
     match bounded_sum(left, right, top.size()) {
         None => None,
@@ -167,7 +168,8 @@ fn product(left: Frac, right: Frac, top: Top) -> Option<Frac>
 #[inline]
 fn whole_product(left: i128, right: i128, top: Top) -> Option<Frac>
     requires { IsWithin top (whole left) }
-    ensures { IsExactOrTooWide top (numbers_of_product (whole left) (whole right)) (times (whole left) (whole right)) result }
+    ensures { IsExactOrTooWide top (numbers_of_product (whole left) (whole right))
+        (times (whole left) (whole right)) result }
 {
     match bounded_signed_product(left, right, top.size()) {
         None => None,
@@ -237,7 +239,8 @@ pub fn scale(value: i128, top: Top) -> Result<i128, Wide>
     ensures exact { IfOk result (λ n. n ≡ (value *ℤ pos (2 ^ 27))) }
     ensures within { IfOk result (λ n. nat_abs n ≤ top) }
     ensures fits { OnOk result (Fits top StepName.Scale (whole value) (whole (pos (2 ^ 27)))) }
-    ensures wide { IfErr result (IsTooWide top StepName.Scale (whole value) (whole (pos (2 ^ 27)))) }
+    ensures wide { IfErr result (IsTooWide top StepName.Scale (whole value)
+        (whole (pos (2 ^ 27)))) }
 {
     match bounded_signed_product(value, SCALE, top.size()) {
         Some(scaled) => Ok(scaled),

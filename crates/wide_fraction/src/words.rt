@@ -76,7 +76,8 @@ pub(crate) fn signed_quotient(value: i128, divisor: u128) -> i128
 #[inline]
 pub(crate) fn bounded_signed_product(left: i128, right: i128, most: u128) -> Option<i128>
     requires { most < 2 ^ 127 }
-    ensures { MatchOption result (most < nat_abs (left *ℤ right)) (λ p. (p ≡ left *ℤ right) × (nat_abs (left *ℤ right) ≤ most)) }
+    ensures { MatchOption result (most < nat_abs (left *ℤ right))
+        (λ p. (p ≡ left *ℤ right) × (nat_abs (left *ℤ right) ≤ most)) }
 {
     match signed_product(left, right) {
         Some(product) => {
@@ -113,7 +114,8 @@ pub(crate) fn word_product(left: i64, right: i64) -> i128
 #[inline]
 pub(crate) fn bounded_sum(left: i128, right: i128, most: u128) -> Option<i128>
     requires { most < 2 ^ 127 }
-    ensures { MatchOption result (most < nat_abs (left +ℤ right)) (λ s. (s ≡ (left +ℤ right)) × (nat_abs (left +ℤ right) ≤ most)) }
+    ensures { MatchOption result (most < nat_abs (left +ℤ right))
+        (λ s. (s ≡ (left +ℤ right)) × (nat_abs (left +ℤ right) ≤ most)) }
 {
     match left.checked_add(right) {
         Some(sum) => {
@@ -139,8 +141,10 @@ pub(crate) fn bounded_cross_sum(
     requires left_fits { left_factor < 2 ^ 127 }
     requires right_fits { right_factor < 2 ^ 127 }
     requires most { most < 2 ^ 127 }
-    ensures { MatchOption result (IsCrossWide most (left *ℤ pos left_factor) (right *ℤ pos right_factor))
-        (λ s. (s ≡ ((left *ℤ pos left_factor) +ℤ (right *ℤ pos right_factor))) × IsCrossWithin most (left *ℤ pos left_factor) (right *ℤ pos right_factor)) }
+    ensures { MatchOption result (IsCrossWide most (left *ℤ pos left_factor)
+        (right *ℤ pos right_factor))
+        (λ s. (s ≡ ((left *ℤ pos left_factor) +ℤ (right *ℤ pos right_factor))) ×
+        IsCrossWithin most (left *ℤ pos left_factor) (right *ℤ pos right_factor)) }
 {
     match bounded_signed_product(left, left_factor as i128, most) {
         Some(first) => match bounded_signed_product(right, right_factor as i128, most) {

@@ -46,7 +46,8 @@ pub(crate) fn statement_of(alloc: Global, line: &[u8]) -> Result<Statement, OutO
 
 /// What the words behind the first one say.
 fn line_of(alloc: Global, word: &[u8], rest: &[u8]) -> Result<Statement, OutOfMemory>
-    ensures { IfOk result (λ said. said ≡ definition.request_statement_by word.now (words rest.now)) }
+    ensures { IfOk result (λ said. said ≡ definition.request_statement_by word.now
+        (words rest.now)) }
 {
     if word == PATH {
         path_line(alloc, rest)
@@ -69,7 +70,8 @@ fn line_of(alloc: Global, word: &[u8], rest: &[u8]) -> Result<Statement, OutOfMe
 
 /// The word of a text of one word; None exactly where it has another number of words.
 fn one_word(text: &[u8]) -> Option<&[u8]>
-    ensures { MatchOption result ((length (words text.now) == 1) ≡ false) (λ word. words text.now ≡ word.now ∷ []) }
+    ensures { MatchOption result ((length (words text.now) == 1) ≡ false)
+        (λ word. words text.now ≡ word.now ∷ []) }
 {
     let (word, rest) = first_word(text)?;
     match first_word(rest) {
@@ -80,7 +82,8 @@ fn one_word(text: &[u8]) -> Option<&[u8]>
 
 /// The words of a text of two words; None exactly where it has another number of words.
 fn two_words(text: &[u8]) -> Option<(&[u8], &[u8])>
-    ensures { MatchOption result ((length (words text.now) == 2) ≡ false) (λ p. words text.now ≡ p.0.now ∷ p.1.now ∷ []) }
+    ensures { MatchOption result ((length (words text.now) == 2) ≡ false)
+        (λ p. words text.now ≡ p.0.now ∷ p.1.now ∷ []) }
 {
     let (first, rest) = first_word(text)?;
     let second = one_word(rest)?;
@@ -89,7 +92,8 @@ fn two_words(text: &[u8]) -> Option<(&[u8], &[u8])>
 
 /// The words of a text of three words; None exactly where it has another number of words.
 fn three_words(text: &[u8]) -> Option<(&[u8], &[u8], &[u8])>
-    ensures { MatchOption result ((length (words text.now) == 3) ≡ false) (λ p. words text.now ≡ p.0.now ∷ p.1.now ∷ p.2.now ∷ []) }
+    ensures { MatchOption result ((length (words text.now) == 3) ≡ false)
+        (λ p. words text.now ≡ p.0.now ∷ p.1.now ∷ p.2.now ∷ []) }
 {
     let (first, rest) = first_word(text)?;
     let (second, third) = two_words(rest)?;
@@ -98,7 +102,8 @@ fn three_words(text: &[u8]) -> Option<(&[u8], &[u8], &[u8])>
 
 /// The words of a text of four words; None exactly where it has another number of words.
 fn four_words(text: &[u8]) -> Option<(&[u8], &[u8], &[u8], &[u8])>
-    ensures { MatchOption result ((length (words text.now) == 4) ≡ false) (λ p. words text.now ≡ p.0.now ∷ p.1.now ∷ p.2.now ∷ p.3.now ∷ []) }
+    ensures { MatchOption result ((length (words text.now) == 4) ≡ false)
+        (λ p. words text.now ≡ p.0.now ∷ p.1.now ∷ p.2.now ∷ p.3.now ∷ []) }
 {
     let (first, rest) = first_word(text)?;
     let (second, third, fourth) = three_words(rest)?;
@@ -202,7 +207,8 @@ fn free_one(
     low: &[u8],
     high: &[u8],
 ) -> Result<Statement, OutOfMemory>
-    ensures { IfOk result (λ said. said ≡ definition.free_line (router.now ∷ interface.now ∷ low.now ∷ high.now ∷ [])) }
+    ensures { IfOk result (λ said. said ≡ definition.free_line
+        (router.now ∷ interface.now ∷ low.now ∷ high.now ∷ [])) }
 {
     if !is_router(router) {
         return Ok(Statement::Refused(RequestFault::BadRequestLine));

@@ -32,7 +32,8 @@ pub(crate) fn path_line(alloc: Global, rest: &[u8]) -> Result<Statement, OutOfMe
 
 /// The next word of a text and what stands behind it; None exactly where there is none, or it is `without`.
 fn next_before_without(text: &[u8]) -> Option<(&[u8], &[u8])>
-    ensures { MatchOption result (to_without (words text.now) ≡ []) (λ p. to_without (words text.now) ≡ p.0.now ∷ to_without (words p.1.now)) }
+    ensures { MatchOption result (to_without (words text.now) ≡ [])
+        (λ p. to_without (words text.now) ≡ p.0.now ∷ to_without (words p.1.now)) }
 {
     let (word, rest) = first_word(text)?;
     if word == WITHOUT {
@@ -98,7 +99,8 @@ fn read_hop(alloc: Global, word: &[u8]) -> Result<Option<(Name, Name)>, OutOfMem
 
 /// What stands behind the first word `without`; None exactly where there is no such word.
 fn behind_without(text: &[u8]) -> Option<&[u8]>
-    ensures { MatchOption result (behind_without (words text.now) ≡ None) (λ rest. behind_without (words text.now) ≡ Some (words rest.now)) }
+    ensures { MatchOption result (behind_without (words text.now) ≡ None)
+        (λ rest. behind_without (words text.now) ≡ Some (words rest.now)) }
 {
     let mut left = text;
     while let Some((word, rest)) = first_word(left) {

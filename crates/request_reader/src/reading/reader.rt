@@ -57,7 +57,8 @@ impl Reader {
         requires { KeepsRules said }
         ensures taken { OnOk result (fault_said self.old said ≡ None) }
         ensures told { OnOk result (self.new ≡ told_with self.old line said) }
-        ensures refused { IfErr result (TellsRequestFault (fault_in_line line (fault_said self.old said))) }
+        ensures refused { IfErr result
+            (TellsRequestFault (fault_in_line line (fault_said self.old said))) }
     {
         match (self.spoken, said) {
             (_, Statement::Passed) => Ok(()),
@@ -77,7 +78,9 @@ impl Reader {
     fn take_area(&mut self, line: u32, area: u32) -> Result<(), Refusal<RequestFault>>
         ensures taken { OnOk result (fault_behind_header self.old (AreaSaid area) ≡ None) }
         ensures told { OnOk result (self.new ≡ told_with self.old line (AreaSaid area)) }
-        ensures refused { IfErr result (TellsRequestFault (fault_in_line line (fault_behind_header self.old (AreaSaid area)))) }
+        ensures refused { IfErr result
+            (TellsRequestFault
+            (fault_in_line line (fault_behind_header self.old (AreaSaid area)))) }
     {
         if self.area.is_some() {
             return Err(refusal(line, RequestFault::BadRequestLine));
@@ -91,7 +94,9 @@ impl Reader {
         requires { 0 < cost }
         ensures taken { OnOk result (fault_behind_header self.old (DefaultCostSaid cost) ≡ None) }
         ensures told { OnOk result (self.new ≡ told_with self.old line (DefaultCostSaid cost)) }
-        ensures refused { IfErr result (TellsRequestFault (fault_in_line line (fault_behind_header self.old (DefaultCostSaid cost)))) }
+        ensures refused { IfErr result
+            (TellsRequestFault
+            (fault_in_line line (fault_behind_header self.old (DefaultCostSaid cost)))) }
     {
         if self.default_cost.is_some() {
             return Err(refusal(line, RequestFault::BadRequestLine));
@@ -105,7 +110,8 @@ impl Reader {
         requires { HasGoodBounds what }
         ensures taken { OnOk result (fault_behind_header self.old (AskSaid what) ≡ None) }
         ensures told { OnOk result (self.new ≡ told_with self.old line (AskSaid what)) }
-        ensures refused { IfErr result (TellsRequestFault (fault_in_line line (fault_behind_header self.old (AskSaid what)))) }
+        ensures refused { IfErr result
+            (TellsRequestFault (fault_in_line line (fault_behind_header self.old (AskSaid what)))) }
     {
         let item = Item { line, what };
         if is_path(&item) {
@@ -121,7 +127,9 @@ impl Reader {
         requires path { is_path path ≡ true }
         ensures taken { OnOk result (fault_behind_header self.old (AskSaid path.what) ≡ None) }
         ensures told { OnOk result (self.new ≡ told_with self.old path.line (AskSaid path.what)) }
-        ensures refused { IfErr result (TellsRequestFault (fault_in_line path.line (fault_behind_header self.old (AskSaid path.what)))) }
+        ensures refused { IfErr result
+            (TellsRequestFault
+            (fault_in_line path.line (fault_behind_header self.old (AskSaid path.what)))) }
     {
         if self.paths >= MOST_PATHS {
             return Err(refusal(path.line, RequestFault::TooManyPaths));
@@ -135,7 +143,8 @@ impl Reader {
     pub(crate) fn finish(self, lines: u32) -> Result<RequestFile, Refusal<RequestFault>>
         requires { lines < 2 ^ 32 - 1 }
         ensures made { IfOk result (λ r. (is_some self.area ≡ true) × (r ≡ asked_of self)) }
-        ensures refused { IfErr result (λ refusal. (is_some self.area ≡ false) × TellsRequestFault (Some (fault_at (lines + 1) BadRequestLine)) refusal) }
+        ensures refused { IfErr result (λ refusal. (is_some self.area ≡ false) ×
+            TellsRequestFault (Some (fault_at (lines + 1) BadRequestLine)) refusal) }
     {
         match self.area {
             Some(area) => Ok(RequestFile {

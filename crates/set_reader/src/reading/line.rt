@@ -37,7 +37,8 @@ pub(crate) fn statement_of(alloc: Global, line: &[u8]) -> Result<Statement, OutO
 
 /// What the words behind the first one say.
 fn line_of(alloc: Global, word: &[u8], rest: &[u8]) -> Result<Statement, OutOfMemory>
-    ensures said { IfOk result (λ said. said ≡ definition.set_statement_by word.now (words rest.now)) }
+    ensures said { IfOk result (λ said. said ≡ definition.set_statement_by word.now
+        (words rest.now)) }
     ensures several { IfOk result HasSeveral }
 {
     if word == SET {

@@ -51,8 +51,9 @@ fn find_member<'a>(
 ) -> Option<&'a Request>
     requires count { length taken.now ≡ length requests.now }
     requires members { All (λ member. member < length requests.now) members.now }
-    ensures found { MatchOption result (is_out_of_place requests.now taken.now members.now number ≡ true)
-        (λ request. (request.now ≡ request_at requests.now number) × (is_out_of_place requests.now taken.now members.now number ≡ false)) }
+    ensures found { MatchOption result (is_out_of_place requests.now taken.now members.now number ≡
+        true) (λ request. (request.now ≡ request_at requests.now number) ×
+        (is_out_of_place requests.now taken.now members.now number ≡ false)) }
     ensures known { IfSome result (λ request. number < length requests.now) }
 {
     let place = number as usize;
@@ -66,9 +67,11 @@ fn find_member<'a>(
 
 /// Adds the edges of a member's path to those seen; tells whether they are new.
 fn see<'a>(seen: &mut IndexSet<&'a [u32]>, member: &'a Request) -> Result<bool, OutOfMemory>
-    ensures new { IfOk result (λ new. new ≡ not (list_any (same_bytes member.now.path.edges) (map (λ edges. edges.now) seen.old.keys))) }
-    ensures added { IfOk result (λ new. IsTrue new →
-        map (λ edges. edges.now) seen.new.keys ≡ map (λ edges. edges.now) seen.old.keys ++ member.now.path.edges ∷ []) }
+    ensures new { IfOk result
+        (λ new. new ≡ not (list_any (same_bytes member.now.path.edges)
+        (map (λ edges. edges.now) seen.old.keys))) }
+    ensures added { IfOk result (λ new. IsTrue new → map (λ edges. edges.now) seen.new.keys ≡
+        map (λ edges. edges.now) seen.old.keys ++ member.now.path.edges ∷ []) }
 {
     Ok(seen.insert(member.path.edges.as_slice())?)
 }
@@ -85,10 +88,13 @@ pub(crate) fn read_members(
     requires few { length requests.now < 2 ^ 32 }
     requires count { length taken.now ≡ length requests.now }
     ensures made { IfOk result (λ members. IsInOrder numbers.now members.items) }
-    ensures known { IfOk result (λ members. All (λ member. member < length requests.now) members.items) }
-    ensures lawful { IfOk result (λ members. (earlier : List ℕ) → AreEdgeMarks earlier taken.now → is_wrong_set requests.now earlier numbers.now ≡ false) }
+    ensures known { IfOk result (λ members. All (λ member. member < length requests.now)
+        members.items) }
+    ensures lawful { IfOk result (λ members. (earlier : List ℕ) → AreEdgeMarks earlier taken.now →
+        is_wrong_set requests.now earlier numbers.now ≡ false) }
     ensures refused { IfErr result (λ refusal. (earlier : List ℕ) → AreEdgeMarks earlier taken.now →
-        TellsReading (fault_in_line line (wrong_if (is_wrong_set requests.now earlier numbers.now))) refusal) }
+        TellsReading (fault_in_line line (wrong_if (is_wrong_set requests.now earlier numbers.now)))
+        refusal) }
 {
     let mut members = Vec::new(alloc);
     let mut seen = IndexSet::new(alloc);
@@ -115,7 +121,8 @@ fn add_member(members: &mut Vec<u32>, member: u32) -> Result<(), OutOfMemory>
 /// Marks the members of a set, beside what is marked.
 pub(crate) fn mark_members(taken: &mut Vec<bool>, members: &[u32])
     requires { All (λ member. member < length taken.old.items) members.now }
-    ensures marks { (earlier : List ℕ) → AreEdgeMarks earlier taken.old.items → AreEdgeMarks (earlier ++ members.now) taken.new.items }
+    ensures marks { (earlier : List ℕ) → AreEdgeMarks earlier taken.old.items →
+        AreEdgeMarks (earlier ++ members.now) taken.new.items }
     ensures count { length taken.new.items ≡ length taken.old.items }
 {
     for member in members {

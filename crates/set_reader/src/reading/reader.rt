@@ -39,7 +39,11 @@ impl<'a> Model for Reader<'a> {
 impl<'a> Reader<'a> {
     /// A reader that read nothing yet.
     pub(crate) fn new(alloc: Global, problem: &'a Problem) -> Result<Reader<'a>, OutOfMemory>
-        ensures { IfOk result (λ reader. reader ≡ record { problem = problem.now; spoken = false; sets = [] }) }
+        ensures { IfOk result (λ reader. reader ≡ record {
+          problem = problem.now;
+          spoken = false;
+          sets = [];
+        }) }
     {
         let taken = vec![in alloc; false; problem.paths.as_slice().len()]?;
         Ok(Reader {
@@ -58,9 +62,12 @@ impl<'a> Reader<'a> {
         said: Statement,
     ) -> Result<(), Refusal<SetFault>>
         requires { HasSeveral said }
-        ensures taken { OnOk result (set_fault_said self.old.problem.paths (told_of self.old) said ≡ None) }
+        ensures taken { OnOk result (set_fault_said self.old.problem.paths (told_of self.old) said ≡
+            None) }
         ensures told { OnOk result (TakesLine self.old said self.new) }
-        ensures refused { IfErr result (TellsReading (fault_in_line line (set_fault_said self.old.problem.paths (told_of self.old) said))) }
+        ensures refused { IfErr result
+            (TellsReading
+            (fault_in_line line (set_fault_said self.old.problem.paths (told_of self.old) said))) }
     {
         match (self.spoken, said) {
             (_, Statement::Passed) => Ok(()),
@@ -82,10 +89,13 @@ impl<'a> Reader<'a> {
     ) -> Result<(), Refusal<SetFault>>
         requires several { 2 ≤ length numbers.now }
         requires spoken { self.old.spoken ≡ true }
-        ensures taken { OnOk result (set_fault_behind_header self.old.problem.paths (told_of self.old) (NumbersSaid numbers.now) ≡ None) }
+        ensures taken { OnOk result (set_fault_behind_header self.old.problem.paths
+            (told_of self.old) (NumbersSaid numbers.now) ≡ None) }
         ensures told { OnOk result (TakesLine self.old (NumbersSaid numbers.now) self.new) }
-        ensures refused { IfErr result (TellsReading
-            (fault_in_line line (set_fault_behind_header self.old.problem.paths (told_of self.old) (NumbersSaid numbers.now)))) }
+        ensures refused { IfErr result
+            (TellsReading
+            (fault_in_line line (set_fault_behind_header self.old.problem.paths (told_of self.old)
+            (NumbersSaid numbers.now)))) }
     {
         let problem = self.problem;
         let requests = problem.paths.as_slice();
@@ -104,7 +114,8 @@ impl<'a> Reader<'a> {
         requires { lines < 2 ^ 32 - 1 }
         ensures made { IfOk result (λ sets. (self.entry.spoken ≡ true) × (sets ≡ self.entry.sets)) }
         ensures lawful { IfOk result (AreSetsOf self.entry.problem) }
-        ensures refused { IfErr result (λ refusal. (self.entry.spoken ≡ false) × TellsReading (Some (fault_at (lines + 1) BadSetLine)) refusal) }
+        ensures refused { IfErr result (λ refusal. (self.entry.spoken ≡ false) ×
+            TellsReading (Some (fault_at (lines + 1) BadSetLine)) refusal) }
     {
         if !self.spoken {
             return Err(refusal(lines + 1, SetFault::BadSetLine));
