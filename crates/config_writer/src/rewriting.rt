@@ -32,14 +32,19 @@ pub fn rewrite(
     bytes: &[u8],
     lines: &[CostLine],
 ) -> Result<Vec<u8>, RewriteStop>
+    // The file is a configuration, and the lines have costs of interfaces of its router.
     requires few { length bytes.now < 2 ^ 32 - 1 }
     requires numbered { length lines.now < 2 ^ 32 }
     requires accepted { config_fault file_name.now bytes.now ≡ None }
     requires lines { AreNewCosts (config_of file_name.now bytes.now).name lines.now }
+
+    // The file has the new costs, and says what it said else.
     ensures written { IfOk result (λ out. out.items ≡ rewritten (costs_of lines.now) bytes.now) }
     ensures headed { IfOk result (λ out. first_missing (costs_of lines.now) bytes.now ≡ None) }
     ensures read_back { IfOk result (λ out. ReadsBack file_name.now (costs_of lines.now) bytes.now
         out.items) }
+
+    // Only an interface without a head is refused: the first one.
     ensures missing { IfErr result (TellsMissing (first_missing (costs_of lines.now) bytes.now)) }
 {
     rewrite_lines(alloc, bytes, lines)
@@ -51,11 +56,16 @@ pub(crate) fn rewrite_lines(
     bytes: &[u8],
     lines: &[CostLine],
 ) -> Result<Vec<u8>, RewriteStop>
+    // Lines of the file and costs can be counted.
     requires few { length bytes.now < 2 ^ 32 - 1 }
     requires numbered { length lines.now < 2 ^ 32 }
+
+    // The file has the new costs.
     ensures written { IfOk result (λ out. out.items ≡ rewritten (costs_of lines.now) bytes.now) }
     ensures headed { IfOk result (λ out. first_missing (costs_of lines.now) bytes.now ≡ None) }
     ensures within { IfOk result (λ out. All (λ line. line.cost ≤ 65535) lines.now) }
+
+    // Only an interface without a head is refused: the first one.
     ensures missing { IfErr result (TellsMissing (first_missing (costs_of lines.now) bytes.now)) }
 {
     let writer = write_lines(alloc, bytes, lines)?;

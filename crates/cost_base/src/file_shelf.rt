@@ -43,6 +43,7 @@ impl<R: Files> Shelf for FileShelf<R> {
 
     #[tactic(auto, using(crate::proofs::FaultCounts::noted))]
     fn take(&mut self, name: &str, most: usize, into: &mut Vec<u8>) -> Result<(), ShelfStop>
+        // A file of at most so many bytes is read, or the first bytes of a longer one.
         requires empty { into.old.items ≡ [] }
         requires most { most < 2 ^ 31 }
         ensures read { OnOk result ((file : R.File) × IsFile (R.File.remaining file)
@@ -50,6 +51,8 @@ impl<R: Files> Shelf for FileShelf<R> {
         ensures too_long { IsErrOf result ShelfStop.TooLong → (file : R.File) ×
             IsLonger (R.File.remaining file) most }
         ensures within { LeavesWithin most result into.new.items }
+
+        // A failure is counted under the file's name, and the history has what came.
         ensures faults { CountsFaults (count_of_name self.old.failed.names.items)
             (count_of_name self.new.failed.names.items) name.now result }
         ensures gave { (self.new.files ≡ self.old.files) × HasGiven (λ other. None) (λ other. None)

@@ -79,14 +79,19 @@ impl Shelf for MemoryShelf {
 
     #[tactic(auto, using(crate::proofs::FaultCounts::noted))]
     fn take(&mut self, name: &str, most: usize, into: &mut Vec<u8>) -> Result<(), ShelfStop>
+        // A file of at most so many bytes is read, or the first bytes of a longer one.
         requires empty { into.old.items ≡ [] }
         requires most { most < 2 ^ 31 }
         ensures read { IsReadUpTo (first_file self.old.files.items name.now) most result
             into.new.items }
+
+        // It fails where it was told to, or where the name is missing, and counts that.
         ensures fails { FailsWhere (IsListed self.old.fail.items self.old.calls ⊎
             (first_file self.old.files.items name.now ≡ None)) result }
         ensures faults { CountsFaults (count_of_name self.old.failed.names.items)
             (count_of_name self.new.failed.names.items) name.now result }
+
+        // The call is counted, and the history has what came.
         ensures next { IsNextCall self.old self.new }
         ensures gave { HasGiven (first_file self.old.files.items) (first_file self.new.files.items)
             self.old.failed.names.items self.new.failed.names.items

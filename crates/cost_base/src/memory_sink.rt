@@ -79,8 +79,11 @@ impl Sink for MemorySink {
     ghost handed = { λ before now bytes. GotAll (Some before.bytes.items) (Some now.bytes.items) bytes };
 
     fn put(&mut self, piece: &[u8]) -> Result<(), PutFailed>
+        // A piece is kept whole, or its first bytes, and a refusal is counted.
         ensures whole { OnOk result (self.new.bytes.items ≡ self.old.bytes.items ++ piece.now) }
         ensures cause { HasCause self.old.faults self.new.faults result }
+
+        // It refuses a piece where it was told to, or where there is no room for it.
         ensures succeeds { SucceedsWhere ((kept_at self.old.fail.items self.old.calls ≡ None) ×
             (length piece.now ≤ self.old.room)) result }
         ensures kept { self.new.bytes.items ≡ self.old.bytes.items ++
@@ -88,6 +91,8 @@ impl Sink for MemorySink {
             (min self.old.room (kept_or_all (kept_at self.old.fail.items self.old.calls) piece.now))
             piece.now }
         ensures counted { OnOk result (self.new.faults ≡ self.old.faults) }
+
+        // The call is counted, and what is kept takes room.
         ensures next { self.new.calls ≡ min (self.old.calls + 1) (2 ^ 64 - 1) }
         ensures fail { self.new.fail.items ≡ self.old.fail.items }
         ensures room { vec_len self.new.bytes + self.new.room ≡ vec_len self.old.bytes +

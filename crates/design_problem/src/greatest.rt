@@ -73,9 +73,12 @@ fn greatest_with(form: &Form, costs: &CostBox, var: usize, low_end: u16, high_en
 /// at the low side, above it at the high side. The conditions on the form are those of `greatest_over`, and the new bound
 /// makes the range smaller.
 pub fn greatest_removed(form: &Form, costs: &CostBox, side: Side, var: u32, value: u16) -> i128
+    // The form has a small coefficient for each variable of the box.
     requires low { length form.now.coefficients ≡ length costs.now.low }
     requires high { length form.now.coefficients ≡ length costs.now.high }
     requires sizes { All (λ c. nat_abs c ≤ 2 ^ 26) form.now.coefficients }
+
+    // The new bound makes the variable's range smaller.
     requires known { var < length costs.now.low }
     requires smaller { IsSmaller costs.now side var value }
     ensures { result ≡ greatest form.now (removed costs.now side var value) }

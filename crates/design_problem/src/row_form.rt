@@ -54,10 +54,13 @@ fn form_of_paths(
     wanted: &[u32],
     rival: &[u32],
 ) -> Result<Form, OutOfMemory>
+    // Both paths have edges of the graph, fewer than 2^32.
     requires wanted_known { All (λ e. e < length graph.now.edges) wanted.now }
     requires wanted_short { length wanted.now < 2 ^ 32 }
     requires rival_known { All (λ e. e < length graph.now.edges) rival.now }
     requires rival_short { length rival.now < 2 ^ 32 }
+
+    // Each edge has a fixed price or that of a variable.
     requires priced { All (λ edge. IsPriced variables edge.price) graph.now.edges }
     requires count { variables ≤ 2 ^ 32 }
     ensures { IfOk result (λ form. form ≡ form_between graph.now variables wanted.now rival.now) }

@@ -71,9 +71,12 @@ fn greatest_sum(constant: i128, coefficients: &[i128], low: &[u16], high: &[u16]
 /// Adds up the forms of some rows, each times its multiplier: their coefficients into `sums`, which are 0 before, and
 /// the constant as the answer.
 pub fn add_parts(forms: &[Form], parts: &[(u64, u128)], sums: &mut [i128]) -> i128
+    // The parts name forms of the variables of the sums, and no sum of theirs overflows.
     requires forms { All (IsSmallForm (length sums.old)) forms.now }
     requires rows { All (λ part. part.0 < length forms.now) parts.now }
     requires sum { sum_by (λ part. part.1) parts.now < 2 ^ 100 }
+
+    // The sums begin with 0 and end as the coefficients of the weighted sum.
     requires empty { (i : ℕ) → slice_index_or sums.old i (pos 0) ≡ pos 0 }
     ensures constant { result ≡ (weighted forms.now parts.now).constant }
     ensures coefficients { (i : ℕ) → i < length sums.old → slice_index_or sums.new i (pos 0) ≡
@@ -96,8 +99,11 @@ pub(crate) fn refutes(
     costs: &CostBox,
     sums: &mut [i128],
 ) -> bool
+    // There is a sum for each variable of the box.
     requires low { length sums.old ≡ length costs.now.low }
     requires high { length sums.old ≡ length costs.now.high }
+
+    // The parts name forms of these variables, and no sum of theirs overflows.
     requires forms { All (IsSmallForm (length sums.old)) forms.now }
     requires rows { All (λ part. part.0 < length forms.now) parts.now }
     requires sum { sum_by (λ part. part.1) parts.now < 2 ^ 100 }

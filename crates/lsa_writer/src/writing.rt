@@ -89,10 +89,15 @@ pub fn lsas_of(
     lsdb: &Lsdb,
     costs: &[u16],
 ) -> Result<Vec<u8>, OutOfMemory>
+    // The database is that of the configurations, whose router IDs are there and differ.
     requires built { IsDatabaseOf configs.now lsdb.now }
     requires ids { first_id_fault [] 0 configs.now ≡ None }
+
+    // Each link has a cost above 0.
     requires one_each { length costs.now ≡ length lsdb.now.links }
     requires priced { All (λ cost. 0 < cost) costs.now }
+
+    // The LSAs say the graph of the area at these costs.
     ensures written { IfOk result (λ bytes. bytes.items ≡ bytes_of_all
         (written_lsas configs.now lsdb.now costs.now)) }
     ensures one_graph { IfOk result (λ bytes. SayGraph bytes.items

@@ -135,10 +135,13 @@ pub fn assemble(
     own: &[u32],
     paths: Vec<Request>,
 ) -> Result<Problem, OutOfMemory>
+    // The links that own a variable, at most 1,000, and the paths are those of the requests.
     requires few { length own.now ≤ 1000 }
     requires own { own.now ≡ owners choices.now.asked choices.now.database }
     requires paths { paths.items ≡ filter_map (λ item. request_of choices.now.database
         (outline choices.now.database) item.what) choices.now.asked.items }
+
+    // No line of the requests has a fault.
     requires lines { line_faults choices.now.database choices.now.asked.items ≡ [] }
     requires ends { ends_faults choices.now.asked choices.now.database choices.now.asked.items ≡
         [] }

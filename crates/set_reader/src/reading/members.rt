@@ -85,13 +85,18 @@ pub(crate) fn read_members(
     line: u32,
     numbers: &[u64],
 ) -> Result<Vec<u32>, Refusal<SetFault>>
+    // Each request is marked where an earlier set has it.
     requires few { length requests.now < 2 ^ 32 }
     requires count { length taken.now ≡ length requests.now }
+
+    // The numbers are those of requests, in rising order, and are a set.
     ensures made { IfOk result (λ members. IsInOrder numbers.now members.items) }
     ensures known { IfOk result (λ members. All (λ member. member < length requests.now)
         members.items) }
     ensures lawful { IfOk result (λ members. (earlier : List ℕ) → AreEdgeMarks earlier taken.now →
         is_wrong_set requests.now earlier numbers.now ≡ false) }
+
+    // Only what is no set behind the earlier ones is refused.
     ensures refused { IfErr result (λ refusal. (earlier : List ℕ) → AreEdgeMarks earlier taken.now →
         TellsReading (fault_in_line line (wrong_if (is_wrong_set requests.now earlier numbers.now)))
         refusal) }
