@@ -134,11 +134,16 @@ fn short_crossed(old: Frac, factor: Frac, quotient: Frac, top: Top) -> Option<Fr
 
 /// A fraction less the factor times another one, by the short way where there is one.
 pub fn crossed(old: Frac, factor: Frac, quotient: Frac, top: Top) -> Result<Frac, Wide>
+    // All three are numbers of the table.
     requires old { IsTableNumber top old }
     requires factor { IsTableNumber top factor }
     requires quotient { IsTableNumber top quotient }
+
+    // On Ok the difference is exact, and a number of the table.
     ensures exact { IfOk result (λ q. q ≡ minus old (times factor quotient)) }
     ensures number { IfOk result (λ q. IsTableNumber top q) }
+
+    // On Err the step is the product or the difference, and makes a number that passes the top.
     ensures step { IfErr result (λ wide. IsTermStep old factor quotient wide) }
     ensures passes { IfErr result (λ wide. IsPassing top wide) }
 {
@@ -160,14 +165,21 @@ pub fn cross_entries(
     extent: Extent,
     made: &mut Vec<(u32, Frac)>,
 ) -> Result<(), Wide>
+    // Both lists are entries of rows of this extent, and the factor is a number of the table.
     requires olds { AreRowEntries extent.width extent.top olds.now }
     requires quotients { AreRowEntries extent.width extent.top quotients.now }
     requires factor { IsTableNumber extent.top factor }
+
+    // The new list is empty, with room for all columns.
     requires empty { made.old.items ≡ [] }
     requires room { extent.width ≤ vec_capacity made.old }
+
+    // On Ok each column has its difference; in any case the list is of entries of a row.
     ensures made { OnOk result (IsMade extent.width (crossed_at factor) olds.now quotients.now
         made.new.items) }
     ensures entries { HasRowEntries extent.width extent.top made.new }
+
+    // On Err the step is one for some column, and makes a number that passes the top.
     ensures wide { IfErr result (IsCrossingTooWide extent.width extent.top factor olds.now
         quotients.now) }
 {
@@ -202,11 +214,16 @@ fn quotient_at(
     value: Frac,
     top: Top,
 ) -> Result<Frac, Wide>
+    // Both are numbers of the table, and the divisor isn't 0.
     requires value { IsTableNumber top value }
     requires divisor { IsTableNumber top divisor }
     requires not_zero { divisor.numerator ≢ pos 0 }
+
+    // On Ok the quotient, or 0 at the column that is left out, is exact and a number of the table.
     ensures exact { IfOk result (λ q. q ≡ divided_at left_out divisor column value nothing) }
     ensures number { IfOk result (λ q. IsTableNumber top q) }
+
+    // On Err the step is the division, and makes a number that passes the top.
     ensures step { IfErr result (λ wide. IsQuotientStep value divisor wide) }
     ensures passes { IfErr result (λ wide. IsPassing top wide) }
 {
@@ -224,14 +241,21 @@ pub fn divide_entries(
     extent: Extent,
     made: &mut Vec<(u32, Frac)>,
 ) -> Result<(), Wide>
+    // The list is of entries of a row, and the divisor is a number of the table that isn't 0.
     requires olds { AreRowEntries extent.width extent.top olds.now }
     requires divisor { IsTableNumber extent.top divisor }
     requires not_zero { divisor.numerator ≢ pos 0 }
+
+    // The new list is empty, with room for all columns.
     requires empty { made.old.items ≡ [] }
     requires room { extent.width ≤ vec_capacity made.old }
+
+    // On Ok each column has its quotient; in any case the list is of entries of a row.
     ensures made { OnOk result (IsMade extent.width (divided_at left_out divisor) olds.now []
         made.new.items) }
     ensures entries { HasRowEntries extent.width extent.top made.new }
+
+    // On Err the step divides some column, and makes a number that passes the top.
     ensures wide { IfErr result (IsDivisionTooWide extent.width extent.top divisor olds.now) }
 {
     let width = extent.width;

@@ -159,13 +159,18 @@ impl TableRow {
         into: &mut TableRow,
         top: Top,
     ) -> Result<(), Wide>
+        // The three rows have one width, and the numbers that are crossed are those of the table.
         requires quotients { IsTableRow top (length self.now) quotients.now }
         requires into { length into.old ≡ length self.now }
         requires numbers { AreTableNumbers top self.now }
         requires factor { IsTableNumber top factor }
+
+        // On Ok each place has its difference, a number of the table; the width stays in any case.
         ensures crossed { OnOk result (into.new ≡ crossed_by factor self.now quotients.now) }
         ensures numbers { OnOk result (AreTableNumbers top into.new) }
         ensures width { length into.new ≡ length into.old }
+
+        // On Err the step is one for some place, and makes a number that passes the top.
         ensures wide { IfErr result
             (λ wide. IsWideStep top (IsCrossStep factor self.now quotients.now) wide.step wide.left
             wide.right) }
@@ -199,14 +204,19 @@ impl TableRow {
         into: &mut TableRow,
         top: Top,
     ) -> Result<(), Wide>
+        // Both rows have one width, and the divisor is a number of the table that isn't 0.
         requires into { length into.old ≡ length self.now }
         requires numbers { AreTableNumbers top self.now }
         requires divisor { IsTableNumber top divisor }
         requires not_zero { divisor.numerator ≢ pos 0 }
+
+        // On Ok each place has its quotient, a number of the table; the width stays in any case.
         ensures divided { OnOk result (into.new ≡ divided_without (suc left_out) divisor self.now
             0) }
         ensures numbers { OnOk result (AreTableNumbers top into.new) }
         ensures width { length into.new ≡ length into.old }
+
+        // On Err the step divides some place, and makes a number that passes the top.
         ensures wide { IfErr result (λ wide. IsWideStep top (IsDivideStep divisor self.now)
             wide.step wide.left wide.right) }
     {

@@ -21,13 +21,18 @@ fn add_term(
     place: u32,
     top: Top,
 ) -> Result<Frac, Wide>
+    // Sum and line are of numbers of the table, and the coefficient is at most 2^26 in size.
     requires sum { IsTableNumber top sum }
     requires line { AreTableNumbers top line.now }
     requires place { place < length line.now }
     requires small { nat_abs coefficient ≤ 2 ^ 26 }
+
+    // On Ok the sum is exact, and a number of the table.
     ensures exact { IfOk result
         (λ q. q ≡ plus sum (times (whole coefficient) (entry line.now place))) }
     ensures number { IfOk result (λ q. IsTableNumber top q) }
+
+    // On Err the step is the product or the sum, and makes a number that passes the top.
     ensures step { IfErr result (λ wide. IsTermSum sum coefficient (entry line.now place) wide) }
     ensures passes { IfErr result (λ wide. IsPassing top wide) }
 {
@@ -53,13 +58,18 @@ pub fn sum_at(
     place: u32,
     top: Top,
 ) -> Result<Frac, Wide>
+    // There is a line for each variable, and coefficients are at most 2^26 in size.
     requires start { IsTableNumber top start }
     requires small { All (λ c. nat_abs c ≤ 2 ^ 26) form.now.coefficients }
     requires lines { (count : ℕ) × (place < count) × AreTableRows top count lines.now }
     requires many { length form.now.coefficients ≤ length lines.now }
+
+    // On Ok the sum of all terms is exact, and a number of the table.
     ensures exact { IfOk result (λ q. q ≡ sum_of_terms start form.now.coefficients lines.now
         place) }
     ensures number { IfOk result (λ q. IsTableNumber top q) }
+
+    // On Err the step is one of that sum, and makes a number that passes the top.
     ensures step { IfErr result (λ wide. IsSumStep start form.now.coefficients lines.now place
         wide) }
     ensures passes { IfErr result (λ wide. IsPassing top wide) }
@@ -86,12 +96,17 @@ fn put_line(
     scratch: &mut TableRow,
     top: Top,
 ) -> Result<(), Wide>
+    // All three rows have one width, and the coefficient is at most 2^26 in size.
     requires line { IsTableRow top (length row.old) line.now }
     requires scratch { length scratch.old ≡ length row.old }
     requires numbers { AreTableNumbers top row.old }
     requires small { nat_abs coefficient ≤ 2 ^ 26 }
+
+    // On Ok each place has its sum, a number of the table.
     ensures sums { OnOk result (ArePut (whole coefficient) line.now row.old row.new) }
     ensures numbers { OnOk result (AreTableNumbers top row.new) }
+
+    // In any case both rows keep their width.
     ensures width { length row.new ≡ length row.old }
     ensures scratch_width { length scratch.new ≡ length scratch.old }
 {
@@ -114,15 +129,20 @@ pub fn sum_lines(
     scratch: &mut TableRow,
     top: Top,
 ) -> Result<(), Wide>
+    // Each variable has a line of the row's width, and coefficients are at most 2^26 in size.
     requires small { All (λ c. nat_abs c ≤ 2 ^ 26) form.now.coefficients }
     requires lines { AreVariableLines top (length row.old) (length form.now.coefficients)
         lines.now }
     requires scratch { length scratch.old ≡ length row.old }
     requires numbers { AreTableNumbers top row.old }
+
+    // On Ok each place has the sum of all terms there, a number of the table.
     ensures sums { OnOk result ((place : ℕ) → place < length row.old →
         entry row.new place ≡ sum_of_terms (entry row.old place) form.now.coefficients lines.now
         place) }
     ensures numbers { OnOk result (AreTableNumbers top row.new) }
+
+    // In any case both rows keep their width.
     ensures width { length row.new ≡ length row.old }
     ensures scratch_width { length scratch.new ≡ length scratch.old }
 {

@@ -31,15 +31,22 @@ pub fn turn_row(
     scratch: &mut TableRow,
     top: Top,
 ) -> Result<(), Wide>
+    // Both rows have the width of the pivot's quotients, and the pivot's column is within it.
     requires pivot { TurnsRows top (length row.old) (suc pivot.now.column) quotients.now
         pivot.now.inverse }
     requires scratch { length scratch.old ≡ length row.old }
     requires numbers { AreTableNumbers top row.old }
+
+    // On Ok the row is turned, and its numbers are those of the table.
     ensures turned { OnOk result (row.new ≡ turned_by row.old quotients.now (suc pivot.now.column)
         pivot.now.inverse) }
     ensures numbers { OnOk result (AreTableNumbers top row.new) }
+
+    // In any case both rows keep their width.
     ensures width { length row.new ≡ length row.old }
     ensures scratch_width { length scratch.new ≡ length scratch.old }
+
+    // On Err the step is one of the turn, and makes a number that passes the top.
     ensures wide { IfErr result
         (λ wide. IsWideStep top (IsTurnStep row.old quotients.now (suc pivot.now.column)
         pivot.now.inverse) wide.step wide.left wide.right) }
@@ -70,12 +77,17 @@ pub fn take_quotients(
     quotients: &mut TableRow,
     top: Top,
 ) -> Result<Frac, Wide>
+    // The row's entry in the column isn't 0, and `quotients` is as wide as the row.
     requires column { suc column < length row.now }
     requires width { length quotients.old ≡ length row.now }
     requires numbers { AreTableNumbers top row.now }
     requires not_zero { (entry row.now (suc column)).numerator ≢ pos 0 }
+
+    // On Ok the quotients and the inverse are exact; the width stays in any case.
     ensures divided { IfOk result (IsPivotDivided top (suc column) row.now quotients.new) }
     ensures width { length quotients.new ≡ length quotients.old }
+
+    // On Err the step makes a quotient or the inverse, and a number of it passes the top.
     ensures wide { IfErr result (λ wide. IsWideStep top (IsQuotientStepOf row.now (suc column))
         wide.step wide.left wide.right) }
 {
@@ -96,15 +108,20 @@ pub fn turn_rows(
     scratch: &mut TableRow,
     top: Top,
 ) -> Result<(), Wide>
+    // The rows have the width of the pivot's quotients, and the pivot's column is within it.
     requires pivot { TurnsRows top (length quotients.now) (suc pivot.now.column) quotients.now
         pivot.now.inverse }
     requires rows { AreTableRows top (length quotients.now) rows.old }
     requires scratch { length scratch.old ≡ length quotients.now }
+
+    // On Ok each row is turned, into numbers of the table; `scratch` keeps its width in any case.
     ensures turned { OnOk result
         (rows.new ≡ map (λ fs. turned_by fs quotients.now (suc pivot.now.column) pivot.now.inverse)
         rows.old) }
     ensures numbers { OnOk result (AreTableRows top (length quotients.now) rows.new) }
     ensures scratch_width { length scratch.new ≡ length scratch.old }
+
+    // On Err the step turns some row, and makes a number that passes the top.
     ensures wide { IfErr result (λ wide. TurnsWide top rows.old quotients.now (suc pivot.now.column)
         pivot.now.inverse wide.step wide.left wide.right) }
 {

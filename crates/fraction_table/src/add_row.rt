@@ -81,12 +81,17 @@ fn sum_of_form(
     place: u32,
     top: Top,
 ) -> Result<Frac, Wide>
+    // The form fits the box, each variable has a line, and the place is one of a line.
     requires fits { FitsBox costs.now form.now }
     requires lines { AreTableRows top (suc (length costs.now.low)) lines.now }
     requires many { length costs.now.low ≤ length lines.now }
     requires place { place < suc (length costs.now.low) }
+
+    // On Ok the sum is exact, and a number of the table.
     ensures exact { IfOk result (λ q. q ≡ sum_at_place costs.now form.now lines.now place) }
     ensures number { IfOk result (λ q. IsTableNumber top q) }
+
+    // On Err a step of the form's sum at some place is too wide.
     ensures wide { IfErr result (IsRowStep top costs.now form.now lines.now) }
 {
     let start = start_at(form, costs, place, top);
@@ -105,11 +110,16 @@ fn fill_in_order(
     lines: &[TableRow],
     top: Top,
 ) -> Result<(), Wide>
+    // The form fits the box, which has fewer than 2^32 variables.
     requires fits { FitsBox costs.now form.now }
     requires few { length costs.now.low < 2 ^ 32 }
+
+    // Each variable has a line, and the form's line is one of zeros.
     requires lines { AreTableRows top (suc (length costs.now.low)) lines.now }
     requires many { length costs.now.low ≤ length lines.now }
     requires blank { line.old ≡ blank_row (length costs.now.low) }
+
+    // On Ok the line has the form's sum at each place; else a step of such a sum is too wide.
     ensures line { OnOk result (IsAddedLine top costs.now form.now lines.now line.new) }
     ensures wide { IfErr result (IsRowStep top costs.now form.now lines.now) }
 {
@@ -135,12 +145,17 @@ fn gather_line(
     scratch: &mut TableRow,
     top: Top,
 ) -> Result<(), Wide>
+    // The row's form fits the box, its line is one of zeros, and each variable has a line.
     requires row { IsBlankRow costs.now row.old.form row.old.line }
     requires lines { AreVariableLines top (suc (length costs.now.low)) (length costs.now.low)
         lines.now }
     requires scratch { length scratch.old ≡ suc (length costs.now.low) }
+
+    // The form stays, and on Ok its line has the form's sum at each place.
     ensures form { row.new.form ≡ row.old.form }
     ensures line { OnOk result (IsAddedLine top costs.now row.old.form lines.now row.new.line) }
+
+    // In any case both lines keep their width.
     ensures width { length row.new.line ≡ length row.old.line }
     ensures scratch_width { length scratch.new ≡ length scratch.old }
 {
@@ -161,13 +176,18 @@ fn fill_line(
     scratch: &mut TableRow,
     top: Top,
 ) -> Result<(), Wide>
+    // The row's form fits the box, its line is one of zeros, and each variable has a line.
     requires row { IsBlankRow costs.now row.old.form row.old.line }
     requires few { length costs.now.low < 2 ^ 32 }
     requires lines { AreVariableLines top (suc (length costs.now.low)) (length costs.now.low)
         lines.now }
     requires scratch { length scratch.old ≡ suc (length costs.now.low) }
+
+    // The form stays, and on Ok its line has the form's sum at each place.
     ensures form { row.new.form ≡ row.old.form }
     ensures line { OnOk result (IsAddedLine top costs.now row.old.form lines.now row.new.line) }
+
+    // On Err a step of such a sum is too wide; `scratch` keeps its width in any case.
     ensures wide { IfErr result (IsRowStep top costs.now row.old.form lines.now) }
     ensures scratch_width { length scratch.new ≡ length scratch.old }
 {
@@ -206,13 +226,20 @@ impl Table {
     ///
     /// `Wide` where a step of the line makes a whole number that passes `top`. The row was added nevertheless.
     pub fn put_row(&mut self, row: BlankRow) -> Result<(), Wide>
+        // The table is whole, and there is a place for one more row.
         requires whole { IsTableau self.old }
         requires room { HasRoom self.old }
         requires place { HasPlace self.old }
+
+        // The row's form fits the box, and its line is one of zeros.
         requires fits { FitsBox self.old.costs row.form }
         requires blank { row.line ≡ blank_row (length self.old.costs.low) }
+
+        // The row is added in any case, and on Ok the table is whole again.
         ensures holds { HoldsRow self.old row.form self.new }
         ensures whole { OnOk result (IsTableau self.new) }
+
+        // On Err a step at the basis is too wide.
         ensures wide { IfErr result (λ wide. IsStepTooWide self.new.top self.new.costs
             self.new.rows.items (wide_at wide self.new.basis.items)) }
     {

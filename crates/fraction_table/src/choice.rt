@@ -18,13 +18,18 @@ use wide_fraction::{Frac, Top, Wide, cmp, div, mul};
 
 /// The quotient of the entries in the other column and in the column.
 fn entry_quotient(line: &TableRow, column: u32, other: u32, top: Top) -> Result<Frac, Wide>
+    // The line has both columns, and the divisor, its entry in the first, isn't 0.
     requires column { suc column < length line.now }
     requires other { suc other < length line.now }
     requires numbers { AreTableNumbers top line.now }
     requires not_zero { (entry line.now (suc column)).numerator ≢ pos 0 }
+
+    // On Ok the quotient is exact, and within the top.
     ensures exact { IfOk result (λ q. q ≡ divided (entry line.now (suc other))
         (entry line.now (suc column))) }
     ensures within { IfOk result (λ q. IsWithin top q) }
+
+    // On Err the step is the division, and makes a number that passes the top.
     ensures named { IfErr result (λ wide. wide ≡ record {
       step = Div;
       left = entry line.now (suc other);
@@ -44,12 +49,19 @@ fn entry_order(
     quotient: Frac,
     top: Top,
 ) -> Result<Ordering, Wide>
+    // The line has both columns, and its numbers are those of the table.
     requires column { suc column < length line.now }
     requires other { suc other < length line.now }
     requires numbers { AreTableNumbers top line.now }
+
+    // The quotient is in lowest terms, and within the top.
     requires quotient { IsWithin top quotient }
     requires lowest { IsLowest quotient }
+
+    // On Ok the entry in the other column is compared with the multiple of that in the column.
     ensures order { IfOk result (λ found. found ≡ entries_order line.now column other quotient) }
+
+    // On Err the step is that multiple, and makes a number that passes the top.
     ensures named { IfErr result (λ wide. wide ≡ record {
       step = Mul;
       left = entry line.now (suc column);
@@ -79,11 +91,16 @@ impl Table {
     ///
     /// `Wide` where a step of this makes a whole number that passes `top`.
     fn precedes(&self, line: usize, column: u32, other: u32) -> Result<bool, Wide>
+        // A pivot may be made on the line at either column.
         requires whole { IsTableau self.now }
         requires line { line < length self.now.lines.items }
         requires column { IsPivot self.now.basis.items (line_at self.now line) (suc column) }
         requires other { IsPivot self.now.basis.items (line_at self.now line) (suc other) }
+
+        // On Ok the column that is told to come first doesn't come after the other.
         ensures order { IfOk result (λ before. IsOrdered before self.now line column other) }
+
+        // On Err a step at the basis is too wide.
         ensures wide { IfErr result (λ wide. IsStepTooWide self.now.top self.now.costs
             self.now.rows.items (wide_at wide self.now.basis.items)) }
     {
@@ -101,10 +118,13 @@ impl Table {
 
     /// The better of the best column so far and one more in which the line has a positive entry.
     fn better(&self, line: usize, best: Option<u32>, column: u32) -> Result<u32, Wide>
+        // A pivot may be made on the line at the column, and `best` is the best one before it.
         requires whole { IsTableau self.now }
         requires line { line < length self.now.lines.items }
         requires column { IsPivot self.now.basis.items (line_at self.now line) (suc column) }
         requires best { IsBestBelow self.now line column best }
+
+        // On Ok it is the best up to that column; on Err a step at the basis is too wide.
         ensures best { IfOk result (λ better. IsBestBelow self.now line (column + 1)
             (Some better)) }
         ensures wide { IfErr result (λ wide. IsStepTooWide self.now.top self.now.costs
@@ -121,12 +141,17 @@ impl Table {
 
     /// The best column so far, once one more was looked at.
     fn look_at(&self, line: usize, best: Option<u32>, column: u32) -> Result<Option<u32>, Wide>
+        // The line is one of the table, with a negative constant.
         requires whole { IsTableau self.now }
         requires line { line < length self.now.lines.items }
         requires below { (entry (line_at self.now line) 0).numerator <ℤ pos 0 }
+
+        // `best` is the best before this column, and on Ok the result is the best up to it.
         requires column { column < length self.now.costs.low }
         requires best { IsBestBelow self.now line column best }
         ensures best { IfOk result (λ found. IsBestBelow self.now line (column + 1) found) }
+
+        // On Err a step at the basis is too wide.
         ensures wide { IfErr result (λ wide. IsStepTooWide self.now.top self.now.costs
             self.now.rows.items (wide_at wide self.now.basis.items)) }
     {
@@ -146,12 +171,17 @@ impl Table {
     ///
     /// `Wide` where a step of a comparison makes a whole number that passes `top`.
     pub fn choose(&self, line: usize) -> Result<Option<u32>, Wide>
+        // The line is one of the table, with a negative constant.
         requires whole { IsTableau self.now }
         requires room { HasRoom self.now }
         requires line { line < length self.now.lines.items }
         requires below { (entry (line_at self.now line) 0).numerator <ℤ pos 0 }
+
+        // On Ok it is the best of all columns; None says that no entry there is positive.
         ensures best { IfOk result (λ best. IsBestBelow self.now line (length self.now.costs.low)
             best) }
+
+        // On Err a step at the basis is too wide.
         ensures wide { IfErr result (λ wide. IsStepTooWide self.now.top self.now.costs
             self.now.rows.items (wide_at wide self.now.basis.items)) }
     {

@@ -22,10 +22,15 @@ use wide_fraction::{Frac, Top, Wide, lcm, scale};
 ///
 /// `Wide` where it isn't.
 fn tested(multiple: i128, top: Top) -> Result<u128, Wide>
+    // The multiple is positive, and within the top.
     requires positive { pos 0 <ℤ multiple }
     requires within { nat_abs multiple ≤ top }
+
+    // On Ok it is the same number, and below 2^100.
     ensures same { IfOk result (λ same. multiple ≡ pos same) }
     ensures small { IfOk result (λ same. same < 2 ^ 100) }
+
+    // On Err the step is its product with 2^27, which passes the top.
     ensures named { IfErr result (λ wide. wide ≡ record {
       step = Scale;
       left = whole multiple;
@@ -88,10 +93,15 @@ impl Table {
 
     /// Puts the values of the corner, times the scale.
     fn put_corner_values(&self, scale: u128, into: &mut Listed<u128>)
+        // No constant of the table is negative.
         requires whole { IsTableau self.now }
         requires high { AreHigh self.now }
+
+        // The scale is the least common denominator of the constants of x - low, and below 2^100.
         requires common { scale ≡ lcm_of (denominators_of self.now) }
         requires small { scale < 2 ^ 100 }
+
+        // Each variable has a place, which gets its value at the corner, times the scale.
         requires places { length into.old ≡ length self.now.costs.low }
         ensures places { length into.new ≡ length self.now.costs.low }
         ensures values { (var : ℕ) → var < length self.now.costs.low →
@@ -114,12 +124,17 @@ impl Table {
     ///
     /// `Wide` where a step of this makes a whole number that passes `top`; then `into` is as before.
     pub fn put_corner(&self, into: &mut Point) -> Result<(), Wide>
+        // No constant of the table is negative, and the point has a place for each variable.
         requires whole { IsTableau self.now }
         requires high { AreHigh self.now }
         requires places { length into.old.values ≡ length self.now.costs.low }
+
+        // On Ok it is the least point of the box that meets the rows, and its scale is below 2^100.
         ensures least { OnOk result (IsLeastPoint (AreMet self.now.rows.items) self.now.costs
             into.new) }
         ensures small { OnOk result (into.new.scale < 2 ^ 100) }
+
+        // On Err the point is as before, and a step at the basis is too wide.
         ensures kept { OnErr result (into.new ≡ into.old) }
         ensures wide { IfErr result (λ wide. IsStepTooWide self.now.top self.now.costs
             self.now.rows.items (wide_at wide self.now.basis.items)) }

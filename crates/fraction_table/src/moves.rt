@@ -26,12 +26,19 @@ use wide_fraction::{Frac, Top, Wide, add, mul, sub};
 ///
 /// `Wide` where one of the two steps makes a whole number that passes `top`. Then the line is as before.
 fn raise_constant(line: &mut TableRow, column: u32, fall: Frac, top: Top) -> Result<(), Wide>
+    // The line has the column, and the fall is a number of the table.
     requires column { suc column < length line.old }
     requires numbers { AreTableNumbers top line.old }
     requires fall { IsTableNumber top fall }
+
+    // On Ok the constant rose by the entry times the fall.
     ensures raised { OnOk result (line.new ≡ raised_line column fall line.old) }
+
+    // In any case the line keeps its width, and its numbers are those of the table.
     ensures numbers { AreTableNumbers top line.new }
     ensures width { length line.new ≡ length line.old }
+
+    // On Err the step is the product or the sum, and makes a number that passes the top.
     ensures wide { IfErr result (λ wide. IsWideStep top (IsRaiseStep line.old column fall) wide.step
         wide.left wide.right) }
 {
@@ -51,12 +58,19 @@ fn raise_constant(line: &mut TableRow, column: u32, fall: Frac, top: Top) -> Res
 ///
 /// `Wide` where a step of some line makes a whole number that passes `top`.
 fn raise_constants(lines: &mut [TableRow], column: u32, fall: Frac, top: Top) -> Result<(), Wide>
+    // The lines have one width and the column, and the fall is a number of the table.
     requires lines { (count : ℕ) × (suc column < count) × AreTableRows top count lines.old }
     requires fall { IsTableNumber top fall }
+
+    // On Ok the constant of each line rose by its entry times the fall.
     ensures raised { OnOk result (lines.new ≡ map (raised_line column fall) lines.old) }
+
+    // In any case there are as many lines, each of as many numbers of the table.
     ensures numbers { (count : ℕ) → AreTableRows top count lines.old →
         AreTableRows top count lines.new }
     ensures count { length lines.new ≡ length lines.old }
+
+    // On Err the step raises some line's constant, and makes a number that passes the top.
     ensures wide { IfErr result (λ wide. RaisesWide top lines.old column fall wide) }
 {
     for line in lines.iter_mut() {
@@ -71,13 +85,20 @@ fn raise_constants(lines: &mut [TableRow], column: u32, fall: Frac, top: Top) ->
 ///
 /// `Wide` where the difference makes a whole number that passes `top`. Then the line is as before.
 fn lower_constant(line: &mut TableRow, fall: Frac, top: Top) -> Result<(), Wide>
+    // The line has a constant, and the fall is a number of the table.
     requires some { 0 < length line.old }
     requires numbers { AreTableNumbers top line.old }
     requires fall { IsTableNumber top fall }
+
+    // On Ok the constant is less by the fall.
     ensures lowered { OnOk result (line.new ≡ slice_set line.old 0
         (minus (entry line.old 0) fall)) }
+
+    // In any case the line keeps its width, and its numbers are those of the table.
     ensures numbers { AreTableNumbers top line.new }
     ensures width { length line.new ≡ length line.old }
+
+    // On Err the step is the difference, and makes a number that passes the top.
     ensures named { IfErr result (λ wide. wide ≡ record {
       step = Sub;
       left = entry line.old 0;
@@ -103,14 +124,21 @@ fn shift_lines(
     fall: Frac,
     top: Top,
 ) -> Result<(), Wide>
+    // The form's own line is one of the lines, which have one width and the column, if any.
     requires own { own < length lines.old }
     requires lines { (count : ℕ) × (0 < count) × IfSome column (λ k. suc k < count) ×
         AreTableRows top count lines.old }
     requires fall { IsTableNumber top fall }
+
+    // On Ok the form's own constant fell, or those of the other lines rose.
     ensures shifted { OnOk result (lines.new ≡ shifted_lines column own fall lines.old) }
+
+    // In any case there are as many lines, each of as many numbers of the table.
     ensures numbers { (count : ℕ) → AreTableRows top count lines.old →
         AreTableRows top count lines.new }
     ensures count { length lines.new ≡ length lines.old }
+
+    // On Err the step is one of the shift, and makes a number that passes the top.
     ensures wide { IfErr result (λ wide. ShiftsWide top column own fall lines.old wide) }
 {
     match column {
@@ -155,11 +183,16 @@ impl Table {
     ///
     /// `Wide` where a step makes a whole number that passes `top`. Then the basis is as before.
     fn shift(&mut self, own: usize, before: Member, after: Member, fall: i64) -> Result<(), Wide>
+        // The form's own line is one of the table, and the fall is below 2^27 in size.
         requires shape { HasShape self.old }
         requires own { own < length self.old.lines.items }
         requires small { nat_abs fall < 2 ^ 27 }
+
+        // In any case the table keeps its shape, its box and its rows.
         ensures shape { HasShape self.new }
         ensures keeps { KeepsBoxAndRows self.old self.new }
+
+        // On Ok the lines and the basis are shifted; on Err a step of the shift is too wide.
         ensures shifted { OnOk result (IsTableShifted self.old self.new own before after fall) }
         ensures wide { IfErr result (λ wide. IsShiftedWide self.old own before fall wide) }
     {
@@ -177,14 +210,21 @@ impl Table {
     ///
     /// `Wide` where a step makes a whole number that passes `top`.
     fn move_low(&mut self, var: u32, bound: u16) -> Result<(), Wide>
+        // The lines stand for their forms at the basis, and the variable is one of the box's.
         requires unboxed { IsUnboxedTable self.old }
         requires room { HasRoom self.old }
         requires var { var < length self.old.costs.low }
+
+        // On Ok the lower bound has moved, and the lines stand for their forms again.
         ensures unboxed { OnOk result (IsUnboxedTable self.new) }
         ensures moved { OnOk result (IsMoved self.old (with_low self.old.costs var bound)
             self.new) }
+
+        // In any case the table keeps its shape and its rows.
         ensures shape { HasShape self.new }
         ensures keeps { KeepsTableRows self.old self.new }
+
+        // On Err a step of the shift of that bound is too wide.
         ensures wide { IfErr result (λ wide. IsWideShift self.old (low_shift_of self.old var bound)
             wide) }
     {
@@ -205,14 +245,21 @@ impl Table {
     ///
     /// `Wide` where a step makes a whole number that passes `top`.
     fn move_high(&mut self, var: u32, bound: u16) -> Result<(), Wide>
+        // The lines stand for their forms at the basis, and the variable is one of the box's.
         requires unboxed { IsUnboxedTable self.old }
         requires room { HasRoom self.old }
         requires var { var < length self.old.costs.low }
+
+        // On Ok the upper bound has moved, and the lines stand for their forms again.
         ensures unboxed { OnOk result (IsUnboxedTable self.new) }
         ensures moved { OnOk result (IsMoved self.old (with_high self.old.costs var bound)
             self.new) }
+
+        // In any case the table keeps its shape and its rows.
         ensures shape { HasShape self.new }
         ensures keeps { KeepsTableRows self.old self.new }
+
+        // On Err a step of the shift of that bound is too wide.
         ensures wide { IfErr result (λ wide. IsWideShift self.old (high_shift_of self.old var bound)
             wide) }
     {
@@ -240,13 +287,20 @@ impl Table {
     ///
     /// `Wide` where a step makes a whole number that passes `top`. Then some bounds have moved.
     pub fn move_bounds(&mut self, costs: &CostBox) -> Result<(), Wide>
+        // The lines stand for their forms at the basis, and both boxes have as many variables.
         requires unboxed { IsUnboxedTable self.old }
         requires room { HasRoom self.old }
         requires bounds { HasBoundCounts (length self.old.costs.low) costs.now }
+
+        // On Ok all bounds have moved, and the lines stand for their forms again.
         ensures unboxed { OnOk result (IsUnboxedTable self.new) }
         ensures moved { OnOk result (IsMoved self.old costs.now self.new) }
+
+        // In any case the table keeps its shape and its rows.
         ensures shape { HasShape self.new }
         ensures keeps { KeepsTableRows self.old self.new }
+
+        // On Err a step of the shift of some bound is too wide.
         ensures wide { OnErr result (IsWideMove (held_of self.old Open) costs.now) }
     {
         let low = costs.low.as_slice();

@@ -89,11 +89,16 @@ fn made_parts(
     multiple: i128,
     top: Top,
 ) -> Result<Vec<(u64, u128)>, SimplexStop>
+    // The multiple is the least common one of the denominators, and within the top.
     requires numbers { AllNumbers top parts.now }
     requires multiple { multiple ≡ pos (common_of parts.now) }
     requires within { nat_abs multiple ≤ top }
+
+    // On Ok the multipliers are whole, and each is within the top.
     ensures exact { IfOk result (λ made. made.items ≡ whole_parts parts.now) }
     ensures within { IfOk result (λ made. All (λ part. part.1 ≤ top) made.items) }
+
+    // On Err a step that makes them whole is too wide, unless it was want of memory.
     ensures wide { IfErr result (IsWideMultiplier top (fractions parts.now)) }
 {
     let _ = top.value();
@@ -196,12 +201,17 @@ impl Table {
     ///
     /// `TooWide` where a step makes a whole number that passes `top`; `OutOfMemory`.
     pub fn multipliers(&self, alloc: Global, line: usize) -> Result<Parts, SimplexStop>
+        // The line is one of the table, and its form can't be made non-negative.
         requires whole { IsTableau self.now }
         requires room { HasRoom self.now }
         requires line { line < length self.now.lines.items }
         requires stuck { IsStuck self.now.basis.items (line_at self.now line) }
+
+        // On Ok the multipliers refute the box, with at most one row more than there are variables.
         ensures refutes { IfOk result (λ parts. Refutes self.now.rows.items parts self.now.costs) }
         ensures few { IfOk result (λ parts. length parts ≤ suc (length self.now.costs.low)) }
+
+        // On Err a step at the basis is too wide, unless it was want of memory.
         ensures told { IfErr result (IsWideAtBasis self.now) }
     {
         let fractions = self.fractions(alloc, line)?;

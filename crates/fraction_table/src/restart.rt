@@ -39,11 +39,16 @@ fn put_form_line(line: &mut TableRow, form: &Form, costs: &CostBox, top: Top)
 
 /// Makes the line the starting one of a form of the box.
 fn put_line(line: &mut TableRow, member: Member, costs: &CostBox, rows: &[Form], top: Top)
+    // The member is one of the box and its rows, and all rows fit the box.
     requires form { IsFormOf costs.now rows.now member }
     requires ranges { IsBox (length costs.now.low) costs.now }
     requires fits { All (FitsBox costs.now) rows.now }
+
+    // The line has a column for each variable, of which there are fewer than 2^32.
     requires few { length costs.now.low < 2 ^ 32 }
     requires width { length line.old ≡ suc (length costs.now.low) }
+
+    // It becomes the starting line of the member's form, of numbers of the table.
     ensures line { line.new ≡ starting_line costs.now rows.now member }
     ensures numbers { AreTableNumbers top line.new }
 {
@@ -96,11 +101,16 @@ fn put_start(basis: &mut [Member], costs: &CostBox)
 impl Table {
     /// Makes a line that of the starting basis.
     fn start_line(&mut self, line: usize, costs: &CostBox)
+        // The table has this box already, and its rows fit it.
         requires costs { self.old.costs ≡ costs.now }
         requires ranges { IsBox (length costs.now.low) costs.now }
         requires fits { All (FitsBox costs.now) self.old.rows.items }
+
+        // There is a line for each form of the table, and this is one of them.
         requires shape { HasShape self.old }
         requires line { line < length self.old.lines.items }
+
+        // It becomes that of its form at the starting basis; nothing else of the table changes.
         ensures lines { self.new.lines.items ≡ slice_set self.old.lines.items line
             (starting_line costs.now self.old.rows.items (member_at self.old line)) }
         ensures shape { HasShape self.new }
@@ -113,10 +123,13 @@ impl Table {
 
     /// Makes the lines those of the starting basis.
     fn start_lines(&mut self, costs: &CostBox)
+        // The table has this box already, its rows fit it, and there is a line for each form.
         requires costs { self.old.costs ≡ costs.now }
         requires ranges { IsBox (length costs.now.low) costs.now }
         requires fits { All (FitsBox costs.now) self.old.rows.items }
         requires shape { HasShape self.old }
+
+        // Each line becomes that of its form at the starting basis; nothing else changes.
         ensures lines { self.new.lines.items ≡ map (starting_line costs.now self.old.rows.items)
             (members_of_box costs.now (length self.old.rows.items)) }
         ensures shape { HasShape self.new }
@@ -130,11 +143,16 @@ impl Table {
     /// Starts the table anew for another box: at the basis of the forms x - low, with the rows that it has. It takes no
     /// memory.
     fn restart(&mut self, costs: &CostBox)
+        // The new box is one of the table's variables, and the rows fit it.
         requires shape { HasShape self.old }
         requires ranges { IsBox (length self.old.costs.low) costs.now }
         requires fits { All (FitsBox costs.now) self.old.rows.items }
+
+        // The table is whole, with room for pivots.
         ensures whole { IsTableau self.new }
         ensures room { HasRoom self.new }
+
+        // It has the new box, at its starting basis, and the rows that it had.
         ensures costs { self.new.costs ≡ costs.now }
         ensures basis { self.new.basis.items ≡ starting costs.now }
         ensures keeps { KeepsTableRows self.old self.new }
@@ -148,12 +166,17 @@ impl Table {
     /// Moves the table to another box, bound by bound; where a step of that is too wide, it is started anew. It takes
     /// no memory.
     pub fn rebase(&mut self, costs: &CostBox)
+        // The table is whole, the new box is one of its variables, and the rows fit it.
         requires whole { IsTableau self.old }
         requires room { HasRoom self.old }
         requires ranges { IsBox (length self.old.costs.low) costs.now }
         requires fits { All (FitsBox costs.now) self.old.rows.items }
+
+        // The table is whole again, with room for pivots.
         ensures whole { IsTableau self.new }
         ensures room { HasRoom self.new }
+
+        // The basis keeps its members, or is the starting one where a step of the move is too wide.
         ensures rebased { IsRebased (held_of self.old Open) costs.now (held_of self.new Open) }
     {
         match self.move_bounds(costs) {

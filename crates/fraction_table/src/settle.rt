@@ -92,13 +92,20 @@ impl Table {
     /// Turns the table at the pivot form's line; or tells that the line refutes the box, where no column has a positive
     /// entry in it.
     fn raise(&mut self, line: usize) -> Result<Option<Solved>, Wide>
+        // The table is whole, and the line is that of its pivot form.
         requires whole { IsTableau self.old }
         requires room { HasRoom self.old }
         requires due { IsPivotLine self.old line }
+
+        // On Ok the table is whole again, and it shows the answer or its rank rose.
         ensures whole { OnOk result (IsTableau self.new) }
         ensures ahead { IfOk result (λ solved. IsAhead self.old self.new solved) }
+
+        // In any case it has the same box and rows, and room for pivots.
         ensures keeps { KeepsBoxAndRows self.old self.new }
         ensures room { HasRoom self.new }
+
+        // On Err a step at the basis that is left is too wide.
         ensures wide { IfErr result (λ wide. IsStepTooWide self.new.top self.new.costs
             self.new.rows.items (wide_at wide self.new.basis.items)) }
     {
@@ -117,12 +124,19 @@ impl Table {
     ///
     /// `Wide` where the step makes a whole number that passes the top; it is one at the basis that is left.
     pub fn advance(&mut self) -> Result<Option<Solved>, Wide>
+        // The table is whole, with room for pivots.
         requires whole { IsTableau self.old }
         requires room { HasRoom self.old }
+
+        // On Ok the table is whole again, and it shows the answer or its rank rose.
         ensures whole { OnOk result (IsTableau self.new) }
         ensures ahead { IfOk result (λ solved. IsAhead self.old self.new solved) }
+
+        // In any case it has the same box and rows, and room for pivots.
         ensures keeps { KeepsBoxAndRows self.old self.new }
         ensures room { HasRoom self.new }
+
+        // On Err a step at the basis that is left is too wide.
         ensures wide { IfErr result (λ wide. IsStepTooWide self.new.top self.new.costs
             self.new.rows.items (wide_at wide self.new.basis.items)) }
     {

@@ -61,10 +61,15 @@ pub struct UnitForm {
 /// Makes the line the starting one of a form with one coefficient: its constant there, and the coefficient in its
 /// column.
 pub fn put_unit_line(line: &mut TableRow, width: u32, form: UnitForm, top: Top)
+    // The line has a column for the form's variable.
     requires width { length line.old ≡ suc width }
     requires var { form.var < width }
+
+    // Constant and coefficient are below 2^27 in size.
     requires constant_small { nat_abs form.constant < 2 ^ 27 }
     requires coefficient_small { nat_abs form.coefficient < 2 ^ 27 }
+
+    // The line has the form's constant, its coefficient in the variable's column, and 0 elsewhere.
     ensures line { line.new ≡ whole form.constant ∷ map whole
         (unit width form.var form.coefficient) }
     ensures numbers { AreTableNumbers top line.new }

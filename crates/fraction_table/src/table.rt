@@ -58,13 +58,20 @@ impl Table {
     ///
     /// `Wide` where one of these steps makes a whole number that passes `top`. Then the basis is as before.
     pub fn pivot(&mut self, line: usize, column: u32) -> Result<(), Wide>
+        // The table is whole, and the column is the least one for a pivot on the line.
         requires whole { IsTableau self.old }
         requires room { HasRoom self.old }
         requires pivot { IsLeastPivot self.old line column }
+
+        // On Ok the table is whole again, and its rank rose.
         ensures whole { OnOk result (IsTableau self.new) }
         ensures rises { OnOk result (rank self.old < rank self.new) }
+
+        // In any case it has the same box and rows, and room for pivots.
         ensures keeps { KeepsBoxAndRows self.old self.new }
         ensures room { HasRoom self.new }
+
+        // On Err a step at the basis that is left is too wide.
         ensures wide { IfErr result (λ wide. IsStepTooWide self.new.top self.new.costs
             self.new.rows.items (wide_at wide self.new.basis.items)) }
     {

@@ -175,12 +175,17 @@ impl Asker {
 
     /// Looks for the distances that serve the request at a place of the order, and those behind it that share them.
     fn look(&mut self, survey: &Survey<'_>, place: usize) -> Shared
+        // The asker is one for these requests, and the path of each is a simple path of it.
         requires asker { IsAskerFor survey.now.graph.now survey.now.requests.now self.old }
         requires fits { FitsPoint survey.now.graph.now survey.now.point.now }
         requires paths { ArePathsOf survey.now.graph.now survey.now.requests.now }
         requires place { place < length self.old.order }
+
+        // The order stays, and the room is still one for the graph.
         ensures asker { IsAskerFor survey.now.graph.now survey.now.requests.now self.new }
         ensures same { self.new ≡ record self.old { room = self.new.room } }
+
+        // The room has the distances up to what the request's path is compared with.
         ensures ready { IsReadyToCompare survey.now self.new.room (slice_index self.old.order place)
             result }
     {
@@ -196,11 +201,16 @@ impl Asker {
 
     /// Whether what the room has serves the request at a place of the order.
     fn serves(&self, survey: &Survey<'_>, place: usize, shared: Shared) -> bool
+        // The asker is one for these requests, and the path of each is a simple path of it.
         requires asker { IsAskerFor survey.now.graph.now survey.now.requests.now self.now }
         requires fits { FitsPoint survey.now.graph.now survey.now.point.now }
         requires paths { ArePathsOf survey.now.graph.now survey.now.requests.now }
         requires place { place < length self.now.order }
+
+        // The room has the distances of some request, those below a limit.
         requires shared { IsShared survey.now self.now.room shared }
+
+        // A yes says that they go up to what this request's path is compared with, too.
         ensures { IsTrue result → IsReadyToCompare survey.now self.now.room
             (slice_index self.now.order place)
             (record { request = slice_index self.now.order place; limit = shared.limit }) }
@@ -215,13 +225,20 @@ impl Asker {
     /// Sees to it that the room has the distances that serve the request at a place of the order. It keeps those that it
     /// has where they serve that one too.
     fn prepare(&mut self, survey: &Survey<'_>, place: usize, shared: Option<Shared>) -> Shared
+        // The asker is one for these requests, and the path of each is a simple path of it.
         requires asker { IsAskerFor survey.now.graph.now survey.now.requests.now self.old }
         requires fits { FitsPoint survey.now.graph.now survey.now.point.now }
         requires paths { ArePathsOf survey.now.graph.now survey.now.requests.now }
         requires place { place < length self.old.order }
+
+        // If it is told which distances the room has, it has them.
         requires shared { MayShare survey.now self.old.room shared }
+
+        // The order stays, and the room is still one for the graph.
         ensures asker { IsAskerFor survey.now.graph.now survey.now.requests.now self.new }
         ensures same { self.new ≡ record self.old { room = self.new.room } }
+
+        // The room has the distances up to what the request's path is compared with.
         ensures ready { IsReadyToCompare survey.now self.new.room (slice_index self.old.order place)
             result }
     {
@@ -238,12 +255,17 @@ impl Asker {
 
     /// Whether the request at a place of the order is beaten; the room has the distances that serve it.
     fn is_beaten_at(&self, survey: &Survey<'_>, place: usize) -> bool
+        // The asker is one for these requests, and the path of each is a simple path of it.
         requires asker { IsAskerFor survey.now.graph.now survey.now.requests.now self.now }
         requires fits { FitsPoint survey.now.graph.now survey.now.point.now }
         requires paths { ArePathsOf survey.now.graph.now survey.now.requests.now }
         requires place { place < length self.now.order }
+
+        // The room has the distances up to what the request's path is compared with.
         requires found { CanCompareWith survey.now (request_seen survey.now self.now place)
             self.now.room }
+
+        // It is beaten exactly where its path doesn't lead by the scale.
         ensures { MatchBool result (RequestLeads survey.now.graph.now survey.now.point.now
             (request_seen survey.now self.now place) → ⊥)
             (RequestLeads survey.now.graph.now survey.now.point.now
@@ -260,16 +282,21 @@ impl Asker {
         survey: &Survey<'_>,
         place: usize,
     ) -> Result<Option<Listed<u32>>, OutOfMemory>
+        // The asker is one for these requests, and the path of each is a simple path of it.
         requires asker { IsAskerFor survey.now.graph.now survey.now.requests.now self.old }
         requires fits { FitsPoint survey.now.graph.now survey.now.point.now }
         requires paths { ArePathsOf survey.now.graph.now survey.now.requests.now }
         requires place { place < length self.old.order }
+
+        // The room has the distances that the request's path is compared by, and keeps them.
         requires found { CanCompareWith survey.now (request_seen survey.now self.old place)
             self.old.room }
         ensures same { self.new ≡ record self.old {
           room = record self.old.room
               { path = self.new.room.path };
         } }
+
+        // On Ok it is the request's cheapest rival, or None where its path leads.
         ensures rival { IfOk result (IsCheapestIfAny survey.now.graph.now survey.now.point.now
             (request_seen survey.now self.old place)) }
     {

@@ -53,16 +53,23 @@ fn offer(
     before: u128,
     number: u32,
 ) -> Option<u128>
+    // The room has the distances to the request's end.
     requires fits { FitsOutlook outlook.now }
     requires found { HasDistances outlook.now room.now }
+
+    // Up to the place, which is one of the path's, the path costs `before`.
     requires place { place < length outlook.now.request.now.path.edges }
     requires before { before ≡ cost outlook.now.graph.now outlook.now.point.now
         (take place outlook.now.request.now.path.edges) }
     requires near { before < 2 ^ 26 * outlook.now.point.now.scale }
+
+    // The edge starts at the vertex that the path has at the place.
     requires known { number < length outlook.now.graph.now.edges }
     requires from { (edge_at outlook.now.graph.now number).from ≡
         (edge_at outlook.now.graph.now (slice_index outlook.now.request.now.path.edges
         place)).from }
+
+    // It is what the cheapest walk costs that leaves the path by the edge, None where none does.
     ensures { MatchOption result ((total : ℕ) → Offers outlook.now.graph.now outlook.now.point.now
         outlook.now.request.now.excluded room.now outlook.now.request.now.path.edges place number
         total → ⊥) (λ total. Offers outlook.now.graph.now outlook.now.point.now
@@ -117,13 +124,18 @@ fn better_at(
     before: u128,
     best: Option<Deviation>,
 ) -> Option<Deviation>
+    // The request's path is a simple path of it, and the room has the distances to its end.
     requires fits { FitsOutlook outlook.now }
     requires found { HasDistances outlook.now room.now }
     requires path { HasItsPath outlook.now }
+
+    // Up to the place, which is one of the path's, the path costs `before`.
     requires place { place < length outlook.now.request.now.path.edges }
     requires before { before ≡ cost outlook.now.graph.now outlook.now.point.now
         (take place outlook.now.request.now.path.edges) }
     requires near { before < 2 ^ 26 * outlook.now.point.now.scale }
+
+    // `best` is the best of the deviations before the place, and the result of those up to it.
     requires best { IsBestDeviation outlook.now room.now (λ earlier e. earlier < place) best }
     ensures { IsBestDeviation outlook.now room.now (λ earlier e. earlier < place + 1) result }
 {

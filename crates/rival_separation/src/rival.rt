@@ -70,10 +70,13 @@ pub fn put_front(room: &mut Room, edges: &[u32])
 /// Goes from a vertex along the least-numbered tight edges that weren't taken away, to the end of the request, and puts
 /// each behind the path that the room keeps: a path of least cost. The room has the distances to that end.
 fn follow(outlook: &Outlook<'_>, start: u32, room: &mut Room)
+    // The room has the distances to the request's end, and some path leads there from the start.
     requires fits { FitsOutlook outlook.now }
     requires found { HasDistances outlook.now room.old }
     requires way { HasWay outlook.now.graph.now outlook.now.point.now
         (request_ends outlook.now.request.now) room.old start }
+
+    // A path of least cost to that end stands behind the room's path; the rest stays.
     ensures room { IsRoomFor outlook.now.graph.now room.new }
     ensures followed { IsFollowedByLeast outlook.now.graph.now outlook.now.point.now
         (request_ends outlook.now.request.now) room.old start room.new.path }
@@ -95,12 +98,15 @@ fn follow(outlook: &Outlook<'_>, start: u32, room: &mut Room)
 /// Puts an edge behind the path that the room keeps, and goes on from the edge's end as `follow` does: so a walk that leaves
 /// a path by that edge becomes whole. The room has the distances to the end of the request.
 pub fn leave_by(outlook: &Outlook<'_>, edge: u32, room: &mut Room)
+    // The room has the distances to the request's end, and some path leads there by the edge.
     requires fits { FitsOutlook outlook.now }
     requires known { edge < length outlook.now.graph.now.edges }
     requires found { HasDistances outlook.now room.old }
     requires way { HasWay outlook.now.graph.now outlook.now.point.now
         (request_ends outlook.now.request.now) (with_edge room.old edge)
         (edge_at outlook.now.graph.now edge).to }
+
+    // The edge and a path of least cost from there stand behind the room's path; the rest stays.
     ensures room { IsRoomFor outlook.now.graph.now room.new }
     ensures followed { IsFollowedByLeast outlook.now.graph.now outlook.now.point.now
         (request_ends outlook.now.request.now) (with_edge room.old edge)
@@ -187,11 +193,16 @@ pub fn find_rival(graph: &Graph, request: &Request, point: &Point, room: &mut Ro
 /// request's end without the edges that it takes away, which are below what the path and the scale cost. It finds the same
 /// rival, and the room has the same distances afterwards.
 pub fn find_rival_at_hand(outlook: &Outlook<'_>, room: &mut Room) -> bool
+    // The room has the distances up to what the request's path is compared with.
     requires fits { FitsOutlook outlook.now }
     requires found { CanCompare outlook.now room.old }
     requires path { HasItsPath outlook.now }
+
+    // The room is still one for the graph, and nothing of it changes but the path.
     ensures room { IsRoomFor outlook.now.graph.now room.new }
     ensures same { room.new ≡ record room.old { path = room.new.path } }
+
+    // That path is the cheapest rival where it finds one; else the request's path leads.
     ensures rival { MatchBool result
         (IsCheapestRivalSeen outlook.now room.new.path)
         (RequestLeads outlook.now.graph.now outlook.now.point.now outlook.now.request.now) }
@@ -207,12 +218,17 @@ pub fn find_rival_at_hand(outlook: &Outlook<'_>, room: &mut Room) -> bool
 
 /// Makes the path that the room keeps the cheapest rival: up to the place of the best deviation it is the request's path.
 fn lay_out(outlook: &Outlook<'_>, best: Deviation, room: &mut Room)
+    // The room has the distances up to what the request's path is compared with.
     requires fits { FitsOutlook outlook.now }
     requires found { CanCompare outlook.now room.old }
     requires path { HasItsPath outlook.now }
+
+    // The deviation is the best of all, and costs less than the path and the scale.
     requires best { IsBestDeviation outlook.now room.old (λ place e.
         place < length outlook.now.request.now.path.edges) (Some best) }
     requires cheap { best.cost < lead_in outlook.now }
+
+    // The room's path becomes the cheapest rival, and nothing else of it changes.
     ensures room { IsRoomFor outlook.now.graph.now room.new }
     ensures cheapest { IsCheapestRivalSeen outlook.now room.new.path }
     ensures same { room.new ≡ record room.old { path = room.new.path } }

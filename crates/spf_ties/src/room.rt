@@ -81,11 +81,16 @@ impl Room {
     /// Finds each vertex's least cost of a simple path to the target. A simple path has least cost exactly where each of
     /// its edges is tight.
     pub fn distances_to(&mut self, graph: &Graph, point: &Point, target: u32)
+        // The room is one for the graph, the point is one for it, and the target is a vertex of it.
         requires room { IsRoomFor graph.now self.old }
         requires fits { FitsPoint graph.now point.now }
         requires target { target < length graph.now.vertices }
+
+        // The room is still one for the graph, and no edge is marked as taken away.
         ensures room { IsRoomFor graph.now self.new }
         ensures marks { AreEdgeMarks [] self.new.marks }
+
+        // Each distance is a least cost, and paths of least cost are those of tight edges alone.
         ensures least { (v : ℕ) → v < length graph.now.vertices → IsLeastCost graph.now point.now
             (record { start = v; end = target; excluded = [] }) (distance_at self.new v) }
         ensures tight { (v : ℕ) (path : List ℕ) → IsPathOf graph.now
@@ -99,11 +104,16 @@ impl Room {
     /// Finds each vertex's least cost of a simple path to the target that has none of the edges of `excluded`.
     /// Among these paths one has least cost exactly where each of its edges is tight.
     pub fn distances_without(&mut self, graph: &Graph, point: &Point, target: u32, excluded: &[u32])
+        // The room is one for the graph, the point is one for it, and the target is a vertex of it.
         requires room { IsRoomFor graph.now self.old }
         requires fits { FitsPoint graph.now point.now }
         requires target { target < length graph.now.vertices }
+
+        // The room is still one for the graph, and the edges that are taken away are marked.
         ensures room { IsRoomFor graph.now self.new }
         ensures marks { AreEdgeMarks excluded.now self.new.marks }
+
+        // Each distance is the least cost without them, which the paths of tight edges alone have.
         ensures least { (v : ℕ) → v < length graph.now.vertices → IsLeastCost graph.now point.now
             (record { start = v; end = target; excluded = excluded.now }) (distance_at self.new v) }
         ensures tight { (v : ℕ) (path : List ℕ) → IsPathOf graph.now
@@ -125,11 +135,16 @@ impl Room {
     /// tight. It takes time in proportion to the edges near the target, times the logarithm of their number; at scales from
     /// 2^37 on it goes over all edges, again and again until no number falls.
     pub fn distances_within(&mut self, graph: &Graph, point: &Point, aim: &Aim<'_>)
+        // The room is one for the graph, the point is one for it, and the target is a vertex of it.
         requires room { IsRoomFor graph.now self.old }
         requires fits { FitsPoint graph.now point.now }
         requires target { aim.now.target < length graph.now.vertices }
+
+        // The room is still one for the graph, and the edges that are taken away are marked.
         ensures room { IsRoomFor graph.now self.new }
         ensures marks { AreEdgeMarks aim.now.excluded.now self.new.marks }
+
+        // Below the limit each distance is a least cost, which the paths of tight edges alone have.
         ensures least { (v : ℕ) → v < length graph.now.vertices → IsLeastBelow graph.now point.now
             (ends_to aim.now v) aim.now.limit (distance_at self.new v) }
         ensures tight { (v : ℕ) (path : List ℕ) → IsPathOf graph.now (ends_to aim.now v) path →

@@ -46,13 +46,18 @@ fn narrow_price(price: Price, point: &Point) -> u64
 /// Looks at an edge into the vertex that was settled last: where the edge is left and leads from its start to less than
 /// the start's number, that number is lowered and its vertex waits.
 fn look(subgraph: &Subgraph<'_>, number: u32, front: &mut Front)
+    // Numbers fit 64 bits, the edge is one of the graph's, and there is room for an entry.
     requires narrow { IsNarrow subgraph.now }
     requires known { number < length subgraph.now.graph.now.edges }
     requires front { AreFrontNumbers subgraph.now front.old }
     requires room { length front.old.waiting.entries < front.old.waiting.places }
+
+    // No vertex is settled by this, and at most one entry more waits.
     ensures front { AreFrontNumbers subgraph.now front.new }
     ensures settled { front.new.settled.items ≡ front.old.settled.items }
     ensures waiting { GrowsByOne front.old.waiting front.new.waiting }
+
+    // A search that had yet to look at this edge and others has yet to look at the others.
     ensures underway { (t limit least : ℕ) (todo : List ℕ) → UnderwayIn subgraph.now t limit least
         (number ∷ todo) front.old.numbers.items front.old.settled.items front.old.waiting.entries →
         UnderwayIn subgraph.now t limit least todo front.new.numbers.items front.new.settled.items
@@ -75,13 +80,18 @@ fn look(subgraph: &Subgraph<'_>, number: u32, front: &mut Front)
 
 /// Settles a vertex, and looks at each edge into it.
 fn settle(subgraph: &Subgraph<'_>, vertex: u32, front: &mut Front)
+    // The vertex isn't settled yet, and there is a place for each entry that may come to wait.
     requires narrow { IsNarrow subgraph.now }
     requires vertex { vertex < length subgraph.now.graph.now.vertices }
     requires front { AreFrontNumbers subgraph.now front.old }
     requires waited { is_settled front.old.settled.items vertex ≡ false }
     requires room { HasPlaces subgraph.now front.old }
+
+    // The front is still one of a search, and needs no more places than before.
     ensures front { AreFrontNumbers subgraph.now front.new }
     ensures waiting { NeedsNoMore subgraph.now front.old front.new }
+
+    // A search that had yet to look at the edges into the vertex has looked at all of them.
     ensures underway { (t limit least : ℕ) → UnderwayIn subgraph.now t limit least
         (edges_in subgraph.now.graph.now vertex) front.old.numbers.items
         (slice_set front.old.settled.items vertex true) front.old.waiting.entries →
@@ -96,12 +106,17 @@ fn settle(subgraph: &Subgraph<'_>, vertex: u32, front: &mut Front)
 
 /// Settles the vertex of an entry that was taken out of the heap, unless it is settled already.
 fn take_in(subgraph: &Subgraph<'_>, entry: Entry, front: &mut Front)
+    // The vertex is one of the graph's, and there is a place for each entry that may wait.
     requires narrow { IsNarrow subgraph.now }
     requires vertex { entry.vertex < length subgraph.now.graph.now.vertices }
     requires front { AreFrontNumbers subgraph.now front.old }
     requires room { HasPlaces subgraph.now front.old }
+
+    // The front is still one of a search, and needs no more places than before.
     ensures front { AreFrontNumbers subgraph.now front.new }
     ensures waiting { NeedsNoMore subgraph.now front.old front.new }
+
+    // Where no entry that waited is nearer, the search goes on, and no edge is left to look at.
     ensures underway { (t limit least : ℕ) (waiting : List Entry) →
         UnderwayIn subgraph.now t limit least [] front.old.numbers.items front.old.settled.items
         waiting → IsPermutation waiting (entry ∷ front.old.waiting.entries) →
@@ -118,10 +133,13 @@ fn take_in(subgraph: &Subgraph<'_>, entry: Entry, front: &mut Front)
 /// limit; elsewhere the limit stays. It looks at the edges into the vertices that are within the limit alone, and takes time
 /// in proportion to their number, times its logarithm.
 pub(crate) fn find(subgraph: &Subgraph<'_>, target: u32, limit: u64, front: &mut Front)
+    // Numbers up to the limit fit 64 bits, and the front is one for the graph.
     requires narrow { IsNarrow subgraph.now }
     requires target { target < length subgraph.now.graph.now.vertices }
     requires limit { limit ≤ far subgraph.now.point.now }
     requires front { IsFrontFor subgraph.now front.old }
+
+    // The front is still one for the graph, and its numbers are the least costs below the limit.
     ensures front { IsFrontFor subgraph.now front.new }
     ensures distances { AreDistancesTo subgraph.now target limit front.new.numbers.items }
 {
@@ -148,13 +166,18 @@ pub(crate) fn find_in_either(
     front: &mut Front,
     wide: &mut Vec<u128>,
 ) -> Width
+    // The target is a vertex of the graph, and the limit is at most 2^26 times the scale.
     requires fits { FitsSubgraph subgraph.now }
     requires target { target < length subgraph.now.graph.now.vertices }
     requires limit { limit ≤ far subgraph.now.point.now }
+
+    // Before and after, the front and the wide list have a place for each vertex.
     requires front { IsFrontFor subgraph.now front.old }
     requires wide { length wide.old.items ≡ length subgraph.now.graph.now.vertices }
     ensures front { IsFrontFor subgraph.now front.new }
     ensures wide { length wide.new.items ≡ length subgraph.now.graph.now.vertices }
+
+    // The numbers of the width that is told are the least costs below the limit.
     ensures distances { AreDistancesTo subgraph.now target limit
         (numbers_of result front.new.numbers.items wide.new.items) }
 {

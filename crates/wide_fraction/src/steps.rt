@@ -29,11 +29,16 @@ pub struct Wide {
 /// with g the greatest common divisor of the denominators of a/b and c/d, these are a(d/g), c(b/g), their sum s and
 /// (b/g)(d/h), where h is the greatest common divisor of s and g.
 pub fn add(left: Frac, right: Frac, top: Top) -> Result<Frac, Wide>
+    // The numbers of both fractions are within the top.
     requires left_within { IsWithin top left }
     requires right_within { IsWithin top right }
+
+    // On Ok the sum is exact, and no whole number on its way passes the top.
     ensures exact { IfOk result (λ q. q ≡ plus left right) }
     ensures within { IfOk result (λ q. IsWithin top q) }
     ensures fits { OnOk result (Fits top StepName.Add left right) }
+
+    // On Err the step is named, and a whole number that it makes passes the top.
     ensures wide { IfErr result (IsTooWide top StepName.Add left right) }
 {
     sum(left, right, top).ok_or(Wide {
@@ -46,11 +51,16 @@ pub fn add(left: Frac, right: Frac, top: Top) -> Result<Frac, Wide>
 /// The difference in lowest terms. `Wide` comes exactly where the sum of `left` and the negated `right` makes a whole
 /// number that passes `top` in size, and names the two as they were handed in.
 pub fn sub(left: Frac, right: Frac, top: Top) -> Result<Frac, Wide>
+    // The numbers of both fractions are within the top.
     requires left_within { IsWithin top left }
     requires right_within { IsWithin top right }
+
+    // On Ok the difference is exact, and no whole number on its way passes the top.
     ensures exact { IfOk result (λ q. q ≡ minus left right) }
     ensures within { IfOk result (λ q. IsWithin top q) }
     ensures fits { OnOk result (Fits top StepName.Sub left right) }
+
+    // On Err the step is named, and a whole number that it makes passes the top.
     ensures wide { IfErr result (IsTooWide top StepName.Sub left right) }
 {
     sum(left, right.negated(), top).ok_or(Wide {
@@ -62,11 +72,16 @@ pub fn sub(left: Frac, right: Frac, top: Top) -> Result<Frac, Wide>
 
 /// The product in lowest terms. `Wide` comes exactly where its numerator or its denominator passes `top` in size.
 pub fn mul(left: Frac, right: Frac, top: Top) -> Result<Frac, Wide>
+    // The numbers of both fractions are within the top.
     requires left_within { IsWithin top left }
     requires right_within { IsWithin top right }
+
+    // On Ok the product is exact, and no whole number on its way passes the top.
     ensures exact { IfOk result (λ q. q ≡ times left right) }
     ensures within { IfOk result (λ q. IsWithin top q) }
     ensures fits { OnOk result (Fits top StepName.Mul left right) }
+
+    // On Err the step is named, and a whole number that it makes passes the top.
     ensures wide { IfErr result (IsTooWide top StepName.Mul left right) }
 {
     product(left, right, top).ok_or(Wide {
@@ -79,12 +94,17 @@ pub fn mul(left: Frac, right: Frac, top: Top) -> Result<Frac, Wide>
 /// The quotient in lowest terms. `Wide` comes exactly where its numerator or its denominator passes `top` in size, and
 /// names the two as they were handed in.
 pub fn div(left: Frac, right: Frac, top: Top) -> Result<Frac, Wide>
+    // The numbers of both fractions are within the top, and the divisor isn't 0.
     requires left_within { IsWithin top left }
     requires right_within { IsWithin top right }
     requires not_zero { right.numerator ≢ pos 0 }
+
+    // On Ok the quotient is exact, and no whole number on its way passes the top.
     ensures exact { IfOk result (λ q. q ≡ divided left right) }
     ensures within { IfOk result (λ q. IsWithin top q) }
     ensures fits { OnOk result (Fits top StepName.Div left right) }
+
+    // On Err the step is named, and a whole number that it makes passes the top.
     ensures wide { IfErr result (IsTooWide top StepName.Div left right) }
 {
     product(left, right.inverted(), top).ok_or(Wide {
@@ -204,13 +224,18 @@ fn fraction_product(left: Frac, right: Frac, top: Top) -> Option<Frac>
 
 /// The least common multiple of two positive whole numbers. `Wide` comes exactly where it passes `top`.
 pub fn lcm(left: i128, right: i128, top: Top) -> Result<i128, Wide>
+    // Both numbers are positive, and within the top.
     requires left_positive { pos 0 <ℤ left }
     requires right_positive { pos 0 <ℤ right }
     requires left_within { nat_abs left ≤ top }
     requires right_within { nat_abs right ≤ top }
+
+    // On Ok it is the least common multiple, within the top.
     ensures exact { IfOk result (λ n. n ≡ pos (lcm (nat_abs left) (nat_abs right))) }
     ensures within { IfOk result (λ n. nat_abs n ≤ top) }
     ensures fits { OnOk result (Fits top StepName.Lcm (whole left) (whole right)) }
+
+    // On Err the step is named, and the least common multiple passes the top.
     ensures wide { IfErr result (IsTooWide top StepName.Lcm (whole left) (whole right)) }
 {
     match multiple(left as u128, right as u128, top.size()) {
@@ -234,11 +259,16 @@ fn multiple(left: u128, right: u128, most: u128) -> Option<u128>
 
 /// A positive whole number times 2^27. `Wide` comes exactly where it passes `top`.
 pub fn scale(value: i128, top: Top) -> Result<i128, Wide>
+    // The number is positive, and within the top.
     requires positive { pos 0 <ℤ value }
     requires value_within { nat_abs value ≤ top }
+
+    // On Ok it is 2^27 times the number, within the top.
     ensures exact { IfOk result (λ n. n ≡ (value *ℤ pos (2 ^ 27))) }
     ensures within { IfOk result (λ n. nat_abs n ≤ top) }
     ensures fits { OnOk result (Fits top StepName.Scale (whole value) (whole (pos (2 ^ 27)))) }
+
+    // On Err the step is named, and the product passes the top.
     ensures wide { IfErr result (IsTooWide top StepName.Scale (whole value)
         (whole (pos (2 ^ 27)))) }
 {
