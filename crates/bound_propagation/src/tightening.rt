@@ -22,10 +22,15 @@ pub struct Step {
 /// There is a coefficient for each variable, each of size at most 2^26, and the form's greatest value over the box isn't
 /// negative.
 pub fn tighten(form: &Form, costs: &CostBox) -> Option<Step>
+    // The form has a coefficient for each variable of the box, of size at most 2^26.
     requires low { length form.now.coefficients ≡ length costs.now.low }
     requires high { length form.now.coefficients ≡ length costs.now.high }
     requires sizes { All (λ c. nat_abs c ≤ 2 ^ 26) form.now.coefficients }
+
+    // The form doesn't refute the box.
     requires unrefuted { pos 0 ≤ℤ greatest form.now costs.now }
+
+    // The new bound is exact and its variable the first; None tells that no range gets smaller.
     ensures exact { IfSome result (λ s. IsExactTightening form.now costs.now s.side s.var s.value) }
     ensures first { IfSome result (λ s. NoneBefore form.now costs.now s.var) }
     ensures none { result ≡ None → NoneBefore form.now costs.now (length costs.now.low) }
@@ -36,10 +41,15 @@ pub fn tighten(form: &Form, costs: &CostBox) -> Option<Step>
 /// As `tighten`, where the form's greatest value over the box is known: `most`. It is what the form can lose, so a range
 /// gets smaller only where the form's term loses more between its ends.
 pub fn tighten_within(form: &Form, costs: &CostBox, most: i128) -> Option<Step>
+    // The form has a coefficient for each variable of the box.
     requires low { length form.now.coefficients ≡ length costs.now.low }
     requires high { length form.now.coefficients ≡ length costs.now.high }
+
+    // The form's greatest value over the box is known, and the form doesn't refute the box.
     requires known { most ≡ greatest form.now costs.now }
     requires unrefuted { pos 0 ≤ℤ most }
+
+    // The new bound is exact and its variable the first; None tells that no range gets smaller.
     ensures exact { IfSome result (λ s. IsExactTightening form.now costs.now s.side s.var s.value) }
     ensures first { IfSome result (λ s. NoneBefore form.now costs.now s.var) }
     ensures none { result ≡ None → NoneBefore form.now costs.now (length costs.now.low) }

@@ -65,15 +65,22 @@ fn blocked_by(
     state: &mut State,
     step: usize,
 ) -> Blocked
+    // The room fits the rollout's graph, and the state's point has the state's costs.
     requires room { IsRoomFor plan.now.rollout.graph room.old }
     requires state { IsStateOf plan.now.rollout state.old }
+
+    // The step may come next, and the state after it isn't safe if it was tested.
     requires follows { MayFollow plan.now.rollout plan.now.held state.old.done.items step }
     requires greatest { Contains tested.now (slice_set state.old.done.items step true) →
         IsSafe plan.now.rollout plan.now.held
         (is_done_in (slice_set state.old.done.items step true)) → ⊥ }
+
+    // Room and state go together as before, with the same steps done.
     ensures room { IsRoomFor plan.now.rollout.graph room.new }
     ensures state { IsStateOf plan.now.rollout state.new }
     ensures done { state.new.done.items ≡ state.old.done.items }
+
+    // In the way is the first held path that is lost, or that the state after it wasn't tested.
     ensures blocked { IsStepBlocked plan.now tested.now state.old.done.items step result }
 {
     state.do_step(plan.scene(), step);

@@ -80,12 +80,17 @@ impl Walk {
 
     /// Whether a step may follow, and its state wasn't tested.
     fn may_try(&mut self, plan: &Plan, step: usize) -> bool
+        // The state and the step are ones of the rollout.
         requires state { IsStateOf plan.now.rollout self.old.state }
         requires known { step < step_count plan.now.rollout }
+
+        // The walk stands where it stood, with the same steps done.
         ensures state { IsStateOf plan.now.rollout self.new.state }
         ensures done { self.new.state.done.items ≡ self.old.state.done.items }
         ensures position { position_of self.new ≡ position_of self.old }
         ensures room { self.new.room ≡ self.old.room }
+
+        // Where a step may follow and isn't to be tried, the state after it was tested.
         ensures new { MatchBool result (IsNewStep plan.now self.old.tested self.old.state.done.items
             step) (MayFollow plan.now.rollout plan.now.held self.old.state.done.items step →
             Contains self.old.tested (slice_set self.old.state.done.items step true)) }
@@ -119,10 +124,13 @@ impl Walk {
 
     /// Goes on from a safe state after a step.
     fn go_on(&mut self, step: usize) -> Result<(), OutOfMemory>
+        // The way ends with the step, steps are tried from the first, and the longest way is kept.
         ensures order { OnOk result (self.new.order.items ≡ self.old.order.items ++ step ∷ []) }
         ensures next { OnOk result (self.new.next ≡ 0) }
         ensures greatest { OnOk result (self.new.greatest.items ≡ longer_of self.old.greatest.items
             (self.old.order.items ++ step ∷ [])) }
+
+        // What was tested, the state and the room stay as they are.
         ensures tested { self.new.tested ≡ self.old.tested }
         ensures state { self.new.state ≡ self.old.state }
         ensures room { self.new.room ≡ self.old.room }
@@ -138,12 +146,17 @@ impl Walk {
 
     /// Tests the state after a step, and goes on from it where it is safe.
     fn test(&mut self, alloc: Global, plan: &Plan, step: usize) -> Result<bool, OutOfMemory>
+        // The walk stands at the step, which leads to a state that wasn't tested.
         requires walk { IsSearchWalk plan.now self.old }
         requires next { self.old.next ≡ step }
         requires new { IsNewStep plan.now self.old.tested self.old.state.done.items step }
+
+        // That state is tested then, whether it is safe or not.
         ensures walk { IfOk result (λ safe. IsSearchWalk plan.now self.new) }
         ensures tested { IfOk result (λ safe. self.new.tested ≡ self.old.tested ++
             slice_set self.old.state.done.items step true ∷ []) }
+
+        // Where it is safe the walk goes on there, and its way is longer by one step at most.
         ensures safe { IfOk result (λ safe. IsTrue safe ↔ IsSafe plan.now.rollout plan.now.held
             (is_done_in (slice_set self.old.state.done.items step true))) }
         ensures here { IfOk result (λ safe. IsTrue safe → self.new.state.done.items ≡
@@ -165,10 +178,15 @@ impl Walk {
 
     /// Goes back to the state before the last step, if there is one.
     fn go_back(&mut self, plan: &Plan) -> bool
+        // No step is left to try at the walk's state.
         requires walk { IsSearchWalk plan.now self.old }
         requires next { self.old.next ≡ step_count plan.now.rollout }
+
+        // The walk is still one of a search, with the same tested states.
         ensures walk { IsSearchWalk plan.now self.new }
         ensures tested { self.new.tested ≡ self.old.tested }
+
+        // The way is shorter by a step, or it is empty and nothing is left to try.
         ensures order { MatchBool result (length self.new.order.items + 1 ≡
             length self.old.order.items) (self.new.order.items ≡ []) }
         ensures next { MatchBool result ⊤ (self.new.next ≡ step_count plan.now.rollout) }

@@ -27,14 +27,21 @@ fn search_rivals<B: Begun>(
     pool: &mut Pool,
     advisors: &mut Vec<Box<dyn Advisor>>,
 ) -> Result<Found, OutOfMemory>
+    // The search begins with this problem and the pool's rows, which are rows of the problem.
     requires begun { IsBegunWith B.problem B.rows problem.now pool.old }
     requires pool { IsRowPool problem.now pool.old }
+
+    // The box has a range for each variable, of costs from 1 on.
     requires ranges { IsBox (length problem.now.low) costs.now }
     requires lows { All (λ low. 1 ≤ low) costs.now.low }
+
+    // What is found holds by the pool's forms, to which only those of new rows came, at its end.
     ensures found { IfOk result (IsSearchResult (LeadsEach problem.now) limits.now.top
         limits.now.nodes pool.new.forms costs.now) }
     ensures pool { OnOk result (IsRowPool problem.now pool.new) }
     ensures grows { GrowsByRows problem.now pool.old pool.new }
+
+    // The advisors are asked and told as in a search, and one that picks out of range is gone.
     ensures advisors { AreCalled ⟦<dyn Advisor as Advisor>⟧ (λ b. b.vtable) (λ b. state b)
         advisors.old.items advisors.new.items }
 {
@@ -64,13 +71,18 @@ pub fn decide_within(
     pool: &mut Pool,
     advisors: &mut Vec<Box<dyn Advisor>>,
 ) -> Result<Found, OutOfMemory>
+    // The box has costs from 1 on for each variable, and the pool has rows of the problem.
     requires ranges { IsBox (length problem.now.low) costs.now }
     requires lows { All (λ low. 1 ≤ low) costs.now.low }
     requires pool { IsRowPool problem.now pool.old }
+
+    // What is found holds by the pool's forms; the pool keeps its rows, with new ones at its end.
     ensures found { IfOk result (IsSearchResult (LeadsEach problem.now) limits.now.top
         limits.now.nodes pool.new.forms costs.now) }
     ensures pool { IsRowPool problem.now pool.new }
     ensures more { MoreRows pool.old pool.new }
+
+    // The advisors are asked and told as in a search, and one that picks out of range is gone.
     ensures advisors { AreCalled ⟦<dyn Advisor as Advisor>⟧ (λ b. b.vtable) (λ b. state b)
         advisors.old.items advisors.new.items }
 {
@@ -101,12 +113,17 @@ pub fn decide(
     pool: &mut Pool,
     advisors: &mut Vec<Box<dyn Advisor>>,
 ) -> Result<Found, OutOfMemory>
+    // The cap is below no variable's lower bound, and the pool has rows of the problem.
     requires cap { All (λ low. low ≤ cap) problem.now.low }
     requires pool { IsRowPool problem.now pool.old }
+
+    // What is decided holds by the pool's forms; the pool keeps its rows, with new ones at its end.
     ensures decided { IfOk result (IsDecided problem.now limits.now.top limits.now.nodes cap
         pool.new) }
     ensures pool { IsRowPool problem.now pool.new }
     ensures more { MoreRows pool.old pool.new }
+
+    // The advisors are asked and told as in a search, and one that picks out of range is gone.
     ensures advisors { AreCalled ⟦<dyn Advisor as Advisor>⟧ (λ b. b.vtable) (λ b. state b)
         advisors.old.items advisors.new.items }
 {

@@ -199,14 +199,21 @@ fn ask_each(
     rows: &mut Vec<Row>,
     pool: &mut FormPool,
 ) -> Result<Asked, OutOfMemory>
+    // The asker is one for the problem's requests, and the rows are the problem's, none twice.
     requires asker { IsAskerFor problem.now.graph problem.now.paths asker.old }
     requires rows { ArePoolRows problem.now rows.old.items }
+
+    // The point is one of costs, and no form of the rows is negative there.
     requires point { IsCostPoint (length problem.now.low) point.now }
     requires met { AreMet (forms_of_rows problem.now rows.old.items) point.now }
+
+    // All requests were asked, and the pool has got the forms of the rows that came.
     ensures asker { IsAskerFor problem.now.graph problem.now.paths asker.new }
     ensures asked { IfOk result
         (AreAllRequestsAsked point.now (record { problem = problem.now; rows = rows.old.items })
         pool.old (record { problem = problem.now; rows = rows.new.items }) pool.new) }
+
+    // Even where memory is wanting, the rows begin as before, and only true forms came.
     ensures more { BeginWith rows.old.items rows.new.items }
     ensures grows { Grows (IsTrueRowForm problem.now) pool.old pool.new }
 {
@@ -284,9 +291,12 @@ impl<'a, B: Begun> Rivals<'a, B> {
     ///
     /// `OutOfMemory`. Then too only true forms came into the pool.
     pub fn ask_all(&mut self, point: &Point, pool: &mut FormPool) -> Result<Asked, OutOfMemory>
+        // The rows are the problem's, none twice, and none of their forms is negative at the point.
         requires rows { ArePoolRows self.old.problem self.old.rows }
         requires point { IsCostPoint (length self.old.problem.low) point.now }
         requires met { AreMet (forms_of_rows self.old.problem self.old.rows) point.now }
+
+        // All requests were asked about the same problem, and only true forms came to the pool.
         ensures asked { IfOk result (AreAllRequestsAsked point.now self.old pool.old self.new
             pool.new) }
         ensures problem { self.new.problem ≡ self.old.problem }

@@ -37,11 +37,16 @@ fn costs_there<S: RowSource>(
     costs: &CostBox,
     point: &mut Point,
 ) -> Result<Option<CostList>, OutOfMemory>
+    // The point is the least accepted one of a box of costs from 1 on.
     requires ranges { IsCostsBox (S.count source.old) costs.now }
     requires least { IsLeastOf (S.accepted source.old) costs.now point.old }
+
+    // Costs that come are accepted ones of the box; None comes only where the point isn't whole.
     ensures found { IfOk result (λ found. IfSome found (λ w. IsInBox costs.now w ×
         S.accepted source.old (at_costs w))) }
     ensures fractional { result ≡ Ok None → IsIntegralPoint point.old → ⊥ }
+
+    // The point is as before, and the source accepts the same points with the same forms.
     ensures point { point.new ≡ point.old }
     ensures in_step { SameFor (S.in_step source.old) (S.in_step source.new) }
     ensures same { SameSource S.count S.accepted S.true_form S.candidates source.old source.new }
@@ -98,14 +103,21 @@ fn at_least_point<S: RowSource>(
     costs: &CostBox,
     desk: &mut Desk,
 ) -> Result<Next, OutOfMemory>
+    // The desk has the least accepted point of a box of costs from 1 on.
     requires ranges { IsCostsBox (S.count source.old) costs.now }
     requires least { IsLeastOf (S.accepted source.old) costs.now desk.old.point }
+
+    // What comes next may do so whatever forms the pool has and whatever was tightened.
     ensures next { IfOk result (λ next. (top : ℕ) (old new : List Form) (since : List (ℕ × Side)) →
         IsNextStep (S.accepted source.old) top old new (record { box = costs.now; since = since })
         next) }
+
+    // The desk is as before, and the source accepts the same points with the same forms.
     ensures desk { desk.new ≡ desk.old }
     ensures in_step { SameFor (S.in_step source.old) (S.in_step source.new) }
     ensures same { SameSource S.count S.accepted S.true_form S.candidates source.old source.new }
+
+    // The advisors are asked for a Split at the least accepted point, and for nothing else.
     ensures asked { AreAskedNext ⟦<dyn Advisor as Advisor>⟧ (λ b. b.vtable) (λ b. state b)
         (IsLeastPoint (S.accepted source.old)) costs.now result advisors.old.items
         advisors.new.items }
@@ -125,15 +137,22 @@ fn at_box<S: RowSource>(
     costs: &CostBox,
     desk: &mut Desk,
 ) -> Result<Next, OutOfMemory>
+    // The source is in step with the pool, and the box of costs has more than one point.
     requires in_step { AreInStep S.RowSource source.old pool.old }
     requires ranges { IsCostsBox (S.count source.old) costs.now }
     requires more { costs.now.low ≢ costs.now.high }
     requires desk { IsDesk desk.old.top (S.count source.old) desk.old }
+
+    // What comes next follows from the pool's forms, and the desk is fit for the next box.
     ensures next { IfOk result (λ next. (since : List (ℕ × Side)) →
         IsNextStep (S.accepted source.old) desk.old.top pool.old pool.new
         (record { box = costs.now; since = since }) next) }
     ensures desk { OnOk result (IsDesk desk.old.top (S.count source.old) desk.new) }
+
+    // Only true forms came to the pool, and unless memory is wanting the source is in step with it.
     ensures left { Leaves S.RowSource (OnOk result) source.old source.new pool.old pool.new }
+
+    // The advisors are asked for a Split at the least accepted point, and for nothing else.
     ensures asked { AreAskedNext ⟦<dyn Advisor as Advisor>⟧ (λ b. b.vtable) (λ b. state b)
         (IsLeastPoint (S.accepted source.old)) costs.now result advisors.old.items
         advisors.new.items }
@@ -154,14 +173,21 @@ pub(crate) fn next_at<S: RowSource>(
     tree: &TreeBuilder,
     desk: &mut Desk,
 ) -> Result<Next, OutOfMemory>
+    // The source is in step with the pool, and the tree has an open box of costs from 1 on.
     requires in_step { AreInStep S.RowSource source.old pool.old }
     requires open { 0 < length tree.now.places }
     requires ranges { IsCostsBox (S.count source.old) (first_place tree.now.places).box }
     requires desk { IsDesk desk.old.top (S.count source.old) desk.old }
+
+    // What comes next follows from the pool's forms, and the desk is fit for the next box.
     ensures next { IfOk result (IsNextStep (S.accepted source.old) desk.old.top pool.old pool.new
         (first_place tree.now.places)) }
     ensures desk { OnOk result (IsDesk desk.old.top (S.count source.old) desk.new) }
+
+    // Only true forms came to the pool, and unless memory is wanting the source is in step with it.
     ensures left { Leaves S.RowSource (OnOk result) source.old source.new pool.old pool.new }
+
+    // The advisors are asked for a Split at the least accepted point, and for nothing else.
     ensures asked { AreAskedNext ⟦<dyn Advisor as Advisor>⟧ (λ b. b.vtable) (λ b. state b)
         (IsLeastPoint (S.accepted source.old)) (first_place tree.now.places).box result
         advisors.old.items advisors.new.items }

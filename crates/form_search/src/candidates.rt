@@ -45,13 +45,18 @@ fn push_fractional(
     costs: &CostBox,
     var: usize,
 ) -> Result<(), OutOfMemory>
+    // The point lies in a box of costs from 1 on, and has a value for the variable.
     requires ranges { IsCostsBox (length costs.now.low) costs.now }
     requires inside { IsPointOf costs.now point.now }
     requires known { var < length point.now.values }
+
+    // All candidates are fractional at the point, and the variable joins them where it is too.
     requires so_far { All (IsFractional costs.now point.now) candidates.old.items }
     ensures pushed { OnOk result (candidates.new.items ≡ candidates.old.items ++
         candidate_of costs.now point.now var) }
     ensures fractional { OnOk result (All (IsFractional costs.now point.now) candidates.new.items) }
+
+    // The list gets no shorter, and isn't empty where the variable is fractional.
     ensures more { OnOk result (length candidates.old.items ≤ length candidates.new.items) }
     ensures some { OnOk result ((slice_index point.now.values var % point.now.scale ≡ 0 → ⊥) →
         0 < length candidates.new.items) }

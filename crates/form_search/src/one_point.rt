@@ -27,13 +27,18 @@ fn ask_there<S: RowSource>(
     costs: &CostBox,
     point: &mut Point,
 ) -> Result<Next, OutOfMemory>
+    // The source is in step with the pool, whose forms are at least 0 at the one point of the box.
     requires in_step { AreInStep S.RowSource source.old pool.old }
     requires ranges { IsCostsBox (S.count source.old) costs.now }
     requires one { costs.now.low ≡ costs.now.high }
     requires met { All (λ form. pos 0 ≤ℤ greatest form costs.now) pool.old }
     requires places { length point.old.values ≡ S.count source.old }
+
+    // No Split comes next, and the point keeps a value for each variable.
     ensures next { IfOk result (IsNextOfPoint (S.accepted source.old) pool.old pool.new costs.now) }
     ensures places { length point.new.values ≡ length point.old.values }
+
+    // Only true forms came to the pool, and unless memory is wanting the source is in step with it.
     ensures left { Leaves S.RowSource (OnOk result) source.old source.new pool.old pool.new }
 {
     put_costs(point, costs);
@@ -50,12 +55,17 @@ pub(crate) fn at_one_point<S: RowSource>(
     costs: &CostBox,
     point: &mut Point,
 ) -> Result<Next, OutOfMemory>
+    // The source is in step with the pool, and the box of costs has one point.
     requires in_step { AreInStep S.RowSource source.old pool.old }
     requires ranges { IsCostsBox (S.count source.old) costs.now }
     requires one { costs.now.low ≡ costs.now.high }
     requires places { length point.old.values ≡ S.count source.old }
+
+    // No Split comes next, and the point keeps a value for each variable.
     ensures next { IfOk result (IsNextOfPoint (S.accepted source.old) pool.old pool.new costs.now) }
     ensures places { length point.new.values ≡ length point.old.values }
+
+    // Only true forms came to the pool, and unless memory is wanting the source is in step with it.
     ensures left { Leaves S.RowSource (OnOk result) source.old source.new pool.old pool.new }
 {
     match first_negative(pool.as_slice(), costs) {

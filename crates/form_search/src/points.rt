@@ -95,10 +95,15 @@ pub(crate) fn are_values_accepted<S: RowSource>(
     costs: &CostBox,
     point: &mut Point,
 ) -> bool
+    // The point lies in a box of costs from 1 on.
     requires ranges { IsCostsBox (S.count source.old) costs.now }
     requires inside { IsPointOf costs.now point.old }
+
+    // On true the values themselves are costs of the box, and the source accepts them.
     ensures within { IsTrue result → IsInBox costs.now point.old.values }
     ensures accepted { IsTrue result → S.accepted source.old (at_costs point.old.values) }
+
+    // The point is as before, and the source accepts the same points with the same forms.
     ensures point { point.new ≡ point.old }
     ensures in_step { SameFor (S.in_step source.old) (S.in_step source.new) }
     ensures same { SameSource S.count S.accepted S.true_form S.candidates source.old source.new }

@@ -46,12 +46,17 @@ fn entry_of(
     tree: &TreeBuilder,
     watch: &mut Watch,
 ) -> Result<Option<Entry>, OutOfMemory>
+    // The form has a coefficient for each variable of the open box.
     requires open { 0 < length tree.now.places }
     requires ranges { IsCostsBox (length (first_place tree.now.places).box.low)
         (first_place tree.now.places).box }
     requires form { IsFormIn (length (first_place tree.now.places).box.low) form.now }
+
+    // An entry follows from any list of forms that has this one as that row.
     ensures entry { (forms : List Form) → row < length forms → form_at forms row ≡ form.now →
         IfOk result (λ found. IfSome found (IsNextRow forms (first_place tree.now.places))) }
+
+    // The watch is still one of as many variables, and the same forms wait.
     ensures watch { (n : ℕ) → IsWatch n watch.old → IsWatch n watch.new }
     ensures waiting { watch.new.waiting ≡ watch.old.waiting }
 {
@@ -80,11 +85,14 @@ pub(crate) fn propagated(
     tree: &TreeBuilder,
     watch: &mut Watch,
 ) -> Result<Option<Entry>, OutOfMemory>
+    // The pool's forms and the watch are ones of the open box's variables.
     requires open { 0 < length tree.now.places }
     requires ranges { IsCostsBox (length (first_place tree.now.places).box.low)
         (first_place tree.now.places).box }
     requires forms { AreFormsOf (length (first_place tree.now.places).box.low) pool.now }
     requires watch { IsWatch (length (first_place tree.now.places).box.low) watch.old }
+
+    // An entry follows from the pool's forms alone, and the watch is still one of these variables.
     ensures entry { IfOk result
         (λ found. IfSome found (IsNextRow pool.now (first_place tree.now.places))) }
     ensures watch { IsWatch (length (first_place tree.now.places).box.low) watch.new }

@@ -32,13 +32,20 @@ fn ask_least<S: RowSource>(
     costs: &CostBox,
     point: &Point,
 ) -> Result<Option<Relaxed>, OutOfMemory>
+    // The source is in step with the pool, and the box is one of costs from 1 on.
     requires in_step { AreInStep S.RowSource source.old pool.old }
     requires ranges { IsCostsBox (S.count source.old) costs.now }
+
+    // The point is the least of the box that meets the pool's forms, of a scale below 2^100.
     requires least { IsLeastPoint (AreMet pool.old) costs.now point.now }
     requires small { point.now.scale < 2 ^ 100 }
+
+    // It is then the least accepted point, or the pool has a form that it hadn't.
     ensures relaxed { (top : ℕ) → IfOk result (λ found. IfSome found
         (IsRelaxation (S.accepted source.old) top costs.now pool.new point.now)) }
     ensures more { result ≡ Ok None → HasNew pool.old pool.new }
+
+    // Only true forms came to the pool, and unless memory is wanting the source is in step with it.
     ensures left { Leaves S.RowSource (OnOk result) source.old source.new pool.old pool.new }
 {
     match source.ask(point, pool)? {
@@ -55,14 +62,21 @@ fn relax_once<S: RowSource>(
     table: &mut HeldTableau,
     point: &mut Point,
 ) -> Result<Option<Relaxed>, OutOfMemory>
+    // The source is in step with the pool, and the box of costs has a variable at least.
     requires in_step { AreInStep S.RowSource source.old pool.old }
     requires ranges { IsCostsBox (S.count source.old) costs.now }
     requires some { 0 < S.count source.old }
+
+    // The tableau stands over the box with the pool's first forms, and no step has stopped it.
     requires stands { StandsAt table.old.tableau.top costs.now pool.old table.old }
     requires places { length point.old.values ≡ S.count source.old }
+
+    // The round ends the relaxation, or it leaves new forms and a tableau that can go on.
     ensures round { IfOk result (IsRoundTold (S.accepted source.old) table.old.tableau.top costs.now
         pool.old pool.new point.new table.new) }
     ensures places { length point.new.values ≡ length point.old.values }
+
+    // Only true forms came to the pool, and unless memory is wanting the source is in step with it.
     ensures left { Leaves S.RowSource (OnOk result) source.old source.new pool.old pool.new }
 {
     match table.least(pool.allocator(), pool.as_slice(), point)? {
@@ -80,14 +94,21 @@ fn relax_by<S: RowSource>(
     table: &mut HeldTableau,
     point: &mut Point,
 ) -> Result<Relaxed, OutOfMemory>
+    // The source is in step with the pool, and the box of costs has a variable at least.
     requires in_step { AreInStep S.RowSource source.old pool.old }
     requires ranges { IsCostsBox (S.count source.old) costs.now }
     requires some { 0 < S.count source.old }
+
+    // The tableau stands over the box with the pool's first forms, and no step has stopped it.
     requires stands { StandsAt table.old.tableau.top costs.now pool.old table.old }
     requires places { length point.old.values ≡ S.count source.old }
+
+    // The relaxation has come to its end, and the tableau holds the pool's first forms.
     ensures relaxed { IfOk result (IsRelaxedWith (S.accepted source.old) table.old.tableau.top
         costs.now pool.new point.new table.new) }
     ensures places { length point.new.values ≡ length point.old.values }
+
+    // Only true forms came to the pool, and unless memory is wanting the source is in step with it.
     ensures left { Leaves S.RowSource (OnOk result) source.old source.new pool.old pool.new }
 {
     'rounds: loop {
@@ -106,13 +127,18 @@ pub(crate) fn relax<S: RowSource>(
     costs: &CostBox,
     point: &mut Point,
 ) -> Result<Relaxed, OutOfMemory>
+    // The source is in step with the pool, and the box of costs has a variable at least.
     requires in_step { AreInStep S.RowSource source.old pool.old }
     requires ranges { IsCostsBox (S.count source.old) costs.now }
     requires some { 0 < S.count source.old }
     requires places { length point.old.values ≡ S.count source.old }
+
+    // There is a least accepted point, or multipliers refute the box, or a step is too wide.
     ensures relaxed { IfOk result (IsRelaxation (S.accepted source.old) top costs.now pool.new
         point.new) }
     ensures places { length point.new.values ≡ length point.old.values }
+
+    // Only true forms came to the pool, and unless memory is wanting the source is in step with it.
     ensures left { Leaves S.RowSource (OnOk result) source.old source.new pool.old pool.new }
 {
     let mut table = moved(pool.allocator(), pool.take_tableau(), costs, top)?;

@@ -99,12 +99,19 @@ pub fn search<S: RowSource>(
     pool: &mut FormPool,
     advisors: &mut Vec<Box<dyn Advisor>>,
 ) -> Result<Found, OutOfMemory>
+    // The source is in step with the pool, and the box is one of costs from 1 on.
     requires in_step { AreInStep S.RowSource source.old pool.old }
     requires ranges { IsBox (S.count source.old) costs.now }
     requires lows { All (λ low. 1 ≤ low) costs.now.low }
+
+    // What is found holds of the box by the pool's forms, within the budget.
     ensures found { IfOk result (IsSearchResult (S.accepted source.old) limits.now.top
         limits.now.nodes pool.new costs.now) }
+
+    // Only true forms came to the pool, and unless memory is wanting the source is in step with it.
     ensures left { Leaves S.RowSource (OnOk result) source.old source.new pool.old pool.new }
+
+    // The advisors are asked before each Split and told each entry, along the tree that grows.
     ensures advisors { AreAdvised ⟦<dyn Advisor as Advisor>⟧ (λ b. b.vtable) (λ b. state b)
         (IsLeastPoint (S.accepted source.old)) costs.now result advisors.old.items
         advisors.new.items }

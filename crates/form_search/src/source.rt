@@ -49,12 +49,17 @@ pub trait RowSource {
     ///
     /// `OutOfMemory`. Then too only true forms were added.
     fn ask(&mut self, point: &Point, pool: &mut FormPool) -> Result<Asked, OutOfMemory>
+        // The point is one of costs, and no form of the pool is negative there.
         requires in_step { in_step self.old pool.old }
         requires point { IsCostPoint (count self.old) point.now }
         requires met { AreMet pool.old point.now }
+
+        // Nothing comes exactly where the point is accepted, and what comes are true forms.
         ensures answer { IfOk result (λ asked. IsSourceAnswer (accepted self.old) point.now pool.old
             pool.new asked) }
         ensures grows { Grows (true_form self.old) pool.old pool.new }
+
+        // The source accepts the same points, and on success it is in step with the pool.
         ensures in_step { OnOk result (in_step self.new pool.new) }
         ensures same { SameSource count accepted true_form candidates self.old self.new };
 

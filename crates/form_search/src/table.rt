@@ -94,11 +94,16 @@ impl HeldTableau {
 
     /// Adds the forms of the pool that it doesn't hold yet, in order.
     fn add_rows(&mut self, alloc: Global, forms: &[Form]) -> Result<(), SimplexStop>
+        // The tableau stands over its box with the pool's first forms, all of which fit the box.
         requires stands { StandsAt self.old.tableau.top self.old.tableau.costs forms.now self.old }
         requires fits { All (FitsBox self.old.tableau.costs) forms.now }
+
+        // On success it stands there with all forms of the pool.
         ensures stands { OnOk result (StandsAt self.old.tableau.top self.old.tableau.costs forms.now
             self.new) }
         ensures all { OnOk result (self.new.held ≡ length forms.now) }
+
+        // Whatever comes it holds the first forms; a step that stops it is too wide at its basis.
         ensures held { IsHeldOver self.old.tableau.top self.old.tableau.costs forms.now self.new }
         ensures wide { IfErr result (IsStepTold self.old.tableau.costs forms.now self.new.tableau) }
     {
@@ -116,13 +121,18 @@ impl HeldTableau {
         forms: &[Form],
         point: &mut Point,
     ) -> Result<Least, SimplexStop>
+        // The tableau stands over its box with the pool's first forms, all of which fit the box.
         requires stands { StandsAt self.old.tableau.top self.old.tableau.costs forms.now self.old }
         requires fits { All (FitsBox self.old.tableau.costs) forms.now }
         requires places { length point.old.values ≡ length self.old.tableau.costs.low }
+
+        // What it tells holds of the box and the forms, and the tableau can go on from there.
         ensures told { IfOk result (IsLeastTold self.old.tableau.top self.old.tableau.costs
             forms.now point.new) }
         ensures stands { OnOk result (StandsAt self.old.tableau.top self.old.tableau.costs forms.now
             self.new) }
+
+        // Whatever comes it holds the first forms; a step that stops it is too wide at its basis.
         ensures held { IsHeldOver self.old.tableau.top self.old.tableau.costs forms.now self.new }
         ensures places { length point.new.values ≡ length point.old.values }
         ensures wide { IfErr result (IsStepTold self.old.tableau.costs forms.now self.new.tableau) }
@@ -165,14 +175,19 @@ impl HeldTableau {
         forms: &[Form],
         point: &mut Point,
     ) -> Result<Least, OutOfMemory>
+        // The tableau stands over its box with the pool's first forms, all of which fit the box.
         requires stands { StandsAt self.old.tableau.top self.old.tableau.costs forms.now self.old }
         requires fits { All (FitsBox self.old.tableau.costs) forms.now }
         requires some { 0 < length self.old.tableau.costs.low }
         requires places { length point.old.values ≡ length self.old.tableau.costs.low }
+
+        // A least point, multipliers or a too wide step comes; after a point the tableau can go on.
         ensures told { IfOk result (IsLeastTold self.old.tableau.top self.old.tableau.costs
             forms.now point.new) }
         ensures stands { result ≡ Ok Least.Point → StandsAt self.old.tableau.top
             self.old.tableau.costs forms.now self.new }
+
+        // Whatever comes it holds the first forms, and the point keeps a value for each variable.
         ensures held { IsHeldOver self.old.tableau.top self.old.tableau.costs forms.now self.new }
         ensures places { length point.new.values ≡ length point.old.values }
     {

@@ -91,11 +91,16 @@ impl<'a, B: Begun> Bounded<'a, B> {
 
     /// Puts the form of the total at the end of the pool. Where memory is wanting both are as before.
     fn add_total(&mut self, pool: &mut FormPool) -> Result<(), OutOfMemory>
+        // The rows and the bound stay as they are.
         ensures known { self.new.known ≡ self.old.known }
         ensures most { self.new.most ≡ self.old.most }
+
+        // On success the form of the total stands last in the pool, behind the rows known so far.
         ensures place { OnOk result (self.new.before ≡ Some (length self.old.known.rows)) }
         ensures form { OnOk result (pool.new ≡ pool.old ++ form_of_total self.old.known.problem
             self.old.most ∷ []) }
+
+        // After want of memory the place of the total and the pool are as before.
         ensures same_place { OnErr result (self.new.before ≡ self.old.before) }
         ensures same_forms { OnErr result (pool.new ≡ pool.old) }
     {

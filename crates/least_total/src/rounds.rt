@@ -49,11 +49,16 @@ fn search_within<B: Begun>(
     most: u32,
     limits: &Limits,
 ) -> Result<Sought, OutOfMemory>
+    // The search begins with this problem, and without a row.
     requires problem { problem.now ≡ B.problem }
     requires begun { B.rows ≡ [] }
+
+    // The box has costs from 1 on, and the bound of the total is below 2^26.
     requires ranges { IsBox (length problem.now.low) costs.now }
     requires lows { All (λ low. 1 ≤ low) costs.now.low }
     requires small { most < 2 ^ 26 }
+
+    // What is found holds by the forms of the rows and that of the total, at its place.
     ensures { IfOk result (IsTotalSought problem.now limits.now.top limits.now.nodes most
         costs.now) }
 {

@@ -70,10 +70,15 @@ fn least_of(graph: &Graph, request: &Request, point: &Point, room: &mut Room) ->
 
 /// Whether at whole costs every other simple path of the request costs more than the wanted one.
 fn is_only(graph: &Graph, request: &Request, point: &Point, room: &mut Room) -> bool
+    // The costs are whole, and the point and the room are ones for the graph.
     requires whole { point.now.scale ≡ 1 }
     requires room { IsRoomFor graph.now room.old }
     requires fits { FitsPoint graph.now point.now }
+
+    // The wanted path is a simple path of its request.
     requires path { IsPathOf graph.now (request_ends request.now) request.now.path.edges }
+
+    // On true no other path of the request is as cheap, and the room may be used again.
     ensures room { IsRoomFor graph.now room.new }
     ensures only { IsTrue result ↔ IsOnlyCheapest graph.now point.now (request_ends request.now)
         request.now.path.edges }
@@ -88,10 +93,15 @@ pub(crate) fn audited(
     point: &Point,
     room: &mut Room,
 ) -> AuditedPath
+    // No cost of the graph is a variable's, and the room is one for the graph.
     requires room { IsRoomFor graph.now room.old }
     requires point { point.now ≡ at_costs [] }
     requires fits { FitsPoint graph.now point.now }
+
+    // The wanted path is a simple path of its request.
     requires path { IsPathOf graph.now (request_ends request.now) request.now.path.edges }
+
+    // Its cost, the least cost and how it stands are told, and the room may be used again.
     ensures room { IsRoomFor graph.now room.new }
     ensures found { IsAudited graph.now request.now result }
 {

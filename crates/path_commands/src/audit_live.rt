@@ -69,10 +69,15 @@ fn left_without(
 
 /// The least cost of the simple paths of a request, None where it has none.
 fn least_left(graph: &Graph, request: &Request, point: &Point, room: &mut Room) -> Option<u128>
+    // The point and the room are ones for the graph.
     requires room { IsRoomFor graph.now room.old }
     requires fits { FitsPoint graph.now point.now }
+
+    // Both ends of the request are vertices of the graph, maybe without a path between them.
     requires start { request.now.path.start < length graph.now.vertices }
     requires end { request.now.end < length graph.now.vertices }
+
+    // None tells that the request has no path left, and the room may be used again.
     ensures room { IsRoomFor graph.now room.new }
     ensures least { IsLeastCost graph.now point.now (request_ends request.now) result }
 {

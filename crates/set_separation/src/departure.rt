@@ -61,15 +61,22 @@ fn departure(
     place: usize,
     number: u32,
 ) -> Option<u128>
+    // The point is one for the graph, and the room has distances to the request's end there.
     requires fits { FitsOutlook outlook.now }
     requires found { HasDistances outlook.now room.now }
+
+    // The tree is one of prefixes of the request's paths, with what each place costs.
     requires tree { HasPrefixTree outlook.now costed.now.tree.now }
     requires costs { IsCosted outlook.now costed.now }
+
+    // The edge begins at the vertex of the place.
     requires place { place ≤ length costed.now.tree.now }
     requires known { number < length outlook.now.graph.now.edges }
     requires from { (edge_at outlook.now.graph.now number).from ≡
         place_vertex outlook.now.graph.now (request_ends outlook.now.request.now)
         costed.now.tree.now place }
+
+    // There is a cost exactly where the edge leaves the tree with a way on to the request's end.
     ensures { MatchOption result
         ((total : ℕ) → DepartsHere outlook.now room.now costed.now place number total → ⊥)
         (λ total. DepartsHere outlook.now room.now costed.now place number total) }
@@ -92,10 +99,15 @@ fn best_at(
     place: usize,
     best: Option<Deviation>,
 ) -> Option<Deviation>
+    // The point is one for the graph, and the room has distances to the request's end there.
     requires fits { FitsOutlook outlook.now }
     requires found { HasDistances outlook.now room.now }
+
+    // The tree is one of prefixes of the request's paths, with what each place costs.
     requires tree { HasPrefixTree outlook.now costed.now.tree.now }
     requires costs { IsCosted outlook.now costed.now }
+
+    // The best of the departures before the place becomes the best of those up to it.
     requires place { place ≤ length costed.now.tree.now }
     requires best { IsBestOffer (DepartsHere outlook.now room.now costed.now)
         (λ earlier e. earlier < place) best }

@@ -45,14 +45,21 @@ fn cheap_departure(
     costs: &mut [u128],
     room: &Room,
 ) -> Option<Deviation>
+    // The room has the distances below what the request's path and the scale cost at the point.
     requires fits { FitsOutlook outlook.now }
     requires path { HasItsPath outlook.now }
     requires found { CanCompare outlook.now room.now }
+
+    // The tree's paths all cost the same, and `costs` has a number for each of its places.
     requires tree { HasTiedTree outlook.now tree.now }
     requires enough { length tree.now + 1 ≤ length costs.old }
+
+    // Each place gets what its prefix costs.
     ensures costs { ArePlaceCosts outlook.now.graph.now outlook.now.point.now tree.now
         (length tree.now) costs.new }
     ensures count { length costs.new ≡ length costs.old }
+
+    // The best departure costs less than the wanted paths and the scale, or no outsider does.
     ensures best { MatchOption result ((wanted : List (List ℕ)) →
         IsTiedHere outlook.now wanted tree.now → AreOutsidersDear outlook.now wanted)
         (λ best. IsBestOffer (Departs outlook.now.graph.now outlook.now.point.now
@@ -76,13 +83,20 @@ fn cheap_departure(
 
 /// Makes the path that the room keeps the cheapest outsider: up to the place of the best departure it is that place's prefix.
 fn lay_out(outlook: &Outlook<'_>, costed: &CostedTree<'_>, best: Deviation, room: &mut Room)
+    // The room has the distances below what the request's path and the scale cost at the point.
     requires fits { FitsOutlook outlook.now }
     requires found { CanCompare outlook.now room.old }
+
+    // The tree's paths all cost the same, and each of its places has its cost.
     requires tree { HasTiedTree outlook.now costed.now.tree.now }
     requires costs { IsCosted outlook.now costed.now }
+
+    // No departure costs less than this one, and it is below the wanted paths and the scale.
     requires best { IsBestOffer (DepartsHere outlook.now room.old costed.now)
         (λ place e. place ≤ length costed.now.tree.now) (Some best) }
     requires cheap { best.cost < lead_in outlook.now }
+
+    // Only the room's path changes, and becomes the cheapest outsider.
     ensures same { room.new ≡ record room.old { path = room.new.path } }
     ensures cheapest { (wanted : List (List ℕ)) → IsTiedHere outlook.now wanted
         costed.now.tree.now → IsCheapestOutsiderHere outlook.now wanted room.new.path }
@@ -102,13 +116,20 @@ pub fn find_outsider(
     costs: &mut [u128],
     room: &mut Room,
 ) -> bool
+    // The room and the point are for the graph, and the request's path is a simple path of it.
     requires room { IsRoomFor outlook.now.graph.now room.old }
     requires fits { FitsOutlook outlook.now }
     requires path { HasItsPath outlook.now }
+
+    // The tree's paths all cost the same, and `costs` has a number for each of its places.
     requires tree { HasTiedTree outlook.now tree.now }
     requires enough { length tree.now + 1 ≤ length costs.old }
+
+    // The room still fits the graph, and `costs` is as long as before.
     ensures room { IsRoomFor outlook.now.graph.now room.new }
     ensures count { length costs.new ≡ length costs.old }
+
+    // On true the room has the cheapest outsider; on false none costs less than path and scale.
     ensures outsider { (wanted : List (List ℕ)) → IsTiedHere outlook.now wanted tree.now →
         MatchBool result (IsCheapestOutsiderHere outlook.now wanted room.new.path)
         (AreOutsidersDear outlook.now wanted) }
@@ -127,13 +148,20 @@ pub fn find_outsider_at_hand(
     costs: &mut [u128],
     room: &mut Room,
 ) -> bool
+    // The room has the distances below what the request's path and the scale cost at the point.
     requires fits { FitsOutlook outlook.now }
     requires path { HasItsPath outlook.now }
     requires found { CanCompare outlook.now room.old }
+
+    // The tree's paths all cost the same, and `costs` has a number for each of its places.
     requires tree { HasTiedTree outlook.now tree.now }
     requires enough { length tree.now + 1 ≤ length costs.old }
+
+    // Only the room's path and the numbers of the places change.
     ensures same { room.new ≡ record room.old { path = room.new.path } }
     ensures count { length costs.new ≡ length costs.old }
+
+    // On true the room has the cheapest outsider; on false none costs less than path and scale.
     ensures outsider { (wanted : List (List ℕ)) → IsTiedHere outlook.now wanted tree.now →
         MatchBool result (IsCheapestOutsiderHere outlook.now wanted room.new.path)
         (AreOutsidersDear outlook.now wanted) }
@@ -157,12 +185,17 @@ pub fn is_undercut(
     costs: &mut [u128],
     room: &Room,
 ) -> bool
+    // The room has the distances below what the request's path and the scale cost at the point.
     requires fits { FitsOutlook outlook.now }
     requires path { HasItsPath outlook.now }
     requires found { CanCompare outlook.now room.now }
+
+    // The tree's paths all cost the same, and `costs` has and keeps a number for each place.
     requires tree { HasTiedTree outlook.now tree.now }
     requires enough { length tree.now + 1 ≤ length costs.old }
     ensures count { length costs.new ≡ length costs.old }
+
+    // It tells whether some outsider costs less than the wanted paths and the scale.
     ensures outsider { (wanted : List (List ℕ)) → IsTiedHere outlook.now wanted tree.now →
         MatchBool result
         (AreOutsidersDear outlook.now wanted → ⊥)

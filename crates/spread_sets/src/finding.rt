@@ -35,11 +35,16 @@ fn search_sets<B: Begun>(
     costs: &CostBox,
     limits: &Limits,
 ) -> Result<Sought, OutOfMemory>
+    // The search begins with this problem and these sets, each with the tree of its paths.
     requires problem { problem.now ≡ B.problem }
     requires sets { sets_in sets.items ≡ B.sets }
     requires trees { All (HasTree problem.now) sets.items }
+
+    // The box has a range for each variable, of costs from 1 on.
     requires ranges { IsBox (length problem.now.low) costs.now }
     requires lows { All (λ low. 1 ≤ low) costs.now.low }
+
+    // What is found holds by the forms of rows of the sets.
     ensures { IfOk result (IsSpreadSought problem.now (sets_in sets.items) limits.now.top
         limits.now.nodes costs.now) }
 {

@@ -215,11 +215,16 @@ impl SetAsker {
 
     /// Looks for the distances that serve the set at a place of the order, and those behind it that share them.
     fn look(&mut self, survey: &SetSurvey<'_>, place: usize) -> Reach
+        // The asker is one for these sets, the point is one of costs, and the order has the place.
         requires asker { IsAskerOfSets survey.now.problem.now survey.now.sets.now self.old }
         requires point { IsCostPoint (length survey.now.problem.now.low) survey.now.point.now }
         requires place { place < length self.old.order }
+
+        // Only the room changes, and the asker is still one for these sets.
         ensures asker { IsAskerOfSets survey.now.problem.now survey.now.sets.now self.new }
         ensures same { self.new ≡ record self.old { room = self.new.room } }
+
+        // The room has the distances up to what the set's outsiders are compared with.
         ensures ready { IsReadyForSet survey.now self.new.room (slice_index self.old.order place)
             result }
     {
@@ -256,12 +261,19 @@ impl SetAsker {
     /// Sees to it that the room has the distances that serve the set at a place of the order. It keeps those that it has
     /// where they serve that one too.
     fn prepare(&mut self, survey: &SetSurvey<'_>, place: usize, reach: Option<Reach>) -> Reach
+        // The asker is one for these sets, the point is one of costs, and the order has the place.
         requires asker { IsAskerOfSets survey.now.problem.now survey.now.sets.now self.old }
         requires point { IsCostPoint (length survey.now.problem.now.low) survey.now.point.now }
         requires place { place < length self.old.order }
+
+        // What is known of the room, if anything, is that its distances serve some set.
         requires reach { MayReach survey.now self.old.room reach }
+
+        // Only the room changes, and the asker is still one for these sets.
         ensures asker { IsAskerOfSets survey.now.problem.now survey.now.sets.now self.new }
         ensures same { self.new ≡ record self.old { room = self.new.room } }
+
+        // The room has the distances up to what the set's outsiders are compared with.
         ensures ready { IsReadyForSet survey.now self.new.room (slice_index self.old.order place)
             result }
     {
@@ -279,13 +291,18 @@ impl SetAsker {
     /// Whether the set at a place of the order, whose members tie, has an outsider that costs less than they and the scale;
     /// the room has the distances that serve it.
     fn is_undercut_at(&mut self, survey: &SetSurvey<'_>, place: usize) -> bool
+        // The asker is one for these sets, the point is one of costs, and the order has the place.
         requires asker { IsAskerOfSets survey.now.problem.now survey.now.sets.now self.old }
         requires point { IsCostPoint (length survey.now.problem.now.low) survey.now.point.now }
         requires place { place < length self.old.order }
+
+        // The members tie, and the room has the distances up to what outsiders are compared with.
         requires tied { AreTied survey.now.problem.now survey.now.point.now
             (members_seen survey.now self.old place) }
         requires found { CanCompareSet survey.now (members_seen survey.now self.old place)
             self.old.room }
+
+        // The asker is as before, and on false every outsider costs at least the scale more.
         ensures same { self.new ≡ self.old }
         ensures answer { MatchBool result (OutsidersAreDearer survey.now.problem.now
             survey.now.point.now (members_seen survey.now self.old place) → ⊥)
@@ -312,13 +329,18 @@ impl SetAsker {
         survey: &SetSurvey<'_>,
         place: usize,
     ) -> Result<Option<Listed<u32>>, OutOfMemory>
+        // The asker is one for these sets, the point is one of costs, and the order has the place.
         requires asker { IsAskerOfSets survey.now.problem.now survey.now.sets.now self.old }
         requires point { IsCostPoint (length survey.now.problem.now.low) survey.now.point.now }
         requires place { place < length self.old.order }
+
+        // The members tie, and the room has the distances up to what outsiders are compared with.
         requires tied { AreTied survey.now.problem.now survey.now.point.now
             (members_seen survey.now self.old place) }
         requires found { CanCompareSet survey.now (members_seen survey.now self.old place)
             self.old.room }
+
+        // Only the room's path changes, and after None each outsider costs at least the scale more.
         ensures same { self.new ≡ record self.old {
           room = record self.old.room
               { path = self.new.room.path };

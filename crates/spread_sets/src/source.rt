@@ -342,12 +342,17 @@ impl<'a, B: Begun> Spreads<'a, B> {
         point: &Point,
         pool: &mut FormPool,
     ) -> Result<Asked, OutOfMemory>
+        // The rows are in step with the pool, no form of which is negative at the point of costs.
         requires in_step { IsPoolOfSets self.old pool.old }
         requires point { IsCostPoint (length self.old.problem.low) point.now }
         requires met { AreMet pool.old point.now }
+
+        // Nothing comes exactly where each set shares at the point, and what comes are true forms.
         ensures asked { IfOk result (AreAllSetsAsked point.now self.old pool.old self.new
             pool.new) }
         ensures grows { Grows (IsTrueOfSets self.old.problem self.old.sets) pool.old pool.new }
+
+        // The problem and its sets are as before.
         ensures problem { self.new.problem ≡ self.old.problem }
         ensures sets { self.new.sets ≡ self.old.sets }
     {
