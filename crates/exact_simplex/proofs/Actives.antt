@@ -1,7 +1,7 @@
 -- What a tableau's table keeps, in each of its two representations.
 use Rattle.std.proofs.Common.{◌≡◌, ℕ, refl, sym, ◌∙◌, subst, List, [], length, true, false, Bool, arith}
 use Rattle.std.specs.declared.result.Result.TheVariants.{Ok, Err}
-use Rattle.std.specs.Prelude.{Result, IfOk, OnErr, OnOk, ◌<◌, ◌≤◌, pos, ◌≤ℤ◌, All}
+use Rattle.std.specs.Prelude.{Result, IfOk, OnErr, OnOk, ◌<◌, pos, ◌≤ℤ◌, All}
 use Rattle.std.proofs.lemmas.List.{get_or_default}
 use Rattle.whole_numbers.specs.Fractions.{Fraction}
 use Rattle.whole_numbers.specs.Lists.{number_at}

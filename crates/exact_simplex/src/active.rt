@@ -14,7 +14,7 @@ ghost use Rattle.fraction_table.specs.Tableaus.{FitsBox, IsRebased, starting, wi
 ghost use Rattle.fraction_table.specs.ValidTables.{HasRoom, IsShown, held_of};
 ghost use Rattle.table_kernel.specs.Kernels.{kernel_lines};
 ghost use Rattle.table_kernel.specs.Moves.{MayMove, box_distance};
-ghost use Rattle.table_kernel.specs.Rows.{HasRowPlace, IsCovered};
+ghost use Rattle.table_kernel.specs.Rows.{HasRowPlace, IsCovered, MayAddRow};
 ghost use Rattle.exact_simplex.specs.Actives.{IsActive, IsSoundActive, MayReturn, WasHeldUp, table_of};
 
 use area_graph::Point;
@@ -114,9 +114,7 @@ impl ActiveTable {
     /// `Wide` where a step of the row's line makes a whole number that passes the top. The row was added nevertheless.
     pub fn put_row(&mut self, row: BlankRow) -> Result<(), Wide>
         requires active { IsActive self.old }
-        requires place { HasRowPlace self.old.kernel }
-        requires fits { FitsBox self.old.kernel.table.costs row.form }
-        requires blank { row.line ≡ blank_row (length self.old.kernel.table.costs.low) }
+        requires row { MayAddRow self.old.kernel row }
         ensures held { held_of self.new.kernel.table Open ≡ record {
           top = self.old.kernel.table.top;
           costs = self.old.kernel.table.costs;

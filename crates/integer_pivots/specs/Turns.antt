@@ -4,7 +4,7 @@ use Rattle.whole_numbers.specs.Fractions.{exact_quotient, gcd, lcm}
 use Rattle.whole_numbers.specs.Lists.{number_at}
 use Rattle.integer_pivots.specs.declared.line.Line.{Line}
 use Rattle.integer_pivots.specs.declared.turn.Turn.{Turn}
-use Rattle.integer_pivots.specs.Lines.{no_line}
+use Rattle.integer_pivots.specs.Lines.{IsLine, no_line}
 use Rattle.integer_pivots.specs.Numbers.{greatest_of}
 
 -- The turn of a line with this number at the pivot's column, where the entering form's line has the pivot there: the
@@ -22,6 +22,20 @@ turned_number turn number entering = (turn.multiplier *ℤ number) -ℤ (turn.fa
 pub record StaysSmall (turn : Turn) (line entering : Line) : Type 0 where
   pub numbers : nat_abs turn.multiplier * greatest_of line.numbers + nat_abs turn.factor * greatest_of entering.numbers ≤ 2 ^ 30
   pub own : nat_abs turn.factor * nat_abs entering.denominator ≤ 2 ^ 30
+
+-- a line and the entering one, over as many columns; in one of them the entering one has the pivot, which is positive
+pub record IsAtPivot (column : ℕ) (entering line : Line) : Type 0 where
+  pub turning : IsLine line
+  pub across : IsLine entering
+  pub long : length line.numbers ≡ length entering.numbers
+  pub inside : column < length line.numbers
+  pub pivot : pos 0 <ℤ number_at entering.numbers column
+
+-- the line's numbers, its constant and its denominator stay small in a turn
+pub record MayLineTurn (turn : Turn) (line entering : Line) : Type 0 where
+  pub small : StaysSmall turn line entering
+  pub constant : nat_abs (turned_number turn line.constant entering.constant) ≤ 2 ^ 62
+  pub denominator : nat_abs line.denominator * nat_abs turn.multiplier ≤ 2 ^ 30
 
 -- The line after the pivot stands for the turned numbers over the denominator times the multiplier; at the pivot's
 -- column for the factor times the entering line's denominator.

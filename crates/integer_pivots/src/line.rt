@@ -3,7 +3,7 @@ ghost use Rattle.std.specs.Prelude.{◌≡◌, ℕ, ◌^◌, ◌<◌, ◌≤◌,
 ghost use Prim.Native.Nat.{◌∣◌};
 ghost use Rattle.whole_numbers.specs.Fractions.{exact_quotient, gcd};
 ghost use Rattle.whole_numbers.specs.Lists.{number_at};
-ghost use Rattle.integer_pivots.specs.Lines.{IsInLowestTerms, IsReduced};
+ghost use Rattle.integer_pivots.specs.Lines.{IsLowered, IsReduced, IsReducible};
 ghost use Rattle.integer_pivots.specs.Numbers.{AllWithin};
 
 use crate::bounds::{ENTRY_LIMIT, greatest};
@@ -80,8 +80,7 @@ fn divide(numbers: &mut Listed<i64>, part: i64)
 impl Line {
     /// What the denominator, the constant and all numbers have in common.
     fn common_part(&self) -> i64
-        requires positive { pos 0 <ℤ self.now.denominator }
-        requires sizes { (nat_abs self.now.denominator ≤ 2 ^ 62) × (nat_abs self.now.constant ≤ 2 ^ 62) × AllWithin (2 ^ 62) self.now.numbers }
+        requires { IsReducible (2 ^ 62) self.now }
         ensures positive { pos 0 <ℤ result }
         ensures denominator { nat_abs result ∣ nat_abs self.now.denominator }
         ensures constant { nat_abs result ∣ nat_abs self.now.constant }
@@ -120,15 +119,8 @@ impl Line {
     /// Brings a line into lowest terms: what its denominator, its constant and all its numbers have in common goes out.
     /// Its reach is the greatest of the numbers then.
     pub fn reduce(&mut self)
-        requires positive { pos 0 <ℤ self.old.denominator }
-        requires denominator { nat_abs self.old.denominator ≤ 2 ^ 62 }
-        requires constant { nat_abs self.old.constant ≤ 2 ^ 62 }
-        requires sizes { AllWithin (2 ^ 62) self.old.numbers }
-        ensures reduced { (part : ℕ) × IsReduced self.old self.new part }
-        ensures positive { pos 0 <ℤ self.new.denominator }
-        ensures lowest { IsInLowestTerms self.new }
-        ensures reach_positive { pos 0 ≤ℤ self.new.reach }
-        ensures within { AllWithin (nat_abs self.new.reach) self.new.numbers }
+        requires { IsReducible (2 ^ 62) self.old }
+        ensures lowered { IsLowered self.old self.new }
         ensures least { (most : ℕ) → AllWithin most self.old.numbers → nat_abs self.new.reach ≤ most }
         ensures reached { (most : ℕ) → AllWithin most self.new.numbers → nat_abs self.new.reach ≤ most }
     {
@@ -140,18 +132,11 @@ impl Line {
     /// Brings a line into lowest terms, no number of which passes a size. Over 1 it is so as it stands, and its reach is that
     /// size, unless that is too large.
     pub(crate) fn lower(&mut self, most: i64)
-        requires positive { pos 0 <ℤ self.old.denominator }
-        requires denominator { nat_abs self.old.denominator ≤ 2 ^ 62 }
-        requires constant { nat_abs self.old.constant ≤ 2 ^ 62 }
-        requires sizes { AllWithin (2 ^ 30) self.old.numbers }
+        requires line { IsReducible (2 ^ 30) self.old }
         requires from_zero { pos 0 ≤ℤ most }
         requires most { AllWithin (nat_abs most) self.old.numbers }
-        ensures reduced { (part : ℕ) × IsReduced self.old self.new part }
-        ensures positive { pos 0 <ℤ self.new.denominator }
-        ensures lowest { IsInLowestTerms self.new }
-        ensures reach_positive { pos 0 ≤ℤ self.new.reach }
+        ensures lowered { IsLowered self.old self.new }
         ensures reach { nat_abs self.new.reach ≤ 2 ^ 30 }
-        ensures within { AllWithin (nat_abs self.new.reach) self.new.numbers }
     {
         if self.denominator == 1 && most <= ENTRY_LIMIT {
             self.reach = most;

@@ -5,7 +5,7 @@ ghost use Rattle.whole_numbers.specs.Fractions.{lcm};
 ghost use Rattle.whole_numbers.specs.Lists.{number_at};
 ghost use Rattle.integer_pivots.specs.Lines.{IsInLowestTerms, IsLine};
 ghost use Rattle.integer_pivots.specs.Numbers.{AllWithin};
-ghost use Rattle.integer_pivots.specs.Turns.{AreNonZeros, IsTurnedLine, StaysSmall, turn_at, turn_by, turned_number};
+ghost use Rattle.integer_pivots.specs.Turns.{AreNonZeros, IsAtPivot, IsTurnedLine, MayLineTurn, StaysSmall, turn_at, turn_by, turned_number};
 
 use crate::bounds::{ENTRY_LIMIT, greater_size, greatest};
 use crate::line::{Line, common_with, over};
@@ -177,16 +177,10 @@ impl Line {
 
     /// Turns a line at a pivot's column, and brings it into lowest terms.
     pub fn turn(&mut self, entering: &Line, column: usize, touched: &[usize], turn: Turn)
-        requires line { IsLine self.old }
-        requires entering { IsLine entering.now }
-        requires long { length self.old.numbers ≡ length entering.now.numbers }
-        requires column { column < length self.old.numbers }
+        requires pivot { IsAtPivot column entering.now self.old }
         requires touched { AreNonZeros entering.now.numbers (length entering.now.numbers) touched.now }
-        requires pivot { pos 0 <ℤ number_at entering.now.numbers column }
         requires turn { turn ≡ turn_at entering.now column self.old }
-        requires small { StaysSmall turn self.old entering.now }
-        requires constant { nat_abs (turned_number turn self.old.constant entering.now.constant) ≤ 2 ^ 62 }
-        requires denominator { nat_abs self.old.denominator * nat_abs turn.multiplier ≤ 2 ^ 30 }
+        requires may { MayLineTurn turn self.old entering.now }
         ensures line { IsLine self.new }
         ensures turned { IsTurnedLine turn column entering.now self.old self.new }
         ensures divides { nat_abs self.new.denominator ∣ (nat_abs self.old.denominator * nat_abs turn.multiplier) }

@@ -15,7 +15,7 @@ use Rattle.integer_pivots.specs.Numbers.{AllWithin}
 use Rattle.integer_pivots.proofs.Sizes.{read}
 use Rattle.table_kernel.specs.declared.kernel.Kernel.{Kernel}
 use Rattle.table_kernel.specs.Bases.{AreAtBasis}
-use Rattle.table_kernel.specs.Constants.{AreConstantsPut, KeepsAllButConstants}
+use Rattle.table_kernel.specs.Constants.{AreConstantsPut, KeepsAllButConstants, MayPutConstants}
 use Rattle.table_kernel.specs.Kernels.{IsBounded, IsKernel, IsMoving, IsShaped, kernel_lines, lows_of, width_of}
 use Rattle.table_kernel.specs.Numbers.{fraction_lines, scaled_line}
 use Rattle.table_kernel.specs.ReadBack.{IsLeastCommon, IsParked}
@@ -83,6 +83,16 @@ module _ (k h : Kernel) (leads : Vec ℕ Global) (z : ℤ) (p : IsParked k) (r :
   pub bounded_back : 2 ^ 126 ≤ k.table.top → All IsCovered k.table.rows.items → AreFitting h z → IsBounded (with_leads h leads z)
   bounded_back top rows f =
       bounded_with k h leads z r.keeps top p.constants rows f.least.positive f.least.small f.lines f.least.multiple f.fit
+
+  -- so its constants can be put
+  pub may_put_back : 2 ^ 126 ≤ k.table.top → All IsCovered k.table.rows.items → IsTableau k.table → AreFitting h z →
+      MayPutConstants (with_leads h leads z)
+  may_put_back top rows w f = record {
+    shaped = shaped_back;
+    bounded = bounded_back top rows f;
+    fit = subst (λ (t : Table). All (FitsBox t.costs) t.rows.items) (sym r.keeps.table) w.fit;
+    high = subst (λ (t : Table). length t.costs.high ≡ length t.costs.low) (sym r.keeps.table) w.unboxed.high_count;
+  }
 
   -- its lines are at the table's basis
   basis_back : IsTableau k.table → AreReadFrom k.table h.lows.items → AreFitting h z →

@@ -1,7 +1,7 @@
 -- After a pivot a kernel is one, and its rank rose.
 use Rattle.std.specs.declared.alloc.Global.{Global}
 use Rattle.std.proofs.Common.{Vec, ◌≡◌, ℕ, zero, suc, ◌*◌, ◌^◌, ◌<◌, ◌≤◌, sym, ◌∙◌, ap, subst, List, map, length, arith, zero-add}
-use Rattle.std.specs.Prelude.{ℤ, pos, ◌*ℤ◌, ◌<ℤ◌, nat_abs, slice_set, vec_capacity, All, Some}
+use Rattle.std.specs.Prelude.{ℤ, pos, ◌*ℤ◌, ◌<ℤ◌, nat_abs, slice_set, vec_capacity, All}
 use Rattle.std.proofs.lemmas.List.{get_or_default, length-map}
 use Rattle.cost_base.proofs.ListLemmas.{get_or-map-numbers_from}
 use Rattle.whole_numbers.specs.Fractions.{Fraction}
@@ -29,20 +29,12 @@ use Rattle.integer_pivots.specs.Uses.{held_in, uses_by}
 use Rattle.table_kernel.specs.declared.kernel.Kernel.{Kernel}
 use Rattle.table_kernel.specs.Bases.{AreAtBasis}
 use Rattle.table_kernel.specs.Kernels.{IsBounded, IsKernel, IsShaped, lows_of, stated, width_of}
-use Rattle.table_kernel.specs.Lines.{IsBestColumn, IsEntering, column_of, form_of_place, numbers_of_place}
+use Rattle.table_kernel.specs.Lines.{column_of, form_of_place, numbers_of_place}
 use Rattle.table_kernel.specs.Numbers.{number_at_column, scaled_line}
-use Rattle.table_kernel.specs.Turns.{HasTurned}
+use Rattle.table_kernel.specs.Turns.{HasTurned, IsPivotIn}
 use Rattle.table_kernel.proofs.AtBasis.{crossed_basis, basis_kernel, kernel_basis, scaled_by}
 use Rattle.table_kernel.proofs.Columns.{column_number, line_number, place_is}
 use Rattle.table_kernel.proofs.Turning.{EntersAt, IsTurnOf, basis_turned, column_up, entering_numbers, least_crossed, positive_too, rise_from, rows_crossed}
-
--- What a pivot of a kernel needs.
-pub record IsPivotIn (k : Kernel) (place column : ℕ) : Type 0 where
-  pub kernel : IsKernel k
-  pub place_in : place < length k.constants.items
-  pub below : number_at k.constants.items place <ℤ pos 0
-  pub entering : IsEntering k place
-  pub best : IsBestColumn k (Some column)
 
 -- the numbers of a place's form over the common denominator: the constant, and then those at the columns
 abbrev pub place_numbers : Kernel → ℕ → List ℤ

@@ -13,14 +13,9 @@ use Rattle.integer_pivots.specs.Turns.{AreNonZeros}
 use Rattle.table_kernel.specs.declared.kernel.Kernel.{Kernel}
 use Rattle.table_kernel.specs.Kernels.{IsKernel, stated, width_of}
 use Rattle.table_kernel.specs.Lines.{IsBestColumn, IsEntering, KeepsNumbers}
-use Rattle.table_kernel.specs.Turns.{AreTurns, HasTurned, IsReadyToTurn}
-use Rattle.table_kernel.proofs.Pivoting.{IsPivotIn, forms_kept, kernel_is, rank_rose, with_basis}
+use Rattle.table_kernel.specs.Turns.{AreTurns, HasTurned, IsPivotIn, IsReadyToTurn}
+use Rattle.table_kernel.proofs.Pivoting.{forms_kept, kernel_is, rank_rose, with_basis}
 use Rattle.table_kernel.proofs.SameButRoom.{keeps_kernel, rebuilt, same_stated}
-
-pub pivot_in : (k : Kernel) (place column : ℕ) → IsKernel k → place < length k.constants.items →
-    number_at k.constants.items place <ℤ pos 0 → IsEntering k place → IsBestColumn k (Some column) → IsPivotIn k place column
-pivot_in k place column kernel place_in below entering best =
-    record { kernel = kernel; place_in = place_in; below = below; entering = entering; best = best }
 
 -- where the entering line stays, the turns and the columns that are left alone differ
 left_alone : (k m : Kernel) → KeepsNumbers k m → m.entering ≡ k.entering → m ≡ record k { turns = m.turns; left = m.left }

@@ -13,18 +13,19 @@ use Rattle.whole_numbers.proofs.Divisors.{quotient_positive}
 use Rattle.whole_numbers.proofs.Sizes.{size_positive}
 use Rattle.whole_numbers.specs.Lists.{number_at}
 use Rattle.fraction_table.specs.declared.table.Table.{Table}
+use Rattle.fraction_table.specs.Tableaus.{FitsBox}
 use Rattle.integer_pivots.specs.declared.line.Line.{Line}
 use Rattle.integer_pivots.specs.declared.turn.Turn.{Turn}
 use Rattle.integer_pivots.specs.Leads.{AreLeads}
 use Rattle.integer_pivots.specs.Lines.{IsLine, no_line, rows_of}
 use Rattle.integer_pivots.specs.Numbers.{AllWithin}
-use Rattle.integer_pivots.specs.Turns.{AreTurnedLines, IsTurnedLine, StaysSmall, denominator_after, turn_at, turned_number}
+use Rattle.integer_pivots.specs.Turns.{AreTurnedLines, IsTurnedLine, MayLineTurn, StaysSmall, denominator_after, turn_at, turned_number}
 use Rattle.integer_pivots.proofs.Sizes.{read, size_most}
 use Rattle.table_kernel.specs.declared.kernel.Kernel.{Kernel}
-use Rattle.table_kernel.specs.Constants.{AreConstantsPut, KeepsAllButConstants}
-use Rattle.table_kernel.specs.Kernels.{IsBounded, IsShaped, width_of}
+use Rattle.table_kernel.specs.Constants.{AreConstantsPut, KeepsAllButConstants, MayPutConstants}
+use Rattle.table_kernel.specs.Kernels.{IsBounded, IsKernel, IsShaped, width_of}
 use Rattle.table_kernel.specs.Numbers.{share_of}
-use Rattle.table_kernel.specs.Turns.{AreLinesTurned, ConstantsStaySmall, HasTurned, IsLineReady, IsLineTurned, IsReadyToTurn, KeepsAllButLows, LinesStaySmall, MayLineTurn, MayTurn, line_of, next_common, no_turn, turn_of_line}
+use Rattle.table_kernel.specs.Turns.{AreLinesTurned, ConstantsStaySmall, HasTurned, IsLineReady, IsLineTurned, IsReadyToTurn, KeepsAllButLows, LinesStaySmall, MayTurn, line_of, next_common, no_turn, turn_of_line}
 use Rattle.table_kernel.proofs.CommonSteps.{after_some, common_grows, each_goes_in}
 use Rattle.table_kernel.proofs.StayingWithin.{constant_same, stays, within_share}
 use Rattle.table_kernel.proofs.Lines.{read_common}
@@ -153,7 +154,8 @@ ready_between old mid column v r b v_in =
           ∙ ap (turn_at mid.entering column) (sym own);
     }
 
-may_turn_line : (k : Kernel) (column v : ℕ) → IsReadyToTurn k column → MayTurn k column → v < length k.lows.items → MayLineTurn k column v
+may_turn_line : (k : Kernel) (column v : ℕ) → IsReadyToTurn k column → MayTurn k column → v < length k.lows.items →
+    MayLineTurn (turn_of_line k column v) (line_of k v) k.entering
 may_turn_line k column v r m v_in =
     let after = denominator_after k.entering column (line_of k v) in
     let goes_in = each_goes_in k.entering column k.lows.items (nat_abs k.common) v v_in in
@@ -166,7 +168,7 @@ may_turn_line k column v r m v_in =
     }
 
 pub may_between : (old mid : Kernel) (column v : ℕ) → IsReadyToTurn old column → AreTurnedBefore old mid column v →
-    v < length old.lows.items → MayTurn old column → MayLineTurn mid column v
+    v < length old.lows.items → MayTurn old column → MayLineTurn (turn_of_line mid column v) (line_of mid v) mid.entering
 may_between old mid column v r b v_in may =
     let m = may_turn_line old column v r may v_in in
     let own : line_of mid v ≡ line_of old v = b.rest v (omega arith) in
@@ -320,6 +322,16 @@ leads_put k h column befores afters lows o r turned befores_are lows_are counted
       λ lead. subst (AreLeads (rows_of h.lows.items)) (sym put.0)
           (leads_after k h column befores afters lows o r turned befores_are lows_are moves lead),
     )
+
+-- and then the constants can be put
+pub may_put_after : (k h : Kernel) (column : ℕ) (leads : Vec ℕ Global) (z : ℤ) → IsTurnTested k h column z → IsKernel k →
+    AreLeadsPut k h leads → MayPutConstants (with_leads h leads z)
+may_put_after k h column leads z t m put = record {
+  shaped = shaped_after k h column leads z t m.shaped put.0 (put.1 m.shaped.lead);
+  bounded = bounded_after k h column leads z t m.bounded;
+  fit = subst (λ (u : Table). All (FitsBox u.costs) u.rows.items) (sym t.keeps.table) m.whole.fit;
+  high = subst (λ (u : Table). length u.costs.high ≡ length u.costs.low) (sym t.keeps.table) m.whole.unboxed.high_count;
+}
 
 -- the tests tell that the kernel may turn
 pub may_turn : (k : Kernel) (column : ℕ) (common : ℤ) → LinesStaySmall k column →

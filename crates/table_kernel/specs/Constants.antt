@@ -1,5 +1,5 @@
 -- The constants of all forms of a kernel, by its lines of x - low.
-use Rattle.std.specs.Prelude.{◌≡◌, ℕ, ◌+◌, ◌*◌, ◌^◌, ◌<◌, ◌≤◌, List, ℤ, pos, ◌-ℤ◌, ◌*ℤ◌, ◌<ℤ◌, nat_abs, length, slice_index, slice_index_or}
+use Rattle.std.specs.Prelude.{◌≡◌, ℕ, ◌+◌, ◌*◌, ◌^◌, ◌<◌, ◌≤◌, List, ℤ, pos, ◌-ℤ◌, ◌*ℤ◌, ◌<ℤ◌, nat_abs, length, slice_index, slice_index_or, All}
 use Prim.Native.Nat.{◌∣◌}
 use Rattle.whole_numbers.specs.Lists.{number_at}
 use Rattle.design_problem.specs.declared.form.CostBox.{CostBox}
@@ -7,13 +7,14 @@ use Rattle.design_problem.specs.declared.form.Form.{Form}
 use Rattle.design_problem.specs.declared.tree.Member.TheVariants.{Low}
 use Rattle.design_problem.specs.Basis.{member_form}
 use Rattle.design_problem.specs.Forms.{no_form}
+use Rattle.fraction_table.specs.Tableaus.{FitsBox}
 use Rattle.fraction_table.specs.ValidTables.{members_of_box, number_of_form}
 use Rattle.integer_pivots.specs.declared.line.Line.{Line}
 use Rattle.integer_pivots.specs.Lines.{no_line}
 use Rattle.table_kernel.specs.declared.kernel.Kernel.{Kernel}
-use Rattle.table_kernel.specs.Kernels.{lows_of, width_of}
+use Rattle.table_kernel.specs.Kernels.{IsBounded, IsShaped, lows_of, width_of}
 use Rattle.table_kernel.specs.Numbers.{share_of}
-use Rattle.table_kernel.specs.Rows.{row_constant_of}
+use Rattle.table_kernel.specs.Rows.{IsCovered, row_constant_of}
 
 -- the constant of a line over the common denominator
 abbrev pub line_constant : ℤ → Line → ℤ
@@ -68,3 +69,26 @@ pub record AreByFirst (k : Kernel) (constants : List ℤ) : Type 0 where
 -- the constants of x - low for each variable, which stand first, are at most 2^44
 abbrev pub AreFirstSmall : Kernel → List ℤ → Type 0
 AreFirstSmall k constants = (v : ℕ) → v < width_of k → nat_abs (number_at constants v) ≤ 2 ^ 44
+
+-- the constants of x - low are small, and the others are what they make of them
+pub record AreMadeByFirst (k : Kernel) (constants : List ℤ) : Type 0 where
+  pub small : AreFirstSmall k constants
+  pub others : AreByFirst k constants
+
+-- for each variable of the box both bounds, a line of x - low, and a place for each of its two constants
+pub record HavePlacesOfBox (costs : CostBox) (lines : List Line) (constants : List ℤ) : Type 0 where
+  pub high : length costs.high ≡ length costs.low
+  pub variables : length lines ≡ length costs.low
+  pub places : length costs.low + length costs.low ≤ length constants
+
+-- rows that fit the box and are covered
+pub record AreCoveredRows (costs : CostBox) (rows : List Form) : Type 0 where
+  pub fit : All (FitsBox costs) rows
+  pub light : All IsCovered rows
+
+-- a kernel's lists and sizes are those of one; its box has both bounds of each variable, and its rows fit the box
+pub record MayPutConstants (k : Kernel) : Type 0 where
+  pub shaped : IsShaped k
+  pub bounded : IsBounded k
+  pub fit : All (FitsBox k.table.costs) k.table.rows.items
+  pub high : length k.table.costs.high ≡ width_of k

@@ -2,7 +2,8 @@
 use Rattle.std.specs.Prelude.{◌≡◌, ℕ, ◌^◌, ◌<◌, ◌≤◌, List, ℤ, ◌+ℤ◌, ◌*ℤ◌, vec_capacity, vec_len}
 use Rattle.design_problem.specs.declared.form.Form.{Form}
 use Rattle.design_problem.specs.Forms.{value_for_costs}
-use Rattle.fraction_table.specs.RowLines.{HasPlace}
+use Rattle.fraction_table.specs.declared.add_row.BlankRow.{BlankRow}
+use Rattle.fraction_table.specs.RowLines.{HasPlace, IsBlankRow}
 use Rattle.integer_pivots.specs.Numbers.{product_sum, weight_of}
 use Rattle.integer_pivots.specs.Uses.{HaveRoom, held_in}
 use Rattle.table_kernel.specs.declared.kernel.Kernel.{Kernel}
@@ -31,3 +32,8 @@ pub record HasRowPlace (k : Kernel) : Type 0 where
   pub table : HasPlace k.table
   pub constants : vec_len k.constants < vec_capacity k.constants
   pub uses : HaveRoom k.uses.items
+
+-- a row that fits the kernel's box, with a line of zeros; and there is a place for it
+pub record MayAddRow (k : Kernel) (row : BlankRow) : Type 0 where
+  pub place : HasRowPlace k
+  pub blank : IsBlankRow k.table.costs row.form row.line

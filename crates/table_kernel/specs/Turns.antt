@@ -10,7 +10,7 @@ use Rattle.integer_pivots.specs.Numbers.{AllWithin}
 use Rattle.integer_pivots.specs.Turns.{AreTurnedLines, IsTurnedLine, StaysSmall, common_after, denominator_after, turn_at, turned_number}
 use Rattle.table_kernel.specs.declared.kernel.Kernel.{Kernel}
 use Rattle.table_kernel.specs.Constants.{AreConstantsPut}
-use Rattle.table_kernel.specs.Kernels.{width_of}
+use Rattle.table_kernel.specs.Kernels.{IsKernel, width_of}
 use Rattle.table_kernel.specs.Lines.{IsBestColumn, IsEntering, IsLineTooLarge, IsPivotPlace}
 use Rattle.table_kernel.specs.Numbers.{share_of}
 
@@ -44,6 +44,14 @@ pub record MayTurn (k : Kernel) (column : ℕ) : Type 0 where
   pub lines : LinesStaySmall k column
   pub common : next_common k column ≤ 2 ^ 30
   pub constants : ConstantsStaySmall k column (next_common k column)
+
+-- a place whose form is negative at the basis; its line is the entering one, and the column is a best one
+pub record IsPivotIn (k : Kernel) (place column : ℕ) : Type 0 where
+  pub kernel : IsKernel k
+  pub place_in : place < length k.constants.items
+  pub below : number_at k.constants.items place <ℤ pos 0
+  pub entering : IsEntering k place
+  pub best : IsBestColumn k (Some column)
 
 -- the pivot at a place's line and its best column isn't covered
 pub record IsRefusedAt (k : Kernel) (place : ℕ) : Type 0 where
@@ -97,12 +105,6 @@ pub record IsLineReady (k : Kernel) (column var : ℕ) : Type 0 where
   pub pivot : pos 0 <ℤ number_at k.entering.numbers column
   pub held : var < length k.turns.items
   pub turn : held_turn k var ≡ turn_of_line k column var
-
--- the line's numbers, its constant and its denominator stay small in that turn
-pub record MayLineTurn (k : Kernel) (column var : ℕ) : Type 0 where
-  pub small : StaysSmall (turn_of_line k column var) (line_of k var) k.entering
-  pub constant : nat_abs (turned_number (turn_of_line k column var) (line_of k var).constant k.entering.constant) ≤ 2 ^ 62
-  pub denominator : denominator_after k.entering column (line_of k var) ≤ 2 ^ 30
 
 -- what a turn of lines leaves as it is
 pub record KeepsAllButLows (old new : Kernel) : Type 0 where

@@ -7,9 +7,9 @@ ghost use Rattle.fraction_table.specs.Tableaus.{FitsBox, wide_at};
 ghost use Rattle.fraction_table.specs.ValidTables.{HasRoom, IsTableau, held_of};
 ghost use Rattle.fraction_table.specs.declared.stage.Stage.TheVariants.{Open};
 ghost use Rattle.integer_pivots.specs.Numbers.{weight_of};
-ghost use Rattle.table_kernel.specs.Kernels.{IsKernel, width_of};
+ghost use Rattle.table_kernel.specs.Kernels.{IsKernel};
 ghost use Rattle.table_kernel.specs.ReadBack.{IsParked};
-ghost use Rattle.table_kernel.specs.Rows.{HasRowPlace, HoldsNumbers, IsCovered};
+ghost use Rattle.table_kernel.specs.Rows.{HasRowPlace, HoldsNumbers, IsCovered, MayAddRow};
 
 use crate::Kernel;
 use crate::constants::row_constant;
@@ -68,10 +68,8 @@ impl Kernel {
     /// Adds a row for which there is room, and which is covered.
     pub fn put_row(&mut self, row: BlankRow)
         requires kernel { IsKernel self.old }
-        requires place { HasRowPlace self.old }
-        requires fits { FitsBox self.old.table.costs row.form }
+        requires row { MayAddRow self.old row }
         requires covered { IsCovered row.form }
-        requires blank { row.line ≡ blank_row (width_of self.old) }
         ensures kernel { IsKernel self.new }
         ensures held { held_of self.new.table Open ≡
             record {
@@ -103,9 +101,7 @@ impl Kernel {
     pub fn park_row(&mut self, row: BlankRow) -> Result<(), Wide>
         requires parked { IsParked self.old }
         requires whole { IsTableau self.old.table }
-        requires place { HasRowPlace self.old }
-        requires fits { FitsBox self.old.table.costs row.form }
-        requires blank { row.line ≡ blank_row (width_of self.old) }
+        requires row { MayAddRow self.old row }
         ensures holds { HoldsRow self.old.table row.form self.new.table }
         ensures room { HasRoom self.new.table }
         ensures whole { OnOk result (IsTableau self.new.table) }

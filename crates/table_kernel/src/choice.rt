@@ -1,7 +1,7 @@
 //! The choice of a pivot's column.
-ghost use Rattle.std.specs.Prelude.{◌≡◌, ◌+◌, ◌^◌, ◌<◌, length, vec_capacity, vec_len};
-ghost use Rattle.integer_pivots.specs.Lines.{IsLine, rows_of};
-ghost use Rattle.table_kernel.specs.Choices.{AreColumnsLeft};
+ghost use Rattle.std.specs.Prelude.{◌≡◌, ◌+◌, ◌^◌, ◌<◌, length, vec_capacity};
+ghost use Rattle.integer_pivots.specs.Lines.{IsLine};
+ghost use Rattle.table_kernel.specs.Choices.{HasColumnsLeft};
 ghost use Rattle.table_kernel.specs.Kernels.{IsKernel};
 ghost use Rattle.table_kernel.specs.Lines.{IsBestColumn, KeepsNumbers};
 
@@ -14,10 +14,8 @@ impl Kernel {
         requires kernel { IsKernel self.old }
         requires line { IsLine self.old.entering }
         requires var { var < length self.old.lows.items }
-        requires some { 0 < vec_len self.old.left }
-        requires left { AreColumnsLeft (rows_of self.old.lows.items) self.old.entering.numbers var self.old.left.items }
-        ensures left { AreColumnsLeft (rows_of self.new.lows.items) self.new.entering.numbers (var + 1) self.new.left.items }
-        ensures some { 0 < vec_len self.new.left }
+        requires left { HasColumnsLeft self.old var }
+        ensures left { HasColumnsLeft self.new (var + 1) }
         ensures room { vec_capacity self.new.left ≡ vec_capacity self.old.left }
         ensures keeps { self.new ≡ record self.old { left = self.new.left } }
     {
@@ -32,10 +30,8 @@ impl Kernel {
     fn look_at_all(&mut self, first: usize)
         requires kernel { IsKernel self.old }
         requires line { IsLine self.old.entering }
-        requires some { 0 < vec_len self.old.left }
-        requires left { AreColumnsLeft (rows_of self.old.lows.items) self.old.entering.numbers first self.old.left.items }
-        ensures left { AreColumnsLeft (rows_of self.new.lows.items) self.new.entering.numbers (length self.new.lows.items) self.new.left.items }
-        ensures some { 0 < vec_len self.new.left }
+        requires left { HasColumnsLeft self.old first }
+        ensures left { HasColumnsLeft self.new (length self.new.lows.items) }
         ensures room { vec_capacity self.new.left ≡ vec_capacity self.old.left }
         ensures keeps { self.new ≡ record self.old { left = self.new.left } }
     {

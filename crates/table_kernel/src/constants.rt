@@ -6,8 +6,8 @@ ghost use Rattle.design_problem.specs.Forms.{no_form};
 ghost use Rattle.fraction_table.specs.Tableaus.{FitsBox};
 ghost use Rattle.integer_pivots.specs.Lines.{no_line};
 ghost use Rattle.integer_pivots.specs.Numbers.{AllWithin, product_sum};
-ghost use Rattle.table_kernel.specs.Constants.{AreByFirst, AreConstantsPut, AreFirstSmall, IsShortConstant, KeepsAllButConstants, constant_of_line, high_constant, line_constant};
-ghost use Rattle.table_kernel.specs.Kernels.{IsBounded, IsShaped, width_of};
+ghost use Rattle.table_kernel.specs.Constants.{AreByFirst, AreConstantsPut, AreCoveredRows, AreMadeByFirst, HavePlacesOfBox, IsShortConstant, KeepsAllButConstants, MayPutConstants, constant_of_line, high_constant, line_constant};
+ghost use Rattle.table_kernel.specs.Kernels.{width_of};
 ghost use Rattle.table_kernel.specs.Rows.{IsCovered, row_constant_of};
 ghost use Rattle.table_kernel.specs.Turns.{held_turn};
 
@@ -86,9 +86,7 @@ fn constant_of_high(low: u16, high: u16, common: i64, constant: i64) -> i64
 
 /// Puts the constants of x - low and of high - x for each variable first.
 fn put_bound_constants(constants: &mut [i64], lines: &[Line], costs: &CostBox, common: i64)
-    requires many { length costs.now.low + length costs.now.low ≤ length constants.old }
-    requires high { length costs.now.high ≡ length costs.now.low }
-    requires lines { length lines.now ≡ length costs.now.low }
+    requires places { HavePlacesOfBox costs.now lines.now constants.old }
     requires short { All (IsShortConstant common) lines.now }
     requires common { (pos 0 <ℤ common) × (common ≤ℤ pos (2 ^ 30)) }
     ensures count { length constants.new ≡ length constants.old }
@@ -109,8 +107,7 @@ fn put_bound_constants(constants: &mut [i64], lines: &[Line], costs: &CostBox, c
 /// Puts the constants of the rows behind those of the box's forms.
 fn put_row_constants(constants: &mut [i64], rows: &[Form], costs: &CostBox, common: i64)
     requires many { length costs.now.low + length costs.now.low + length rows.now ≤ length constants.old }
-    requires fit { All (FitsBox costs.now) rows.now }
-    requires light { All IsCovered rows.now }
+    requires rows { AreCoveredRows costs.now rows.now }
     requires common { (pos 0 <ℤ common) × (common ≤ℤ pos (2 ^ 30)) }
     requires constants { (v : ℕ) → v < length costs.now.low → nat_abs (number_at constants.old v) ≤ 2 ^ 44 }
     ensures count { length constants.new ≡ length constants.old }
@@ -129,10 +126,7 @@ fn put_row_constants(constants: &mut [i64], rows: &[Form], costs: &CostBox, comm
 impl Kernel {
     /// Puts the constants of all forms, by the lines of x - low, the common denominator and the box.
     pub fn put_constants(&mut self)
-        requires shaped { IsShaped self.old }
-        requires bounded { IsBounded self.old }
-        requires fit { All (FitsBox self.old.table.costs) self.old.table.rows.items }
-        requires high { length self.old.table.costs.high ≡ width_of self.old }
+        requires { MayPutConstants self.old }
         ensures constants { AreConstantsPut self.old self.new.constants.items }
         ensures small { AllWithin (2 ^ 62) self.new.constants.items }
         ensures keeps { KeepsAllButConstants self.old self.new }
@@ -153,13 +147,9 @@ impl Kernel {
 
     /// Lets the constants of a variable's forms, and those of the rows that use it, follow its line.
     fn follow(&mut self, var: usize)
-        requires shaped { IsShaped self.old }
-        requires bounded { IsBounded self.old }
-        requires fit { All (FitsBox self.old.table.costs) self.old.table.rows.items }
-        requires high { length self.old.table.costs.high ≡ width_of self.old }
+        requires kernel { MayPutConstants self.old }
         requires var { var < width_of self.old }
-        requires first { AreFirstSmall self.old self.old.constants.items }
-        requires by_first { AreByFirst self.old self.old.constants.items }
+        requires made { AreMadeByFirst self.old self.old.constants.items }
         ensures by_first { AreByFirst self.old self.new.constants.items }
         ensures own { number_at self.new.constants.items var ≡ constant_of_line self.old var }
         ensures others { (v : ℕ) → v < width_of self.old → v ≢ var → number_at self.new.constants.items v ≡ number_at self.old.constants.items v }
@@ -183,12 +173,8 @@ impl Kernel {
 
     /// Lets the constants of all forms follow the lines that have turned, over the common denominator as it was.
     pub fn follow_lines(&mut self)
-        requires shaped { IsShaped self.old }
-        requires bounded { IsBounded self.old }
-        requires fit { All (FitsBox self.old.table.costs) self.old.table.rows.items }
-        requires high { length self.old.table.costs.high ≡ width_of self.old }
-        requires first { AreFirstSmall self.old self.old.constants.items }
-        requires by_first { AreByFirst self.old self.old.constants.items }
+        requires kernel { MayPutConstants self.old }
+        requires made { AreMadeByFirst self.old self.old.constants.items }
         requires stays { (v : ℕ) → v < width_of self.old → (held_turn self.old v).factor ≡ pos 0 → number_at self.old.constants.items v ≡ constant_of_line self.old v }
         ensures constants { AreConstantsPut self.old self.new.constants.items }
         ensures small { AllWithin (2 ^ 62) self.new.constants.items }

@@ -6,10 +6,10 @@ ghost use Rattle.whole_numbers.specs.Lists.{number_at};
 ghost use Rattle.fraction_table.specs.Pivots.{KeepsBoxAndRows};
 ghost use Rattle.fraction_table.specs.Ranks.{rank};
 ghost use Rattle.integer_pivots.specs.Lines.{IsLine};
-ghost use Rattle.integer_pivots.specs.Turns.{AreNonZeros, StaysSmall, denominator_after};
+ghost use Rattle.integer_pivots.specs.Turns.{AreNonZeros, MayLineTurn, StaysSmall, denominator_after};
 ghost use Rattle.table_kernel.specs.Kernels.{IsKernel, stated, width_of};
-ghost use Rattle.table_kernel.specs.Lines.{IsBestColumn, IsEntering, KeepsNumbers};
-ghost use Rattle.table_kernel.specs.Turns.{AreLinesTurned, AreTurns, ConstantsStaySmall, HasTurned, IsLineReady, IsLineTurned, IsReadyToTurn, KeepsAllButLows, LinesStaySmall, MayLineTurn, MayTurn, constant_size, line_of, next_common, turn_of_line};
+ghost use Rattle.table_kernel.specs.Lines.{KeepsNumbers};
+ghost use Rattle.table_kernel.specs.Turns.{AreLinesTurned, AreTurns, ConstantsStaySmall, HasTurned, IsLineReady, IsLineTurned, IsPivotIn, IsReadyToTurn, KeepsAllButLows, LinesStaySmall, MayTurn, constant_size, line_of, next_common, turn_of_line};
 
 use crate::Kernel;
 use crate::kernel::OutOfRange;
@@ -156,7 +156,7 @@ impl Kernel {
     fn turn_line(&mut self, var: usize, column: usize)
         requires ready { IsLineReady self.old column var }
         requires touched { AreNonZeros self.old.entering.numbers (width_of self.old) self.old.left.items }
-        requires may { MayLineTurn self.old column var }
+        requires may { MayLineTurn (turn_of_line self.old column var) (line_of self.old var) self.old.entering }
         ensures turned { IsLineTurned self.old self.new column var }
         ensures keeps { KeepsAllButLows self.old self.new }
     {
@@ -266,11 +266,7 @@ impl Kernel {
     ///
     /// `OutOfRange` where the bounds don't cover that. Then the kernel's numbers are as before.
     pub fn pivot(&mut self, place: usize, column: usize) -> Result<(), OutOfRange>
-        requires kernel { IsKernel self.old }
-        requires place { place < length self.old.constants.items }
-        requires below { number_at self.old.constants.items place <ℤ pos 0 }
-        requires entering { IsEntering self.old place }
-        requires best { IsBestColumn self.old (Some column) }
+        requires { IsPivotIn self.old place column }
         ensures kernel { IsKernel self.new }
         ensures rises { OnOk result (rank (stated self.old) < rank (stated self.new)) }
         ensures keeps { KeepsBoxAndRows (stated self.old) (stated self.new) }

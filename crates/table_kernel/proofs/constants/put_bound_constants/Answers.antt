@@ -14,12 +14,12 @@ use Rattle.table_kernel.proofs.constants.put_bound_constants.Goals as goal
 line_is : (c : After-index-lines-var) → c.index-lines-var.result ≡ slice_index_or c.args.lines.now c.loop-var.var no_line
 line_is c =
     c.index-lines-var.is
-    ∙ get_or_default c.args.lines.now c.loop-var.var _ no_line (omega (arith, c.loop-var-test.true, c.requires.lines, ap length c.as_slice-low.ensures))
+    ∙ get_or_default c.args.lines.now c.loop-var.var _ no_line (omega (arith, c.loop-var-test.true, c.requires.places.variables, ap length c.as_slice-low.ensures))
 
 pub constant_over-constant-requires-clause-line : goal.constant_over-constant-requires-clause-line
 constant_over-constant-requires-clause-line c =
     let i = c.loop-var.var in
-    let i_in : i < length c.args.lines.now = omega (arith, c.loop-var-test.true, c.requires.lines, ap length c.as_slice-low.ensures) in
+    let i_in : i < length c.args.lines.now = omega (arith, c.loop-var-test.true, c.requires.places.variables, ap length c.as_slice-low.ensures) in
     let common = read_number c.args.common (omega (arith, size_most c.args.common (2 ^ 30) c.requires.common.0 c.requires.common.1)) in
     subst (λ (z : ℤ). IsShortConstant z c.index-lines-var.result) (sym common)
     (subst (IsShortConstant c.args.common) (sym (line_is (goal.at.constant_over-constant-requires-clause-line c).After-index-lines-var)) (c.requires.short i no_line i_in))
@@ -37,7 +37,7 @@ loop-var-preserved c =
     let y_read = read_number y (omega (arith, c.constant_of_high.ensures.size)) in
     let low : length c.args.costs.now.low ≡ n = ap length (sym c.as_slice-low.ensures) in
     let i_in : i < n = c.loop-var-test.true in
-    let there : n + i < length xs = omega (arith, i_in, v.count, c.requires.many, low) in
+    let there : n + i < length xs = omega (arith, i_in, v.count, c.requires.places.places, low) in
     let here : x ≡ line_constant (to_z w64 (of_z w64 c.args.common)) (slice_index_or c.args.lines.now i no_line) =
     c.constant_over-constant.ensures.constant
     ∙ ap (line_constant (to_z w64 (of_z w64 c.args.common))) (line_is (goal.at.loop-var-preserved c).After-index-lines-var) in

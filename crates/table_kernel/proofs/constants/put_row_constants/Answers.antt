@@ -23,7 +23,7 @@ loop-row-preserved c =
     let there : n + n + i < length xs = omega (arith, i_in, v.count, c.requires.many, low) in
     let form_is : c.index-rows-row.result ≡ slice_index_or c.args.rows.now i no_form =
     c.index-rows-row.is ∙ get_or_default c.args.rows.now i _ no_form i_in in
-    let few = (c.requires.fit i no_form i_in).count in
+    let few = (c.requires.rows.fit i no_form i_in).count in
     let here : x ≡ row_constant_of (to_z w64 (of_z w64 c.args.common)) c.args.costs.now.low c.args.constants.now (slice_index_or c.args.rows.now i no_form) =
     c.row_constant.ensures.constant
     ∙ ap (row_constant_of (to_z w64 (of_z w64 c.args.common)) c.args.costs.now.low xs) form_is

@@ -15,14 +15,14 @@ loop-column-init c =
     common_first line (read c.common_with-part.result) c.requires.positive
     (read_known c.common_with-part.result c.common_with-part.type_inv ∙ c.common_with-part.ensures.value
     ∙ ap₂ (λ (y z : ℤ). pos (gcd (nat_abs y) (nat_abs z)))
-    (read_number line.constant (omega (arith, c.requires.sizes.1)))
-    (read_number line.denominator (omega (arith, c.requires.sizes.0))))
+    (read_number line.constant (omega (arith, c.requires.constant)))
+    (read_number line.denominator (omega (arith, c.requires.denominator))))
 
 pub loop-column-preserved : goal.loop-column-preserved
 loop-column-preserved c =
     let line = c.args.self.now in
     let i = c.loop-column.column in
-    let small = c.requires.sizes.2 i (pos 0) (omega (arith, ap length c.as_slice-numbers.ensures, c.loop-column-test.true)) in
+    let small = c.requires.numbers i (pos 0) (omega (arith, ap length c.as_slice-numbers.ensures, c.loop-column-test.true)) in
     common_more line i (to_z w64 c.loop-column.part-bits) (read c.common_with-part-in-loop-column.result) c.loop-column.invariant
     (read_known c.common_with-part-in-loop-column.result c.common_with-part-in-loop-column.type_inv
     ∙ c.common_with-part-in-loop-column.ensures.value

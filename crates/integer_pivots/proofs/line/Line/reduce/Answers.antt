@@ -1,5 +1,5 @@
 -- What is in common goes out, and the greatest number is the reach.
-use Rattle.std.proofs.Common.{◌^◌, sym, ap, subst, length, arith}
+use Rattle.std.proofs.Common.{rules, ◌^◌, sym, ap, subst, length, arith}
 use Rattle.std.specs.Prelude.{nat_abs}
 use Rattle.integer_pivots.specs.Numbers.{AllWithin}
 use Rattle.integer_pivots.proofs.Sizes.{read, read_known}
@@ -30,12 +30,21 @@ put_over-requires-clause-numbers c = (common (goal.at.put_over-requires-clause-n
 pub greatest-self-requires : goal.greatest-self-requires
 greatest-self-requires c =
     subst (AllWithin (2 ^ 62)) (sym c.as_slice.ensures)
-    (reduced_within c.args.self.now c.put_over.new.self (nat_abs (read c.common_part-part.result)) (2 ^ 62) c.put_over.ensures c.requires.sizes)
+    (reduced_within c.args.self.now c.put_over.new.self (nat_abs (read c.common_part-part.result)) (2 ^ 62) c.put_over.ensures c.requires.numbers)
 
-pub returns-clause-lowest : goal.returns-clause-lowest
-returns-clause-lowest c =
-    lowest_over_common c.args.self.now c.put_over.new.self (read c.common_part-part.result)
-    (common (goal.at.returns-clause-lowest c).After-common_part-part) c.put_over.ensures
+pub returns-clause-lowered : goal.returns-clause-lowered
+returns-clause-lowered c =
+    let old = c.args.self.now in
+    let put = c.put_over.new.self in
+    let r = c.put_over.ensures in
+    record {
+      part = nat_abs (read c.common_part-part.result);
+      reduced = record { positive = r.positive; denominator = r.denominator; constant = r.constant; count = r.count; numbers = r.numbers };
+      positive = search rules;
+      lowest = lowest_over_common old put (read c.common_part-part.result) (common (goal.at.returns-clause-lowered c).After-common_part-part) r;
+      reach_positive = search rules;
+      within = search rules;
+    }
 
 pub returns-clause-least : goal.returns-clause-least
 returns-clause-least c most all =

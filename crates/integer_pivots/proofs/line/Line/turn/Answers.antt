@@ -19,15 +19,15 @@ use Rattle.integer_pivots.proofs.line.Line.turn.Goals.{Start, After-set, After-l
 
 reach_small : (c : Start) → (nat_abs c.args.self.now.reach ≤ 2 ^ 30) × (nat_abs c.args.entering.now.reach ≤ 2 ^ 30)
 reach_small c = (
-  size_of c.args.self.now.reach (2 ^ 30) (c.requires.line.reach_positive, c.requires.line.reach),
-  size_of c.args.entering.now.reach (2 ^ 30) (c.requires.entering.reach_positive, c.requires.entering.reach),
+  size_of c.args.self.now.reach (2 ^ 30) (c.requires.pivot.turning.reach_positive, c.requires.pivot.turning.reach),
+  size_of c.args.entering.now.reach (2 ^ 30) (c.requires.pivot.across.reach_positive, c.requires.pivot.across.reach),
 )
 
 sizes : (c : Start) → (nat_abs c.args.turn.multiplier ≤ 2 ^ 30) × (nat_abs c.args.turn.factor ≤ 2 ^ 30)
 sizes c =
     let small = turn_small (number_at c.args.self.now.numbers c.args.column) (number_at c.args.entering.now.numbers c.args.column) in
-    let number = number_within (nat_abs c.args.self.now.reach) c.args.self.now.numbers c.args.column c.requires.line.numbers in
-    let pivot = number_within (nat_abs c.args.entering.now.reach) c.args.entering.now.numbers c.args.column c.requires.entering.numbers in
+    let number = number_within (nat_abs c.args.self.now.reach) c.args.self.now.numbers c.args.column c.requires.pivot.turning.numbers in
+    let pivot = number_within (nat_abs c.args.entering.now.reach) c.args.entering.now.numbers c.args.column c.requires.pivot.across.numbers in
     let reaches = reach_small c in
     subst (λ (t : Turn). (nat_abs t.multiplier ≤ 2 ^ 30) × (nat_abs t.factor ≤ 2 ^ 30)) (sym c.requires.turn)
     (omega (arith, small.0, pivot, reaches.1), omega (arith, small.1, number, reaches.0))
@@ -35,12 +35,12 @@ sizes c =
 multiplier_positive : (c : Start) → pos 0 <ℤ c.args.turn.multiplier
 multiplier_positive c =
     subst (λ (t : Turn). pos 0 <ℤ t.multiplier) (sym c.requires.turn)
-    (turn_positive (number_at c.args.self.now.numbers c.args.column) (number_at c.args.entering.now.numbers c.args.column) c.requires.pivot)
+    (turn_positive (number_at c.args.self.now.numbers c.args.column) (number_at c.args.entering.now.numbers c.args.column) c.requires.pivot.pivot)
 
 denominator_is : (c : Start) → read (read c.args.self.now.denominator *ℤ read c.args.turn.multiplier) ≡ (c.args.self.now.denominator *ℤ c.args.turn.multiplier)
 denominator_is c =
     product_read c.args.self.now.denominator c.args.turn.multiplier
-    (positive_size c.args.self.now.denominator (2 ^ 30) (c.requires.line.positive, c.requires.line.denominator)) (sizes c).0
+    (positive_size c.args.self.now.denominator (2 ^ 30) (c.requires.pivot.turning.positive, c.requires.pivot.turning.denominator)) (sizes c).0
 
 -- numbers are within a reach as it is read
 as_read : (reach : ℤ) (zs : List ℤ) → nat_abs reach ≤ 2 ^ 30 → AllWithin (nat_abs reach) zs → AllWithin (nat_abs (read reach)) zs
@@ -53,8 +53,8 @@ made c small =
     record {
       multiplier = small.0;
       factor = small.1;
-      own_small = positive_size c.args.entering.now.denominator (2 ^ 30) (c.requires.entering.positive, c.requires.entering.denominator);
-      column_in = c.requires.column;
+      own_small = positive_size c.args.entering.now.denominator (2 ^ 30) (c.requires.pivot.across.positive, c.requires.pivot.across.denominator);
+      column_in = c.requires.pivot.inside;
       mids_count = c.multiply.ensures.count;
       multiplied = c.multiply.ensures.each;
       aways_count = c.take_away.ensures.count;
@@ -66,25 +66,25 @@ made c small =
 within : (c : After-set) → (nat_abs c.args.turn.multiplier ≤ 2 ^ 30) × (nat_abs c.args.turn.factor ≤ 2 ^ 30) → AllWithin (2 ^ 30) c.set.new.self
 within c small =
     made_within c.args.turn c.args.column c.args.entering.now.denominator c.args.self.now.numbers c.args.entering.now.numbers
-    c.multiply.new.numbers c.take_away.new.numbers c.set.new.self (made c small) c.requires.small.numbers c.requires.small.own
+    c.multiply.new.numbers c.take_away.new.numbers c.set.new.self (made c small) c.requires.may.small.numbers c.requires.may.small.own
 
 pub overflow_cast-self : goal.overflow_cast-self
 overflow_cast-self c =
-    let size = c.requires.constant in
+    let size = c.requires.may.constant in
     let t = turned_number c.args.turn c.args.self.now.constant c.args.entering.now.constant in
     subst (FitsSigned w64) (sym (ap wide c.constant_after.ensures ∙ wide_number t (omega (arith, size))))
     (fits_signed_from_abs w64 t (omega (arith, size)))
 
 pub overflow_mul-self : goal.overflow_mul-self
 overflow_mul-self c =
-    let l = c.requires.line in
+    let l = c.requires.pivot.turning in
     product_of_read c.args.self.now.denominator c.args.turn.multiplier
     (positive_size c.args.self.now.denominator (2 ^ 30) (l.positive, l.denominator)) (sizes (goal.at.overflow_mul-self c).Start).0
 
 pub multiply-requires-clause-sizes : goal.multiply-requires-clause-sizes
 multiply-requires-clause-sizes c =
     wider (nat_abs c.args.self.now.reach) (2 ^ 30) c.args.self.now.numbers
-    (reach_small (goal.at.multiply-requires-clause-sizes c).Start).0 c.requires.line.numbers
+    (reach_small (goal.at.multiply-requires-clause-sizes c).Start).0 c.requires.pivot.turning.numbers
 
 pub multiply-requires-clause-multiplier : goal.multiply-requires-clause-multiplier
 multiply-requires-clause-multiplier c =
@@ -95,7 +95,7 @@ pub take_away-requires-clause-sizes : goal.take_away-requires-clause-sizes
 take_away-requires-clause-sizes c =
     let start = (goal.at.take_away-requires-clause-sizes c).Start in
     multiplied_within c.args.turn.multiplier c.args.self.now.numbers c.multiply.new.numbers (sizes start).0
-    (wider (nat_abs c.args.self.now.reach) (2 ^ 30) c.args.self.now.numbers (reach_small start).0 c.requires.line.numbers)
+    (wider (nat_abs c.args.self.now.reach) (2 ^ 30) c.args.self.now.numbers (reach_small start).0 c.requires.pivot.turning.numbers)
     c.multiply.ensures.count c.multiply.ensures.each
 
 pub take_away-requires-clause-factor : goal.take_away-requires-clause-factor
@@ -108,29 +108,36 @@ take_away-requires-clause-line c =
     let numbers = c.args.entering.now.numbers in
     subst (AllWithin (2 ^ 30)) (sym c.as_slice.ensures)
     (wider (nat_abs c.args.entering.now.reach) (2 ^ 30) numbers
-    (reach_small (goal.at.take_away-requires-clause-line c).Start).1 c.requires.entering.numbers)
+    (reach_small (goal.at.take_away-requires-clause-line c).Start).1 c.requires.pivot.across.numbers)
 
 pub overflow_mul-turn : goal.overflow_mul-turn
 overflow_mul-turn c =
-    let e = c.requires.entering in
+    let e = c.requires.pivot.across in
     product_of_read c.args.turn.factor c.args.entering.now.denominator (sizes (goal.at.overflow_mul-turn c).Start).1
     (positive_size c.args.entering.now.denominator (2 ^ 30) (e.positive, e.denominator))
 
-pub lower-requires-clause-positive : goal.lower-requires-clause-positive
-lower-requires-clause-positive c =
-    let start = (goal.at.lower-requires-clause-positive c).Start in
-    subst (λ (z : ℤ). pos 0 <ℤ z) (sym (denominator_is start))
-    (product_high c.args.self.now.denominator c.args.turn.multiplier c.requires.line.positive (multiplier_positive start))
-
-pub lower-requires-clause-denominator : goal.lower-requires-clause-denominator
-lower-requires-clause-denominator c =
-    let start = (goal.at.lower-requires-clause-denominator c).Start in
-    omega (arith, ap nat_abs (denominator_is start), unsigned_abs-mul c.args.self.now.denominator c.args.turn.multiplier, c.requires.denominator)
-
-pub lower-requires-clause-sizes : goal.lower-requires-clause-sizes
-lower-requires-clause-sizes c =
-    let p = goal.at.lower-requires-clause-sizes c in
-    within p.After-set (sizes p.Start)
+pub lower-requires-clause-line : goal.lower-requires-clause-line
+lower-requires-clause-line c =
+    let p = goal.at.lower-requires-clause-line c in
+    let t = turned_number c.args.turn c.args.self.now.constant c.args.entering.now.constant in
+    record {
+      positive = subst (λ (z : ℤ). pos 0 <ℤ z) (sym (denominator_is p.Start))
+          (product_high c.args.self.now.denominator c.args.turn.multiplier c.requires.pivot.turning.positive (multiplier_positive p.Start));
+      denominator = omega (
+        arith,
+        ap nat_abs (denominator_is p.Start),
+        unsigned_abs-mul c.args.self.now.denominator c.args.turn.multiplier,
+        c.requires.may.denominator,
+      );
+      constant = let size = c.requires.may.constant in omega (
+        arith,
+        ap nat_abs (ap (λ (z : ℤ). read (wide z)) c.constant_after.ensures
+            ∙ ap read (wide_number t (omega (arith, size)))
+            ∙ read_number t (omega (arith, size))),
+        size,
+      );
+      numbers = within p.After-set (sizes p.Start);
+    }
 
 pub lower-requires-clause-most : goal.lower-requires-clause-most
 lower-requires-clause-most c =
@@ -138,26 +145,26 @@ lower-requires-clause-most c =
     let most = c.most_after-most.ensures in
     let reaches = reach_small p.Start in
     let result = ap nat_abs (read_known c.most_after-most.result c.most_after-most.type_inv) in
-    let denominator = positive_size c.args.entering.now.denominator (2 ^ 30) (c.requires.entering.positive, c.requires.entering.denominator) in
+    let denominator = positive_size c.args.entering.now.denominator (2 ^ 30) (c.requires.pivot.across.positive, c.requires.pivot.across.denominator) in
     let own = subst (λ (z : ℤ). nat_abs c.args.turn.factor * nat_abs z ≤ nat_abs c.most_after-most.result)
     (read_number c.args.entering.now.denominator (omega (arith, denominator))) most.own in
     made_small c.args.turn c.args.column c.args.entering.now.denominator c.args.self.now.numbers c.args.entering.now.numbers
     c.multiply.new.numbers c.take_away.new.numbers c.set.new.self (made p.After-set (sizes p.Start)) _
     (nat_abs (read c.args.self.now.reach)) (nat_abs (read c.args.entering.now.reach))
-    (as_read c.args.self.now.reach c.args.self.now.numbers reaches.0 c.requires.line.numbers)
-    (as_read c.args.entering.now.reach c.args.entering.now.numbers reaches.1 c.requires.entering.numbers)
+    (as_read c.args.self.now.reach c.args.self.now.numbers reaches.0 c.requires.pivot.turning.numbers)
+    (as_read c.args.entering.now.reach c.args.entering.now.numbers reaches.1 c.requires.pivot.across.numbers)
     (omega (arith, most.numbers, result)) (subst (λ (n : ℕ). nat_abs c.args.turn.factor * nat_abs c.args.entering.now.denominator ≤ n) (sym result) own)
 
 divides : (c : After-lower) →
     read (read c.args.self.now.denominator *ℤ read c.args.turn.multiplier) ≡ (c.args.self.now.denominator *ℤ c.args.turn.multiplier) →
     nat_abs c.lower.new.self.denominator ∣ (nat_abs c.args.self.now.denominator * nat_abs c.args.turn.multiplier)
 divides c is =
-    let r = c.lower.ensures.reduced in
+    let l = c.lower.ensures.lowered in
     subst (λ (n : ℕ). nat_abs c.lower.new.self.denominator ∣ n)
-    (sym (unsigned_abs-mul c.lower.new.self.denominator (pos r.0))
-    ∙ ap nat_abs (sym r.1.denominator ∙ is)
+    (sym (unsigned_abs-mul c.lower.new.self.denominator (pos l.part))
+    ∙ ap nat_abs (sym l.reduced.denominator ∙ is)
     ∙ unsigned_abs-mul c.args.self.now.denominator c.args.turn.multiplier)
-    (dvd-mul_right (nat_abs c.lower.new.self.denominator) r.0)
+    (dvd-mul_right (nat_abs c.lower.new.self.denominator) l.part)
 
 pub returns-clause-divides : goal.returns-clause-divides
 returns-clause-divides c =
@@ -168,15 +175,16 @@ pub returns-clause-line : goal.returns-clause-line
 returns-clause-line c =
     let p = goal.at.returns-clause-line c in
     let some = product_positive (nat_abs c.args.self.now.denominator) (nat_abs c.args.turn.multiplier)
-    (size_positive c.args.self.now.denominator c.requires.line.positive) (size_positive c.args.turn.multiplier (multiplier_positive p.Start)) in
+    (size_positive c.args.self.now.denominator c.requires.pivot.turning.positive) (size_positive c.args.turn.multiplier (multiplier_positive p.Start)) in
     let most = le_of_dvd some (divides p.After-lower (denominator_is p.Start)) in
     let least = c.lower.ensures.reach in
+    let l = c.lower.ensures.lowered in
     record {
-      positive = c.lower.ensures.positive;
-      denominator = omega (arith, ints, most, c.requires.denominator, c.lower.ensures.positive);
-      reach_positive = c.lower.ensures.reach_positive;
-      reach = omega (arith, ints, least, c.lower.ensures.reach_positive);
-      numbers = c.lower.ensures.within;
+      positive = l.positive;
+      denominator = omega (arith, ints, most, c.requires.may.denominator, l.positive);
+      reach_positive = l.reach_positive;
+      reach = omega (arith, ints, least, l.reach_positive);
+      numbers = l.within;
     }
 
 pub returns-clause-turned : goal.returns-clause-turned
@@ -187,17 +195,18 @@ returns-clause-turned c =
     let old = c.args.self.now in
     let entering = c.args.entering.now in
     let new = c.lower.new.self in
-    let part = c.lower.ensures.reduced.0 in
-    let r = c.lower.ensures.reduced.1 in
+    let l = c.lower.ensures.lowered in
+    let part = l.part in
+    let r = l.reduced in
     let counted = made_count t c.args.column entering.denominator old.numbers entering.numbers c.multiply.new.numbers c.take_away.new.numbers c.set.new.self m in
     let D_is : (old.denominator *ℤ t.multiplier) ≡ (new.denominator *ℤ pos part) = sym (denominator_is p.Start) ∙ r.denominator in
     record {
-      positive = c.lower.ensures.positive;
+      positive = l.positive;
       count = r.count ∙ counted;
       constant = scaled new.constant (turned_number t old.constant entering.constant) (old.denominator *ℤ t.multiplier) new.denominator (pos part) D_is
           (sym (ap (λ (z : ℤ). read (wide z)) c.constant_after.ensures
-          ∙ ap read (wide_number (turned_number t old.constant entering.constant) (let e = c.requires.constant in omega (arith, e)))
-          ∙ read_number (turned_number t old.constant entering.constant) (let e = c.requires.constant in omega (arith, e))) ∙ r.constant);
+          ∙ ap read (wide_number (turned_number t old.constant entering.constant) (let e = c.requires.may.constant in omega (arith, e)))
+          ∙ read_number (turned_number t old.constant entering.constant) (let e = c.requires.may.constant in omega (arith, e))) ∙ r.constant);
       others = λ k k_in apart. scaled (number_at new.numbers k) (turned_number t (number_at old.numbers k) (number_at entering.numbers k))
           (old.denominator *ℤ t.multiplier) new.denominator (pos part) D_is
           (sym (made_others t c.args.column entering.denominator old.numbers entering.numbers c.multiply.new.numbers c.take_away.new.numbers
@@ -205,5 +214,5 @@ returns-clause-turned c =
       own = scaled (number_at new.numbers c.args.column) (t.factor *ℤ entering.denominator)
           (old.denominator *ℤ t.multiplier) new.denominator (pos part) D_is
           (sym (made_own t c.args.column entering.denominator old.numbers entering.numbers c.multiply.new.numbers c.take_away.new.numbers
-          c.set.new.self m) ∙ r.numbers c.args.column (omega (arith, c.requires.column, counted)));
+          c.set.new.self m) ∙ r.numbers c.args.column (omega (arith, c.requires.pivot.inside, counted)));
     }

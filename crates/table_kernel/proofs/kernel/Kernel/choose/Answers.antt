@@ -1,6 +1,6 @@
 -- A column that is left at last comes first.
 use Rattle.std.proofs.Common.{◌∙◌, ◌≡◌, sym, ap, subst, length, refl, arith}
-use Rattle.std.specs.Prelude.{vec_len, ◌==◌, true}
+use Rattle.std.specs.Prelude.{vec_len, ◌==◌, false, true}
 use Rattle.std.proofs.lemmas.Bool.Decides.{nat_tests}
 use Rattle.integer_pivots.specs.Lines.{rows_of}
 use Rattle.table_kernel.specs.declared.kernel.Kernel.{Kernel}
@@ -21,10 +21,16 @@ put_latest-latest-requires-clause-leads c =
     ap length c.as_slice-2.ensures.value ∙ s.leads ∙ sym s.entering ∙ ap length (sym c.as_slice.ensures)
 
 pub look_at_all-requires-clause-left : goal.look_at_all-requires-clause-left
-look_at_all-requires-clause-left c = left_of c.args.self.now c.put_latest-latest.result c.put_latest-latest.new.left.items c.requires.kernel
-    (latest_read c.args.self.now c.as_slice.result.now c.as_slice-2.result.now c.put_latest-latest.result
-    c.put_latest-latest.new.left.items c.as_slice.ensures c.as_slice-2.ensures.value
-    c.put_latest-latest.ensures.latest)
+look_at_all-requires-clause-left c =
+    let left = c.put_latest-latest.new.left in
+    let tested : (vec_len left == 0) ≡ false = sym c.is_empty.ensures ∙ c.if-is_empty.false in
+    record {
+      some = grind (arith, nat_tests);
+      columns = left_of c.args.self.now c.put_latest-latest.result c.put_latest-latest.new.left.items c.requires.kernel
+          (latest_read c.args.self.now c.as_slice.result.now c.as_slice-2.result.now c.put_latest-latest.result
+          c.put_latest-latest.new.left.items c.as_slice.ensures c.as_slice-2.ensures.value
+          c.put_latest-latest.ensures.latest);
+    }
 
 pub returns-then-is_empty-clause-best : goal.returns-then-is_empty-clause-best
 returns-then-is_empty-clause-best c =
@@ -41,8 +47,8 @@ returns-clause-best c =
     let k = c.args.self.now in
     let left = c.look_at_all.new.self.left in
     chosen_best k left.items c.index.result.now c.requires.kernel.shaped c.requires.kernel.bounded
-    (subst (λ (m : Kernel). AreColumnsLeft (rows_of m.lows.items) m.entering.numbers (length m.lows.items) left.items) c.look_at_all.ensures.keeps c.look_at_all.ensures.left)
-    (omega (arith, c.look_at_all.ensures.some, left.ok.0))
+    (subst (λ (m : Kernel). AreColumnsLeft (rows_of m.lows.items) m.entering.numbers (length m.lows.items) left.items) c.look_at_all.ensures.keeps c.look_at_all.ensures.left.columns)
+    (omega (arith, c.look_at_all.ensures.left.some, left.ok.0))
     c.index.ensures
 
 pub returns-clause-keeps : goal.returns-clause-keeps

@@ -18,9 +18,9 @@ use Rattle.table_kernel.proofs.kernel.Kernel.follow.Goals as goal
 pub constant_over-constant-requires-clause-line : goal.constant_over-constant-requires-clause-line
 constant_over-constant-requires-clause-line c =
     let k = c.args.self.now in
-    let b = c.requires.bounded in
-    let line = line_read k c.requires.shaped c.args.var c.index.result.now c.requires.var c.index.ensures in
-    let at_in : c.args.var < length k.lows.items = omega (arith, c.requires.var, c.requires.shaped.lows) in
+    let b = c.requires.kernel.bounded in
+    let line = line_read k c.requires.kernel.shaped c.args.var c.index.result.now c.requires.var c.index.ensures in
+    let at_in : c.args.var < length k.lows.items = omega (arith, c.requires.var, c.requires.kernel.shaped.lows) in
     subst (λ (z : ℤ). IsShortConstant z c.index.result.now) (sym (common_read k b))
     (subst (IsShortConstant k.common) (sym line)
     (record { positive = (b.lines c.args.var no_line at_in).positive; divides = b.divides c.args.var no_line at_in; limit = b.low c.args.var no_line at_in }))
@@ -28,38 +28,38 @@ constant_over-constant-requires-clause-line c =
 pub index-requires-2 : goal.index-requires-2
 index-requires-2 c =
     let k = c.args.self.now in
-    omega (arith, c.requires.var, constants_many k c.requires.shaped, k.constants.ok.0)
+    omega (arith, c.requires.var, constants_many k c.requires.kernel.shaped, k.constants.ok.0)
 
 pub overflow_sub-change : goal.overflow_sub-change
 overflow_sub-change c =
-    let change = change_of c.args.self.now c.requires.shaped c.requires.first c.args.var c.constant_over-constant.result c.index-2.result.now
+    let change = change_of c.args.self.now c.requires.kernel.shaped c.requires.made.small c.args.var c.constant_over-constant.result c.index-2.result.now
     c.requires.var c.constant_over-constant.ensures.size c.index-2.ensures in
     fits_signed_from_abs w64 _ (omega (arith, change.size))
 
 pub index_mut-requires : goal.index_mut-requires
 index_mut-requires c =
     let k = c.args.self.now in
-    omega (arith, c.requires.var, constants_many k c.requires.shaped, k.constants.ok.0)
+    omega (arith, c.requires.var, constants_many k c.requires.kernel.shaped, k.constants.ok.0)
 
 pub index_mut-requires-2 : goal.index_mut-requires-2
 index_mut-requires-2 c =
     let k = c.args.self.now in
-    omega (arith, c.requires.var, c.width-width.ensures, constants_many k c.requires.shaped, k.constants.ok.0)
+    omega (arith, c.requires.var, c.width-width.ensures, constants_many k c.requires.kernel.shaped, k.constants.ok.0)
 
 pub index-requires-3 : goal.index-requires-3
 index-requires-3 c =
     let k = c.args.self.now in
-    omega (arith, c.requires.var, lists_many k.uses.items k.table.rows.items (width_of k) c.requires.shaped.uses, k.uses.ok.0)
+    omega (arith, c.requires.var, lists_many k.uses.items k.table.rows.items (width_of k) c.requires.kernel.shaped.uses, k.uses.ok.0)
 
 -- what is read and put before the uses follow
 module _ (c : After-index-3) where
   change_is : IsChange c.args.self.now c.args.var c.constant_over-constant.result c.index-2.result.now
   change_is =
-      change_of c.args.self.now c.requires.shaped c.requires.first c.args.var c.constant_over-constant.result c.index-2.result.now
+      change_of c.args.self.now c.requires.kernel.shaped c.requires.made.small c.args.var c.constant_over-constant.result c.index-2.result.now
       c.requires.var c.constant_over-constant.ensures.size c.index-2.ensures
 
   uses_are : c.index-3.result.now.items ≡ uses_from 0 c.args.self.now.table.rows.items c.args.var
-  uses_are = uses_read c.args.self.now c.requires.shaped c.args.var c.index-3.result.now c.requires.var c.index-3.ensures
+  uses_are = uses_read c.args.self.now c.requires.kernel.shaped c.args.var c.index-3.result.now c.requires.var c.index-3.ensures
 
   puts_are : AreTwoPut c.args.self.now c.args.var c.constant_over-constant.result c.constant_of_high.result c.as_mut_slice.result.now
   puts_are =
@@ -70,8 +70,8 @@ module _ (c : After-index-3) where
   own_is =
       let k = c.args.self.now in
       c.constant_over-constant.ensures.constant
-      ∙ ap (λ (z : ℤ). line_constant z c.index.result.now) (common_read k c.requires.bounded)
-      ∙ ap (line_constant k.common) (line_read k c.requires.shaped c.args.var c.index.result.now c.requires.var c.index.ensures)
+      ∙ ap (λ (z : ℤ). line_constant z c.index.result.now) (common_read k c.requires.kernel.bounded)
+      ∙ ap (line_constant k.common) (line_read k c.requires.kernel.shaped c.args.var c.index.result.now c.requires.var c.index.ensures)
 
   high_is : c.constant_of_high.result ≡ high_constant (slice_index c.args.self.now.table.costs.low c.args.var)
       (slice_index c.args.self.now.table.costs.high c.args.var) c.args.self.now.common c.constant_over-constant.result
@@ -85,7 +85,7 @@ module _ (c : After-index-3) where
       c.constant_of_high.ensures.constant
       ∙ ap (λ (ls : List ℕ). high_constant (slice_index ls v) (slice_index c.as_slice-2.result.now v) (read k.common) (read x)) c.as_slice.ensures
       ∙ ap (λ (hs : List ℕ). high_constant low (slice_index hs v) (read k.common) (read x)) c.as_slice-2.ensures
-      ∙ ap (λ (z : ℤ). high_constant low high z (read x)) (common_read k c.requires.bounded)
+      ∙ ap (λ (z : ℤ). high_constant low high z (read x)) (common_read k c.requires.kernel.bounded)
       ∙ ap (high_constant low high k.common) (read_number x (omega (arith, c.constant_over-constant.ensures.size)))
 
   -- what the uses leave behind the front of the list is all of it
@@ -102,7 +102,7 @@ put_uses-requires-clause-known c i d i_in =
     let k = c.args.self.now in
     let known = uses_known k c.args.var c.index-3.result.now.items (uses_are a) i d i_in in
     let long = puts_long k c.args.var _ _ c.as_mut_slice.result.now (puts_are a) in
-    omega (arith, known, c.width-width.ensures, long, constants_many k c.requires.shaped)
+    omega (arith, known, c.width-width.ensures, long, constants_many k c.requires.kernel.shaped)
 
 pub put_uses-requires-clause-number : goal.put_uses-requires-clause-number
 put_uses-requires-clause-number c = (change_is (goal.at.put_uses-requires-clause-number c).After-index-3).read_size
@@ -114,7 +114,7 @@ put_uses-requires-clause-small c =
     let us = c.index-3.result.now.items in
     let puts = c.as_mut_slice.result.now in
     subst (λ (n : ℕ). All (λ u. nat_abs (number_at puts (n + n + u.row)) + size_in us u.row * 2 ^ 45 ≤ 2 ^ 62) us) (sym c.width-width.ensures)
-    (uses_fit k c.requires.shaped c.requires.bounded c.requires.fit c.args.var us puts (uses_are a) c.requires.first c.requires.by_first
+    (uses_fit k c.requires.kernel.shaped c.requires.kernel.bounded c.requires.kernel.fit c.args.var us puts (uses_are a) c.requires.made.small c.requires.made.others
     (rows_stay k c.args.var _ _ puts c.requires.var (puts_are a)))
 
 -- what the constants end as, by what the uses leave
@@ -131,7 +131,7 @@ module _ (c : After-index-3) (news : List ℤ) (long : length news ≡ length c.
       let x = c.constant_over-constant.result in
       let old = c.index-2.result.now in
       let puts = c.as_mut_slice.result.now in
-      are_followed k c.requires.shaped c.args.var x c.constant_of_high.result _ us puts news
+      are_followed k c.requires.kernel.shaped c.args.var x c.constant_of_high.result _ us puts news
       c.requires.var (uses_are c) (change_is c).is long (puts_are c)
       (λ v v_in. before v (omega (arith, v_in, c.width-width.ensures)))
       (subst (λ (n : ℕ). (row : ℕ) → number_at news (n + n + row)
@@ -140,13 +140,13 @@ module _ (c : After-index-3) (news : List ℤ) (long : length news ≡ length c.
 
   by_first_is : AreByFirst c.args.self.now news
   by_first_is =
-      followed_by_first c.args.self.now c.requires.shaped c.requires.fit c.args.var c.constant_over-constant.result c.constant_of_high.result
-      news c.requires.var (high_is c) c.requires.by_first followed
+      followed_by_first c.args.self.now c.requires.kernel.shaped c.requires.kernel.fit c.args.var c.constant_over-constant.result c.constant_of_high.result
+      news c.requires.var (high_is c) c.requires.made.others followed
 
   small_is : AllWithin (2 ^ 62) news
   small_is =
-      followed_small c.args.self.now c.requires.shaped c.requires.bounded c.requires.fit c.args.var c.constant_over-constant.result
-      c.constant_of_high.result news c.constant_over-constant.ensures.size c.constant_of_high.ensures.size c.requires.first followed by_first_is
+      followed_small c.args.self.now c.requires.kernel.shaped c.requires.kernel.bounded c.requires.kernel.fit c.args.var c.constant_over-constant.result
+      c.constant_of_high.result news c.constant_over-constant.ensures.size c.constant_of_high.ensures.size c.requires.made.small followed by_first_is
 
 pub returns-clause-own : goal.returns-clause-own
 returns-clause-own c =

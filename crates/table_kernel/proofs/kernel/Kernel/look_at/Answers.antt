@@ -9,7 +9,7 @@ use Rattle.table_kernel.proofs.LeftColumns.{one_more, row_long, row_read, row_sm
 use Rattle.table_kernel.proofs.kernel.Kernel.look_at.Goals as goal
 
 pub keep_least-requires-clause-positive : goal.keep_least-requires-clause-positive
-keep_least-requires-clause-positive c = λ d has. subst (λ (line : List ℤ). IsPositiveAt line d) (sym c.as_slice-2.ensures) (c.requires.left.each d has)
+keep_least-requires-clause-positive c = λ d has. subst (λ (line : List ℤ). IsPositiveAt line d) (sym c.as_slice-2.ensures) (c.requires.left.columns.each d has)
 
 pub keep_least-requires-clause-long : goal.keep_least-requires-clause-long
 keep_least-requires-clause-long c =
@@ -32,6 +32,10 @@ returns-clause-left c =
     let left = k.left.items in
     let new = c.keep_least.new.left.items in
     let is = row_read k c.args.var c.index.result.now c.as_slice.result.now c.requires.var c.index.ensures c.as_slice.ensures in
-    one_more (rows_of k.lows.items) k.entering.numbers c.args.var left new (rows_counted k c.args.var c.requires.var) c.requires.left
-    (subst (λ (ns : List ℤ). AreLeast ns k.entering.numbers left new) is
-    (subst (λ (line : List ℤ). AreLeast c.as_slice.result.now line left new) c.as_slice-2.ensures c.keep_least.ensures.least))
+    record {
+      some = c.keep_least.ensures.some;
+      columns = one_more (rows_of k.lows.items) k.entering.numbers c.args.var left new (rows_counted k c.args.var c.requires.var)
+          c.requires.left.columns
+          (subst (λ (ns : List ℤ). AreLeast ns k.entering.numbers left new) is
+          (subst (λ (line : List ℤ). AreLeast c.as_slice.result.now line left new) c.as_slice-2.ensures c.keep_least.ensures.least));
+    }

@@ -20,4 +20,8 @@ pub returns-then-len-eq1-clause-left : goal.returns-then-len-eq1-clause-left
 returns-then-len-eq1-clause-left c =
     let k = c.loop-var.self in
     let one : length k.left.items ≡ 1 = omega (arith, c.if-len-eq1.true, c.len.ensures, k.left.ok.0) in
-    one_left (rows_of k.lows.items) k.entering.numbers c.loop-var.var (length k.lows.items) k.left.items one c.loop-var.invariant.left
+    let l = c.loop-var.invariant.left in
+    record {
+      some = l.some;
+      columns = one_left (rows_of k.lows.items) k.entering.numbers c.loop-var.var (length k.lows.items) k.left.items one l.columns;
+    }

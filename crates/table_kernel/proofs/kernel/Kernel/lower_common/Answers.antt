@@ -1,6 +1,6 @@
 -- The kernel over the lower common denominator, whose constants are put.
 use Rattle.integer_pivots.proofs.Sizes.{read}
-use Rattle.table_kernel.proofs.LoweredCommon.{IsLower, bounded_lower, kernel_lower, lower_least, stated_lower}
+use Rattle.table_kernel.proofs.LoweredCommon.{IsLower, kernel_lower, lower_least, moving_lower, stated_lower}
 use Rattle.table_kernel.proofs.kernel.Kernel.lower_common.Goals.{In-Some}
 use Rattle.table_kernel.proofs.kernel.Kernel.lower_common.Goals as goal
 
@@ -8,10 +8,10 @@ use Rattle.table_kernel.proofs.kernel.Kernel.lower_common.Goals as goal
 lower : (c : In-Some) → IsLower c.args.self.now (read c.in-Some.common)
 lower c = lower_least c.args.self.now c.in-Some.common c.requires.kernel.bounded c.in-Some.ensures
 
-pub put_constants-requires-clause-bounded : goal.put_constants-requires-clause-bounded
-put_constants-requires-clause-bounded c =
-    let at = goal.at.put_constants-requires-clause-bounded c in
-    bounded_lower c.args.self.now (read c.in-Some.common) (lower at.In-Some) c.requires.kernel.bounded
+pub put_constants-requires : goal.put_constants-requires
+put_constants-requires c =
+    let m = moving_lower c.args.self.now (read c.in-Some.common) (lower (goal.at.put_constants-requires c).In-Some) c.requires.kernel in
+    record { shaped = m.shaped; bounded = m.bounded; fit = c.requires.kernel.whole.fit; high = m.basis.high_count }
 
 pub returns-then-common-self-clause-kernel : goal.returns-then-common-self-clause-kernel
 returns-then-common-self-clause-kernel c =

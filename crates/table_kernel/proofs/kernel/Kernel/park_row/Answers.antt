@@ -11,7 +11,7 @@ push_uses-requires-clause-count c =
     let k = c.args.self.now in
     omega (
       arith,
-      c.requires.fits.count,
+      c.requires.row.blank.fits.count,
       lists_many k.uses.items k.table.rows.items (width_of k) c.requires.parked.shaped.uses,
       ap length c.as_mut_slice.ensures.value,
     )

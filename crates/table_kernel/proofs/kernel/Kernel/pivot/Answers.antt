@@ -4,19 +4,18 @@ use Rattle.std.specs.Vec.{with_item}
 use Rattle.fraction_table.specs.declared.table.Table.{Table}
 use Rattle.fraction_table.specs.Ranks.{rank}
 use Rattle.table_kernel.specs.Kernels.{IsKernel, stated}
-use Rattle.table_kernel.proofs.Pivoting.{IsPivotIn, with_basis}
+use Rattle.table_kernel.specs.Turns.{IsPivotIn}
+use Rattle.table_kernel.proofs.Pivoting.{with_basis}
 use Rattle.table_kernel.proofs.SameButRoom.{keeps_twice}
-use Rattle.table_kernel.proofs.TurnKernels.{HasPivoted, has_pivoted, pivot_in, pivot_stays, ready_of, touched_stay}
+use Rattle.table_kernel.proofs.TurnKernels.{HasPivoted, has_pivoted, pivot_stays, ready_of, touched_stay}
 use Rattle.table_kernel.proofs.kernel.Kernel.pivot.Goals.{After-index_mut, After-put_touched, After-put_turns}
 use Rattle.table_kernel.proofs.kernel.Kernel.pivot.Goals as goal
 
 -- what the pivot needs, once the columns are looked up
 pivot_of : (c : After-put_touched) → IsPivotIn c.put_touched.new.self c.args.place c.args.column
 pivot_of c =
-    let r = c.requires in
     let e = c.put_touched.ensures in
-    pivot_stays c.args.self.now c.put_touched.new.self c.args.place c.args.column e.keeps e.entering
-    (pivot_in c.args.self.now c.args.place c.args.column r.kernel r.place r.below r.entering r.best)
+    pivot_stays c.args.self.now c.put_touched.new.self c.args.place c.args.column e.keeps e.entering c.requires
 
 -- and once the turns are put
 pivot_held : (c : After-put_turns) → IsPivotIn c.put_touched.new.self c.args.place c.args.column → IsPivotIn c.put_turns.new.self c.args.place c.args.column

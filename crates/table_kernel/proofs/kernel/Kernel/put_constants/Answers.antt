@@ -19,10 +19,14 @@ use Rattle.table_kernel.proofs.Places.{constants_are}
 use Rattle.table_kernel.proofs.kernel.Kernel.put_constants.Goals.{After-as_slice-2}
 use Rattle.table_kernel.proofs.kernel.Kernel.put_constants.Goals as goal
 
-pub put_bound_constants-requires-clause-many : goal.put_bound_constants-requires-clause-many
-put_bound_constants-requires-clause-many c =
+pub put_bound_constants-requires-clause-places : goal.put_bound_constants-requires-clause-places
+put_bound_constants-requires-clause-places c =
     let k = c.args.self.now in
-    omega (arith, c.requires.shaped.constants, members_long k.table.costs (length k.table.rows.items), ap length c.as_mut_slice.ensures.value)
+    record {
+      high = c.requires.high;
+      variables = ap length c.as_slice.ensures.value ∙ c.requires.shaped.lows;
+      places = omega (arith, c.requires.shaped.constants, members_long k.table.costs (length k.table.rows.items), ap length c.as_mut_slice.ensures.value);
+    }
 
 pub put_bound_constants-requires-clause-short : goal.put_bound_constants-requires-clause-short
 put_bound_constants-requires-clause-short c v d v_in =

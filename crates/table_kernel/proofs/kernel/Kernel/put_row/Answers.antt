@@ -41,13 +41,13 @@ push_uses-requires-clause-count c =
     let k = c.args.self.now in
     omega (
       arith,
-      c.requires.fits.count,
+      c.requires.row.blank.fits.count,
       lists_many k.uses.items k.table.rows.items (width_of k) c.requires.kernel.shaped.uses,
       ap length c.as_mut_slice.ensures.value,
     )
 
 pub push_uses-requires-clause-room : goal.push_uses-requires-clause-room
-push_uses-requires-clause-room c = subst HaveRoom (sym c.as_mut_slice.ensures.value) c.requires.place.uses
+push_uses-requires-clause-room c = subst HaveRoom (sym c.as_mut_slice.ensures.value) c.requires.row.place.uses
 
 pub returns-clause-kernel : goal.returns-clause-kernel
 returns-clause-kernel c =
@@ -60,7 +60,7 @@ returns-clause-kernel c =
     ∙ ap (λ (x : ℤ). (x *ℤ value_for_costs f old.table.costs.low) +ℤ product_sum f.coefficients c.as_slice.result.now) read
     ∙ ap (λ (zs : List ℤ). (old.common *ℤ value_for_costs f old.table.costs.low) +ℤ product_sum f.coefficients zs) c.as_slice.ensures.value in
     let z_read = read_number z (omega (arith, c.row_constant-constant.ensures.size)) in
-    kernel_more old _ f c.args.row.line (to_z w64 (of_z w64 z)) c.requires.kernel c.requires.fits c.requires.covered
+    kernel_more old _ f c.args.row.line (to_z w64 (of_z w64 z)) c.requires.kernel c.requires.row.blank.fits c.requires.covered
     (z_read ∙ is) (subst (λ (x : ℤ). nat_abs x ≤ 2 ^ 62) (sym z_read) (omega (arith, c.row_constant-constant.ensures.size)))
     record {
       table = c.put_blank.ensures.holds;
@@ -74,4 +74,4 @@ returns-clause-kernel c =
       turns = refl;
       left = refl;
       entering = refl;
-    } c.put_blank.ensures.lines (blank_long c.args.row.line (width_of old) c.requires.blank)
+    } c.put_blank.ensures.lines (blank_long c.args.row.line (width_of old) c.requires.row.blank.blank)

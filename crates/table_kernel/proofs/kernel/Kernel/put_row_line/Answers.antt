@@ -59,17 +59,6 @@ index-requires-2 c =
       k.constants.ok.0,
     )
 
-pub reduce-requires-clause-positive : goal.reduce-requires-clause-positive
-reduce-requires-clause-positive c =
-    let b = c.requires.kernel.bounded in
-    subst (λ (z : ℤ). pos 0 <ℤ z) (sym (ap read c.put_row_numbers.ensures.keeps.common ∙ common_read c.args.self.now b)) b.positive
-
-pub reduce-requires-clause-denominator : goal.reduce-requires-clause-denominator
-reduce-requires-clause-denominator c =
-    let k = c.args.self.now in
-    let b = c.requires.kernel.bounded in
-    omega (arith, common_small k b, ap nat_abs (ap read c.put_row_numbers.ensures.keeps.common ∙ common_read k b))
-
 -- the constant of the place
 constant_is : (c : After-index-2) →
     (read c.index-2.result.now ≡ number_at c.args.self.now.constants.items c.args.place) × (nat_abs (read c.index-2.result.now) ≤ 2 ^ 62)
@@ -84,11 +73,17 @@ constant_is c =
     let same = read_number z (omega (arith, small)) in
     (same ∙ is ∙ get_or_default k.constants.items c.args.place z (pos 0) inside, omega (arith, ap nat_abs same, small))
 
-pub reduce-requires-clause-constant : goal.reduce-requires-clause-constant
-reduce-requires-clause-constant c = (constant_is (goal.at.reduce-requires-clause-constant c).After-index-2).1
-
-pub reduce-requires-clause-sizes : goal.reduce-requires-clause-sizes
-reduce-requires-clause-sizes c = c.put_row_numbers.ensures.sizes
+pub reduce-requires : goal.reduce-requires
+reduce-requires c =
+    let k = c.args.self.now in
+    let b = c.requires.kernel.bounded in
+    let common = ap read c.put_row_numbers.ensures.keeps.common ∙ common_read k b in
+    record {
+      positive = subst (λ (z : ℤ). pos 0 <ℤ z) (sym common) b.positive;
+      denominator = omega (arith, common_small k b, ap nat_abs common);
+      constant = (constant_is (goal.at.reduce-requires c).After-index-2).1;
+      numbers = c.put_row_numbers.ensures.sizes;
+    }
 
 -- the reduced line stands for the place
 reduced : (c : After-reduce) → read c.index-2.result.now ≡ number_at c.args.self.now.constants.items c.args.place →
@@ -96,8 +91,8 @@ reduced : (c : After-reduce) → read c.index-2.result.now ≡ number_at c.args.
 reduced c constant =
     let k = c.args.self.now in
     let p = c.put_row_numbers.ensures in
-    reduced_stands k c.args.place c.reduce.ensures.reduced.0 _ c.reduce.new.self c.reduce.ensures.reduced.1
-    (ap read p.keeps.common ∙ common_read k c.requires.kernel.bounded) c.reduce.ensures.positive
+    reduced_stands k c.args.place c.reduce.ensures.lowered.part _ c.reduce.new.self c.reduce.ensures.lowered.reduced
+    (ap read p.keeps.common ∙ common_read k c.requires.kernel.bounded) c.reduce.ensures.lowered.positive
     constant p.count
     (λ i i_in. p.numbers i i_in
     ∙ ap (λ (f : Form). number_at_column f (column_of k i)) (sym (row_form_is k c.args.place c.args.row c.requires.row c.requires.place)))
@@ -114,15 +109,15 @@ returns-clause-line c =
     let p = c.put_row_numbers.ensures in
     let b = c.requires.kernel.bounded in
     let r = (goal.at.returns-clause-line c).After-reduce in
-    entering_is k _ c.args.place (keeps_entering k c.put_row_numbers.new.self c.reduce.new.self p.keeps c.reduce.ensures.reduced.1.count)
+    entering_is k _ c.args.place (keeps_entering k c.put_row_numbers.new.self c.reduce.new.self p.keeps c.reduce.ensures.lowered.reduced.count)
     (reduced r (constant_is (goal.at.returns-clause-line c).After-index-2).0)
-    (reduced_line k c.args.place c.reduce.ensures.reduced.0 _ c.reduce.new.self c.reduce.ensures.reduced.1
-    (ap read p.keeps.common ∙ common_read k b) b c.reduce.ensures.positive c.reduce.ensures.reach_positive
-    (limit_kept (2 ^ 30) c.reduce.new.self.reach c.reduce.ensures.reach_positive (reach_small r) c.if-self-gt-ENTRY_LIMIT.false) c.reduce.ensures.within)
+    (reduced_line k c.args.place c.reduce.ensures.lowered.part _ c.reduce.new.self c.reduce.ensures.lowered.reduced
+    (ap read p.keeps.common ∙ common_read k b) b c.reduce.ensures.lowered.positive c.reduce.ensures.lowered.reach_positive
+    (limit_kept (2 ^ 30) c.reduce.new.self.reach c.reduce.ensures.lowered.reach_positive (reach_small r) c.if-self-gt-ENTRY_LIMIT.false) c.reduce.ensures.lowered.within)
 
 pub returns-clause-keeps : goal.returns-clause-keeps
 returns-clause-keeps c =
-    keeps_entering c.args.self.now c.put_row_numbers.new.self c.reduce.new.self c.put_row_numbers.ensures.keeps c.reduce.ensures.reduced.1.count
+    keeps_entering c.args.self.now c.put_row_numbers.new.self c.reduce.new.self c.put_row_numbers.ensures.keeps c.reduce.ensures.lowered.reduced.count
 
 pub returns-then-factor_sum-gt-FACTOR_LIMIT-clause-large : goal.returns-then-factor_sum-gt-FACTOR_LIMIT-clause-large
 returns-then-factor_sum-gt-FACTOR_LIMIT-clause-large c =
@@ -137,16 +132,16 @@ pub returns-then-self-gt-ENTRY_LIMIT-clause-large : goal.returns-then-self-gt-EN
 returns-then-self-gt-ENTRY_LIMIT-clause-large c =
     let k = c.args.self.now in
     let r = (goal.at.returns-then-self-gt-ENTRY_LIMIT-clause-large c).After-reduce in
-    let large = limit_passed (2 ^ 30) c.reduce.new.self.reach c.reduce.ensures.reach_positive (reach_small r) c.if-self-gt-ENTRY_LIMIT.true in
+    let large = limit_passed (2 ^ 30) c.reduce.new.self.reach c.reduce.ensures.lowered.reach_positive (reach_small r) c.if-self-gt-ENTRY_LIMIT.true in
     numbers_large k _ c.args.place c.reduce.new.self
-    (keeps_entering k c.put_row_numbers.new.self c.reduce.new.self c.put_row_numbers.ensures.keeps c.reduce.ensures.reduced.1.count)
+    (keeps_entering k c.put_row_numbers.new.self c.reduce.new.self c.put_row_numbers.ensures.keeps c.reduce.ensures.lowered.reduced.count)
     (reduced r (constant_is (goal.at.returns-then-self-gt-ENTRY_LIMIT-clause-large c).After-index-2).0)
-    c.reduce.ensures.lowest
+    c.reduce.ensures.lowered.lowest
     (λ within. let least = c.reduce.ensures.reached (2 ^ 30) within in absurd (omega (arith, least, large)))
 
 pub returns-then-self-gt-ENTRY_LIMIT-clause-keeps : goal.returns-then-self-gt-ENTRY_LIMIT-clause-keeps
 returns-then-self-gt-ENTRY_LIMIT-clause-keeps c =
-    keeps_entering c.args.self.now c.put_row_numbers.new.self c.reduce.new.self c.put_row_numbers.ensures.keeps c.reduce.ensures.reduced.1.count
+    keeps_entering c.args.self.now c.put_row_numbers.new.self c.reduce.new.self c.put_row_numbers.ensures.keeps c.reduce.ensures.lowered.reduced.count
 
 pub returns-then-factor_sum-gt-FACTOR_LIMIT-clause-keeps : goal.returns-then-factor_sum-gt-FACTOR_LIMIT-clause-keeps
 returns-then-factor_sum-gt-FACTOR_LIMIT-clause-keeps c = keeps_self c.args.self.now

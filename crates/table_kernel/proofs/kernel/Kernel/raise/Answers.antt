@@ -21,27 +21,18 @@ returns-in_err-put_line-clause-refused c = on_err c.from_residual.result (inl c.
 pub choose-requires-clause-kernel : goal.choose-requires-clause-kernel
 choose-requires-clause-kernel c = keeps_kernel c.args.self.now c.put_line.new.self c.in_ok-put_line.ensures.keeps c.requires.kernel
 
-pub pivot-requires-clause-kernel : goal.pivot-requires-clause-kernel
-pivot-requires-clause-kernel c =
-    keeps_kernel c.args.self.now c.choose.new.self
-    (keeps_twice c.args.self.now c.put_line.new.self c.choose.new.self c.in_ok-put_line.ensures.keeps
-    c.choose.ensures.keeps) c.requires.kernel
-
-pub pivot-requires-clause-entering : goal.pivot-requires-clause-entering
-pivot-requires-clause-entering c =
-    entering_kept c.put_line.new.self c.choose.new.self c.args.place c.choose.ensures.keeps c.choose.ensures.entering c.in_ok-put_line.ensures.line
-
-pub pivot-requires-clause-place : goal.pivot-requires-clause-place
-pivot-requires-clause-place c =
-    in_kept c.args.self.now c.choose.new.self c.args.place
-    (keeps_twice c.args.self.now c.put_line.new.self c.choose.new.self c.in_ok-put_line.ensures.keeps c.choose.ensures.keeps)
-    (pivot_place_in c.args.self.now c.requires.kernel c.args.place c.requires.due)
-
-pub pivot-requires-clause-below : goal.pivot-requires-clause-below
-pivot-requires-clause-below c =
-    below_kept c.args.self.now c.choose.new.self c.args.place
-    (keeps_twice c.args.self.now c.put_line.new.self c.choose.new.self c.in_ok-put_line.ensures.keeps c.choose.ensures.keeps)
-    (pivot_place_below c.args.self.now c.args.place c.requires.due)
+pub pivot-requires : goal.pivot-requires
+pivot-requires c =
+    let old = c.args.self.now in
+    let new = c.choose.new.self in
+    let both = keeps_twice old c.put_line.new.self new c.in_ok-put_line.ensures.keeps c.choose.ensures.keeps in
+    record {
+      kernel = keeps_kernel old new both c.requires.kernel;
+      place_in = in_kept old new c.args.place both (pivot_place_in old c.requires.kernel c.args.place c.requires.due);
+      below = below_kept old new c.args.place both (pivot_place_below old c.args.place c.requires.due);
+      entering = entering_kept c.put_line.new.self new c.args.place c.choose.ensures.keeps c.choose.ensures.entering c.in_ok-put_line.ensures.line;
+      best = best_kept c.put_line.new.self new (Some c.in-Some.column) c.choose.ensures.keeps c.choose.ensures.entering c.in-Some.ensures.best;
+    }
 
 pub returns-in_err-pivot-in-Some-clause-same : goal.returns-in_err-pivot-in-Some-clause-same
 returns-in_err-pivot-in-Some-clause-same c =

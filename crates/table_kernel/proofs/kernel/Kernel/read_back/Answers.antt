@@ -3,7 +3,7 @@ use Rattle.std.specs.Vec.{with_items}
 use Rattle.integer_pivots.proofs.FailedTests.{failed}
 use Rattle.integer_pivots.proofs.Sizes.{read}
 use Rattle.table_kernel.specs.Kernels.{IsKernel}
-use Rattle.table_kernel.proofs.KernelsBack.{AreFitting, HasLines, bounded_back, fitting, has_lines, kernel_back, least_read, lines_back, parked_back, shaped_back}
+use Rattle.table_kernel.proofs.KernelsBack.{AreFitting, HasLines, fitting, has_lines, kernel_back, least_read, lines_back, may_put_back, parked_back}
 use Rattle.table_kernel.proofs.ReadRefusals.{common_found, constants_found}
 use Rattle.table_kernel.proofs.kernel.Kernel.read_back.Goals.{After-put_constants, Else-not-constants_fit, In_ok-read}
 use Rattle.table_kernel.proofs.kernel.Kernel.read_back.Goals as goal
@@ -40,18 +40,12 @@ returns-then-not-constants_fit-clause-refused c may =
     failed c.constants_fit.result c.if-not-constants_fit.true c.constants_fit.ensures
     (constants_found c.args.self.now.table may lows told.count told.read (read c.in-Some.common) (least_read lows c.in-Some.common c.in-Some.ensures))
 
-pub put_constants-requires-clause-shaped : goal.put_constants-requires-clause-shaped
-put_constants-requires-clause-shaped c =
-    let at = goal.at.put_constants-requires-clause-shaped c in
+pub put_constants-requires : goal.put_constants-requires
+put_constants-requires c =
+    let at = goal.at.put_constants-requires c in
     let h = c.read_lines-read.new.self in
-    shaped_back c.args.self.now h (with_items h.leads c.put_leads.new.leads) (read c.in-Some.common) c.requires.parked (lines at.In_ok-read)
-
-pub put_constants-requires-clause-bounded : goal.put_constants-requires-clause-bounded
-put_constants-requires-clause-bounded c =
-    let at = goal.at.put_constants-requires-clause-bounded c in
-    let h = c.read_lines-read.new.self in
-    bounded_back c.args.self.now h (with_items h.leads c.put_leads.new.leads) (read c.in-Some.common) c.requires.parked (lines at.In_ok-read)
-    c.requires.top (c.covers_rows.ensures.0 c.if-not-covers_rows.false) (fits at.Else-not-constants_fit)
+    may_put_back c.args.self.now h (with_items h.leads c.put_leads.new.leads) (read c.in-Some.common) c.requires.parked (lines at.In_ok-read)
+    c.requires.top (c.covers_rows.ensures.0 c.if-not-covers_rows.false) c.requires.whole (fits at.Else-not-constants_fit)
 
 -- with the constants put it is a kernel
 kernel : (c : After-put_constants) → HasLines c.args.self.now c.read_lines-read.new.self (with_items c.read_lines-read.new.self.leads c.put_leads.new.leads) →

@@ -111,15 +111,21 @@ all_are : (k s : Kernel) (costs : CostBox) (v : ℕ) → IsKernel k → IsBox (w
 all_are k s costs v m box past inside moved =
     all_moved (stated k) (stated s) costs v (alike k costs m box) (omega (arith, past, inside, box.low_count)) moved
 
-pub put_constants-requires-clause-fit : goal.put_constants-requires-clause-fit
-put_constants-requires-clause-fit c =
+pub put_constants-requires : goal.put_constants-requires
+put_constants-requires c =
     let k = c.args.self.now in
     let s = c.loop-var.self in
     let costs = c.args.costs.now in
     let many : length c.as_slice-low.result.now ≡ length costs.low = ap length c.as_slice-low.ensures in
     let all = all_are k s costs c.loop-var.var c.requires.kernel c.requires.ranges (omega (arith, many, c.loop-var-test.false))
     (omega (arith, many, c.loop-var.auto.var-end)) c.loop-var.invariant.moved in
-    settled_fit k s costs c.loop-var.invariant.keeps all.costs_are c.requires.fits
+    let m = c.loop-var.invariant.kernel in
+    record {
+      shaped = m.shaped;
+      bounded = m.bounded;
+      fit = settled_fit k s costs c.loop-var.invariant.keeps all.costs_are c.requires.fits;
+      high = m.basis.high_count;
+    }
 
 pub returns-clause-kernel : goal.returns-clause-kernel
 returns-clause-kernel c =

@@ -4,12 +4,10 @@ use Rattle.std.proofs.Common.{Vec, ◌≡◌, ◌<◌, ◌∙◌, ℕ, sym, ap, 
 use Rattle.std.specs.Prelude.{pos, ◌<ℤ◌, All}
 use Rattle.std.specs.Vec.{with_items}
 use Rattle.whole_numbers.specs.Lists.{number_at}
-use Rattle.fraction_table.specs.declared.table.Table.{Table}
-use Rattle.fraction_table.specs.Tableaus.{FitsBox}
 use Rattle.integer_pivots.specs.declared.line.Line.{Line}
 use Rattle.integer_pivots.proofs.FailedTests.{failed}
 use Rattle.integer_pivots.proofs.Sizes.{read}
-use Rattle.table_kernel.proofs.TurnedRows.{AreLeadsPut, IsTurnTested, bounded_after, has_turned, leads_put, lines_long, may_constants, may_turn, next_told, shaped_after, tested}
+use Rattle.table_kernel.proofs.TurnedRows.{AreLeadsPut, IsTurnTested, has_turned, leads_put, lines_long, may_constants, may_put_after, may_turn, next_told, tested}
 use Rattle.table_kernel.proofs.FollowedTurns.{common_stays, constants_stay, first_kept, made_kept}
 use Rattle.table_kernel.proofs.kernel.Kernel.turn_numbers.Goals.{After-turn_leads, Then-common-self}
 use Rattle.table_kernel.proofs.kernel.Kernel.turn_numbers.Goals as goal
@@ -86,35 +84,24 @@ tested_here : (c : After-turn_leads) → read c.in-Some.common ≡ c.turn_lines.
     IsTurnTested c.args.self.now c.turn_lines.new.self c.args.column c.turn_lines.new.self.common
 tested_here c same = subst (IsTurnTested c.args.self.now c.turn_lines.new.self c.args.column) same (tested_at c)
 
-pub follow_lines-requires-clause-shaped : goal.follow_lines-requires-clause-shaped
-follow_lines-requires-clause-shaped c =
+pub follow_lines-requires-clause-kernel : goal.follow_lines-requires-clause-kernel
+follow_lines-requires-clause-kernel c =
     let k = c.args.self.now in
     let h = c.turn_lines.new.self in
-    let at = goal.at.follow_lines-requires-clause-shaped c in
-    let leads = leads_at at.After-turn_leads in
-    shaped_after k h c.args.column (with_items h.leads c.turn_leads.new.leads) h.common (tested_here at.After-turn_leads (stays_at at.Then-common-self)) c.requires.kernel.shaped
-    leads.0 (leads.1 c.requires.kernel.shaped.lead)
+    let at = goal.at.follow_lines-requires-clause-kernel c in
+    let put = leads_at at.After-turn_leads in
+    let leads = with_items h.leads c.turn_leads.new.leads in
+    let told = tested_here at.After-turn_leads (stays_at at.Then-common-self) in
+    may_put_after k h c.args.column leads h.common told c.requires.kernel put
 
-pub follow_lines-requires-clause-bounded : goal.follow_lines-requires-clause-bounded
-follow_lines-requires-clause-bounded c =
+pub follow_lines-requires-clause-made : goal.follow_lines-requires-clause-made
+follow_lines-requires-clause-made c =
     let h = c.turn_lines.new.self in
-    let at = goal.at.follow_lines-requires-clause-bounded c in
-    bounded_after c.args.self.now h c.args.column (with_items h.leads c.turn_leads.new.leads) h.common
-    (tested_here at.After-turn_leads (stays_at at.Then-common-self)) c.requires.kernel.bounded
-
-pub follow_lines-requires-clause-fit : goal.follow_lines-requires-clause-fit
-follow_lines-requires-clause-fit c =
-    subst (λ (t : Table). All (FitsBox t.costs) t.rows.items) (sym c.turn_lines.ensures.keeps.table) c.requires.kernel.whole.fit
-
-pub follow_lines-requires-clause-first : goal.follow_lines-requires-clause-first
-follow_lines-requires-clause-first c =
-    let h = c.turn_lines.new.self in
-    first_kept c.args.self.now h (with_items h.leads c.turn_leads.new.leads) c.requires.kernel c.turn_lines.ensures.keeps
-
-pub follow_lines-requires-clause-by_first : goal.follow_lines-requires-clause-by_first
-follow_lines-requires-clause-by_first c =
-    let h = c.turn_lines.new.self in
-    made_kept c.args.self.now h (with_items h.leads c.turn_leads.new.leads) c.requires.kernel c.turn_lines.ensures.keeps
+    let leads = with_items h.leads c.turn_leads.new.leads in
+    record {
+      small = first_kept c.args.self.now h leads c.requires.kernel c.turn_lines.ensures.keeps;
+      others = made_kept c.args.self.now h leads c.requires.kernel c.turn_lines.ensures.keeps;
+    }
 
 pub follow_lines-requires-clause-stays : goal.follow_lines-requires-clause-stays
 follow_lines-requires-clause-stays c =
@@ -132,23 +119,12 @@ returns-then-common-self-clause-turned c =
     c.follow_lines.new.self leads.0 leads.1 p.keeps p.constants p.small
 
 -- or another one is put
-pub put_constants-requires-clause-shaped : goal.put_constants-requires-clause-shaped
-put_constants-requires-clause-shaped c =
+pub put_constants-requires : goal.put_constants-requires
+put_constants-requires c =
     let h = c.turn_lines.new.self in
-    let at = (goal.at.put_constants-requires-clause-shaped c).After-turn_leads in
-    let leads = leads_at at in
-    shaped_after c.args.self.now h c.args.column (with_items h.leads c.turn_leads.new.leads) (read c.in-Some.common) (tested_at at)
-    c.requires.kernel.shaped leads.0 (leads.1 c.requires.kernel.shaped.lead)
-
-pub put_constants-requires-clause-bounded : goal.put_constants-requires-clause-bounded
-put_constants-requires-clause-bounded c =
-    let h = c.turn_lines.new.self in
-    bounded_after c.args.self.now h c.args.column (with_items h.leads c.turn_leads.new.leads) (read c.in-Some.common)
-    (tested_at (goal.at.put_constants-requires-clause-bounded c).After-turn_leads) c.requires.kernel.bounded
-
-pub put_constants-requires-clause-fit : goal.put_constants-requires-clause-fit
-put_constants-requires-clause-fit c =
-    subst (λ (t : Table). All (FitsBox t.costs) t.rows.items) (sym c.turn_lines.ensures.keeps.table) c.requires.kernel.whole.fit
+    let at = (goal.at.put_constants-requires c).After-turn_leads in
+    may_put_after c.args.self.now h c.args.column (with_items h.leads c.turn_leads.new.leads) (read c.in-Some.common) (tested_at at)
+    c.requires.kernel (leads_at at)
 
 pub returns-else-common-self-clause-turned : goal.returns-else-common-self-clause-turned
 returns-else-common-self-clause-turned c =
