@@ -68,12 +68,14 @@ impl ActiveTable {
     /// `OutOfMemory` where something got no memory. Then the table holds what it held.
     pub fn make_room(&mut self, alloc: Global, form: &Form) -> Result<BlankRow, OutOfMemory>
         requires room { HasRoom self.old.kernel.table }
-        ensures sound { (stage : Stage) → IsSoundActive self.old stage → IsSoundActive self.new stage }
+        ensures sound { (stage : Stage) → IsSoundActive self.old stage →
+            IsSoundActive self.new stage }
         ensures held { held_of self.new.kernel.table Open ≡ held_of self.old.kernel.table Open }
         ensures same { self.new.in_kernel ≡ self.old.in_kernel }
         ensures place { OnOk result (HasRowPlace self.new.kernel) }
         ensures form { IfOk result (λ row. row.form ≡ form.now) }
-        ensures blank { IfOk result (λ row. row.line ≡ blank_row (length self.old.kernel.table.costs.low)) }
+        ensures blank { IfOk result
+            (λ row. row.line ≡ blank_row (length self.old.kernel.table.costs.low)) }
     {
         self.kernel.make_room(alloc, form)
     }
@@ -125,8 +127,9 @@ impl ActiveTable {
         ensures active { OnOk result (IsActive self.new) }
         ensures stays { self.old.in_kernel ≡ true → IsCovered row.form → self.new.in_kernel ≡ true }
         ensures room { HasRoom self.new.kernel.table }
-        ensures wide { IfErr result (λ wide.
-            IsStepTooWide self.new.kernel.table.top self.new.kernel.table.costs self.new.kernel.table.rows.items (wide_at wide self.new.kernel.table.basis.items)) }
+        ensures wide { IfErr result (λ wide. IsStepTooWide self.new.kernel.table.top
+            self.new.kernel.table.costs self.new.kernel.table.rows.items
+            (wide_at wide self.new.kernel.table.basis.items)) }
     {
         if self.in_kernel {
             if self.kernel.covers(&row.form) {
@@ -149,12 +152,15 @@ impl ActiveTable {
         requires active { IsActive self.old }
         requires fractions { self.old.in_kernel ≡ false }
         ensures active { OnOk result (IsActive self.new) }
-        ensures ahead { IfOk result (λ solved. IsAhead self.old.kernel.table (table_of self.new) solved) }
+        ensures ahead { IfOk result (λ solved. IsAhead self.old.kernel.table (table_of self.new)
+            solved) }
         ensures keeps { KeepsBoxAndRows self.old.kernel.table self.new.kernel.table }
-        ensures back { OnOk result (self.new.in_kernel ≡ false → MayReturn self.new.kernel.table → ⊥) }
+        ensures back { OnOk result (self.new.in_kernel ≡ false → MayReturn self.new.kernel.table →
+            ⊥) }
         ensures room { HasRoom self.new.kernel.table }
-        ensures wide { IfErr result (λ wide.
-            IsStepTooWide self.new.kernel.table.top self.new.kernel.table.costs self.new.kernel.table.rows.items (wide_at wide self.new.kernel.table.basis.items)) }
+        ensures wide { IfErr result (λ wide. IsStepTooWide self.new.kernel.table.top
+            self.new.kernel.table.costs self.new.kernel.table.rows.items
+            (wide_at wide self.new.kernel.table.basis.items)) }
     {
         let solved = self.kernel.table.advance()?;
         self.return_to_kernel();
@@ -171,13 +177,17 @@ impl ActiveTable {
     fn work(&mut self) -> Result<Option<Solved>, Wide>
         requires active { IsActive self.old }
         ensures active { OnOk result (IsActive self.new) }
-        ensures left { self.old.in_kernel ≡ true → self.new.in_kernel ≡ false → WasHeldUp (held_of self.old.kernel.table Open) }
-        ensures ahead { IfOk result (λ solved. IsAhead (table_of self.old) (table_of self.new) solved) }
+        ensures left { self.old.in_kernel ≡ true → self.new.in_kernel ≡ false →
+            WasHeldUp (held_of self.old.kernel.table Open) }
+        ensures ahead { IfOk result (λ solved. IsAhead (table_of self.old) (table_of self.new)
+            solved) }
         ensures keeps { KeepsBoxAndRows self.old.kernel.table self.new.kernel.table }
-        ensures back { OnOk result (self.new.in_kernel ≡ false → MayReturn self.new.kernel.table → ⊥) }
+        ensures back { OnOk result (self.new.in_kernel ≡ false → MayReturn self.new.kernel.table →
+            ⊥) }
         ensures room { HasRoom self.new.kernel.table }
-        ensures wide { IfErr result (λ wide.
-            IsStepTooWide self.new.kernel.table.top self.new.kernel.table.costs self.new.kernel.table.rows.items (wide_at wide self.new.kernel.table.basis.items)) }
+        ensures wide { IfErr result (λ wide. IsStepTooWide self.new.kernel.table.top
+            self.new.kernel.table.costs self.new.kernel.table.rows.items
+            (wide_at wide self.new.kernel.table.basis.items)) }
     {
         // The kernel works until a pivot is due that its bounds don't cover.
         if self.in_kernel {
@@ -198,13 +208,17 @@ impl ActiveTable {
     pub fn settle(&mut self) -> Result<Solved, Wide>
         requires active { IsActive self.old }
         ensures active { OnOk result (IsActive self.new) }
-        ensures shown { IfOk result (λ solved. IsShown self.new.kernel.table.basis.items (table_of self.new).lines.items (Ended solved)) }
+        ensures shown { IfOk result (λ solved. IsShown self.new.kernel.table.basis.items
+            (table_of self.new).lines.items (Ended solved)) }
         ensures keeps { KeepsBoxAndRows self.old.kernel.table self.new.kernel.table }
-        ensures left { self.old.in_kernel ≡ true → self.new.in_kernel ≡ false → WasHeldUp (held_of self.old.kernel.table Open) }
-        ensures back { OnOk result (self.new.in_kernel ≡ false → MayReturn self.new.kernel.table → ⊥) }
+        ensures left { self.old.in_kernel ≡ true → self.new.in_kernel ≡ false →
+            WasHeldUp (held_of self.old.kernel.table Open) }
+        ensures back { OnOk result (self.new.in_kernel ≡ false → MayReturn self.new.kernel.table →
+            ⊥) }
         ensures room { HasRoom self.new.kernel.table }
-        ensures wide { IfErr result (λ wide.
-            IsStepTooWide self.new.kernel.table.top self.new.kernel.table.costs self.new.kernel.table.rows.items (wide_at wide self.new.kernel.table.basis.items)) }
+        ensures wide { IfErr result (λ wide. IsStepTooWide self.new.kernel.table.top
+            self.new.kernel.table.costs self.new.kernel.table.rows.items
+            (wide_at wide self.new.kernel.table.basis.items)) }
     {
         'rounds: loop {
             if let Some(solved) = self.work()? {
@@ -222,11 +236,13 @@ impl ActiveTable {
         requires active { IsActive self.now }
         requires high { AreHigh (table_of self.now) }
         requires places { length into.old.values ≡ length self.now.kernel.table.costs.low }
-        ensures least { OnOk result (IsLeastPoint (AreMet self.now.kernel.table.rows.items) self.now.kernel.table.costs into.new) }
+        ensures least { OnOk result (IsLeastPoint (AreMet self.now.kernel.table.rows.items)
+            self.now.kernel.table.costs into.new) }
         ensures small { OnOk result (into.new.scale < 2 ^ 100) }
         ensures kept { OnErr result (into.new ≡ into.old) }
-        ensures wide { IfErr result (λ wide.
-            IsStepTooWide self.now.kernel.table.top self.now.kernel.table.costs self.now.kernel.table.rows.items (wide_at wide self.now.kernel.table.basis.items)) }
+        ensures wide { IfErr result (λ wide. IsStepTooWide self.now.kernel.table.top
+            self.now.kernel.table.costs self.now.kernel.table.rows.items
+            (wide_at wide self.now.kernel.table.basis.items)) }
     {
         if self.in_kernel {
             self.kernel.put_corner(into);
@@ -243,9 +259,12 @@ impl ActiveTable {
     pub fn multipliers(&self, alloc: Global, line: usize) -> Result<Parts, SimplexStop>
         requires active { IsActive self.now }
         requires line { line < length (table_of self.now).lines.items }
-        requires stuck { IsStuck self.now.kernel.table.basis.items (line_at (table_of self.now) line) }
-        ensures refutes { IfOk result (λ parts. Refutes self.now.kernel.table.rows.items parts self.now.kernel.table.costs) }
-        ensures few { IfOk result (λ parts. length parts ≤ suc (length self.now.kernel.table.costs.low)) }
+        requires stuck { IsStuck self.now.kernel.table.basis.items
+            (line_at (table_of self.now) line) }
+        ensures refutes { IfOk result (λ parts. Refutes self.now.kernel.table.rows.items parts
+            self.now.kernel.table.costs) }
+        ensures few { IfOk result
+            (λ parts. length parts ≤ suc (length self.now.kernel.table.costs.low)) }
         ensures told { IfErr result (IsWideAtBasis self.now.kernel.table) }
     {
         if self.in_kernel {
@@ -262,9 +281,11 @@ impl ActiveTable {
         requires ranges { IsBox (length self.old.kernel.table.costs.low) costs.now }
         requires fits { All (FitsBox costs.now) self.old.kernel.table.rows.items }
         ensures active { IsActive self.new }
-        ensures stays { self.old.in_kernel ≡ true → MayMove self.old.kernel (box_distance self.old.kernel.table.costs costs.now) → self.new.in_kernel ≡ true }
+        ensures stays { self.old.in_kernel ≡ true → MayMove self.old.kernel
+            (box_distance self.old.kernel.table.costs costs.now) → self.new.in_kernel ≡ true }
         ensures back { self.new.in_kernel ≡ false → MayReturn self.new.kernel.table → ⊥ }
-        ensures rebased { IsRebased (held_of self.old.kernel.table Open) costs.now (held_of self.new.kernel.table Open) }
+        ensures rebased { IsRebased (held_of self.old.kernel.table Open) costs.now
+            (held_of self.new.kernel.table Open) }
     {
         if self.in_kernel {
             match self.kernel.rebase(costs) {

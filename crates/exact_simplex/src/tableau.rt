@@ -96,7 +96,8 @@ impl Tableau {
     /// Whether it can move to another box: one of as many variables, none of whose ranges is empty, over which it would
     /// take the form of each of its rows.
     pub fn fits(&self, costs: &CostBox) -> bool
-        ensures { IsTrue result ↔ (IsBox (length self.now.costs.low) costs.now × All (FitsBox costs.now) self.now.rows) }
+        ensures { IsTrue result ↔ (IsBox (length self.now.costs.low) costs.now ×
+            All (FitsBox costs.now) self.now.rows) }
     {
         let width = self.table.kernel.table.costs.low.as_slice().len();
         if costs.low.as_slice().len() != width || !is_box(costs) {
@@ -119,10 +120,12 @@ impl Tableau {
         ensures going { OnOk result (IsGoing self.old.stage) }
         ensures added { OnOk result (held_by self.new ≡
             record { top = self.old.top; costs = self.old.costs; rows = self.old.rows ++ form.now ∷ []; basis = self.old.basis; stage = Stage.Open }) }
-        ensures refused { IfErr result (IsRowRefused (held_by self.old) form.now (held_by self.new)) }
+        ensures refused { IfErr result (IsRowRefused (held_by self.old) form.now
+            (held_by self.new)) }
         ensures same { result ≡ Err SimplexStop.OutOfMemory → self.new ≡ self.old }
         ensures rests { (wide : Wide) → self.old.stage ≡ Stopped wide → self.new ≡ self.old }
-        ensures kernel { self.old.in_kernel ≡ true → IsCovered form.now → self.new.in_kernel ≡ true }
+        ensures kernel { self.old.in_kernel ≡ true → IsCovered form.now →
+            self.new.in_kernel ≡ true }
     {
         self.going()?;
         let row = self.table.make_room(alloc, form)?;
@@ -146,9 +149,11 @@ impl Tableau {
         ensures among { IfOk result (IsAmongForms self.old.costs self.old.rows) }
         ensures ended { IfOk result (λ solved. held_by self.new ≡
             record { top = self.old.top; costs = self.old.costs; rows = self.old.rows; basis = self.new.basis; stage = Ended solved }) }
-        ensures stop { IfErr result (λ wide. IsTableauStopped (held_by self.old) self.old.rows (held_by self.new) wide) }
+        ensures stop { IfErr result (λ wide. IsTableauStopped (held_by self.old) self.old.rows
+            (held_by self.new) wide) }
         ensures rests { (wide : Wide) → self.old.stage ≡ Stopped wide → self.new ≡ self.old }
-        ensures left { self.old.in_kernel ≡ true → self.new.in_kernel ≡ false → WasHeldUp (held_by self.old) }
+        ensures left { self.old.in_kernel ≡ true → self.new.in_kernel ≡ false →
+            WasHeldUp (held_by self.old) }
         ensures back { OnOk result (self.new.in_kernel ≡ false → CannotReturn (held_by self.new)) }
     {
         self.going()?;
@@ -171,7 +176,8 @@ impl Tableau {
         ensures least { OnOk result (IsLeastPoint (AreMet self.now.rows) self.now.costs into.new) }
         ensures small { OnOk result (into.new.scale < 2 ^ 100) }
         ensures kept { OnErr result (into.new ≡ into.old) }
-        ensures wide { IfErr result (λ wide. IsStepTooWide self.now.top self.now.costs self.now.rows (wide_at wide self.now.basis)) }
+        ensures wide { IfErr result (λ wide. IsStepTooWide self.now.top self.now.costs self.now.rows
+            (wide_at wide self.now.basis)) }
     {
         self.table.put_corner(into)
     }
@@ -208,9 +214,11 @@ impl Tableau {
         requires fits { All (FitsBox costs.now) self.old.rows }
         ensures going { OnOk result (IsGoing self.old.stage) }
         ensures moved { OnOk result (IsRebased (held_by self.old) costs.now (held_by self.new)) }
-        ensures left { self.old.in_kernel ≡ true → self.new.in_kernel ≡ false → CouldNotMove (held_by self.old) costs.now }
+        ensures left { self.old.in_kernel ≡ true → self.new.in_kernel ≡ false →
+            CouldNotMove (held_by self.old) costs.now }
         ensures back { OnOk result (self.new.in_kernel ≡ false → CannotReturn (held_by self.new)) }
-        ensures stopped { IfErr result (λ wide. (self.old.stage ≡ Stopped wide) × (self.new ≡ self.old)) }
+        ensures stopped { IfErr result (λ wide. (self.old.stage ≡ Stopped wide) ×
+            (self.new ≡ self.old)) }
     {
         self.going()?;
         self.table.rebase(costs);

@@ -60,7 +60,8 @@ fn column_order(numbers: &[i64], line: &[i64], column: usize, other: usize) -> O
     requires column { column < length line.now }
     requires other { other < length line.now }
     requires positive { pos 0 <ℤ number_at line.now other }
-    ensures { result ≡ int_cmp (crosswise numbers.now line.now column other) (crosswise numbers.now line.now other column) }
+    ensures { result ≡ int_cmp (crosswise numbers.now line.now column other)
+        (crosswise numbers.now line.now other column) }
 {
     let own = numbers[column];
     let others = numbers[other];

@@ -27,7 +27,8 @@ fn turned_lead(lines: &[Line], column: usize, across: i64, own: usize, pivots: u
     ensures same { across ≡ pos 0 → result ≡ own }
     ensures earlier { own < pivots → result ≡ own }
     ensures later { across ≢ pos 0 → pivots < own → result ≡ pivots }
-    ensures level { across ≢ pos 0 → own ≡ pivots → AreZeros (rows_of lines.now) column own → IsLead (rows_of lines.now) column result }
+    ensures level { across ≢ pos 0 → own ≡ pivots → AreZeros (rows_of lines.now) column own →
+        IsLead (rows_of lines.now) column result }
 {
     if across == 0 || own < pivots {
         return own;
@@ -47,7 +48,8 @@ pub fn turn_leads(leads: &mut [usize], lines: &[Line], entering: &Line, column: 
     requires denominator { pos 0 <ℤ entering.now.denominator }
     ensures count { length leads.new ≡ length leads.old }
     ensures leads { (olds : List Line) → AreTurnedLines entering.now column olds lines.now →
-        All (λ line. pos 0 <ℤ line.denominator) olds → AreLeads (rows_of olds) leads.old → AreLeads (rows_of lines.now) leads.new }
+        All (λ line. pos 0 <ℤ line.denominator) olds → AreLeads (rows_of olds) leads.old →
+        AreLeads (rows_of lines.now) leads.new }
 {
     let pivots = leads[column];
     let across = entering.numbers.as_slice();

@@ -66,10 +66,12 @@ pub fn over(number: i64, part: i64) -> i64
 /// Puts each number, into which a divisor goes, over it.
 fn divide(numbers: &mut Listed<i64>, part: i64)
     requires part { pos 0 <ℤ part }
-    requires whole { (c : ℕ) → c < length numbers.old → nat_abs part ∣ nat_abs (number_at numbers.old c) }
+    requires whole { (c : ℕ) → c < length numbers.old → nat_abs part ∣
+        nat_abs (number_at numbers.old c) }
     requires sizes { AllWithin (2 ^ 62) numbers.old }
     ensures count { length numbers.new ≡ length numbers.old }
-    ensures numbers { (c : ℕ) → c < length numbers.old → (number_at numbers.new c *ℤ part) ≡ number_at numbers.old c }
+    ensures numbers { (c : ℕ) → c < length numbers.old → (number_at numbers.new c *ℤ part) ≡
+        number_at numbers.old c }
 {
     for column in 0..numbers.as_slice().len() {
         let number = numbers.as_slice()[column];
@@ -84,9 +86,11 @@ impl Line {
         ensures positive { pos 0 <ℤ result }
         ensures denominator { nat_abs result ∣ nat_abs self.now.denominator }
         ensures constant { nat_abs result ∣ nat_abs self.now.constant }
-        ensures numbers { (c : ℕ) → c < length self.now.numbers → nat_abs result ∣ nat_abs (number_at self.now.numbers c) }
-        ensures greatest { (d : ℕ) → d ∣ nat_abs self.now.denominator → d ∣ nat_abs self.now.constant →
-            ((c : ℕ) → c < length self.now.numbers → d ∣ nat_abs (number_at self.now.numbers c)) → d ∣ nat_abs result }
+        ensures numbers { (c : ℕ) → c < length self.now.numbers → nat_abs result ∣
+            nat_abs (number_at self.now.numbers c) }
+        ensures greatest { (d : ℕ) → d ∣ nat_abs self.now.denominator →
+            d ∣ nat_abs self.now.constant → ((c : ℕ) → c < length self.now.numbers →
+            d ∣ nat_abs (number_at self.now.numbers c)) → d ∣ nat_abs result }
     {
         let mut part = common_with(self.constant, self.denominator);
         let numbers = self.numbers.as_slice();
@@ -104,8 +108,10 @@ impl Line {
         requires part { pos 0 <ℤ part }
         requires denominator { nat_abs part ∣ nat_abs self.old.denominator }
         requires constant { nat_abs part ∣ nat_abs self.old.constant }
-        requires numbers { (c : ℕ) → c < length self.old.numbers → nat_abs part ∣ nat_abs (number_at self.old.numbers c) }
-        requires sizes { (nat_abs self.old.denominator ≤ 2 ^ 62) × (nat_abs self.old.constant ≤ 2 ^ 62) × AllWithin (2 ^ 62) self.old.numbers }
+        requires numbers { (c : ℕ) → c < length self.old.numbers → nat_abs part ∣
+            nat_abs (number_at self.old.numbers c) }
+        requires sizes { (nat_abs self.old.denominator ≤ 2 ^ 62) ×
+            (nat_abs self.old.constant ≤ 2 ^ 62) × AllWithin (2 ^ 62) self.old.numbers }
         ensures { IsReduced self.old self.new (nat_abs part) }
     {
         if part == 1 {
@@ -121,8 +127,10 @@ impl Line {
     pub fn reduce(&mut self)
         requires { IsReducible (2 ^ 62) self.old }
         ensures lowered { IsLowered self.old self.new }
-        ensures least { (most : ℕ) → AllWithin most self.old.numbers → nat_abs self.new.reach ≤ most }
-        ensures reached { (most : ℕ) → AllWithin most self.new.numbers → nat_abs self.new.reach ≤ most }
+        ensures least { (most : ℕ) → AllWithin most self.old.numbers →
+            nat_abs self.new.reach ≤ most }
+        ensures reached { (most : ℕ) → AllWithin most self.new.numbers →
+            nat_abs self.new.reach ≤ most }
     {
         let part = self.common_part();
         self.put_over(part);

@@ -46,8 +46,9 @@ pub fn turn_of(number: i64, pivot: i64) -> Turn
 pub fn common_multiple(first: i64, second: i64) -> Option<i64>
     requires first { (pos 0 <ℤ first) × (first ≤ℤ pos (2 ^ 30)) }
     requires second { (pos 0 <ℤ second) × (second ≤ℤ pos (2 ^ 60)) }
-    ensures { MatchOption result (2 ^ 30 < lcm (nat_abs first) (nat_abs second)) (λ common.
-        (pos 0 <ℤ common) × (nat_abs common ≡ lcm (nat_abs first) (nat_abs second)) × (common ≤ℤ pos (2 ^ 30))) }
+    ensures { MatchOption result (2 ^ 30 < lcm (nat_abs first) (nat_abs second))
+        (λ common. (pos 0 <ℤ common) × (nat_abs common ≡ lcm (nat_abs first) (nat_abs second)) ×
+        (common ≤ℤ pos (2 ^ 30))) }
 {
     if ENTRY_LIMIT < second {
         return None;
@@ -78,7 +79,8 @@ fn multiply(numbers: &mut Listed<i64>, multiplier: i64)
     requires sizes { AllWithin (2 ^ 30) numbers.old }
     requires multiplier { nat_abs multiplier ≤ 2 ^ 30 }
     ensures count { length numbers.new ≡ length numbers.old }
-    ensures each { (c : ℕ) → c < length numbers.old → number_at numbers.new c ≡ (multiplier *ℤ number_at numbers.old c) }
+    ensures each { (c : ℕ) → c < length numbers.old → number_at numbers.new c ≡
+        (multiplier *ℤ number_at numbers.old c) }
 {
     if multiplier == 1 {
         return;
@@ -97,7 +99,8 @@ fn take_away(numbers: &mut Listed<i64>, factor: i64, line: &[i64], touched: &[us
     requires line { AllWithin (2 ^ 30) line.now }
     requires touched { AreNonZeros line.now (length line.now) touched.now }
     ensures count { length numbers.new ≡ length numbers.old }
-    ensures each { (c : ℕ) → c < length numbers.old → number_at numbers.new c ≡ (number_at numbers.old c -ℤ (factor *ℤ number_at line.now c)) }
+    ensures each { (c : ℕ) → c < length numbers.old → number_at numbers.new c ≡
+        (number_at numbers.old c -ℤ (factor *ℤ number_at line.now c)) }
 {
     for index in 0..touched.len() {
         let column = touched[index];
@@ -113,7 +116,8 @@ impl Turn {
         requires factor { nat_abs self.factor ≤ 2 ^ 30 }
         requires most { (pos 0 ≤ℤ most) × (most ≤ℤ pos (2 ^ 30)) }
         requires entering { (pos 0 ≤ℤ entering) × (entering ≤ℤ pos (2 ^ 30)) }
-        ensures { IsTrue result ↔ (nat_abs self.multiplier * nat_abs most + nat_abs self.factor * nat_abs entering ≤ 2 ^ 30) }
+        ensures { IsTrue result ↔ (nat_abs self.multiplier * nat_abs most +
+            nat_abs self.factor * nat_abs entering ≤ 2 ^ 30) }
     {
         self.multiplier * most + self.factor.abs() * entering <= ENTRY_LIMIT
     }
@@ -127,7 +131,8 @@ impl Turn {
         requires entering { nat_abs entering ≤ 2 ^ 30 }
         requires denominator { nat_abs denominator ≤ 2 ^ 30 }
         ensures from_zero { pos 0 ≤ℤ result }
-        ensures numbers { nat_abs self.multiplier * nat_abs most + nat_abs self.factor * nat_abs entering ≤ nat_abs result }
+        ensures numbers { nat_abs self.multiplier * nat_abs most + nat_abs self.factor *
+            nat_abs entering ≤ nat_abs result }
         ensures own { nat_abs self.factor * nat_abs denominator ≤ nat_abs result }
     {
         let numbers = (self.multiplier * most).abs() + (self.factor * entering).abs();
@@ -178,12 +183,14 @@ impl Line {
     /// Turns a line at a pivot's column, and brings it into lowest terms.
     pub fn turn(&mut self, entering: &Line, column: usize, touched: &[usize], turn: Turn)
         requires pivot { IsAtPivot column entering.now self.old }
-        requires touched { AreNonZeros entering.now.numbers (length entering.now.numbers) touched.now }
+        requires touched { AreNonZeros entering.now.numbers (length entering.now.numbers)
+            touched.now }
         requires turn { turn ≡ turn_at entering.now column self.old }
         requires may { MayLineTurn turn self.old entering.now }
         ensures line { IsLine self.new }
         ensures turned { IsTurnedLine turn column entering.now self.old self.new }
-        ensures divides { nat_abs self.new.denominator ∣ (nat_abs self.old.denominator * nat_abs turn.multiplier) }
+        ensures divides { nat_abs self.new.denominator ∣
+            (nat_abs self.old.denominator * nat_abs turn.multiplier) }
         ensures lowest { IsInLowestTerms self.new }
     {
         let most = turn.most_after(self.reach, entering.reach, entering.denominator);

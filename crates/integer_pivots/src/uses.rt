@@ -54,8 +54,8 @@ pub fn push_uses(uses: &mut [Vec<Use>], form: &Form, row: usize)
     requires count { length form.now.coefficients ≤ length uses.old }
     requires sizes { All (λ c. nat_abs c ≤ 2 ^ 26) form.now.coefficients }
     requires room { HaveRoom uses.old }
-    ensures { (v : ℕ) → v < length uses.old →
-        slice_index_or (held_in uses.new) v [] ≡ slice_index_or (held_in uses.old) v [] ++ use_of row (number_at form.now.coefficients v) }
+    ensures { (v : ℕ) → v < length uses.old → slice_index_or (held_in uses.new) v [] ≡
+        slice_index_or (held_in uses.old) v [] ++ use_of row (number_at form.now.coefficients v) }
 {
     for term in form.terms() {
         uses[term.var as usize].push_reserved(Use {
@@ -70,9 +70,11 @@ pub fn push_uses(uses: &mut [Vec<Use>], form: &Form, row: usize)
 pub fn put_uses(sums: &mut [i64], uses: &Vec<Use>, number: i64, first: usize)
     requires known { All (λ u. first + u.row < length sums.old) uses.now.items }
     requires number { nat_abs number ≤ 2 ^ 45 }
-    requires small { All (λ u. nat_abs (number_at sums.old (first + u.row)) + size_in uses.now.items u.row * 2 ^ 45 ≤ 2 ^ 62) uses.now.items }
+    requires small { All (λ u. nat_abs (number_at sums.old (first + u.row)) +
+        size_in uses.now.items u.row * 2 ^ 45 ≤ 2 ^ 62) uses.now.items }
     ensures before { (v : ℕ) → v < first → number_at sums.new v ≡ number_at sums.old v }
-    ensures rows { (row : ℕ) → number_at sums.new (first + row) ≡ (number_at sums.old (first + row) +ℤ (number *ℤ coefficient_in uses.now.items row)) }
+    ensures rows { (row : ℕ) → number_at sums.new (first + row) ≡
+        (number_at sums.old (first + row) +ℤ (number *ℤ coefficient_in uses.now.items row)) }
 {
     if number == 0 {
         return;

@@ -47,7 +47,8 @@ impl Kernel {
         ensures parked { IsParked self.old → IsParked self.new }
         ensures place { OnOk result (HasRowPlace self.new) }
         ensures form { IfOk result (λ row. row.form ≡ form.now) }
-        ensures blank { IfOk result (λ row. row.line ≡ blank_row (length self.old.table.costs.low)) }
+        ensures blank { IfOk result
+            (λ row. row.line ≡ blank_row (length self.old.table.costs.low)) }
     {
         if self.constants.reserve(1).is_err() {
             return Err(OutOfMemory);
@@ -106,8 +107,8 @@ impl Kernel {
         ensures room { HasRoom self.new.table }
         ensures whole { OnOk result (IsTableau self.new.table) }
         ensures parked { OnOk result (IsParked self.new) }
-        ensures wide { IfErr result (λ wide.
-            IsStepTooWide self.new.table.top self.new.table.costs self.new.table.rows.items (wide_at wide self.new.table.basis.items)) }
+        ensures wide { IfErr result (λ wide. IsStepTooWide self.new.table.top self.new.table.costs
+            self.new.table.rows.items (wide_at wide self.new.table.basis.items)) }
     {
         self.constants.push_reserved(0);
         let count = self.table.rows.len();

@@ -29,7 +29,8 @@ fn constant_term(coefficient: i64, constant: i64) -> i64
 fn constant_sum(form: &Form, constants: &[i64]) -> i64
     requires count { length form.now.coefficients ≤ length constants.now }
     requires light { IsCovered form.now }
-    requires small { (v : ℕ) → v < length form.now.coefficients → nat_abs (number_at constants.now v) ≤ 2 ^ 44 }
+    requires small { (v : ℕ) → v < length form.now.coefficients →
+        nat_abs (number_at constants.now v) ≤ 2 ^ 44 }
     ensures sum { result ≡ product_sum form.now.coefficients constants.now }
     ensures size { nat_abs result ≤ 2 ^ 60 }
 {
@@ -56,7 +57,8 @@ pub fn row_constant(form: &Form, costs: &CostBox, common: i64, constants: &[i64]
     requires light { IsCovered form.now }
     requires common { (pos 0 <ℤ common) × (common ≤ℤ pos (2 ^ 30)) }
     requires many { length costs.now.low ≤ length constants.now }
-    requires constants { (v : ℕ) → v < length costs.now.low → nat_abs (number_at constants.now v) ≤ 2 ^ 44 }
+    requires constants { (v : ℕ) → v < length costs.now.low → nat_abs (number_at constants.now v) ≤
+        2 ^ 44 }
     ensures constant { result ≡ row_constant_of common costs.now.low constants.now form.now }
     ensures size { nat_abs result ≤ 2 ^ 61 }
 {
@@ -90,9 +92,12 @@ fn put_bound_constants(constants: &mut [i64], lines: &[Line], costs: &CostBox, c
     requires short { All (IsShortConstant common) lines.now }
     requires common { (pos 0 <ℤ common) × (common ≤ℤ pos (2 ^ 30)) }
     ensures count { length constants.new ≡ length constants.old }
-    ensures low { (v : ℕ) → v < length costs.now.low → number_at constants.new v ≡ line_constant common (slice_index_or lines.now v no_line) }
-    ensures high { (v : ℕ) → v < length costs.now.low → number_at constants.new (length costs.now.low + v) ≡
-        high_constant (slice_index costs.now.low v) (slice_index costs.now.high v) common (line_constant common (slice_index_or lines.now v no_line)) }
+    ensures low { (v : ℕ) → v < length costs.now.low → number_at constants.new v ≡
+        line_constant common (slice_index_or lines.now v no_line) }
+    ensures high { (v : ℕ) → v < length costs.now.low → number_at constants.new
+        (length costs.now.low + v) ≡ high_constant (slice_index costs.now.low v)
+        (slice_index costs.now.high v) common (line_constant common
+        (slice_index_or lines.now v no_line)) }
     ensures small { AllWithin (2 ^ 62) constants.old → AllWithin (2 ^ 62) constants.new }
 {
     let low = costs.low.as_slice();
@@ -106,12 +111,15 @@ fn put_bound_constants(constants: &mut [i64], lines: &[Line], costs: &CostBox, c
 
 /// Puts the constants of the rows behind those of the box's forms.
 fn put_row_constants(constants: &mut [i64], rows: &[Form], costs: &CostBox, common: i64)
-    requires many { length costs.now.low + length costs.now.low + length rows.now ≤ length constants.old }
+    requires many { length costs.now.low + length costs.now.low + length rows.now ≤
+        length constants.old }
     requires rows { AreCoveredRows costs.now rows.now }
     requires common { (pos 0 <ℤ common) × (common ≤ℤ pos (2 ^ 30)) }
-    requires constants { (v : ℕ) → v < length costs.now.low → nat_abs (number_at constants.old v) ≤ 2 ^ 44 }
+    requires constants { (v : ℕ) → v < length costs.now.low → nat_abs (number_at constants.old v) ≤
+        2 ^ 44 }
     ensures count { length constants.new ≡ length constants.old }
-    ensures bounds { (v : ℕ) → v < length costs.now.low + length costs.now.low → number_at constants.new v ≡ number_at constants.old v }
+    ensures bounds { (v : ℕ) → v < length costs.now.low + length costs.now.low →
+        number_at constants.new v ≡ number_at constants.old v }
     ensures rows { (row : ℕ) → row < length rows.now →
         number_at constants.new (length costs.now.low + length costs.now.low + row) ≡
         row_constant_of common costs.now.low constants.old (slice_index_or rows.now row no_form) }
@@ -152,7 +160,8 @@ impl Kernel {
         requires made { AreMadeByFirst self.old self.old.constants.items }
         ensures by_first { AreByFirst self.old self.new.constants.items }
         ensures own { number_at self.new.constants.items var ≡ constant_of_line self.old var }
-        ensures others { (v : ℕ) → v < width_of self.old → v ≢ var → number_at self.new.constants.items v ≡ number_at self.old.constants.items v }
+        ensures others { (v : ℕ) → v < width_of self.old → v ≢ var →
+            number_at self.new.constants.items v ≡ number_at self.old.constants.items v }
         ensures small { AllWithin (2 ^ 62) self.new.constants.items }
         ensures keeps { KeepsAllButConstants self.old self.new }
     {
@@ -175,7 +184,8 @@ impl Kernel {
     pub fn follow_lines(&mut self)
         requires kernel { MayPutConstants self.old }
         requires made { AreMadeByFirst self.old self.old.constants.items }
-        requires stays { (v : ℕ) → v < width_of self.old → (held_turn self.old v).factor ≡ pos 0 → number_at self.old.constants.items v ≡ constant_of_line self.old v }
+        requires stays { (v : ℕ) → v < width_of self.old → (held_turn self.old v).factor ≡ pos 0 →
+            number_at self.old.constants.items v ≡ constant_of_line self.old v }
         ensures constants { AreConstantsPut self.old self.new.constants.items }
         ensures small { AllWithin (2 ^ 62) self.new.constants.items }
         ensures keeps { KeepsAllButConstants self.old self.new }

@@ -33,7 +33,8 @@ impl Kernel {
         requires kernel { IsKernel self.now }
         ensures positive { 0 < result }
         ensures common { result ∣ nat_abs self.now.common }
-        ensures constants { (var : ℕ) → var < width_of self.now → result ∣ nat_abs (number_at self.now.constants.items var) }
+        ensures constants { (var : ℕ) → var < width_of self.now → result ∣
+            nat_abs (number_at self.now.constants.items var) }
     {
         let mut divisor = size_of(self.common);
         for var in 0..self.width() {
@@ -50,8 +51,9 @@ impl Kernel {
         requires scale { scale ≤ 2 ^ 30 }
         requires places { length into.old ≡ width_of self.now }
         ensures places { length into.new ≡ width_of self.now }
-        ensures values { (var : ℕ) → var < width_of self.now →
-            slice_index into.new var ≡ slice_index self.now.table.costs.low var * scale + nat_abs (number_at self.now.constants.items var) / divisor }
+        ensures values { (var : ℕ) → var < width_of self.now → slice_index into.new var ≡
+            slice_index self.now.table.costs.low var * scale +
+            nat_abs (number_at self.now.constants.items var) / divisor }
     {
         let low = self.table.costs.low.as_slice();
         for var in 0..low.len() {
@@ -65,7 +67,8 @@ impl Kernel {
         requires kernel { IsKernel self.now }
         requires high { All (λ z. pos 0 ≤ℤ z) self.now.constants.items }
         requires places { length into.old.values ≡ width_of self.now }
-        ensures least { IsLeastPoint (AreMet self.now.table.rows.items) self.now.table.costs into.new }
+        ensures least { IsLeastPoint (AreMet self.now.table.rows.items) self.now.table.costs
+            into.new }
         ensures small { into.new.scale < 2 ^ 100 }
     {
         let divisor = self.common_divisor();

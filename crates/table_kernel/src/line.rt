@@ -50,7 +50,8 @@ fn put_signed_line(into: &mut Line, line: &Line, sign: i64, constant: i64)
     requires count { length into.old.numbers ≡ length line.now.numbers }
     requires sign { nat_abs sign ≡ 1 }
     ensures count { length into.new.numbers ≡ length line.now.numbers }
-    ensures numbers { (c : ℕ) → c < length line.now.numbers → number_at into.new.numbers c ≡ (sign *ℤ number_at line.now.numbers c) }
+    ensures numbers { (c : ℕ) → c < length line.now.numbers → number_at into.new.numbers c ≡
+        (sign *ℤ number_at line.now.numbers c) }
     ensures denominator { into.new.denominator ≡ line.now.denominator }
     ensures constant { into.new.constant ≡ constant }
     ensures reach { into.new.reach ≡ line.now.reach }
@@ -69,12 +70,14 @@ fn put_signed_line(into: &mut Line, line: &Line, sign: i64, constant: i64)
 fn put_sums(sums: &mut Listed<i64>, form: &Form, lows: &[Line], common: i64)
     requires count { length form.now.coefficients ≤ length lows.now }
     requires common { (pos 0 <ℤ common) × (common ≤ℤ pos (2 ^ 30)) }
-    requires lines { All IsLine lows.now × All (λ line. nat_abs line.denominator ∣ nat_abs common) lows.now }
+    requires lines { All IsLine lows.now × All (λ line. nat_abs line.denominator ∣ nat_abs common)
+        lows.now }
     requires long { All (λ line. length line.numbers ≡ length sums.old) lows.now }
     requires factors { factors_of (nat_abs common) form.now.coefficients lows.now ≤ 2 ^ 32 }
     ensures count { length sums.new ≡ length sums.old }
-    ensures numbers { (c : ℕ) → c < length sums.old →
-        number_at sums.new c ≡ number_at_column form.now (map (λ row. number_at row (suc c)) (map (scaled_line (nat_abs common)) lows.now)) }
+    ensures numbers { (c : ℕ) → c < length sums.old → number_at sums.new c ≡
+        number_at_column form.now (map (λ row. number_at row (suc c))
+        (map (scaled_line (nat_abs common)) lows.now)) }
     ensures sizes { AllWithin (2 ^ 62) sums.new }
 {
     clear(sums);
@@ -130,7 +133,8 @@ impl Kernel {
         requires kernel { IsKernel self.now }
         requires member { IsFormOf self.now.table.costs self.now.table.rows.items member }
         requires column { column < width_of self.now }
-        ensures number { result ≡ number_at_column (member_form (width_of self.now) self.now.table.rows.items member) (column_of self.now column) }
+        ensures number { result ≡ number_at_column (member_form (width_of self.now)
+            self.now.table.rows.items member) (column_of self.now column) }
         ensures size { nat_abs result ≤ 2 ^ 76 }
     {
         match member {
@@ -145,7 +149,8 @@ impl Kernel {
         requires kernel { IsKernel self.old }
         requires var { var < width_of self.old }
         requires sign { nat_abs sign ≡ 1 }
-        ensures numbers { (c : ℕ) → c < width_of self.old → number_at self.new.entering.numbers c ≡ (sign *ℤ number_at (line_of self.old var).numbers c) }
+        ensures numbers { (c : ℕ) → c < width_of self.old → number_at self.new.entering.numbers c ≡
+            (sign *ℤ number_at (line_of self.old var).numbers c) }
         ensures denominator { self.new.entering.denominator ≡ (line_of self.old var).denominator }
         ensures constant { self.new.entering.constant ≡ constant }
         ensures line { IsLine self.new.entering }
@@ -158,7 +163,10 @@ impl Kernel {
     fn high_constant(&self, var: usize) -> i64
         requires kernel { IsKernel self.now }
         requires var { var < width_of self.now }
-        ensures { result ≡ (((pos (slice_index self.now.table.costs.high var) -ℤ pos (slice_index self.now.table.costs.low var)) *ℤ (line_of self.now var).denominator) -ℤ (line_of self.now var).constant) }
+        ensures { result ≡
+            (((pos (slice_index self.now.table.costs.high var) -ℤ
+            pos (slice_index self.now.table.costs.low var)) *ℤ
+            (line_of self.now var).denominator) -ℤ (line_of self.now var).constant) }
     {
         let low = self.table.costs.low.as_slice()[var];
         let high = self.table.costs.high.as_slice()[var];
@@ -170,7 +178,8 @@ impl Kernel {
         requires kernel { IsKernel self.now }
         requires count { length form.now.coefficients ≤ width_of self.now }
         requires light { IsCovered form.now }
-        ensures sum { result ≡ pos (factors_of (nat_abs self.now.common) form.now.coefficients self.now.lows.items) }
+        ensures sum { result ≡ pos (factors_of (nat_abs self.now.common) form.now.coefficients
+            self.now.lows.items) }
         ensures size { result ≤ℤ pos (2 ^ 46) }
     {
         let mut sum = 0;
@@ -184,10 +193,13 @@ impl Kernel {
     fn put_row_numbers(&mut self, row: usize)
         requires kernel { IsKernel self.old }
         requires row { row < length self.old.table.rows.items }
-        requires factors { factors_of (nat_abs self.old.common) (slice_index_or self.old.table.rows.items row no_form).coefficients self.old.lows.items ≤ 2 ^ 32 }
+        requires factors { factors_of (nat_abs self.old.common)
+            (slice_index_or self.old.table.rows.items row no_form).coefficients
+            self.old.lows.items ≤ 2 ^ 32 }
         ensures count { length self.new.entering.numbers ≡ width_of self.old }
-        ensures numbers { (c : ℕ) → c < width_of self.old →
-            number_at self.new.entering.numbers c ≡ number_at_column (slice_index_or self.old.table.rows.items row no_form) (column_of self.old c) }
+        ensures numbers { (c : ℕ) → c < width_of self.old → number_at self.new.entering.numbers c ≡
+            number_at_column (slice_index_or self.old.table.rows.items row no_form)
+            (column_of self.old c) }
         ensures sizes { AllWithin (2 ^ 62) self.new.entering.numbers }
         ensures keeps { KeepsNumbers self.old self.new }
     {

@@ -62,7 +62,9 @@ impl Kernel {
         requires kernel { IsMoving self.old }
         requires var { var < width_of self.old }
         requires fall { nat_abs fall < 2 ^ 16 }
-        ensures shifted { (column : Option ℕ) × (IsBasisMoved self.old self.new before after column × (self.new.lows.items ≡ lines_after_low self.old.lows.items column var fall)) }
+        ensures shifted { (column : Option ℕ) ×
+            (IsBasisMoved self.old self.new before after column ×
+            (self.new.lows.items ≡ lines_after_low self.old.lows.items column var fall)) }
         ensures keeps { KeepsInMove self.old self.new }
         ensures costs { self.new.table.costs ≡ self.old.table.costs }
     {
@@ -80,7 +82,9 @@ impl Kernel {
     fn shift_high(&mut self, before: Member, after: Member, fall: i64)
         requires kernel { IsMoving self.old }
         requires fall { nat_abs fall < 2 ^ 16 }
-        ensures shifted { (column : Option ℕ) × (IsBasisMoved self.old self.new before after column × (self.new.lows.items ≡ lines_after_high self.old.lows.items column fall)) }
+        ensures shifted { (column : Option ℕ) ×
+            (IsBasisMoved self.old self.new before after column ×
+            (self.new.lows.items ≡ lines_after_high self.old.lows.items column fall)) }
         ensures keeps { KeepsInMove self.old self.new }
         ensures costs { self.new.table.costs ≡ self.old.table.costs }
     {
@@ -94,11 +98,16 @@ impl Kernel {
     fn move_low(&mut self, var: u32, bound: u16)
         requires kernel { IsMoving self.old }
         requires var { var < width_of self.old }
-        requires room { MayMove self.old (nat_abs (pos bound -ℤ pos (slice_index self.old.table.costs.low var))) }
+        requires room { MayMove self.old
+            (nat_abs (pos bound -ℤ pos (slice_index self.old.table.costs.low var))) }
         ensures kernel { IsMoving self.new }
-        ensures moved { IsMoved (stated self.old) (with_low self.old.table.costs var bound) (stated self.new) }
+        ensures moved { IsMoved (stated self.old) (with_low self.old.table.costs var bound)
+            (stated self.new) }
         ensures keeps { KeepsOfBox self.old self.new }
-        ensures room { (more : ℕ) → MayMove self.old (nat_abs (pos bound -ℤ pos (slice_index self.old.table.costs.low var)) + more) → MayMove self.new more }
+        ensures room { (more : ℕ) →
+            MayMove self.old
+            (nat_abs (pos bound -ℤ pos (slice_index self.old.table.costs.low var)) + more) →
+            MayMove self.new more }
     {
         let place = var as usize;
         let low = self.table.costs.low.as_slice()[place];
@@ -114,11 +123,16 @@ impl Kernel {
     fn move_high(&mut self, var: u32, bound: u16)
         requires kernel { IsMoving self.old }
         requires var { var < width_of self.old }
-        requires room { MayMove self.old (nat_abs (pos (slice_index self.old.table.costs.high var) -ℤ pos bound)) }
+        requires room { MayMove self.old
+            (nat_abs (pos (slice_index self.old.table.costs.high var) -ℤ pos bound)) }
         ensures kernel { IsMoving self.new }
-        ensures moved { IsMoved (stated self.old) (with_high self.old.table.costs var bound) (stated self.new) }
+        ensures moved { IsMoved (stated self.old) (with_high self.old.table.costs var bound)
+            (stated self.new) }
         ensures keeps { KeepsOfBox self.old self.new }
-        ensures room { (more : ℕ) → MayMove self.old (nat_abs (pos (slice_index self.old.table.costs.high var) -ℤ pos bound) + more) → MayMove self.new more }
+        ensures room { (more : ℕ) →
+            MayMove self.old
+            (nat_abs (pos (slice_index self.old.table.costs.high var) -ℤ pos bound) + more) →
+            MayMove self.new more }
     {
         let place = var as usize;
         let high = self.table.costs.high.as_slice()[place];
@@ -135,7 +149,8 @@ impl Kernel {
         requires kernel { IsKernel self.now }
         requires var { var < width_of self.now }
         requires far { (pos 0 ≤ℤ far) × (far ≤ℤ pos (2 ^ 61)) }
-        ensures { IsTrue result ↔ LineMayMove (nat_abs self.now.common) (nat_abs far) (line_of self.now var) }
+        ensures { IsTrue result ↔ LineMayMove (nat_abs self.now.common) (nat_abs far)
+            (line_of self.now var) }
     {
         let line = &self.lows[var];
         let most = u128::from(line.constant.unsigned_abs()) + far as u128 * step(line) as u128;
@@ -172,7 +187,8 @@ impl Kernel {
         ensures keeps { KeepsTableRows (stated self.old) (stated self.new) }
         ensures moved { OnOk result (IsMoved (stated self.old) costs.now (stated self.new)) }
         ensures same { OnErr result (self.new ≡ self.old) }
-        ensures refused { OnErr result (MayMove self.old (box_distance self.old.table.costs costs.now) → ⊥) }
+        ensures refused { OnErr result
+            (MayMove self.old (box_distance self.old.table.costs costs.now) → ⊥) }
     {
         if !self.moves_within(costs) {
             return Err(OutOfRange);

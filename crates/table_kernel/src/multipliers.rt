@@ -19,8 +19,8 @@ impl Kernel {
     fn fractions(&self, alloc: Global, place: usize) -> Result<Vec<(u64, Frac)>, OutOfMemory>
         requires kernel { IsKernel self.now }
         requires place { place < length self.now.constants.items }
-        ensures { IfOk result (λ parts.
-            parts.items ≡ fractions_of self.now.table.basis.items (member_at (stated self.now) place) (line_at (stated self.now) place)) }
+        ensures { IfOk result (λ parts. parts.items ≡ fractions_of self.now.table.basis.items
+            (member_at (stated self.now) place) (line_at (stated self.now) place)) }
     {
         let member = self.table.member_at(place);
         let mut parts = Vec::new(alloc);
@@ -41,7 +41,8 @@ impl Kernel {
         requires kernel { IsKernel self.now }
         requires place { place < length self.now.constants.items }
         requires stuck { IsStuck self.now.table.basis.items (line_at (stated self.now) place) }
-        ensures refutes { IfOk result (λ parts. Refutes self.now.table.rows.items parts self.now.table.costs) }
+        ensures refutes { IfOk result (λ parts. Refutes self.now.table.rows.items parts
+            self.now.table.costs) }
         ensures few { IfOk result (λ parts. length parts ≤ suc (width_of self.now)) }
         ensures told { IfErr result (IsWideAtBasis (stated self.now)) }
     {

@@ -25,8 +25,9 @@ use wide_fraction::Frac;
 /// The least common multiple of a denominator and of a fraction's, where it is at most 2^30.
 fn with_denominator(common: i64, value: Frac) -> Option<i64>
     requires common { (pos 0 <ℤ common) × (common ≤ℤ pos (2 ^ 30)) }
-    ensures { MatchOption result (2 ^ 30 < lcm (nat_abs common) value.denominator) (λ new.
-        (pos 0 <ℤ new) × (nat_abs new ≡ lcm (nat_abs common) value.denominator) × (new ≤ℤ pos (2 ^ 30))) }
+    ensures { MatchOption result (2 ^ 30 < lcm (nat_abs common) value.denominator)
+        (λ new. (pos 0 <ℤ new) × (nat_abs new ≡ lcm (nat_abs common) value.denominator) ×
+        (new ≤ℤ pos (2 ^ 30))) }
 {
     let denominator = value.denominator();
     if denominator > i128::from(ENTRY_LIMIT) {
@@ -38,7 +39,8 @@ fn with_denominator(common: i64, value: Frac) -> Option<i64>
 /// The least common denominator of a row's fractions, where it is at most 2^30.
 fn denominator_of(row: &TableRow, width: u32) -> Option<i64>
     requires width { length row.now ≡ suc width }
-    ensures { MatchOption result ((D : ℕ) → 0 < D → D ≤ 2 ^ 30 → AllGoInto row.now D → ⊥) (IsLeastDenominator row.now) }
+    ensures { MatchOption result ((D : ℕ) → 0 < D → D ≤ 2 ^ 30 → AllGoInto row.now D → ⊥)
+        (IsLeastDenominator row.now) }
 {
     let mut common = with_denominator(1, row.constant())?;
     for column in 0..width {
@@ -52,8 +54,10 @@ fn number_over(value: Frac, denominator: i64, limit: i64) -> Option<i64>
     requires denominator { (pos 0 <ℤ denominator) × (denominator ≤ℤ pos (2 ^ 30)) }
     requires whole { value.denominator ∣ nat_abs denominator }
     requires limit { (pos 0 ≤ℤ limit) × (limit ≤ℤ pos (2 ^ 44)) }
-    ensures { MatchOption result (nat_abs limit < nat_abs (over_denominator (nat_abs denominator) value)) (λ number.
-        (number ≡ over_denominator (nat_abs denominator) value) × (nat_abs number ≤ nat_abs limit)) }
+    ensures { MatchOption result
+        (nat_abs limit < nat_abs (over_denominator (nat_abs denominator) value))
+        (λ number. (number ≡ over_denominator (nat_abs denominator) value) ×
+        (nat_abs number ≤ nat_abs limit)) }
 {
     let numerator = value.numerator();
     if numerator.unsigned_abs() > limit as u128 {
@@ -81,9 +85,11 @@ fn read_numbers(
     requires denominator { (pos 0 <ℤ denominator) × (denominator ≤ℤ pos (2 ^ 30)) }
     requires whole { AllGoInto row.now (nat_abs denominator) }
     ensures count { length numbers.new ≡ length numbers.old }
-    ensures read { OnOk result ((c : ℕ) → c < length numbers.old → number_at numbers.new c ≡ over_denominator (nat_abs denominator) (entry row.now (suc c))) }
+    ensures read { OnOk result ((c : ℕ) → c < length numbers.old →
+        number_at numbers.new c ≡ over_denominator (nat_abs denominator) (entry row.now (suc c))) }
     ensures small { OnOk result (AllWithin (2 ^ 30) numbers.new) }
-    ensures refused { OnErr result ((c : ℕ) × (c < length numbers.old) × (2 ^ 30 < nat_abs (over_denominator (nat_abs denominator) (entry row.now (suc c))))) }
+    ensures refused { OnErr result ((c : ℕ) × (c < length numbers.old) ×
+        (2 ^ 30 < nat_abs (over_denominator (nat_abs denominator) (entry row.now (suc c))))) }
 {
     for column in 0..numbers.as_slice().len() {
         let Some(number) = number_over(row.entry(column as u32), denominator, ENTRY_LIMIT) else {
@@ -146,9 +152,11 @@ impl Kernel {
         ensures count { length self.new.lows.items ≡ width_of self.old }
         ensures each { All (λ line. length line.numbers ≡ width_of self.old) self.new.lows.items }
         ensures lines { OnOk result (All IsLine self.new.lows.items) }
-        ensures read { OnOk result ((var : ℕ) → var < width_of self.old → IsReadFrom (low_row self.old.table var) (line_of self.new var)) }
+        ensures read { OnOk result ((var : ℕ) → var < width_of self.old →
+            IsReadFrom (low_row self.old.table var) (line_of self.new var)) }
         ensures keeps { KeepsAllButLows self.old self.new }
-        ensures refused { OnErr result ((var : ℕ) × (var < width_of self.old) × ((D : ℕ) → FitsOver D (low_row self.old.table var) → ⊥)) }
+        ensures refused { OnErr result ((var : ℕ) × (var < width_of self.old) ×
+            ((D : ℕ) → FitsOver D (low_row self.old.table var) → ⊥)) }
     {
         for var in 0..self.lows.len() {
             read_line(&mut self.lows[var], &self.table.lines[var])?;
@@ -159,7 +167,9 @@ impl Kernel {
     /// The least common denominator of all lines, where it is at most 2^30.
     pub(crate) fn common_of_lines(&self) -> Option<i64>
         requires lines { All IsLine self.now.lows.items }
-        ensures { MatchOption result ((D : ℕ) → 0 < D → D ≤ 2 ^ 30 → All (λ line. nat_abs line.denominator ∣ D) self.now.lows.items → ⊥) (IsLeastCommon self.now.lows.items) }
+        ensures { MatchOption result ((D : ℕ) → 0 < D → D ≤ 2 ^ 30 →
+            All (λ line. nat_abs line.denominator ∣ D) self.now.lows.items → ⊥)
+            (IsLeastCommon self.now.lows.items) }
     {
         let mut common = 1;
         for var in 0..self.lows.len() {
@@ -172,7 +182,9 @@ impl Kernel {
     fn constants_fit(&self, common: i64) -> bool
         requires lines { All IsLine self.now.lows.items }
         requires common { IsLeastCommon self.now.lows.items common }
-        ensures { IsTrue result ↔ All (λ line. nat_abs line.constant * share_of (nat_abs common) line ≤ 2 ^ 44) self.now.lows.items }
+        ensures { IsTrue result ↔
+            All (λ line. nat_abs line.constant * share_of (nat_abs common) line ≤ 2 ^ 44)
+            self.now.lows.items }
     {
         for var in 0..self.lows.len() {
             let line = &self.lows[var];

@@ -36,7 +36,8 @@ impl Kernel {
         requires kernel { IsKernel self.old }
         requires place { place < length self.old.constants.items }
         ensures lines { self.new.table.lines.items ≡ slice_set self.old.table.lines.items place
-            (slice_set (blank_row (width_of self.old)) 0 (over_common (nat_abs self.old.common) (number_at self.old.constants.items place))) }
+            (slice_set (blank_row (width_of self.old)) 0
+            (over_common (nat_abs self.old.common) (number_at self.old.constants.items place))) }
         ensures keeps { KeepsAllButLinesOf self.old self.new }
     {
         let constant = fraction_over(
@@ -54,10 +55,13 @@ impl Kernel {
         requires place { place < length self.old.constants.items }
         requires member { IsFormOf self.old.table.costs self.old.table.rows.items member }
         requires column { column < width_of self.old }
-        requires zeros { (later : ℕ) → column ≤ later → entry (slice_index_or self.old.table.lines.items place []) (suc later) ≡ nothing }
+        requires zeros { (later : ℕ) → column ≤ later →
+            entry (slice_index_or self.old.table.lines.items place []) (suc later) ≡ nothing }
         ensures lines { self.new.table.lines.items ≡ slice_set self.old.table.lines.items place
             (slice_set (slice_index_or self.old.table.lines.items place []) (suc column)
-            (over_common (nat_abs self.old.common) (number_at_column (member_form (width_of self.old) self.old.table.rows.items member) (column_of self.old column)))) }
+            (over_common (nat_abs self.old.common) (number_at_column
+            (member_form (width_of self.old) self.old.table.rows.items member)
+            (column_of self.old column)))) }
         ensures keeps { KeepsAllButLinesOf self.old self.new }
     {
         let number = fraction_over(self.entry(member, column), self.common, self.table.top);
@@ -68,7 +72,8 @@ impl Kernel {
     fn restate_line(&mut self, place: usize)
         requires kernel { IsKernel self.old }
         requires place { place < length self.old.constants.items }
-        ensures lines { self.new.table.lines.items ≡ slice_set self.old.table.lines.items place (slice_index_or (kernel_lines self.old) place []) }
+        ensures lines { self.new.table.lines.items ≡ slice_set self.old.table.lines.items place
+            (slice_index_or (kernel_lines self.old) place []) }
         ensures keeps { KeepsAllButLinesOf self.old self.new }
     {
         let member = self.table.member_at(place);

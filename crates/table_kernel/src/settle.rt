@@ -26,7 +26,8 @@ impl Kernel {
     /// The first form of the box with a negative constant: one x - low, or, where there is none, one high - x.
     fn first_negative_bound(&self) -> Option<usize>
         requires kernel { IsKernel self.now }
-        ensures { IsFirstFound (width_of self.now + width_of self.now) (number_at self.now.constants.items) result }
+        ensures { IsFirstFound (width_of self.now + width_of self.now)
+            (number_at self.now.constants.items) result }
     {
         let width = self.width();
         for place in 0..width + width {
@@ -41,8 +42,10 @@ impl Kernel {
     fn look_at_row(&self, shortest: Option<usize>, row: usize) -> Option<usize>
         requires kernel { IsKernel self.now }
         requires row { row < length self.now.table.rows.items }
-        requires shortest { IsShortestFound row self.now.table.rows.items (row_constant (width_of self.now) (number_at self.now.constants.items)) shortest }
-        ensures { IsShortestFound (row + 1) self.now.table.rows.items (row_constant (width_of self.now) (number_at self.now.constants.items)) result }
+        requires shortest { IsShortestFound row self.now.table.rows.items
+            (row_constant (width_of self.now) (number_at self.now.constants.items)) shortest }
+        ensures { IsShortestFound (row + 1) self.now.table.rows.items
+            (row_constant (width_of self.now) (number_at self.now.constants.items)) result }
     {
         let width = self.width();
         if !self.is_below(width + width + row) {
@@ -57,7 +60,8 @@ impl Kernel {
     /// Of the rows with a negative constant the one with the fewest terms, of equals the first.
     fn shortest_negative_row(&self) -> Option<usize>
         requires kernel { IsKernel self.now }
-        ensures { IsShortestFound (length self.now.table.rows.items) self.now.table.rows.items (row_constant (width_of self.now) (number_at self.now.constants.items)) result }
+        ensures { IsShortestFound (length self.now.table.rows.items) self.now.table.rows.items
+            (row_constant (width_of self.now) (number_at self.now.constants.items)) result }
     {
         let mut shortest = None;
         for row in 0..self.table.rows.len() {
@@ -70,7 +74,8 @@ impl Kernel {
     /// one, else of the rows with one the row with the fewest terms, of equals the first.
     pub fn pivot_form(&self) -> Option<usize>
         requires kernel { IsKernel self.now }
-        ensures { IsPivotFormFound (width_of self.now) self.now.table.rows.items (number_at self.now.constants.items) result }
+        ensures { IsPivotFormFound (width_of self.now) self.now.table.rows.items
+            (number_at self.now.constants.items) result }
     {
         if let Some(place) = self.first_negative_bound() {
             return Some(place);
@@ -94,7 +99,8 @@ impl Kernel {
         ensures ahead { IfOk result (λ solved. IsAhead (stated self.old) (stated self.new) solved) }
         ensures keeps { KeepsBoxAndRows (stated self.old) (stated self.new) }
         ensures same { OnErr result (KeepsNumbers self.old self.new) }
-        ensures refused { OnErr result (IsLineTooLarge self.new place ⊎ IsRefusedAt self.new place) }
+        ensures refused { OnErr result (IsLineTooLarge self.new place ⊎
+            IsRefusedAt self.new place) }
     {
         self.put_line(place)?;
         match self.choose() {
@@ -134,7 +140,8 @@ impl Kernel {
     pub fn settle(&mut self) -> Result<Solved, OutOfRange>
         requires kernel { IsKernel self.old }
         ensures kernel { IsKernel self.new }
-        ensures shown { IfOk result (λ solved. IsShown self.new.table.basis.items (kernel_lines self.new) (Ended solved)) }
+        ensures shown { IfOk result (λ solved. IsShown self.new.table.basis.items
+            (kernel_lines self.new) (Ended solved)) }
         ensures keeps { KeepsBoxAndRows (stated self.old) (stated self.new) }
         ensures held_up { OnErr result (IsHeldUp self.new) }
         ensures risen { OnErr result (rank (stated self.old) ≤ rank (stated self.new)) }

@@ -102,9 +102,10 @@ fn unit_leads(alloc: Global, width: usize) -> Result<Vec<usize>, OutOfMemory>
 /// The constants of the forms x - low and high - x at the low corner.
 fn bound_constants(alloc: Global, costs: &CostBox) -> Result<Vec<i64>, OutOfMemory>
     requires ranges { IsBox (length costs.now.low) costs.now }
-    ensures constants { IfOk result (λ constants.
-        constants.items ≡ map (λ var. pos 0) (numbers_from 0 (length costs.now.low)) ++
-        map (λ var. pos (slice_index costs.now.high var) -ℤ pos (slice_index costs.now.low var)) (numbers_from 0 (length costs.now.low))) }
+    ensures constants { IfOk result (λ constants. constants.items ≡
+        map (λ var. pos 0) (numbers_from 0 (length costs.now.low)) ++
+        map (λ var. pos (slice_index costs.now.high var) -ℤ pos (slice_index costs.now.low var))
+        (numbers_from 0 (length costs.now.low))) }
     ensures small { IfOk result (λ constants. AllWithin (2 ^ 27) constants.items) }
 {
     let low = costs.low.as_slice();
@@ -125,8 +126,14 @@ fn bound_constants(alloc: Global, costs: &CostBox) -> Result<Vec<i64>, OutOfMemo
 pub fn starting_kernel(alloc: Global, costs: &CostBox, top: Top) -> Result<Kernel, OutOfMemory>
     requires ranges { IsBox (length costs.now.low) costs.now }
     requires few { length costs.now.low < 2 ^ 32 }
-    ensures held { IfOk result (λ kernel.
-        held_of kernel.table Open ≡ record { top = top; costs = costs.now; rows = []; basis = starting costs.now; stage = Open }) }
+    ensures held { IfOk result (λ kernel. held_of kernel.table Open ≡
+        record {
+          top = top;
+          costs = costs.now;
+          rows = [];
+          basis = starting costs.now;
+          stage = Open;
+        }) }
     ensures sound { IfOk result (λ kernel. IsSound kernel.table Open) }
     ensures kernel { IfOk result (λ kernel. 2 ^ 126 ≤ top → IsKernel kernel) }
     ensures parked { IfOk result IsParked }

@@ -65,7 +65,8 @@ impl Kernel {
     /// Whether a variable's line stays small in a turn at a column.
     fn line_stays_small(&self, var: usize, column: usize) -> bool
         requires ready { IsLineReady self.now column var }
-        ensures { IsTrue result ↔ StaysSmall (turn_of_line self.now column var) (line_of self.now var) self.now.entering }
+        ensures { IsTrue result ↔ StaysSmall (turn_of_line self.now column var)
+            (line_of self.now var) self.now.entering }
     {
         let turn = self.turn_at(var, column);
         if turn.factor == 0 {
@@ -93,8 +94,11 @@ impl Kernel {
         requires ready { IsLineReady self.now column var }
         requires common { (pos 0 <ℤ common) × (common ≤ℤ pos (2 ^ 30)) }
         requires divides { nat_abs (line_of self.now var).denominator ∣ nat_abs common }
-        ensures { MatchOption result (2 ^ 30 < lcm (nat_abs common) (denominator_after self.now.entering column (line_of self.now var))) (λ new.
-            (pos 0 <ℤ new) × (nat_abs new ≡ lcm (nat_abs common) (denominator_after self.now.entering column (line_of self.now var))) × (new ≤ℤ pos (2 ^ 30))) }
+        ensures { MatchOption result (2 ^ 30 < lcm (nat_abs common)
+            (denominator_after self.now.entering column (line_of self.now var)))
+            (λ new. (pos 0 <ℤ new) ×
+            (nat_abs new ≡ lcm (nat_abs common) (denominator_after self.now.entering column
+            (line_of self.now var))) × (new ≤ℤ pos (2 ^ 30))) }
     {
         let multiplier = self.turn_at(var, column).multiplier;
         if multiplier == 1 {
@@ -109,8 +113,9 @@ impl Kernel {
     /// The common denominator after a turn at a column, where it is at most 2^30.
     fn common_after(&self, column: usize) -> Option<i64>
         requires ready { IsReadyToTurn self.now column }
-        ensures { MatchOption result (2 ^ 30 < next_common self.now column) (λ common.
-            (pos 0 <ℤ common) × (nat_abs common ≡ next_common self.now column) × (common ≤ℤ pos (2 ^ 30))) }
+        ensures { MatchOption result (2 ^ 30 < next_common self.now column)
+            (λ common. (pos 0 <ℤ common) × (nat_abs common ≡ next_common self.now column) ×
+            (common ≤ℤ pos (2 ^ 30))) }
     {
         let mut common = self.common;
         for var in 0..self.lows.len() {
@@ -123,7 +128,8 @@ impl Kernel {
     fn constant_stays_small(&self, var: usize, column: usize, common: i64) -> bool
         requires ready { IsLineReady self.now column var }
         requires common { (pos 0 <ℤ common) × (common ≤ℤ pos (2 ^ 30)) }
-        requires divides { denominator_after self.now.entering column (line_of self.now var) ∣ nat_abs common }
+        requires divides { denominator_after self.now.entering column (line_of self.now var) ∣
+            nat_abs common }
         ensures { IsTrue result ↔ (constant_size self.now column (nat_abs common) var ≤ 2 ^ 44) }
     {
         let turn = self.turn_at(var, column);
@@ -155,8 +161,10 @@ impl Kernel {
     /// Turns a variable's line, where its number at the column isn't 0.
     fn turn_line(&mut self, var: usize, column: usize)
         requires ready { IsLineReady self.old column var }
-        requires touched { AreNonZeros self.old.entering.numbers (width_of self.old) self.old.left.items }
-        requires may { MayLineTurn (turn_of_line self.old column var) (line_of self.old var) self.old.entering }
+        requires touched { AreNonZeros self.old.entering.numbers (width_of self.old)
+            self.old.left.items }
+        requires may { MayLineTurn (turn_of_line self.old column var) (line_of self.old var)
+            self.old.entering }
         ensures turned { IsLineTurned self.old self.new column var }
         ensures keeps { KeepsAllButLows self.old self.new }
     {
@@ -169,7 +177,8 @@ impl Kernel {
     /// Turns all lines of x - low.
     fn turn_lines(&mut self, column: usize)
         requires ready { IsReadyToTurn self.old column }
-        requires touched { AreNonZeros self.old.entering.numbers (width_of self.old) self.old.left.items }
+        requires touched { AreNonZeros self.old.entering.numbers (width_of self.old)
+            self.old.left.items }
         requires may { MayTurn self.old column }
         ensures turned { AreLinesTurned self.old self.new column }
         ensures keeps { KeepsAllButLows self.old self.new }
@@ -187,7 +196,8 @@ impl Kernel {
     fn turn_numbers(&mut self, column: usize) -> Result<(), OutOfRange>
         requires ready { IsReadyToTurn self.old column }
         requires kernel { IsKernel self.old }
-        requires touched { AreNonZeros self.old.entering.numbers (width_of self.old) self.old.left.items }
+        requires touched { AreNonZeros self.old.entering.numbers (width_of self.old)
+            self.old.left.items }
         ensures same { OnErr result (self.new ≡ self.old) }
         ensures refused { OnErr result (MayTurn self.old column → ⊥) }
         ensures turned { OnOk result (HasTurned self.old self.new column) }
@@ -252,7 +262,8 @@ impl Kernel {
     /// Puts the columns in which the entering line isn't 0 into `left`.
     fn put_touched(&mut self)
         requires kernel { IsKernel self.old }
-        ensures touched { AreNonZeros self.old.entering.numbers (width_of self.old) self.new.left.items }
+        ensures touched { AreNonZeros self.old.entering.numbers (width_of self.old)
+            self.new.left.items }
         ensures entering { self.new.entering ≡ self.old.entering }
         ensures keeps { KeepsNumbers self.old self.new }
     {
