@@ -40,11 +40,14 @@ impl Kernel {
     ///
     /// `OutOfMemory` where something got no memory. Then the kernel holds what it held.
     pub fn make_room(&mut self, alloc: Global, form: &Form) -> Result<BlankRow, OutOfMemory>
+        // In any case the kernel holds the same, at work in whole numbers or parked.
         requires few { length self.old.table.costs.low < 2 ^ 32 }
         ensures same { HoldsSame self.old.table self.new.table }
         ensures numbers { HoldsNumbers self.old self.new }
         ensures kernel { IsKernel self.old → IsKernel self.new }
         ensures parked { IsParked self.old → IsParked self.new }
+
+        // On Ok there's a place for the row, which has the form and a line of zeros.
         ensures place { OnOk result (HasRowPlace self.new) }
         ensures form { IfOk result (λ row. row.form ≡ form.now) }
         ensures blank { IfOk result
@@ -100,13 +103,20 @@ impl Kernel {
     ///
     /// `Wide` where a step of the row's line makes a whole number that passes the top. The row was added nevertheless.
     pub fn park_row(&mut self, row: BlankRow) -> Result<(), Wide>
+        // The kernel is parked, its table is whole, and there's a place for the row.
         requires parked { IsParked self.old }
         requires whole { IsTableau self.old.table }
         requires row { MayAddRow self.old row }
+
+        // The row is added in any case, and the table has room for pivots.
         ensures holds { HoldsRow self.old.table row.form self.new.table }
         ensures room { HasRoom self.new.table }
+
+        // On Ok the table is whole again, and the kernel's lists have grown with it.
         ensures whole { OnOk result (IsTableau self.new.table) }
         ensures parked { OnOk result (IsParked self.new) }
+
+        // On Err a step at the basis is too wide.
         ensures wide { IfErr result (λ wide. IsStepTooWide self.new.table.top self.new.table.costs
             self.new.table.rows.items (wide_at wide self.new.table.basis.items)) }
     {

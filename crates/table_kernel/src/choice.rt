@@ -11,11 +11,16 @@ use integer_pivots::{keep_least, put_latest};
 impl Kernel {
     /// Keeps of the columns that are left those in which the variable's number, over the line's, is least.
     fn look_at(&mut self, var: usize)
+        // Columns are left now that the variables before this one were looked at.
         requires kernel { IsKernel self.old }
         requires line { IsLine self.old.entering }
         requires var { var < length self.old.lows.items }
         requires left { HasColumnsLeft self.old var }
+
+        // Those left are level up to this variable too, and no other comes before them.
         ensures left { HasColumnsLeft self.new (var + 1) }
+
+        // Nothing changes but which columns are left, in the same room.
         ensures room { vec_capacity self.new.left ≡ vec_capacity self.old.left }
         ensures keeps { self.new ≡ record self.old { left = self.new.left } }
     {
@@ -28,10 +33,15 @@ impl Kernel {
 
     /// Looks at one variable after the other from this one on, as long as several columns are left.
     fn look_at_all(&mut self, first: usize)
+        // Columns are left now that the variables before the first one were looked at.
         requires kernel { IsKernel self.old }
         requires line { IsLine self.old.entering }
         requires left { HasColumnsLeft self.old first }
+
+        // Those left are level at all variables, and no other comes before them.
         ensures left { HasColumnsLeft self.new (length self.new.lows.items) }
+
+        // Nothing changes but which columns are left, in the same room.
         ensures room { vec_capacity self.new.left ≡ vec_capacity self.old.left }
         ensures keeps { self.new ≡ record self.old { left = self.new.left } }
     {

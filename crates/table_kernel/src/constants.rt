@@ -53,12 +53,17 @@ fn common_value(common: i64, value: i64) -> i64
 
 /// The constant of a row's form, by those of x - low, which stand first.
 pub fn row_constant(form: &Form, costs: &CostBox, common: i64, constants: &[i64]) -> i64
+    // The form fits the box, and its coefficients are at most 2^16 together.
     requires fits { FitsBox costs.now form.now }
     requires light { IsCovered form.now }
+
+    // Each x - low has a constant, of at most 2^44 over a denominator of at most 2^30.
     requires common { (pos 0 <ℤ common) × (common ≤ℤ pos (2 ^ 30)) }
     requires many { length costs.now.low ≤ length constants.now }
     requires constants { (v : ℕ) → v < length costs.now.low → nat_abs (number_at constants.now v) ≤
         2 ^ 44 }
+
+    // The row's constant is its value at the low bounds plus its sum of those constants.
     ensures constant { result ≡ row_constant_of common costs.now.low constants.now form.now }
     ensures size { nat_abs result ≤ 2 ^ 61 }
 {
@@ -88,9 +93,12 @@ fn constant_of_high(low: u16, high: u16, common: i64, constant: i64) -> i64
 
 /// Puts the constants of x - low and of high - x for each variable first.
 fn put_bound_constants(constants: &mut [i64], lines: &[Line], costs: &CostBox, common: i64)
+    // Each variable has two places, and a line whose constant over `common` is at most 2^44.
     requires places { HavePlacesOfBox costs.now lines.now constants.old }
     requires short { All (IsShortConstant common) lines.now }
     requires common { (pos 0 <ℤ common) × (common ≤ℤ pos (2 ^ 30)) }
+
+    // The constants of x - low come first, and then those of high - x.
     ensures count { length constants.new ≡ length constants.old }
     ensures low { (v : ℕ) → v < length costs.now.low → number_at constants.new v ≡
         line_constant common (slice_index_or lines.now v no_line) }
@@ -98,6 +106,8 @@ fn put_bound_constants(constants: &mut [i64], lines: &[Line], costs: &CostBox, c
         (length costs.now.low + v) ≡ high_constant (slice_index costs.now.low v)
         (slice_index costs.now.high v) common (line_constant common
         (slice_index_or lines.now v no_line)) }
+
+    // If all constants were within 2^62, they still are.
     ensures small { AllWithin (2 ^ 62) constants.old → AllWithin (2 ^ 62) constants.new }
 {
     let low = costs.low.as_slice();
@@ -111,18 +121,25 @@ fn put_bound_constants(constants: &mut [i64], lines: &[Line], costs: &CostBox, c
 
 /// Puts the constants of the rows behind those of the box's forms.
 fn put_row_constants(constants: &mut [i64], rows: &[Form], costs: &CostBox, common: i64)
+    // Each row fits the box, is covered, and has a place behind those of the box's forms.
     requires many { length costs.now.low + length costs.now.low + length rows.now ≤
         length constants.old }
     requires rows { AreCoveredRows costs.now rows.now }
+
+    // The constants of x - low stand first, of at most 2^44 over the common denominator.
     requires common { (pos 0 <ℤ common) × (common ≤ℤ pos (2 ^ 30)) }
     requires constants { (v : ℕ) → v < length costs.now.low → nat_abs (number_at constants.old v) ≤
         2 ^ 44 }
+
+    // The box's forms keep their constants, and those of the rows follow from the first ones.
     ensures count { length constants.new ≡ length constants.old }
     ensures bounds { (v : ℕ) → v < length costs.now.low + length costs.now.low →
         number_at constants.new v ≡ number_at constants.old v }
     ensures rows { (row : ℕ) → row < length rows.now →
         number_at constants.new (length costs.now.low + length costs.now.low + row) ≡
         row_constant_of common costs.now.low constants.old (slice_index_or rows.now row no_form) }
+
+    // If all constants were within 2^62, they still are.
     ensures small { AllWithin (2 ^ 62) constants.old → AllWithin (2 ^ 62) constants.new }
 {
     let width = costs.low.as_slice().len();
@@ -155,13 +172,18 @@ impl Kernel {
 
     /// Lets the constants of a variable's forms, and those of the rows that use it, follow its line.
     fn follow(&mut self, var: usize)
+        // The constants of x - low are small, and those of the other forms follow from them.
         requires kernel { MayPutConstants self.old }
         requires var { var < width_of self.old }
         requires made { AreMadeByFirst self.old self.old.constants.items }
+
+        // The variable's constant is that of its line, and the other forms' follow again.
         ensures by_first { AreByFirst self.old self.new.constants.items }
         ensures own { number_at self.new.constants.items var ≡ constant_of_line self.old var }
         ensures others { (v : ℕ) → v < width_of self.old → v ≢ var →
             number_at self.new.constants.items v ≡ number_at self.old.constants.items v }
+
+        // All constants are within 2^62, and nothing else in the kernel changes.
         ensures small { AllWithin (2 ^ 62) self.new.constants.items }
         ensures keeps { KeepsAllButConstants self.old self.new }
     {
@@ -182,10 +204,15 @@ impl Kernel {
 
     /// Lets the constants of all forms follow the lines that have turned, over the common denominator as it was.
     pub fn follow_lines(&mut self)
+        // The constants of x - low are small, and those of the other forms follow from them.
         requires kernel { MayPutConstants self.old }
         requires made { AreMadeByFirst self.old self.old.constants.items }
+
+        // Where a line doesn't turn, the variable's constant is that of the line already.
         requires stays { (v : ℕ) → v < width_of self.old → (held_turn self.old v).factor ≡ pos 0 →
             number_at self.old.constants.items v ≡ constant_of_line self.old v }
+
+        // All forms have their constants, within 2^62, and nothing else changes.
         ensures constants { AreConstantsPut self.old self.new.constants.items }
         ensures small { AllWithin (2 ^ 62) self.new.constants.items }
         ensures keeps { KeepsAllButConstants self.old self.new }

@@ -46,9 +46,12 @@ impl Kernel {
     /// Puts the values of the corner over a divisor of the denominator: the low bounds times the scale, and the constants
     /// over the divisor above them.
     fn put_values(&self, divisor: u128, scale: u128, into: &mut Listed<u128>)
+        // The divisor isn't 0, and a low bound times the scale stays below 2^46.
         requires kernel { IsKernel self.now }
         requires positive { 0 < divisor }
         requires scale { scale ≤ 2 ^ 30 }
+
+        // Each variable has a place, which gets its value at the corner, times the scale.
         requires places { length into.old ≡ width_of self.now }
         ensures places { length into.new ≡ width_of self.now }
         ensures values { (var : ℕ) → var < width_of self.now → slice_index into.new var ≡

@@ -21,9 +21,12 @@ use integer_pivots::{ENTRY_LIMIT, FACTOR_LIMIT, Line, clear, put_multiple};
 
 /// How often a denominator goes into a common multiple.
 fn share_in(common: i64, denominator: i64) -> i64
+    // The denominator goes into the common one, which is at most 2^30.
     requires common { (pos 0 <ℤ common) × (common ≤ℤ pos (2 ^ 30)) }
     requires denominator { pos 0 <ℤ denominator }
     requires divides { nat_abs denominator ∣ nat_abs common }
+
+    // The share is their exact quotient, from 1 to 2^30.
     ensures share { result ≡ pos (nat_abs common / nat_abs denominator) }
     ensures times { (result *ℤ denominator) ≡ common }
     ensures positive { pos 1 ≤ℤ result }
@@ -46,13 +49,18 @@ fn product_of(factor: i64, number: i128) -> i128
 
 /// Puts a line in place of another, with another sign and another constant.
 fn put_signed_line(into: &mut Line, line: &Line, sign: i64, constant: i64)
+    // Both lines have as many columns, and the sign is 1 or -1.
     requires line { IsLine line.now }
     requires count { length into.old.numbers ≡ length line.now.numbers }
     requires sign { nat_abs sign ≡ 1 }
+
+    // Each number is the line's times the sign, over the same denominator.
     ensures count { length into.new.numbers ≡ length line.now.numbers }
     ensures numbers { (c : ℕ) → c < length line.now.numbers → number_at into.new.numbers c ≡
         (sign *ℤ number_at line.now.numbers c) }
     ensures denominator { into.new.denominator ≡ line.now.denominator }
+
+    // The constant is the one given, and the reach stays, since the sizes of numbers do.
     ensures constant { into.new.constant ≡ constant }
     ensures reach { into.new.reach ≡ line.now.reach }
 {
@@ -68,12 +76,17 @@ fn put_signed_line(into: &mut Line, line: &Line, sign: i64, constant: i64)
 /// Puts a form's numbers over a common denominator in place of numbers: the sum of its coefficients, each times its
 /// variable's line.
 fn put_sums(sums: &mut Listed<i64>, form: &Form, lows: &[Line], common: i64)
+    // Each variable of the form has a line, whose denominator goes into the common one.
     requires count { length form.now.coefficients ≤ length lows.now }
     requires common { (pos 0 <ℤ common) × (common ≤ℤ pos (2 ^ 30)) }
     requires lines { All IsLine lows.now × All (λ line. nat_abs line.denominator ∣ nat_abs common)
         lows.now }
     requires long { All (λ line. length line.numbers ≡ length sums.old) lows.now }
+
+    // Factors of at most 2^32 together, times numbers of at most 2^30, stay within 2^62.
     requires factors { factors_of (nat_abs common) form.now.coefficients lows.now ≤ 2 ^ 32 }
+
+    // Each sum is the form's number at its column, over the common denominator.
     ensures count { length sums.new ≡ length sums.old }
     ensures numbers { (c : ℕ) → c < length sums.old → number_at sums.new c ≡
         number_at_column form.now (map (λ row. number_at row (suc c))
@@ -91,8 +104,11 @@ fn put_sums(sums: &mut Listed<i64>, form: &Form, lows: &[Line], common: i64)
 impl Kernel {
     /// How often the denominator of a variable's line goes into the common one.
     pub fn share(&self, var: usize) -> i64
+        // The variable has a line, whose denominator goes into the common one.
         requires kernel { IsMoving self.now }
         requires var { var < width_of self.now }
+
+        // The share is their exact quotient, from 1 to 2^30.
         ensures share { result ≡ pos (share_of (nat_abs self.now.common) (line_of self.now var)) }
         ensures times { (result *ℤ (line_of self.now var).denominator) ≡ self.now.common }
         ensures positive { pos 1 ≤ℤ result }
@@ -114,10 +130,13 @@ impl Kernel {
 
     /// A row's number at a column, over the common denominator: the sum of its coefficients times the variables' numbers.
     fn row_entry(&self, form: &Form, column: usize) -> i128
+        // The form's coefficients are at most 2^16 together, each of a variable of the kernel.
         requires kernel { IsKernel self.now }
         requires count { length form.now.coefficients ≤ width_of self.now }
         requires light { IsCovered form.now }
         requires column { column < width_of self.now }
+
+        // The sum is exact, of coefficients within 2^16 times shares and numbers within 2^30.
         ensures number { result ≡ number_at_column form.now (column_of self.now column) }
         ensures size { nat_abs result ≤ 2 ^ 76 }
     {
@@ -146,13 +165,18 @@ impl Kernel {
 
     /// Puts a variable's line in place of the entering one, with another sign.
     fn put_signed(&mut self, var: usize, sign: i64, constant: i64)
+        // The variable has a line, and the sign is 1 or -1.
         requires kernel { IsKernel self.old }
         requires var { var < width_of self.old }
         requires sign { nat_abs sign ≡ 1 }
+
+        // The entering line is the variable's times the sign, but for the constant given.
         ensures numbers { (c : ℕ) → c < width_of self.old → number_at self.new.entering.numbers c ≡
             (sign *ℤ number_at (line_of self.old var).numbers c) }
         ensures denominator { self.new.entering.denominator ≡ (line_of self.old var).denominator }
         ensures constant { self.new.entering.constant ≡ constant }
+
+        // It's within the bounds of a line, and the kernel's other numbers stay.
         ensures line { IsLine self.new.entering }
         ensures keeps { KeepsNumbers self.old self.new }
     {
@@ -191,15 +215,20 @@ impl Kernel {
 
     /// Puts a row's numbers over the common denominator in place of the entering line's.
     fn put_row_numbers(&mut self, row: usize)
+        // The factors of which the row's line is made are at most 2^32 together.
         requires kernel { IsKernel self.old }
         requires row { row < length self.old.table.rows.items }
         requires factors { factors_of (nat_abs self.old.common)
             (slice_index_or self.old.table.rows.items row no_form).coefficients
             self.old.lows.items ≤ 2 ^ 32 }
+
+        // The entering line has the row's number at each column, over the common denominator.
         ensures count { length self.new.entering.numbers ≡ width_of self.old }
         ensures numbers { (c : ℕ) → c < width_of self.old → number_at self.new.entering.numbers c ≡
             number_at_column (slice_index_or self.old.table.rows.items row no_form)
             (column_of self.old c) }
+
+        // Those are within 2^62, and the kernel's other numbers stay.
         ensures sizes { AllWithin (2 ^ 62) self.new.entering.numbers }
         ensures keeps { KeepsNumbers self.old self.new }
     {
@@ -217,11 +246,16 @@ impl Kernel {
     ///
     /// `OutOfRange` where the factors of which it is made, or its numbers in lowest terms, pass the bounds.
     fn put_row_line(&mut self, row: usize, place: usize) -> Result<(), OutOfRange>
+        // The row's place is behind those of the two forms of each variable.
         requires kernel { IsKernel self.old }
         requires row { row < length self.old.table.rows.items }
         requires place { place ≡ width_of self.old + width_of self.old + row }
+
+        // On Ok the entering line is the row's; else the row's is too large for the kernel.
         ensures line { OnOk result (IsEntering self.new place) }
         ensures large { OnErr result (IsLineTooLarge self.new place) }
+
+        // In any case the kernel's numbers stay, but for the entering line.
         ensures keeps { KeepsNumbers self.old self.new }
     {
         if self.factor_sum(&self.table.rows[row]) > FACTOR_LIMIT {

@@ -59,12 +59,17 @@ fn raise(lines: &mut [Line], column: usize, fall: i64)
 impl Kernel {
     /// Moves the lines where the form x - low of a variable falls, and the member in the basis.
     fn shift_low(&mut self, var: usize, before: Member, after: Member, fall: i64)
+        // The form x - low of the variable falls by less than 2^16.
         requires kernel { IsMoving self.old }
         requires var { var < width_of self.old }
         requires fall { nat_abs fall < 2 ^ 16 }
+
+        // Where the basis has the member, the new one takes its column; the lines follow.
         ensures shifted { (column : Option ℕ) ×
             (IsBasisMoved self.old self.new before after column ×
             (self.new.lows.items ≡ lines_after_low self.old.lows.items column var fall)) }
+
+        // Nothing else changes, not even the box, which gets its bound afterwards.
         ensures keeps { KeepsInMove self.old self.new }
         ensures costs { self.new.table.costs ≡ self.old.table.costs }
     {
@@ -96,14 +101,19 @@ impl Kernel {
 
     /// Moves the lower bound of a variable.
     fn move_low(&mut self, var: u32, bound: u16)
+        // All constants stay within their limit where the bound moves that far.
         requires kernel { IsMoving self.old }
         requires var { var < width_of self.old }
         requires room { MayMove self.old
             (nat_abs (pos bound -ℤ pos (slice_index self.old.table.costs.low var))) }
+
+        // The lower bound has moved, and the kernel keeps its rows and its width.
         ensures kernel { IsMoving self.new }
         ensures moved { IsMoved (stated self.old) (with_low self.old.table.costs var bound)
             (stated self.new) }
         ensures keeps { KeepsOfBox self.old self.new }
+
+        // As far as the bounds might have moved beyond this, they may move still.
         ensures room { (more : ℕ) →
             MayMove self.old
             (nat_abs (pos bound -ℤ pos (slice_index self.old.table.costs.low var)) + more) →
@@ -121,14 +131,19 @@ impl Kernel {
 
     /// Moves the upper bound of a variable.
     fn move_high(&mut self, var: u32, bound: u16)
+        // All constants stay within their limit where the bound moves that far.
         requires kernel { IsMoving self.old }
         requires var { var < width_of self.old }
         requires room { MayMove self.old
             (nat_abs (pos (slice_index self.old.table.costs.high var) -ℤ pos bound)) }
+
+        // The upper bound has moved, and the kernel keeps its rows and its width.
         ensures kernel { IsMoving self.new }
         ensures moved { IsMoved (stated self.old) (with_high self.old.table.costs var bound)
             (stated self.new) }
         ensures keeps { KeepsOfBox self.old self.new }
+
+        // As far as the bounds might have moved beyond this, they may move still.
         ensures room { (more : ℕ) →
             MayMove self.old
             (nat_abs (pos (slice_index self.old.table.costs.high var) -ℤ pos bound) + more) →
@@ -180,12 +195,17 @@ impl Kernel {
     ///
     /// `OutOfRange` where the bounds don't cover that. Then the kernel is as before.
     pub fn rebase(&mut self, costs: &CostBox) -> Result<(), OutOfRange>
+        // The new box is one of the kernel's variables, and the rows fit it.
         requires kernel { IsKernel self.old }
         requires ranges { IsBox (width_of self.old) costs.now }
         requires fits { All (FitsBox costs.now) self.old.table.rows.items }
+
+        // In any case it's a kernel of the same rows, and on Ok one of the new box.
         ensures kernel { IsKernel self.new }
         ensures keeps { KeepsTableRows (stated self.old) (stated self.new) }
         ensures moved { OnOk result (IsMoved (stated self.old) costs.now (stated self.new)) }
+
+        // On Err it's as before, since some constant might pass its limit on that way.
         ensures same { OnErr result (self.new ≡ self.old) }
         ensures refused { OnErr result
             (MayMove self.old (box_distance self.old.table.costs costs.now) → ⊥) }

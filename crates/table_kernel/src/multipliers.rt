@@ -38,12 +38,17 @@ impl Kernel {
     ///
     /// `TooWide` where a step makes a whole number that passes the top; `OutOfMemory`.
     pub fn multipliers(&self, alloc: Global, place: usize) -> Result<Parts, SimplexStop>
+        // The form at the place can't be made non-negative.
         requires kernel { IsKernel self.now }
         requires place { place < length self.now.constants.items }
         requires stuck { IsStuck self.now.table.basis.items (line_at (stated self.now) place) }
+
+        // On Ok the multipliers refute the box, with at most one row more than there are variables.
         ensures refutes { IfOk result (λ parts. Refutes self.now.table.rows.items parts
             self.now.table.costs) }
         ensures few { IfOk result (λ parts. length parts ≤ suc (width_of self.now)) }
+
+        // On Err a step at the basis is too wide, unless it was want of memory.
         ensures told { IfErr result (IsWideAtBasis (stated self.now)) }
     {
         let fractions = self.fractions(alloc, place)?;

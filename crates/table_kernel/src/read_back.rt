@@ -80,14 +80,19 @@ fn read_numbers(
     row: &TableRow,
     denominator: i64,
 ) -> Result<(), OutOfRange>
+    // The row has a fraction for each number, behind its constant, all whole over the denominator.
     requires row { length row.now ≡ suc (length numbers.old) }
     requires few { length numbers.old < 2 ^ 32 }
     requires denominator { (pos 0 <ℤ denominator) × (denominator ≤ℤ pos (2 ^ 30)) }
     requires whole { AllGoInto row.now (nat_abs denominator) }
+
+    // On Ok each number is its column's over the denominator, and within 2^30.
     ensures count { length numbers.new ≡ length numbers.old }
     ensures read { OnOk result ((c : ℕ) → c < length numbers.old →
         number_at numbers.new c ≡ over_denominator (nat_abs denominator) (entry row.now (suc c))) }
     ensures small { OnOk result (AllWithin (2 ^ 30) numbers.new) }
+
+    // On Err the number of some column passes 2^30.
     ensures refused { OnErr result ((c : ℕ) × (c < length numbers.old) ×
         (2 ^ 30 < nat_abs (over_denominator (nat_abs denominator) (entry row.now (suc c))))) }
 {
@@ -106,11 +111,16 @@ fn read_numbers(
 ///
 /// `OutOfRange` where the row is within the bounds of a line over no denominator.
 fn read_line(line: &mut Line, row: &TableRow) -> Result<(), OutOfRange>
+    // The row has a constant, and a fraction for each number of the line.
     requires row { length row.now ≡ suc (length line.old.numbers) }
     requires few { length line.old.numbers < 2 ^ 32 }
+
+    // On Ok the line has the row's numbers, over their least common denominator.
     ensures count { length line.new.numbers ≡ length line.old.numbers }
     ensures line { OnOk result (IsLine line.new) }
     ensures read { OnOk result (IsReadFrom row.now line.new) }
+
+    // On Err the row is within the bounds of a line over no denominator.
     ensures refused { OnErr result ((D : ℕ) → FitsOver D row.now → ⊥) }
 {
     let width = line.numbers.as_slice().len() as u32;
@@ -148,12 +158,17 @@ impl Kernel {
     ///
     /// `OutOfRange` where a row is within the bounds of a line over no denominator.
     fn read_lines(&mut self) -> Result<(), OutOfRange>
+        // Each variable has a line, before and after, with a number for each column.
         requires shaped { IsShaped self.old }
         ensures count { length self.new.lows.items ≡ width_of self.old }
         ensures each { All (λ line. length line.numbers ≡ width_of self.old) self.new.lows.items }
+
+        // On Ok each has the numbers of its row, over their least common denominator.
         ensures lines { OnOk result (All IsLine self.new.lows.items) }
         ensures read { OnOk result ((var : ℕ) → var < width_of self.old →
             IsReadFrom (low_row self.old.table var) (line_of self.new var)) }
+
+        // Nothing else changes, and on Err some row fits a line over no denominator.
         ensures keeps { KeepsAllButLows self.old self.new }
         ensures refused { OnErr result ((var : ℕ) × (var < width_of self.old) ×
             ((D : ℕ) → FitsOver D (low_row self.old.table var) → ⊥)) }
@@ -204,13 +219,20 @@ impl Kernel {
     ///
     /// `OutOfRange` where the kernel's bounds don't cover the table.
     pub fn read_back(&mut self) -> Result<(), OutOfRange>
+        // The kernel is parked; its table is whole, with a top that suffices for a kernel.
         requires parked { IsParked self.old }
         requires whole { IsTableau self.old.table }
         requires top { 2 ^ 126 ≤ self.old.table.top }
+
+        // The table stays as it is, and the kernel is fit to be parked in any case.
         ensures table { self.new.table ≡ self.old.table }
         ensures parked { IsParked self.new }
+
+        // On Ok it's a kernel again, and stands for the lines of the table.
         ensures kernel { OnOk result (IsKernel self.new) }
         ensures lines { OnOk result (kernel_lines self.new ≡ self.old.table.lines.items) }
+
+        // On Err the kernel's bounds don't cover the table.
         ensures refused { OnErr result (MayReadBack self.old.table → ⊥) }
     {
         if !self.covers_rows() {

@@ -51,12 +51,17 @@ impl Kernel {
 
     /// Puts a member's number at a column into a line in the table that is 0 from there on.
     fn restate_entry(&mut self, place: usize, member: Member, column: usize)
+        // The member is a form of the kernel's box or rows, and the place is one of a line.
         requires kernel { IsKernel self.old }
         requires place { place < length self.old.constants.items }
         requires member { IsFormOf self.old.table.costs self.old.table.rows.items member }
+
+        // From the column on, the line's numbers are still to come.
         requires column { column < width_of self.old }
         requires zeros { (later : ℕ) → column ≤ later →
             entry (slice_index_or self.old.table.lines.items place []) (suc later) ≡ nothing }
+
+        // The member's number stands at the column in lowest terms, and nothing else changes.
         ensures lines { self.new.table.lines.items ≡ slice_set self.old.table.lines.items place
             (slice_set (slice_index_or self.old.table.lines.items place []) (suc column)
             (over_common (nat_abs self.old.common) (number_at_column
@@ -85,10 +90,15 @@ impl Kernel {
 
     /// Puts the lines of all forms into the table.
     pub fn restate(&mut self)
+        // The table's lines are the fractions that the kernel stands for.
         requires kernel { IsKernel self.old }
         ensures lines { self.new.table.lines.items ≡ kernel_lines self.old }
+
+        // The table is whole, with room for pivots, so it can go on in fractions.
         ensures whole { IsTableau self.new.table }
         ensures room { HasRoom self.new.table }
+
+        // The box, the rows and the basis stay, and a place for a row; the kernel is parked.
         ensures keeps { KeepsBoxAndRows self.old.table self.new.table }
         ensures basis { self.new.table.basis ≡ self.old.table.basis }
         ensures place { HasRowPlace self.old → HasRowPlace self.new }

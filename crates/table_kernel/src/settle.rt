@@ -93,11 +93,16 @@ impl Kernel {
     ///
     /// `OutOfRange` where the bounds don't cover that. Then the kernel's numbers are as before.
     fn raise(&mut self, place: usize) -> Result<Option<Solved>, OutOfRange>
+        // The place is that of the pivot form.
         requires kernel { IsKernel self.old }
         requires due { IsPivotPlace self.old place }
+
+        // On Ok it shows the answer or its rank rose; it has the same box and rows in any case.
         ensures kernel { IsKernel self.new }
         ensures ahead { IfOk result (λ solved. IsAhead (stated self.old) (stated self.new) solved) }
         ensures keeps { KeepsBoxAndRows (stated self.old) (stated self.new) }
+
+        // On Err its numbers stay, since the form's line or the pivot passes the bounds.
         ensures same { OnErr result (KeepsNumbers self.old self.new) }
         ensures refused { OnErr result (IsLineTooLarge self.new place ⊎
             IsRefusedAt self.new place) }
@@ -118,10 +123,13 @@ impl Kernel {
     ///
     /// `OutOfRange` where the bounds don't cover that pivot. Then the kernel's numbers are as before.
     fn advance(&mut self) -> Result<Option<Solved>, OutOfRange>
+        // On Ok it shows the answer or its rank rose; it has the same box and rows in any case.
         requires kernel { IsKernel self.old }
         ensures kernel { IsKernel self.new }
         ensures ahead { IfOk result (λ solved. IsAhead (stated self.old) (stated self.new) solved) }
         ensures keeps { KeepsBoxAndRows (stated self.old) (stated self.new) }
+
+        // On Err its numbers stay, since the pivot that is due isn't covered.
         ensures same { OnErr result (KeepsNumbers self.old self.new) }
         ensures held_up { OnErr result (IsHeldUp self.new) }
     {
@@ -138,11 +146,14 @@ impl Kernel {
     /// `OutOfRange` where the bounds don't cover a step. Then the kernel is at the basis at which that step would have
     /// been taken.
     pub fn settle(&mut self) -> Result<Solved, OutOfRange>
+        // On Ok the kernel shows the answer; it has the same box and rows in any case.
         requires kernel { IsKernel self.old }
         ensures kernel { IsKernel self.new }
         ensures shown { IfOk result (λ solved. IsShown self.new.table.basis.items
             (kernel_lines self.new) (Ended solved)) }
         ensures keeps { KeepsBoxAndRows (stated self.old) (stated self.new) }
+
+        // On Err the pivot that is due isn't covered, and the rank hasn't fallen.
         ensures held_up { OnErr result (IsHeldUp self.new) }
         ensures risen { OnErr result (rank (stated self.old) ≤ rank (stated self.new)) }
     {

@@ -194,12 +194,17 @@ impl Kernel {
     ///
     /// `OutOfRange` where the bounds don't cover that. Then the kernel is as before.
     fn turn_numbers(&mut self, column: usize) -> Result<(), OutOfRange>
+        // The lines' turns are put, and so are the columns in which the entering line isn't 0.
         requires ready { IsReadyToTurn self.old column }
         requires kernel { IsKernel self.old }
         requires touched { AreNonZeros self.old.entering.numbers (width_of self.old)
             self.old.left.items }
+
+        // On Err the kernel is as before, since the bounds don't cover the turn.
         ensures same { OnErr result (self.new ≡ self.old) }
         ensures refused { OnErr result (MayTurn self.old column → ⊥) }
+
+        // On Ok the lines have turned, and leads, common denominator and constants with them.
         ensures turned { OnOk result (HasTurned self.old self.new column) }
     {
         if !self.lines_stay_small(column) {
@@ -229,11 +234,16 @@ impl Kernel {
 
     /// Puts how each variable's line turns at a column into `turns`.
     fn put_turns(&mut self, column: usize)
+        // The entering line has a positive number at the column: the pivot.
         requires kernel { IsKernel self.old }
         requires inside { column < width_of self.old }
         requires entering { IsLine self.old.entering }
         requires pivot { pos 0 <ℤ number_at self.old.entering.numbers column }
+
+        // Each variable has the turn of its line at that column.
         ensures turns { AreTurns self.new column }
+
+        // The columns that are left, the entering line and the kernel's numbers stay.
         ensures left { self.new.left ≡ self.old.left }
         ensures entering { self.new.entering ≡ self.old.entering }
         ensures keeps { KeepsNumbers self.old self.new }
@@ -277,10 +287,15 @@ impl Kernel {
     ///
     /// `OutOfRange` where the bounds don't cover that. Then the kernel's numbers are as before.
     pub fn pivot(&mut self, place: usize, column: usize) -> Result<(), OutOfRange>
+        // The place's form is negative at the basis, and the column is a best one for its line.
         requires { IsPivotIn self.old place column }
+
+        // On Ok the kernel's rank rose; it has the same box and rows in any case.
         ensures kernel { IsKernel self.new }
         ensures rises { OnOk result (rank (stated self.old) < rank (stated self.new)) }
         ensures keeps { KeepsBoxAndRows (stated self.old) (stated self.new) }
+
+        // On Err its numbers and the entering line stay, since the turn isn't covered.
         ensures same { OnErr result (KeepsNumbers self.old self.new) }
         ensures entering_stays { OnErr result (self.new.entering ≡ self.old.entering) }
         ensures refused { OnErr result (MayTurn self.new column → ⊥) }
