@@ -67,11 +67,16 @@ impl ActiveTable {
     ///
     /// `OutOfMemory` where something got no memory. Then the table holds what it held.
     pub fn make_room(&mut self, alloc: Global, form: &Form) -> Result<BlankRow, OutOfMemory>
+        // The table has room for pivots.
         requires room { HasRoom self.old.kernel.table }
+
+        // In any case it's as sound as it was, and holds the same in the same representation.
         ensures sound { (stage : Stage) → IsSoundActive self.old stage →
             IsSoundActive self.new stage }
         ensures held { held_of self.new.kernel.table Open ≡ held_of self.old.kernel.table Open }
         ensures same { self.new.in_kernel ≡ self.old.in_kernel }
+
+        // On Ok there is a place for the row, which is a copy of the form and a line of zeros.
         ensures place { OnOk result (HasRowPlace self.new.kernel) }
         ensures form { IfOk result (λ row. row.form ≡ form.now) }
         ensures blank { IfOk result
@@ -82,13 +87,20 @@ impl ActiveTable {
 
     /// Goes on with the table in fractions, at the same basis.
     fn leave_kernel(&mut self)
+        // The table is whole, and the kernel works.
         requires active { IsActive self.old }
         requires kernel { self.old.in_kernel ≡ true }
+
+        // The table in fractions is whole, and goes on from here.
         ensures active { IsActive self.new }
         ensures left { self.new.in_kernel ≡ false }
+
+        // Box, rows and basis stay, and the lines are those that the kernel stood for.
         ensures keeps { KeepsBoxAndRows self.old.kernel.table self.new.kernel.table }
         ensures basis { self.new.kernel.table.basis.items ≡ self.old.kernel.table.basis.items }
         ensures lines { self.new.kernel.table.lines.items ≡ kernel_lines self.old.kernel }
+
+        // Where there was a place for one more row, there still is.
         ensures place { HasRowPlace self.old.kernel → HasRowPlace self.new.kernel }
     {
         self.kernel.restate();
@@ -97,11 +109,16 @@ impl ActiveTable {
 
     /// Goes on in the kernel, where its bounds cover the table in fractions.
     fn return_to_kernel(&mut self)
+        // The table is whole, and works in fractions.
         requires active { IsActive self.old }
         requires fractions { self.old.in_kernel ≡ false }
+
+        // Whichever of the two works then, the table is whole and has the same lines.
         ensures active { IsActive self.new }
         ensures table { self.new.kernel.table ≡ self.old.kernel.table }
         ensures lines { (table_of self.new).lines.items ≡ self.old.kernel.table.lines.items }
+
+        // The kernel works again wherever the width and its bounds allow it.
         ensures back { MayReturn self.old.kernel.table → self.new.in_kernel ≡ true }
     {
         if is_wide(self.kernel.table.top) {
@@ -115,8 +132,11 @@ impl ActiveTable {
     ///
     /// `Wide` where a step of the row's line makes a whole number that passes the top. The row was added nevertheless.
     pub fn put_row(&mut self, row: BlankRow) -> Result<(), Wide>
+        // The table is whole and has a place for the row, which fits the box, with a line of zeros.
         requires active { IsActive self.old }
         requires row { MayAddRow self.old.kernel row }
+
+        // The row is added in any case, and on Ok the table is whole again.
         ensures held { held_of self.new.kernel.table Open ≡ record {
           top = self.old.kernel.table.top;
           costs = self.old.kernel.table.costs;
@@ -125,7 +145,11 @@ impl ActiveTable {
           stage = Open;
         } }
         ensures active { OnOk result (IsActive self.new) }
+
+        // The kernel works on where its bounds cover the row.
         ensures stays { self.old.in_kernel ≡ true → IsCovered row.form → self.new.in_kernel ≡ true }
+
+        // There is room for pivots in any case; on Err a step at the basis is too wide.
         ensures room { HasRoom self.new.kernel.table }
         ensures wide { IfErr result (λ wide. IsStepTooWide self.new.kernel.table.top
             self.new.kernel.table.costs self.new.kernel.table.rows.items
@@ -149,15 +173,22 @@ impl ActiveTable {
     /// `Wide` where a step makes a whole number that passes the top; it is one at the basis that
     /// is left.
     fn advance(&mut self) -> Result<Option<Solved>, Wide>
+        // The table is whole, and works in fractions.
         requires active { IsActive self.old }
         requires fractions { self.old.in_kernel ≡ false }
+
+        // On Ok the table is whole again, and it shows the answer or its rank rose.
         ensures active { OnOk result (IsActive self.new) }
         ensures ahead { IfOk result (λ solved. IsAhead self.old.kernel.table (table_of self.new)
             solved) }
+
+        // It keeps its box and rows, with room for pivots; on Ok the kernel works where it may.
         ensures keeps { KeepsBoxAndRows self.old.kernel.table self.new.kernel.table }
         ensures back { OnOk result (self.new.in_kernel ≡ false → MayReturn self.new.kernel.table →
             ⊥) }
         ensures room { HasRoom self.new.kernel.table }
+
+        // On Err a step at the basis that is left is too wide.
         ensures wide { IfErr result (λ wide. IsStepTooWide self.new.kernel.table.top
             self.new.kernel.table.costs self.new.kernel.table.rows.items
             (wide_at wide self.new.kernel.table.basis.items)) }
@@ -175,16 +206,23 @@ impl ActiveTable {
     /// `Wide` where a step makes a whole number that passes the top; it is one at the basis that
     /// is left.
     fn work(&mut self) -> Result<Option<Solved>, Wide>
+        // The table is whole, with room for pivots.
         requires active { IsActive self.old }
+
+        // On Ok it's whole and further on; only a pivot beyond its bounds stops the kernel.
         ensures active { OnOk result (IsActive self.new) }
         ensures left { self.old.in_kernel ≡ true → self.new.in_kernel ≡ false →
             WasHeldUp (held_of self.old.kernel.table Open) }
         ensures ahead { IfOk result (λ solved. IsAhead (table_of self.old) (table_of self.new)
             solved) }
+
+        // It keeps its box and rows, with room for pivots; on Ok the kernel works where it may.
         ensures keeps { KeepsBoxAndRows self.old.kernel.table self.new.kernel.table }
         ensures back { OnOk result (self.new.in_kernel ≡ false → MayReturn self.new.kernel.table →
             ⊥) }
         ensures room { HasRoom self.new.kernel.table }
+
+        // On Err a step at the basis that is left is too wide.
         ensures wide { IfErr result (λ wide. IsStepTooWide self.new.kernel.table.top
             self.new.kernel.table.costs self.new.kernel.table.rows.items
             (wide_at wide self.new.kernel.table.basis.items)) }
@@ -206,15 +244,22 @@ impl ActiveTable {
     ///
     /// `Wide` where a step makes a whole number that passes the top; it is one at the basis that is left.
     pub fn settle(&mut self) -> Result<Solved, Wide>
+        // The table is whole, with room for pivots.
         requires active { IsActive self.old }
+
+        // On Ok the table is whole again, and its lines show the answer.
         ensures active { OnOk result (IsActive self.new) }
         ensures shown { IfOk result (λ solved. IsShown self.new.kernel.table.basis.items
             (table_of self.new).lines.items (Ended solved)) }
+
+        // Box and rows stay; only a pivot beyond its bounds stops the kernel, till it may return.
         ensures keeps { KeepsBoxAndRows self.old.kernel.table self.new.kernel.table }
         ensures left { self.old.in_kernel ≡ true → self.new.in_kernel ≡ false →
             WasHeldUp (held_of self.old.kernel.table Open) }
         ensures back { OnOk result (self.new.in_kernel ≡ false → MayReturn self.new.kernel.table →
             ⊥) }
+
+        // There is room for pivots in any case; on Err a step at the basis left is too wide.
         ensures room { HasRoom self.new.kernel.table }
         ensures wide { IfErr result (λ wide. IsStepTooWide self.new.kernel.table.top
             self.new.kernel.table.costs self.new.kernel.table.rows.items
@@ -233,12 +278,17 @@ impl ActiveTable {
     ///
     /// `Wide` where a step of this makes a whole number that passes the top; then `into` is as before.
     pub fn put_corner(&self, into: &mut Point) -> Result<(), Wide>
+        // No constant of the table is negative, and the point has a place for each variable.
         requires active { IsActive self.now }
         requires high { AreHigh (table_of self.now) }
         requires places { length into.old.values ≡ length self.now.kernel.table.costs.low }
+
+        // On Ok it is the least point of the box that meets the rows, and its scale is below 2^100.
         ensures least { OnOk result (IsLeastPoint (AreMet self.now.kernel.table.rows.items)
             self.now.kernel.table.costs into.new) }
         ensures small { OnOk result (into.new.scale < 2 ^ 100) }
+
+        // On Err the point is as before, and a step at the basis is too wide.
         ensures kept { OnErr result (into.new ≡ into.old) }
         ensures wide { IfErr result (λ wide. IsStepTooWide self.now.kernel.table.top
             self.now.kernel.table.costs self.now.kernel.table.rows.items
@@ -257,14 +307,19 @@ impl ActiveTable {
     ///
     /// `TooWide` where a step makes a whole number that passes the top; `OutOfMemory`.
     pub fn multipliers(&self, alloc: Global, line: usize) -> Result<Parts, SimplexStop>
+        // The line is one of the table, and its form can't be made non-negative.
         requires active { IsActive self.now }
         requires line { line < length (table_of self.now).lines.items }
         requires stuck { IsStuck self.now.kernel.table.basis.items
             (line_at (table_of self.now) line) }
+
+        // On Ok the multipliers refute the box, with at most one row more than there are variables.
         ensures refutes { IfOk result (λ parts. Refutes self.now.kernel.table.rows.items parts
             self.now.kernel.table.costs) }
         ensures few { IfOk result
             (λ parts. length parts ≤ suc (length self.now.kernel.table.costs.low)) }
+
+        // On Err a step at the basis is too wide, unless it was want of memory.
         ensures told { IfErr result (IsWideAtBasis self.now.kernel.table) }
     {
         if self.in_kernel {
@@ -277,13 +332,18 @@ impl ActiveTable {
     /// works on where its bounds cover so far a move, and again where they cover the table in fractions afterwards. It
     /// takes no memory.
     pub fn rebase(&mut self, costs: &CostBox)
+        // The table is whole, the new box is one of its variables, and the rows fit it.
         requires active { IsActive self.old }
         requires ranges { IsBox (length self.old.kernel.table.costs.low) costs.now }
         requires fits { All (FitsBox costs.now) self.old.kernel.table.rows.items }
+
+        // It's whole again; the kernel works on over a move that it covers, and else where it may.
         ensures active { IsActive self.new }
         ensures stays { self.old.in_kernel ≡ true → MayMove self.old.kernel
             (box_distance self.old.kernel.table.costs costs.now) → self.new.in_kernel ≡ true }
         ensures back { self.new.in_kernel ≡ false → MayReturn self.new.kernel.table → ⊥ }
+
+        // The basis keeps its members, or is the starting one where a step of the move is too wide.
         ensures rebased { IsRebased (held_of self.old.kernel.table Open) costs.now
             (held_of self.new.kernel.table Open) }
     {

@@ -116,14 +116,21 @@ impl Tableau {
     ///   every later call tells the same step.
     /// - `OutOfMemory` where something got no memory. Then the tableau is as before.
     pub fn add_row(&mut self, alloc: Global, form: &Form) -> Result<(), SimplexStop>
+        // The row's form fits the tableau's box.
         requires fits { FitsBox self.old.costs form.now }
+
+        // On Ok the tableau hadn't stopped, and it's open with one row more, at the same basis.
         ensures going { OnOk result (IsGoing self.old.stage) }
         ensures added { OnOk result (held_by self.new ≡
             record { top = self.old.top; costs = self.old.costs; rows = self.old.rows ++ form.now ∷ []; basis = self.old.basis; stage = Stage.Open }) }
+
+        // On Err it's as before, unless a too wide step stopped it; then it has the row too.
         ensures refused { IfErr result (IsRowRefused (held_by self.old) form.now
             (held_by self.new)) }
         ensures same { result ≡ Err SimplexStop.OutOfMemory → self.new ≡ self.old }
         ensures rests { (wide : Wide) → self.old.stage ≡ Stopped wide → self.new ≡ self.old }
+
+        // The kernel works on where its bounds cover the row.
         ensures kernel { self.old.in_kernel ≡ true → IsCovered form.now →
             self.new.in_kernel ≡ true }
     {
@@ -144,14 +151,21 @@ impl Tableau {
     /// `Wide` where a step makes a whole number that passes the top. It stops the tableau: `basis` is the one at which
     /// the step was taken, and every later call tells the same step.
     pub fn solve(&mut self) -> Result<Solved, Wide>
+        // On Ok a rational point of the box meets the rows, or none does and a form is named.
         ensures going { OnOk result (IsGoing self.old.stage) }
         ensures solved { IfOk result (λ solved. IsSolved self.old.costs self.old.rows solved) }
         ensures among { IfOk result (IsAmongForms self.old.costs self.old.rows) }
+
+        // The tableau holds the same box and rows then, and has ended with this answer.
         ensures ended { IfOk result (λ solved. held_by self.new ≡
             record { top = self.old.top; costs = self.old.costs; rows = self.old.rows; basis = self.new.basis; stage = Ended solved }) }
+
+        // On Err a too wide step at its basis stops it, or it had stopped and is as before.
         ensures stop { IfErr result (λ wide. IsTableauStopped (held_by self.old) self.old.rows
             (held_by self.new) wide) }
         ensures rests { (wide : Wide) → self.old.stage ≡ Stopped wide → self.new ≡ self.old }
+
+        // Only a pivot beyond its bounds stops the kernel; on Ok it works wherever it may.
         ensures left { self.old.in_kernel ≡ true → self.new.in_kernel ≡ false →
             WasHeldUp (held_by self.old) }
         ensures back { OnOk result (self.new.in_kernel ≡ false → CannotReturn (held_by self.new)) }
@@ -171,10 +185,15 @@ impl Tableau {
     ///
     /// `Wide` where a step makes a whole number that passes the top; then `into` is as before.
     pub fn point(&self, into: &mut Point) -> Result<(), Wide>
+        // `solve` told that a point meets the rows, and `into` has a place for each variable.
         requires solved { self.now.stage ≡ Ended Feasible }
         requires places { length into.old.values ≡ length self.now.costs.low }
+
+        // On Ok it is the least point of the box that meets the rows, and its scale is below 2^100.
         ensures least { OnOk result (IsLeastPoint (AreMet self.now.rows) self.now.costs into.new) }
         ensures small { OnOk result (into.new.scale < 2 ^ 100) }
+
+        // On Err the point is as before, and a step at the basis is too wide.
         ensures kept { OnErr result (into.new ≡ into.old) }
         ensures wide { IfErr result (λ wide. IsStepTooWide self.now.top self.now.costs self.now.rows
             (wide_at wide self.now.basis)) }
@@ -210,13 +229,20 @@ impl Tableau {
     ///
     /// `Wide` where the tableau had stopped: the same step again.
     pub fn rebase(&mut self, costs: &CostBox) -> Result<(), Wide>
+        // The new box is one of the tableau's variables, and the rows fit it.
         requires ranges { IsBox (length self.old.costs.low) costs.now }
         requires fits { All (FitsBox costs.now) self.old.rows }
+
+        // On Ok it has moved, to the starting basis only where a step of the move is too wide.
         ensures going { OnOk result (IsGoing self.old.stage) }
         ensures moved { OnOk result (IsRebased (held_by self.old) costs.now (held_by self.new)) }
+
+        // Only a move beyond its bounds stops the kernel; on Ok it works wherever it may.
         ensures left { self.old.in_kernel ≡ true → self.new.in_kernel ≡ false →
             CouldNotMove (held_by self.old) costs.now }
         ensures back { OnOk result (self.new.in_kernel ≡ false → CannotReturn (held_by self.new)) }
+
+        // On Err it had stopped before, by the same step, and is as it was.
         ensures stopped { IfErr result (λ wide. (self.old.stage ≡ Stopped wide) ×
             (self.new ≡ self.old)) }
     {

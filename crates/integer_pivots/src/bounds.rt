@@ -16,8 +16,11 @@ pub const FACTOR_LIMIT: i64 = 1 << 32;
 
 /// The greater of a size and a number's size.
 pub fn greater_size(most: i64, number: i64) -> i64
+    // `most` is a size, and that of the number is at most 2^62.
     requires from_zero { pos 0 ≤ℤ most }
     requires number { nat_abs number ≤ 2 ^ 62 }
+
+    // Neither size passes the result, which is one of the two.
     ensures from_zero { pos 0 ≤ℤ result }
     ensures most { nat_abs most ≤ nat_abs result }
     ensures number { nat_abs number ≤ nat_abs result }

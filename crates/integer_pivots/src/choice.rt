@@ -17,10 +17,15 @@ fn put_later(
     column: usize,
     latest: usize,
 ) -> usize
+    // The line has the column, and there is a lead for each of its columns.
     requires column { column < length line.now }
     requires leads { length leads.now ≡ length line.now }
+
+    // `left` has those columns before this one that lead latest, and room for one more.
     requires room { vec_len left.old < vec_capacity left.old }
     requires before { AreLatest line.now leads.now column latest left.old.items }
+
+    // Now it has those up to this column, at most one more than before, in the same room.
     ensures latest { AreLatest line.now leads.now (column + 1) result left.new.items }
     ensures count { vec_len left.new ≤ vec_len left.old + 1 }
     ensures room { vec_capacity left.new ≡ vec_capacity left.old }
@@ -54,12 +59,17 @@ pub fn put_latest(left: &mut Vec<usize>, line: &[i64], leads: &[usize]) -> usize
 
 /// How a variable's numbers in two columns stand to each other, each over the line's there, which is positive.
 fn column_order(numbers: &[i64], line: &[i64], column: usize, other: usize) -> Ordering
+    // There is a number for each column of the line, and all are at most 2^30 in size.
     requires long { length line.now ≤ length numbers.now }
     requires small { AllWithin (2 ^ 30) numbers.now }
     requires line { AllWithin (2 ^ 30) line.now }
+
+    // The line has both columns, and is positive in the other one.
     requires column { column < length line.now }
     requires other { other < length line.now }
     requires positive { pos 0 <ℤ number_at line.now other }
+
+    // The order is that of the products crosswise: each number times the line's at the other place.
     ensures { result ≡ int_cmp (crosswise numbers.now line.now column other)
         (crosswise numbers.now line.now other column) }
 {
@@ -76,11 +86,16 @@ fn column_order(numbers: &[i64], line: &[i64], column: usize, other: usize) -> O
 /// Of some columns puts those to the front in which a variable's number, over the line's, is least, and tells how many
 /// they are.
 fn put_least(left: &mut [usize], numbers: &[i64], line: &[i64]) -> usize
+    // There is a column, and the line is positive in each of them.
     requires some { 0 < length left.old }
     requires positive { (c : ℕ) → Has left.old c → IsPositiveAt line.now c }
+
+    // There is a number for each column of the line, and all are at most 2^30 in size.
     requires long { length line.now ≤ length numbers.now }
     requires small { AllWithin (2 ^ 30) numbers.now }
     requires line { AllWithin (2 ^ 30) line.now }
+
+    // At least one column comes to the front, and those in front share the least quotient.
     ensures some { (0 < result) × (result ≤ length left.old) }
     ensures least { AreLeast numbers.now line.now left.old (take result left.new) }
 {
@@ -104,11 +119,16 @@ fn put_least(left: &mut [usize], numbers: &[i64], line: &[i64]) -> usize
 
 /// Keeps of some columns those in which a variable's number, over the line's, is least.
 pub fn keep_least(left: &mut Vec<usize>, numbers: &[i64], line: &[i64])
+    // There is a column, and the line is positive in each of them.
     requires some { 0 < vec_len left.old }
     requires positive { (c : ℕ) → Has left.old.items c → IsPositiveAt line.now c }
+
+    // There is a number for each column of the line, and all are at most 2^30 in size.
     requires long { length line.now ≤ length numbers.now }
     requires small { AllWithin (2 ^ 30) numbers.now }
     requires line { AllWithin (2 ^ 30) line.now }
+
+    // Those that are left, one at least, share the least quotient; the list keeps its room.
     ensures some { 0 < vec_len left.new }
     ensures least { AreLeast numbers.now line.now left.old.items left.new.items }
     ensures room { vec_capacity left.new ≡ vec_capacity left.old }

@@ -41,11 +41,16 @@ fn turned_lead(lines: &[Line], column: usize, across: i64, own: usize, pivots: u
 
 /// The leads after a pivot, once the lines have turned.
 pub fn turn_leads(leads: &mut [usize], lines: &[Line], entering: &Line, column: usize)
+    // There is a lead for each column, and each line is as wide as the entering one.
     requires leads { length leads.old ≡ length entering.now.numbers }
     requires each { All (λ line. length line.numbers ≡ length entering.now.numbers) lines.now }
+
+    // The entering line is positive at the pivot's column, over a positive denominator.
     requires column { column < length entering.now.numbers }
     requires pivot { pos 0 <ℤ number_at entering.now.numbers column }
     requires denominator { pos 0 <ℤ entering.now.denominator }
+
+    // The leads of the lines before the pivot become those of the turned lines, as many as before.
     ensures count { length leads.new ≡ length leads.old }
     ensures leads { (olds : List Line) → AreTurnedLines entering.now column olds lines.now →
         All (λ line. pos 0 <ℤ line.denominator) olds → AreLeads (rows_of olds) leads.old →

@@ -50,9 +50,12 @@ pub fn common_with(number: i64, part: i64) -> i64
 
 /// A number into which a divisor goes, over it.
 pub fn over(number: i64, part: i64) -> i64
+    // The divisor is positive and goes into the number, which is at most 2^62 in size.
     requires part { pos 0 <ℤ part }
     requires whole { nat_abs part ∣ nat_abs number }
     requires size { nat_abs number ≤ 2 ^ 62 }
+
+    // The quotient is exact, and no greater in size than the number.
     ensures value { result ≡ exact_quotient number (nat_abs part) }
     ensures times { (result *ℤ part) ≡ number }
     ensures size { nat_abs result ≤ nat_abs number }
@@ -82,12 +85,17 @@ fn divide(numbers: &mut Listed<i64>, part: i64)
 impl Line {
     /// What the denominator, the constant and all numbers have in common.
     fn common_part(&self) -> i64
+        // The denominator is positive, and no number of the line passes 2^62 in size.
         requires { IsReducible (2 ^ 62) self.now }
+
+        // The result is positive, and goes into the denominator, the constant and all numbers.
         ensures positive { pos 0 <ℤ result }
         ensures denominator { nat_abs result ∣ nat_abs self.now.denominator }
         ensures constant { nat_abs result ∣ nat_abs self.now.constant }
         ensures numbers { (c : ℕ) → c < length self.now.numbers → nat_abs result ∣
             nat_abs (number_at self.now.numbers c) }
+
+        // Whatever goes into all of them goes into it too, so it's the greatest such number.
         ensures greatest { (d : ℕ) → d ∣ nat_abs self.now.denominator →
             d ∣ nat_abs self.now.constant → ((c : ℕ) → c < length self.now.numbers →
             d ∣ nat_abs (number_at self.now.numbers c)) → d ∣ nat_abs result }
@@ -105,13 +113,18 @@ impl Line {
 
     /// Puts the denominator, the constant and all numbers over a number that goes into each.
     fn put_over(&mut self, part: i64)
+        // The part is positive, and goes into the denominator, the constant and all numbers.
         requires part { pos 0 <ℤ part }
         requires denominator { nat_abs part ∣ nat_abs self.old.denominator }
         requires constant { nat_abs part ∣ nat_abs self.old.constant }
         requires numbers { (c : ℕ) → c < length self.old.numbers → nat_abs part ∣
             nat_abs (number_at self.old.numbers c) }
+
+        // None of these passes 2^62 in size.
         requires sizes { (nat_abs self.old.denominator ≤ 2 ^ 62) ×
             (nat_abs self.old.constant ≤ 2 ^ 62) × AllWithin (2 ^ 62) self.old.numbers }
+
+        // Each of them stands over the part now, without a remainder.
         ensures { IsReduced self.old self.new (nat_abs part) }
     {
         if part == 1 {

@@ -22,11 +22,16 @@ pub struct Turn {
 
 /// The turn of a line with this number at the pivot's column.
 pub fn turn_of(number: i64, pivot: i64) -> Turn
+    // The number and the pivot are at most 2^30 in size, and the pivot is positive.
     requires number { nat_abs number ≤ 2 ^ 30 }
     requires pivot { (pos 0 <ℤ pivot) × (pivot ≤ℤ pos (2 ^ 30)) }
+
+    // Multiplier and factor are pivot and number over what these have in common, so no greater.
     ensures turn { result ≡ turn_by number pivot }
     ensures multiplier { (pos 0 <ℤ result.multiplier) × (result.multiplier ≤ℤ pivot) }
     ensures factor { nat_abs result.factor ≤ nat_abs number }
+
+    // The multiplier times the number is the factor times the pivot, so that the two cancel.
     ensures level { (result.multiplier *ℤ number) ≡ (result.factor *ℤ pivot) }
 {
     if pivot == 1 || number == 0 {
@@ -93,11 +98,16 @@ fn multiply(numbers: &mut Listed<i64>, multiplier: i64)
 
 /// Takes a multiple of a line's numbers away, at the columns in which it isn't 0.
 fn take_away(numbers: &mut Listed<i64>, factor: i64, line: &[i64], touched: &[usize])
+    // Both lists have one length, and their numbers are so small that the differences fit 64 bits.
     requires long { length numbers.old ≡ length line.now }
     requires sizes { AllWithin (2 ^ 61) numbers.old }
     requires factor { nat_abs factor ≤ 2 ^ 30 }
     requires line { AllWithin (2 ^ 30) line.now }
+
+    // Outside the touched columns the line is 0, so nothing is to be taken away there.
     requires touched { AreNonZeros line.now (length line.now) touched.now }
+
+    // Each number is less by the factor times the line's, in a touched column or not.
     ensures count { length numbers.new ≡ length numbers.old }
     ensures each { (c : ℕ) → c < length numbers.old → number_at numbers.new c ≡
         (number_at numbers.old c -ℤ (factor *ℤ number_at line.now c)) }
@@ -125,14 +135,19 @@ impl Turn {
     /// A size that no number passes in a turn, where those of the line and of the entering one don't pass these, nor the
     /// entering line's denominator this one.
     fn most_after(self, most: i64, entering: i64, denominator: i64) -> i64
+        // None of the five numbers passes 2^30 in size, so what is made of them fits 64 bits.
         requires multiplier { nat_abs self.multiplier ≤ 2 ^ 30 }
         requires factor { nat_abs self.factor ≤ 2 ^ 30 }
         requires most { nat_abs most ≤ 2 ^ 30 }
         requires entering { nat_abs entering ≤ 2 ^ 30 }
         requires denominator { nat_abs denominator ≤ 2 ^ 30 }
+
+        // The result covers what becomes of numbers of these sizes at the other columns.
         ensures from_zero { pos 0 ≤ℤ result }
         ensures numbers { nat_abs self.multiplier * nat_abs most + nat_abs self.factor *
             nat_abs entering ≤ nat_abs result }
+
+        // It covers the number at the pivot's column too: the factor times the denominator.
         ensures own { nat_abs self.factor * nat_abs denominator ≤ nat_abs result }
     {
         let numbers = (self.multiplier * most).abs() + (self.factor * entering).abs();
@@ -182,13 +197,20 @@ impl Line {
 
     /// Turns a line at a pivot's column, and brings it into lowest terms.
     pub fn turn(&mut self, entering: &Line, column: usize, touched: &[usize], turn: Turn)
+        // The entering line has a positive pivot at the column, and is 0 outside the touched ones.
         requires pivot { IsAtPivot column entering.now self.old }
         requires touched { AreNonZeros entering.now.numbers (length entering.now.numbers)
             touched.now }
+
+        // The turn is the one that this pivot makes of the line, and the numbers stay small in it.
         requires turn { turn ≡ turn_at entering.now column self.old }
         requires may { MayLineTurn turn self.old entering.now }
+
+        // The line has turned, and its numbers at the columns are at most 2^30 in size again.
         ensures line { IsLine self.new }
         ensures turned { IsTurnedLine turn column entering.now self.old self.new }
+
+        // It's in lowest terms, over a divisor of the old denominator times the multiplier.
         ensures divides { nat_abs self.new.denominator ∣
             (nat_abs self.old.denominator * nat_abs turn.multiplier) }
         ensures lowest { IsInLowestTerms self.new }
