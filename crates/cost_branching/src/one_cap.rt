@@ -46,7 +46,7 @@ fn search_rivals<B: Begun>(
         advisors.old.items advisors.new.items }
 {
     keeps_conditions(problem);
-    let alloc = pool.allocator();
+    let alloc = pool.alloc();
     let asker = Asker::new(alloc, &problem.graph, problem.paths.as_slice())?;
     let rows = mem::replace(&mut pool.rows, Vec::new(alloc));
     let mut source = Rivals::<B>::new(problem, asker, rows);
@@ -128,6 +128,6 @@ pub fn decide(
         advisors.old.items advisors.new.items }
 {
     keeps_conditions(problem);
-    let costs = box_at(pool.allocator(), problem, cap)?;
+    let costs = box_at(pool.alloc(), problem, cap)?;
     decide_within(problem, &costs, limits, pool, advisors)
 }

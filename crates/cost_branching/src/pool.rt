@@ -21,6 +21,15 @@ impl Model for Pool {
     ghost view = { λ p. record { rows = p.rows.items; forms = p.forms } };
 }
 
+/// The pool gives the allocator from which it takes its memory.
+impl Alloc for Pool {
+    type A = Global;
+
+    fn alloc(&self) -> Global {
+        self.forms.alloc()
+    }
+}
+
 impl Pool {
     /// The pool without a row. It takes no memory yet.
     pub fn new(alloc: Global) -> Pool
@@ -31,11 +40,6 @@ impl Pool {
             rows: Vec::new(alloc),
             forms: FormPool::new(alloc),
         }
-    }
-
-    /// The allocator from which the pool takes its memory.
-    pub fn allocator(&self) -> Global {
-        self.forms.allocator()
     }
 
     /// Takes away the rows behind the first `count`, and their forms.

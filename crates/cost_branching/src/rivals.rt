@@ -155,7 +155,7 @@ fn push_row(
     if rows.reserve(1).is_err() {
         return Err(OutOfMemory);
     }
-    let form = form_of(pool.allocator(), problem, &row)?;
+    let form = form_of(pool.alloc(), problem, &row)?;
     pool.push(form)?;
     rows.push_reserved(row);
     Ok(())
@@ -182,7 +182,7 @@ fn ask_one(
     keeps_conditions(problem);
     match told_of(rivals, request) {
         Some(edges) => {
-            let row = row_of(pool.allocator(), request, edges.as_slice())?;
+            let row = row_of(pool.alloc(), request, edges.as_slice())?;
             push_row(problem, row, rows, pool)?;
             Ok(true)
         }
@@ -217,7 +217,7 @@ fn ask_each(
     ensures more { BeginWith rows.old.items rows.new.items }
     ensures grows { Grows (IsTrueRowForm problem.now) pool.old pool.new }
 {
-    let rivals = cheapest_rivals(pool.allocator(), problem, asker, point)?;
+    let rivals = cheapest_rivals(pool.alloc(), problem, asker, point)?;
     let told = rivals.as_slice();
     let count = path_count(problem);
     let mut asked = Asked::Nothing;

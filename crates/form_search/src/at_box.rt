@@ -158,7 +158,7 @@ fn at_box<S: RowSource>(
         advisors.new.items }
 {
     match relax(source, desk.top, pool, costs, &mut desk.point)? {
-        Relaxed::Accepted => at_least_point(pool.allocator(), source, advisors, costs, desk),
+        Relaxed::Accepted => at_least_point(pool.alloc(), source, advisors, costs, desk),
         Relaxed::Refuted(parts) => Ok(Next::Entry(Entry::Refute { parts })),
         Relaxed::Wide(wide) => Ok(Next::Entry(halved(costs, wide))),
     }

@@ -43,7 +43,7 @@ fn ask_there<S: RowSource>(
 {
     put_costs(point, costs);
     match source.ask(point, pool)? {
-        Asked::Nothing => Ok(Next::Costs(low_costs(pool.allocator(), costs)?)),
+        Asked::Nothing => Ok(Next::Costs(low_costs(pool.alloc(), costs)?)),
         Asked::Added => Ok(Next::Forms),
     }
 }
@@ -69,7 +69,7 @@ pub(crate) fn at_one_point<S: RowSource>(
     ensures left { Leaves S.RowSource (OnOk result) source.old source.new pool.old pool.new }
 {
     match first_negative(pool.as_slice(), costs) {
-        Some(row) => Ok(Next::Entry(refute_by(pool.allocator(), row)?)),
+        Some(row) => Ok(Next::Entry(refute_by(pool.alloc(), row)?)),
         None => ask_there(source, pool, costs, point),
     }
 }

@@ -31,6 +31,15 @@ impl Model for FormPool {
     ghost invariant = { λ p. IsTableauKept p.forms.items p.table };
 }
 
+/// The pool gives the allocator from which it takes its memory.
+impl Alloc for FormPool {
+    type A = Global;
+
+    fn alloc(&self) -> Global {
+        *self.forms.allocator()
+    }
+}
+
 impl FormPool {
     /// The pool without a form. It takes no memory yet.
     pub fn new(alloc: Global) -> FormPool
@@ -40,11 +49,6 @@ impl FormPool {
             forms: Vec::new(alloc),
             table: None,
         }
-    }
-
-    /// The allocator from which the pool takes its memory.
-    pub fn allocator(&self) -> Global {
-        *self.forms.allocator()
     }
 
     /// Adds a form at the end.

@@ -105,7 +105,7 @@ pub(crate) fn propagated(
     watch.look(tree)?;
     while let Some(row) = watch.next() {
         if row < forms.len() {
-            if let Some(entry) = entry_of(pool.allocator(), &forms[row], row, tree, watch)? {
+            if let Some(entry) = entry_of(pool.alloc(), &forms[row], row, tree, watch)? {
                 watch.keep(row)?;
                 return Ok(Some(entry));
             }

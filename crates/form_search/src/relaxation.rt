@@ -79,7 +79,7 @@ fn relax_once<S: RowSource>(
     // Only true forms came to the pool, and unless memory is wanting the source is in step with it.
     ensures left { Leaves S.RowSource (OnOk result) source.old source.new pool.old pool.new }
 {
-    match table.least(pool.allocator(), pool.as_slice(), point)? {
+    match table.least(pool.alloc(), pool.as_slice(), point)? {
         Least::Point => ask_least(source, pool, costs, point),
         Least::Refuted(parts) => Ok(Some(Relaxed::Refuted(parts))),
         Least::Wide(wide) => Ok(Some(Relaxed::Wide(wide))),
@@ -141,7 +141,7 @@ pub(crate) fn relax<S: RowSource>(
     // Only true forms came to the pool, and unless memory is wanting the source is in step with it.
     ensures left { Leaves S.RowSource (OnOk result) source.old source.new pool.old pool.new }
 {
-    let mut table = moved(pool.allocator(), pool.take_tableau(), costs, top)?;
+    let mut table = moved(pool.alloc(), pool.take_tableau(), costs, top)?;
     let relaxed = relax_by(source, pool, costs, &mut table, point)?;
     pool.keep_tableau(table);
     Ok(relaxed)

@@ -116,7 +116,7 @@ pub fn search<S: RowSource>(
         (IsLeastPoint (S.accepted source.old)) costs.now result advisors.old.items
         advisors.new.items }
 {
-    let alloc = pool.allocator();
+    let alloc = pool.alloc();
     let mut tree = first_tree(alloc, source.variables(), costs)?;
     let mut desk = Desk::start(alloc, costs, limits.top)?;
     'boxes: while tree.is_open() {

@@ -33,7 +33,7 @@ pub(crate) fn impossible(
         (IsDesignAnswer problem.now top nodes) }
 {
     keeps_conditions(problem);
-    let alloc = pool.allocator();
+    let alloc = pool.alloc();
     let proof = CapTree { cap: ceiling, tree };
     let printed = printed_both(alloc, pool.into_rows(), Some(&proof), None)?;
     Ok(Answer {
@@ -71,7 +71,7 @@ fn optimal(
         IfOk result (IsDesignAnswer problem.now top nodes) }
 {
     keeps_conditions(problem);
-    let alloc = pool.allocator();
+    let alloc = pool.alloc();
     let floor = floor_without(problem, &kept);
     let printed = printed_both(alloc, pool.into_rows(), kept.as_ref(), None)?;
     let costs = printed_fit(alloc, problem, costs)?;
@@ -136,7 +136,7 @@ fn undecided(
         IfOk result (IsDesignAnswer problem.now top nodes) }
 {
     keeps_conditions(problem);
-    let alloc = pool.allocator();
+    let alloc = pool.alloc();
     let cap = cap_of(&unfinished);
     let printed = printed_both(alloc, pool.into_rows(), kept.as_ref(), Some(&unfinished))?;
     Ok(Answer {

@@ -106,7 +106,7 @@ impl<'a, B: Begun> Bounded<'a, B> {
     {
         keeps_conditions(self.rivals.problem());
         let variables = self.rivals.problem().low.as_slice().len();
-        let form = total_form(pool.allocator(), variables, self.most)?;
+        let form = total_form(pool.alloc(), variables, self.most)?;
         pool.push(form)?;
         self.before = Some(self.rivals.rows().len());
         Ok(())

@@ -128,7 +128,7 @@ impl FormList {
         if value_of(form, point) >= 0 {
             return Ok(false);
         }
-        let copy = form.copy(pool.allocator())?;
+        let copy = form.copy(pool.alloc())?;
         pool.push(copy)?;
         Ok(true)
     }

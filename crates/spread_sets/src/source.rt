@@ -398,7 +398,7 @@ impl<'a, B: Begun> RowSource for Spreads<'a, B> {
     }
 
     fn ask(&mut self, point: &Point, pool: &mut FormPool) -> Result<Asked, OutOfMemory> {
-        self.ask_each(pool.allocator(), point, pool)
+        self.ask_each(pool.alloc(), point, pool)
     }
 
     fn accepts(&mut self, point: &Point) -> bool {
