@@ -114,6 +114,7 @@ fn fits_text(alloc: Global, problem: &Problem, costs: &CostList) -> Result<Vec<u
 }
 
 /// A least conflict: its requests, the rows that its tree names, and the costs without each request.
+#[derive(Clone, Copy)]
 struct LeastConflict<'a> {
     members: &'a [u32],
     rows: &'a [Row],

@@ -118,6 +118,7 @@ fn push_trees(
 }
 
 /// The rows of a text, its closed tree, and the tree that isn't finished, where it has them.
+#[derive(Clone, Copy)]
 struct Evidence<'a> {
     rows: &'a [SetRow],
     proof: Option<&'a CapTree>,
