@@ -1,11 +1,13 @@
 //! When a run has to answer: each law is the contract of a function, most of them of one that does nothing.
 ghost use Rattle.std.specs.Prelude.{◌≢◌};
+ghost use Rattle.text_lines.specs.Arguments.{texts};
 ghost use Rattle.designer_command.specs.Completeness.{ChangesAreFound, ConflictsAreFound, DesignsAreAccepted, DifferencesAreWritten, HeadedCostsAreWritten, HelpIsWritten};
 ghost use Rattle.designer_command.specs.Completeness.{IdentifiedInputIsWritten, KnownRoutersAreRouted, LargeBudgetsSuffice, RunningAreaIsAudited, TrialsAreDesigned, SpreadsAreFound, StepsAreFound, TotalsAreFound};
 ghost use Rattle.designer_command.specs.Completeness.{ValidAnswersAreAccepted, WellFormedInputIsAudited, WellFormedInputIsDesigned};
+ghost use Rattle.designer_command.specs.Runs.{RunMeets};
 
 use crate::run;
-use cost_base::{Status, SureShelf, SureSink};
+use cost_base::{Shelf, Sink, Status, SureShelf, SureSink};
 use cut_advisors::Advisor;
 use std::alloc::Global;
 
@@ -109,6 +111,11 @@ pub fn sure_run(
     out: &mut SureSink,
     advisors: &mut Vec<Box<dyn Advisor>>,
 ) -> Status
+    ensures meets { RunMeets (texts words.now) (⟦<SureShelf as Shelf>⟧.gave shelf.old shelf.new)
+        (⟦<SureShelf as Shelf>⟧.held shelf.old) (⟦<SureShelf as Shelf>⟧.faults shelf.old)
+        (⟦<SureShelf as Shelf>⟧.faults shelf.new) (⟦<SureSink as Sink>⟧.handed out.old out.new)
+        (⟦<SureSink as Sink>⟧.got out.old) (⟦<SureSink as Sink>⟧.got out.new)
+        (⟦<SureSink as Sink>⟧.faults out.old) (⟦<SureSink as Sink>⟧.faults out.new) result }
     ensures shelf { result ≢ Status.ReadFault }
     ensures sink { result ≢ Status.WriteFault }
 {

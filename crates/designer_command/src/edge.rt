@@ -5,6 +5,7 @@ ghost use Rattle.cost_base.specs.Records.{IsNoted, IsNotedInPieces};
 ghost use Rattle.cost_base.specs.Recorded.{files_recorded, pieces_recorded, shelf_recorded, sink_recorded};
 ghost use Rattle.cost_base.specs.Statuses.{status_number};
 ghost use Rattle.text_lines.specs.Arguments.{texts};
+ghost use Rattle.report_writer.specs.Cutting.{PutsByPieces};
 ghost use Rattle.form_search.specs.Advised.{AreCalled};
 ghost use Rattle.designer_command.specs.Runs.{RunMeets};
 
@@ -27,6 +28,7 @@ pub fn run_to_exit<S: Shelf, K: Sink>(
         (S.held shelf.old) (S.faults shelf.old) (S.faults shelf.new)
         (K.handed out.old out.new) (K.got out.old) (K.got out.new)
         (K.faults out.old) (K.faults out.new) result.0 }
+    ensures pieces { PutsByPieces K.handed out.old out.new result.0 }
     ensures held { (name : List ℕ) → S.held shelf.new name ≡ S.held shelf.old name }
     ensures advisors { AreCalled ⟦<dyn Advisor as Advisor>⟧ (λ b. b.vtable) (λ b. state b)
         advisors.old.items advisors.new.items }
@@ -47,13 +49,18 @@ pub fn recorded_run<S: Shelf, K: Sink>(
     out: &mut RecordedSink<K>,
     advisors: &mut Vec<Box<dyn Advisor>>,
 ) -> Status
-    ensures { let before = shelf_recorded shelf.old in let now = shelf_recorded shelf.new in
+    ensures meets { let before = shelf_recorded shelf.old in let now = shelf_recorded shelf.new in
         let sink = sink_recorded out.old in let sink_now = sink_recorded out.new in
         RunMeets (texts words.now) (IsNoted (S.gave before now) (files_recorded shelf.old)
         (files_recorded shelf.new)) (S.held before) (S.faults before) (S.faults now)
         (IsNotedInPieces (K.handed sink sink_now) (pieces_recorded out.old)
         (pieces_recorded out.new)) (K.got sink) (K.got sink_now) (K.faults sink) (K.faults sink_now)
         result }
+    ensures pieces { PutsByPieces ⟦<RecordedSink<K> as Sink>⟧.handed out.old out.new result }
+    ensures held { (name : List ℕ) →
+        S.held (shelf_recorded shelf.new) name ≡ S.held (shelf_recorded shelf.old) name }
+    ensures advisors { AreCalled ⟦<dyn Advisor as Advisor>⟧ (λ b. b.vtable) (λ b. state b)
+        advisors.old.items advisors.new.items }
 {
     run(alloc, words, shelf, out, advisors)
 }
