@@ -16,7 +16,7 @@ use design_problem::{CostList, Problem};
 use std::alloc::Global;
 use wide_fraction::Limits;
 
-/// That the node budget was used up at a set.
+/// That the budget was used up at a set.
 fn unknown(alloc: Global, problem: &Problem, set: SetTree) -> Result<Conflict, OutOfMemory>
     requires spent { (top : ℕ) × (nodes : ℕ) × IsUndecidedSet problem.now top nodes set }
     requires tried { (set.members.items ≡ all_requests problem.now) ⊎

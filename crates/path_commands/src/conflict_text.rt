@@ -142,7 +142,7 @@ fn core_text(
     Ok(text)
 }
 
-/// The text where the node budget was used up.
+/// The text where the budget was used up.
 fn unknown_text(
     alloc: Global,
     problem: &Problem,

@@ -187,7 +187,7 @@ fn impossible_text(
     text_of_parts(alloc, b"verdict impossible", None, &evidence)
 }
 
-/// The text where the node budget was used up.
+/// The text where the budget was used up.
 fn unknown_text(
     alloc: Global,
     problem: &Problem,
