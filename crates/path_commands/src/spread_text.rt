@@ -188,7 +188,7 @@ fn impossible_text(
 }
 
 /// The text where the budget was used up.
-fn unknown_text(
+fn undecided_text(
     alloc: Global,
     problem: &Problem,
     rows: &[SetRow],
@@ -226,6 +226,6 @@ pub(crate) fn text_of_spread(
     match spread {
         Spread::Fit(costs) => fit_text(alloc, problem, &costs),
         Spread::Impossible { rows, tree } => impossible_text(alloc, problem, rows.as_slice(), tree),
-        Spread::Undecided { rows, tree } => unknown_text(alloc, problem, rows.as_slice(), tree),
+        Spread::Undecided { rows, tree } => undecided_text(alloc, problem, rows.as_slice(), tree),
     }
 }

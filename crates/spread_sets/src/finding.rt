@@ -93,8 +93,8 @@ fn answered(
 /// Looks for costs at which the members of each set cost the same and every other simple path between their ends costs
 /// more. `sets` are those of the `set` lines; each path in none of them is a set by itself.
 ///
-/// Fit has such costs. Impossible comes with a closed earnest tree over the box at the greatest upper bound, and Unknown
-/// with an earnest tree over that box that has an Undone and exactly `limits.nodes` entries.
+/// Fit has such costs. Impossible comes with a closed earnest tree over the box at the greatest upper bound, and
+/// Undecided with an earnest tree over that box that has an Undone and exactly `limits.nodes` entries.
 ///
 /// # Errors
 ///
