@@ -27,7 +27,8 @@ pub(crate) struct Sought {
     pub(crate) found: Found,
 }
 
-/// Searches a box for costs at which the members of each set tie and every other path is dearer.
+/// Searches a box for costs at which the members of each set tie and every other path is dearer. No advisor is asked:
+/// the first candidate for a split is taken.
 fn search_sets<B: Begun>(
     alloc: Global,
     problem: &Problem,
