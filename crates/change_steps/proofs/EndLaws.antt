@@ -133,7 +133,14 @@ pub budget_spent : (p : HeldRollout) (nodes : ℕ) (w : Walk) (stuck : Stuck) �
     IsAnotherReached p.rollout p.held w.tested → IsSearchEnd p.rollout p.held w.tested stuck →
     IsStateBudgetSpent p.rollout p.held nodes stuck × (nodes < 2 ^ length (steps_between p.rollout p.held))
 budget_spent p nodes w stuck is spent another end = (
-  record { tested = w.tested; are = is.walk.search.are; spent = spent; another = another; came = end },
+  record {
+    tested = w.tested;
+    are = is.walk.search.are;
+    incomplete = λ i within safe. is.lack (get_or w.tested i []) (Contains-get_or w.tested i [] within) safe;
+    spent = spent;
+    another = another;
+    came = end;
+  },
   budget_short p.rollout p.held w.tested nodes is.walk.search.are spent another,
 )
 

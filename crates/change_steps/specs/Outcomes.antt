@@ -12,7 +12,7 @@ use Rattle.change_steps.specs.declared.kinds.Kind.TheVariants.{Between}
 use Rattle.change_steps.specs.Rollouts.{Rollout, step_count}
 use Rattle.change_steps.specs.Orders.{IsOnlyIn, IsSafe, IsSafeLine, IsSafeOrder, AreHeld, is_one_of}
 use Rattle.change_steps.specs.Kinds.{first_steps, comes_between, kind_of_step, steps_between}
-use Rattle.change_steps.specs.States.{AreTested, AreAllReached, IsAnotherReached, is_done_in, marks_of}
+use Rattle.change_steps.specs.States.{AreTested, AreAllReached, IsAnotherReached, MayFollow, is_done_in, marks_of}
 
 -- how many steps are done in a state
 abbrev pub done_count : List Bool → ℕ
@@ -65,10 +65,13 @@ pub record HasNoOrder (r : Rollout) (held : List ℕ) (nodes : ℕ) (stuck : Stu
   pub few : length tested ≤ max 1 nodes
   pub came : IsSearchEnd r held tested stuck
 
--- exactly so many states were tested, and another would be
+-- exactly so many states were tested, and another would be; no tested state that is safe has all steps between, so that
+-- no order was found
 pub record IsStateBudgetSpent (r : Rollout) (held : List ℕ) (nodes : ℕ) (stuck : Stuck) : Type 0 where
   pub tested : List (List Bool)
   pub are : AreTested r held tested
+  pub incomplete : (i : ℕ) → i < length tested → IsSafe r held (is_done_in (slice_index_or tested i [])) →
+      (k : ℕ) × MayFollow r held (slice_index_or tested i []) k
   pub spent : length tested ≡ max 1 nodes
   pub another : IsAnotherReached r held tested
   pub came : IsSearchEnd r held tested stuck

@@ -117,34 +117,27 @@ fn push_trees(
     push_line(text, b"end")
 }
 
-/// The rows of a text, its closed tree, and the tree that isn't finished, where it has them.
-#[derive(Clone, Copy)]
-struct Evidence<'a> {
-    rows: &'a [SetRow],
-    proof: Option<&'a CapTree>,
-    unfinished: Option<&'a CapTree>,
-}
-
 /// The text of all its parts.
 fn text_of_parts(
     alloc: Global,
     verdict: &[u8],
     costs: Option<&Costs>,
-    evidence: &Evidence<'_>,
+    rows: &[SetRow],
+    proof: Option<&CapTree>,
+    unfinished: Option<&CapTree>,
 ) -> Result<Vec<u8>, OutOfMemory>
     requires costs { AreShort (costs_lines (option_copied costs)) }
-    requires proof { AreShort (tree_lines (codes "proof") (option_copied evidence.now.proof)) }
-    requires unfinished { AreShort
-        (tree_lines (codes "open") (option_copied evidence.now.unfinished)) }
+    requires proof { AreShort (tree_lines (codes "proof") (option_copied proof)) }
+    requires unfinished { AreShort (tree_lines (codes "open") (option_copied unfinished)) }
     ensures { IfOk result
         (λ text. text.items ≡
-        with_ends (spread_lines verdict.now (option_copied costs.entry) evidence.now.rows.now
-        (option_copied evidence.now.proof) (option_copied evidence.now.unfinished))) }
+        with_ends (spread_lines verdict.now (option_copied costs.entry) rows.now
+        (option_copied proof.entry) (option_copied unfinished.entry))) }
 {
     let mut text = head_of(alloc, verdict)?;
     push_costs(alloc, &mut text, costs)?;
-    push_set_rows(alloc, &mut text, evidence.rows)?;
-    push_trees(alloc, &mut text, evidence.proof, evidence.unfinished)?;
+    push_set_rows(alloc, &mut text, rows)?;
+    push_trees(alloc, &mut text, proof, unfinished)?;
     Ok(text)
 }
 
@@ -157,12 +150,7 @@ fn fit_text(alloc: Global, problem: &Problem, costs: &CostList) -> Result<Vec<u8
         None None)) }
 {
     let costs = costs_by_name(alloc, problem, costs)?;
-    let evidence = Evidence {
-        rows: &[],
-        proof: None,
-        unfinished: None,
-    };
-    text_of_parts(alloc, b"verdict fit", Some(&costs), &evidence)
+    text_of_parts(alloc, b"verdict fit", Some(&costs), &[], None, None)
 }
 
 /// The text where there are no spread-fit costs.
@@ -179,12 +167,7 @@ fn impossible_text(
         (Some (at_ceiling problem.now tree)) None)) }
 {
     let tree = at_ceiling(problem, tree);
-    let evidence = Evidence {
-        rows,
-        proof: Some(&tree),
-        unfinished: None,
-    };
-    text_of_parts(alloc, b"verdict impossible", None, &evidence)
+    text_of_parts(alloc, b"verdict impossible", None, rows, Some(&tree), None)
 }
 
 /// The text where the budget was used up.
@@ -201,12 +184,7 @@ fn undecided_text(
         (Some (at_ceiling problem.now tree)))) }
 {
     let tree = at_ceiling(problem, tree);
-    let evidence = Evidence {
-        rows,
-        proof: None,
-        unfinished: Some(&tree),
-    };
-    text_of_parts(alloc, b"verdict undecided", None, &evidence)
+    text_of_parts(alloc, b"verdict undecided", None, rows, None, Some(&tree))
 }
 
 /// The text of what was found for sets of a problem's wanted paths.

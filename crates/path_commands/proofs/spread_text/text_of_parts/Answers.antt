@@ -5,7 +5,6 @@ use Rattle.path_commands.proofs.spread_text.text_of_parts.Goals as goal
 
 pub returns : goal.returns
 returns c =
-    let evidence = c.args.evidence.now in
-    parts_spelled c.args.verdict.now (option_copied c.args.costs) evidence.rows.now (option_copied evidence.proof) (option_copied evidence.unfinished)
+    parts_spelled c.args.verdict.now (option_copied c.args.costs) c.args.rows.now (option_copied c.args.proof) (option_copied c.args.unfinished)
     c.in_ok-text.text.items c.push_costs.new.text.items c.push_set_rows.new.text.items c.push_trees.new.text.items
     c.in_ok-text.ensures c.in_ok-push_costs.ensures c.in_ok-push_set_rows.ensures c.in_ok-push_trees.ensures
