@@ -5,8 +5,10 @@ ghost use Rattle.whole_numbers.specs.Fractions.{exact_quotient, gcd};
 ghost use Rattle.whole_numbers.specs.Lists.{number_at};
 ghost use Rattle.integer_pivots.specs.Lines.{IsInLowestTerms, IsReduced};
 ghost use Rattle.integer_pivots.specs.Numbers.{AllWithin};
+ghost use Rattle.integer_pivots.specs.Reciprocals.{IsReciprocal};
 
 use crate::bounds::{ENTRY_LIMIT, greatest};
+use crate::reciprocal::Divisor;
 use cost_base::Listed;
 use whole_numbers::greatest_common_divisor;
 
@@ -64,64 +66,65 @@ pub fn over(number: i64, part: i64) -> i64
 }
 
 /// Puts each number, into which a divisor goes, over it.
-fn divide(numbers: &mut Listed<i64>, part: i64)
-    requires part { pos 0 <ℤ part }
-    requires whole { (c : ℕ) → c < length numbers.old → nat_abs part ∣ nat_abs (number_at numbers.old c) }
+fn divide(numbers: &mut Listed<i64>, part: Divisor)
+    requires part { IsReciprocal part }
+    requires whole { (c : ℕ) → c < length numbers.old → nat_abs part.number ∣ nat_abs (number_at numbers.old c) }
     requires sizes { AllWithin (2 ^ 62) numbers.old }
     ensures count { length numbers.new ≡ length numbers.old }
-    ensures numbers { (c : ℕ) → c < length numbers.old → (number_at numbers.new c *ℤ part) ≡ number_at numbers.old c }
+    ensures numbers { (c : ℕ) → c < length numbers.old → (number_at numbers.new c *ℤ part.number) ≡ number_at numbers.old c }
 {
     for column in 0..numbers.as_slice().len() {
         let number = numbers.as_slice()[column];
-        numbers.set(column, over(number, part));
+        if number != 0 {
+            numbers.set(column, part.over(number));
+        }
     }
 }
 
 impl Line {
     /// What the denominator, the constant and all numbers have in common.
-    fn common_part(&self) -> i64
-        requires positive { pos 0 <ℤ self.now.denominator }
-        requires sizes { (nat_abs self.now.denominator ≤ 2 ^ 62) × (nat_abs self.now.constant ≤ 2 ^ 62) × AllWithin (2 ^ 62) self.now.numbers }
-        ensures positive { pos 0 <ℤ result }
-        ensures denominator { nat_abs result ∣ nat_abs self.now.denominator }
-        ensures constant { nat_abs result ∣ nat_abs self.now.constant }
-        ensures numbers { (c : ℕ) → c < length self.now.numbers → nat_abs result ∣ nat_abs (number_at self.now.numbers c) }
+    fn common_part(&self) -> Divisor
+        requires denominator { (pos 0 <ℤ self.now.denominator) × (self.now.denominator ≤ℤ pos (2 ^ 30)) }
+        requires sizes { (nat_abs self.now.constant ≤ 2 ^ 62) × AllWithin (2 ^ 62) self.now.numbers }
+        ensures reciprocal { IsReciprocal result }
+        ensures denominator { nat_abs result.number ∣ nat_abs self.now.denominator }
+        ensures constant { nat_abs result.number ∣ nat_abs self.now.constant }
+        ensures numbers { (c : ℕ) → c < length self.now.numbers → nat_abs result.number ∣ nat_abs (number_at self.now.numbers c) }
         ensures greatest { (d : ℕ) → d ∣ nat_abs self.now.denominator → d ∣ nat_abs self.now.constant →
-            ((c : ℕ) → c < length self.now.numbers → d ∣ nat_abs (number_at self.now.numbers c)) → d ∣ nat_abs result }
+            ((c : ℕ) → c < length self.now.numbers → d ∣ nat_abs (number_at self.now.numbers c)) → d ∣ nat_abs result.number }
     {
-        let mut part = common_with(self.constant, self.denominator);
+        let mut part = Divisor::new(common_with(self.constant, self.denominator));
         let numbers = self.numbers.as_slice();
         for column in 0..numbers.len() {
-            if part == 1 {
-                return 1;
+            if part.number == 1 {
+                return part;
             }
-            part = common_with(numbers[column], part);
+            part = part.shared_with(numbers[column]);
         }
         part
     }
 
     /// Puts the denominator, the constant and all numbers over a number that goes into each.
-    fn put_over(&mut self, part: i64)
-        requires part { pos 0 <ℤ part }
-        requires denominator { nat_abs part ∣ nat_abs self.old.denominator }
-        requires constant { nat_abs part ∣ nat_abs self.old.constant }
-        requires numbers { (c : ℕ) → c < length self.old.numbers → nat_abs part ∣ nat_abs (number_at self.old.numbers c) }
+    fn put_over(&mut self, part: Divisor)
+        requires part { IsReciprocal part }
+        requires denominator { nat_abs part.number ∣ nat_abs self.old.denominator }
+        requires constant { nat_abs part.number ∣ nat_abs self.old.constant }
+        requires numbers { (c : ℕ) → c < length self.old.numbers → nat_abs part.number ∣ nat_abs (number_at self.old.numbers c) }
         requires sizes { (nat_abs self.old.denominator ≤ 2 ^ 62) × (nat_abs self.old.constant ≤ 2 ^ 62) × AllWithin (2 ^ 62) self.old.numbers }
-        ensures { IsReduced self.old self.new (nat_abs part) }
+        ensures { IsReduced self.old self.new (nat_abs part.number) }
     {
-        if part == 1 {
+        if part.number == 1 {
             return;
         }
-        self.denominator = over(self.denominator, part);
-        self.constant = over(self.constant, part);
+        self.denominator = part.over(self.denominator);
+        self.constant = part.over(self.constant);
         divide(&mut self.numbers, part);
     }
 
     /// Brings a line into lowest terms: what its denominator, its constant and all its numbers have in common goes out.
     /// Its reach is the greatest of the numbers then.
     pub fn reduce(&mut self)
-        requires positive { pos 0 <ℤ self.old.denominator }
-        requires denominator { nat_abs self.old.denominator ≤ 2 ^ 62 }
+        requires denominator { (pos 0 <ℤ self.old.denominator) × (self.old.denominator ≤ℤ pos (2 ^ 30)) }
         requires constant { nat_abs self.old.constant ≤ 2 ^ 62 }
         requires sizes { AllWithin (2 ^ 62) self.old.numbers }
         ensures reduced { (part : ℕ) × IsReduced self.old self.new part }
@@ -140,8 +143,7 @@ impl Line {
     /// Brings a line into lowest terms, no number of which passes a size. Over 1 it is so as it stands, and its reach is that
     /// size, unless that is too large.
     pub(crate) fn lower(&mut self, most: i64)
-        requires positive { pos 0 <ℤ self.old.denominator }
-        requires denominator { nat_abs self.old.denominator ≤ 2 ^ 62 }
+        requires denominator { (pos 0 <ℤ self.old.denominator) × (self.old.denominator ≤ℤ pos (2 ^ 30)) }
         requires constant { nat_abs self.old.constant ≤ 2 ^ 62 }
         requires sizes { AllWithin (2 ^ 30) self.old.numbers }
         requires from_zero { pos 0 ≤ℤ most }
@@ -153,10 +155,14 @@ impl Line {
         ensures reach { nat_abs self.new.reach ≤ 2 ^ 30 }
         ensures within { AllWithin (nat_abs self.new.reach) self.new.numbers }
     {
-        if self.denominator == 1 && most <= ENTRY_LIMIT {
-            self.reach = most;
-            return;
+        if self.denominator != 1 {
+            let part = self.common_part();
+            self.put_over(part);
         }
-        self.reduce();
+        self.reach = if most <= ENTRY_LIMIT {
+            most
+        } else {
+            greatest(self.numbers.as_slice())
+        };
     }
 }
