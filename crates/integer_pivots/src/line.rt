@@ -75,9 +75,7 @@ fn divide(numbers: &mut Listed<i64>, part: Divisor)
 {
     for column in 0..numbers.as_slice().len() {
         let number = numbers.as_slice()[column];
-        if number != 0 {
-            numbers.set(column, part.over(number));
-        }
+        numbers.set(column, part.over(number));
     }
 }
 
@@ -140,25 +138,16 @@ impl Line {
         self.reach = greatest(self.numbers.as_slice());
     }
 
-    /// Brings a line into lowest terms, no number of which passes a size. Over 1 it is so as it stands, and its reach is that
-    /// size, unless that is too large.
-    pub(crate) fn lower(&mut self, most: i64)
-        requires denominator { (pos 0 <ℤ self.old.denominator) × (self.old.denominator ≤ℤ pos (2 ^ 30)) }
-        requires constant { nat_abs self.old.constant ≤ 2 ^ 62 }
-        requires sizes { AllWithin (2 ^ 30) self.old.numbers }
+    /// Lets a size that no number passes be the reach, unless it is too large: then the reach is the greatest number's.
+    pub(crate) fn bound_by(&mut self, most: i64)
         requires from_zero { pos 0 ≤ℤ most }
         requires most { AllWithin (nat_abs most) self.old.numbers }
-        ensures reduced { (part : ℕ) × IsReduced self.old self.new part }
-        ensures positive { pos 0 <ℤ self.new.denominator }
-        ensures lowest { IsInLowestTerms self.new }
+        requires sizes { AllWithin (2 ^ 30) self.old.numbers }
+        ensures same { self.new ≡ record self.old { reach = self.new.reach } }
         ensures reach_positive { pos 0 ≤ℤ self.new.reach }
         ensures reach { nat_abs self.new.reach ≤ 2 ^ 30 }
         ensures within { AllWithin (nat_abs self.new.reach) self.new.numbers }
     {
-        if self.denominator != 1 {
-            let part = self.common_part();
-            self.put_over(part);
-        }
         self.reach = if most <= ENTRY_LIMIT {
             most
         } else {

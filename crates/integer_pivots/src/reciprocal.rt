@@ -38,7 +38,7 @@ impl Divisor {
     }
 
     /// Whether it goes into a number.
-    fn divides(self, number: i64) -> bool
+    pub fn divides(self, number: i64) -> bool
         requires reciprocal { IsReciprocal self }
         requires size { nat_abs number ≤ 2 ^ 62 }
         ensures { IsTrue result ↔ (nat_abs self.number ∣ nat_abs number) }
@@ -54,7 +54,7 @@ impl Divisor {
         ensures value { result.number ≡ pos (gcd (nat_abs number) (nat_abs self.number)) }
         ensures reciprocal { IsReciprocal result }
     {
-        if number == 0 || self.divides(number) {
+        if self.divides(number) {
             return self;
         }
         let size = u128::from(number.unsigned_abs());
@@ -71,10 +71,12 @@ impl Divisor {
         ensures times { (result *ℤ self.number) ≡ number }
         ensures size { nat_abs result ≤ nat_abs number }
     {
-        if number == 0 {
-            return 0;
-        }
         let times = self.quotient(number.unsigned_abs()) as i64;
         if number < 0 { -times } else { times }
+    }
+
+    /// How often a divisor of it goes into it.
+    pub fn over_part(self, part: Divisor) -> i64 {
+        part.over(self.number)
     }
 }

@@ -9,6 +9,7 @@ ghost use Rattle.integer_pivots.specs.Turns.{AreNonZeros, IsTurnedLine, StaysSma
 
 use crate::bounds::{ENTRY_LIMIT, greater_size, greatest};
 use crate::line::{Line, common_with, over};
+use crate::reciprocal::Divisor;
 use cost_base::Listed;
 
 /// How a line turns: what it is multiplied by, and how many times the entering form's line is taken away then.
@@ -73,22 +74,6 @@ pub fn put_touched(touched: &mut Vec<usize>, line: &[i64])
     }
 }
 
-/// Multiplies all numbers.
-fn multiply(numbers: &mut Listed<i64>, multiplier: i64)
-    requires sizes { AllWithin (2 ^ 30) numbers.old }
-    requires multiplier { nat_abs multiplier ≤ 2 ^ 30 }
-    ensures count { length numbers.new ≡ length numbers.old }
-    ensures each { (c : ℕ) → c < length numbers.old → number_at numbers.new c ≡ (multiplier *ℤ number_at numbers.old c) }
-{
-    if multiplier == 1 {
-        return;
-    }
-    for column in 0..numbers.as_slice().len() {
-        let number = numbers.as_slice()[column];
-        numbers.set(column, multiplier * number);
-    }
-}
-
 /// Takes a multiple of a line's numbers away, at the columns in which it isn't 0.
 fn take_away(numbers: &mut Listed<i64>, factor: i64, line: &[i64], touched: &[usize])
     requires long { length numbers.old ≡ length line.now }
@@ -103,6 +88,20 @@ fn take_away(numbers: &mut Listed<i64>, factor: i64, line: &[i64], touched: &[us
         let column = touched[index];
         let number = numbers.as_slice()[column];
         numbers.set(column, number - factor * line[column]);
+    }
+}
+
+/// Multiplies the first numbers, so many.
+fn multiply_first(numbers: &mut Listed<i64>, count: usize, multiplier: i64)
+    requires count { count ≤ length numbers.old }
+    requires sizes { (c : ℕ) → c < count → nat_abs (number_at numbers.old c) * nat_abs multiplier ≤ 2 ^ 30 }
+    ensures long { length numbers.new ≡ length numbers.old }
+    ensures first { (c : ℕ) → c < count → number_at numbers.new c ≡ (multiplier *ℤ number_at numbers.old c) }
+    ensures others { (c : ℕ) → count ≤ c → number_at numbers.new c ≡ number_at numbers.old c }
+{
+    for column in 0..count {
+        let number = numbers.as_slice()[column];
+        numbers.set(column, multiplier * number);
     }
 }
 
@@ -132,6 +131,43 @@ impl Turn {
     {
         let numbers = (self.multiplier * most).abs() + (self.factor * entering).abs();
         greater_size(numbers, self.factor * denominator)
+    }
+
+    /// A small number that has turned, by the entering line's number there.
+    fn turned_small(self, number: i64, entering: i64) -> i64
+        requires small { nat_abs self.multiplier * nat_abs number + nat_abs self.factor * nat_abs entering ≤ 2 ^ 30 }
+        ensures turned { result ≡ turned_number self number entering }
+        ensures size { nat_abs result ≤ 2 ^ 30 }
+    {
+        self.multiplier * number - self.factor * entering
+    }
+
+    /// Turns numbers by those of the entering line, each over what it has in common with all of them and with a divisor.
+    /// Gives that common part.
+    fn turn_over(self, numbers: &mut Listed<i64>, entering: &[i64], part: Divisor) -> Divisor
+        requires long { length numbers.old ≡ length entering.now }
+        requires part { IsReciprocal part }
+        requires small { (c : ℕ) → c < length numbers.old →
+            nat_abs self.multiplier * nat_abs (number_at numbers.old c) + nat_abs self.factor * nat_abs (number_at entering.now c) ≤ 2 ^ 30 }
+        ensures count { length numbers.new ≡ length numbers.old }
+        ensures reciprocal { IsReciprocal result }
+        ensures within { nat_abs result.number ∣ nat_abs part.number }
+        ensures each { (c : ℕ) → c < length numbers.old →
+            (number_at numbers.new c *ℤ result.number) ≡ turned_number self (number_at numbers.old c) (number_at entering.now c) }
+        ensures greatest { (d : ℕ) → d ∣ nat_abs part.number →
+            ((c : ℕ) → c < length numbers.old → d ∣ nat_abs (turned_number self (number_at numbers.old c) (number_at entering.now c))) → d ∣ nat_abs result.number }
+    {
+        let mut part = part;
+        for column in 0..entering.len() {
+            let number = self.turned_small(numbers.as_slice()[column], entering[column]);
+            if !part.divides(number) {
+                let common = part.shared_with(number);
+                multiply_first(numbers, column, part.over_part(common));
+                part = common;
+            }
+            numbers.set(column, part.over(number));
+        }
+        part
     }
 
     /// A number that has turned, by the entering line's number there.
@@ -193,16 +229,27 @@ impl Line {
         ensures lowest { IsInLowestTerms self.new }
     {
         let most = turn.most_after(self.reach, entering.reach, entering.denominator);
+        let own = turn.factor * entering.denominator;
         self.constant = self.constant_after(turn, entering) as i64;
         self.denominator *= turn.multiplier;
-        multiply(&mut self.numbers, turn.multiplier);
-        take_away(
-            &mut self.numbers,
-            turn.factor,
-            entering.numbers.as_slice(),
-            touched,
-        );
-        self.numbers.set(column, turn.factor * entering.denominator);
-        self.lower(most);
+        if self.denominator == 1 {
+            let line = entering.numbers.as_slice();
+            take_away(&mut self.numbers, turn.factor, line, touched);
+            self.numbers.set(column, own);
+        } else {
+            self.turn_and_lower(entering, column, turn, own);
+        }
+        self.bound_by(most);
+    }
+
+    /// Turns the numbers of a line whose denominator and constant have turned, and brings it into lowest terms. At the
+    /// pivot's column its number is the own one then.
+    fn turn_and_lower(&mut self, entering: &Line, column: usize, turn: Turn, own: i64) {
+        let common = common_with(self.constant, self.denominator);
+        let part = Divisor::new(common).shared_with(own);
+        let part = turn.turn_over(&mut self.numbers, entering.numbers.as_slice(), part);
+        self.denominator = part.over(self.denominator);
+        self.constant = part.over(self.constant);
+        self.numbers.set(column, part.over(own));
     }
 }
