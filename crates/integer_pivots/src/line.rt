@@ -7,10 +7,13 @@ ghost use Rattle.integer_pivots.specs.Lines.{IsInLowestTerms, IsReduced};
 ghost use Rattle.integer_pivots.specs.Numbers.{AllWithin};
 ghost use Rattle.integer_pivots.specs.Reciprocals.{IsReciprocal};
 
-use crate::bounds::{ENTRY_LIMIT, greatest};
+use crate::bounds::greatest;
 use crate::reciprocal::Divisor;
 use cost_base::Listed;
 use whole_numbers::greatest_common_divisor;
+
+/// A reach above this is looked up: 2^20.
+const LARGE_REACH: i64 = 1 << 20;
 
 /// A form at a basis in whole numbers over one denominator: its constant there, and its numbers at the columns.
 #[derive(Drop)]
@@ -26,7 +29,7 @@ pub struct Line {
 }
 
 /// Whether a positive number goes into another.
-fn goes_into(part: i64, number: i64) -> bool
+pub fn goes_into(part: i64, number: i64) -> bool
     requires part { pos 0 <ℤ part }
     ensures { IsTrue result ↔ (nat_abs part ∣ nat_abs number) }
 {
@@ -138,7 +141,7 @@ impl Line {
         self.reach = greatest(self.numbers.as_slice());
     }
 
-    /// Lets a size that no number passes be the reach, unless it is too large: then the reach is the greatest number's.
+    /// Lets a size that no number passes be the reach, unless it is large: then the reach is the greatest number's.
     pub(crate) fn bound_by(&mut self, most: i64)
         requires from_zero { pos 0 ≤ℤ most }
         requires most { AllWithin (nat_abs most) self.old.numbers }
@@ -148,7 +151,7 @@ impl Line {
         ensures reach { nat_abs self.new.reach ≤ 2 ^ 30 }
         ensures within { AllWithin (nat_abs self.new.reach) self.new.numbers }
     {
-        self.reach = if most <= ENTRY_LIMIT {
+        self.reach = if most <= LARGE_REACH {
             most
         } else {
             greatest(self.numbers.as_slice())

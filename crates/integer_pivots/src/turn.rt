@@ -8,7 +8,7 @@ ghost use Rattle.integer_pivots.specs.Numbers.{AllWithin};
 ghost use Rattle.integer_pivots.specs.Turns.{AreNonZeros, IsTurnedLine, StaysSmall, turn_at, turn_by, turned_number};
 
 use crate::bounds::{ENTRY_LIMIT, greater_size, greatest};
-use crate::line::{Line, common_with, over};
+use crate::line::{Line, common_with, goes_into, over};
 use crate::reciprocal::Divisor;
 use cost_base::Listed;
 
@@ -52,6 +52,9 @@ pub fn common_multiple(first: i64, second: i64) -> Option<i64>
 {
     if ENTRY_LIMIT < second {
         return None;
+    }
+    if goes_into(second, first) {
+        return Some(first);
     }
     let common = over(first, common_with(first, second)) * second;
     if ENTRY_LIMIT < common {
@@ -236,20 +239,22 @@ impl Line {
             let line = entering.numbers.as_slice();
             take_away(&mut self.numbers, turn.factor, line, touched);
             self.numbers.set(column, own);
+            self.bound_by(most);
         } else {
-            self.turn_and_lower(entering, column, turn, own);
+            let part = self.turn_and_lower(entering, column, turn, own);
+            self.bound_by(most / part);
         }
-        self.bound_by(most);
     }
 
     /// Turns the numbers of a line whose denominator and constant have turned, and brings it into lowest terms. At the
-    /// pivot's column its number is the own one then.
-    fn turn_and_lower(&mut self, entering: &Line, column: usize, turn: Turn, own: i64) {
+    /// pivot's column its number is the own one then. Gives what went out.
+    fn turn_and_lower(&mut self, entering: &Line, column: usize, turn: Turn, own: i64) -> i64 {
         let common = common_with(self.constant, self.denominator);
         let part = Divisor::new(common).shared_with(own);
         let part = turn.turn_over(&mut self.numbers, entering.numbers.as_slice(), part);
         self.denominator = part.over(self.denominator);
         self.constant = part.over(self.constant);
         self.numbers.set(column, part.over(own));
+        part.number
     }
 }
