@@ -29,7 +29,7 @@ pub struct Line {
 }
 
 /// Whether a positive number goes into another.
-pub fn goes_into(part: i64, number: i64) -> bool
+fn goes_into(part: i64, number: i64) -> bool
     requires part { pos 0 <ℤ part }
     ensures { IsTrue result ↔ (nat_abs part ∣ nat_abs number) }
 {

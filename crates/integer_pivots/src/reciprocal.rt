@@ -76,7 +76,12 @@ impl Divisor {
     }
 
     /// How often a divisor of it goes into it.
-    pub fn over_part(self, part: Divisor) -> i64 {
+    pub fn over_part(self, part: Divisor) -> i64
+        requires reciprocal { IsReciprocal self }
+        requires part { IsReciprocal part }
+        requires divides { nat_abs part.number ∣ nat_abs self.number }
+        ensures times { (result *ℤ part.number) ≡ self.number }
+    {
         part.over(self.number)
     }
 }

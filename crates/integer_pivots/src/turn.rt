@@ -1,14 +1,15 @@
 //! How a pivot turns one line.
-ghost use Rattle.std.specs.Prelude.{◌≡◌, ℕ, ◌^◌, ◌*◌, ◌+◌, ◌<◌, ◌≤◌, ◌↔◌, pos, ◌-ℤ◌, ◌*ℤ◌, ◌<ℤ◌, ◌≤ℤ◌, nat_abs, length, IsTrue, MatchOption, vec_capacity};
+ghost use Rattle.std.specs.Prelude.{◌≡◌, ◌≢◌, ℕ, ◌^◌, ◌*◌, ◌+◌, ◌<◌, ◌≤◌, ◌↔◌, pos, ◌-ℤ◌, ◌*ℤ◌, ◌<ℤ◌, ◌≤ℤ◌, nat_abs, length, IsTrue, MatchOption, vec_capacity};
 ghost use Prim.Native.Nat.{◌∣◌};
 ghost use Rattle.whole_numbers.specs.Fractions.{lcm};
 ghost use Rattle.whole_numbers.specs.Lists.{number_at};
-ghost use Rattle.integer_pivots.specs.Lines.{IsInLowestTerms, IsLine};
+ghost use Rattle.integer_pivots.specs.Lines.{IsLine};
 ghost use Rattle.integer_pivots.specs.Numbers.{AllWithin};
+ghost use Rattle.integer_pivots.specs.Reciprocals.{IsReciprocal};
 ghost use Rattle.integer_pivots.specs.Turns.{AreNonZeros, IsTurnedLine, StaysSmall, turn_at, turn_by, turned_number};
 
 use crate::bounds::{ENTRY_LIMIT, greater_size, greatest};
-use crate::line::{Line, common_with, goes_into, over};
+use crate::line::{Line, common_with, over};
 use crate::reciprocal::Divisor;
 use cost_base::Listed;
 
@@ -52,9 +53,6 @@ pub fn common_multiple(first: i64, second: i64) -> Option<i64>
 {
     if ENTRY_LIMIT < second {
         return None;
-    }
-    if goes_into(second, first) {
-        return Some(first);
     }
     let common = over(first, common_with(first, second)) * second;
     if ENTRY_LIMIT < common {
@@ -229,7 +227,6 @@ impl Line {
         ensures line { IsLine self.new }
         ensures turned { IsTurnedLine turn column entering.now self.old self.new }
         ensures divides { nat_abs self.new.denominator ∣ (nat_abs self.old.denominator * nat_abs turn.multiplier) }
-        ensures lowest { IsInLowestTerms self.new }
     {
         let most = turn.most_after(self.reach, entering.reach, entering.denominator);
         let own = turn.factor * entering.denominator;
@@ -248,7 +245,22 @@ impl Line {
 
     /// Turns the numbers of a line whose denominator and constant have turned, and brings it into lowest terms. At the
     /// pivot's column its number is the own one then. Gives what went out.
-    fn turn_and_lower(&mut self, entering: &Line, column: usize, turn: Turn, own: i64) -> i64 {
+    fn turn_and_lower(&mut self, entering: &Line, column: usize, turn: Turn, own: i64) -> i64
+        requires long { length self.old.numbers ≡ length entering.now.numbers }
+        requires column { column < length self.old.numbers }
+        requires denominator { (pos 0 <ℤ self.old.denominator) × (self.old.denominator ≤ℤ pos (2 ^ 30)) }
+        requires constant { nat_abs self.old.constant ≤ 2 ^ 62 }
+        requires small { StaysSmall turn self.old entering.now }
+        requires stands { turned_number turn (number_at self.old.numbers column) (number_at entering.now.numbers column) ≡ pos 0 }
+        requires own { nat_abs own ≤ 2 ^ 30 }
+        ensures part { pos 0 <ℤ result }
+        ensures denominator { (self.new.denominator *ℤ result) ≡ self.old.denominator }
+        ensures constant { (self.new.constant *ℤ result) ≡ self.old.constant }
+        ensures count { length self.new.numbers ≡ length self.old.numbers }
+        ensures others { (c : ℕ) → c < length self.old.numbers → c ≢ column →
+            (number_at self.new.numbers c *ℤ result) ≡ turned_number turn (number_at self.old.numbers c) (number_at entering.now.numbers c) }
+        ensures own { (number_at self.new.numbers column *ℤ result) ≡ own }
+    {
         let common = common_with(self.constant, self.denominator);
         let part = Divisor::new(common).shared_with(own);
         let part = turn.turn_over(&mut self.numbers, entering.numbers.as_slice(), part);

@@ -179,21 +179,6 @@ impl Kernel {
         }
     }
 
-    /// The least common multiple of the common denominator and of those of the lines that have turned. It goes into the
-    /// one that was to be expected, since lines are in lowest terms now.
-    fn common_of_turned(&self) -> i64 {
-        let mut common = self.common;
-        for var in 0..self.lows.len() {
-            if self.turns[var].multiplier != 1 {
-                match common_multiple(common, self.lows[var].denominator) {
-                    Some(multiple) => common = multiple,
-                    None => unreachable!(),
-                }
-            }
-        }
-        common
-    }
-
     /// Turns all lines at a column by the entering line; the leads, the common denominator and the constants follow.
     ///
     /// # Errors
@@ -210,14 +195,13 @@ impl Kernel {
         if !self.lines_stay_small(column) {
             return Err(OutOfRange);
         }
-        let Some(most_common) = self.common_after(column) else {
+        let Some(common) = self.common_after(column) else {
             return Err(OutOfRange);
         };
-        if !self.constants_stay_small(column, most_common) {
+        if !self.constants_stay_small(column, common) {
             return Err(OutOfRange);
         }
         self.turn_lines(column);
-        let common = self.common_of_turned();
         turn_leads(
             self.leads.as_mut_slice(),
             self.lows.as_slice(),
