@@ -8,10 +8,11 @@ ghost use Rattle.integer_pivots.specs.Numbers.{AllWithin};
 ghost use Rattle.integer_pivots.specs.Reciprocals.{IsReciprocal};
 ghost use Rattle.integer_pivots.specs.Turns.{AreNonZeros, IsTurnedLine, StaysSmall, turn_at, turn_by, turned_number};
 
-use crate::bounds::{ENTRY_LIMIT, greater_size, greatest};
+use crate::bounds::{ENTRY_LIMIT, greater_size, within};
 use crate::line::{Line, common_with, over};
 use crate::reciprocal::Divisor;
 use cost_base::Listed;
+use whole_numbers::greatest_common_divisor;
 
 /// How a line turns: what it is multiplied by, and how many times the entering form's line is taken away then.
 #[derive(Clone, Copy)]
@@ -95,7 +96,7 @@ fn take_away(numbers: &mut Listed<i64>, factor: i64, line: &[i64], touched: &[us
 /// Multiplies the first numbers, so many.
 fn multiply_first(numbers: &mut Listed<i64>, count: usize, multiplier: i64)
     requires count { count ≤ length numbers.old }
-    requires sizes { (c : ℕ) → c < count → nat_abs (number_at numbers.old c) * nat_abs multiplier ≤ 2 ^ 30 }
+    requires sizes { (c : ℕ) → c < count → nat_abs (number_at numbers.old c) * nat_abs multiplier ≤ 2 ^ 61 }
     ensures long { length numbers.new ≡ length numbers.old }
     ensures first { (c : ℕ) → c < count → number_at numbers.new c ≡ (multiplier *ℤ number_at numbers.old c) }
     ensures others { (c : ℕ) → count ≤ c → number_at numbers.new c ≡ number_at numbers.old c }
@@ -134,11 +135,14 @@ impl Turn {
         greater_size(numbers, self.factor * denominator)
     }
 
-    /// A small number that has turned, by the entering line's number there.
-    fn turned_small(self, number: i64, entering: i64) -> i64
-        requires small { nat_abs self.multiplier * nat_abs number + nat_abs self.factor * nat_abs entering ≤ 2 ^ 30 }
+    /// A line's number that has turned, by the entering line's number there.
+    fn turned_entry(self, number: i64, entering: i64) -> i64
+        requires multiplier { nat_abs self.multiplier ≤ 2 ^ 30 }
+        requires factor { nat_abs self.factor ≤ 2 ^ 30 }
+        requires number { nat_abs number ≤ 2 ^ 30 }
+        requires entering { nat_abs entering ≤ 2 ^ 30 }
         ensures turned { result ≡ turned_number self number entering }
-        ensures size { nat_abs result ≤ 2 ^ 30 }
+        ensures size { nat_abs result ≤ 2 ^ 61 }
     {
         self.multiplier * number - self.factor * entering
     }
@@ -148,8 +152,10 @@ impl Turn {
     fn turn_over(self, numbers: &mut Listed<i64>, entering: &[i64], part: Divisor) -> Divisor
         requires long { length numbers.old ≡ length entering.now }
         requires part { IsReciprocal part }
-        requires small { (c : ℕ) → c < length numbers.old →
-            nat_abs self.multiplier * nat_abs (number_at numbers.old c) + nat_abs self.factor * nat_abs (number_at entering.now c) ≤ 2 ^ 30 }
+        requires multiplier { nat_abs self.multiplier ≤ 2 ^ 30 }
+        requires factor { nat_abs self.factor ≤ 2 ^ 30 }
+        requires sizes { AllWithin (2 ^ 30) numbers.old }
+        requires entering { AllWithin (2 ^ 30) entering.now }
         ensures count { length numbers.new ≡ length numbers.old }
         ensures reciprocal { IsReciprocal result }
         ensures within { nat_abs result.number ∣ nat_abs part.number }
@@ -160,7 +166,7 @@ impl Turn {
     {
         let mut part = part;
         for column in 0..entering.len() {
-            let number = self.turned_small(numbers.as_slice()[column], entering[column]);
+            let number = self.turned_entry(numbers.as_slice()[column], entering[column]);
             if !part.divides(number) {
                 let common = part.shared_with(number);
                 multiply_first(numbers, column, part.over_part(common));
@@ -183,24 +189,48 @@ impl Turn {
 }
 
 impl Line {
-    /// Whether the numbers of a line stay small in a turn.
+    /// What the denominator, the constant and all numbers of a line have in common once it has turned. At the pivot's
+    /// column its number is the own one then.
+    fn part_after(&self, turn: Turn, entering: &Line, own: i64) -> Divisor {
+        let constant = self.constant_after(turn, entering).unsigned_abs();
+        let denominator = (self.denominator * turn.multiplier).unsigned_abs();
+        let common = greatest_common_divisor(constant, u128::from(denominator));
+        let mut part = Divisor::new(common as i64).shared_with(own);
+        let numbers = self.numbers.as_slice();
+        let line = entering.numbers.as_slice();
+        for column in 0..numbers.len() {
+            part = part.shared_with(turn.turned_entry(numbers[column], line[column]));
+        }
+        part
+    }
+
+    /// Whether the numbers of a line that has turned are small once it is in lowest terms.
+    fn lowest_stays_small(&self, turn: Turn, entering: &Line) -> bool {
+        let own = turn.factor * entering.denominator;
+        let limit = ENTRY_LIMIT * self.part_after(turn, entering, own).number;
+        let numbers = self.numbers.as_slice();
+        let line = entering.numbers.as_slice();
+        for column in 0..numbers.len() {
+            if !within(turn.turned_entry(numbers[column], line[column]), limit) {
+                return false;
+            }
+        }
+        within(own, limit)
+    }
+
+    /// Whether the numbers of a line that has turned stay small once it is in lowest terms: by their sizes before, where
+    /// these show it.
     pub fn stays_small(&self, turn: Turn, entering: &Line) -> bool
         requires line { IsLine self.now }
         requires entering { IsLine entering.now }
         requires multiplier { (pos 0 <ℤ turn.multiplier) × (turn.multiplier ≤ℤ pos (2 ^ 30)) }
         requires factor { nat_abs turn.factor ≤ 2 ^ 30 }
-        ensures { IsTrue result ↔ StaysSmall turn self.now entering.now }
+        requires denominator { nat_abs self.now.denominator * nat_abs turn.multiplier ≤ 2 ^ 30 }
     {
-        if !turn.keeps(0, entering.denominator) {
-            return false;
-        }
-        if turn.keeps(self.reach, entering.reach) {
+        if turn.keeps(0, entering.denominator) && turn.keeps(self.reach, entering.reach) {
             return true;
         }
-        turn.keeps(
-            greatest(self.numbers.as_slice()),
-            greatest(entering.numbers.as_slice()),
-        )
+        self.lowest_stays_small(turn, entering)
     }
 
     /// The constant of a line that has turned, over the denominator times the multiplier.

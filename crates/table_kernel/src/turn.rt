@@ -192,12 +192,12 @@ impl Kernel {
         ensures refused { OnErr result (MayTurn self.old column → ⊥) }
         ensures turned { OnOk result (HasTurned self.old self.new column) }
     {
-        if !self.lines_stay_small(column) {
-            return Err(OutOfRange);
-        }
         let Some(common) = self.common_after(column) else {
             return Err(OutOfRange);
         };
+        if !self.lines_stay_small(column) {
+            return Err(OutOfRange);
+        }
         if !self.constants_stay_small(column, common) {
             return Err(OutOfRange);
         }
