@@ -15,6 +15,12 @@ pub struct Divisor {
 }
 
 impl Divisor {
+    /// The divisor 1.
+    pub const ONE: Divisor = Divisor {
+        number: 1,
+        reciprocal: (1 << 63) + 1,
+    };
+
     /// A number of at most 2^30 to divide by.
     pub fn new(number: i64) -> Divisor
         requires { (pos 0 <ℤ number) × (number ≤ℤ pos (2 ^ 30)) }

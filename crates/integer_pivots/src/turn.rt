@@ -195,13 +195,36 @@ impl Line {
         let constant = self.constant_after(turn, entering).unsigned_abs();
         let denominator = (self.denominator * turn.multiplier).unsigned_abs();
         let common = greatest_common_divisor(constant, u128::from(denominator));
-        let mut part = Divisor::new(common as i64).shared_with(own);
+        let part = Divisor::new(common as i64).shared_with(own);
+        self.shared_by_turned(turn, entering, part)
+    }
+
+    /// What a divisor has in common with all numbers of a line that is turned.
+    fn shared_by_turned(&self, turn: Turn, entering: &Line, part: Divisor) -> Divisor {
+        let mut part = part;
         let numbers = self.numbers.as_slice();
         let line = entering.numbers.as_slice();
         for column in 0..numbers.len() {
+            if part.number == 1 {
+                return part;
+            }
             part = part.shared_with(turn.turned_entry(numbers[column], line[column]));
         }
         part
+    }
+
+    /// A divisor of the denominator, the constant and the own number of a line in which these have turned, into which all
+    /// that the line will have in common goes. Where few numbers turn, it is just that.
+    fn part_before(&self, turn: Turn, entering: &Line, own: i64, turned: usize) -> Divisor {
+        if self.denominator == 1 {
+            return Divisor::ONE;
+        }
+        let common = common_with(self.constant, self.denominator);
+        let part = Divisor::new(common).shared_with(own);
+        if turn.multiplier != 1 || self.numbers.as_slice().len() / 4 < turned {
+            return part;
+        }
+        self.shared_by_turned(turn, entering, part)
     }
 
     /// Whether the numbers of a line that has turned are small once it is in lowest terms.
@@ -262,20 +285,28 @@ impl Line {
         let own = turn.factor * entering.denominator;
         self.constant = self.constant_after(turn, entering) as i64;
         self.denominator *= turn.multiplier;
-        if self.denominator == 1 {
+        let part = self.part_before(turn, entering, own, touched.len());
+        if part.number == 1 && turn.multiplier == 1 {
             let line = entering.numbers.as_slice();
             take_away(&mut self.numbers, turn.factor, line, touched);
             self.numbers.set(column, own);
             self.bound_by(most);
         } else {
-            let part = self.turn_and_lower(entering, column, turn, own);
+            let part = self.turn_and_lower(entering, column, turn, own, part);
             self.bound_by(most / part);
         }
     }
 
     /// Turns the numbers of a line whose denominator and constant have turned, and brings it into lowest terms. At the
     /// pivot's column its number is the own one then. Gives what went out.
-    fn turn_and_lower(&mut self, entering: &Line, column: usize, turn: Turn, own: i64) -> i64
+    fn turn_and_lower(
+        &mut self,
+        entering: &Line,
+        column: usize,
+        turn: Turn,
+        own: i64,
+        part: Divisor,
+    ) -> i64
         requires long { length self.old.numbers ≡ length entering.now.numbers }
         requires column { column < length self.old.numbers }
         requires denominator { (pos 0 <ℤ self.old.denominator) × (self.old.denominator ≤ℤ pos (2 ^ 30)) }
@@ -291,8 +322,6 @@ impl Line {
             (number_at self.new.numbers c *ℤ result) ≡ turned_number turn (number_at self.old.numbers c) (number_at entering.now.numbers c) }
         ensures own { (number_at self.new.numbers column *ℤ result) ≡ own }
     {
-        let common = common_with(self.constant, self.denominator);
-        let part = Divisor::new(common).shared_with(own);
         let part = turn.turn_over(&mut self.numbers, entering.numbers.as_slice(), part);
         self.denominator = part.over(self.denominator);
         self.constant = part.over(self.constant);
