@@ -17,7 +17,7 @@ use cost_base::OutOfMemory;
 use std::alloc::Global;
 
 /// What no path costs at scale 1: one over at most 1,000 routers, each left at a cost of at most 65535, costs less.
-const FAR: u128 = 1 << 26;
+pub const FAR: u128 = 1 << 26;
 
 /// A path with what a request says of it.
 #[derive(Clone, Copy)]

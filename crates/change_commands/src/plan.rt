@@ -195,7 +195,7 @@ fn steps_of(
     }
 }
 
-/// That costs have 16 bits.
+/// A law of costs, which takes no time: each has 16 bits.
 fn keep_bits(costs: &[u16])
     ensures { (k : ℕ) → k < length costs.now → slice_index costs.now k ≤ 65535 }
 {

@@ -2,7 +2,6 @@
 ghost use Rattle.std.specs.Prelude.{◌≡◌, ℕ, ◌<◌, ◌≤◌, Some, All, IfOk, length};
 ghost use Rattle.area_graph.specs.Costs.{IsPriced};
 ghost use Rattle.rival_separation.specs.Askers.{ArePathsOf};
-ghost use Rattle.design_problem.specs.Problems.{IsProblem};
 ghost use Rattle.evidence_reader.specs.Refusals.{IsReaderStop};
 ghost use Rattle.sections_reader.specs.Texts.{FitLines, SaysCosts, start_of_bytes};
 ghost use Rattle.present_costs.specs.AtCosts.{graph_by_links};
@@ -48,13 +47,6 @@ fn status_of(outcome: &Outcome) -> Status
         Outcome::NoOrder(_) => Status::Impossible,
         Outcome::Undecided(_) => Status::Undecided,
     }
-}
-
-/// What the type of a problem keeps.
-fn keeps(problem: &Problem)
-    ensures { IsProblem problem.now }
-{
-    let _ = &problem.graph;
 }
 
 /// The requests of a problem.
@@ -136,7 +128,7 @@ fn report_of_lines(
         SaysCosts plan.bytes (Some lines.now) → MaySteps words.entry.nodes words.entry.by plan
         report.status (bytes_in report.text)) }
 {
-    keeps(&network.problem);
+    network.problem.keeps_conditions();
     let names = Names::new(alloc, &network.lsdb)?;
     let present = costs_of_links(alloc, &network.requests, &network.lsdb)?;
     match wanted_costs(alloc, &names, &present, lines)? {

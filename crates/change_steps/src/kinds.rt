@@ -7,10 +7,9 @@ ghost use Rattle.change_steps.specs.Rollouts.{lines_of_step, step_count};
 ghost use Rattle.change_steps.specs.Kinds.{falls_off_held, goes_over, has_kind, kind_of_step, lies_on_held, rises, rises_off_held};
 ghost use Rattle.change_steps.specs.Search.{AreHeldMarks};
 
-use crate::marks::no_marks;
 use crate::scene::Scene;
 use area_graph::{Graph, Price, edge_of};
-use cost_base::OutOfMemory;
+use cost_base::{OutOfMemory, no_marks};
 use std::alloc::Global;
 
 /// When a step is done, by where its lines lie and whether their costs rise.

@@ -6,7 +6,6 @@ mod finding;
 mod found;
 mod held;
 mod kinds;
-mod marks;
 mod moves;
 mod plan;
 mod reach;

@@ -9,16 +9,12 @@ ghost use Rattle.change_steps.specs.Search.{IsStateOf};
 ghost use Rattle.change_steps.specs.Reaches.{AreAtLeast, AreDearerOver, AreLeastTo, IsHarmless, IsReach, least_from_to, edges_of_step, has_price, least_cost, least_costs, price_rises};
 
 use crate::kinds::{Kind, is_kind, line_rises};
-use crate::marks::no_marks;
 use crate::scene::Scene;
 use crate::state::State;
-use area_graph::{Graph, Point, Price, edge_of, path_cost, price_of};
-use cost_base::{Listed, OutOfMemory};
+use area_graph::{FAR, Graph, Point, Price, edge_of, path_cost, price_of};
+use cost_base::{Listed, OutOfMemory, no_marks};
 use spf_ties::Room;
 use std::alloc::Global;
-
-/// More than a simple path can cost.
-const FAR: u32 = 1 << 26;
 
 /// The edges whose costs steps change, and what paths cost at least, whichever steps are done.
 #[derive(Drop)]
@@ -87,8 +83,8 @@ fn at_most(least: Option<u128>) -> u32
     ensures { (cost : ℕ) → least ≡ Some cost → result ≤ cost }
 {
     match least {
-        Some(cost) => { if cost < FAR as u128 { cost as u32 } else { FAR } }
-        None => FAR,
+        Some(cost) => { if cost < FAR { cost as u32 } else { FAR as u32 } }
+        None => FAR as u32,
     }
 }
 

@@ -46,7 +46,7 @@ impl<'a> Scene<'a> {
         }
     }
 
-    /// A rollout keeps its conditions.
+    /// A law of each rollout, which takes no time: it keeps its conditions.
     pub fn keeps_conditions(&self)
         ensures { IsRollout self.now }
     {

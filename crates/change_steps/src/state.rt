@@ -6,10 +6,9 @@ ghost use Rattle.change_steps.specs.Orders.{IsOnlyIn, all_done, is_one_of, none_
 ghost use Rattle.change_steps.specs.States.{is_done_in, marks_of};
 ghost use Rattle.change_steps.specs.Search.{IsStateOf};
 
-use crate::marks::no_marks;
 use crate::scene::Scene;
 use area_graph::Point;
-use cost_base::{Listed, OutOfMemory};
+use cost_base::{Listed, OutOfMemory, no_marks};
 use rival_separation::find_rival;
 use spf_ties::Room;
 use std::alloc::Global;

@@ -191,6 +191,7 @@ impl Walk {
             length self.old.order.items) (self.new.order.items ≡ []) }
         ensures next { MatchBool result ⊤ (self.new.next ≡ step_count plan.now.rollout) }
     {
+        // For the prover: that a step's number plus 1 fits a `usize` is known once the number of steps is read.
         let _few = plan.step_count();
         match self.order.pop() {
             Some(step) => {

@@ -161,10 +161,10 @@ core_found p top nodes t without told kept refuted counted fits is =
     })
 
 -- the budget was used up
-pub unknown_found : (p : DesignProblem) (top nodes : ℕ) (t : SetTree) (told : Told) → IsUndecidedSet p top nodes t →
+pub undecided_found : (p : DesignProblem) (top nodes : ℕ) (t : SetTree) (told : Told) → IsUndecidedSet p top nodes t →
     (t.members.items ≡ all_requests p) ⊎ IsConflictLessOne p t.members.items → IsSetTreeTold p top nodes t told →
     IsUndecidedConflict p top nodes told.members told.rows told.tree
-unknown_found p top nodes t told spent tried is =
+undecided_found p top nodes t told spent tried is =
     subst (λ (ms : List ℕ). IsUndecidedConflict p top nodes ms told.rows told.tree) (sym is.members)
     (record {
       set = spent.tree.set;

@@ -21,7 +21,7 @@ pub enum Conflict {
         /// For each member, in order, costs that are fit for the others.
         without: Listed<CostList>,
     },
-    /// The node budget was used up.
+    /// The budget was used up.
     Undecided {
         /// The requests at which it was used up, in rising order: all of them, or a conflict without one of its members.
         members: Listed<u32>,

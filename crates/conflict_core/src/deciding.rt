@@ -27,7 +27,7 @@ pub(crate) enum Decided {
     Costs(CostList),
     /// The requests are a conflict.
     Refuted(SetTree),
-    /// The node budget was used up.
+    /// The budget was used up.
     Undecided(SetTree),
 }
 

@@ -16,8 +16,8 @@ use design_problem::{CostList, Problem};
 use std::alloc::Global;
 use wide_fraction::Limits;
 
-/// That the node budget was used up at a set.
-fn unknown(alloc: Global, problem: &Problem, set: SetTree) -> Result<Conflict, OutOfMemory>
+/// That the budget was used up at a set.
+fn undecided(alloc: Global, problem: &Problem, set: SetTree) -> Result<Conflict, OutOfMemory>
     requires spent { (top : ℕ) × (nodes : ℕ) × IsUndecidedSet problem.now top nodes set }
     requires tried { (set.members.items ≡ all_requests problem.now) ⊎
         IsConflictLessOne problem.now set.members.items }
@@ -81,7 +81,7 @@ fn finish(
     match decide_set(alloc, problem, members, limits, advisors)? {
         Decided::Costs(_) => unreachable!(),
         Decided::Refuted(conflict) => core(alloc, problem, conflict, shrunk.without),
-        Decided::Undecided(set) => unknown(alloc, problem, set),
+        Decided::Undecided(set) => undecided(alloc, problem, set),
     }
 }
 
@@ -113,7 +113,7 @@ fn shrink(
     while shrunk.without.len() < shrunk.members.as_slice().len() {
         match leave_out(alloc, problem, limits, shrunk, advisors)? {
             Tried::On(next) => shrunk = next,
-            Tried::Stuck(set) => return unknown(alloc, problem, set),
+            Tried::Stuck(set) => return undecided(alloc, problem, set),
         }
     }
     finish(alloc, problem, limits, shrunk, advisors)
@@ -123,9 +123,9 @@ fn shrink(
 ///
 /// All requests are decided first, at the greatest upper bound. Where they have no fit costs, each request in rising
 /// order is left out, and stays out where the others have none either. That is known without a search where the last
-/// tree has no row of it; so the core is decided once more, for its own tree. Fits has fit costs of the whole problem. A core
-/// is a least conflict, with a closed earnest tree, and fit costs for each set without one of its members. Unknown has
-/// the earnest tree that used up the budget, with exactly `limits.nodes` entries.
+/// tree has no row of it; so the core is decided once more, for its own tree. Fits has fit costs of the whole problem.
+/// A core is a least conflict, with a closed earnest tree, and fit costs for each set without one of its members.
+/// Undecided has the earnest tree that used up the budget, with exactly `limits.nodes` entries.
 ///
 /// # Errors
 ///
@@ -145,6 +145,6 @@ pub fn find_conflict(
     match decide_set(alloc, problem, all, limits, advisors)? {
         Decided::Costs(costs) => Ok(Conflict::Fits { costs }),
         Decided::Refuted(conflict) => shrink(alloc, problem, limits, conflict, advisors),
-        Decided::Undecided(set) => unknown(alloc, problem, set),
+        Decided::Undecided(set) => undecided(alloc, problem, set),
     }
 }

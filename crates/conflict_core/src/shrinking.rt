@@ -30,7 +30,7 @@ pub(crate) struct Shrunk {
 pub(crate) enum Tried {
     /// It stays out, or there are costs without it.
     On(Shrunk),
-    /// The node budget was used up.
+    /// The budget was used up.
     Stuck(SetTree),
 }
 

@@ -66,7 +66,7 @@ impl<'a, B: Begun> Model for Rivals<'a, B> {
     } };
 }
 
-/// A problem keeps its conditions, and so does its graph.
+/// A law of each problem, which takes no time: it keeps the conditions of its type, and its graph those of a graph.
 pub fn keeps_conditions(problem: &Problem)
     ensures { IsProblemOnGraph problem.now }
 {

@@ -37,7 +37,7 @@ pub enum Command {
     Comment,
 }
 
-/// A node budget and a width.
+/// A budget and a width.
 #[derive(Clone, Copy)]
 pub struct Budget {
     pub nodes: u32,

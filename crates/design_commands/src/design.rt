@@ -51,8 +51,7 @@ pub(crate) fn answer_to(
     ensures advisors { AreCalled ⟦<dyn Advisor as Advisor>⟧ (λ b. b.vtable) (λ b. state b)
         advisors.old.items advisors.new.items }
 {
-    // For the prover: what a problem's type keeps is known once a field of it is read.
-    let _bounds = &problem.low;
+    problem.keeps_conditions();
     let answer = least(alloc, problem, limits, advisors)?;
     keeps_answer(&answer);
     Ok(answer)

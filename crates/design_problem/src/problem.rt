@@ -1,4 +1,6 @@
 //! Problems of design.
+ghost use Rattle.design_problem.specs.Problems.{IsProblem};
+
 use area_graph::{Graph, Path};
 use cost_base::{Listed, Name};
 use std::marker::Model;
@@ -45,4 +47,13 @@ impl Model for Problem {
     ghost view = { λ p. record { graph = p.graph; vars = p.vars; low = p.low; high = p.high; paths = p.paths } };
 
     ghost invariant = { λ p. IsProblem (record { graph = p.graph; vars = p.vars; low = p.low; high = p.high; paths = p.paths }) };
+}
+
+impl Problem {
+    /// A law of each problem, which takes no time: it keeps the conditions of its type.
+    pub fn keeps_conditions(&self)
+        ensures { IsProblem self.now }
+    {
+        let _ = &self.graph;
+    }
 }

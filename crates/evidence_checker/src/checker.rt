@@ -11,7 +11,7 @@ ghost use Rattle.evidence_checker.specs.Refusals.{AtNoPlace, AtFirstItem, StopsB
 ghost use Rattle.evidence_checker.specs.Tests.{ShapeOfClaim, HasWrongShape, cost_tests, row_tests, proof_tests, tests};
 
 use crate::cost_tests::check_costs;
-use crate::problem_parts::{high_of, keeps, low_of};
+use crate::problem_parts::{high_of, low_of};
 use crate::rows::forms_of;
 use crate::shape::{claimed, fits_claim};
 use crate::tree::check_cap_tree;
@@ -75,7 +75,7 @@ fn check_evidence(
         (StopsBy (AtFirstItem (row_tests problem.now) 0 rows.now ∷
         proof_tests problem.now rows.now (option_copied proof.entry))) }
 {
-    keeps(problem);
+    problem.keeps_conditions();
     let forms = forms_of(alloc, problem, rows)?;
     match proof {
         Some(proof) => check_cap_tree(
@@ -108,7 +108,7 @@ pub fn check(
     ensures first { IfErr result (StopsBy (tests problem.now answer.now)) }
     ensures invalid { IfErr result (RefusesInvalid problem.now answer.now) }
 {
-    keeps(problem);
+    problem.keeps_conditions();
     let accepted = claimed(answer.verdict)?;
     check_shape(problem, answer)?;
     let costs = answer.costs.as_ref();

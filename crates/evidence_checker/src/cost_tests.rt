@@ -15,7 +15,7 @@ ghost use Rattle.evidence_checker.specs.Tests.{NamesPlaces, HasUnequalEnds, IsOu
 use crate::CheckFault;
 use crate::costs::{first_outside, first_unequal, names_places};
 use crate::paths::first_not_only;
-use crate::problem_parts::{high_of, keeps, low_of, names_of};
+use crate::problem_parts::{high_of, low_of, names_of};
 use crate::shape::is_false_floor;
 use cost_base::{OutOfMemory, Refusal};
 use design_problem::{CostLine, Costs, Floor, Problem, costs_given, greatest_of};
@@ -42,7 +42,7 @@ fn given(alloc: Global, problem: &Problem, lines: &[CostLine]) -> Result<Vec<u16
     requires { NamesPlaces problem.now.vars lines.now }
     ensures { IfOk result (λ costs. costs.items ≡ costs_given problem.now lines.now) }
 {
-    keeps(problem);
+    problem.keeps_conditions();
     costs_given(alloc, low_of(problem).len(), names_of(problem), lines)
 }
 
@@ -60,7 +60,7 @@ fn check_ends(
         (AtFirst (check_fault_number UnequalEnds) (HasUnequalEnds problem.now.vars lines.now) ∷
         [])) }
 {
-    keeps(problem);
+    problem.keeps_conditions();
     match first_unequal(names_of(problem), lines, costs) {
         Some(var) => Err(Refusal::Refused {
             fault: CheckFault::UnequalEnds,
@@ -79,7 +79,7 @@ fn check_bounds(problem: &Problem, costs: &[u16]) -> Result<(), Refusal<CheckFau
         (AtFirst (check_fault_number OutOfBounds)
         (IsOutside problem.now.low problem.now.high costs.now) ∷ [])) }
 {
-    keeps(problem);
+    problem.keeps_conditions();
     match first_outside(low_of(problem), high_of(problem), costs) {
         Some(var) => Err(Refusal::Refused {
             fault: CheckFault::OutOfBounds,

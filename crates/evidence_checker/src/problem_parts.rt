@@ -1,15 +1,7 @@
 //! The parts of a problem, as slices.
 ghost use Rattle.std.specs.Prelude.{◌≡◌};
-ghost use Rattle.design_problem.specs.Problems.{IsProblem};
 
 use design_problem::{Problem, VarName};
-
-/// What the type of a problem keeps.
-pub(crate) fn keeps(problem: &Problem)
-    ensures { IsProblem problem.now }
-{
-    let _ = &problem.graph;
-}
 
 /// The free interfaces.
 pub(crate) fn names_of(problem: &Problem) -> &[VarName]

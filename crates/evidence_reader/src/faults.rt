@@ -1,5 +1,5 @@
 //! What is wrong with a text where no lawful line stands first.
-ghost use Rattle.std.specs.Prelude.{◌≡◌, ◌≢◌, [], IsTrue, ◌↔◌, MatchResult};
+ghost use Rattle.std.specs.Prelude.{◌≡◌, ◌≢◌, [], IsTrue, ◌↔◌, IfErr, MatchResult};
 ghost use Rattle.answer_lines.specs.Grammar.{TextPlace, AfterEnd};
 ghost use Rattle.evidence_reader.specs.Refusals.{IsFault};
 ghost use Rattle.answer_lines.specs.Places.{LacksLawful, BeginsLawful};
@@ -12,9 +12,10 @@ use text_lines::cut;
 
 /// The refusal of a text where no lawful line stands first, of which it is known whether a lawful line begins with it.
 pub fn fault_at(text: TextLeft<'_>, begins: bool) -> Refusal<AnswerFault>
-    ensures { (place : TextPlace) → place ≢ AfterEnd → LacksLawful place text.entry.left.now →
+    ensures stops { (place : TextPlace) → place ≢ AfterEnd → LacksLawful place text.entry.left.now →
         (IsTrue begins ↔ BeginsLawful place text.entry.left.now) →
         StopsReader place text.entry result }
+    ensures told { result ≢ Refusal.OutOfMemory }
 {
     Refusal::Refused {
         fault: fault_kind(text.left, begins),
@@ -45,7 +46,8 @@ fn fault_kind(rest: &[u8], begins: bool) -> AnswerFault
 ///
 /// `Refused` where something does.
 pub fn nothing_left(text: TextLeft<'_>) -> Result<(), Refusal<AnswerFault>>
-    ensures { MatchResult result (λ _. text.entry.left.now ≡ []) (StopsReader AfterEnd text.entry) }
+    ensures end { MatchResult result (λ _. text.entry.left.now ≡ []) (StopsReader AfterEnd text.entry) }
+    ensures told { IfErr result (λ stop. stop ≢ Refusal.OutOfMemory) }
 {
     if text.left.is_empty() {
         Ok(())

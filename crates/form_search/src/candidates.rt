@@ -11,11 +11,15 @@ use cut_advisors::Candidate;
 use design_problem::CostBox;
 use std::alloc::Global;
 
+/// From this width on a range is wide: its candidate stands by the width, and others by the forms that they are in.
+const WIDE: u16 = 256;
+
 /// Where a candidate stands: first those of wide ranges, the widest first; then the others, those in more forms first;
 /// equal ones in rising order.
 #[derive(Clone, Copy, PartialEq, Eq, PartialOrd, Ord)]
 struct Rank {
     is_narrow: bool,
+    /// By how much the width, or the number of forms, falls short of `usize::MAX`: where it is less, a candidate is earlier.
     short_by: usize,
     var: u32,
 }
@@ -23,7 +27,7 @@ struct Rank {
 /// The rank of a candidate that stands in so many forms.
 fn rank_of(candidate: &Candidate, forms: usize) -> Rank {
     let range = candidate.high.saturating_sub(candidate.low);
-    if range >= 256 {
+    if range >= WIDE {
         Rank {
             is_narrow: false,
             short_by: usize::MAX - usize::from(range),

@@ -51,6 +51,7 @@ fn empty_lists(alloc: Global, count: usize) -> Result<Vec<Vec<usize>>, OutOfMemo
 {
     let mut lists = Vec::new(alloc);
     for made in 0..count {
+        // For the prover: an invariant names the number, which nothing else reads.
         let _ = made;
         push(&mut lists, Vec::new(alloc))?;
     }

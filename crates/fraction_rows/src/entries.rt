@@ -111,6 +111,7 @@ fn word_crossed(old: i64, factor: i64, quotient: i64, top: Top) -> Option<Frac>
     ensures { IfSome result (λ q. (q ≡ minus (whole old) (times (whole factor) (whole quotient))) ×
         IsTableNumber top q) }
 {
+    // For the prover: that `top` isn't 0 is known once it is read.
     let _ = top.value();
     match bounded_product(factor, quotient, top.size()) {
         Some(product) => match bounded_difference(i128::from(old), product, top.size()) {

@@ -36,6 +36,7 @@ fn add_term(
     ensures step { IfErr result (λ wide. IsTermSum sum coefficient (entry line.now place) wide) }
     ensures passes { IfErr result (λ wide. IsPassing top wide) }
 {
+    // For the prover: that `top` has at least 28 bits, so that the coefficient is within it, is known once it is read.
     let _ = top.value();
     let value = line.at(place);
     if value.is_zero() {
@@ -110,6 +111,7 @@ fn put_line(
     ensures width { length row.new ≡ length row.old }
     ensures scratch_width { length scratch.new ≡ length scratch.old }
 {
+    // For the prover: that `top` has at least 28 bits, so that the coefficient is within it, is known once it is read.
     let _ = top.value();
     row.cross(Frac::whole(-coefficient), line, scratch, top)?;
     mem::swap(row, scratch);

@@ -65,6 +65,7 @@ fn start_at(form: &Form, costs: &CostBox, place: u32, top: Top) -> Frac
     ensures start { result ≡ start_of_sum costs.now form.now place }
     ensures number { IsTableNumber top result }
 {
+    // For the prover: that `top` has at least 28 bits, so that the value is within it, is known once it is read.
     let _ = top.value();
     if place == 0 {
         Frac::whole(corner_value(form, costs))

@@ -66,6 +66,7 @@ impl Table {
         ensures wide { IfErr result (λ wide. IsStepTooWide self.now.top self.now.costs
             self.now.rows.items (wide_at wide self.now.basis.items)) }
     {
+        // For the prover: that `top` has from 28 to 127 bits is known once it is read.
         let _ = self.top.value();
         let mut multiple: i128 = 1;
         for var in 0..self.costs.low.as_slice().len() {

@@ -196,6 +196,7 @@ impl Table {
         ensures shifted { OnOk result (IsTableShifted self.old self.new own before after fall) }
         ensures wide { IfErr result (λ wide. IsShiftedWide self.old own before fall wide) }
     {
+        // For the prover: that `top` has at least 28 bits, so that the fall is within it, is known once it is read.
         let _ = self.top.value();
         let column = column_of(self.basis.as_slice(), before);
         let fall = Frac::whole(fall);

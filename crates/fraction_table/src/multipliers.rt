@@ -69,6 +69,7 @@ fn common_multiple(parts: &[(u64, Frac)], top: Top) -> Result<i128, Wide>
     ensures step { IfErr result (IsMultiplierStep (fractions parts.now)) }
     ensures passes { IfErr result (λ wide. IsPassing top wide) }
 {
+    // For the prover: that `top` has from 28 to 127 bits is known once it is read.
     let _ = top.value();
     let mut multiple = 1;
     for index in 0..parts.len() {
@@ -101,6 +102,7 @@ fn made_parts(
     // On Err a step that makes them whole is too wide, unless it was want of memory.
     ensures wide { IfErr result (IsWideMultiplier top (fractions parts.now)) }
 {
+    // For the prover: that `top` has at most 127 bits is known once it is read.
     let _ = top.value();
     let mut made = Vec::new(alloc);
     for index in 0..parts.len() {
@@ -123,6 +125,7 @@ fn sum_of_parts(parts: &[(u64, u128)], top: Top) -> Result<Frac, Wide>
     ensures step { IfErr result (IsTallyStep (wholes parts.now)) }
     ensures passes { IfErr result (λ wide. IsPassing top wide) }
 {
+    // For the prover: that `top` has from 28 to 127 bits is known once it is read.
     let _ = top.value();
     let mut sum = Frac::whole(0);
     for index in 0..parts.len() {
@@ -144,6 +147,7 @@ fn check_sum(parts: &[(u64, u128)], top: Top) -> Result<(), Wide>
     ensures step { IfErr result (IsTallyStep (wholes parts.now)) }
     ensures passes { IfErr result (λ wide. IsPassing top wide) }
 {
+    // For the prover: that `top` has at most 127 bits is known once it is read.
     let _ = top.value();
     let sum = sum_of_parts(parts, top)?;
     scale(sum.numerator(), top)?;

@@ -28,6 +28,7 @@ fn put_form_line(line: &mut TableRow, form: &Form, costs: &CostBox, top: Top)
         map whole form.now.coefficients }
     ensures numbers { AreTableNumbers top line.new }
 {
+    // For the prover: that `top` has at least 28 bits, so that the line is within it, is known once it is read.
     let _ = top.value();
     line.clear();
     line.set_constant(Frac::whole(corner_value(form, costs)));

@@ -74,6 +74,7 @@ pub fn put_unit_line(line: &mut TableRow, width: u32, form: UnitForm, top: Top)
         (unit width form.var form.coefficient) }
     ensures numbers { AreTableNumbers top line.new }
 {
+    // For the prover: that `top` has at least 28 bits, so that the line is within it, is known once it is read.
     let _ = top.value();
     line.clear();
     line.set_constant(Frac::whole(form.constant));

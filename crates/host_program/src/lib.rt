@@ -32,7 +32,8 @@ fn words_given(rt: &(impl Env + AllocGlobal)) -> Result<Vec<String>, OutOfMemory
     }
 }
 
-/// How many entries a job allows a tree, where it is a search of which the advisors are told.
+/// How many entries a job allows a tree, where it is a search whose progress is told: those of `design`, `conflict` and
+/// `total`.
 fn budget_in(job: &Job) -> Option<u64> {
     match job {
         Job::Design(search) => Some(search.limits.nodes),

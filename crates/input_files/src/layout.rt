@@ -58,6 +58,7 @@ fn resolve_each_line(
 {
     let names = Names::new(alloc, lsdb)?;
     let outline = names.outline(alloc)?;
+    // The paths aren't asked for here: the test is whether they can be resolved.
     let _paths = resolve_lines(alloc, &names, &outline, requests.items.as_slice())?;
     Ok(())
 }

@@ -41,7 +41,8 @@ pub(crate) enum Round {
     Undecided(TotalTree),
 }
 
-/// Searches a box for costs that are fit and whose total is at most `most`.
+/// Searches a box for costs that are fit and whose total is at most `most`. No advisor is asked: the first candidate
+/// for a split is taken.
 fn search_within<B: Begun>(
     alloc: Global,
     problem: &Problem,

@@ -1,5 +1,5 @@
 //! What is known of the least total while rounds are run.
-ghost use Rattle.std.specs.Prelude.{◌≡◌, ℕ, ◌+◌, ◌<◌, ◌≤◌, length, IfOk, IfSome, None};
+ghost use Rattle.std.specs.Prelude.{◌≡◌, ℕ, ◌+◌, ◌^◌, ◌<◌, ◌≤◌, length, IfOk, IfSome, None};
 ghost use Rattle.design_problem.specs.Problems.{DesignProblem, IsProblem};
 ghost use Rattle.least_total.specs.Totals.{total};
 ghost use Rattle.least_total.specs.Rounds.{IsFitWithin, IsRefutedWithin, IsStanding};
@@ -40,7 +40,8 @@ impl Standing {
 
     /// The bound of the next round, if one is left: in the middle between the greatest that was refuted and the total.
     pub(crate) fn next_bound(&self) -> Option<u32>
-        requires { self.now.total < 67108864 }
+        // The total is that of at most 1,000 costs of 16 bits, so it is below `FAR` of `area_graph`.
+        requires { self.now.total < 2 ^ 26 }
         ensures within { IfSome result (λ most. (self.now.least ≤ most) × (most < self.now.total)) }
         ensures ended { result ≡ None → self.now.total ≤ self.now.least }
     {

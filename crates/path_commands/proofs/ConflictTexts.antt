@@ -40,12 +40,12 @@ fits_spelled p w members head costs whole all first second last =
     joined (lines ++ costs_part p w) (codes "end" ∷ []) costs whole (joined lines (costs_part p w) head costs first second) last
     ∙ ap (λ (ms : List ℕ). with_ends ((codes "ospfcost conflict 1" ∷ codes "verdict none" ∷ members_line ms ∷ costs_part p w) ++ codes "end" ∷ [])) all
 
-pub unknown_spelled : (p : DesignProblem) (members : List ℕ) (rows : List Row) (tree : List Entry)
+pub undecided_spelled : (p : DesignProblem) (members : List ℕ) (rows : List Row) (tree : List Entry)
     (head evidence whole : List ℕ) →
     head ≡ with_ends (codes "ospfcost conflict 1" ∷ codes "verdict undecided" ∷ members_line members ∷ []) →
     evidence ≡ head ++ with_ends (rows_lines rows ++ tree_lines (codes "open") (Some (at_ceiling p tree))) →
     whole ≡ evidence ++ with_ends (codes "end" ∷ []) → whole ≡ conflict_text p (Undecided members rows tree)
-unknown_spelled p members rows tree head evidence whole first second last =
+undecided_spelled p members rows tree head evidence whole first second last =
     let lines = codes "ospfcost conflict 1" ∷ codes "verdict undecided" ∷ members_line members ∷ [] in
     let part = rows_lines rows ++ tree_lines (codes "open") (Some (at_ceiling p tree)) in
     joined (lines ++ part) (codes "end" ∷ []) evidence whole (joined lines part head evidence first second) last

@@ -12,7 +12,7 @@ use Rattle.text_lines.proofs.LineLaws.{with_ends-append}
 use Rattle.evidence_text.proofs.WordLaws.{spaced-with}
 use Rattle.spread_sets.specs.declared.spread.SetRow.{SetRow}
 use Rattle.spread_sets.specs.Answers.{set_row_line}
-use Rattle.path_commands.specs.Spreads.{set_rows_lines, spread_lines}
+use Rattle.path_commands.specs.Spreads.{front_lines, set_rows_lines, spread_lines}
 use Rattle.printed_parts.proofs.TextParts.{joined}
 
 -- The line of a row.
@@ -67,23 +67,28 @@ pub trees_pushed : (old first second third : List ℕ) (proof open_lines end : L
 trees_pushed old first second third proof open_lines end one two three =
     three ∙ ap (λ (bytes : List ℕ). bytes ++ with_ends end) (two ∙ ap (λ (bytes : List ℕ). bytes ++ with_ends open_lines) one)
 
-pub parts_spelled : (verdict : List ℕ) (costs : Option Costs) (rows : List SetRow) (proof unfinished : Option CapTree)
-    (head second third whole : List ℕ) → head ≡ with_ends (codes "ospfcost spread answer 1" ∷ verdict ∷ []) →
+-- the head, the costs and the rows
+pub front_spelled : (verdict : List ℕ) (costs : Option Costs) (rows : List SetRow) (head second third : List ℕ) →
+    head ≡ with_ends (codes "ospfcost spread answer 1" ∷ verdict ∷ []) →
     second ≡ head ++ with_ends (costs_lines costs) → third ≡ second ++ with_ends (set_rows_lines rows) →
-    whole ≡ ((third ++ with_ends (tree_lines (codes "proof") proof))
+    third ≡ with_ends (front_lines verdict costs rows)
+front_spelled verdict costs rows head second third one two three =
+    let a = codes "ospfcost spread answer 1" ∷ verdict ∷ [] in
+    joined (a ++ costs_lines costs) (set_rows_lines rows) second third (joined a (costs_lines costs) head second one two) three
+
+-- the trees and the last line behind them
+pub trees_behind : (verdict : List ℕ) (costs : Option Costs) (rows : List SetRow) (proof unfinished : Option CapTree)
+    (front whole : List ℕ) → front ≡ with_ends (front_lines verdict costs rows) →
+    whole ≡ ((front ++ with_ends (tree_lines (codes "proof") proof))
     ++ with_ends (tree_lines (codes "open") unfinished)) ++ with_ends (codes "end" ∷ []) →
     whole ≡ with_ends (spread_lines verdict costs rows proof unfinished)
-parts_spelled verdict costs rows proof unfinished head second third whole one two three last =
-    let a = codes "ospfcost spread answer 1" ∷ verdict ∷ [] in
-    let b = a ++ costs_lines costs in
-    let d = b ++ set_rows_lines rows in
+trees_behind verdict costs rows proof unfinished front whole first last =
+    let d = front_lines verdict costs rows in
     let e = d ++ tree_lines (codes "proof") proof in
     let f = e ++ tree_lines (codes "open") unfinished in
-    let to_costs = joined a (costs_lines costs) head second one two in
-    let to_rows = joined b (set_rows_lines rows) second third to_costs three in
     last
     ∙ ap (λ (bytes : List ℕ). ((bytes ++ with_ends (tree_lines (codes "proof") proof))
-    ++ with_ends (tree_lines (codes "open") unfinished)) ++ with_ends (codes "end" ∷ [])) to_rows
+    ++ with_ends (tree_lines (codes "open") unfinished)) ++ with_ends (codes "end" ∷ [])) first
     ∙ sym (with_ends-append f (codes "end" ∷ [])
     ∙ ap (λ (bytes : List ℕ). bytes ++ with_ends (codes "end" ∷ [])) (with_ends-append e (tree_lines (codes "open") unfinished)
     ∙ ap (λ (bytes : List ℕ). bytes ++ with_ends (tree_lines (codes "open") unfinished)) (with_ends-append d (tree_lines (codes "proof") proof))))

@@ -25,12 +25,17 @@ use Rattle.path_commands.specs.SetFiles.{AreSetsIn, Sharing}
 abbrev pub set_rows_lines : List SetRow → List (List ℕ)
 set_rows_lines rows = rows_line (length rows) ∷ map set_row_line rows
 
--- a text of all its parts, of which those that aren't there say so, as in an answer
-abbrev pub spread_lines : List ℕ → Option Costs → List SetRow → Option CapTree → Option CapTree → List (List ℕ)
-spread_lines verdict costs rows proof unfinished =
+-- the lines up to the rows: the verdict, costs where there are some, and the rows
+abbrev pub front_lines : List ℕ → Option Costs → List SetRow → List (List ℕ)
+front_lines verdict costs rows =
     (codes "ospfcost spread answer 1" ∷ verdict ∷ [])
     ++ costs_lines costs
     ++ set_rows_lines rows
+
+-- a text of all its parts, of which those that aren't there say so, as in an answer
+abbrev pub spread_lines : List ℕ → Option Costs → List SetRow → Option CapTree → Option CapTree → List (List ℕ)
+spread_lines verdict costs rows proof unfinished =
+    front_lines verdict costs rows
     ++ tree_lines (codes "proof") proof
     ++ tree_lines (codes "open") unfinished
     ++ (codes "end" ∷ [])

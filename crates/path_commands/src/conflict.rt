@@ -45,8 +45,8 @@ fn report_of_conflict(
     Ok(Report::made(status, text))
 }
 
-/// The report of `conflict` from the files of words: the text of what was found, with status 0 or, where the node budget
-/// was used up, 2.
+/// The report of `conflict` from the files of words: the text of what was found, with status 0 or, where the budget was
+/// used up, 2.
 ///
 /// # Errors
 ///

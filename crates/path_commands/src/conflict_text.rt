@@ -142,8 +142,8 @@ fn core_text(
     Ok(text)
 }
 
-/// The text where the node budget was used up.
-fn unknown_text(
+/// The text where the budget was used up.
+fn undecided_text(
     alloc: Global,
     problem: &Problem,
     members: &[u32],
@@ -196,6 +196,6 @@ pub(crate) fn text_of_conflict(
             members,
             rows,
             tree,
-        } => unknown_text(alloc, problem, members.as_slice(), rows.as_slice(), tree),
+        } => undecided_text(alloc, problem, members.as_slice(), rows.as_slice(), tree),
     }
 }

@@ -42,7 +42,7 @@ fn report_of_spread(alloc: Global, problem: &Problem, spread: Spread) -> Result<
 }
 
 /// The report of `spread` from the files of words, and from the file of sets, which is read after them: the text of what
-/// was found, with status 0, 1 or, where the node budget was used up, 2.
+/// was found, with status 0, 1 or, where the budget was used up, 2.
 ///
 /// # Errors
 ///

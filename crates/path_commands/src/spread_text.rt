@@ -14,7 +14,7 @@ ghost use Rattle.printed_rows.specs.FittingTexts.{FitText};
 ghost use Rattle.spread_sets.specs.Answers.{IsSpreadFound, set_row_line};
 ghost use Rattle.printed_parts.specs.SharedParts.{at_ceiling};
 ghost use Rattle.printed_rows.specs.PrintedCosts.{named_costs};
-ghost use Rattle.path_commands.specs.Spreads.{set_rows_lines, spread_lines, spread_text};
+ghost use Rattle.path_commands.specs.Spreads.{front_lines, set_rows_lines, spread_lines, spread_text};
 
 use cost_base::OutOfMemory;
 use design_problem::{CapTree, CostList, Costs, Problem, Tree};
@@ -117,27 +117,21 @@ fn push_trees(
     push_line(text, b"end")
 }
 
-/// The text of all its parts.
-fn text_of_parts(
+/// The text up to its rows: the verdict, the costs, and the rows.
+fn text_of_rows(
     alloc: Global,
     verdict: &[u8],
     costs: Option<&Costs>,
     rows: &[SetRow],
-    proof: Option<&CapTree>,
-    unfinished: Option<&CapTree>,
 ) -> Result<Vec<u8>, OutOfMemory>
-    requires costs { AreShort (costs_lines (option_copied costs)) }
-    requires proof { AreShort (tree_lines (codes "proof") (option_copied proof)) }
-    requires unfinished { AreShort (tree_lines (codes "open") (option_copied unfinished)) }
+    requires { AreShort (costs_lines (option_copied costs)) }
     ensures { IfOk result
         (λ text. text.items ≡
-        with_ends (spread_lines verdict.now (option_copied costs.entry) rows.now
-        (option_copied proof.entry) (option_copied unfinished.entry))) }
+        with_ends (front_lines verdict.now (option_copied costs.entry) rows.now)) }
 {
     let mut text = head_of(alloc, verdict)?;
     push_costs(alloc, &mut text, costs)?;
     push_set_rows(alloc, &mut text, rows)?;
-    push_trees(alloc, &mut text, proof, unfinished)?;
     Ok(text)
 }
 
@@ -150,7 +144,9 @@ fn fit_text(alloc: Global, problem: &Problem, costs: &CostList) -> Result<Vec<u8
         None None)) }
 {
     let costs = costs_by_name(alloc, problem, costs)?;
-    text_of_parts(alloc, b"verdict fit", Some(&costs), &[], None, None)
+    let mut text = text_of_rows(alloc, b"verdict fit", Some(&costs), &[])?;
+    push_trees(alloc, &mut text, None, None)?;
+    Ok(text)
 }
 
 /// The text where there are no spread-fit costs.
@@ -167,11 +163,13 @@ fn impossible_text(
         (Some (at_ceiling problem.now tree)) None)) }
 {
     let tree = at_ceiling(problem, tree);
-    text_of_parts(alloc, b"verdict impossible", None, rows, Some(&tree), None)
+    let mut text = text_of_rows(alloc, b"verdict impossible", None, rows)?;
+    push_trees(alloc, &mut text, Some(&tree), None)?;
+    Ok(text)
 }
 
-/// The text where the node budget was used up.
-fn unknown_text(
+/// The text where the budget was used up.
+fn undecided_text(
     alloc: Global,
     problem: &Problem,
     rows: &[SetRow],
@@ -184,7 +182,9 @@ fn unknown_text(
         (Some (at_ceiling problem.now tree)))) }
 {
     let tree = at_ceiling(problem, tree);
-    text_of_parts(alloc, b"verdict undecided", None, rows, None, Some(&tree))
+    let mut text = text_of_rows(alloc, b"verdict undecided", None, rows)?;
+    push_trees(alloc, &mut text, None, Some(&tree))?;
+    Ok(text)
 }
 
 /// The text of what was found for sets of a problem's wanted paths.
@@ -204,6 +204,6 @@ pub(crate) fn text_of_spread(
     match spread {
         Spread::Fit(costs) => fit_text(alloc, problem, &costs),
         Spread::Impossible { rows, tree } => impossible_text(alloc, problem, rows.as_slice(), tree),
-        Spread::Undecided { rows, tree } => unknown_text(alloc, problem, rows.as_slice(), tree),
+        Spread::Undecided { rows, tree } => undecided_text(alloc, problem, rows.as_slice(), tree),
     }
 }

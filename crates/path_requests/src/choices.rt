@@ -82,6 +82,7 @@ impl<'a> Choices<'a> {
         ensures value { result.now ≡ self.now.asked }
         ensures asked { IsAsked self.now.asked }
     {
+        // For the prover: what the type of requests keeps is known once their lines are read.
         let _lines = items(self.requests);
         self.requests
     }

@@ -149,6 +149,7 @@ pub fn assemble(
         choices.now.database.links ≡ [] }
     ensures { IfOk result (λ problem. problem ≡ problem_of choices.now.asked choices.now.database) }
 {
+    // For the prover: what the types of requests and of an area keep is known once their parts are read.
     let _requests = choices.requests();
     let _links = choices.links();
     let numbering = Numbering { choices, own };

@@ -97,6 +97,7 @@ fn ceiling(problem: &Problem) -> u16
 pub fn keeps_ceiling(problem: &Problem)
     ensures { greatest_bound problem.now ≤ 65535 }
 {
+    // For the prover: that the greatest bound has 16 bits is known once it is computed.
     let _ceiling = ceiling(problem);
 }
 

@@ -12,4 +12,3 @@ mod row_marks;
 pub use cost_lines::printed_costs;
 pub use new_numbers::{marked_rows, new_numbers as numbers_of_marked, renumbered_entry};
 pub use printing::{PrintedForest, PrintedTree, PrintedTrees, printed, printed_all, printed_both};
-pub use row_marks::no_marks;

@@ -5,8 +5,8 @@ ghost use Rattle.printed_rows.specs.NamedRows.{NamesBelow, TreeNamesBelow};
 ghost use Rattle.printed_rows.specs.NewNumbers.{IsTreePrinted, ArePrinted, AreAllPrinted};
 
 use crate::new_numbers::{marked_rows, new_if_any, new_numbers, new_tree, new_trees};
-use crate::row_marks::{mark_if_any, mark_tree, mark_trees, no_marks};
-use cost_base::{Listed, OutOfMemory};
+use crate::row_marks::{mark_if_any, mark_tree, mark_trees};
+use cost_base::{Listed, OutOfMemory, no_marks};
 use design_problem::{CapTree, Tree};
 use std::alloc::Global;
 

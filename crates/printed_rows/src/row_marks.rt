@@ -1,25 +1,11 @@
 //! Marks of the rows that trees name.
-ghost use Rattle.std.specs.Prelude.{◌≡◌, ℕ, ◌<◌, ◌==◌, false, length, slice_index_or, All, IfOk};
+ghost use Rattle.std.specs.Prelude.{◌<◌, ◌==◌, length, All};
 ghost use Rattle.std.specs.List.{list_any};
 ghost use Rattle.std.specs.Option.{option_copied};
 ghost use Rattle.printed_rows.specs.NamedRows.{MemberBelow, NamesBelow, TreeNamesBelow, entries_in, is_row_named, is_row_named_in, member_names, names, part_names};
 ghost use Rattle.printed_rows.specs.NewNumbers.{AreMarked};
 
-use cost_base::OutOfMemory;
 use design_problem::{CapTree, Entry, Member, Tree};
-use std::alloc::Global;
-
-/// No mark for each of so many rows.
-///
-/// # Errors
-///
-/// `OutOfMemory`.
-pub fn no_marks(alloc: Global, count: usize) -> Result<Vec<bool>, OutOfMemory>
-    ensures counted { IfOk result (λ marks. length marks.items ≡ count) }
-    ensures none { IfOk result (λ marks. (row : ℕ) → slice_index_or marks.items row false ≡ false) }
-{
-    Ok(vec![in alloc; false; count]?)
-}
 
 /// Marks a row.
 fn mark(marks: &mut Vec<bool>, row: u64)

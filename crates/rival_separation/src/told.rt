@@ -15,6 +15,7 @@ pub fn nothing_told(alloc: Global, count: usize) -> Result<Vec<Option<Listed<u32
 {
     let mut rivals = Vec::new(alloc);
     for place in 0..count {
+        // For the prover: an invariant names the number, which nothing else reads.
         let _ = place;
         rivals.push(None)?;
     }

@@ -56,6 +56,7 @@ impl PrefixTree {
         ensures { MatchOption result (HasStep self.now place edge → ⊥)
             (λ next. (i : ℕ) × IsPrefixStep self.now place edge i × (next ≡ i + 1)) }
     {
+        // For the prover: that a step's number plus 1 fits a `usize` is known once the number of steps is read.
         let _few = self.steps.len();
         match self.steps.get_index_of(&Step { place, edge }) {
             Some(index) => Some(index + 1),

@@ -27,7 +27,8 @@ pub(crate) struct Sought {
     pub(crate) found: Found,
 }
 
-/// Searches a box for costs at which the members of each set tie and every other path is dearer.
+/// Searches a box for costs at which the members of each set tie and every other path is dearer. No advisor is asked:
+/// the first candidate for a split is taken.
 fn search_sets<B: Begun>(
     alloc: Global,
     problem: &Problem,
@@ -93,8 +94,8 @@ fn answered(
 /// Looks for costs at which the members of each set cost the same and every other simple path between their ends costs
 /// more. `sets` are those of the `set` lines; each path in none of them is a set by itself.
 ///
-/// Fit has such costs. Impossible comes with a closed earnest tree over the box at the greatest upper bound, and Unknown
-/// with an earnest tree over that box that has an Undone and exactly `limits.nodes` entries.
+/// Fit has such costs. Impossible comes with a closed earnest tree over the box at the greatest upper bound, and
+/// Undecided with an earnest tree over that box that has an Undone and exactly `limits.nodes` entries.
 ///
 /// # Errors
 ///

@@ -25,7 +25,7 @@ pub enum Spread {
         /// A closed tree over the box at the greatest upper bound.
         tree: Tree,
     },
-    /// The node budget was used up.
+    /// The budget was used up.
     Undecided {
         /// The rows that the tree uses.
         rows: Vec<SetRow>,

@@ -185,6 +185,7 @@ impl<'a> Names<'a> {
             (r ≡ router_number self.now name.now)) }
         ensures refused { IfErr result
             (TellsResolution (first_of (router_faults self.now line name.now))) }
+        ensures told { IfErr result (λ refusal. refusal ≢ Refusal.OutOfMemory) }
     {
         match self.find_router(name) {
             Some(router) => Ok(router),
@@ -211,6 +212,7 @@ impl<'a> Names<'a> {
             (l ≡ link_number self.now router.now interface.now)) }
         ensures refused { IfErr result
             (TellsResolution (first_of (interface_faults self.now line router.now interface.now))) }
+        ensures told { IfErr result (λ refusal. refusal ≢ Refusal.OutOfMemory) }
     {
         let number = self.router(line, router)?;
         match self.find_link(number, interface) {

@@ -106,6 +106,7 @@ impl<'a> Resolver<'a> {
             (TellsResolution (first_of (without_faults self.old line route.now parts.now))) }
         ensures same { self.new ≡ self.old }
     {
+        // For the prover: what an area's type keeps is known once its links are read.
         let _links = self.names.links();
         self.graph.keeps_conditions();
         let taken = taken_by(self.alloc, self.names, self.graph, line, parts)?;

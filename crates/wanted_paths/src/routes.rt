@@ -259,6 +259,7 @@ pub fn resolve_walk(
     ensures refused { IfErr result
         (TellsResolution (first_of (walk_faults names.now line route.now))) }
 {
+    // For the prover: what an area's type keeps is known once its links are read.
     let _links = names.links();
     let hops = route.as_slice();
     let last = route.last().as_bytes();

@@ -46,7 +46,7 @@ report_of_moves-requires-clause-priced c =
     ∙ length-map c.args.network.now.lsdb.links (present_cost c.args.network.now.requests))
 
 pub report_of_moves-requires-clause-paths : goal.report_of_moves-requires-clause-paths
-report_of_moves-requires-clause-paths c = paths_by_links c.args.network.now c.requires.network c.keeps.ensures
+report_of_moves-requires-clause-paths c = paths_by_links c.args.network.now c.requires.network c.keeps_conditions.ensures
 
 pub returns-in-Ok : goal.returns-in-Ok
 returns-in-Ok c =

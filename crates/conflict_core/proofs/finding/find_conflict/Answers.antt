@@ -30,4 +30,4 @@ returns-in-Undecided-clause-found g c =
     let found : IsSetDecided p limits.top limits.nodes c.in_ok-all.all.items (Undecided c.in-Undecided.set) =
     subst (λ (d : Decided). IsSetDecided p limits.top limits.nodes c.in_ok-all.all.items d) c.in-Undecided.is
     c.in_ok-costs.ensures.decided in
-    c.unknown.ensures limits.top limits.nodes found.1
+    c.undecided.ensures limits.top limits.nodes found.1

@@ -34,4 +34,4 @@ returns-in-Undecided-clause-found g c =
     let limits = c.args.limits.now in
     let found : IsSetDecided p limits.top limits.nodes c.in_ok-members.members.items (Undecided c.in-Undecided.set) =
     subst (λ (d : Decided). IsSetDecided p limits.top limits.nodes c.in_ok-members.members.items d) c.in-Undecided.is c.in_ok-decide_set.ensures.decided in
-    c.unknown.ensures limits.top limits.nodes found.1
+    c.undecided.ensures limits.top limits.nodes found.1

@@ -45,7 +45,7 @@ returns-in-Stuck-clause-found g c =
     let turned : IsMemberTried p limits.top limits.nodes c.loop-shrunk.shrunk (Stuck c.in-Stuck.set) =
     subst (λ (t : Tried). IsMemberTried p limits.top limits.nodes c.loop-shrunk.shrunk t) c.in-Stuck.is
     c.in_ok-next.ensures.turned in
-    c.unknown.ensures limits.top limits.nodes turned.0
+    c.undecided.ensures limits.top limits.nodes turned.0
 
 pub returns-in-Stuck-clause-advisors : goal.returns-in-Stuck-clause-advisors
 returns-in-Stuck-clause-advisors g c = left_then _ _ _ _ c.loop-shrunk.invariant.advisors c.leave_out.ensures.advisors

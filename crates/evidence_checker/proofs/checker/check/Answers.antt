@@ -32,7 +32,7 @@ returns-in_err-check_claim-clause-invalid c =
     let a = c.args.answer.now in
     let s = c.in_err-check_claim.field-0.0 in
     err_tells c.from_residual-in_err-check_claim.result s
-    (RefusesInvalid p a) c.from_residual-in_err-check_claim.ensures.1 (refuses p a s c.keeps.ensures (costs_stop c))
+    (RefusesInvalid p a) c.from_residual-in_err-check_claim.ensures.1 (refuses p a s c.keeps_conditions.ensures (costs_stop c))
 
 -- the first test that is met is one of the rows or of the proof
 evidence_stop : (c : goal.After-from_residual-in_err-check_evidence) → StopsBy (tests c.args.problem.now c.args.answer.now) c.in_err-check_evidence.field-0.0
@@ -40,7 +40,7 @@ evidence_stop c =
     let p = c.args.problem.now in
     let q = the_view c.answer.inside in
     let s = c.in_err-check_evidence.field-0.0 in
-    stops_evidence p c.args.answer.now c.in_ok-accepted.accepted s c.keeps.ensures
+    stops_evidence p c.args.answer.now c.in_ok-accepted.accepted s c.keeps_conditions.ensures
     (subst (λ (a : AnswerParts). IsAcceptedAs a.verdict c.in_ok-accepted.accepted) c.answer.view_is c.in_ok-accepted.ensures.claim)
     c.in_ok-check_shape.ensures.shape
     (subst (λ (a : AnswerParts). CostsHold p a.verdict a.costs a.floor) c.answer.view_is
@@ -65,13 +65,13 @@ returns-in_err-check_evidence-clause-invalid c =
     let s = c.in_err-check_evidence.field-0.0 in
     err_tells c.from_residual-in_err-check_evidence.result s
     (RefusesInvalid p a) c.from_residual-in_err-check_evidence.ensures.1
-    (refuses p a s c.keeps.ensures (evidence_stop c))
+    (refuses p a s c.keeps_conditions.ensures (evidence_stop c))
 
 pub returns-clause-valid : goal.returns-clause-valid
 returns-clause-valid c =
     let p = c.args.problem.now in
     let q = the_view c.answer.inside in
-    valid_of p c.args.answer.now c.keeps.ensures c.in_ok-check_shape.ensures.shape
+    valid_of p c.args.answer.now c.keeps_conditions.ensures c.in_ok-check_shape.ensures.shape
     (subst (λ (a : AnswerParts). CostsHold p a.verdict a.costs a.floor) c.answer.view_is
     (subst (λ (costs : Option Costs). CostsHold p q.verdict costs q.floor) c.as_ref-costs.ensures.value c.in_ok-check_claim.ensures.holds))
     (subst (λ (a : AnswerParts). All (IsRow p) a.rows) c.answer.view_is
@@ -81,4 +81,4 @@ returns-clause-valid c =
     (subst (λ (proof : Option CapTree). ProofHolds p c.as_slice-rows.result.now proof) c.as_ref.ensures.value c.in_ok-check_evidence.ensures.holds)))
 
 pub returns-clause-true_claim : goal.returns-clause-true_claim
-returns-clause-true_claim c = valid_holds c.args.problem.now c.args.answer.now c.keeps.ensures (returns-clause-valid c)
+returns-clause-true_claim c = valid_holds c.args.problem.now c.args.answer.now c.keeps_conditions.ensures (returns-clause-valid c)

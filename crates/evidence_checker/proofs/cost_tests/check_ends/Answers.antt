@@ -16,7 +16,7 @@ pub first_unequal-requires-clause-known : goal.first_unequal-requires-clause-kno
 first_unequal-requires-clause-known c =
     let p = c.args.problem.now in
     known_names (length p.low) c.names_of.result.now p.vars c.args.costs.now c.names_of.ensures
-    (given_count (length p.low) c.args.costs.now p.vars c.args.lines.now c.requires.given) c.keeps.ensures.named
+    (given_count (length p.low) c.args.costs.now p.vars c.args.lines.now c.requires.given) c.keeps_conditions.ensures.named
 
 pub first_unequal-requires-clause-given : goal.first_unequal-requires-clause-given
 first_unequal-requires-clause-given c =
@@ -32,4 +32,4 @@ returns-in-Some-clause-first c =
 pub returns-in-None-clause-names : goal.returns-in-None-clause-names
 returns-in-None-clause-names c =
     ends_equal c.args.problem.now c.names_of.result.now c.args.lines.now c.args.costs.now c.names_of.ensures
-    c.keeps.ensures.named c.requires.named c.requires.given c.in-None.ensures
+    c.keeps_conditions.ensures.named c.requires.named c.requires.given c.in-None.ensures

@@ -1,7 +1,7 @@
 use Rattle.evidence_reader.proofs.FaultLaws.{refused_here}
 use Rattle.evidence_reader.proofs.faults.fault_at.Goals as goal
 
-pub returns : goal.returns
-returns c =
+pub returns-clause-stops : goal.returns-clause-stops
+returns-clause-stops c =
     λ place inside lacks begins.
     refused_here place c.args.text.read c.args.text.left.now c.fault_kind.result (c.fault_kind.ensures place inside lacks begins)

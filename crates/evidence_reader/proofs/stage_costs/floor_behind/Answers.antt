@@ -14,7 +14,7 @@ pub returns-in-None : goal.returns-in-None
 returns-in-None c =
     let before = option_copied c.args.before in
     let bytes = c.args.text.left.now in
-    c.fault_at.ensures (AtSections None before) (λ e. cc)
+    c.fault_at.ensures.stops (AtSections None before) (λ e. cc)
     (lacks-both None before bytes c.requires
     (λ line left next first end. c.in-None.ensures line left first.parts first.one (next, record { is = end; short = first.short })))
     c.begins_section.ensures

@@ -9,5 +9,5 @@ returns-in-Some c =
 
 pub returns-in-None : goal.returns-in-None
 returns-in-None c =
-    c.fault_at.ensures AtEnd (λ e. cc)
+    c.fault_at.ensures.stops AtEnd (λ e. cc)
     (lacks-wanted AtEnd c.args.text.left.now (codes "end") (λ line short. short) (λ line next is. is.0) c.in-None.ensures) c.begins_end.ensures

@@ -20,7 +20,7 @@ returns-in_err-end c =
 pub returns : goal.returns
 returns c =
     let both = go-then c.in_ok-wide.ensures c.in_ok-end.ensures in
-    MatchResult-weaker c.nothing_left.result c.nothing_left.ensures
+    MatchResult-weaker c.nothing_left.result c.nothing_left.ensures.end
     (λ _ none. (
       c.in_ok-end.end.read,
       subst (λ (left : List ℕ). IsRead (AtTree Unfinished 0 0) c.args.text.read c.args.text.left.now end_lines

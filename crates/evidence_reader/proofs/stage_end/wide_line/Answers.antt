@@ -11,5 +11,5 @@ returns-in-Some c =
 
 pub returns-in-None : goal.returns-in-None
 returns-in-None c =
-    c.fault_at.ensures (AtTree Unfinished zero zero) (λ e. cc)
+    c.fault_at.ensures.stops (AtTree Unfinished zero zero) (λ e. cc)
     (lacks-wanted (AtTree Unfinished zero zero) c.args.text.left.now (codes "wide none") (λ line short. short) (λ line next is. is.0) c.in-None.ensures) c.begins_wide.ensures

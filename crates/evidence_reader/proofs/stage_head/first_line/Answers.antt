@@ -9,5 +9,5 @@ returns-in-Some c =
 
 pub returns-in-None : goal.returns-in-None
 returns-in-None c =
-    c.fault_at.ensures AtHead (λ e. cc)
+    c.fault_at.ensures.stops AtHead (λ e. cc)
     (lacks-wanted AtHead c.args.text.left.now (codes "ospfcost answer 1") (λ line short. short) (λ line next is. is.0) c.in-None.ensures) c.begins_head.ensures.own

@@ -12,7 +12,7 @@ pub returns-then-places-eq0 : goal.returns-then-places-eq0
 returns-then-places-eq0 c =
     λ part left.
     let shut = shut_full part c.args.places left c.args.text.left.now c.if-places-eq0.true in
-    c.fault_at.ensures (AtTree part c.args.places (suc left)) (λ e. cc) shut.0 shut.1
+    c.fault_at.ensures.stops (AtTree part c.args.places (suc left)) (λ e. cc) shut.0 shut.1
 
 pub returns : goal.returns
 returns c =

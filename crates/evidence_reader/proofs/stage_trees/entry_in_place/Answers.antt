@@ -8,5 +8,5 @@ returns-in-Some c = λ part places left. rw c.in-Some.is at (c.in_ok-found.ensur
 pub returns-in-None : goal.returns-in-None
 returns-in-None c =
     λ part places left.
-    c.fault_at.ensures (AtTree part (suc places) (suc left)) (λ e. cc) (rw c.in-None.is at (c.in_ok-found.ensures part places left))
+    c.fault_at.ensures.stops (AtTree part (suc places) (suc left)) (λ e. cc) (rw c.in-None.is at (c.in_ok-found.ensures part places left))
     (c.begins_entry.ensures part places left)

@@ -10,4 +10,4 @@ inside Proof e = cc
 inside Unfinished e = cc
 
 pub returns-in-None : goal.returns-in-None
-returns-in-None c = c.fault_at.ensures (before_part c.args.part) (inside c.args.part) c.in-None.ensures c.begins_part.ensures
+returns-in-None c = c.fault_at.ensures.stops (before_part c.args.part) (inside c.args.part) c.in-None.ensures c.begins_part.ensures

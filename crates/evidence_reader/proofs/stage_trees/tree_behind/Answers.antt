@@ -77,4 +77,4 @@ returns c =
     let left = c.args.count - c.loop.counter in
     let none : left ≡ 0 = omega (arith, c.loop-test.false) in
     let shut = shut_short part c.loop.places left c.loop.left.left.now c.if-places-eq0.false none in
-    stop-then _ (c.loop.invariant.goes part) (c.fault_at.ensures (AtTree part c.loop.places left) (λ e. cc) shut.0 shut.1)
+    stop-then _ (c.loop.invariant.goes part) (c.fault_at.ensures.stops (AtTree part c.loop.places left) (λ e. cc) shut.0 shut.1)

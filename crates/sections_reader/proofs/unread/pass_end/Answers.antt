@@ -14,7 +14,7 @@ returns-in_default c =
     λ more.
     let rest = c.loop-line.left.left.now in
     stop-then _ (c.loop-line.invariant.passed more).1
-    (c.fault_at.ensures (AtUnread more) (λ e. cc) (unread-lacks more rest c.in_default.ensures) (unread-begun more rest c.in_default.ensures))
+    (c.fault_at.ensures.stops (AtUnread more) (λ e. cc) (unread-lacks more rest c.in_default.ensures) (unread-begun more rest c.in_default.ensures))
 
 pub returns-then-eq : goal.returns-then-eq
 returns-then-eq c =

@@ -14,7 +14,7 @@ pub returns : goal.returns
 returns c =
     let passed = c.in_ok-behind.ensures 0 in
     let behind = c.in_ok-behind.behind in
-    MatchResult-weaker c.nothing_left.result c.nothing_left.ensures
+    MatchResult-weaker c.nothing_left.result c.nothing_left.ensures.end
     (λ _ none. (
       passed.0,
       behind.read,

@@ -2,8 +2,8 @@
 use Rattle.std.proofs.Common.{arith}
 use Rattle.std.specs.Prelude.{codes}
 use Rattle.path_commands.proofs.ConflictLines.{made_part_short, rows_part_short}
-use Rattle.path_commands.proofs.ConflictTexts.{evidence_pushed, unknown_spelled}
-use Rattle.path_commands.proofs.conflict_text.unknown_text.Goals as goal
+use Rattle.path_commands.proofs.ConflictTexts.{evidence_pushed, undecided_spelled}
+use Rattle.path_commands.proofs.conflict_text.undecided_text.Goals as goal
 
 pub push_evidence-requires-clause-rows : goal.push_evidence-requires-clause-rows
 push_evidence-requires-clause-rows c =
@@ -22,6 +22,6 @@ returns c =
     let evidence = evidence_pushed p c.args.rows.now c.args.tree c.at_ceiling-tree.result
     (codes "open") c.in_ok-text.text.items c.push_evidence.new.text.items c.at_ceiling-tree.ensures.same
     c.in_ok-push_evidence.ensures in
-    unknown_spelled p c.args.members.now c.args.rows.now c.args.tree c.in_ok-text.text.items
+    undecided_spelled p c.args.members.now c.args.rows.now c.args.tree c.in_ok-text.text.items
     c.push_evidence.new.text.items c.push_line.new.text.items c.in_ok-text.ensures evidence
     c.in_ok-push_line.ensures

@@ -1,7 +1,7 @@
 //! Lists of marks.
 ghost use Rattle.std.specs.Prelude.{◌≡◌, ℕ, IfOk, false, length, slice_index_or};
 
-use cost_base::OutOfMemory;
+use crate::OutOfMemory;
 use std::alloc::Global;
 
 /// So many marks, none of which is set.
@@ -9,7 +9,7 @@ use std::alloc::Global;
 /// # Errors
 ///
 /// `OutOfMemory`.
-pub(crate) fn no_marks(alloc: Global, count: usize) -> Result<Vec<bool>, OutOfMemory>
+pub fn no_marks(alloc: Global, count: usize) -> Result<Vec<bool>, OutOfMemory>
     ensures counted { IfOk result (λ marks. length marks.items ≡ count) }
     ensures none { IfOk result (λ marks. (k : ℕ) → slice_index_or marks.items k false ≡ false) }
 {
