@@ -112,7 +112,7 @@ fn report_of_network(
 }
 
 /// The report of `change` from the files of words: the text of what was found, with status 0 where it is fit costs that
-/// change as few variables of the present costs as any, 1 where no costs are fit, and 2 where the node budget was used up.
+/// change as few variables of the present costs as any, 1 where no costs are fit, and 2 where the budget was used up.
 ///
 /// # Errors
 ///

@@ -13,24 +13,6 @@ use lsdb_build::{Linked, Lsdb};
 use path_requests::present_cost;
 use std::alloc::Global;
 
-/// The links of an area, in order.
-fn links_of(lsdb: &Lsdb) -> &[Linked]
-    ensures value { result.now ≡ lsdb.now.links }
-    ensures base { IsAreaDatabase lsdb.now }
-{
-    lsdb.links.as_slice()
-}
-
-/// The name of a router.
-fn router_name(lsdb: &Lsdb, router: u32) -> &[u8]
-    ensures { result.now ≡ slice_index_or lsdb.now.routers router [] }
-{
-    match lsdb.routers.as_slice().get(router as usize) {
-        Some(name) => name.as_bytes(),
-        None => &[],
-    }
-}
-
 /// The graph of a network's problem.
 fn graph_of(network: &Network) -> &Graph
     ensures { result.now ≡ network.now.problem.graph }
@@ -74,7 +56,7 @@ fn cost_line(alloc: Global, lsdb: &Lsdb, link: &Linked, cost: u16) -> Result<Cos
         }) }
 {
     Ok(CostLine {
-        router: Name::from_bytes(alloc, router_name(lsdb, link.router))?,
+        router: Name::from_bytes(alloc, lsdb.router_name(link.router))?,
         interface: Name::from_bytes(alloc, link.interface.as_bytes())?,
         cost,
     })
@@ -114,7 +96,7 @@ pub(crate) fn changed_lines(
 {
     let graph = graph_of(network);
     let mut lines = Vec::new(alloc);
-    for (i, link) in links_of(&network.lsdb).iter().enumerate() {
+    for (i, link) in network.lsdb.links().iter().enumerate() {
         let cost = changed_cost(
             price_of_link(graph, i as u32),
             present_cost(&network.requests, link),

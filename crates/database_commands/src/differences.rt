@@ -2,39 +2,22 @@
 ghost use Rattle.std.specs.Prelude.{◌≡◌, [], ◌∷◌, IfOk, codes, slice_get};
 ghost use Rattle.cost_base.specs.Decimal.{decimal};
 ghost use Rattle.report_writer.specs.Texts.{line_of_words};
-ghost use Rattle.database_commands.specs.Compares.{difference_text, difference_words, interface_of_linked, router_named, router_of_linked};
+ghost use Rattle.database_commands.specs.Compares.{difference_text, difference_words, interface_of_linked, router_of_linked};
 ghost use Rattle.database_commands.specs.Quads.{router_id_text};
 
 use crate::quads::push_quad;
 use cost_base::OutOfMemory;
 use live_area::Difference;
-use lsdb_build::{Linked, Lsdb};
+use lsdb_build::Lsdb;
 use std::alloc::Global;
 use text_lines::{push_bytes, push_number};
-
-/// The name of a router.
-fn router_name(lsdb: &Lsdb, router: u32) -> &[u8]
-    ensures { result.now ≡ router_named lsdb.now router }
-{
-    match lsdb.routers.as_slice().get(router as usize) {
-        Some(name) => name.as_bytes(),
-        None => &[],
-    }
-}
-
-/// The links of an area, in order.
-fn links_of(lsdb: &Lsdb) -> &[Linked]
-    ensures { result.now ≡ lsdb.now.links }
-{
-    lsdb.links.as_slice()
-}
 
 /// The name of a link's router.
 fn router_of_link(lsdb: &Lsdb, link: u32) -> &[u8]
     ensures { result.now ≡ router_of_linked lsdb.now (slice_get lsdb.now.links link) }
 {
-    match links_of(lsdb).get(link as usize) {
-        Some(link) => router_name(lsdb, link.router),
+    match lsdb.links().get(link as usize) {
+        Some(link) => lsdb.router_name(link.router),
         None => &[],
     }
 }
@@ -43,7 +26,7 @@ fn router_of_link(lsdb: &Lsdb, link: u32) -> &[u8]
 fn interface_of_link(lsdb: &Lsdb, link: u32) -> &[u8]
     ensures { result.now ≡ interface_of_linked (slice_get lsdb.now.links link) }
 {
-    match links_of(lsdb).get(link as usize) {
+    match lsdb.links().get(link as usize) {
         Some(link) => link.interface.as_bytes(),
         None => &[],
     }
@@ -57,7 +40,7 @@ fn absent_line(alloc: Global, lsdb: &Lsdb, router: u32) -> Result<Vec<u8>, OutOf
 {
     let mut line = Vec::new(alloc);
     push_bytes(&mut line, b"absent ")?;
-    push_bytes(&mut line, router_name(lsdb, router))?;
+    push_bytes(&mut line, lsdb.router_name(router))?;
     push_bytes(&mut line, b"\n")?;
     Ok(line)
 }

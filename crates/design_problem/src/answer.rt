@@ -10,7 +10,7 @@ pub enum Verdict {
     Optimal(u16),
     /// No costs within the bounds are fit.
     Impossible,
-    /// At this cap the node budget was used up.
+    /// At this cap the budget was used up.
     Undecided(u16),
 }
 

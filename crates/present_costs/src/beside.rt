@@ -6,7 +6,6 @@ ghost use Rattle.path_requests.specs.Meaning.{problem_of};
 ghost use Rattle.path_requests.specs.Resolving.{cost_faults, present_asked, resolution_fault};
 ghost use Rattle.present_costs.specs.PresentCosts.{fault_beside_present};
 
-use crate::links::links_of;
 use cost_base::Refusal;
 use design_problem::Problem;
 use lsdb_build::{Linked, Lsdb};
@@ -27,7 +26,7 @@ fn first_without_cost(requests: &RequestFile, lsdb: &Lsdb) -> Option<ResolutionF
     ensures { result ≡ first_of (cost_faults (present_asked requests.now) lsdb.now 0
         lsdb.now.links) }
 {
-    for (i, link) in links_of(lsdb).iter().enumerate() {
+    for (i, link) in lsdb.links().iter().enumerate() {
         if lacks_present(requests, link) {
             return Some(ResolutionFault::NoCost { link: i as u32 });
         }

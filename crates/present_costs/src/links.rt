@@ -2,24 +2,15 @@
 ghost use Rattle.std.specs.Prelude.{◌≡◌, ◌<◌, ◌^◌, map, length, IfOk};
 ghost use Rattle.cost_base.specs.Lists.{numbers_from};
 ghost use Rattle.area_graph.specs.declared.Price.TheVariants.{Var};
-ghost use Rattle.lsdb_build.specs.Graphs.{IsAreaDatabase};
 ghost use Rattle.path_requests.specs.Meaning.{present_cost};
 ghost use Rattle.present_costs.specs.AtCosts.{graph_by_links};
 
 use area_graph::{Graph, Price};
 use cost_base::OutOfMemory;
-use lsdb_build::{Linked, Lsdb, graph_of};
+use lsdb_build::{Lsdb, graph_of};
 use path_requests::present_cost;
 use request_reader::RequestFile;
 use std::alloc::Global;
-
-/// The links of an area, in order.
-pub(crate) fn links_of(lsdb: &Lsdb) -> &[Linked]
-    ensures value { result.now ≡ lsdb.now.links }
-    ensures base { IsAreaDatabase lsdb.now }
-{
-    lsdb.links.as_slice()
-}
 
 /// The present cost of each link, in order: its cost line's, or the default of the requests.
 ///
@@ -34,7 +25,7 @@ pub fn costs_of_links(
     ensures { IfOk result (λ costs. costs.items ≡ map (present_cost requests.now) lsdb.now.links) }
 {
     let mut costs = Vec::new(alloc);
-    for link in links_of(lsdb) {
+    for link in lsdb.links() {
         costs.push(present_cost(requests, link))?;
     }
     Ok(costs)
@@ -60,6 +51,6 @@ fn variables(alloc: Global, count: u32) -> Result<Vec<Price>, OutOfMemory>
 pub fn priced_by_links(alloc: Global, lsdb: &Lsdb) -> Result<Graph, OutOfMemory>
     ensures { IfOk result (λ graph. graph ≡ graph_by_links lsdb.now) }
 {
-    let prices = variables(alloc, links_of(lsdb).len() as u32)?;
+    let prices = variables(alloc, lsdb.links().len() as u32)?;
     graph_of(alloc, lsdb, prices.as_slice())
 }

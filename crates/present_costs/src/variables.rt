@@ -8,7 +8,6 @@ ghost use Rattle.present_costs.specs.Noted.{noted_with, noted_after, one_noted, 
 ghost use Rattle.present_costs.specs.declared.variables.Noted.{Noted as NotedValue};
 ghost use Rattle.present_costs.specs.declared.variables.Noted.TheVariants.{Nothing};
 
-use crate::links::links_of;
 use area_graph::{Graph, Price};
 use cost_base::OutOfMemory;
 use design_problem::Problem;
@@ -95,7 +94,7 @@ fn noted_of_links(
         (numbers_from 0 count)) }
 {
     let mut noted = nothing_noted(alloc, count)?;
-    for (i, link) in links_of(lsdb).iter().enumerate() {
+    for (i, link) in lsdb.links().iter().enumerate() {
         note(
             price_of_link(graph, i as u32),
             present_cost(requests, link),

@@ -9,7 +9,7 @@ ghost use Rattle.spf_ties.specs.Distances.{AreTight, IsLeastBelow, IsLeastCost, 
 use crate::heap::Heap;
 use crate::search::{Front, Width, find_in_either};
 use crate::{Aim, NextHops};
-use area_graph::{Graph, Point, Removal, Subgraph, edge_of, mark_excluded, price_of};
+use area_graph::{FAR, Graph, Point, Removal, Subgraph, edge_of, mark_excluded, price_of};
 use cost_base::OutOfMemory;
 use std::alloc::Global;
 use std::marker::Model;
@@ -125,7 +125,7 @@ impl Room {
         let aim = Aim {
             target,
             excluded,
-            limit: (1 << 26) * point.scale,
+            limit: FAR * point.scale,
         };
         self.distances_within(graph, point, &aim);
     }
@@ -163,7 +163,7 @@ impl Room {
             point,
             removal: &removal,
         };
-        self.far = aim.limit.min((1 << 26) * point.scale);
+        self.far = aim.limit.min(FAR * point.scale);
         self.width = find_in_either(
             &subgraph,
             aim.target,

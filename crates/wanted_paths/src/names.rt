@@ -42,22 +42,6 @@ impl<'a> Model for Names<'a> {
     } };
 }
 
-/// The names of the routers, in order.
-fn routers(lsdb: &Lsdb) -> &[Name]
-    ensures value { result.now ≡ lsdb.now.routers }
-    ensures base { IsAreaDatabase lsdb.now }
-{
-    lsdb.routers.as_slice()
-}
-
-/// The links, in order.
-fn links(lsdb: &Lsdb) -> &[Linked]
-    ensures value { result.now ≡ lsdb.now.links }
-    ensures base { IsAreaDatabase lsdb.now }
-{
-    lsdb.links.as_slice()
-}
-
 /// The set of the routers' names, in order.
 fn router_set<'a>(alloc: Global, routers: &'a [Name]) -> Result<IndexSet<&'a [u8]>, OutOfMemory>
     requires { AllPairs (λ a b. a ≢ b) routers.now }
@@ -113,8 +97,8 @@ impl<'a> Names<'a> {
     pub fn new(alloc: Global, lsdb: &'a Lsdb) -> Result<Names<'a>, OutOfMemory>
         ensures { IfOk result (λ names. names ≡ lsdb.now) }
     {
-        let routers = router_set(alloc, routers(lsdb))?;
-        let links = link_set(alloc, links(lsdb))?;
+        let routers = router_set(alloc, lsdb.routers())?;
+        let links = link_set(alloc, lsdb.links())?;
         Ok(Names {
             lsdb,
             routers,
@@ -229,7 +213,7 @@ impl<'a> Names<'a> {
         ensures value { result.now ≡ self.now.routers }
         ensures base { IsAreaDatabase self.now }
     {
-        routers(self.lsdb)
+        self.lsdb.routers()
     }
 
     /// The links, in order.
@@ -237,7 +221,7 @@ impl<'a> Names<'a> {
         ensures value { result.now ≡ self.now.links }
         ensures base { IsAreaDatabase self.now }
     {
-        links(self.lsdb)
+        self.lsdb.links()
     }
 
     /// The links of the members of a transit subnet.
@@ -280,10 +264,7 @@ impl<'a> Names<'a> {
     pub fn router_name(&self, number: u32) -> &[u8]
         ensures { result.now ≡ slice_index_or self.now.routers number [] }
     {
-        match self.routers().get(number as usize) {
-            Some(name) => name.as_bytes(),
-            None => &[],
-        }
+        self.lsdb.router_name(number)
     }
 
     /// The router of a link.

@@ -23,7 +23,7 @@ words
 status
   0  there is no difference: `same M of M` alone
   1  there is one
-  3  a file or the topology is at fault: refused NUMBER FILE LINE
+  3  a file or the topology is at fault: refused NUMBER FILE PLACE
   4  a file can't be read   5  the output failed   6  no memory   7  words
 
 example
