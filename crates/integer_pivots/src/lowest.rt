@@ -1,5 +1,6 @@
 //! How a pivot turns a line whose numbers are large on the way, and small in lowest terms.
 ghost use Rattle.std.specs.Prelude.{◌≡◌, ◌^◌, ◌<◌, ◌≤◌, ◌↔◌, nat_abs, length, IsTrue};
+ghost use Rattle.whole_numbers.specs.Lists.{number_at};
 ghost use Rattle.integer_pivots.specs.Lines.{IsLine};
 ghost use Rattle.integer_pivots.specs.Turns.{AreSmallAfter, IsAtPivot, IsLowestAfter, IsPartAfter, IsTurnedLine, MayTurnTo, number_after, turn_at};
 
@@ -22,9 +23,15 @@ pub struct Lowest {
 impl Line {
     /// The line's number at a column once it has turned at the pivot's, over the denominator times the multiplier.
     fn number_after(&self, entering: &Line, pivots: usize, turn: Turn, column: usize) -> i64
-        requires pivot { IsAtPivot pivots entering.now self.now }
-        requires turn { turn ≡ turn_at entering.now pivots self.now }
+        // Both lines have a number at the column, and the line's is at most 2^30 in size, as those of the entering line are.
         requires inside { column < length self.now.numbers }
+        requires across { column < length entering.now.numbers }
+        requires small { nat_abs (number_at self.now.numbers column) ≤ 2 ^ 30 }
+        requires entering { IsLine entering.now }
+
+        // So are the multiplier and the factor, so the difference of the products fits 64 bits.
+        requires multiplier { nat_abs turn.multiplier ≤ 2 ^ 30 }
+        requires factor { nat_abs turn.factor ≤ 2 ^ 30 }
         ensures value { result ≡ number_after turn pivots entering.now self.now column }
         ensures size { nat_abs result ≤ 2 ^ 61 }
     {
