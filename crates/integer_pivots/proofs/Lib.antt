@@ -10,6 +10,8 @@ pub mod Quotients
 pub mod LineLaws
 pub mod TurnLaws
 pub mod TurnedLines
+pub mod LowestSteps
+pub mod LowestTurns
 pub mod UseLaws
 pub mod UsePushes
 pub mod UseSums

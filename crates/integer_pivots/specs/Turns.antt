@@ -1,8 +1,10 @@
 -- How a line turns at a pivot: it is multiplied, and so many times the entering form's line is taken away.
-use Rattle.std.specs.Prelude.{◌≡◌, ◌≢◌, ℕ, ◌+◌, ◌*◌, ◌^◌, ◌<◌, ◌≤◌, ◌⊎◌, List, [], ◌∷◌, ℤ, pos, ◌-ℤ◌, ◌*ℤ◌, ◌<ℤ◌, nat_abs, length, slice_index_or}
+use Rattle.std.specs.Prelude.{◌≡◌, ◌≢◌, ℕ, ◌+◌, ◌*◌, ◌^◌, ◌<◌, ◌≤◌, ◌⊎◌, if◌then◌else◌, ◌==◌, List, [], ◌∷◌, ℤ, pos, ◌-ℤ◌, ◌*ℤ◌, ◌<ℤ◌, ◌≤ℤ◌, nat_abs, length, slice_index_or}
+use Prim.Native.Nat.{◌∣◌}
 use Rattle.whole_numbers.specs.Fractions.{exact_quotient, gcd, lcm}
 use Rattle.whole_numbers.specs.Lists.{number_at}
 use Rattle.integer_pivots.specs.declared.line.Line.{Line}
+use Rattle.integer_pivots.specs.declared.lowest.Lowest.{Lowest}
 use Rattle.integer_pivots.specs.declared.turn.Turn.{Turn}
 use Rattle.integer_pivots.specs.Lines.{IsLine, no_line}
 use Rattle.integer_pivots.specs.Numbers.{greatest_of}
@@ -71,3 +73,36 @@ pub record AreNonZeros (line : List ℤ) (bound : ℕ) (columns : List ℕ) : Ty
   pub before : (place : ℕ) → place < length columns → slice_index_or columns place 0 < bound
   pub rises : (first second : ℕ) → first < second → second < length columns → slice_index_or columns first 0 < slice_index_or columns second 0
   pub others : (c : ℕ) → c < bound → ((place : ℕ) × ((place < length columns) × (slice_index_or columns place 0 ≡ c))) ⊎ (number_at line c ≡ pos 0)
+
+-- a line's number at a column once it has turned at the pivot's, over the denominator times the multiplier
+abbrev pub number_after : Turn → ℕ → Line → Line → ℕ → ℤ
+number_after turn pivots entering line c =
+    if c == pivots then turn.factor *ℤ entering.denominator else turned_number turn (number_at line.numbers c) (number_at entering.numbers c)
+
+-- the greatest number that goes into the denominator, the constant and all numbers of a line that has turned
+pub record IsPartAfter (turn : Turn) (column : ℕ) (entering line : Line) (part : ℤ) : Type 0 where
+  pub positive : pos 0 <ℤ part
+  pub denominator : nat_abs part ∣ nat_abs line.denominator * nat_abs turn.multiplier
+  pub constant : nat_abs part ∣ nat_abs (turned_number turn line.constant entering.constant)
+  pub numbers : (c : ℕ) → c < length line.numbers → nat_abs part ∣ nat_abs (number_after turn column entering line c)
+  pub greatest : (d : ℕ) → d ∣ nat_abs line.denominator * nat_abs turn.multiplier →
+      d ∣ nat_abs (turned_number turn line.constant entering.constant) →
+      ((c : ℕ) → c < length line.numbers → d ∣ nat_abs (number_after turn column entering line c)) → d ∣ nat_abs part
+
+-- what a line that has turned comes to in lowest terms: its denominator and its constant, over what all its numbers have in common
+pub record IsLowestAfter (turn : Turn) (column : ℕ) (entering line : Line) (lowest : Lowest) : Type 0 where
+  pub part : IsPartAfter turn column entering line lowest.part
+  pub positive : pos 0 <ℤ lowest.denominator
+  pub denominator : (lowest.denominator *ℤ lowest.part) ≡ (line.denominator *ℤ turn.multiplier)
+  pub constant : (lowest.constant *ℤ lowest.part) ≡ turned_number turn line.constant entering.constant
+
+-- the numbers of a line that has turned are at most 2^30 in size, over a part of all
+abbrev pub AreSmallAfter : Turn → ℕ → Line → Line → ℤ → Type 0
+AreSmallAfter turn column entering line part =
+    (c : ℕ) → c < length line.numbers → nat_abs (number_after turn column entering line c) ≤ 2 ^ 30 * nat_abs part
+
+-- a line that has turned is within the bounds in lowest terms
+pub record MayTurnTo (turn : Turn) (column : ℕ) (entering line : Line) (lowest : Lowest) : Type 0 where
+  pub numbers : AreSmallAfter turn column entering line lowest.part
+  pub denominator : lowest.denominator ≤ℤ pos (2 ^ 30)
+  pub constant : nat_abs lowest.constant ≤ 2 ^ 62

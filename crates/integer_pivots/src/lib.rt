@@ -7,6 +7,7 @@ mod bounds;
 mod choice;
 mod leads;
 mod line;
+mod lowest;
 mod multiples;
 mod turn;
 mod uses;
@@ -17,6 +18,7 @@ pub use bounds::{
 pub use choice::{keep_least, put_latest};
 pub use leads::{put_leads, turn_leads};
 pub use line::Line;
+pub use lowest::Lowest;
 pub use multiples::{clear, put_multiple};
 pub use turn::{Turn, common_multiple, put_touched, turn_of};
 pub use uses::{Use, empty_uses, push_uses, put_uses, reserve_uses};

@@ -1,13 +1,14 @@
 -- When a kernel may turn at a pivot, and what is left where it may not.
-use Rattle.std.specs.Prelude.{◌≡◌, ◌≢◌, ℕ, ◌*◌, ◌/◌, ◌^◌, ◌<◌, ◌≤◌, ◌⊎◌, pos, ◌<ℤ◌, ◌≤ℤ◌, nat_abs, Some, length, slice_index_or, All}
+use Rattle.std.specs.Prelude.{◌≡◌, ◌≢◌, ℕ, ◌*◌, ◌/◌, ◌^◌, ◌<◌, ◌≤◌, ◌⊎◌, List, ℤ, pos, ◌<ℤ◌, ◌≤ℤ◌, nat_abs, Some, length, slice_index_or, All}
 use Prim.Native.Nat.{◌∣◌}
 use Rattle.whole_numbers.specs.Lists.{number_at}
 use Rattle.integer_pivots.specs.declared.line.Line.{Line}
+use Rattle.integer_pivots.specs.declared.lowest.Lowest.{Lowest}
 use Rattle.integer_pivots.specs.declared.turn.Turn.{Turn}
 use Rattle.integer_pivots.specs.Leads.{AreLeads}
 use Rattle.integer_pivots.specs.Lines.{IsLine, no_line, rows_of}
 use Rattle.integer_pivots.specs.Numbers.{AllWithin}
-use Rattle.integer_pivots.specs.Turns.{AreTurnedLines, IsTurnedLine, StaysSmall, common_after, denominator_after, turn_at, turned_number}
+use Rattle.integer_pivots.specs.Turns.{AreSmallAfter, AreTurnedLines, IsLowestAfter, IsTurnedLine, StaysSmall, common_after, denominator_after, turn_at, turned_number}
 use Rattle.table_kernel.specs.declared.kernel.Kernel.{Kernel}
 use Rattle.table_kernel.specs.Constants.{AreConstantsPut}
 use Rattle.table_kernel.specs.Kernels.{IsKernel, width_of}
@@ -39,11 +40,27 @@ LinesStaySmall k column = (var : ℕ) → var < length k.lows.items → StaysSma
 abbrev pub ConstantsStaySmall : Kernel → ℕ → ℕ → Type 0
 ConstantsStaySmall k column common = (var : ℕ) → var < length k.lows.items → constant_size k column common var ≤ 2 ^ 44
 
--- the bounds cover the turn at a column by the entering line
-pub record MayTurn (k : Kernel) (column : ℕ) : Type 0 where
+-- no number passes the bounds on the way of a turn at a column, by the sizes of the numbers before it
+pub record StaysSmallThroughout (k : Kernel) (column : ℕ) : Type 0 where
   pub lines : LinesStaySmall k column
   pub common : next_common k column ≤ 2 ^ 30
   pub constants : ConstantsStaySmall k column (next_common k column)
+
+-- Lines of x - low within the kernel's bounds: their numbers and denominators are at most 2^30, and so is the common
+-- denominator, into which theirs go; over it no constant passes 2^44.
+pub record AreBoundedLines (common : ℤ) (lines : List Line) : Type 0 where
+  pub positive : pos 0 <ℤ common
+  pub small : common ≤ℤ pos (2 ^ 30)
+  pub lines : All IsLine lines
+  pub divides : All (λ line. nat_abs line.denominator ∣ nat_abs common) lines
+  pub limit : All (λ line. nat_abs line.constant * share_of (nat_abs common) line ≤ 2 ^ 44) lines
+
+-- the bounds cover the turn at a column by the entering line: some lines within them stand for the turned numbers
+pub record MayTurn (k : Kernel) (column : ℕ) : Type 0 where
+  pub common : ℤ
+  pub lows : List Line
+  pub turned : AreTurnedLines k.entering column k.lows.items lows
+  pub bounded : AreBoundedLines common lows
 
 -- a place whose form is negative at the basis; its line is the entering one, and the column is a best one
 pub record IsPivotIn (k : Kernel) (place column : ℕ) : Type 0 where
@@ -141,7 +158,6 @@ pub record HasTurned (old new : Kernel) (column : ℕ) : Type 0 where
   pub turns : new.turns ≡ old.turns
   pub left : new.left ≡ old.left
   pub entering : new.entering ≡ old.entering
-  pub common : nat_abs new.common ≡ next_common old column
   pub positive : pos 0 <ℤ new.common
   pub small : new.common ≤ℤ pos (2 ^ 30)
   pub turned : AreTurnedLines old.entering column old.lows.items new.lows.items
@@ -153,3 +169,36 @@ pub record HasTurned (old new : Kernel) (column : ℕ) : Type 0 where
   pub constants : AreConstantsPut new new.constants.items
   pub constants_small : AllWithin (2 ^ 62) new.constants.items
   pub constants_count : length new.constants.items ≡ length old.constants.items
+
+-- what a variable's line comes to in lowest terms, once it has turned at a column
+abbrev pub IsLowestOf : Kernel → ℕ → ℕ → Lowest → Type 0
+IsLowestOf k column var lowest = IsLowestAfter (turn_of_line k column var) column k.entering (line_of k var) lowest
+
+-- the numbers of a variable's line that has turned at a column are at most 2^30 in size, in lowest terms
+abbrev pub IsSmallOf : Kernel → ℕ → ℕ → Lowest → Type 0
+IsSmallOf k column var lowest = AreSmallAfter (turn_of_line k column var) column k.entering (line_of k var) lowest.part
+
+-- the least common denominator of the lines that have turned, in lowest terms: it and their numbers are at most 2^30
+pub record IsLowestCommon (k : Kernel) (column : ℕ) (common : ℤ) : Type 0 where
+  pub positive : pos 0 <ℤ common
+  pub small : common ≤ℤ pos (2 ^ 30)
+  pub each : (var : ℕ) → var < length k.lows.items → (lowest : Lowest) → IsLowestOf k column var lowest →
+      (nat_abs lowest.denominator ∣ nat_abs common) × IsSmallOf k column var lowest
+  pub least : (lows : List Line) (other : ℕ) → AreTurnedLines k.entering column k.lows.items lows →
+      All (λ line. nat_abs line.denominator ∣ other) lows → nat_abs common ∣ other
+
+-- over a common denominator no constant of the lines that have turned passes 2^44, in lowest terms
+abbrev pub FitsLowest : Kernel → ℕ → ℕ → Type 0
+FitsLowest k column common = (var : ℕ) → var < length k.lows.items → (lowest : Lowest) → IsLowestOf k column var lowest →
+    nat_abs lowest.constant * (common / nat_abs lowest.denominator) ≤ 2 ^ 44
+
+-- a variable's line has turned at a column to what it comes to in lowest terms; the others are as before
+pub record IsLineTurnedToLowest (old new : Kernel) (column var : ℕ) : Type 0 where
+  pub count : length new.lows.items ≡ length old.lows.items
+  pub line : IsLine (line_of new var)
+  pub turned : IsTurnedLine (turn_of_line old column var) column old.entering (line_of old var) (line_of new var)
+  pub lowest : Lowest
+  pub is_lowest : IsLowestOf old column var lowest
+  pub denominator : (line_of new var).denominator ≡ lowest.denominator
+  pub constant : (line_of new var).constant ≡ lowest.constant
+  pub others : (v : ℕ) → v ≢ var → line_of new v ≡ line_of old v

@@ -11,6 +11,7 @@ mod constants;
 mod corner;
 mod kernel;
 mod line;
+mod lowest_turn;
 mod moves;
 mod multipliers;
 mod read_back;

@@ -9,7 +9,7 @@ ghost use Rattle.integer_pivots.specs.Lines.{IsLine};
 ghost use Rattle.integer_pivots.specs.Turns.{AreNonZeros, MayLineTurn, StaysSmall, denominator_after};
 ghost use Rattle.table_kernel.specs.Kernels.{IsKernel, stated, width_of};
 ghost use Rattle.table_kernel.specs.Lines.{KeepsNumbers};
-ghost use Rattle.table_kernel.specs.Turns.{AreLinesTurned, AreTurns, ConstantsStaySmall, HasTurned, IsLineReady, IsLineTurned, IsPivotIn, IsReadyToTurn, KeepsAllButLows, LinesStaySmall, MayTurn, constant_size, line_of, next_common, turn_of_line};
+ghost use Rattle.table_kernel.specs.Turns.{AreLinesTurned, AreTurns, ConstantsStaySmall, HasTurned, IsLineReady, IsLineTurned, IsPivotIn, IsReadyToTurn, KeepsAllButLows, LinesStaySmall, MayTurn, StaysSmallThroughout, constant_size, line_of, next_common, turn_of_line};
 
 use crate::Kernel;
 use crate::kernel::OutOfRange;
@@ -53,7 +53,7 @@ pub(crate) fn stays_within(constant: i128, share: i64) -> bool
 
 impl Kernel {
     /// How a variable's line turns at a column.
-    fn turn_at(&self, var: usize, column: usize) -> Turn
+    pub(crate) fn turn_at(&self, var: usize, column: usize) -> Turn
         requires ready { IsLineReady self.now column var }
         ensures turn { result ≡ turn_of_line self.now column var }
         ensures multiplier { (pos 0 <ℤ result.multiplier) × (result.multiplier ≤ℤ pos (2 ^ 30)) }
@@ -179,12 +179,61 @@ impl Kernel {
         requires ready { IsReadyToTurn self.old column }
         requires touched { AreNonZeros self.old.entering.numbers (width_of self.old)
             self.old.left.items }
-        requires may { MayTurn self.old column }
+        requires may { StaysSmallThroughout self.old column }
         ensures turned { AreLinesTurned self.old self.new column }
         ensures keeps { KeepsAllButLows self.old self.new }
     {
         for var in 0..self.lows.len() {
             self.turn_line(var, column);
+        }
+    }
+
+    /// The common denominator after a turn at a column in which no number passes the bounds, by the sizes before it.
+    fn common_if_small(&self, column: usize) -> Option<i64>
+        requires ready { IsReadyToTurn self.now column }
+        ensures { MatchOption result (StaysSmallThroughout self.now column → ⊥)
+            (λ common. StaysSmallThroughout self.now column × (pos 0 <ℤ common) ×
+            (nat_abs common ≡ next_common self.now column) × (common ≤ℤ pos (2 ^ 30))) }
+    {
+        if !self.lines_stay_small(column) {
+            return None;
+        }
+        let common = self.common_after(column)?;
+        if !self.constants_stay_small(column, common) {
+            return None;
+        }
+        Some(common)
+    }
+
+    /// Turns all lines at a column by the entering line, no number of which passes the bounds; the leads, the common
+    /// denominator and the constants follow.
+    fn turn_small(&mut self, column: usize, common: i64)
+        // The lines' turns are put, and so are the columns in which the entering line isn't 0.
+        requires ready { IsReadyToTurn self.old column }
+        requires kernel { IsKernel self.old }
+        requires touched { AreNonZeros self.old.entering.numbers (width_of self.old)
+            self.old.left.items }
+
+        // No number passes the bounds on the way, and the common denominator is that after the turn.
+        requires small { StaysSmallThroughout self.old column }
+        requires common { (pos 0 <ℤ common) × (nat_abs common ≡ next_common self.old column) ×
+            (common ≤ℤ pos (2 ^ 30)) }
+
+        // The lines have turned, and leads, common denominator and constants with them.
+        ensures turned { HasTurned self.old self.new column }
+    {
+        self.turn_lines(column);
+        turn_leads(
+            self.leads.as_mut_slice(),
+            self.lows.as_slice(),
+            &self.entering,
+            column,
+        );
+        if common == self.common {
+            self.follow_lines();
+        } else {
+            self.common = common;
+            self.put_constants();
         }
     }
 
@@ -207,28 +256,10 @@ impl Kernel {
         // On Ok the lines have turned, and leads, common denominator and constants with them.
         ensures turned { OnOk result (HasTurned self.old self.new column) }
     {
-        if !self.lines_stay_small(column) {
-            return Err(OutOfRange);
-        }
-        let Some(common) = self.common_after(column) else {
-            return Err(OutOfRange);
+        let Some(common) = self.common_if_small(column) else {
+            return self.turn_to_lowest(column);
         };
-        if !self.constants_stay_small(column, common) {
-            return Err(OutOfRange);
-        }
-        self.turn_lines(column);
-        turn_leads(
-            self.leads.as_mut_slice(),
-            self.lows.as_slice(),
-            &self.entering,
-            column,
-        );
-        if common == self.common {
-            self.follow_lines();
-        } else {
-            self.common = common;
-            self.put_constants();
-        }
+        self.turn_small(column, common);
         Ok(())
     }
 
