@@ -2,7 +2,7 @@
 use Prim.Native.Nat.{◌∣◌}
 use native.Mathlib.Nat.{div-mul_cancel, mul_assoc, mul_comm, one-dvd}
 use Rattle.std.proofs.Common.{◌≡◌, Bool, ◌↔◌, ℕ, ◌+◌, ◌*◌, ◌/◌, ◌^◌, ◌<◌, ◌≤◌, sym, ◌∙◌, ap, subst, List, length, arith}
-use Rattle.std.specs.Prelude.{ℤ, pos, ◌*ℤ◌, ◌<ℤ◌, ◌≤ℤ◌, nat_abs, slice_index_or, slice_set, All, IsTrue}
+use Rattle.std.specs.Prelude.{ℤ, pos, ◌<ℤ◌, ◌≤ℤ◌, nat_abs, slice_index_or, slice_set, All, IsTrue}
 use Rattle.std.proofs.lemmas.Int.{ints, unsigned_abs-mul}
 use Rattle.std.proofs.lemmas.List.{get_or_default}
 use Rattle.std.proofs.lemmas.Nat.Gcd.{dvd_trans, le_of_dvd}
@@ -20,7 +20,7 @@ use Rattle.integer_pivots.proofs.Sizes.{read, read_number, size_most}
 use Rattle.integer_pivots.proofs.WrittenPlaces.{all_more}
 use Rattle.table_kernel.specs.declared.kernel.Kernel.{Kernel}
 use Rattle.table_kernel.specs.Numbers.{share_of}
-use Rattle.table_kernel.specs.Turns.{AreBoundedLines, FitsLowest, IsLineTurnedToLowest, IsLowestCommon, IsLowestOf, IsReadyToTurn, IsSmallOf, KeepsAllButLows, MayTurn, line_of, turn_of_line}
+use Rattle.table_kernel.specs.Turns.{AreBoundedLines, FitsLowest, IsLineTurnedToLowest, IsLowestCommon, IsLowestOf, IsSmallOf, KeepsAllButLows, MayTurn, line_of, turn_of_line}
 use Rattle.table_kernel.proofs.LeastCommon.{both_go_in}
 use Rattle.table_kernel.proofs.Lines.{read_common}
 use Rattle.table_kernel.proofs.Shares.{factor_within, share_more}

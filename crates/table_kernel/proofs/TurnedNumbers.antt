@@ -1,8 +1,8 @@
 -- A kernel whose lines have turned to some within the bounds: the leads and the constants follow.
 use Rattle.std.specs.declared.alloc.Global.{Global}
 use Prim.Native.Nat.{◌∣◌}
-use Rattle.std.proofs.Common.{Vec, ◌≡◌, ℕ, ◌*◌, ◌/◌, ◌^◌, ◌<◌, ◌≤◌, refl, sym, ◌∙◌, ap, subst, List, length, arith}
-use Rattle.std.specs.Prelude.{ℤ, pos, ◌<ℤ◌, ◌≤ℤ◌, nat_abs, All, Option, Some, MatchOption}
+use Rattle.std.proofs.Common.{Vec, ◌≡◌, ℕ, ◌*◌, ◌^◌, ◌<◌, ◌≤◌, refl, sym, ◌∙◌, ap, subst, List, length, arith}
+use Rattle.std.specs.Prelude.{ℤ, pos, ◌<ℤ◌, ◌≤ℤ◌, nat_abs, All}
 use Rattle.std.specs.Vec.{with_items}
 use Rattle.std.proofs.lemmas.List.{get_or_default}
 use Rattle.std.proofs.lemmas.List.Elements.{All-weaker}

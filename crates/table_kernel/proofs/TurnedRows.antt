@@ -14,7 +14,7 @@ use Rattle.fraction_table.specs.declared.table.Table.{Table}
 use Rattle.integer_pivots.specs.declared.line.Line.{Line}
 use Rattle.integer_pivots.specs.declared.turn.Turn.{Turn}
 use Rattle.integer_pivots.specs.Lines.{IsLine, no_line}
-use Rattle.integer_pivots.specs.Turns.{IsTurnedLine, MayLineTurn, StaysSmall, denominator_after, turn_at, turned_number}
+use Rattle.integer_pivots.specs.Turns.{IsTurnedLine, MayLineTurn, denominator_after, turn_at}
 use Rattle.table_kernel.specs.declared.kernel.Kernel.{Kernel}
 use Rattle.table_kernel.specs.Kernels.{width_of}
 use Rattle.table_kernel.specs.Numbers.{share_of}

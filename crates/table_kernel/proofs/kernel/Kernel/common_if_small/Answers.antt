@@ -1,5 +1,5 @@
 -- A test that fails shows that some number may pass the bounds.
-use Rattle.std.proofs.Common.{◌^◌, ◌≤◌, arith}
+use Rattle.std.proofs.Common.{arith}
 use Rattle.integer_pivots.proofs.FailedTests.{failed}
 use Rattle.table_kernel.proofs.CommonSteps.{match_none}
 use Rattle.table_kernel.proofs.TurnedNumbers.{next_read, small_constants, small_throughout}
