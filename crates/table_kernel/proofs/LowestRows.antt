@@ -230,12 +230,12 @@ module _ (k : Kernel) (column : ℕ) (common : ℤ) (least : IsLowestCommon k co
     small = least.small;
     lines = each_at IsLine (λ v v_in. (b.each v v_in).line);
     divides = each_at (λ (l : Line). nat_abs l.denominator ∣ nat_abs common) (λ v v_in.
-      let t = b.each v v_in in
-      subst (λ (z : ℤ). nat_abs z ∣ nat_abs common) (sym t.denominator) (least.each v v_in t.lowest t.is_lowest).0);
+        let t = b.each v v_in in
+        subst (λ (z : ℤ). nat_abs z ∣ nat_abs common) (sym t.denominator) (least.each v v_in t.lowest t.is_lowest).0);
     limit = each_at (λ (l : Line). nat_abs l.constant * share_of (nat_abs common) l ≤ 2 ^ 44) (λ v v_in.
-      let t = b.each v v_in in
-      subst (λ (z : ℤ). nat_abs (line_of h v).constant * (nat_abs common / nat_abs z) ≤ 2 ^ 44) (sym t.denominator)
-      (subst (λ (z : ℤ). nat_abs z * (nat_abs common / nat_abs t.lowest.denominator) ≤ 2 ^ 44) (sym t.constant) (fits v v_in t.lowest t.is_lowest)));
+        let t = b.each v v_in in
+        subst (λ (z : ℤ). nat_abs (line_of h v).constant * (nat_abs common / nat_abs z) ≤ 2 ^ 44) (sym t.denominator)
+        (subst (λ (z : ℤ). nat_abs z * (nat_abs common / nat_abs t.lowest.denominator) ≤ 2 ^ 44) (sym t.constant) (fits v v_in t.lowest t.is_lowest)));
   }
     where
       each_at : (P : Line → Type 0) → ((v : ℕ) → v < length k.lows.items → P (line_of h v)) → All P h.lows.items
