@@ -50,8 +50,10 @@ impl Line {
     {
         let constant = self.constant_after(turn, entering).unsigned_abs();
         let denominator = self.denominator * turn.multiplier;
-        let mut part =
-            greatest_common_divisor(constant, u128::from(denominator.unsigned_abs())) as i64;
+        let mut part = greatest_common_divisor(
+            constant,
+            u128::from(denominator.unsigned_abs()),
+        ) as i64;
         for c in 0..self.numbers.as_slice().len() {
             part = common_with(self.number_after(entering, column, turn, c), part);
         }

@@ -31,6 +31,8 @@ pub mod TurnKernels
 pub mod StayingWithin
 pub mod OtherLines
 pub mod TurnedRows
+pub mod TurnedNumbers
+pub mod LowestRows
 pub mod FirstConstants
 pub mod FollowedTurns
 pub mod RowWeights

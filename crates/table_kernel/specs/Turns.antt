@@ -48,12 +48,12 @@ pub record StaysSmallThroughout (k : Kernel) (column : ℕ) : Type 0 where
 
 -- Lines of x - low within the kernel's bounds: their numbers and denominators are at most 2^30, and so is the common
 -- denominator, into which theirs go; over it no constant passes 2^44.
-pub record AreBoundedLines (common : ℤ) (lines : List Line) : Type 0 where
+pub record AreBoundedLines (common : ℤ) (lows : List Line) : Type 0 where
   pub positive : pos 0 <ℤ common
   pub small : common ≤ℤ pos (2 ^ 30)
-  pub lines : All IsLine lines
-  pub divides : All (λ line. nat_abs line.denominator ∣ nat_abs common) lines
-  pub limit : All (λ line. nat_abs line.constant * share_of (nat_abs common) line ≤ 2 ^ 44) lines
+  pub lines : All IsLine lows
+  pub divides : All (λ line. nat_abs line.denominator ∣ nat_abs common) lows
+  pub limit : All (λ line. nat_abs line.constant * share_of (nat_abs common) line ≤ 2 ^ 44) lows
 
 -- the bounds cover the turn at a column by the entering line: some lines within them stand for the turned numbers
 pub record MayTurn (k : Kernel) (column : ℕ) : Type 0 where

@@ -3,7 +3,6 @@ use Rattle.std.proofs.Common.{◌≡◌, ◌^◌, ◌≤◌, ℕ, sym, ◌∙◌
 use Rattle.std.specs.Prelude.{ℤ, pos, ◌*ℤ◌, ◌<ℤ◌, nat_abs}
 use Prim.Native.Nat.{◌∣◌}
 use Rattle.std.proofs.lemmas.Int.{unsigned_abs-mul}
-use Rattle.whole_numbers.proofs.FractionLaws.{product_positive}
 use Rattle.integer_pivots.specs.Turns.{IsPartAfter}
 use Rattle.integer_pivots.proofs.Sizes.{product_read, read, read_known}
 use Rattle.integer_pivots.proofs.TurnLaws.{product_fits, product_of_read}

@@ -1,6 +1,6 @@
 -- The products and their difference fit 64 bits.
-use Rattle.std.proofs.Common.{◌≡◌, ◌^◌, ◌≤◌, sym, ◌∙◌, subst, List}
-use Rattle.std.specs.Prelude.{ℤ, nat_abs}
+use Rattle.std.proofs.Common.{sym, ◌∙◌, List}
+use Rattle.std.specs.Prelude.{ℤ}
 use mathlib.Core.Path.{ap₂}
 use Rattle.whole_numbers.specs.Lists.{number_at}
 use Rattle.integer_pivots.specs.Turns.{turned_number}

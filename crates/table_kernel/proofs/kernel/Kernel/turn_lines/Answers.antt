@@ -10,7 +10,7 @@ pub turn_line-requires-clause-ready : goal.turn_line-requires-clause-ready
 turn_line-requires-clause-ready c =
     let k = c.args.self.now in
     let v_in : c.loop-var.var < length k.lows.items = omega (arith, c.loop-var-test.true, c.len-var-end.ensures, k.lows.ok.0) in
-    ready_between k c.loop-var.self c.args.column c.loop-var.var c.requires.ready c.loop-var.invariant v_in
+    ready_between _ k c.loop-var.self c.args.column c.loop-var.var c.requires.ready c.loop-var.invariant v_in
 
 pub turn_line-requires-clause-may : goal.turn_line-requires-clause-may
 turn_line-requires-clause-may c =
