@@ -8,6 +8,7 @@ mod choice;
 mod leads;
 mod line;
 mod multiples;
+mod reciprocal;
 mod turn;
 mod uses;
 
