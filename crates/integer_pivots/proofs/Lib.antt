@@ -9,8 +9,10 @@ pub mod TouchedColumns
 pub mod Quotients
 pub mod LineLaws
 pub mod Reciprocals
+pub mod TurnedOver
 pub mod TurnLaws
 pub mod TurnedLines
+pub mod LoweredTurns
 pub mod UseLaws
 pub mod UsePushes
 pub mod UseSums
