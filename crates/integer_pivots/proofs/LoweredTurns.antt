@@ -1,13 +1,14 @@
 -- A line whose numbers turn, and what it has in common then.
-use Rattle.std.proofs.Common.{◌≡◌, ◌≢◌, ℕ, zero, suc, ◌+◌, ◌*◌, ◌/◌, ◌^◌, ◌<◌, ◌≤◌, refl, sym, ◌∙◌, ap, subst, List, [], ◌∷◌, length, arith, inl, inr}
+use Rattle.std.proofs.Common.{◌≡◌, ◌≢◌, ℕ, zero, suc, ◌+◌, ◌*◌, ◌/◌, ◌^◌, ◌<◌, ◌≤◌, refl, sym, ◌∙◌, ap, subst, List, [], ◌∷◌, length, arith, inl, inr, FitsSigned, w64, of_z}
+use mathlib.Core.Path.{ap₂}
 use Rattle.std.specs.Prelude.{ℤ, pos, negsuc, ◌-ℤ◌, ◌*ℤ◌, ◌<ℤ◌, ◌≤ℤ◌, nat_abs}
-use Rattle.std.specs.Int.Signed.{quot_z}
+use Rattle.std.specs.Int.Signed.{mag, quot_z}
 use Prim.Native.Nat.{◌∣◌}
 use Rattle.std.proofs.lemmas.Bool.{cases_eq}
-use Rattle.std.proofs.lemmas.Int.{ints, unsigned_abs-mul}
+use Rattle.std.proofs.lemmas.Int.{fits_signed_from_abs, ints, unsigned_abs-mul}
 use Rattle.std.proofs.lemmas.List.{get_or_default}
 use Rattle.std.proofs.lemmas.Nat.Gcd.{dvd-zero, dvd_trans}
-use Rattle.std.proofs.Math.Nat.{eq-one_of_dvd-one, mul-dvd-mul_right, mul-le-mul_left, mul-le-mul_right}
+use Rattle.std.proofs.Math.Nat.{div-le_self, dvd-mul_left, eq-one_of_dvd-one, mul-dvd-mul_right, mul-le-mul_left, mul-le-mul_right}
 use Rattle.whole_numbers.specs.Fractions.{gcd}
 use Rattle.whole_numbers.specs.Lists.{number_at}
 use Rattle.whole_numbers.proofs.Divisors.{gcd_is}
@@ -18,10 +19,12 @@ use Rattle.integer_pivots.specs.declared.line.Line.{Line}
 use Rattle.integer_pivots.specs.declared.turn.Turn.{Turn}
 use Rattle.integer_pivots.specs.Lines.{IsInLowestTerms}
 use Rattle.integer_pivots.specs.Numbers.{AllWithin, greatest_of}
-use Rattle.integer_pivots.specs.Turns.{IsTurnedOver, IsTurning, turned_number}
+use Rattle.integer_pivots.specs.Turns.{IsAtPivot, IsTurnedOver, IsTurning, MayLineTurn, turn_at, turned_number}
 use Rattle.integer_pivots.proofs.LineLaws.{factor_one}
-use Rattle.integer_pivots.proofs.Sizes.{difference_small, number_within, positive_size, product_size}
-use Rattle.integer_pivots.proofs.TurnLaws.{greatest_within, sizes_kept}
+use Rattle.integer_pivots.proofs.Quotients.{bits_of}
+use Rattle.integer_pivots.proofs.Sizes.{difference_small, number_within, positive_size, product_read, product_size, read, read_known, read_number}
+use Rattle.integer_pivots.proofs.TurnLaws.{greatest_within, product_of_read, sizes_kept, turn_level}
+use Rattle.integer_pivots.proofs.TurnedLines.{product_high}
 
 -- what the denominator, the constant and all turned numbers have in common, that at the pivot's column too
 pub record IsTurnPart (turn : Turn) (entering old : Line) (part : ℤ) : Type 0 where
@@ -135,6 +138,30 @@ module _ (turn : Turn) (column : ℕ) (entering old : Line) (t : IsTurning turn 
         )
       ]))
 
+  -- the number at the pivot's column is computed as it is
+  denominator_small : nat_abs entering.denominator ≤ 2 ^ 30
+  denominator_small = positive_size entering.denominator (2 ^ 30) (t.across.positive, t.across.denominator)
+
+  pub own_fits : FitsSigned w64 (read turn.factor *ℤ read entering.denominator)
+  own_fits = product_of_read turn.factor entering.denominator turning_factor denominator_small
+
+  pub own_read : read (read turn.factor *ℤ read entering.denominator) ≡ (turn.factor *ℤ entering.denominator)
+  own_read = product_read turn.factor entering.denominator turning_factor denominator_small
+
+  pub own_small : nat_abs (read (read turn.factor *ℤ read entering.denominator)) ≤ 2 ^ 62
+  own_small =
+      let own = t.small.own in
+      omega (arith, ap nat_abs own_read, unsigned_abs-mul turn.factor entering.denominator, own)
+
+  pub turning_denominator : nat_abs old.denominator ≤ 2 ^ 30
+  turning_denominator = positive_size old.denominator (2 ^ 30) (t.positive, t.denominator)
+
+  pub denominator_read : read old.denominator ≡ old.denominator
+  denominator_read = read_number old.denominator (omega (arith, turning_denominator))
+
+  pub constant_read : read old.constant ≡ old.constant
+  constant_read = let small = t.constant in read_number old.constant (omega (arith, small))
+
 -- a number that isn't multiplied
 pub once_turned : (t : Turn) (n e : ℤ) → t.multiplier ≡ pos 1 → (n -ℤ (t.factor *ℤ e)) ≡ turned_number t n e
 once_turned t n e one =
@@ -159,3 +186,53 @@ pub size_over : (a p : ℤ) → pos 0 ≤ℤ a → pos 0 <ℤ p → quot_z a p �
 size_over (pos a) (pos p) a_high p_high = refl
 size_over (negsuc a) p a_high p_high = absurd (omega (arith, ints, a_high))
 size_over (pos a) (negsuc p) a_high p_high = absurd (omega (arith, ints, p_high))
+
+-- and as 64 bits hold it
+module _ (a p : ℤ) (a_high : pos 0 ≤ℤ a) (p_high : pos 0 <ℤ p) (a_fits : mag a < 2 ^ 63) (p_fits : mag p < 2 ^ 63) where
+  over_is : quot_z (read a) (read p) ≡ pos (nat_abs a / nat_abs p)
+  over_is = ap₂ quot_z (read_known a a_fits) (read_known p p_fits) ∙ size_over a p a_high p_high
+
+  over_less : nat_abs a / nat_abs p < 2 ^ 63
+  over_less = let less = div-le_self (nat_abs a) (nat_abs p) in omega (arith, less, fitting a a_high a_fits)
+    where
+      fitting : (z : ℤ) → pos 0 ≤ℤ z → mag z < 2 ^ 63 → nat_abs z < 2 ^ 63
+      fitting (pos n) high fits = fits
+      fitting (negsuc n) high fits = absurd (omega (arith, ints, high))
+
+  pub over_read : read (quot_z (read a) (read p)) ≡ pos (nat_abs a / nat_abs p)
+  over_read = ap read over_is ∙ read_number (pos (nat_abs a / nat_abs p)) over_less
+
+  pub over_fits : FitsSigned w64 (quot_z (read a) (read p))
+  over_fits = subst (FitsSigned w64) (sym over_is) (fits_signed_from_abs w64 (pos (nat_abs a / nat_abs p)) over_less)
+
+-- the bits of a positive number
+pub positive_bits : (p : ℤ) → pos 0 <ℤ p → FitsSigned w64 p → 0 < of_z w64 p
+positive_bits p high fits =
+    elim (cases_eq (of_z w64 p) 0) [
+      | inl none ↦ absurd (let is = bits_of p 0 fits none in omega (arith, ints, high, is))
+      | inr some ↦ omega (arith, some)
+    ]
+
+size_below : (z : ℤ) (n : ℕ) → nat_abs z ≤ n → z ≤ℤ pos n
+size_below z n small = omega (arith, ints, small)
+
+-- a line whose constant and denominator have turned is turning
+pub begins_turning : (turn : Turn) (column : ℕ) (entering old : Line) (D C : ℤ) → IsAtPivot column entering old →
+    turn ≡ turn_at entering column old → MayLineTurn turn old entering → pos 0 <ℤ turn.multiplier → D ≡ (old.denominator *ℤ turn.multiplier) →
+    C ≡ turned_number turn old.constant entering.constant →
+    IsTurning turn column entering (record { denominator = D; constant = C; numbers = old.numbers; reach = old.reach })
+begins_turning turn column entering old D C pivot is may positive D_is C_is = record {
+  across = pivot.across;
+  positive = subst (λ (z : ℤ). pos 0 <ℤ z) (sym D_is) (product_high old.denominator turn.multiplier pivot.turning.positive positive);
+  denominator = size_below D (2 ^ 30) (let small = may.denominator in omega (arith, ap nat_abs D_is, unsigned_abs-mul old.denominator turn.multiplier, small));
+  constant = let small = may.constant in omega (arith, ap nat_abs C_is, small);
+  long = pivot.long;
+  inside = pivot.inside;
+  level = subst (λ (t : Turn). turned_number t (number_at old.numbers column) (number_at entering.numbers column) ≡ pos 0) (sym is)
+      (levelled (turn_at entering column old).multiplier (turn_at entering column old).factor (number_at old.numbers column) (number_at entering.numbers column)
+      (turn_level (number_at old.numbers column) (number_at entering.numbers column) pivot.pivot));
+  small = record { numbers = may.small.numbers; own = may.small.own };
+  multiplier = positive;
+  multiplied = subst (λ (n : ℕ). nat_abs turn.multiplier ∣ n) (sym (ap nat_abs D_is ∙ unsigned_abs-mul old.denominator turn.multiplier))
+      (dvd-mul_left (nat_abs turn.multiplier) (nat_abs old.denominator));
+}
