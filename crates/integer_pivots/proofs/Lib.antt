@@ -12,7 +12,6 @@ pub mod Reciprocals
 pub mod TurnedOver
 pub mod TurnLaws
 pub mod TurnedLines
-pub mod LoweredTurns
 pub mod UseLaws
 pub mod UsePushes
 pub mod UseSums

@@ -48,13 +48,13 @@ quotient_near size d reciprocal positive few small is_reciprocal =
     twice product m n is_product near less = omega (arith, is_product, near, less)
 
 -- a number that isn't negative is so many times the other one as its size says
-pub goes_times : (times : ℕ) (n d : ℤ) → pos 0 <ℤ d → times * nat_abs d ≡ nat_abs n → pos 0 ≤ℤ n → (pos times *ℤ d) ≡ n
+goes_times : (times : ℕ) (n d : ℤ) → pos 0 <ℤ d → times * nat_abs d ≡ nat_abs n → pos 0 ≤ℤ n → (pos times *ℤ d) ≡ n
 goes_times times (pos m) (pos e) positive is high = pos-*ℤ-pos times e ∙ ap (λ k. pos k) is
 goes_times times (negsuc m) (pos e) positive is high = absurd (omega (arith, ints, high))
 goes_times times n (negsuc e) positive is high = absurd (omega (arith, ints, positive))
 
 -- and a negative one as often, less than 0
-pub falls_times : (times : ℕ) (n d : ℤ) → pos 0 <ℤ d → times * nat_abs d ≡ nat_abs n → n <ℤ pos 0 → (neg_ℤ (pos times) *ℤ d) ≡ n
+falls_times : (times : ℕ) (n d : ℤ) → pos 0 <ℤ d → times * nat_abs d ≡ nat_abs n → n <ℤ pos 0 → (neg_ℤ (pos times) *ℤ d) ≡ n
 falls_times times (negsuc m) (pos e) positive is low =
     ring (pos times ∷ pos e ∷ []) (neg (var 0) ⊗ var 1) (neg (var 0 ⊗ var 1)) refl ∙ ap neg_ℤ (pos-*ℤ-pos times e ∙ ap (λ k. pos k) is)
 falls_times times (pos m) (pos e) positive is low = absurd (omega (arith, ints, low))
@@ -72,18 +72,18 @@ goes_into q size d is_times = (
 )
 
 -- the sizes go as often
-pub sizes_times : (k n d : ℤ) → (k *ℤ d) ≡ n → nat_abs n ≡ nat_abs k * nat_abs d
+sizes_times : (k n d : ℤ) → (k *ℤ d) ≡ n → nat_abs n ≡ nat_abs k * nat_abs d
 sizes_times k n d is = ap nat_abs (sym is) ∙ unsigned_abs-mul k d
 
 -- how often a number goes, where it goes so often into the size
-pub size_of_times : (q size : ℕ) (n d k : ℤ) → ((times : ℕ) → size ≡ times * nat_abs d → q ≡ times) → size ≡ nat_abs n →
+size_of_times : (q size : ℕ) (n d k : ℤ) → ((times : ℕ) → size ≡ times * nat_abs d → q ≡ times) → size ≡ nat_abs n →
     (k *ℤ d) ≡ n → q * nat_abs d ≡ nat_abs n
 size_of_times q size n d k is_times is_size is =
     let sizes = sizes_times k n d is in
     ap (λ (m : ℕ). m * nat_abs d) (is_times (nat_abs k) (is_size ∙ sizes)) ∙ sym sizes
 
 -- the quotient is within 63 bits
-pub times_small : (q : ℕ) (n d : ℤ) → pos 0 <ℤ d → nat_abs n ≤ 2 ^ 62 → q * nat_abs d ≡ nat_abs n → q ≤ 2 ^ 62
+times_small : (q : ℕ) (n d : ℤ) → pos 0 <ℤ d → nat_abs n ≤ 2 ^ 62 → q * nat_abs d ≡ nat_abs n → q ≤ 2 ^ 62
 times_small q n d positive small is =
     let most = le-mul_of_pos_right q (size_positive d positive) in
     omega (arith, most, is, small)

@@ -122,12 +122,7 @@ fn multiply_first(numbers: &mut Listed<i64>, count: usize, multiplier: i64)
 
 /// Puts a number at a column, over what it has in common with the divisor over which the numbers before it stand. They
 /// stand over that common part then, too. Gives it.
-fn put_over_common(
-    numbers: &mut Listed<i64>,
-    column: usize,
-    number: i64,
-    part: Divisor,
-) -> Divisor
+fn put_over_common(numbers: &mut Listed<i64>, column: usize, number: i64, part: Divisor) -> Divisor
     // The number is small, and so are those before the column, each times the divisor.
     requires part { IsReciprocal part }
     requires column { column < length numbers.old }
@@ -301,13 +296,7 @@ impl Line {
 
     /// Turns the numbers of a line whose denominator and constant have turned, and brings it into lowest terms. Gives what
     /// went out. Over 1 nothing does, and the numbers in the touched columns alone change.
-    fn turn_numbers(
-        &mut self,
-        entering: &Line,
-        column: usize,
-        touched: &[usize],
-        turn: Turn,
-    ) -> i64
+    fn turn_numbers(&mut self, entering: &Line, column: usize, touched: &[usize], turn: Turn) -> i64
         requires turning { IsTurning turn column entering.now self.old }
         requires touched { AreNonZeros entering.now.numbers (length entering.now.numbers)
             touched.now }

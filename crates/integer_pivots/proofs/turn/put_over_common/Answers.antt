@@ -1,6 +1,6 @@
 -- What the number and the divisor have in common goes into both.
-use Rattle.std.proofs.Common.{◌≡◌, ℕ, ◌*◌, ◌^◌, ◌<◌, ◌≤◌, sym, ◌∙◌, ap, subst, arith}
-use Rattle.std.specs.Prelude.{ℤ, pos, ◌*ℤ◌, nat_abs}
+use Rattle.std.proofs.Common.{◌≡◌, ◌^◌, ◌<◌, sym, ◌∙◌, ap, subst, arith}
+use Rattle.std.specs.Prelude.{ℤ, ◌*ℤ◌, nat_abs}
 use Prim.Native.Nat.{◌∣◌}
 use Rattle.whole_numbers.specs.Lists.{number_at}
 use Rattle.whole_numbers.proofs.Divisors.{gcd_is}

@@ -15,8 +15,7 @@ use Rattle.integer_pivots.specs.Numbers.{AllWithin, greatest_of}
 use Rattle.integer_pivots.specs.Turns.{IsTurning, turned_number}
 use Rattle.integer_pivots.proofs.Sizes.{number_within, positive_size, product_read, read, read_known, read_number, size_of}
 use Rattle.integer_pivots.proofs.TurnLaws.{greatest_within, product_of_read, turn_positive, turn_small, wide, wide_number}
-use Rattle.integer_pivots.proofs.TurnedLines.{scaled}
-use Rattle.integer_pivots.proofs.LoweredTurns.{begins_turning, factor_high, over_fits, over_read, positive_bits, turned_within}
+use Rattle.integer_pivots.proofs.TurnedLines.{begins_turning, factor_high, over_fits, over_read, positive_bits, scaled, turned_within}
 use Rattle.integer_pivots.proofs.line.Line.turn.Goals as goal
 use Rattle.integer_pivots.proofs.line.Line.turn.Goals.{Start, After-constant_after, After-turn_numbers-part}
 

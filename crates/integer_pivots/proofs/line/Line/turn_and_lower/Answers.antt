@@ -1,5 +1,5 @@
 -- What all numbers that have turned have in common goes out.
-use Rattle.std.proofs.Common.{◌≡◌, ℕ, ◌+◌, ◌*◌, ◌^◌, ◌<◌, ◌≤◌, sym, ◌∙◌, ap, subst, List, length, arith, get_or-set_same, get_or-set_other}
+use Rattle.std.proofs.Common.{◌+◌, ◌*◌, ◌^◌, ◌≤◌, sym, ◌∙◌, ap, subst, List, length, arith, get_or-set_same, get_or-set_other}
 use Rattle.std.specs.Prelude.{ℤ, pos, ◌*ℤ◌, ◌<ℤ◌, ◌≤ℤ◌, nat_abs}
 use Prim.Native.Nat.{◌∣◌}
 use Rattle.std.proofs.lemmas.Int.{ints}
@@ -10,7 +10,7 @@ use Rattle.whole_numbers.specs.Lists.{number_at}
 use Rattle.integer_pivots.specs.declared.line.Line.{Line}
 use Rattle.integer_pivots.specs.Turns.{IsTurnedOver, turned_number}
 use Rattle.integer_pivots.proofs.Sizes.{read, read_known, read_number, size_most}
-use Rattle.integer_pivots.proofs.LoweredTurns.{IsTurnPart, constant_read, denominator_read, lowest_over_turn, own_fits, own_read, own_small, turn_part, turning_denominator, turning_small}
+use Rattle.integer_pivots.proofs.TurnedLines.{IsTurnPart, constant_read, denominator_read, lowest_over_turn, own_fits, own_read, own_small, turn_part, turning_denominator, turning_small}
 use Rattle.integer_pivots.proofs.line.Line.turn_and_lower.Goals as goal
 use Rattle.integer_pivots.proofs.line.Line.turn_and_lower.Goals.{After-turn_over-part, After-set}
 

@@ -1,6 +1,6 @@
 -- Over 1 nothing is multiplied, and the line is in lowest terms as it stands.
-use Rattle.std.proofs.Common.{◌≡◌, ℕ, ◌*◌, ◌^◌, ◌<◌, ◌≤◌, sym, ◌∙◌, ap, subst, List, length, arith, w64, get_or-set_same, get_or-set_other}
-use Rattle.std.specs.Prelude.{ℤ, pos, ◌-ℤ◌, ◌*ℤ◌, ◌<ℤ◌, ◌≤ℤ◌, nat_abs}
+use Rattle.std.proofs.Common.{◌≡◌, ◌^◌, sym, ◌∙◌, ap, subst, List, length, arith, w64, get_or-set_same, get_or-set_other}
+use Rattle.std.specs.Prelude.{ℤ, pos, ◌-ℤ◌, ◌*ℤ◌, nat_abs}
 use Prim.Native.Nat.{◌∣◌}
 use Rattle.std.proofs.lemmas.Int.{fits_signed_from_abs, ints}
 use Rattle.std.proofs.lemmas.List.{length-set}
@@ -12,7 +12,7 @@ use Rattle.integer_pivots.specs.Numbers.{AllWithin}
 use Rattle.integer_pivots.specs.Turns.{AreNonZeros}
 use Rattle.integer_pivots.proofs.Quotients.{bits_of}
 use Rattle.integer_pivots.proofs.Sizes.{read, read_number, size_of, wider}
-use Rattle.integer_pivots.proofs.LoweredTurns.{once_turned, own_fits, own_read, turning_denominator, turning_factor, turning_once, turning_within}
+use Rattle.integer_pivots.proofs.TurnedLines.{once_turned, own_fits, own_read, turning_denominator, turning_factor, turning_once, turning_within}
 use Rattle.integer_pivots.proofs.line.Line.turn_numbers.Goals as goal
 use Rattle.integer_pivots.proofs.line.Line.turn_numbers.Goals.{Then-self-eq1}
 

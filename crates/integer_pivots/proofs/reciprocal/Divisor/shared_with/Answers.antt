@@ -1,9 +1,9 @@
 -- What goes into a number has all of itself in common with it.
-use Rattle.std.proofs.Common.{◌∙◌, ap, subst, w64, arith}
+use Rattle.std.proofs.Common.{subst, arith}
 use Rattle.std.specs.Prelude.{ℤ, nat_abs}
 use Prim.Native.Nat.{◌∣◌}
 use Rattle.integer_pivots.proofs.Quotients.{common_all}
-use Rattle.integer_pivots.proofs.Sizes.{read_number, size_most}
+use Rattle.integer_pivots.proofs.Sizes.{read_number}
 use Rattle.integer_pivots.proofs.reciprocal.Divisor.shared_with.Goals as goal
 
 pub returns-then-divides-clause-value : goal.returns-then-divides-clause-value
