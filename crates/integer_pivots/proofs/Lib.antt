@@ -8,6 +8,8 @@ pub mod ColumnLeads
 pub mod TouchedColumns
 pub mod Quotients
 pub mod LineLaws
+pub mod Reciprocals
+pub mod TurnedOver
 pub mod TurnLaws
 pub mod TurnedLines
 pub mod LowestSteps

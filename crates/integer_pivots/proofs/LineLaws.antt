@@ -81,7 +81,7 @@ scaled_divides d old new part is divides =
     subst (λ (n : ℕ). (d * part) ∣ n) (sym (ap nat_abs is ∙ unsigned_abs-mul new (pos part))) (mul-dvd-mul_right d divides part)
 
 -- what goes into a number as often as 1 does is 1
-factor_one : (d part : ℕ) → 0 < part → (d * part) ∣ part → d ≡ 1
+pub factor_one : (d part : ℕ) → 0 < part → (d * part) ∣ part → d ≡ 1
 factor_one d part positive divides =
     eq-one_of_dvd-one (dvd_of_mul-dvd-mul_right d positive (subst (λ (n : ℕ). (d * part) ∣ n) (sym (one-mul part)) divides))
 

@@ -49,6 +49,30 @@ pub record IsTurnedLine (turn : Turn) (column : ℕ) (entering old new : Line) :
       (number_at new.numbers c *ℤ (old.denominator *ℤ turn.multiplier)) ≡ (turned_number turn (number_at old.numbers c) (number_at entering.numbers c) *ℤ new.denominator)
   pub own : (number_at new.numbers column *ℤ (old.denominator *ℤ turn.multiplier)) ≡ ((turn.factor *ℤ entering.denominator) *ℤ new.denominator)
 
+-- A line of which the constant and the denominator have turned and the numbers are to; the turn makes 0 of the column's.
+pub record IsTurning (turn : Turn) (column : ℕ) (entering line : Line) : Type 0 where
+  pub across : IsLine entering
+  pub positive : pos 0 <ℤ line.denominator
+  pub denominator : line.denominator ≤ℤ pos (2 ^ 30)
+  pub constant : nat_abs line.constant ≤ 2 ^ 62
+  pub long : length line.numbers ≡ length entering.numbers
+  pub inside : column < length line.numbers
+  pub level : turned_number turn (number_at line.numbers column) (number_at entering.numbers column) ≡ pos 0
+  pub small : StaysSmall turn line entering
+  pub multiplier : pos 0 <ℤ turn.multiplier
+  pub multiplied : nat_abs turn.multiplier ∣ nat_abs line.denominator
+
+-- The second line is the first one with its numbers turned, all of it over a part; at the column stands the factor times
+-- the entering line's denominator, over the part.
+pub record IsTurnedOver (turn : Turn) (column : ℕ) (entering old new : Line) (part : ℤ) : Type 0 where
+  pub positive : pos 0 <ℤ part
+  pub denominator : (new.denominator *ℤ part) ≡ old.denominator
+  pub constant : (new.constant *ℤ part) ≡ old.constant
+  pub count : length new.numbers ≡ length old.numbers
+  pub others : (c : ℕ) → c < length old.numbers → c ≢ column →
+      (number_at new.numbers c *ℤ part) ≡ turned_number turn (number_at old.numbers c) (number_at entering.numbers c)
+  pub own : (number_at new.numbers column *ℤ part) ≡ (turn.factor *ℤ entering.denominator)
+
 -- the turn of a line at a pivot's column
 abbrev pub turn_at : Line → ℕ → Line → Turn
 turn_at entering column line = turn_by (number_at line.numbers column) (number_at entering.numbers column)

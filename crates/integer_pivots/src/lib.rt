@@ -9,6 +9,7 @@ mod leads;
 mod line;
 mod lowest;
 mod multiples;
+mod reciprocal;
 mod turn;
 mod uses;
 

@@ -6,9 +6,12 @@ ghost use Rattle.whole_numbers.specs.Lists.{number_at};
 ghost use Rattle.integer_pivots.specs.Lines.{IsLowered, IsReduced, IsReducible};
 ghost use Rattle.integer_pivots.specs.Numbers.{AllWithin};
 
-use crate::bounds::{ENTRY_LIMIT, greatest};
+use crate::bounds::greatest;
 use cost_base::Listed;
 use whole_numbers::greatest_common_divisor;
+
+/// A reach above this is looked up: 2^20.
+const LARGE_REACH: i64 = 1 << 20;
 
 /// A form at a basis in whole numbers over one denominator: its constant there, and its numbers at the columns.
 #[derive(Drop)]
@@ -150,19 +153,21 @@ impl Line {
         self.reach = greatest(self.numbers.as_slice());
     }
 
-    /// Brings a line into lowest terms, no number of which passes a size. Over 1 it is so as it stands, and its reach is that
-    /// size, unless that is too large.
-    pub(crate) fn lower(&mut self, most: i64)
-        requires line { IsReducible (2 ^ 30) self.old }
+    /// A size that no number of the line passes: this one, or where it is large, the greatest number's.
+    pub(crate) fn reach_by(&self, most: i64) -> i64
+        // No number passes the size, nor 2^30.
         requires from_zero { pos 0 ≤ℤ most }
-        requires most { AllWithin (nat_abs most) self.old.numbers }
-        ensures lowered { IsLowered self.old self.new }
-        ensures reach { nat_abs self.new.reach ≤ 2 ^ 30 }
+        requires most { AllWithin (nat_abs most) self.now.numbers }
+        requires sizes { AllWithin (2 ^ 30) self.now.numbers }
+
+        // Nor does one pass the result, which is at most 2^30.
+        ensures from_zero { pos 0 ≤ℤ result }
+        ensures small { nat_abs result ≤ 2 ^ 30 }
+        ensures within { AllWithin (nat_abs result) self.now.numbers }
     {
-        if self.denominator == 1 && most <= ENTRY_LIMIT {
-            self.reach = most;
-            return;
+        if most <= LARGE_REACH {
+            return most;
         }
-        self.reduce();
+        greatest(self.numbers.as_slice())
     }
 }

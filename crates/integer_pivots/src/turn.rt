@@ -1,14 +1,16 @@
 //! How a pivot turns one line.
 ghost use Rattle.std.specs.Prelude.{◌≡◌, ℕ, ◌^◌, ◌*◌, ◌+◌, ◌<◌, ◌≤◌, ◌↔◌, pos, ◌-ℤ◌, ◌*ℤ◌, ◌<ℤ◌, ◌≤ℤ◌, nat_abs, length, IsTrue, MatchOption, vec_capacity};
 ghost use Prim.Native.Nat.{◌∣◌};
-ghost use Rattle.whole_numbers.specs.Fractions.{lcm};
+ghost use Rattle.whole_numbers.specs.Fractions.{gcd, lcm};
 ghost use Rattle.whole_numbers.specs.Lists.{number_at};
 ghost use Rattle.integer_pivots.specs.Lines.{IsInLowestTerms, IsLine};
 ghost use Rattle.integer_pivots.specs.Numbers.{AllWithin};
-ghost use Rattle.integer_pivots.specs.Turns.{AreNonZeros, IsAtPivot, IsTurnedLine, MayLineTurn, StaysSmall, turn_at, turn_by, turned_number};
+ghost use Rattle.integer_pivots.specs.Reciprocals.{ArePutOver, IsReciprocal};
+ghost use Rattle.integer_pivots.specs.Turns.{AreNonZeros, IsAtPivot, IsTurnedLine, IsTurnedOver, IsTurning, MayLineTurn, StaysSmall, turn_at, turn_by, turned_number};
 
 use crate::bounds::{ENTRY_LIMIT, greater_size, greatest};
 use crate::line::{Line, common_with, over};
+use crate::reciprocal::Divisor;
 use cost_base::Listed;
 
 /// How a line turns: what it is multiplied by, and how many times the entering form's line is taken away then.
@@ -79,23 +81,6 @@ pub fn put_touched(touched: &mut Vec<usize>, line: &[i64])
     }
 }
 
-/// Multiplies all numbers.
-fn multiply(numbers: &mut Listed<i64>, multiplier: i64)
-    requires sizes { AllWithin (2 ^ 30) numbers.old }
-    requires multiplier { nat_abs multiplier ≤ 2 ^ 30 }
-    ensures count { length numbers.new ≡ length numbers.old }
-    ensures each { (c : ℕ) → c < length numbers.old → number_at numbers.new c ≡
-        (multiplier *ℤ number_at numbers.old c) }
-{
-    if multiplier == 1 {
-        return;
-    }
-    for column in 0..numbers.as_slice().len() {
-        let number = numbers.as_slice()[column];
-        numbers.set(column, multiplier * number);
-    }
-}
-
 /// Takes a multiple of a line's numbers away, at the columns in which it isn't 0.
 fn take_away(numbers: &mut Listed<i64>, factor: i64, line: &[i64], touched: &[usize])
     // Both lists have one length, and their numbers are so small that the differences fit 64 bits.
@@ -117,6 +102,50 @@ fn take_away(numbers: &mut Listed<i64>, factor: i64, line: &[i64], touched: &[us
         let number = numbers.as_slice()[column];
         numbers.set(column, number - factor * line[column]);
     }
+}
+
+/// Multiplies the first numbers, so many.
+fn multiply_first(numbers: &mut Listed<i64>, count: usize, multiplier: i64)
+    requires count { count ≤ length numbers.old }
+    requires sizes { (c : ℕ) → c < count →
+        nat_abs (number_at numbers.old c) * nat_abs multiplier ≤ 2 ^ 30 }
+    ensures long { length numbers.new ≡ length numbers.old }
+    ensures first { (c : ℕ) → c < count → number_at numbers.new c ≡
+        (multiplier *ℤ number_at numbers.old c) }
+    ensures others { (c : ℕ) → count ≤ c → number_at numbers.new c ≡ number_at numbers.old c }
+{
+    for column in 0..count {
+        let number = numbers.as_slice()[column];
+        numbers.set(column, multiplier * number);
+    }
+}
+
+/// Puts a number at a column, over what it has in common with the divisor over which the numbers before it stand. They
+/// stand over that common part then, too. Gives it.
+fn put_over_common(numbers: &mut Listed<i64>, column: usize, number: i64, part: Divisor) -> Divisor
+    // The number is small, and so are those before the column, each times the divisor.
+    requires part { IsReciprocal part }
+    requires column { column < length numbers.old }
+    requires number { nat_abs number ≤ 2 ^ 30 }
+    requires before { (c : ℕ) → c < column →
+        nat_abs (number_at numbers.old c) * nat_abs part.number ≤ 2 ^ 30 }
+
+    // The result is what the number and the divisor have in common.
+    ensures reciprocal { IsReciprocal result }
+    ensures common { result.number ≡ pos (gcd (nat_abs number) (nat_abs part.number)) }
+
+    // The number stands over it, and those before the column stand for the same as before.
+    ensures numbers { ArePutOver column number numbers.old part.number
+        numbers.new result.number }
+{
+    if part.divides(number) {
+        numbers.set(column, part.over(number));
+        return part;
+    }
+    let common = part.shared_with(number);
+    multiply_first(numbers, column, common.over(part.number));
+    numbers.set(column, common.over(number));
+    common
 }
 
 impl Turn {
@@ -152,6 +181,49 @@ impl Turn {
     {
         let numbers = (self.multiplier * most).abs() + (self.factor * entering).abs();
         greater_size(numbers, self.factor * denominator)
+    }
+
+    /// A small number that has turned, by the entering line's number there.
+    fn turned_small(self, number: i64, entering: i64) -> i64
+        requires { nat_abs self.multiplier * nat_abs number + nat_abs self.factor *
+            nat_abs entering ≤ 2 ^ 30 }
+        ensures turned { result ≡ turned_number self number entering }
+        ensures size { nat_abs result ≤ 2 ^ 30 }
+    {
+        self.multiplier * number - self.factor * entering
+    }
+
+    /// Turns numbers by those of the entering line, each over what it has in common with all of them and with a divisor.
+    /// Gives that common part.
+    fn turn_over(self, numbers: &mut Listed<i64>, entering: &[i64], part: Divisor) -> Divisor
+        // Both lists have one length, and their numbers stay small in the turn.
+        requires long { length numbers.old ≡ length entering.now }
+        requires part { IsReciprocal part }
+        requires small { (c : ℕ) → c < length numbers.old →
+            nat_abs self.multiplier * nat_abs (number_at numbers.old c) +
+            nat_abs self.factor * nat_abs (number_at entering.now c) ≤ 2 ^ 30 }
+
+        // Each number has turned, and stands over the result.
+        ensures count { length numbers.new ≡ length numbers.old }
+        ensures each { (c : ℕ) → c < length numbers.old →
+            (number_at numbers.new c *ℤ result.number) ≡
+            turned_number self (number_at numbers.old c) (number_at entering.now c) }
+
+        // The result goes into the divisor, and whatever goes into that and all turned numbers
+        // goes into it.
+        ensures reciprocal { IsReciprocal result }
+        ensures divides { nat_abs result.number ∣ nat_abs part.number }
+        ensures greatest { (d : ℕ) → d ∣ nat_abs part.number →
+            ((c : ℕ) → c < length numbers.old → d ∣ nat_abs
+            (turned_number self (number_at numbers.old c) (number_at entering.now c))) →
+            d ∣ nat_abs result.number }
+    {
+        let mut part = part;
+        for column in 0..entering.len() {
+            let number = self.turned_small(numbers.as_slice()[column], entering[column]);
+            part = put_over_common(numbers, column, number, part);
+        }
+        part
     }
 
     /// A number that has turned, by the entering line's number there.
@@ -218,14 +290,42 @@ impl Line {
         let most = turn.most_after(self.reach, entering.reach, entering.denominator);
         self.constant = self.constant_after(turn, entering) as i64;
         self.denominator *= turn.multiplier;
-        multiply(&mut self.numbers, turn.multiplier);
-        take_away(
-            &mut self.numbers,
-            turn.factor,
-            entering.numbers.as_slice(),
-            touched,
-        );
-        self.numbers.set(column, turn.factor * entering.denominator);
-        self.lower(most);
+        let part = self.turn_numbers(entering, column, touched, turn);
+        self.reach = self.reach_by(most / part);
+    }
+
+    /// Turns the numbers of a line whose denominator and constant have turned, and brings it into lowest terms. Gives what
+    /// went out. Over 1 nothing does, and the numbers in the touched columns alone change.
+    fn turn_numbers(&mut self, entering: &Line, column: usize, touched: &[usize], turn: Turn) -> i64
+        requires turning { IsTurning turn column entering.now self.old }
+        requires touched { AreNonZeros entering.now.numbers (length entering.now.numbers)
+            touched.now }
+        ensures turned { IsTurnedOver turn column entering.now self.old self.new result }
+        ensures lowest { IsInLowestTerms self.new }
+    {
+        if self.denominator == 1 {
+            let line = entering.numbers.as_slice();
+            take_away(&mut self.numbers, turn.factor, line, touched);
+            self.numbers.set(column, turn.factor * entering.denominator);
+            return 1;
+        }
+        self.turn_and_lower(entering, column, turn)
+    }
+
+    /// Turns the numbers of a line whose denominator and constant have turned, in one walk over all of them, and brings it
+    /// into lowest terms. Gives what went out.
+    fn turn_and_lower(&mut self, entering: &Line, column: usize, turn: Turn) -> i64
+        requires turning { IsTurning turn column entering.now self.old }
+        ensures turned { IsTurnedOver turn column entering.now self.old self.new result }
+        ensures lowest { IsInLowestTerms self.new }
+    {
+        let own = turn.factor * entering.denominator;
+        let common = common_with(self.constant, self.denominator);
+        let part = Divisor::new(common).shared_with(own);
+        let part = turn.turn_over(&mut self.numbers, entering.numbers.as_slice(), part);
+        self.denominator = part.over(self.denominator);
+        self.constant = part.over(self.constant);
+        self.numbers.set(column, part.over(own));
+        part.number
     }
 }

@@ -1,0 +1,6 @@
+-- The numbers before the counter have turned, over what they have in common with the divisor.
+use Rattle.integer_pivots.proofs.TurnedOver.{AreTurnedFirst}
+use Rattle.integer_pivots.proofs.turn.Turn.turn_over.Given as goal
+
+abbrev pub invariant-loop-column : goal.invariant-loop-column
+invariant-loop-column l = AreTurnedFirst l.self l.fn.numbers l.entering l.fn.part l.column l.numbers l.part
