@@ -1,8 +1,9 @@
 //! One cap decided.
 ghost use Rattle.std.specs.Prelude.{◌≤◌, length, All, IfOk, OnOk};
-ghost use Rattle.design_problem.specs.Boxes.{IsBox};
-ghost use Rattle.design_problem.specs.Rows.{LeadsEach};
-ghost use Rattle.form_search.specs.Advised.{AreCalled};
+ghost use Rattle.design_problem.specs.Boxes.{IsBox, capped};
+ghost use Rattle.design_problem.specs.Earnest.{IsLeastPoint};
+ghost use Rattle.design_problem.specs.Rows.{LeadsEach, box_of};
+ghost use Rattle.form_search.specs.Advised.{AreAdvised, AreCalled};
 ghost use Rattle.form_search.specs.Finds.{IsSearchResult};
 ghost use Rattle.cost_branching.specs.Pools.{IsRowPool, MoreRows};
 ghost use Rattle.cost_branching.specs.Decisions.{IsDecided};
@@ -41,9 +42,10 @@ fn search_rivals<B: Begun>(
     ensures pool { OnOk result (IsRowPool problem.now pool.new) }
     ensures grows { GrowsByRows problem.now pool.old pool.new }
 
-    // The advisors are asked and told as in a search, and one that picks out of range is gone.
-    ensures advisors { AreCalled ⟦<dyn Advisor as Advisor>⟧ (λ b. b.vtable) (λ b. state b)
-        advisors.old.items advisors.new.items }
+    // The advisors are asked before each Split and told each entry, along the tree that grows.
+    ensures advisors { AreAdvised ⟦<dyn Advisor as Advisor>⟧ (λ b. b.vtable) (λ b. state b)
+        (IsLeastPoint (LeadsEach problem.now)) costs.now result advisors.old.items
+        advisors.new.items }
 {
     keeps_conditions(problem);
     let alloc = pool.alloc();
@@ -82,9 +84,10 @@ pub fn decide_within(
     ensures pool { IsRowPool problem.now pool.new }
     ensures more { MoreRows pool.old pool.new }
 
-    // The advisors are asked and told as in a search, and one that picks out of range is gone.
-    ensures advisors { AreCalled ⟦<dyn Advisor as Advisor>⟧ (λ b. b.vtable) (λ b. state b)
-        advisors.old.items advisors.new.items }
+    // The advisors are asked before each Split and told each entry, along the tree that grows.
+    ensures advisors { AreAdvised ⟦<dyn Advisor as Advisor>⟧ (λ b. b.vtable) (λ b. state b)
+        (IsLeastPoint (LeadsEach problem.now)) costs.now result advisors.old.items
+        advisors.new.items }
 {
     keeps_conditions(problem);
     let begun = pool.rows().len();
@@ -123,7 +126,10 @@ pub fn decide(
     ensures pool { IsRowPool problem.now pool.new }
     ensures more { MoreRows pool.old pool.new }
 
-    // The advisors are asked and told as in a search, and one that picks out of range is gone.
+    // The advisors are asked before each Split and told each entry, along the tree that grows over the box at the cap.
+    ensures asked { AreAdvised ⟦<dyn Advisor as Advisor>⟧ (λ b. b.vtable) (λ b. state b)
+        (IsLeastPoint (LeadsEach problem.now)) (capped (box_of problem.now) cap) result
+        advisors.old.items advisors.new.items }
     ensures advisors { AreCalled ⟦<dyn Advisor as Advisor>⟧ (λ b. b.vtable) (λ b. state b)
         advisors.old.items advisors.new.items }
 {

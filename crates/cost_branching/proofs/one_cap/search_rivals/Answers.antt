@@ -1,14 +1,16 @@
-use Rattle.std.proofs.Common.{refl, ◌∙◌, sym, subst, rules}
+use Rattle.std.proofs.Common.{◌∙◌, sym, subst, rules}
 use Rattle.std.specs.Prelude.{All}
-use Rattle.std.proofs.lemmas.Result.{IfOk-weaker}
-use Rattle.form_search.proofs.AdvisorLaws.{left_advised, left_alike}
+use Rattle.std.proofs.lemmas.Result.{IfOk-weaker, err_from_is_err_and}
+use Rattle.form_search.proofs.AdvisorLaws.{calls_begun, start}
 use Rattle.cost_branching.specs.Pools.{IsRowPool, Pooled}
 use Rattle.cost_branching.specs.Rivals.{IsTrueRowForm, KnownRows}
 use Rattle.cost_branching.proofs.Caps.{pool_as, pool_true}
 use Rattle.cost_branching.proofs.one_cap.search_rivals.Goals as goal
 
 pub returns-in_err-asker-clause-advisors : goal.returns-in_err-asker-clause-advisors
-returns-in_err-asker-clause-advisors g c = left_alike _ _ _ refl
+returns-in_err-asker-clause-advisors g c =
+    let p = err_from_is_err_and c.from_residual.result c.from_residual.ensures.1 in
+    rw (p.1, p.2) (record { tree = start c.args.costs.now; is_tree = tt; calls = calls_begun _ _ _ _ _ })
 
 pub search-found-requires-clause-in_step : goal.search-found-requires-clause-in_step
 search-found-requires-clause-in_step g c =
@@ -30,9 +32,3 @@ returns-clause-pool g c =
     (λ found in_step. pool_as c.args.problem.now source.problem source.rows c.into_rows.result.items forms
     (c.into_rows.ensures.problem ∙ sym c.requires.begun.problem) c.into_rows.ensures.rows in_step)
     c.search-found.ensures.left.lists
-
-pub returns-clause-advisors : goal.returns-clause-advisors
-returns-clause-advisors g c =
-    let called = c.search-found.ensures.advisors in
-    left_advised _ _ (λ b. (goal.Advisor-dyn g (b.vtable, b.value)).would) (λ b. (goal.Advisor-dyn g (b.vtable, b.value)).left)
-    (λ b. (goal.Advisor-dyn g (b.vtable, b.value)).after) _ _ called.tree _ _ called.calls (λ b point least. least.inside)
