@@ -1,3 +1,4 @@
 pub mod NewForms
 pub mod Asked
 pub mod Caps
+pub mod Advising

@@ -1,5 +1,6 @@
 pub mod Pools
 pub mod Decisions
+pub mod Advising
 pub mod Candidates
 pub mod Rivals
 pub mod Asking

@@ -1,7 +1,9 @@
 use Rattle.std.proofs.Common.{◌∙◌, sym, subst, rules}
 use Rattle.std.specs.Prelude.{All}
 use Rattle.std.proofs.lemmas.Result.{IfOk-weaker, err_from_is_err_and}
-use Rattle.form_search.proofs.AdvisorLaws.{calls_begun, start}
+use Rattle.design_problem.specs.Earnest.{IsLeastPoint}
+use Rattle.design_problem.specs.Rows.{LeadsEach}
+use Rattle.form_search.proofs.AdvisorLaws.{calls_begun, calls_there, start}
 use Rattle.cost_branching.specs.Pools.{IsRowPool, Pooled}
 use Rattle.cost_branching.specs.Rivals.{IsTrueRowForm, KnownRows}
 use Rattle.cost_branching.proofs.Caps.{pool_as, pool_true}
@@ -32,3 +34,15 @@ returns-clause-pool g c =
     (λ found in_step. pool_as c.args.problem.now source.problem source.rows c.into_rows.result.items forms
     (c.into_rows.ensures.problem ∙ sym c.requires.begun.problem) c.into_rows.ensures.rows in_step)
     c.search-found.ensures.left.lists
+
+pub returns-clause-advisors : goal.returns-clause-advisors
+returns-clause-advisors g c =
+    let called = c.search-found.ensures.advisors in
+    record {
+      tree = called.tree;
+      is_tree = called.is_tree;
+      calls =
+          calls_there _ (IsLeastPoint (LeadsEach c.args.problem.now)) _ _ _ called.tree _ _
+          (λ b point least. subst (λ (s : KnownRows). IsLeastPoint (LeadsEach s.problem) b point) c.new-source.ensures least)
+          called.calls;
+    }
