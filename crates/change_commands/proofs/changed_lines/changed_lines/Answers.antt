@@ -17,8 +17,8 @@ loop-i-preserved c =
     let w = c.args.costs.now in
     let i = c.loop-i.i in
     let link = c.link-item.result in
-    let within : i < length d.links = omega (arith, c.loop-i-test.true, ap length c.links_of-link-items.ensures.value) in
-    let is = c.link-item.is ∙ ap (λ (links : List Linked). get_or links i link) c.links_of-link-items.ensures.value in
+    let within : i < length d.links = omega (arith, c.loop-i-test.true, ap length c.links-link-items.ensures.value) in
+    let is = c.link-item.is ∙ ap (λ (links : List Linked). get_or links i link) c.links-link-items.ensures.value in
     changed_step a d w i link link c.price_of_link.result c.changed_cost-cost.result c.loop-i.lines.items c.push_changed.new.lines.items within is
     (c.price_of_link.ensures ∙ ap (λ (g : Area). (edge_at g i).price) (c.graph_of-graph.ensures ∙ ap (λ (p : DesignProblem). p.graph) c.requires)
     ∙ price_of_link a d i link (slice_get-get_or d.links i link within ∙ ap Some (sym is)))

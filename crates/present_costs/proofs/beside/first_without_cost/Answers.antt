@@ -12,8 +12,8 @@ returns-then-lacks_present c =
     let d = c.args.lsdb.now in
     let i = c.loop-i.i in
     let link = c.link-item.result in
-    sym (missing_here a i d.links i link (omega (arith, c.loop-i-test.true, ap length c.links_of-link-items.ensures.value))
-    (c.link-item.is ∙ ap (λ (links : List Linked). get_or links i link) c.links_of-link-items.ensures.value)
+    sym (missing_here a i d.links i link (omega (arith, c.loop-i-test.true, ap length c.links-link-items.ensures.value))
+    (c.link-item.is ∙ ap (λ (links : List Linked). get_or links i link) c.links-link-items.ensures.value)
     (sym c.lacks_present.ensures ∙ c.if-lacks_present.true))
     ∙ ap first_of (c.loop-i.invariant ∙ sym (missing_are a d 0 d.links))
 
@@ -23,5 +23,5 @@ returns c =
     let d = c.args.lsdb.now in
     let i = c.loop-i.i in
     ap (λ (links : List Linked). first_of (missing_from a i links))
-    (sym (drop_all i d.links (omega (arith, c.loop-i-test.false, ap length c.links_of-link-items.ensures.value))))
+    (sym (drop_all i d.links (omega (arith, c.loop-i-test.false, ap length c.links-link-items.ensures.value))))
     ∙ ap first_of (c.loop-i.invariant ∙ sym (missing_are a d 0 d.links))

@@ -11,9 +11,9 @@ use Rattle.present_costs.proofs.links.priced_by_links.Goals as goal
 pub graph_of-requires-clause-one_each : goal.graph_of-requires-clause-one_each
 graph_of-requires-clause-one_each c =
     ap length (c.as_slice.ensures.value ∙ c.in_ok-prices.ensures)
-    ∙ length-map-numbers_from Var 0 (length c.links_of.result.now) ∙ ap length c.links_of.ensures.value
+    ∙ length-map-numbers_from Var 0 (length c.links.result.now) ∙ ap length c.links.ensures.value
 
 pub graph_of-requires-clause-priced : goal.graph_of-requires-clause-priced
 graph_of-requires-clause-priced c =
     subst (λ (prices : List Price). All IsLinkPrice prices) (sym (c.as_slice.ensures.value ∙ c.in_ok-prices.ensures))
-    (All-map IsLinkPrice Var (numbers_from 0 (length c.links_of.result.now)) (λ k d below. tt))
+    (All-map IsLinkPrice Var (numbers_from 0 (length c.links.result.now)) (λ k d below. tt))

@@ -17,8 +17,8 @@ loop-i-preserved c =
     let d = c.args.lsdb.now in
     let i = c.loop-i.i in
     let link = c.link-item.result in
-    let within : i < length d.links = omega (arith, c.loop-i-test.true, ap length c.links_of-link-items.ensures.value) in
-    let is = c.link-item.is ∙ ap (λ (links : List Linked). get_or links i link) c.links_of-link-items.ensures.value in
+    let within : i < length d.links = omega (arith, c.loop-i-test.true, ap length c.links-link-items.ensures.value) in
+    let is = c.link-item.is ∙ ap (λ (links : List Linked). get_or links i link) c.links-link-items.ensures.value in
     noted_step a d c.args.count i link c.price_of_link.result c.present_cost.result c.loop-i.noted.items c.note.new.noted.items within
     is
     (c.price_of_link.ensures ∙ ap (λ (g : Area). (edge_at g i).price) c.requires
