@@ -1,7 +1,7 @@
 -- Each cap brings the ends nearer; what is known stays true, and the advisors stand as their calls left them.
 use Rattle.std.proofs.Common.{◌≤◌, refl, arith}
 use Rattle.design_problem.specs.Rows.{greatest_cost}
-use Rattle.form_search.proofs.AdvisorLaws.{left_alike, left_then}
+use Rattle.form_search.proofs.AdvisorLaws.{left_alike, left_searched, left_then}
 use Rattle.printed_rows.proofs.CapBoxes.{no_low_above}
 use Rattle.least_bound.proofs.least_cap.narrowed.Goals as goal
 
@@ -15,7 +15,16 @@ decide-requires-clause-cap g c =
     no_low_above c.args.problem.now.low c.in-Some.cap above
 
 pub returns-in_err-found-clause-advisors : goal.returns-in_err-found-clause-advisors
-returns-in_err-found-clause-advisors g c = left_then _ _ _ _ c.loop-cap.invariant.advisors c.decide.ensures.advisors
+returns-in_err-found-clause-advisors g c =
+    let asked = c.decide.ensures.asked in
+    left_then _ _ _ _ c.loop-cap.invariant.advisors (left_searched _ _ _ (c.in-Some.cap, record {
+      result = c.decide.result;
+      pool = c.decide.new.pool;
+      decided = c.decide.ensures.decided;
+      tree = asked.tree;
+      is_tree = asked.is_tree;
+      calls = asked.calls;
+    }))
 
 pub loop-cap-smaller : goal.loop-cap-smaller
 loop-cap-smaller g c =
@@ -31,5 +40,13 @@ loop-cap-preserved g c = record {
       c.decide.new.pool c.keeps_conditions.ensures.problem c.decide.ensures.pool c.decide.ensures.more
       c.loop-cap.invariant.progress
       c.in_ok-found.ensures.decided;
-  advisors = left_then _ _ _ _ c.loop-cap.invariant.advisors c.decide.ensures.advisors;
+  advisors =
+      left_then _ _ _ _ c.loop-cap.invariant.advisors (left_searched _ _ _ (c.in-Some.cap, record {
+        result = c.decide.result;
+        pool = c.decide.new.pool;
+        decided = c.decide.ensures.decided;
+        tree = c.decide.ensures.asked.tree;
+        is_tree = c.decide.ensures.asked.is_tree;
+        calls = c.decide.ensures.asked.calls;
+      }));
 }

@@ -1,5 +1,6 @@
 use Rattle.std.proofs.Common.{◌≡◌, ◌-◌}
-use Rattle.form_search.specs.Advised.{AreAdvisorsLeft, IsSearched}
+use Rattle.form_search.specs.Advised.{AreAdvisorsLeft}
+use Rattle.cost_branching.specs.Advising.{IsAskedAtSome}
 use Rattle.cost_branching.specs.Pools.{IsRowPool}
 use Rattle.least_bound.specs.Caps.{IsProgress}
 use Rattle.least_bound.proofs.least_cap.narrowed.Given as goal
@@ -10,9 +11,9 @@ invariant-loop-cap g l = record {
   pool : IsRowPool l.problem l.pool;
   progress : IsProgress l.problem l.limits.top l.limits.nodes l.pool l.progress;
   advisors : AreAdvisorsLeft
-      (IsSearched (λ b c. c.vtable ≡ b.vtable) (λ b. (goal.Advisor-dyn g (b.vtable, b.value)).state b.value)
+      (IsAskedAtSome (λ b c. c.vtable ≡ b.vtable) (λ b. (goal.Advisor-dyn g (b.vtable, b.value)).state b.value)
       (λ b. (goal.Advisor-dyn g (b.vtable, b.value)).would) (λ b. (goal.Advisor-dyn g (b.vtable, b.value)).left)
-      (λ b. (goal.Advisor-dyn g (b.vtable, b.value)).after))
+      (λ b. (goal.Advisor-dyn g (b.vtable, b.value)).after) l.problem l.limits.top l.limits.nodes)
       l.initial.advisors.items l.advisors.items;
 }
 
