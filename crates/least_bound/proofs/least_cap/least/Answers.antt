@@ -78,14 +78,18 @@ returns-in_err-tree-clause-asked g c =
     let ceiling_is : c.greatest_of-ceiling.result ≡ greatest_bound p = c.greatest_of-ceiling.ensures
     ∙ ap greatest_cost (c.as_slice.ensures ∙ ap (λ (q : DesignProblem). q.high) c.problem.view_is) in
     let asked = c.decide.ensures.asked in
-    rw (sym ceiling_is) (c.decide.new.advisors.items, record {
-      result = c.decide.result;
-      pool = c.decide.new.pool;
-      decided = c.decide.ensures.decided;
-      tree = asked.tree;
-      is_tree = asked.is_tree;
-      calls = asked.calls;
-    }, left_alike _ _ _ refl)
+    rw (sym ceiling_is) (
+      c.decide.new.advisors.items,
+      record {
+        result = c.decide.result;
+        pool = c.decide.new.pool;
+        decided = c.decide.ensures.decided;
+        tree = asked.tree;
+        is_tree = asked.is_tree;
+        calls = asked.calls;
+      },
+      left_alike _ _ _ refl,
+    )
 
 pub returns-in-Refuted-clause-asked : goal.returns-in-Refuted-clause-asked
 returns-in-Refuted-clause-asked g c =
@@ -93,14 +97,18 @@ returns-in-Refuted-clause-asked g c =
     let ceiling_is : c.greatest_of-ceiling.result ≡ greatest_bound p = c.greatest_of-ceiling.ensures
     ∙ ap greatest_cost (c.as_slice.ensures ∙ ap (λ (q : DesignProblem). q.high) c.problem.view_is) in
     let asked = c.decide.ensures.asked in
-    rw (sym ceiling_is) (c.decide.new.advisors.items, record {
-      result = c.decide.result;
-      pool = c.decide.new.pool;
-      decided = c.decide.ensures.decided;
-      tree = asked.tree;
-      is_tree = asked.is_tree;
-      calls = asked.calls;
-    }, left_alike _ _ _ refl)
+    rw (sym ceiling_is) (
+      c.decide.new.advisors.items,
+      record {
+        result = c.decide.result;
+        pool = c.decide.new.pool;
+        decided = c.decide.ensures.decided;
+        tree = asked.tree;
+        is_tree = asked.is_tree;
+        calls = asked.calls;
+      },
+      left_alike _ _ _ refl,
+    )
 
 pub returns-in-Costs-clause-asked : goal.returns-in-Costs-clause-asked
 returns-in-Costs-clause-asked g c =
@@ -108,14 +116,18 @@ returns-in-Costs-clause-asked g c =
     let ceiling_is : c.greatest_of-ceiling.result ≡ greatest_bound p = c.greatest_of-ceiling.ensures
     ∙ ap greatest_cost (c.as_slice.ensures ∙ ap (λ (q : DesignProblem). q.high) c.problem.view_is) in
     let asked = c.decide.ensures.asked in
-    rw (sym ceiling_is) (c.decide.new.advisors.items, record {
-      result = c.decide.result;
-      pool = c.decide.new.pool;
-      decided = c.decide.ensures.decided;
-      tree = asked.tree;
-      is_tree = asked.is_tree;
-      calls = asked.calls;
-    }, c.narrowed.ensures.advisors)
+    rw (sym ceiling_is) (
+      c.decide.new.advisors.items,
+      record {
+        result = c.decide.result;
+        pool = c.decide.new.pool;
+        decided = c.decide.ensures.decided;
+        tree = asked.tree;
+        is_tree = asked.is_tree;
+        calls = asked.calls;
+      },
+      c.narrowed.ensures.advisors,
+    )
 
 pub returns-in-Undecided-clause-asked : goal.returns-in-Undecided-clause-asked
 returns-in-Undecided-clause-asked g c =
@@ -123,11 +135,15 @@ returns-in-Undecided-clause-asked g c =
     let ceiling_is : c.greatest_of-ceiling.result ≡ greatest_bound p = c.greatest_of-ceiling.ensures
     ∙ ap greatest_cost (c.as_slice.ensures ∙ ap (λ (q : DesignProblem). q.high) c.problem.view_is) in
     let asked = c.decide.ensures.asked in
-    rw (sym ceiling_is) (c.decide.new.advisors.items, record {
-      result = c.decide.result;
-      pool = c.decide.new.pool;
-      decided = c.decide.ensures.decided;
-      tree = asked.tree;
-      is_tree = asked.is_tree;
-      calls = asked.calls;
-    }, c.narrowed-in-Undecided.ensures.advisors)
+    rw (sym ceiling_is) (
+      c.decide.new.advisors.items,
+      record {
+        result = c.decide.result;
+        pool = c.decide.new.pool;
+        decided = c.decide.ensures.decided;
+        tree = asked.tree;
+        is_tree = asked.is_tree;
+        calls = asked.calls;
+      },
+      c.narrowed-in-Undecided.ensures.advisors,
+    )

@@ -17,14 +17,17 @@ decide-requires-clause-cap g c =
 pub returns-in_err-found-clause-advisors : goal.returns-in_err-found-clause-advisors
 returns-in_err-found-clause-advisors g c =
     let asked = c.decide.ensures.asked in
-    left_then _ _ _ _ c.loop-cap.invariant.advisors (left_searched _ _ _ (c.in-Some.cap, record {
-      result = c.decide.result;
-      pool = c.decide.new.pool;
-      decided = c.decide.ensures.decided;
-      tree = asked.tree;
-      is_tree = asked.is_tree;
-      calls = asked.calls;
-    }))
+    left_then _ _ _ _ c.loop-cap.invariant.advisors (left_searched _ _ _ (
+      c.in-Some.cap,
+      record {
+        result = c.decide.result;
+        pool = c.decide.new.pool;
+        decided = c.decide.ensures.decided;
+        tree = asked.tree;
+        is_tree = asked.is_tree;
+        calls = asked.calls;
+      },
+    ))
 
 pub loop-cap-smaller : goal.loop-cap-smaller
 loop-cap-smaller g c =
@@ -41,12 +44,15 @@ loop-cap-preserved g c = record {
       c.loop-cap.invariant.progress
       c.in_ok-found.ensures.decided;
   advisors =
-      left_then _ _ _ _ c.loop-cap.invariant.advisors (left_searched _ _ _ (c.in-Some.cap, record {
-        result = c.decide.result;
-        pool = c.decide.new.pool;
-        decided = c.decide.ensures.decided;
-        tree = c.decide.ensures.asked.tree;
-        is_tree = c.decide.ensures.asked.is_tree;
-        calls = c.decide.ensures.asked.calls;
-      }));
+      left_then _ _ _ _ c.loop-cap.invariant.advisors (left_searched _ _ _ (
+        c.in-Some.cap,
+        record {
+          result = c.decide.result;
+          pool = c.decide.new.pool;
+          decided = c.decide.ensures.decided;
+          tree = c.decide.ensures.asked.tree;
+          is_tree = c.decide.ensures.asked.is_tree;
+          calls = c.decide.ensures.asked.calls;
+        },
+      ));
 }
