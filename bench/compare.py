@@ -2,14 +2,14 @@
 """Runs `ospfcost` and row generation by CBC and by GLPK on the same cases, one after the other.
 
     compare.py [--program PATH] [--question design|total|change|conflict] [--cases small|whole|large] [--limit SECONDS]
-               [--plot FILE] [--case FOLDER ..]
+               [--plot FILE] [--solver cbc|glpk ..] [--case FOLDER ..]
 
 Prints a table: for each case what was found (the greatest cost; with `total` the least sum of costs of that greatest
 cost; with `change` the fewest changed variables), the user seconds of each, and how many times as long as `ospfcost`
 the solver took. What was found is compared; where two differ, the script says so and ends with status 1. A run that
 passes the limit counts as `over`, and a table's ratio is then a lower bound. `conflict` has the times of `design` in
-the solvers' place. With --plot it also writes an SVG of how the times grow (it wants gnuplot). With --case it runs over
-folders that are there, such as examples/backbone.
+the solvers' place. --solver names those that are to run; else both do. With --plot it also writes an SVG of how the times
+grow (it wants gnuplot). With --case it runs over folders that are there, such as examples/backbone.
 """
 import argparse
 import datetime
@@ -51,7 +51,7 @@ def cases(kind, question):
         return [(*case, 0, 5 if question == 'change' else None) for case in found]
     grown = [(20, 20), (30, 30), (50, 50), (75, 75), (100, 100)]
     if kind == 'whole':
-        grown += [(150, 100), (200, 100)]
+        grown += [(150, 100), (200, 100), (250, 100)]
     if question == 'change':
         return [('random', routers, paths, seed, 0, 10) for routers, paths in grown for seed in (1, 2)]
     found = [('random', routers, paths, seed, 0, None) for routers, paths in grown for seed in (1, 2)]
@@ -116,17 +116,17 @@ def least_time(run):
     return best
 
 
-def rivals_of(question):
+def rivals_of(question, solvers):
     """What runs beside a question."""
-    return ['design'] if question == 'conflict' else list(SOLVERS)
+    return ['design'] if question == 'conflict' else list(solvers)
 
 
-def measure(question, program, request, configurations, limit):
+def measure(question, program, request, configurations, limit, others):
     """The runs of one case, by name."""
     problem = read_problem(request, configurations)
     with tempfile.TemporaryDirectory() as folder:
         runs = {'ospfcost': least_time(lambda: run_design(question, program, request, configurations, limit, folder))}
-        for other in rivals_of(question):
+        for other in others:
             if other == 'design':
                 runs[other] = least_time(lambda: run_design(other, program, request, configurations, limit, folder))
             else:
@@ -153,13 +153,14 @@ def ratio(run, base):
     return '%s%.*f' % ('> ' if is_bound else '', 0 if times >= 10 else 1, times)
 
 
-def line_of(question, label, problem, runs):
+def line_of(label, problem, runs):
     """A line of the table."""
     ours = runs['ospfcost']
     cells = [label, str(len(problem.routers)), str(len(problem.low)), str(len(problem.requests)), ours.found,
              seconds_of(ours)]
-    for other in rivals_of(question):
-        cells += [seconds_of(runs[other]), ratio(runs[other], ours)]
+    for other in runs:
+        if other != 'ospfcost':
+            cells += [seconds_of(runs[other]), ratio(runs[other], ours)]
     return '| ' + ' | '.join(cells) + ' |'
 
 
@@ -185,7 +186,7 @@ def plot(path, measured):
     for points, title, axis in ((by_routers, 'as many paths as routers, at most 100', 'routers'),
                                 (by_paths, '100 routers', 'paths')):
         points.sort(key=lambda point: point[0])
-        names = ['ospfcost', *SOLVERS]
+        names = list(points[0][1]) if points else []
         text += ["set title '%s'" % title, "set xlabel '%s'" % axis, 'plot '
                  + ', '.join("'-' with linespoints linewidth 2 title '%s'" % name for name in names)]
         for name in names:
@@ -202,10 +203,11 @@ def main():
     words.add_argument('--cases', choices=('small', 'whole', 'large'), default='small')
     words.add_argument('--limit', type=float, default=60.0)
     words.add_argument('--plot')
+    words.add_argument('--solver', nargs='+', choices=tuple(SOLVERS))
     words.add_argument('--case', nargs='+', default=[])
     asked = words.parse_args()
     print(machine(), flush=True)
-    others = rivals_of(asked.question)
+    others = rivals_of(asked.question, asked.solver or SOLVERS)
     names = ' | '.join('%s s | times' % other for other in others)
     found = {'design': 'greatest cost', 'total': 'least sum', 'change': 'changes', 'conflict': 'found'}[asked.question]
     print('\n| network | routers | variables | paths | %s | %s s | %s |'
@@ -223,8 +225,8 @@ def main():
                 label = os.path.basename(given.rstrip('/'))
                 request = os.path.join(given, 'request.txt')
                 configurations = sorted(map(str, pathlib.Path(given).glob('*.conf')))
-            problem, runs = measure(asked.question, asked.program, request, configurations, asked.limit)
-            print(line_of(asked.question, label, problem, runs), flush=True)
+            problem, runs = measure(asked.question, asked.program, request, configurations, asked.limit, others)
+            print(line_of(label, problem, runs), flush=True)
             for other in others:
                 print('%s, %s: %s' % (label, other, runs[other].note), file=sys.stderr)
             if asked.question != 'conflict' and not agree(runs):
