@@ -8,6 +8,9 @@ pub mod ColumnLeads
 pub mod TouchedColumns
 pub mod Quotients
 pub mod LineLaws
+pub mod LineReads
+pub mod ShareLaws
+pub mod UnitLines
 pub mod Reciprocals
 pub mod TurnedOver
 pub mod TurnLaws

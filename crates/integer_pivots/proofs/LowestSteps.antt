@@ -20,7 +20,7 @@ use Rattle.integer_pivots.specs.declared.lowest.Lowest.{Lowest}
 use Rattle.integer_pivots.specs.declared.turn.Turn.{Turn}
 use Rattle.integer_pivots.specs.Lines.{IsLine}
 use Rattle.integer_pivots.specs.Numbers.{AllWithin}
-use Rattle.integer_pivots.specs.Turns.{AreSmallAfter, IsAtPivot, IsLowestAfter, IsPartAfter, IsTurnedLine, number_after, turn_at, turned_number}
+use Rattle.integer_pivots.specs.Turns.{AreSmallAfter, IsAtPivot, IsLowestAfter, IsPartAfter, IsTurnedLine, turned_entry, turn_at, turned_number}
 use Rattle.integer_pivots.proofs.Quotients.{divided_is, quotient_times}
 use Rattle.integer_pivots.proofs.Sizes.{difference_small, number_within, positive_size, product_read, product_small, read, read_known, read_number, size_of}
 use Rattle.integer_pivots.proofs.TurnLaws.{turn_positive, turn_small, wide, wide_number}
@@ -29,20 +29,20 @@ use Rattle.integer_pivots.proofs.WrittenPlaces.{AreWritten, all_more}
 
 -- a line's number at the pivot's column, and at the others
 pub after_own : (turn : Turn) (pivots : ℕ) (entering line : Line) (c : ℕ) → c ≡ pivots →
-    number_after turn pivots entering line c ≡ (turn.factor *ℤ entering.denominator)
+    turned_entry turn pivots entering line c ≡ (turn.factor *ℤ entering.denominator)
 after_own turn pivots entering line c same =
     ap (λ (t : Bool). if t then turn.factor *ℤ entering.denominator else turned_number turn (number_at line.numbers c) (number_at entering.numbers c))
     (eq-eqb c pivots same)
 
 pub after_other : (turn : Turn) (pivots : ℕ) (entering line : Line) (c : ℕ) → c ≢ pivots →
-    number_after turn pivots entering line c ≡ turned_number turn (number_at line.numbers c) (number_at entering.numbers c)
+    turned_entry turn pivots entering line c ≡ turned_number turn (number_at line.numbers c) (number_at entering.numbers c)
 after_other turn pivots entering line c apart =
     ap (λ (t : Bool). if t then turn.factor *ℤ entering.denominator else turned_number turn (number_at line.numbers c) (number_at entering.numbers c))
     (ne_eqb c pivots apart)
 
 -- it depends on the line's number there alone
 pub after_same : (turn : Turn) (pivots : ℕ) (entering line other : Line) (c : ℕ) → number_at line.numbers c ≡ number_at other.numbers c →
-    number_after turn pivots entering line c ≡ number_after turn pivots entering other c
+    turned_entry turn pivots entering line c ≡ turned_entry turn pivots entering other c
 after_same turn pivots entering line other c same =
     ap (λ (z : ℤ). if c == pivots then turn.factor *ℤ entering.denominator else turned_number turn z (number_at entering.numbers c)) same
 
@@ -103,10 +103,10 @@ pub record IsPartTo (turn : Turn) (column : ℕ) (entering line : Line) (count :
   pub positive : pos 0 <ℤ part
   pub denominator : nat_abs part ∣ nat_abs line.denominator * nat_abs turn.multiplier
   pub constant : nat_abs part ∣ nat_abs (turned_number turn line.constant entering.constant)
-  pub numbers : (c : ℕ) → c < count → nat_abs part ∣ nat_abs (number_after turn column entering line c)
+  pub numbers : (c : ℕ) → c < count → nat_abs part ∣ nat_abs (turned_entry turn column entering line c)
   pub greatest : (d : ℕ) → d ∣ nat_abs line.denominator * nat_abs turn.multiplier →
       d ∣ nat_abs (turned_number turn line.constant entering.constant) →
-      ((c : ℕ) → c < count → d ∣ nat_abs (number_after turn column entering line c)) → d ∣ nat_abs part
+      ((c : ℕ) → c < count → d ∣ nat_abs (turned_entry turn column entering line c)) → d ∣ nat_abs part
 
 gcd_high : (a b : ℕ) → 0 < b → pos 0 <ℤ pos (gcd a b)
 gcd_high a b some = let high = gcd_positive a b some in omega (arith, ints, high)
@@ -138,15 +138,15 @@ module _ (turn : Turn) (column : ℕ) (entering line : Line) where
 
   -- with one more
   pub part_more : (i : ℕ) (part new : ℤ) → IsPartTo turn column entering line i part →
-      new ≡ pos (gcd (nat_abs (number_after turn column entering line i)) (nat_abs part)) → IsPartTo turn column entering line (i + 1) new
+      new ≡ pos (gcd (nat_abs (turned_entry turn column entering line i)) (nat_abs part)) → IsPartTo turn column entering line (i + 1) new
   part_more i part new common is =
-      let number = nat_abs (number_after turn column entering line i) in
+      let number = nat_abs (turned_entry turn column entering line i) in
       let g = gcd_is number (nat_abs part) in
       subst (IsPartTo turn column entering line (i + 1)) (sym is) record {
         positive = gcd_high number (nat_abs part) (size_positive part common.positive);
         denominator = dvd_trans _ g.1 common.denominator;
         constant = dvd_trans _ g.1 common.constant;
-        numbers = all_more (λ c. gcd number (nat_abs part) ∣ nat_abs (number_after turn column entering line c)) i
+        numbers = all_more (λ c. gcd number (nat_abs part) ∣ nat_abs (turned_entry turn column entering line c)) i
             (λ c c_in. dvd_trans _ g.1 (common.numbers c c_in)) g.0;
         greatest = λ d below above all. g.2 d (all i (omega arith)) (common.greatest d below above (λ c c_in. all c (omega (arith, c_in))));
       }
@@ -234,7 +234,7 @@ module _ (t p f : ℤ) (t_fits : mag t < 2 ^ 127) (p_high : pos 0 <ℤ p) (p_fit
 module _ (turn : Turn) (column : ℕ) (entering line : Line) where
   -- a number at a column is over a part
   abbrev pub IsOverPart : ℤ → ℕ → ℤ → Type 0
-  IsOverPart part k z = (z *ℤ part) ≡ number_after turn column entering line k
+  IsOverPart part k z = (z *ℤ part) ≡ turned_entry turn column entering line k
 
   -- numbers over a part are small where those of the line are after the turn
   pub written_small : (part : ℤ) (i : ℕ) (news : List ℤ) → pos 0 <ℤ part → AreSmallAfter turn column entering line part →
@@ -242,7 +242,7 @@ module _ (turn : Turn) (column : ℕ) (entering line : Line) where
   written_small part i news high small w past k d k_in =
       let inside : k < length line.numbers = omega (arith, k_in, w.count) in
       subst (λ (z : ℤ). nat_abs z ≤ 2 ^ 30) (sym (get_or_default news k d (pos 0) k_in))
-      ((ratio_small (number_at news k) part (number_after turn column entering line k) high (w.done k (omega (arith, inside, past)))).1
+      ((ratio_small (number_at news k) part (turned_entry turn column entering line k) high (w.done k (omega (arith, inside, past)))).1
       (small k inside))
 
   -- and with the denominator and the constant they make a line that has turned

@@ -18,7 +18,7 @@ use Rattle.integer_pivots.specs.declared.line.Line.{Line}
 use Rattle.integer_pivots.specs.declared.lowest.Lowest.{Lowest}
 use Rattle.integer_pivots.specs.declared.turn.Turn.{Turn}
 use Rattle.integer_pivots.specs.Lines.{IsLine}
-use Rattle.integer_pivots.specs.Turns.{AreSmallAfter, IsLowestAfter, IsPartAfter, IsTurnedLine, number_after, turned_number}
+use Rattle.integer_pivots.specs.Turns.{AreSmallAfter, IsLowestAfter, IsPartAfter, IsTurnedLine, turned_entry, turned_number}
 use Rattle.integer_pivots.proofs.LowestSteps.{after_other, after_own, line_denominator, line_number}
 
 -- a positive factor is left out on both sides
@@ -117,7 +117,7 @@ module _ (turn : Turn) (column : ℕ) (entering line : Line) (lowest : Lowest) (
       ∙ sym (unsigned_abs-mul z (line.denominator *ℤ turn.multiplier)) ∙ ap nat_abs same ∙ unsigned_abs-mul t new.denominator
 
   stands : (c : ℕ) → c < length line.numbers →
-      (number_at new.numbers c *ℤ (line.denominator *ℤ turn.multiplier)) ≡ (number_after turn column entering line c *ℤ new.denominator)
+      (number_at new.numbers c *ℤ (line.denominator *ℤ turn.multiplier)) ≡ (turned_entry turn column entering line c *ℤ new.denominator)
   stands c c_in =
       elim (cases_eq c column) [
         | inl same ↦
@@ -133,19 +133,19 @@ module _ (turn : Turn) (column : ℕ) (entering line : Line) (lowest : Lowest) (
       (subst (λ (k : ℕ). D / gcd D N ∣ k) (div-mul_cancel (gcd D N) both.0) (dvd-mul_right (D / gcd D N) (gcd D N)))
       (share_divides D N (nat_abs (turned_number turn line.constant entering.constant)) (nat_abs new.constant) N_some
       (sizes new.constant (turned_number turn line.constant entering.constant) turned.constant))
-      (λ c c_in. share_divides D N (nat_abs (number_after turn column entering line c)) (nat_abs (number_at new.numbers c)) N_some
-      (sizes (number_at new.numbers c) (number_after turn column entering line c) (stands c c_in)))
+      (λ c c_in. share_divides D N (nat_abs (turned_entry turn column entering line c)) (nat_abs (number_at new.numbers c)) N_some
+      (sizes (number_at new.numbers c) (turned_entry turn column entering line c) (stands c c_in)))
 
   goes : nat_abs lowest.denominator ∣ N
   goes = lowest_goes D (nat_abs lowest.denominator) (nat_abs lowest.part) N parts D_some share
 
   small_number : IsLine new → (c : ℕ) → c < length line.numbers →
-      nat_abs (number_after turn column entering line c) ≤ 2 ^ 30 * nat_abs lowest.part
+      nat_abs (turned_entry turn column entering line c) ≤ 2 ^ 30 * nat_abs lowest.part
   small_number small c c_in =
-      small_over (nat_abs (number_after turn column entering line c)) (nat_abs (number_at new.numbers c))
+      small_over (nat_abs (turned_entry turn column entering line c)) (nat_abs (number_at new.numbers c))
       (nat_abs lowest.denominator) (nat_abs lowest.part) N (size_positive lowest.denominator low.positive) (le_of_dvd N_some goes)
       (ap (λ (k : ℕ). nat_abs (number_at new.numbers c) * k) parts
-      ∙ sizes (number_at new.numbers c) (number_after turn column entering line c) (stands c c_in))
+      ∙ sizes (number_at new.numbers c) (turned_entry turn column entering line c) (stands c c_in))
       (line_number new c small)
 
   small_denominator : IsLine new → lowest.denominator ≤ℤ pos (2 ^ 30)

@@ -1,9 +1,9 @@
 -- Lines: whole numbers over one denominator, a form's constant at a basis and its numbers at the columns.
-use Rattle.std.specs.Prelude.{◌≡◌, ℕ, ◌^◌, ◌<◌, ◌≤◌, List, [], ℤ, pos, ◌*ℤ◌, ◌<ℤ◌, ◌≤ℤ◌, nat_abs, map, length}
+use Rattle.std.specs.Prelude.{◌≡◌, ℕ, ◌^◌, ◌<◌, ◌≤◌, List, [], ℤ, pos, ◌*ℤ◌, ◌<ℤ◌, ◌≤ℤ◌, nat_abs, max, map, length}
 use Prim.Native.Nat.{◌∣◌}
 use Rattle.whole_numbers.specs.Lists.{number_at}
 use Rattle.integer_pivots.specs.declared.line.Line.{Line}
-use Rattle.integer_pivots.specs.Numbers.{AllWithin}
+use Rattle.integer_pivots.specs.Numbers.{AllWithin, greatest_of}
 
 -- a line whose numbers at the columns are at most 2^30 in size, over a denominator of at most 2^30
 pub record IsLine (line : Line) : Type 0 where
@@ -20,6 +20,10 @@ no_line = record { denominator = pos 1; constant = pos 0; numbers = []; reach = 
 -- the numbers at the columns of lines, a row for each
 abbrev pub rows_of : List Line → List (List ℤ)
 rows_of lines = map (λ line. line.numbers) lines
+
+-- how far a line's constant can move where a bound moves by 1: its greatest number, or its denominator
+abbrev pub step_of : Line → ℕ
+step_of line = max (greatest_of line.numbers) (nat_abs line.denominator)
 
 -- the second line has the numbers of the first, and its denominator, each over one and the same number
 pub record IsReduced (old new : Line) (part : ℕ) : Type 0 where

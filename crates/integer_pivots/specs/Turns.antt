@@ -99,8 +99,8 @@ pub record AreNonZeros (line : List ℤ) (bound : ℕ) (columns : List ℕ) : Ty
   pub others : (c : ℕ) → c < bound → ((place : ℕ) × ((place < length columns) × (slice_index_or columns place 0 ≡ c))) ⊎ (number_at line c ≡ pos 0)
 
 -- a line's number at a column once it has turned at the pivot's, over the denominator times the multiplier
-abbrev pub number_after : Turn → ℕ → Line → Line → ℕ → ℤ
-number_after turn pivots entering line c =
+abbrev pub turned_entry : Turn → ℕ → Line → Line → ℕ → ℤ
+turned_entry turn pivots entering line c =
     if c == pivots then turn.factor *ℤ entering.denominator else turned_number turn (number_at line.numbers c) (number_at entering.numbers c)
 
 -- the greatest number that goes into the denominator, the constant and all numbers of a line that has turned
@@ -108,10 +108,10 @@ pub record IsPartAfter (turn : Turn) (column : ℕ) (entering line : Line) (part
   pub positive : pos 0 <ℤ part
   pub denominator : nat_abs part ∣ nat_abs line.denominator * nat_abs turn.multiplier
   pub constant : nat_abs part ∣ nat_abs (turned_number turn line.constant entering.constant)
-  pub numbers : (c : ℕ) → c < length line.numbers → nat_abs part ∣ nat_abs (number_after turn column entering line c)
+  pub numbers : (c : ℕ) → c < length line.numbers → nat_abs part ∣ nat_abs (turned_entry turn column entering line c)
   pub greatest : (d : ℕ) → d ∣ nat_abs line.denominator * nat_abs turn.multiplier →
       d ∣ nat_abs (turned_number turn line.constant entering.constant) →
-      ((c : ℕ) → c < length line.numbers → d ∣ nat_abs (number_after turn column entering line c)) → d ∣ nat_abs part
+      ((c : ℕ) → c < length line.numbers → d ∣ nat_abs (turned_entry turn column entering line c)) → d ∣ nat_abs part
 
 -- what a line that has turned comes to in lowest terms: its denominator and its constant, over what all its numbers have in common
 pub record IsLowestAfter (turn : Turn) (column : ℕ) (entering line : Line) (lowest : Lowest) : Type 0 where
@@ -123,7 +123,7 @@ pub record IsLowestAfter (turn : Turn) (column : ℕ) (entering line : Line) (lo
 -- the numbers of a line that has turned are at most 2^30 in size, over a part of all
 abbrev pub AreSmallAfter : Turn → ℕ → Line → Line → ℤ → Type 0
 AreSmallAfter turn column entering line part =
-    (c : ℕ) → c < length line.numbers → nat_abs (number_after turn column entering line c) ≤ 2 ^ 30 * nat_abs part
+    (c : ℕ) → c < length line.numbers → nat_abs (turned_entry turn column entering line c) ≤ 2 ^ 30 * nat_abs part
 
 -- a line that has turned is within the bounds in lowest terms
 pub record MayTurnTo (turn : Turn) (column : ℕ) (entering line : Line) (lowest : Lowest) : Type 0 where

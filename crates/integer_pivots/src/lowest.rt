@@ -2,7 +2,7 @@
 ghost use Rattle.std.specs.Prelude.{◌≡◌, ◌^◌, ◌<◌, ◌≤◌, ◌↔◌, nat_abs, length, IsTrue};
 ghost use Rattle.whole_numbers.specs.Lists.{number_at};
 ghost use Rattle.integer_pivots.specs.Lines.{IsLine};
-ghost use Rattle.integer_pivots.specs.Turns.{AreSmallAfter, IsAtPivot, IsLowestAfter, IsPartAfter, IsTurnedLine, MayTurnTo, number_after, turn_at};
+ghost use Rattle.integer_pivots.specs.Turns.{AreSmallAfter, IsAtPivot, IsLowestAfter, IsPartAfter, IsTurnedLine, MayTurnTo, turned_entry, turn_at};
 
 use crate::bounds::{ENTRY_LIMIT, greatest, within};
 use crate::line::{Line, common_with, over};
@@ -22,7 +22,7 @@ pub struct Lowest {
 
 impl Line {
     /// The line's number at a column once it has turned at the pivot's, over the denominator times the multiplier.
-    fn number_after(&self, entering: &Line, pivots: usize, turn: Turn, column: usize) -> i64
+    fn turned_entry(&self, entering: &Line, pivots: usize, turn: Turn, column: usize) -> i64
         // Both lines have a number at the column, and the line's is at most 2^30 in size, as those of the entering line are.
         requires inside { column < length self.now.numbers }
         requires across { column < length entering.now.numbers }
@@ -32,7 +32,7 @@ impl Line {
         // So are the multiplier and the factor, so the difference of the products fits 64 bits.
         requires multiplier { nat_abs turn.multiplier ≤ 2 ^ 30 }
         requires factor { nat_abs turn.factor ≤ 2 ^ 30 }
-        ensures value { result ≡ number_after turn pivots entering.now self.now column }
+        ensures value { result ≡ turned_entry turn pivots entering.now self.now column }
         ensures size { nat_abs result ≤ 2 ^ 61 }
     {
         if column == pivots {
@@ -55,7 +55,7 @@ impl Line {
             u128::from(denominator.unsigned_abs()),
         ) as i64;
         for c in 0..self.numbers.as_slice().len() {
-            part = common_with(self.number_after(entering, column, turn, c), part);
+            part = common_with(self.turned_entry(entering, column, turn, c), part);
         }
         part
     }
@@ -83,7 +83,7 @@ impl Line {
         ensures { IsTrue result ↔ AreSmallAfter turn column entering.now self.now lowest.part }
     {
         for c in 0..self.numbers.as_slice().len() {
-            let number = self.number_after(entering, column, turn, c);
+            let number = self.turned_entry(entering, column, turn, c);
             if !within(over(number, lowest.part), ENTRY_LIMIT) {
                 return false;
             }
@@ -108,7 +108,7 @@ impl Line {
         ensures constant { self.new.constant ≡ lowest.constant }
     {
         for c in 0..self.numbers.as_slice().len() {
-            let number = self.number_after(entering, column, turn, c);
+            let number = self.turned_entry(entering, column, turn, c);
             self.numbers.set(c, over(number, lowest.part));
         }
         self.denominator = lowest.denominator;

@@ -24,6 +24,7 @@ use Rattle.fraction_table.specs.ValidTables.{AllLong, AreMixtures, IsTableLine, 
 use Rattle.fraction_table.proofs.theory.Zips.{zip_from}
 use Rattle.whole_numbers.proofs.Sizes.{size_positive}
 use Rattle.integer_pivots.proofs.Sizes.{number_within, size_most}
+use Rattle.integer_pivots.proofs.LineReads.{pos_size}
 use Rattle.table_kernel.specs.declared.kernel.Kernel.{Kernel}
 use Rattle.table_kernel.specs.Bases.{AreAtBasis}
 use Rattle.table_kernel.specs.Constants.{AreConstants}
@@ -31,7 +32,7 @@ use Rattle.table_kernel.specs.Kernels.{IsBounded, IsKernel, IsMoving, IsShaped, 
 use Rattle.table_kernel.specs.Numbers.{fraction_line}
 use Rattle.table_kernel.specs.Lines.{form_of_place}
 use Rattle.table_kernel.proofs.Columns.{column_number, place_number_within}
-use Rattle.table_kernel.proofs.OverCommon.{over_numbers, over_stand, pos_size}
+use Rattle.table_kernel.proofs.OverCommon.{over_numbers, over_stand}
 
 pub at_basis : (top : ℕ) (costs : CostBox) (rows : List Form) (basis : List Member) (table : List (List Fraction))
     (u : IsUnboxed top costs rows basis table) → AreAtBasis costs rows basis u.common u.lows

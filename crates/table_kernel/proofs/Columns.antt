@@ -19,7 +19,8 @@ use Rattle.fraction_table.specs.ValidTables.{from_lows, number_of_form}
 use Rattle.fraction_table.proofs.StartingTables.{members_are}
 use Rattle.fraction_table.proofs.theory.Units.{unit_from_lows}
 use Rattle.integer_pivots.specs.Numbers.{AllWithin, product_sum, weight_of}
-use Rattle.integer_pivots.proofs.Sizes.{number_within, size_most, size_of, wider}
+use Rattle.integer_pivots.proofs.LineReads.{number_small}
+use Rattle.integer_pivots.proofs.Sizes.{number_within, size_most}
 use Rattle.table_kernel.specs.declared.kernel.Kernel.{Kernel}
 use Rattle.integer_pivots.specs.declared.line.Line.{Line}
 use Rattle.integer_pivots.specs.Lines.{IsLine, no_line}
@@ -130,13 +131,6 @@ share_small D line small = omega (arith, small, div-le_self D (nat_abs line.deno
 
 pub common_small : (k : Kernel) → IsBounded k → nat_abs k.common ≤ 2 ^ 30
 common_small k b = size_most k.common (2 ^ 30) b.positive b.common
-
--- the numbers of a small line
-pub numbers_small : (line : Line) → IsLine line → AllWithin (2 ^ 30) line.numbers
-numbers_small line l = wider (nat_abs line.reach) (2 ^ 30) line.numbers (size_of line.reach (2 ^ 30) (l.reach_positive, l.reach)) l.numbers
-
-pub number_small : (line : Line) → IsLine line → (c : ℕ) → nat_abs (number_at line.numbers c) ≤ 2 ^ 30
-number_small line l c = number_within (2 ^ 30) line.numbers c (numbers_small line l)
 
 -- the number of a small line over the common denominator
 pub scaled_within : (D : ℕ) (line : Line) (c : ℕ) → IsLine line → D ≤ 2 ^ 30 → nat_abs (number_at (scaled_line D line) (suc c)) ≤ 2 ^ 60

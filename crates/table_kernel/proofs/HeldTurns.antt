@@ -13,11 +13,11 @@ use Rattle.integer_pivots.specs.Lines.{IsLine, no_line}
 use Rattle.integer_pivots.specs.Turns.{turn_by}
 use Rattle.integer_pivots.proofs.Sizes.{read, read_number}
 use Rattle.integer_pivots.proofs.WrittenPlaces.{written_more}
+use Rattle.integer_pivots.proofs.LineReads.{number_small}
 use Rattle.table_kernel.specs.declared.kernel.Kernel.{Kernel}
 use Rattle.table_kernel.specs.Kernels.{IsKernel, width_of}
 use Rattle.table_kernel.specs.Lines.{KeepsNumbers}
 use Rattle.table_kernel.specs.Turns.{AreTurns, held_turn, line_of, no_turn, turn_of_line}
-use Rattle.table_kernel.proofs.Columns.{number_small}
 
 -- the turns before a bound are held, and the turns alone have changed
 pub record AreTurnsBefore (old new : Kernel) (column bound : ℕ) : Type 0 where

@@ -9,7 +9,6 @@ use Rattle.whole_numbers.proofs.Ring.{var, ◌⊖◌, ◌⊗◌, ring}
 use Rattle.std.proofs.lemmas.Bool.{cases_eq}
 use Rattle.cost_base.specs.Lists.{Has}
 use lib.IntN.{zero-*ℤ}
-use Rattle.whole_numbers.proofs.FractionLaws.{product_positive}
 use Rattle.whole_numbers.specs.Lists.{number_at}
 use Rattle.design_problem.specs.Basis.{LeadsPositive}
 use Rattle.fraction_table.specs.Pivots.{LeadsNoNegative, numbers_in_column, turned_column}
@@ -20,13 +19,15 @@ use Rattle.integer_pivots.specs.Numbers.{AllWithin}
 use Rattle.integer_pivots.proofs.Narrowing.{has_at}
 use Rattle.integer_pivots.specs.declared.line.Line.{Line}
 use Rattle.integer_pivots.specs.Lines.{no_line, rows_of}
+use Rattle.integer_pivots.proofs.LineReads.{numbers_small}
+use Rattle.integer_pivots.proofs.ShareLaws.{times_positive}
 use Rattle.whole_numbers.proofs.Sizes.{positive_is}
 use Rattle.table_kernel.specs.Choices.{AreColumnsLeft, ComesFirst}
 use Rattle.table_kernel.specs.declared.kernel.Kernel.{Kernel}
 use Rattle.table_kernel.specs.Kernels.{IsBounded, IsKernel, IsShaped, width_of}
 use Rattle.table_kernel.specs.Lines.{IsBestColumn, IsNotAfterInKernel}
 use Rattle.table_kernel.specs.Numbers.{scaled_line, share_of}
-use Rattle.table_kernel.proofs.Columns.{numbers_small, scaled_number}
+use Rattle.table_kernel.proofs.Columns.{scaled_number}
 use Rattle.table_kernel.proofs.Shares.{shares_some}
 
 -- a column that leads positive is positive at its lead
@@ -107,13 +108,6 @@ module _ (rows : List (List ℤ)) (line : List ℤ) (c d : ℕ) (c_is : IsPositi
       (greater_rise (there count c) (there count d) own others
       (subst (λ z. z <ℤ (there count d *ℤ pos own)) (sym (others_read count))
       (subst (λ z. crosswise (slice_index_or rows count []) line c d <ℤ z) (sym (own_read count)) less)))))
-
-pub times_positive : (a b : ℤ) → pos 0 <ℤ a → pos 0 <ℤ b → pos 0 <ℤ (a *ℤ b)
-times_positive (pos a) (pos b) a_is b_is =
-    let more : 0 < a * b = product_positive a b (omega (arith, ints)) (omega (arith, ints)) in
-    omega (arith, ints, more)
-times_positive (pos a) (negsuc b) a_is b_is = absurd (omega (arith, ints, b_is))
-times_positive (negsuc a) b a_is b_is = absurd (omega (arith, ints, a_is))
 
 -- those that lead latest have 0 before there, where the others have their first number, which is positive
 pub latest_left : (rows : List (List ℤ)) (line : List ℤ) (leads : List ℕ) (latest : ℕ) (left : List ℕ) →

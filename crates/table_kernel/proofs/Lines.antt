@@ -1,16 +1,14 @@
 -- The line of a place's form, by what the kernel holds.
-use Rattle.std.proofs.Common.{◌≡◌, ℕ, ◌+◌, ◌*◌, ◌/◌, ◌^◌, ◌<◌, ◌≤◌, refl, sym, subst, ◌∙◌, ap, List, [], ◌∷◌, length, arith, FitsSigned, w64, to_z, of_z, true, false}
+use Rattle.std.proofs.Common.{◌≡◌, ℕ, ◌+◌, ◌*◌, ◌^◌, ◌<◌, ◌≤◌, refl, sym, subst, ◌∙◌, ap, List, [], ◌∷◌, length, arith, FitsSigned, w64, true, false}
 use Rattle.std.specs.Prelude.{ℤ, pos, negsuc, ◌-ℤ◌, ◌*ℤ◌, ◌<ℤ◌, ◌≤ℤ◌, neg_ℤ, nat_abs, slice_index, slice_index_or, All}
-use Rattle.std.specs.Int.Signed.{lt_z, quot_z}
+use Rattle.std.specs.Int.Signed.{lt_z}
 use Rattle.std.proofs.lemmas.Bool.{ltb-false, ltb-true}
 use Prim.Native.Nat.{◌∣◌}
-use Rattle.std.proofs.Math.Nat.{div-le_self, mul-le-mul_left}
+use Rattle.std.proofs.Math.Nat.{mul-le-mul_left}
 use Rattle.std.proofs.lemmas.Int.{fits_signed_from_abs, ints, unsigned_abs-mul}
 use Rattle.std.proofs.lemmas.List.{get_or_default}
-use Rattle.std.proofs.lemmas.Nat.Gcd.{le_of_dvd}
-use Rattle.whole_numbers.proofs.Divisors.{quotient_positive}
 use Rattle.whole_numbers.proofs.Ring.{var, num, neg, ◌⊖◌, ◌⊗◌, ring}
-use Rattle.whole_numbers.proofs.Sizes.{positive_is, size_positive}
+use Rattle.whole_numbers.proofs.Sizes.{positive_is}
 use Rattle.whole_numbers.specs.Lists.{number_at}
 use Rattle.design_problem.specs.declared.tree.Member.{Member}
 use Rattle.design_problem.specs.declared.tree.Member.TheVariants.{Low, High}
@@ -22,6 +20,7 @@ use Rattle.integer_pivots.specs.declared.line.Line.{Line}
 use Rattle.integer_pivots.specs.Lines.{IsInLowestTerms, IsLine, IsReduced, no_line}
 use Rattle.integer_pivots.specs.Numbers.{AllWithin}
 use Rattle.integer_pivots.proofs.Sizes.{number_within, product_small, read, read_number, size_most, size_of}
+use Rattle.integer_pivots.proofs.ShareLaws.{share_times}
 use Rattle.table_kernel.specs.declared.kernel.Kernel.{Kernel}
 use Rattle.table_kernel.specs.Kernels.{IsBounded, IsKernel, IsShaped, width_of}
 use Rattle.table_kernel.specs.Lines.{IsEntering, IsLineTooLarge, KeepsNumbers, StandsForPlace, column_of, form_of_place, numbers as numbers_pass, numbers_of_place}
@@ -32,53 +31,7 @@ use Rattle.table_kernel.proofs.MoveReads.{read_factors}
 use Rattle.table_kernel.proofs.PlaceConstants.{high_place_constant, low_place}
 use Rattle.table_kernel.proofs.Restated.{line_number}
 use Rattle.table_kernel.proofs.SameButRoom.{rebuilt}
-use Rattle.table_kernel.proofs.Shares.{constants_short, share_exact}
-
--- a quotient of positive numbers
-quotient_is : (a b : ℤ) → pos 0 <ℤ a → pos 0 <ℤ b → quot_z a b ≡ pos (nat_abs a / nat_abs b)
-quotient_is (pos a) (pos b) a_high b_high = refl
-quotient_is (pos a) (negsuc b) a_high b_high = absurd (omega (arith, ints))
-quotient_is (negsuc a) b a_high b_high = absurd (omega (arith, ints))
-
--- how often a denominator goes into a common one, times the denominator
-pub share_times : (common denominator : ℤ) → pos 0 <ℤ common → pos 0 <ℤ denominator →
-    nat_abs denominator ∣ nat_abs common → (pos (nat_abs common / nat_abs denominator) *ℤ denominator) ≡ common
-share_times common denominator high positive divides =
-    share_exact (nat_abs common) denominator positive divides ∙ sym (positive_is common high)
-
--- as code computes it
-pub share_read : (common denominator : ℤ) → pos 0 <ℤ common → common ≤ℤ pos (2 ^ 30) → pos 0 <ℤ denominator →
-    nat_abs denominator ∣ nat_abs common →
-    to_z w64 (of_z w64 (quot_z (to_z w64 (of_z w64 common)) (to_z w64 (of_z w64 denominator)))) ≡ pos (nat_abs common / nat_abs denominator)
-share_read common denominator high small positive divides =
-    let most : nat_abs common ≤ 2 ^ 30 = size_most common (2 ^ 30) high small in
-    let part : nat_abs denominator ≤ nat_abs common = le_of_dvd (size_positive common high) divides in
-    let quotient = div-le_self (nat_abs common) (nat_abs denominator) in
-    let is : quot_z (to_z w64 (of_z w64 common)) (to_z w64 (of_z w64 denominator)) ≡ pos (nat_abs common / nat_abs denominator) =
-    ap (λ (z : ℤ). quot_z z (to_z w64 (of_z w64 denominator))) (read_number common (omega (arith, most)))
-    ∙ ap (quot_z common) (read_number denominator (omega (arith, most, part)))
-    ∙ quotient_is common denominator high positive in
-    ap (λ (z : ℤ). to_z w64 (of_z w64 z)) is ∙ read_number (pos (nat_abs common / nat_abs denominator)) (omega (arith, most, quotient))
-
--- it is positive, and at most 2^30
-pub share_positive : (common denominator : ℤ) → pos 0 <ℤ common → nat_abs denominator ∣ nat_abs common →
-    pos 1 ≤ℤ pos (nat_abs common / nat_abs denominator)
-share_positive common denominator high divides =
-    let some = quotient_positive (nat_abs common) (nat_abs denominator) (size_positive common high) divides in
-    omega (arith, ints, some)
-
-pub share_most : (common denominator : ℤ) → pos 0 <ℤ common → common ≤ℤ pos (2 ^ 30) → pos (nat_abs common / nat_abs denominator) ≤ℤ pos (2 ^ 30)
-share_most common denominator high small =
-    omega (arith, ints, size_most common (2 ^ 30) high small, div-le_self (nat_abs common) (nat_abs denominator))
-
--- 1 goes into 1 once
-pub share_one : (common denominator : ℤ) → common ≡ pos 1 → pos 0 <ℤ denominator → nat_abs denominator ∣ nat_abs common →
-    pos 1 ≡ pos (nat_abs common / nat_abs denominator)
-share_one common denominator one positive divides =
-    let size : nat_abs common ≡ 1 = ap nat_abs one in
-    let least : nat_abs denominator ≤ nat_abs common = le_of_dvd (omega (arith, size)) divides in
-    let is : nat_abs denominator ≡ 1 = omega (arith, least, size, size_positive denominator positive) in
-    ap (λ (n : ℕ). pos (1 / n)) (sym is) ∙ ap (λ (n : ℕ). pos (n / nat_abs denominator)) (sym size)
+use Rattle.table_kernel.proofs.Shares.{constants_short}
 
 -- the kernel's lines go into its common denominator
 pub line_divides : (k : Kernel) → IsBounded k → (v : ℕ) → v < length k.lows.items → nat_abs (line_of k v).denominator ∣ nat_abs k.common
@@ -87,17 +40,7 @@ line_divides k b v v_in = b.divides v no_line v_in
 pub common_read : (k : Kernel) → IsBounded k → read k.common ≡ k.common
 common_read k b = read_number k.common (omega (arith, common_small k b))
 
--- a denominator is small
-pub denominator_read : (line : Line) → IsLine line → (nat_abs line.denominator ≤ 2 ^ 30) × (read line.denominator ≡ line.denominator)
-denominator_read line l =
-    let small : nat_abs line.denominator ≤ 2 ^ 30 = size_most line.denominator (2 ^ 30) l.positive l.denominator in
-    (small, read_number line.denominator (omega (arith, small)))
-
--- as is its reach
-pub reach_read : (line : Line) → IsLine line → read line.reach ≡ line.reach
-reach_read line l = read_number line.reach (omega (arith, size_of line.reach (2 ^ 30) (l.reach_positive, l.reach)))
-
--- and a share
+-- a share is small
 pub share_size : (z : ℤ) → pos 1 ≤ℤ z → z ≤ℤ pos (2 ^ 30) → nat_abs z ≤ 2 ^ 30
 share_size z high low = size_of z (2 ^ 30) (omega (arith, ints, high), low)
 

@@ -23,6 +23,7 @@ use Rattle.integer_pivots.specs.Lines.{IsLine, no_line, rows_of}
 use Rattle.integer_pivots.specs.Numbers.{AllWithin, weight_of}
 use Rattle.integer_pivots.specs.Uses.{held_in}
 use Rattle.integer_pivots.proofs.UseLaws.{uses_kept}
+use Rattle.integer_pivots.proofs.ShareLaws.{share_exact}
 use Rattle.table_kernel.specs.declared.kernel.Kernel.{Kernel}
 use Rattle.table_kernel.specs.Bases.{AreAtBasis}
 use Rattle.table_kernel.specs.Kernels.{IsBounded, IsMoving, IsShaped, lows_of, stated, width_of}
@@ -34,7 +35,6 @@ use Rattle.table_kernel.proofs.Columns.{column_at, column_long, column_number, c
 use Rattle.table_kernel.proofs.MovedBases.{IsBasisMove, basis_moved, high_move, low_move, members_put}
 use Rattle.table_kernel.proofs.MovedLines.{AreLinesMoved, all_moved, high_lines_moved, high_lows, limit_after, line_moved, low_lines_moved, low_lows, room_after, rows_kept}
 use Rattle.table_kernel.proofs.Places.{low_total}
-use Rattle.table_kernel.proofs.Shares.{share_exact}
 use Rattle.table_kernel.proofs.UnboxedBases.{large_top, unboxed_any}
 
 -- the kernel after the move: it differs in its box, its basis and the constants of its lines

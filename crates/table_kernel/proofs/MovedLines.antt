@@ -10,10 +10,10 @@ use Rattle.whole_numbers.specs.Lists.{number_at}
 use Rattle.fraction_table.proofs.MovedTables.{raised_rows}
 use Rattle.fraction_table.proofs.theory.MovedNumbers.{lowered, lowered_rows, raised}
 use Rattle.integer_pivots.specs.declared.line.Line.{Line}
-use Rattle.integer_pivots.specs.Lines.{IsLine, no_line, rows_of}
+use Rattle.integer_pivots.specs.Lines.{IsLine, no_line, rows_of, step_of}
 use Rattle.integer_pivots.specs.Numbers.{greatest_of}
 use Rattle.integer_pivots.proofs.Sizes.{difference_small, sum_small}
-use Rattle.table_kernel.specs.Moves.{LineMayMove, lines_after_high, lines_after_low, raised_kernel_line, step_of, with_constant}
+use Rattle.table_kernel.specs.Moves.{LineMayMove, lines_after_high, lines_after_low, raised_kernel_line, with_constant}
 use Rattle.table_kernel.specs.Numbers.{scaled_line, share_of}
 use Rattle.table_kernel.proofs.Columns.{scaled_at}
 

@@ -1,8 +1,7 @@
 -- Numbers over a common denominator, in lowest terms.
-use Rattle.std.proofs.Common.{◌≡◌, ℕ, zero, suc, ◌+◌, ◌<◌, ◌≤◌, refl, sym, ◌∙◌, ap, subst, List, [], ◌∷◌, map, arith}
-use Rattle.std.specs.Prelude.{ℤ, pos, negsuc, ◌≤ℤ◌, nat_abs}
+use Rattle.std.proofs.Common.{◌≡◌, ℕ, zero, suc, ◌+◌, ◌<◌, ◌≤◌, sym, ◌∙◌, ap, subst, List, [], ◌∷◌, map, arith}
+use Rattle.std.specs.Prelude.{ℤ, pos, nat_abs}
 use Rattle.std.proofs.Math.Nat.{div-le_self}
-use Rattle.std.proofs.lemmas.Int.{ints}
 use Rattle.std.proofs.lemmas.List.Elements.{All-tail}
 use Rattle.cost_base.specs.Lists.{numbers_from}
 use Rattle.whole_numbers.specs.Fractions.{gcd}
@@ -11,11 +10,6 @@ use Rattle.fraction_rows.specs.TableRows.{AreTableNumbers, IsTableNumber}
 use Rattle.fraction_table.specs.ValidTables.{Stand}
 use Rattle.integer_pivots.specs.Numbers.{AllWithin}
 use Rattle.table_kernel.specs.Numbers.{over_common}
-
--- a number that isn't negative is its size
-pub pos_size : (z : ℤ) → pos 0 ≤ℤ z → pos (nat_abs z) ≡ z
-pos_size (pos n) high = refl
-pos_size (negsuc n) high = absurd (omega (arith, ints))
 
 pub over_as : (D E : ℕ) (y z : ℤ) → D ≡ E → y ≡ z → over_common D y ≡ over_common E z
 over_as D E y z D_is y_is = ap (λ (n : ℕ). over_common n y) D_is ∙ ap (over_common E) y_is

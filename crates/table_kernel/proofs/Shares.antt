@@ -1,22 +1,15 @@
 -- How often a line's denominator goes into the common one.
 use Prim.Native.Nat.{◌∣◌}
-use native.Mathlib.Nat.{div-mul_cancel, mul-div_assoc, mul_comm}
+use native.Mathlib.Nat.{mul-div_assoc, mul_comm}
 use Rattle.std.proofs.Common.{◌≡◌, ℕ, ◌*◌, ◌/◌, ◌^◌, ◌<◌, ◌≤◌, ◌∙◌, ap, subst, arith, le_trans, mul-one}
 use Rattle.std.proofs.Math.Nat.{mul-le-mul_left}
-use Rattle.std.specs.Prelude.{ℤ, pos, ◌*ℤ◌, ◌<ℤ◌, nat_abs, slice_index_or, All}
+use Rattle.std.specs.Prelude.{nat_abs, slice_index_or, All}
 use Rattle.whole_numbers.proofs.Divisors.{quotient_positive}
-use Rattle.whole_numbers.proofs.Sizes.{positive_is, size_positive}
+use Rattle.whole_numbers.proofs.Sizes.{size_positive}
 use Rattle.integer_pivots.specs.declared.line.Line.{Line}
 use Rattle.table_kernel.specs.declared.kernel.Kernel.{Kernel}
 use Rattle.table_kernel.specs.Kernels.{IsBounded}
 use Rattle.table_kernel.specs.Numbers.{share_of}
-
--- how often a denominator goes into its multiple, times it
-pub share_exact : (D : ℕ) (denominator : ℤ) → pos 0 <ℤ denominator → nat_abs denominator ∣ D →
-    (pos (D / nat_abs denominator) *ℤ denominator) ≡ pos D
-share_exact D denominator positive divides =
-    ap (λ (z : ℤ). pos (D / nat_abs denominator) *ℤ z) (positive_is denominator positive)
-    ∙ ap pos (div-mul_cancel (nat_abs denominator) divides)
 
 -- a denominator goes into a multiple of its multiple as often, times the factor
 pub share_more : (E r d : ℕ) → d ∣ E → (E * r) / d ≡ E / d * r

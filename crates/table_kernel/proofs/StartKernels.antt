@@ -31,11 +31,11 @@ use Rattle.integer_pivots.specs.Lines.{IsLine, rows_of}
 use Rattle.integer_pivots.specs.Leads.{AreLeads, IsLead}
 use Rattle.integer_pivots.specs.Numbers.{AllWithin, weight_of}
 use Rattle.integer_pivots.specs.Uses.{held_in, uses_by}
+use Rattle.integer_pivots.specs.UnitLines.{unit_line_of}
 use Rattle.table_kernel.specs.declared.kernel.Kernel.{Kernel}
 use Rattle.table_kernel.specs.Kernels.{IsBounded, IsKernel, IsShaped, lows_of, width_of}
 use Rattle.table_kernel.specs.Bases.{AreAtBasis}
 use Rattle.table_kernel.specs.Numbers.{scaled_line, share_of}
-use Rattle.table_kernel.specs.Starts.{unit_line_of}
 use Rattle.table_kernel.proofs.AtBasis.{basis_kernel}
 
 -- the units lead each at its own variable

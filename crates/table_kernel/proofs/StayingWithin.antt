@@ -16,10 +16,10 @@ use Rattle.integer_pivots.specs.Lines.{IsLine}
 use Rattle.integer_pivots.specs.Numbers.{greatest_of}
 use Rattle.integer_pivots.specs.Turns.{IsTurnedLine, StaysSmall, denominator_after, turn_at, turned_number}
 use Rattle.integer_pivots.proofs.TurnLaws.{greatest_least, turn_by_none}
+use Rattle.integer_pivots.proofs.LineReads.{numbers_small}
 use Rattle.table_kernel.specs.declared.kernel.Kernel.{Kernel}
 use Rattle.table_kernel.specs.Numbers.{share_of}
 use Rattle.table_kernel.specs.Turns.{constant_size, line_of, turn_of_line}
-use Rattle.table_kernel.proofs.Columns.{numbers_small}
 use Rattle.table_kernel.proofs.Shares.{factor_within}
 
 pos_same : (a b : ℕ) → pos a ≡ pos b → a ≡ b

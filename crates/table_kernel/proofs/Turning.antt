@@ -32,11 +32,11 @@ use Rattle.integer_pivots.specs.declared.line.Line.{Line}
 use Rattle.integer_pivots.specs.Lines.{no_line}
 use Rattle.integer_pivots.specs.Turns.{IsTurnedLine, turn_at, turn_by, turned_number}
 use Rattle.integer_pivots.proofs.TurnLaws.{turn_positive}
+use Rattle.integer_pivots.proofs.ShareLaws.{share_exact}
 use Rattle.table_kernel.specs.Bases.{AreAtBasis}
 use Rattle.table_kernel.specs.Numbers.{scaled_line, share_of}
 use Rattle.table_kernel.proofs.AtBasis.{number_scaled, scaled_by}
 use Rattle.table_kernel.proofs.Columns.{line_number, scaled_number}
-use Rattle.table_kernel.proofs.Shares.{share_exact}
 
 -- What a pivot needs: the form of a member enters at a column in which it has a positive number, and which is the least
 -- of those.

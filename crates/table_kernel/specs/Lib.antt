@@ -1,7 +1,6 @@
 pub mod Numbers
 pub mod Bases
 pub mod Kernels
-pub mod Starts
 pub mod Restated
 pub mod Lines
 pub mod Rows

@@ -1,12 +1,11 @@
 -- What a bound that moves makes of a kernel, and how far bounds may move.
-use Rattle.std.specs.Prelude.{◌≡◌, ℕ, ◌+◌, ◌*◌, ◌^◌, ◌<◌, ◌≤◌, List, [], ◌∷◌, ℤ, pos, ◌+ℤ◌, ◌-ℤ◌, ◌*ℤ◌, nat_abs, max, Option, None, Some, map, length, slice_index_or, slice_set}
+use Rattle.std.specs.Prelude.{◌≡◌, ℕ, ◌+◌, ◌*◌, ◌^◌, ◌<◌, ◌≤◌, List, [], ◌∷◌, ℤ, pos, ◌+ℤ◌, ◌-ℤ◌, ◌*ℤ◌, nat_abs, Option, None, Some, map, length, slice_index_or, slice_set}
 use Rattle.whole_numbers.specs.Lists.{number_at}
 use Rattle.design_problem.specs.declared.form.CostBox.{CostBox}
 use Rattle.design_problem.specs.declared.tree.Member.{Member}
 use Rattle.fraction_table.specs.Moves.{IsColumnOf, put_at}
 use Rattle.integer_pivots.specs.declared.line.Line.{Line}
-use Rattle.integer_pivots.specs.Lines.{no_line}
-use Rattle.integer_pivots.specs.Numbers.{greatest_of}
+use Rattle.integer_pivots.specs.Lines.{no_line, step_of}
 use Rattle.table_kernel.specs.declared.kernel.Kernel.{Kernel}
 use Rattle.table_kernel.specs.Numbers.{share_of}
 
@@ -63,10 +62,6 @@ distance_of (x ∷ xs) (y ∷ ys) = nat_abs (pos y -ℤ pos x) + distance_of xs 
 -- how far the bounds of two boxes are from each other
 abbrev pub box_distance : CostBox → CostBox → ℕ
 box_distance old new = distance_of old.low new.low + distance_of old.high new.high
-
--- how far a line's constant can move where a bound moves by 1: its greatest number, or its denominator
-abbrev pub step_of : Line → ℕ
-step_of line = max (greatest_of line.numbers) (nat_abs line.denominator)
 
 -- a line's constant stays within its limit where the bounds move this far
 abbrev pub LineMayMove : ℕ → ℕ → Line → Type 0

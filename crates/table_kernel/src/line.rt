@@ -1,5 +1,5 @@
 //! The line of a form at the kernel's basis, and its numbers over the common denominator.
-ghost use Rattle.std.specs.Prelude.{◌≡◌, ℕ, suc, ◌*◌, ◌/◌, ◌^◌, ◌+◌, ◌<◌, ◌≤◌, pos, ◌*ℤ◌, ◌-ℤ◌, ◌<ℤ◌, ◌≤ℤ◌, nat_abs, map, length, slice_index, slice_index_or, All, OnErr, OnOk};
+ghost use Rattle.std.specs.Prelude.{◌≡◌, ℕ, suc, ◌*◌, ◌^◌, ◌+◌, ◌<◌, ◌≤◌, pos, ◌*ℤ◌, ◌-ℤ◌, ◌<ℤ◌, ◌≤ℤ◌, nat_abs, map, length, slice_index, slice_index_or, All, OnErr, OnOk};
 ghost use Prim.Native.Nat.{◌∣◌};
 ghost use Rattle.whole_numbers.specs.Lists.{number_at};
 ghost use Rattle.design_problem.specs.Basis.{IsFormOf, member_form};
@@ -17,26 +17,9 @@ use crate::kernel::OutOfRange;
 use cost_base::Listed;
 use design_problem::{Form, Member};
 use fraction_table::range_of;
-use integer_pivots::{ENTRY_LIMIT, FACTOR_LIMIT, Line, clear, put_multiple};
-
-/// How often a denominator goes into a common multiple.
-fn share_in(common: i64, denominator: i64) -> i64
-    // The denominator goes into the common one, which is at most 2^30.
-    requires common { (pos 0 <ℤ common) × (common ≤ℤ pos (2 ^ 30)) }
-    requires denominator { pos 0 <ℤ denominator }
-    requires divides { nat_abs denominator ∣ nat_abs common }
-
-    // The share is their exact quotient, from 1 to 2^30.
-    ensures share { result ≡ pos (nat_abs common / nat_abs denominator) }
-    ensures times { (result *ℤ denominator) ≡ common }
-    ensures positive { pos 1 ≤ℤ result }
-    ensures size { result ≤ℤ pos (2 ^ 30) }
-{
-    if common == 1 {
-        return 1;
-    }
-    common / denominator
-}
+use integer_pivots::{
+    ENTRY_LIMIT, FACTOR_LIMIT, Line, clear, put_multiple, put_signed_line, share_in,
+};
 
 /// A term's factor times a number, both of which are small.
 fn product_of(factor: i64, number: i128) -> i128
@@ -45,32 +28,6 @@ fn product_of(factor: i64, number: i128) -> i128
     ensures { result ≡ (factor *ℤ number) }
 {
     i128::from(factor) * number
-}
-
-/// Puts a line in place of another, with another sign and another constant.
-fn put_signed_line(into: &mut Line, line: &Line, sign: i64, constant: i64)
-    // Both lines have as many columns, and the sign is 1 or -1.
-    requires line { IsLine line.now }
-    requires count { length into.old.numbers ≡ length line.now.numbers }
-    requires sign { nat_abs sign ≡ 1 }
-
-    // Each number is the line's times the sign, over the same denominator.
-    ensures count { length into.new.numbers ≡ length line.now.numbers }
-    ensures numbers { (c : ℕ) → c < length line.now.numbers → number_at into.new.numbers c ≡
-        (sign *ℤ number_at line.now.numbers c) }
-    ensures denominator { into.new.denominator ≡ line.now.denominator }
-
-    // The constant is the one given, and the reach stays, since the sizes of numbers do.
-    ensures constant { into.new.constant ≡ constant }
-    ensures reach { into.new.reach ≡ line.now.reach }
-{
-    into.denominator = line.denominator;
-    into.constant = constant;
-    into.reach = line.reach;
-    let numbers = line.numbers.as_slice();
-    for column in 0..numbers.len() {
-        into.numbers.set(column, sign * numbers[column]);
-    }
 }
 
 /// Puts a form's numbers over a common denominator in place of numbers: the sum of its coefficients, each times its

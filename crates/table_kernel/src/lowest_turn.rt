@@ -7,8 +7,7 @@ ghost use Rattle.table_kernel.specs.Turns.{AreBoundedLines, FitsLowest, HasTurne
 
 use crate::Kernel;
 use crate::kernel::OutOfRange;
-use crate::turn::{share_in, stays_within};
-use integer_pivots::{Lowest, common_multiple, turn_leads};
+use integer_pivots::{Lowest, common_multiple, share_in, stays_within, turn_leads};
 
 impl Kernel {
     /// What a variable's line comes to in the turn at a column, in lowest terms.

@@ -1,18 +1,18 @@
 //! The move of the kernel to another box, bound by bound.
-ghost use Rattle.std.specs.Prelude.{◌≡◌, ℕ, ◌^◌, ◌+◌, ◌*◌, ◌<◌, ◌≤◌, ◌↔◌, pos, ◌-ℤ◌, ◌<ℤ◌, ◌≤ℤ◌, nat_abs, length, map, slice_index, All, IsTrue, Option, OnErr, OnOk};
+ghost use Rattle.std.specs.Prelude.{◌≡◌, ℕ, ◌^◌, ◌+◌, ◌*◌, ◌<◌, ◌≤◌, ◌↔◌, pos, ◌-ℤ◌, ◌≤ℤ◌, nat_abs, length, map, slice_index, All, IsTrue, Option, OnErr, OnOk};
 ghost use Rattle.design_problem.specs.Boxes.{IsBox, with_high, with_low};
 ghost use Rattle.fraction_table.specs.Moves.{IsMoved, KeepsTableRows};
 ghost use Rattle.fraction_table.specs.Tableaus.{FitsBox};
 ghost use Rattle.integer_pivots.specs.Lines.{IsLine};
 ghost use Rattle.table_kernel.specs.Kernels.{IsKernel, IsMoving, stated, width_of};
-ghost use Rattle.table_kernel.specs.Moves.{IsBasisMoved, KeepsInMove, KeepsOfBox, LineMayMove, MayMove, box_distance, distance_of, lines_after_high, lines_after_low, raised_kernel_line, step_of};
+ghost use Rattle.table_kernel.specs.Moves.{IsBasisMoved, KeepsInMove, KeepsOfBox, LineMayMove, MayMove, box_distance, distance_of, lines_after_high, lines_after_low, raised_kernel_line};
 ghost use Rattle.table_kernel.specs.Turns.{line_of};
 
 use crate::Kernel;
 use crate::kernel::OutOfRange;
 use design_problem::{CostBox, Member};
 use fraction_table::{column_of, range_of};
-use integer_pivots::{CONSTANT_LIMIT, Line, greatest};
+use integer_pivots::{CONSTANT_LIMIT, Line, step};
 
 /// The sum of the differences of two lists, place by place.
 fn distance(first: &[u16], second: &[u16]) -> i64
@@ -26,20 +26,6 @@ fn distance(first: &[u16], second: &[u16]) -> i64
         sum += range_of(first[index], second[index]).abs();
     }
     sum
-}
-
-/// How far a line's constant can move where a bound moves by 1.
-fn step(line: &Line) -> i64
-    requires line { IsLine line.now }
-    ensures exact { result ≡ pos (step_of line.now) }
-    ensures size { (pos 0 <ℤ result) × (result ≤ℤ pos (2 ^ 30)) }
-{
-    let most = greatest(line.numbers.as_slice());
-    if most < line.denominator {
-        line.denominator
-    } else {
-        most
-    }
 }
 
 /// Lets the constant of each line rise by its number at a column times a fall.

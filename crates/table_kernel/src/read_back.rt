@@ -16,10 +16,11 @@ ghost use Rattle.table_kernel.specs.Turns.{KeepsAllButLows, line_of};
 
 use crate::Kernel;
 use crate::kernel::OutOfRange;
-use crate::turn::{share_in, stays_within};
 use cost_base::Listed;
 use fraction_rows::TableRow;
-use integer_pivots::{CONSTANT_LIMIT, ENTRY_LIMIT, Line, common_multiple, greatest, put_leads};
+use integer_pivots::{
+    CONSTANT_LIMIT, ENTRY_LIMIT, Line, common_multiple, greatest, put_leads, share_in, stays_within,
+};
 use wide_fraction::Frac;
 
 /// The least common multiple of a denominator and of a fraction's, where it is at most 2^30.

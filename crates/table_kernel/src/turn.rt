@@ -1,5 +1,5 @@
 //! A pivot of the kernel.
-ghost use Rattle.std.specs.Prelude.{◌≡◌, ◌*◌, ◌/◌, ◌^◌, ◌<◌, ◌≤◌, ◌↔◌, pos, ◌<ℤ◌, ◌≤ℤ◌, nat_abs, length, Some, All, MatchOption, OnErr, OnOk, IsTrue};
+ghost use Rattle.std.specs.Prelude.{◌≡◌, ◌^◌, ◌<◌, ◌≤◌, ◌↔◌, pos, ◌<ℤ◌, ◌≤ℤ◌, nat_abs, length, Some, All, MatchOption, OnErr, OnOk, IsTrue};
 ghost use Prim.Native.Nat.{◌∣◌};
 ghost use Rattle.whole_numbers.specs.Fractions.{lcm};
 ghost use Rattle.whole_numbers.specs.Lists.{number_at};
@@ -13,43 +13,13 @@ ghost use Rattle.table_kernel.specs.Turns.{AreLinesTurned, AreTurns, ConstantsSt
 
 use crate::Kernel;
 use crate::kernel::OutOfRange;
-use integer_pivots::{CONSTANT_LIMIT, Turn, common_multiple, put_touched, turn_leads, turn_of};
+use integer_pivots::{
+    Turn, common_multiple, denominator_times, put_touched, share_in, stays_within, turn_leads,
+    turn_of,
+};
 
 /// A common denominator above this is lowered: 2^16.
 const LARGE_COMMON: i64 = 1 << 16;
-
-/// A denominator times a multiplier.
-fn denominator_times(denominator: i64, multiplier: i64) -> i64
-    requires denominator { (pos 0 <ℤ denominator) × (denominator ≤ℤ pos (2 ^ 30)) }
-    requires multiplier { (pos 0 <ℤ multiplier) × (multiplier ≤ℤ pos (2 ^ 30)) }
-    ensures product { nat_abs result ≡ nat_abs denominator * nat_abs multiplier }
-    ensures range { (pos 0 <ℤ result) × (result ≤ℤ pos (2 ^ 60)) }
-{
-    denominator * multiplier
-}
-
-/// How often a denominator goes into a multiple of it.
-pub(crate) fn share_in(common: i64, denominator: i64) -> i64
-    requires common { (pos 0 <ℤ common) × (common ≤ℤ pos (2 ^ 30)) }
-    requires denominator { (pos 0 <ℤ denominator) × (denominator ≤ℤ pos (2 ^ 60)) }
-    requires divides { nat_abs denominator ∣ nat_abs common }
-    ensures share { nat_abs result ≡ nat_abs common / nat_abs denominator }
-    ensures range { (pos 0 <ℤ result) × (result ≤ℤ pos (2 ^ 30)) }
-{
-    common / denominator
-}
-
-/// Whether a constant, times how often its denominator goes into the common one, is within the limit.
-pub(crate) fn stays_within(constant: i128, share: i64) -> bool
-    requires share { (pos 0 <ℤ share) × (share ≤ℤ pos (2 ^ 30)) }
-    ensures { IsTrue result ↔ (nat_abs constant * nat_abs share ≤ 2 ^ 44) }
-{
-    let size = constant.unsigned_abs();
-    if size > CONSTANT_LIMIT as u128 {
-        return false;
-    }
-    size * u128::from(share.unsigned_abs()) <= CONSTANT_LIMIT as u128
-}
 
 impl Kernel {
     /// How a variable's line turns at a column.

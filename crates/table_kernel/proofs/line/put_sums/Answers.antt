@@ -8,10 +8,10 @@ use Rattle.design_problem.specs.Forms.{no_term}
 use Rattle.integer_pivots.specs.Numbers.{AllWithin, more_sums, product_sum}
 use Rattle.integer_pivots.proofs.PartSums.{more_long}
 use Rattle.integer_pivots.proofs.Sizes.{read, size_most}
+use Rattle.integer_pivots.proofs.LineReads.{denominator_read, numbers_small}
 use Rattle.table_kernel.specs.Lines.{factors_of}
 use Rattle.table_kernel.proofs.Factors.{IsFactorRead, factor_read, factor_within, put_all, put_first, put_more, put_room, put_within, scaled_column}
-use Rattle.table_kernel.proofs.Columns.{numbers_small}
-use Rattle.table_kernel.proofs.Lines.{IsTermLine, denominator_read, read_common, term_line}
+use Rattle.table_kernel.proofs.Lines.{IsTermLine, read_common, term_line}
 use Rattle.table_kernel.proofs.line.put_sums.Goals as goal
 use Rattle.table_kernel.proofs.line.put_sums.Goals.{After-share_in}
 

@@ -7,8 +7,8 @@ use Rattle.integer_pivots.specs.declared.line.Line.{Line}
 use Rattle.integer_pivots.specs.Lines.{no_line}
 use Rattle.integer_pivots.proofs.Sizes.{read, read_number}
 use Rattle.integer_pivots.proofs.WrittenPlaces.{rest_more, written_more}
+use Rattle.integer_pivots.proofs.LineReads.{number_small}
 use Rattle.table_kernel.specs.Moves.{raised_kernel_line, with_constant}
-use Rattle.table_kernel.proofs.Columns.{number_small}
 use Rattle.table_kernel.proofs.MoveReads.{IsReadRight, raised_read}
 use Rattle.table_kernel.proofs.moves.raise.Goals.{After-as_slice}
 use Rattle.table_kernel.proofs.moves.raise.Goals as goal

@@ -2,8 +2,8 @@
 use Rattle.std.proofs.Common.{ℕ, ◌≤◌, ◌∙◌, refl, ap, subst, [], length, map}
 use Rattle.std.specs.Prelude.{pos, vec_capacity}
 use Rattle.cost_base.specs.Lists.{numbers_from}
+use Rattle.integer_pivots.specs.UnitLines.{unit_line_of}
 use Rattle.table_kernel.specs.declared.kernel.Kernel.{Kernel}
-use Rattle.table_kernel.specs.Starts.{unit_line_of}
 use Rattle.table_kernel.proofs.ParkedKernels.{started_parked}
 use Rattle.table_kernel.proofs.StartKernels.{IsStarting, started}
 use Rattle.table_kernel.proofs.start.starting_kernel.Goals.{In_ok-zero_line}

@@ -67,23 +67,23 @@ loop-c-init c =
     c.requires.pivot.turning.positive m.2
     (to_z_pos w64 c.greatest_common_divisor-part.result (omega (arith, e)) ∙ ap pos (value p.After-greatest_common_divisor-part m.0))
 
-pub number_after-requires-clause-inside : goal.number_after-requires-clause-inside
-number_after-requires-clause-inside c = omega (arith, ap length c.as_slice-c-end.ensures, c.loop-c-test.true)
+pub turned_entry-requires-clause-inside : goal.turned_entry-requires-clause-inside
+turned_entry-requires-clause-inside c = omega (arith, ap length c.as_slice-c-end.ensures, c.loop-c-test.true)
 
-pub number_after-requires-clause-across : goal.number_after-requires-clause-across
-number_after-requires-clause-across c = omega (arith, ap length c.as_slice-c-end.ensures, c.loop-c-test.true, c.requires.pivot.long)
+pub turned_entry-requires-clause-across : goal.turned_entry-requires-clause-across
+turned_entry-requires-clause-across c = omega (arith, ap length c.as_slice-c-end.ensures, c.loop-c-test.true, c.requires.pivot.long)
 
-pub number_after-requires-clause-small : goal.number_after-requires-clause-small
-number_after-requires-clause-small c = line_number c.args.self.now c.loop-c.c c.requires.pivot.turning
+pub turned_entry-requires-clause-small : goal.turned_entry-requires-clause-small
+turned_entry-requires-clause-small c = line_number c.args.self.now c.loop-c.c c.requires.pivot.turning
 
-pub number_after-requires-clause-entering : goal.number_after-requires-clause-entering
-number_after-requires-clause-entering c = c.requires.pivot.across
+pub turned_entry-requires-clause-entering : goal.turned_entry-requires-clause-entering
+turned_entry-requires-clause-entering c = c.requires.pivot.across
 
-pub number_after-requires-clause-multiplier : goal.number_after-requires-clause-multiplier
-number_after-requires-clause-multiplier c = (sizes (goal.at.number_after-requires-clause-multiplier c).Start).0
+pub turned_entry-requires-clause-multiplier : goal.turned_entry-requires-clause-multiplier
+turned_entry-requires-clause-multiplier c = (sizes (goal.at.turned_entry-requires-clause-multiplier c).Start).0
 
-pub number_after-requires-clause-factor : goal.number_after-requires-clause-factor
-number_after-requires-clause-factor c = (sizes (goal.at.number_after-requires-clause-factor c).Start).1
+pub turned_entry-requires-clause-factor : goal.turned_entry-requires-clause-factor
+turned_entry-requires-clause-factor c = (sizes (goal.at.turned_entry-requires-clause-factor c).Start).1
 
 pub loop-c-preserved : goal.loop-c-preserved
 loop-c-preserved c =
@@ -91,7 +91,7 @@ loop-c-preserved c =
     (read c.common_with-part.result) c.loop-c.invariant
     (read_known c.common_with-part.result c.common_with-part.type_inv ∙ c.common_with-part.ensures.value
     ∙ ap (λ (z : ℤ). pos (gcd (nat_abs z) (nat_abs (to_z w64 c.loop-c.part-bits))))
-    (read_known c.number_after.result c.number_after.type_inv ∙ c.number_after.ensures.value))
+    (read_known c.turned_entry.result c.turned_entry.type_inv ∙ c.turned_entry.ensures.value))
 
 pub returns : goal.returns
 returns c =

@@ -5,13 +5,13 @@ use Prim.Native.Nat.{◌∣◌}
 use Rattle.std.proofs.lemmas.Int.{fits_signed_from_abs, ints}
 use Rattle.whole_numbers.specs.Lists.{number_at}
 use Rattle.integer_pivots.specs.Numbers.{AllWithin}
-use Rattle.integer_pivots.specs.Turns.{number_after}
+use Rattle.integer_pivots.specs.Turns.{turned_entry}
 use Rattle.integer_pivots.proofs.Sizes.{positive_size, read, read_known, read_number, wider}
 use Rattle.integer_pivots.proofs.TurnLaws.{wide, wide_number}
 use Rattle.integer_pivots.proofs.LowestSteps.{IsOverPart, after_same, line_number, part_small, turn_sizes, turned_to, written_small}
 use Rattle.integer_pivots.proofs.WrittenPlaces.{AreWritten, none_written, one_written}
 use Rattle.integer_pivots.proofs.line.Line.turn_to.Goals as goal
-use Rattle.integer_pivots.proofs.line.Line.turn_to.Goals.{Start, In-loop-c, After-number_after-number, After-as_slice, After-loop-c}
+use Rattle.integer_pivots.proofs.line.Line.turn_to.Goals.{Start, In-loop-c, After-turned_entry-number, After-as_slice, After-loop-c}
 
 sizes : (c : Start) → (nat_abs c.args.turn.multiplier ≤ 2 ^ 30) × (nat_abs c.args.turn.factor ≤ 2 ^ 30) × (pos 0 <ℤ c.args.turn.multiplier)
 sizes c = turn_sizes c.args.turn c.args.column c.args.entering.now c.args.self.now c.requires.pivot c.requires.turn
@@ -35,36 +35,36 @@ here : (c : In-loop-c) → number_at c.loop-c.self.numbers c.loop-c.c ≡ number
 here c = c.loop-c.invariant.rest c.loop-c.c (omega arith)
 
 -- so what it turns to is, too
-number_is : (c : After-number_after-number) → number_at c.loop-c.self.numbers c.loop-c.c ≡ number_at c.args.self.now.numbers c.loop-c.c →
-    read c.number_after-number.result ≡ number_after c.args.turn c.args.column c.args.entering.now c.args.self.now c.loop-c.c
+number_is : (c : After-turned_entry-number) → number_at c.loop-c.self.numbers c.loop-c.c ≡ number_at c.args.self.now.numbers c.loop-c.c →
+    read c.turned_entry-number.result ≡ turned_entry c.args.turn c.args.column c.args.entering.now c.args.self.now c.loop-c.c
 number_is c same =
-    read_known c.number_after-number.result c.number_after-number.type_inv ∙ c.number_after-number.ensures.value
+    read_known c.turned_entry-number.result c.turned_entry-number.type_inv ∙ c.turned_entry-number.ensures.value
     ∙ after_same c.args.turn c.args.column c.args.entering.now c.loop-c.self c.args.self.now c.loop-c.c same
 
 pub loop-c-init : goal.loop-c-init
 loop-c-init c =
     none_written (IsOverPart c.args.turn c.args.column c.args.entering.now c.args.self.now c.args.lowest.part) (pos 0) c.args.self.now.numbers
 
-pub number_after-number-requires-clause-inside : goal.number_after-number-requires-clause-inside
-number_after-number-requires-clause-inside c =
+pub turned_entry-number-requires-clause-inside : goal.turned_entry-number-requires-clause-inside
+turned_entry-number-requires-clause-inside c =
     omega (arith, ap length c.as_slice-c-end.ensures, c.loop-c-test.true, c.loop-c.invariant.count)
 
-pub number_after-number-requires-clause-across : goal.number_after-number-requires-clause-across
-number_after-number-requires-clause-across c = omega (arith, ap length c.as_slice-c-end.ensures, c.loop-c-test.true, c.requires.pivot.long)
+pub turned_entry-number-requires-clause-across : goal.turned_entry-number-requires-clause-across
+turned_entry-number-requires-clause-across c = omega (arith, ap length c.as_slice-c-end.ensures, c.loop-c-test.true, c.requires.pivot.long)
 
-pub number_after-number-requires-clause-small : goal.number_after-number-requires-clause-small
-number_after-number-requires-clause-small c =
-    subst (λ (z : ℤ). nat_abs z ≤ 2 ^ 30) (sym (here (goal.at.number_after-number-requires-clause-small c).In-loop-c))
+pub turned_entry-number-requires-clause-small : goal.turned_entry-number-requires-clause-small
+turned_entry-number-requires-clause-small c =
+    subst (λ (z : ℤ). nat_abs z ≤ 2 ^ 30) (sym (here (goal.at.turned_entry-number-requires-clause-small c).In-loop-c))
     (line_number c.args.self.now c.loop-c.c c.requires.pivot.turning)
 
-pub number_after-number-requires-clause-entering : goal.number_after-number-requires-clause-entering
-number_after-number-requires-clause-entering c = c.requires.pivot.across
+pub turned_entry-number-requires-clause-entering : goal.turned_entry-number-requires-clause-entering
+turned_entry-number-requires-clause-entering c = c.requires.pivot.across
 
-pub number_after-number-requires-clause-multiplier : goal.number_after-number-requires-clause-multiplier
-number_after-number-requires-clause-multiplier c = (sizes (goal.at.number_after-number-requires-clause-multiplier c).Start).0
+pub turned_entry-number-requires-clause-multiplier : goal.turned_entry-number-requires-clause-multiplier
+turned_entry-number-requires-clause-multiplier c = (sizes (goal.at.turned_entry-number-requires-clause-multiplier c).Start).0
 
-pub number_after-number-requires-clause-factor : goal.number_after-number-requires-clause-factor
-number_after-number-requires-clause-factor c = (sizes (goal.at.number_after-number-requires-clause-factor c).Start).1
+pub turned_entry-number-requires-clause-factor : goal.turned_entry-number-requires-clause-factor
+turned_entry-number-requires-clause-factor c = (sizes (goal.at.turned_entry-number-requires-clause-factor c).Start).1
 
 pub over-requires-clause-part : goal.over-requires-clause-part
 over-requires-clause-part c =
@@ -73,14 +73,14 @@ over-requires-clause-part c =
 pub over-requires-clause-whole : goal.over-requires-clause-whole
 over-requires-clause-whole c =
     let p = goal.at.over-requires-clause-whole c in
-    subst (λ (z : ℤ). nat_abs z ∣ nat_abs (read c.number_after-number.result)) (sym (part_is p.Start))
+    subst (λ (z : ℤ). nat_abs z ∣ nat_abs (read c.turned_entry-number.result)) (sym (part_is p.Start))
     (subst (λ (z : ℤ). nat_abs c.args.lowest.part ∣ nat_abs z)
-    (sym (number_is p.After-number_after-number (here p.In-loop-c)))
+    (sym (number_is p.After-turned_entry-number (here p.In-loop-c)))
     (c.requires.lowest.part.numbers c.loop-c.c (inside p.In-loop-c)))
 
 pub over-requires-clause-size : goal.over-requires-clause-size
 over-requires-clause-size c =
-    omega (arith, ap nat_abs (read_known c.number_after-number.result c.number_after-number.type_inv), c.number_after-number.ensures.size)
+    omega (arith, ap nat_abs (read_known c.turned_entry-number.result c.turned_entry-number.type_inv), c.turned_entry-number.ensures.size)
 
 pub set-requires : goal.set-requires
 set-requires c = omega (arith, ap length c.as_slice-c-end.ensures, c.loop-c-test.true, c.loop-c.invariant.count)
@@ -93,7 +93,7 @@ loop-c-preserved c =
     (one_written P (pos 0) c.args.self.now.numbers c.loop-c.c c.loop-c.self.numbers (read c.over.result) c.loop-c.invariant (inside p.In-loop-c)
     (ap (λ (z : ℤ). z *ℤ c.args.lowest.part) (read_known c.over.result c.over.type_inv)
     ∙ ap (λ (z : ℤ). c.over.result *ℤ z) (sym (part_is p.Start)) ∙ c.over.ensures.times
-    ∙ number_is p.After-number_after-number (here p.In-loop-c)))
+    ∙ number_is p.After-turned_entry-number (here p.In-loop-c)))
 
 pub overflow_cast-self : goal.overflow_cast-self
 overflow_cast-self c =

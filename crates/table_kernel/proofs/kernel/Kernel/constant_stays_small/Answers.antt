@@ -45,7 +45,7 @@ returns c =
     (line_read k v c.index-2.result.now c.requires.ready.among c.index-2.ensures)
     ∙ ap (λ (m : Turn). turned_number m (line_of k v).constant k.entering.constant) turn_is)
     (ap nat_abs (to_z-of_z w64 c.share_in.result (record { sfits = c.share_in.type_inv }))
-    ∙ c.share_in.ensures.share
+    ∙ ap nat_abs c.share_in.ensures.share
     ∙ ap (λ (z : ℤ). nat_abs z / nat_abs (read denominator)) (read_common c.args.common c.requires.common)
     ∙ ap (λ (n : ℕ). nat_abs c.args.common / n) after_is)
     c.stays_within.ensures

@@ -8,7 +8,7 @@ use Rattle.std.proofs.lemmas.List.{get_or_default}
 use Rattle.integer_pivots.specs.Lines.{no_line}
 use Rattle.integer_pivots.proofs.Sizes.{read}
 use Rattle.table_kernel.proofs.FittingConstants.{FitsIn, all_fit, fit_told, not_all_fit, one_more_fits}
-use Rattle.table_kernel.proofs.Lines.{read_common}
+use Rattle.table_kernel.proofs.Lines.{read_common, read_share}
 use Rattle.table_kernel.proofs.kernel.Kernel.constants_fit.Goals.{After-index-line, After-stays_within}
 use Rattle.table_kernel.proofs.kernel.Kernel.constants_fit.Goals as goal
 
@@ -31,8 +31,7 @@ told c is =
     fit_told (nat_abs c.args.common) line (slice_index_or c.args.self.now.lows.items c.loop-var.var no_line) c.stays_within.result
     (to_z w128 (of_z w128 c.from.result)) (read c.share_in.result) is
     (to_z-of_z w128 c.from.result (record { sfits = c.from.type_inv }) ∙ c.from.ensures ∙ constant)
-    (ap nat_abs (read_common c.share_in.result c.share_in.ensures.range)
-    ∙ c.share_in.ensures.share
+    (ap nat_abs (read_share c.share_in.result c.share_in.ensures.positive c.share_in.ensures.size ∙ c.share_in.ensures.share)
     ∙ ap (λ (z : ℤ). nat_abs z / nat_abs (read line.denominator)) common
     ∙ ap (λ (z : ℤ). nat_abs c.args.common / nat_abs z) denominator)
     c.stays_within.ensures

@@ -3,9 +3,10 @@ use Rattle.std.proofs.Common.{◌≡◌, ℕ, ◌^◌, ◌≤◌, ◌∙◌, sym
 use mathlib.Core.Path.{ap₂}
 use Rattle.std.specs.Prelude.{ℤ, pos, ◌-ℤ◌, ◌*ℤ◌, List, nat_abs, slice_index}
 use Rattle.integer_pivots.specs.declared.line.Line.{Line}
+use Rattle.integer_pivots.proofs.LineReads.{denominator_read}
 use Rattle.table_kernel.specs.Turns.{line_of}
 use Rattle.table_kernel.proofs.AtBasis.{kernel_basis}
-use Rattle.table_kernel.proofs.Lines.{IsLineRead, constant_small, denominator_read, high_difference, high_fits, high_product, line_read}
+use Rattle.table_kernel.proofs.Lines.{IsLineRead, constant_small, high_difference, high_fits, high_product, line_read}
 use Rattle.table_kernel.proofs.kernel.Kernel.high_constant.Goals as goal
 use Rattle.table_kernel.proofs.kernel.Kernel.high_constant.Goals.{After-index, After-index-2}
 

@@ -6,9 +6,8 @@ use Rattle.std.proofs.lemmas.Int.{ints}
 use Rattle.std.proofs.lemmas.List.{get_or_default}
 use Rattle.std.proofs.Math.Nat.{mul-le-mul}
 use Rattle.integer_pivots.specs.declared.line.Line.{Line}
-use Rattle.integer_pivots.specs.Lines.{no_line}
+use Rattle.integer_pivots.specs.Lines.{no_line, step_of}
 use Rattle.integer_pivots.proofs.Sizes.{read, read_number}
-use Rattle.table_kernel.specs.Moves.{step_of}
 use Rattle.table_kernel.specs.Numbers.{share_of}
 use Rattle.table_kernel.specs.Turns.{line_of}
 use Rattle.table_kernel.proofs.Shares.{constants_short}

@@ -4,7 +4,7 @@ use Rattle.std.specs.Prelude.{ℤ}
 use Rattle.integer_pivots.specs.Choices.{AreLeast, IsPositiveAt}
 use Rattle.integer_pivots.specs.Lines.{rows_of}
 use Rattle.integer_pivots.specs.Numbers.{AllWithin}
-use Rattle.table_kernel.proofs.Columns.{numbers_small}
+use Rattle.integer_pivots.proofs.LineReads.{numbers_small}
 use Rattle.table_kernel.proofs.LeftColumns.{one_more, row_long, row_read, row_small, rows_counted}
 use Rattle.table_kernel.proofs.kernel.Kernel.look_at.Goals as goal
 

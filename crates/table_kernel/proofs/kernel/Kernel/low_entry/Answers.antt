@@ -4,10 +4,11 @@ use Rattle.std.specs.Prelude.{ℤ, ◌*ℤ◌, nat_abs}
 use Rattle.whole_numbers.specs.Lists.{number_at}
 use Rattle.integer_pivots.specs.declared.line.Line.{Line}
 use Rattle.integer_pivots.proofs.Sizes.{number_within, read_number}
+use Rattle.integer_pivots.proofs.LineReads.{numbers_small}
 use Rattle.table_kernel.specs.Lines.{column_of}
 use Rattle.table_kernel.specs.Turns.{line_of}
 use Rattle.table_kernel.proofs.AtBasis.{kernel_moves}
-use Rattle.table_kernel.proofs.Columns.{column_at, column_within, numbers_small}
+use Rattle.table_kernel.proofs.Columns.{column_at, column_within}
 use Rattle.table_kernel.proofs.Lines.{IsLineRead, line_read, read_share, share_size}
 use Rattle.table_kernel.proofs.WideNumbers.{read_of, wide_product_fits, wide_product_is}
 use Rattle.table_kernel.proofs.kernel.Kernel.low_entry.Goals as goal

@@ -7,7 +7,7 @@ use Rattle.integer_pivots.proofs.FailedTests.{failed, never}
 use Rattle.integer_pivots.proofs.Sizes.{read}
 use Rattle.integer_pivots.proofs.WrittenPlaces.{all_more}
 use Rattle.table_kernel.specs.Turns.{FitsLowest}
-use Rattle.table_kernel.proofs.Lines.{read_common}
+use Rattle.table_kernel.proofs.Lines.{read_common, read_share}
 use Rattle.table_kernel.proofs.LowestRows.{FitsLowestAt, denominator_read, lowest_told}
 use Rattle.table_kernel.proofs.kernel.Kernel.lowest_constants_fit.Goals.{After-stays_within}
 use Rattle.table_kernel.proofs.kernel.Kernel.lowest_constants_fit.Goals as goal
@@ -21,8 +21,7 @@ told c =
     let common = read_common c.args.common (c.requires.common.positive, c.requires.common.small) in
     lowest_told c.args.self.now c.args.column c.loop-var.var (nat_abs c.args.common) lowest c.stays_within.result
     (to_z w128 (of_z w128 lowest.constant)) (read c.share_in.result) c.lowest_of-lowest.ensures.lowest constant
-    (ap nat_abs (read_common c.share_in.result c.share_in.ensures.range)
-    ∙ c.share_in.ensures.share
+    (ap nat_abs (read_share c.share_in.result c.share_in.ensures.positive c.share_in.ensures.size ∙ c.share_in.ensures.share)
     ∙ ap (λ (z : ℤ). nat_abs z / nat_abs (read lowest.denominator)) common
     ∙ ap (λ (z : ℤ). nat_abs c.args.common / nat_abs z) denominator)
     c.stays_within.ensures

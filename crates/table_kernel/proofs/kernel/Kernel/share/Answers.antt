@@ -5,9 +5,10 @@ use Rattle.std.specs.Prelude.{ℤ, pos, ◌*ℤ◌, ◌<ℤ◌, ◌≤ℤ◌, na
 use Prim.Native.Nat.{◌∣◌}
 use Rattle.integer_pivots.specs.declared.line.Line.{Line}
 use Rattle.integer_pivots.proofs.Sizes.{read}
+use Rattle.integer_pivots.proofs.LineReads.{denominator_read}
 use Rattle.table_kernel.specs.Numbers.{share_of}
 use Rattle.table_kernel.specs.Turns.{line_of}
-use Rattle.table_kernel.proofs.Lines.{IsLineRead, common_read, denominator_read, line_read, read_share}
+use Rattle.table_kernel.proofs.Lines.{IsLineRead, common_read, line_read, read_share}
 use Rattle.table_kernel.proofs.kernel.Kernel.share.Goals as goal
 use Rattle.table_kernel.proofs.kernel.Kernel.share.Goals.{After-index, After-share_in}
 

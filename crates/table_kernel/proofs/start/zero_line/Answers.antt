@@ -1,7 +1,0 @@
--- The zeros are as many as the columns.
-use Rattle.std.proofs.Common.{◌∙◌}
-use Rattle.table_kernel.proofs.StartNumbers.{zeros_long}
-use Rattle.table_kernel.proofs.start.zero_line.Goals as goal
-
-pub returns : goal.returns
-returns c = zeros_long c.from_items.result c.args.width (c.from_items.ensures ∙ c.in_ok-zeros.ensures)
