@@ -1,6 +1,8 @@
 pub mod Sizes
+pub mod MarkLaws
 pub mod FailedTests
 pub mod WrittenPlaces
+pub mod MarkedWalks
 pub mod Terms
 pub mod PartSums
 pub mod Narrowing

@@ -1,9 +1,10 @@
 -- What the numbers of a line have in common, and lines in lowest terms.
-use Rattle.std.proofs.Common.{◌≡◌, ℕ, ◌+◌, ◌*◌, ◌<◌, ◌≤◌, refl, sym, ◌∙◌, ap, subst, length, arith}
+use Rattle.std.proofs.Common.{◌≡◌, ℕ, ◌+◌, ◌*◌, ◌<◌, ◌≤◌, refl, sym, ◌∙◌, ap, subst, length, arith, inl, inr}
 use Rattle.std.specs.Prelude.{ℤ, pos, ◌*ℤ◌, ◌<ℤ◌, nat_abs}
+use Rattle.std.proofs.lemmas.Bool.{cases_lt}
 use Rattle.std.proofs.lemmas.Int.{ints, unsigned_abs-mul}
 use Rattle.std.proofs.lemmas.List.{get_or_default}
-use Rattle.std.proofs.lemmas.Nat.Gcd.{dvd_trans}
+use Rattle.std.proofs.lemmas.Nat.Gcd.{dvd-zero, dvd_trans}
 use Rattle.std.proofs.Math.Nat.{dvd_of_mul-dvd-mul_right, eq-one_of_dvd-one, mul-dvd-mul_right, mul-le-mul_left, one-dvd}
 use Prim.Native.Nat.{◌∣◌}
 use native.Mathlib.Nat.{one-mul}
@@ -107,3 +108,18 @@ reduced_within old new part most r within i e i_in =
     smaller y z k positive is small =
         let more : nat_abs z * 1 ≤ nat_abs z * k = mul-le-mul_left (nat_abs z) positive in
         omega (arith, ap nat_abs is, unsigned_abs-mul z (pos k), more, small)
+
+-- nothing changes where the numbers up to a column are 0
+pub common_passed : (line : Line) (i j : ℕ) (part : ℤ) → IsCommonPart line i part → i ≤ j →
+    ((c : ℕ) → i ≤ c → c < j → number_at line.numbers c ≡ pos 0) → IsCommonPart line j part
+common_passed line i j part common behind passed = record {
+  positive = common.positive;
+  denominator = common.denominator;
+  constant = common.constant;
+  numbers =
+      λ c c_in. elim (cases_lt c i) [
+        | inl before ↦ common.numbers c before
+        | inr here ↦ subst (λ (z : ℤ). nat_abs part ∣ nat_abs z) (sym (passed c here c_in)) (dvd-zero (nat_abs part))
+      ];
+  greatest = λ d below above all. common.greatest d below above (λ c c_in. all c (omega (arith, c_in, behind)));
+}

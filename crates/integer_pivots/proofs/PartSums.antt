@@ -1,9 +1,10 @@
 -- Sums to which a multiple is put place by place.
 use Rattle.std.proofs.Common.{◌≡◌, ℕ, zero, suc, ◌+◌, ◌*◌, ◌^◌, ◌<◌, ◌≤◌, refl, sym, ◌∙◌, ap, List, [], ◌∷◌, length, set, subst, arith, FitsSigned, w64}
-use Rattle.std.specs.Prelude.{ℤ, ◌+ℤ◌, ◌*ℤ◌, nat_abs}
+use Rattle.std.specs.Prelude.{ℤ, pos, ◌+ℤ◌, ◌*ℤ◌, nat_abs}
 use Rattle.std.proofs.lemmas.Int.{fits_signed_from_abs}
 use Rattle.whole_numbers.specs.Lists.{number_at}
 use Rattle.whole_numbers.proofs.Sizes.{sum_size}
+use Rattle.std.proofs.Math.IntN.{+ℤ_idr}
 use Rattle.integer_pivots.specs.Numbers.{more_sums}
 use Rattle.integer_pivots.proofs.Sizes.{product_size, product_small, read, read_number}
 
@@ -32,6 +33,26 @@ put_next (suc i) (sum ∷ sums) factor (z ∷ zs) i_in z_in = ap (λ ys. (sum +�
 pub partly_more : (i : ℕ) (sums : List ℤ) (factor : ℤ) (zs : List ℤ) → i < length sums → i < length zs →
     set (partly i sums factor zs) i (number_at sums i +ℤ (factor *ℤ number_at zs i)) ≡ partly (i + 1) sums factor zs
 partly_more i sums factor zs i_in z_in = put_next i sums factor zs i_in z_in ∙ ap (λ j. partly j sums factor zs) (let e : suc i ≡ i + 1 = omega arith in e)
+
+-- where a number is 0 nothing is put
+partly_same : (i : ℕ) (sums : List ℤ) (factor : ℤ) (zs : List ℤ) → number_at zs i ≡ pos 0 →
+    partly (suc i) sums factor zs ≡ partly i sums factor zs
+partly_same zero [] factor zs none = refl
+partly_same zero (sum ∷ sums) factor [] none = refl
+partly_same zero (sum ∷ sums) factor (z ∷ zs) none =
+    ap (λ (y : ℤ). (sum +ℤ (factor *ℤ y)) ∷ sums) none
+    ∙ ap (λ (y : ℤ). (sum +ℤ y) ∷ sums) (lib.IntN.*ℤ-zero factor) ∙ ap (λ (y : ℤ). y ∷ sums) (+ℤ_idr sum)
+partly_same (suc i) [] factor zs none = refl
+partly_same (suc i) (sum ∷ sums) factor [] none = refl
+partly_same (suc i) (sum ∷ sums) factor (z ∷ zs) none = ap (λ ys. (sum +ℤ (factor *ℤ z)) ∷ ys) (partly_same i sums factor zs none)
+
+pub partly_passed : (i more : ℕ) (sums : List ℤ) (factor : ℤ) (zs : List ℤ) →
+    ((c : ℕ) → i ≤ c → c < i + more → number_at zs c ≡ pos 0) → partly (i + more) sums factor zs ≡ partly i sums factor zs
+partly_passed i zero sums factor zs passed = ap (λ j. partly j sums factor zs) (let e : i + 0 ≡ i = omega arith in e)
+partly_passed i (suc more) sums factor zs passed =
+    ap (λ j. partly j sums factor zs) (let e : i + suc more ≡ suc (i + more) = omega arith in e)
+    ∙ partly_same (i + more) sums factor zs (passed (i + more) (omega arith) (omega arith))
+    ∙ partly_passed i more sums factor zs (λ c from before. passed c from (omega (arith, before)))
 
 pub partly_all : (i : ℕ) (sums : List ℤ) (factor : ℤ) (zs : List ℤ) → length sums ≤ i → partly i sums factor zs ≡ more_sums sums factor zs
 partly_all zero [] factor zs past = refl

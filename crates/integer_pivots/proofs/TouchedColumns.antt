@@ -1,8 +1,8 @@
 -- The columns in which a line isn't 0, and numbers of which those in these columns are written.
-use Rattle.std.proofs.Common.{◌≡◌, ◌≢◌, ℕ, zero, suc, ◌+◌, ◌<◌, refl, sym, ◌∙◌, ap, subst, List, [], ◌∷◌, ◌++◌, length, arith, inl, inr, ◌⊎◌, get_or-set_same, get_or-set_other}
+use Rattle.std.proofs.Common.{◌≡◌, ◌≢◌, ℕ, zero, suc, ◌+◌, ◌<◌, ◌≤◌, refl, sym, ◌∙◌, ap, subst, List, [], ◌∷◌, ◌++◌, length, arith, inl, inr, ◌⊎◌, get_or-set_same, get_or-set_other}
 use Rattle.std.specs.Prelude.{ℤ, pos, slice_index_or, slice_set}
 use Rattle.std.proofs.Math.Seq.{get_or-append_seam}
-use Rattle.std.proofs.lemmas.Bool.{cases_eq}
+use Rattle.std.proofs.lemmas.Bool.{cases_eq, cases_lt}
 use Rattle.std.proofs.lemmas.List.{get_or_append_left, length-append, length-set}
 use Rattle.whole_numbers.specs.Lists.{number_at}
 use Rattle.integer_pivots.specs.Turns.{AreNonZeros}
@@ -145,3 +145,16 @@ module _ (P : ℕ → ℤ → Type 0) (line : List ℤ) (columns : List ℕ) (t 
               | inr none ↦ subst (P c) (sym (are.rest c apart)) (stays c none)
             ]
       ]
+
+-- up to a column before which the line is 0 none joins
+pub zeros_pass : (line : List ℤ) (i j : ℕ) (columns : List ℕ) → AreNonZeros line i columns → i ≤ j →
+    ((c : ℕ) → i ≤ c → c < j → number_at line c ≡ pos 0) → AreNonZeros line j columns
+zeros_pass line i j columns t behind passed = record {
+  before = λ place place_in. let e = t.before place place_in in omega (arith, e, behind);
+  rises = t.rises;
+  others =
+      λ c c_in. elim (cases_lt c i) [
+        | inl before ↦ t.others c before
+        | inr here ↦ inr (passed c here c_in)
+      ];
+}

@@ -2,7 +2,7 @@
 use Rattle.std.proofs.Common.{◌≡◌, ℕ, zero, suc, ◌+◌, ◌*◌, ◌^◌, ◌<◌, ◌≤◌, refl, sym, ◌∙◌, ap, subst, List, [], ◌∷◌, length, arith, FitsSigned, w64, inl, inr, get_or-set_same, get_or-set_other}
 use Rattle.std.specs.Prelude.{ℤ, pos, negsuc, ◌-ℤ◌, ◌*ℤ◌, nat_abs, slice_set}
 use Prim.Native.Nat.{◌∣◌}
-use Rattle.std.proofs.lemmas.Bool.{cases_eq}
+use Rattle.std.proofs.lemmas.Bool.{cases_eq, cases_lt}
 use Rattle.std.proofs.lemmas.Int.{fits_signed_from_abs, ints, unsigned_abs-mul}
 use Rattle.std.proofs.lemmas.List.{length-set}
 use Rattle.std.proofs.lemmas.Nat.Gcd.{dvd_trans}
@@ -144,6 +144,33 @@ one_turned turn olds line first i news part number nexts next are number_is reci
           (g.2 d (subst (λ (z : ℤ). d ∣ nat_abs z) (sym number_is) (all i (omega arith)))
           (are.greatest d below (λ c c_in. all c (omega (arith, c_in)))));
     }
+
+-- where both lists are 0 up to a column, the numbers there have turned as they stand
+pub passed_turned : (turn : Turn) (olds line : List ℤ) (first : Divisor) (i j : ℕ) (news : List ℤ) (part : Divisor) →
+    AreTurnedFirst turn olds line first i news part → i ≤ j →
+    ((c : ℕ) → i ≤ c → c < j → (number_at news c ≡ pos 0) × (number_at line c ≡ pos 0)) →
+    AreTurnedFirst turn olds line first j news part
+passed_turned turn olds line first i j news part are behind passed = record {
+  reciprocal = are.reciprocal;
+  count = are.count;
+  done =
+      λ c c_in. elim (cases_lt c i) [
+        | inl before ↦ are.done c before
+        | inr here ↦
+            let none = passed c here c_in in
+            let old : number_at olds c ≡ pos 0 = sym (are.rest c here) ∙ none.0 in
+            ap (λ (z : ℤ). z *ℤ part.number) none.0 ∙ lib.IntN.zero-*ℤ part.number
+            ∙ sym (ap (λ (z : ℤ). turned_number turn z (number_at line c)) old
+            ∙ ap (turned_number turn (pos 0)) none.1 ∙ zero_turned turn)
+      ];
+  rest = λ c c_from. are.rest c (omega (arith, behind, c_from));
+  divides = are.divides;
+  greatest = λ d below all. are.greatest d below (λ c c_in. all c (omega (arith, c_in, behind)));
+} where
+  zero_turned : (turn : Turn) → turned_number turn (pos 0) (pos 0) ≡ pos 0
+  zero_turned turn =
+      ap (λ (z : ℤ). z -ℤ (turn.factor *ℤ pos 0)) (lib.IntN.*ℤ-zero turn.multiplier)
+      ∙ ap (λ (z : ℤ). pos 0 -ℤ z) (lib.IntN.*ℤ-zero turn.factor)
 
 -- the numbers before the next one, each times the divisor, are small
 pub first_small : (turn : Turn) (olds line : List ℤ) (first : Divisor) (i : ℕ) (news : List ℤ) (part : Divisor) →

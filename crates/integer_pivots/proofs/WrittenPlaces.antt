@@ -1,7 +1,7 @@
 -- Lists of which one place more is written.
 use Rattle.std.proofs.Common.{◌≡◌, ◌≢◌, ℕ, ◌+◌, ◌<◌, ◌≤◌, sym, ◌∙◌, subst, refl, List, length, arith, inl, inr, get_or-set_same, get_or-set_other, ap, ◌++◌, take, drop}
 use Rattle.std.specs.Prelude.{slice_index_or, slice_set}
-use Rattle.std.proofs.lemmas.Bool.{cases_eq}
+use Rattle.std.proofs.lemmas.Bool.{cases_eq, cases_lt}
 use Rattle.std.proofs.lemmas.List.{drop_all, append-nil, length-set, take_all}
 
 -- what holds of all numbers before one and of it
@@ -54,4 +54,17 @@ one_written P d olds i news x are i_in here = record {
   count = length-set news i x ∙ are.count;
   done = written_more P d news i x (omega (arith, are.count, i_in)) are.done here;
   rest = rest_more d olds news i x are.rest;
+}
+
+-- places that are passed by hold what they should as they were
+pub passed_written : {X : Type 0} (P : ℕ → X → Type 0) (d : X) (olds : List X) (i j : ℕ) (news : List X) →
+    AreWritten P d olds i news → i ≤ j → ((c : ℕ) → i ≤ c → c < j → P c (slice_index_or olds c d)) → AreWritten P d olds j news
+passed_written P d olds i j news are behind passed = record {
+  count = are.count;
+  done =
+      λ c c_in. elim (cases_lt c i) [
+        | inl before ↦ are.done c before
+        | inr here ↦ subst (P c) (sym (are.rest c here)) (passed c here c_in)
+      ];
+  rest = λ c c_from. are.rest c (omega (arith, behind, c_from));
 }

@@ -1,4 +1,5 @@
 pub mod Numbers
+pub mod Marks
 pub mod Leads
 pub mod Lines
 pub mod UnitLines

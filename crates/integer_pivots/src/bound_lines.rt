@@ -5,6 +5,7 @@ ghost use Rattle.integer_pivots.specs.Lines.{IsLine, step_of};
 
 use crate::bounds::greatest;
 use crate::line::Line;
+use crate::multiples::clear;
 
 /// Puts a line in place of another, with another sign and another constant.
 pub fn put_signed_line(into: &mut Line, line: &Line, sign: i64, constant: i64)
@@ -26,9 +27,12 @@ pub fn put_signed_line(into: &mut Line, line: &Line, sign: i64, constant: i64)
     into.denominator = line.denominator;
     into.constant = constant;
     into.reach = line.reach;
+    clear(&mut into.numbers);
     let numbers = line.numbers.as_slice();
-    for column in 0..numbers.len() {
+    let mut column = line.numbers.next(0);
+    while column < numbers.len() {
         into.numbers.set(column, sign * numbers[column]);
+        column = line.numbers.next(column + 1);
     }
 }
 

@@ -6,6 +6,7 @@ ghost use Rattle.cost_base.specs.Lists.{Has};
 ghost use Rattle.integer_pivots.specs.Choices.{AreLatest, AreLeast, IsPositiveAt, crosswise};
 ghost use Rattle.integer_pivots.specs.Numbers.{AllWithin};
 
+use crate::marked::MarkedNumbers;
 use std::cmp::Ordering;
 
 /// Looks at one more column: where the line is positive in it, it joins those that lead latest so far, or takes their
@@ -43,7 +44,7 @@ fn put_later(
 
 /// Puts those of the columns in which the line is positive into `left` that lead latest, and gives the variable at
 /// which they lead.
-pub fn put_latest(left: &mut Vec<usize>, line: &[i64], leads: &[usize]) -> usize
+pub fn put_latest(left: &mut Vec<usize>, line: &MarkedNumbers, leads: &[usize]) -> usize
     requires leads { length leads.now ≡ length line.now }
     requires room { length line.now ≤ vec_capacity left.old }
     ensures latest { AreLatest line.now leads.now (length line.now) result left.new.items }
@@ -51,8 +52,10 @@ pub fn put_latest(left: &mut Vec<usize>, line: &[i64], leads: &[usize]) -> usize
 {
     left.clear();
     let mut latest = 0;
-    for column in 0..line.len() {
-        latest = put_later(left, line, leads, column, latest);
+    let mut column = line.next(0);
+    while column < line.as_slice().len() {
+        latest = put_later(left, line.as_slice(), leads, column, latest);
+        column = line.next(column + 1);
     }
     latest
 }

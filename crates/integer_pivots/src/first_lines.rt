@@ -4,9 +4,29 @@ ghost use Rattle.cost_base.specs.Lists.{numbers_from};
 ghost use Rattle.integer_pivots.specs.UnitLines.{unit_line_of};
 
 use crate::line::Line;
+use crate::marked::MarkedNumbers;
 use crate::turn::Turn;
-use cost_base::{Listed, OutOfMemory};
+use cost_base::OutOfMemory;
 use std::alloc::Global;
+
+/// A thing as often as asked for.
+///
+/// # Errors
+///
+/// `OutOfMemory`.
+pub(crate) fn repeated<T: Copy>(
+    alloc: Global,
+    thing: T,
+    count: usize,
+) -> Result<Vec<T>, OutOfMemory>
+    ensures { IfOk result (λ list. list.items ≡ map (λ place. thing) (numbers_from 0 count)) }
+{
+    let mut list = Vec::new(alloc);
+    for _ in 0..count {
+        list.push(thing)?;
+    }
+    Ok(list)
+}
 
 /// A list of zeros.
 ///
@@ -16,11 +36,7 @@ use std::alloc::Global;
 pub fn zeros(alloc: Global, count: usize) -> Result<Vec<i64>, OutOfMemory>
     ensures { IfOk result (λ list. list.items ≡ map (λ place. pos 0) (numbers_from 0 count)) }
 {
-    let mut list = Vec::new(alloc);
-    for _ in 0..count {
-        list.push(0)?;
-    }
-    Ok(list)
+    repeated(alloc, 0, count)
 }
 
 /// Room for so many columns.
@@ -57,7 +73,7 @@ fn unit_line(alloc: Global, width: usize, var: usize) -> Result<Line, OutOfMemor
     requires var { var < width }
     ensures { IfOk result (λ line. line ≡ unit_line_of width var) }
 {
-    let mut numbers = Listed::from_items(zeros(alloc, width)?);
+    let mut numbers = MarkedNumbers::zeros(alloc, width)?;
     numbers.set(var, 1);
     Ok(Line {
         denominator: 1,
@@ -93,7 +109,7 @@ pub fn zero_line(alloc: Global, width: usize) -> Result<Line, OutOfMemory>
     Ok(Line {
         denominator: 1,
         constant: 0,
-        numbers: Listed::from_items(zeros(alloc, width)?),
+        numbers: MarkedNumbers::zeros(alloc, width)?,
         reach: 0,
     })
 }

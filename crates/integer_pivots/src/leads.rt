@@ -14,7 +14,7 @@ fn lead_from(lines: &[Line], column: usize, first: usize) -> usize
     ensures { AreZeros (rows_of lines.now) column first → IsLead (rows_of lines.now) column result }
 {
     for var in first..lines.len() {
-        if lines[var].numbers.as_slice()[column] != 0 {
+        if lines[var].numbers.at(column) != 0 {
             return var;
         }
     }

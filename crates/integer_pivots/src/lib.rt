@@ -10,6 +10,7 @@ mod first_lines;
 mod leads;
 mod line;
 mod lowest;
+mod marked;
 mod multiples;
 mod reciprocal;
 mod shares;
@@ -25,6 +26,7 @@ pub use first_lines::{no_turns, room_of, unit_leads, unit_lines, zero_line, zero
 pub use leads::{put_leads, turn_leads};
 pub use line::Line;
 pub use lowest::Lowest;
+pub use marked::MarkedNumbers;
 pub use multiples::{clear, put_multiple};
 pub use shares::{denominator_times, share_in, stays_within};
 pub use turn::{Turn, common_multiple, put_touched, turn_of};

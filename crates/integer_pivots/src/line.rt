@@ -7,7 +7,7 @@ ghost use Rattle.integer_pivots.specs.Lines.{IsLowered, IsReduced, IsReducible};
 ghost use Rattle.integer_pivots.specs.Numbers.{AllWithin};
 
 use crate::bounds::greatest;
-use cost_base::Listed;
+use crate::marked::MarkedNumbers;
 use whole_numbers::greatest_common_divisor;
 
 /// A reach above this is looked up: 2^20.
@@ -21,7 +21,7 @@ pub struct Line {
     /// The form's value where all forms of the basis are 0.
     pub constant: i64,
     /// How far the form rises with the form of each column.
-    pub numbers: Listed<i64>,
+    pub numbers: MarkedNumbers,
     /// No number at a column is greater in size.
     pub reach: i64,
 }
@@ -70,7 +70,7 @@ pub fn over(number: i64, part: i64) -> i64
 }
 
 /// Puts each number, into which a divisor goes, over it.
-fn divide(numbers: &mut Listed<i64>, part: i64)
+fn divide(numbers: &mut MarkedNumbers, part: i64)
     requires part { pos 0 <ℤ part }
     requires whole { (c : ℕ) → c < length numbers.old → nat_abs part ∣
         nat_abs (number_at numbers.old c) }
@@ -79,9 +79,11 @@ fn divide(numbers: &mut Listed<i64>, part: i64)
     ensures numbers { (c : ℕ) → c < length numbers.old → (number_at numbers.new c *ℤ part) ≡
         number_at numbers.old c }
 {
-    for column in 0..numbers.as_slice().len() {
+    let mut column = numbers.next(0);
+    while column < numbers.as_slice().len() {
         let number = numbers.as_slice()[column];
         numbers.set(column, over(number, part));
+        column = numbers.next(column + 1);
     }
 }
 
@@ -105,11 +107,13 @@ impl Line {
     {
         let mut part = common_with(self.constant, self.denominator);
         let numbers = self.numbers.as_slice();
-        for column in 0..numbers.len() {
+        let mut column = self.numbers.next(0);
+        while column < numbers.len() {
             if part == 1 {
                 return 1;
             }
             part = common_with(numbers[column], part);
+            column = self.numbers.next(column + 1);
         }
         part
     }

@@ -10,8 +10,8 @@ ghost use Rattle.integer_pivots.specs.Turns.{AreNonZeros, IsAtPivot, IsTurnedLin
 
 use crate::bounds::{ENTRY_LIMIT, greater_size, greatest};
 use crate::line::{Line, common_with, over};
+use crate::marked::MarkedNumbers;
 use crate::reciprocal::Divisor;
-use cost_base::Listed;
 
 /// How a line turns: what it is multiplied by, and how many times the entering form's line is taken away then.
 #[derive(Clone, Copy)]
@@ -68,21 +68,21 @@ pub fn common_multiple(first: i64, second: i64) -> Option<i64>
 }
 
 /// Puts the columns in which a line isn't 0 into `touched`, in rising order.
-pub fn put_touched(touched: &mut Vec<usize>, line: &[i64])
+pub fn put_touched(touched: &mut Vec<usize>, line: &MarkedNumbers)
     requires room { length line.now ≤ vec_capacity touched.old }
     ensures touched { AreNonZeros line.now (length line.now) touched.new.items }
     ensures room { vec_capacity touched.new ≡ vec_capacity touched.old }
 {
     touched.clear();
-    for column in 0..line.len() {
-        if line[column] != 0 {
-            touched.push_reserved(column);
-        }
+    let mut column = line.next(0);
+    while column < line.as_slice().len() {
+        touched.push_reserved(column);
+        column = line.next(column + 1);
     }
 }
 
 /// Takes a multiple of a line's numbers away, at the columns in which it isn't 0.
-fn take_away(numbers: &mut Listed<i64>, factor: i64, line: &[i64], touched: &[usize])
+fn take_away(numbers: &mut MarkedNumbers, factor: i64, line: &[i64], touched: &[usize])
     // Both lists have one length, and their numbers are so small that the differences fit 64 bits.
     requires long { length numbers.old ≡ length line.now }
     requires sizes { AllWithin (2 ^ 61) numbers.old }
@@ -105,7 +105,7 @@ fn take_away(numbers: &mut Listed<i64>, factor: i64, line: &[i64], touched: &[us
 }
 
 /// Multiplies the first numbers, so many.
-fn multiply_first(numbers: &mut Listed<i64>, count: usize, multiplier: i64)
+fn multiply_first(numbers: &mut MarkedNumbers, count: usize, multiplier: i64)
     requires count { count ≤ length numbers.old }
     requires sizes { (c : ℕ) → c < count →
         nat_abs (number_at numbers.old c) * nat_abs multiplier ≤ 2 ^ 30 }
@@ -114,15 +114,22 @@ fn multiply_first(numbers: &mut Listed<i64>, count: usize, multiplier: i64)
         (multiplier *ℤ number_at numbers.old c) }
     ensures others { (c : ℕ) → count ≤ c → number_at numbers.new c ≡ number_at numbers.old c }
 {
-    for column in 0..count {
+    let mut column = numbers.next(0);
+    while column < count {
         let number = numbers.as_slice()[column];
         numbers.set(column, multiplier * number);
+        column = numbers.next(column + 1);
     }
 }
 
 /// Puts a number at a column, over what it has in common with the divisor over which the numbers before it stand. They
 /// stand over that common part then, too. Gives it.
-fn put_over_common(numbers: &mut Listed<i64>, column: usize, number: i64, part: Divisor) -> Divisor
+fn put_over_common(
+    numbers: &mut MarkedNumbers,
+    column: usize,
+    number: i64,
+    part: Divisor,
+) -> Divisor
     // The number is small, and so are those before the column, each times the divisor.
     requires part { IsReciprocal part }
     requires column { column < length numbers.old }
@@ -138,6 +145,10 @@ fn put_over_common(numbers: &mut Listed<i64>, column: usize, number: i64, part: 
     ensures numbers { ArePutOver column number numbers.old part.number
         numbers.new result.number }
 {
+    if part.number == 1 {
+        numbers.set(column, number);
+        return part;
+    }
     if part.divides(number) {
         numbers.set(column, part.over(number));
         return part;
@@ -195,7 +206,12 @@ impl Turn {
 
     /// Turns numbers by those of the entering line, each over what it has in common with all of them and with a divisor.
     /// Gives that common part.
-    fn turn_over(self, numbers: &mut Listed<i64>, entering: &[i64], part: Divisor) -> Divisor
+    fn turn_over(
+        self,
+        numbers: &mut MarkedNumbers,
+        entering: &MarkedNumbers,
+        part: Divisor,
+    ) -> Divisor
         // Both lists have one length, and their numbers stay small in the turn.
         requires long { length numbers.old ≡ length entering.now }
         requires part { IsReciprocal part }
@@ -219,9 +235,12 @@ impl Turn {
             d ∣ nat_abs result.number }
     {
         let mut part = part;
-        for column in 0..entering.len() {
-            let number = self.turned_small(numbers.as_slice()[column], entering[column]);
+        let line = entering.as_slice();
+        let mut column = numbers.next_of_both(entering, 0);
+        while column < line.len() {
+            let number = self.turned_small(numbers.as_slice()[column], line[column]);
             part = put_over_common(numbers, column, number, part);
+            column = numbers.next_of_both(entering, column + 1);
         }
         part
     }
@@ -322,7 +341,7 @@ impl Line {
         let own = turn.factor * entering.denominator;
         let common = common_with(self.constant, self.denominator);
         let part = Divisor::new(common).shared_with(own);
-        let part = turn.turn_over(&mut self.numbers, entering.numbers.as_slice(), part);
+        let part = turn.turn_over(&mut self.numbers, &entering.numbers, part);
         self.denominator = part.over(self.denominator);
         self.constant = part.over(self.constant);
         self.numbers.set(column, part.over(own));

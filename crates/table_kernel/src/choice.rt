@@ -64,7 +64,7 @@ impl Kernel {
     {
         let latest = put_latest(
             &mut self.left,
-            self.entering.numbers.as_slice(),
+            &self.entering.numbers,
             self.leads.as_slice(),
         );
         if self.left.is_empty() {

@@ -14,11 +14,10 @@ ghost use Rattle.table_kernel.specs.Turns.{line_of};
 
 use crate::Kernel;
 use crate::kernel::OutOfRange;
-use cost_base::Listed;
 use design_problem::{Form, Member};
 use fraction_table::range_of;
 use integer_pivots::{
-    ENTRY_LIMIT, FACTOR_LIMIT, Line, clear, put_multiple, put_signed_line, share_in,
+    ENTRY_LIMIT, FACTOR_LIMIT, Line, MarkedNumbers, clear, put_multiple, put_signed_line, share_in,
 };
 
 /// A term's factor times a number, both of which are small.
@@ -32,7 +31,7 @@ fn product_of(factor: i64, number: i128) -> i128
 
 /// Puts a form's numbers over a common denominator in place of numbers: the sum of its coefficients, each times its
 /// variable's line.
-fn put_sums(sums: &mut Listed<i64>, form: &Form, lows: &[Line], common: i64)
+fn put_sums(sums: &mut MarkedNumbers, form: &Form, lows: &[Line], common: i64)
     // Each variable of the form has a line, whose denominator goes into the common one.
     requires count { length form.now.coefficients ≤ length lows.now }
     requires common { (pos 0 <ℤ common) × (common ≤ℤ pos (2 ^ 30)) }
@@ -54,7 +53,7 @@ fn put_sums(sums: &mut Listed<i64>, form: &Form, lows: &[Line], common: i64)
     for term in form.terms() {
         let line = &lows[term.var as usize];
         let factor = term.coefficient * share_in(common, line.denominator);
-        put_multiple(sums, factor, line.numbers.as_slice());
+        put_multiple(sums, factor, &line.numbers);
     }
 }
 

@@ -16,10 +16,10 @@ ghost use Rattle.table_kernel.specs.Turns.{KeepsAllButLows, line_of};
 
 use crate::Kernel;
 use crate::kernel::OutOfRange;
-use cost_base::Listed;
 use fraction_rows::TableRow;
 use integer_pivots::{
-    CONSTANT_LIMIT, ENTRY_LIMIT, Line, common_multiple, greatest, put_leads, share_in, stays_within,
+    CONSTANT_LIMIT, ENTRY_LIMIT, Line, MarkedNumbers, common_multiple, greatest, put_leads,
+    share_in, stays_within,
 };
 use wide_fraction::Frac;
 
@@ -77,7 +77,7 @@ fn number_over(value: Frac, denominator: i64, limit: i64) -> Option<i64>
 ///
 /// `OutOfRange` where one of them passes 2^30 in size.
 fn read_numbers(
-    numbers: &mut Listed<i64>,
+    numbers: &mut MarkedNumbers,
     row: &TableRow,
     denominator: i64,
 ) -> Result<(), OutOfRange>

@@ -251,7 +251,7 @@ impl Kernel {
     {
         let pivot = self.entering.numbers.as_slice()[column];
         for var in 0..self.lows.len() {
-            self.turns[var] = turn_of(self.lows[var].numbers.as_slice()[column], pivot);
+            self.turns[var] = turn_of(self.lows[var].numbers.at(column), pivot);
         }
     }
 
@@ -278,7 +278,7 @@ impl Kernel {
         ensures entering { self.new.entering ≡ self.old.entering }
         ensures keeps { KeepsNumbers self.old self.new }
     {
-        put_touched(&mut self.left, self.entering.numbers.as_slice());
+        put_touched(&mut self.left, &self.entering.numbers);
     }
 
     /// Turns the kernel at a place's form and a column: the form takes the place of the column's form in the basis. The

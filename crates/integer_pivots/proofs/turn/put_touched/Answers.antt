@@ -1,33 +1,25 @@
--- A column in which the line isn't 0 joins those before it.
-use Rattle.std.proofs.Common.{◌≡◌, ◌+◌, sym, ◌∙◌, ap, subst, arith, SFits, w64, to_z, rules}
-use Rattle.std.specs.Prelude.{pos}
-use Rattle.std.proofs.lemmas.Int.{to_z-of_z}
-use Rattle.whole_numbers.specs.Lists.{number_at}
+-- The next column with a mark joins those before it.
+use Rattle.std.proofs.Common.{◌+◌, sym, ap, subst, arith, length}
 use Rattle.integer_pivots.specs.Turns.{AreNonZeros}
-use Rattle.integer_pivots.proofs.TouchedColumns.{non_zero_joins, zero_passes}
+use Rattle.integer_pivots.proofs.TouchedColumns.{non_zero_joins, zeros_pass}
 use Rattle.integer_pivots.proofs.turn.put_touched.Goals as goal
-use Rattle.integer_pivots.proofs.turn.put_touched.Goals.{else-line-column-ne0, then-line-column-ne0}
 
 pub loop-column-preserved : goal.loop-column-preserved
 loop-column-preserved c =
     let line = c.args.line.now in
     let column = c.loop-column.column in
-    let columns = c.loop-column.touched.items in
-    let z = number_at line column in
-    let fits : SFits w64 z = search rules in
-    elim c.if-line-column-ne0.branch [
-      | then-line-column-ne0 w ↦
-          rw w.touched-is record {
-            touched = subst (AreNonZeros line (column + 1)) (sym w.push_reserved.ensures.items)
-                (non_zero_joins line column columns c.loop-column.invariant.touched);
-            count = omega (arith, w.push_reserved.ensures.len);
-            room = omega (arith, w.push_reserved.ensures.capacity);
-          }
-      | else-line-column-ne0 w ↦
-          let none : z ≡ pos 0 = sym (to_z-of_z w64 z fits) ∙ ap (to_z w64) w.if-line-column-ne0.false in
-          rw w.touched-is record {
-            touched = zero_passes line column columns none c.loop-column.invariant.touched;
-            count = omega arith;
-            room = c.loop-column.invariant.room;
-          }
-    ]
+    let next = c.next-column-in-loop-column in
+    record {
+      touched =
+          zeros_pass line (column + 1) next.result _
+          (subst (AreNonZeros line (column + 1)) (sym c.push_reserved.ensures.items)
+          (non_zero_joins line column c.loop-column.touched.items c.loop-column.invariant.touched)) next.ensures.from next.ensures.passed;
+      count = omega (arith, c.push_reserved.ensures.len, next.ensures.from);
+      until = next.ensures.within;
+      room = omega (arith, c.push_reserved.ensures.capacity);
+    }
+
+pub returns-clause-touched : goal.returns-clause-touched
+returns-clause-touched c =
+    subst (λ n. AreNonZeros c.args.line.now n c.loop-column.touched.items)
+    (omega (arith, c.loop-column.invariant.until, c.loop-column-test.false, ap length c.as_slice.ensures)) c.loop-column.invariant.touched

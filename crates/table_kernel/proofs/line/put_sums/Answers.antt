@@ -5,7 +5,7 @@ use Prim.Native.Nat.{◌∣◌}
 use Rattle.whole_numbers.proofs.Divisors.{quotient_positive}
 use Rattle.whole_numbers.proofs.Sizes.{size_positive}
 use Rattle.design_problem.specs.Forms.{no_term}
-use Rattle.integer_pivots.specs.Numbers.{AllWithin, more_sums, product_sum}
+use Rattle.integer_pivots.specs.Numbers.{product_sum}
 use Rattle.integer_pivots.proofs.PartSums.{more_long}
 use Rattle.integer_pivots.proofs.Sizes.{read, size_most}
 use Rattle.integer_pivots.proofs.LineReads.{denominator_read, numbers_small}
@@ -85,7 +85,7 @@ overflow_mul-factor c = (made (goal.at.overflow_mul-factor c).After-share_in).fi
 pub put_multiple-requires-clause-long : goal.put_multiple-requires-clause-long
 put_multiple-requires-clause-long c =
     let l = here (goal.at.put_multiple-requires-clause-long c).After-share_in in
-    omega (arith, c.loop-term.invariant.count, l.long, ap length c.as_slice.ensures)
+    omega (arith, c.loop-term.invariant.count, l.long)
 
 pub put_multiple-requires-clause-factor : goal.put_multiple-requires-clause-factor
 put_multiple-requires-clause-factor c =
@@ -102,14 +102,14 @@ put_multiple-requires-clause-sums c =
 pub put_multiple-requires-clause-numbers : goal.put_multiple-requires-clause-numbers
 put_multiple-requires-clause-numbers c =
     let l = here (goal.at.put_multiple-requires-clause-numbers c).After-share_in in
-    subst (AllWithin (2 ^ 30)) (sym c.as_slice.ensures) (numbers_small c.index-lows-term.result l.small)
+    numbers_small c.index-lows-term.result l.small
 
 pub loop-term-preserved : goal.loop-term-preserved
 loop-term-preserved c =
     let l = here (goal.at.loop-term-preserved c).After-share_in in
     let m = made (goal.at.loop-term-preserved c).After-share_in in
     let f = read (read (get_or c.terms-term-items.result.now c.loop-term.term-index no_term).coefficient *ℤ read c.share_in.result) in
-    let news = c.put_multiple.ensures ∙ ap (more_sums c.loop-term.sums f) c.as_slice.ensures in
+    let news = c.put_multiple.ensures in
     record {
       count = ap length news ∙ more_long c.loop-term.sums f c.index-lows-term.result.numbers ∙ c.loop-term.invariant.count;
       put = put_more (nat_abs (read c.args.common)) c.args.lows.now c.terms-term-items.result.now c.loop-term.term-index no_term c.loop-term.sums

@@ -1,5 +1,5 @@
 -- What all numbers that have turned have in common goes out.
-use Rattle.std.proofs.Common.{◌+◌, ◌*◌, ◌^◌, ◌≤◌, sym, ◌∙◌, ap, subst, List, length, arith, get_or-set_same, get_or-set_other}
+use Rattle.std.proofs.Common.{◌^◌, sym, ◌∙◌, ap, subst, List, length, arith, get_or-set_same, get_or-set_other}
 use Rattle.std.specs.Prelude.{ℤ, pos, ◌*ℤ◌, ◌<ℤ◌, ◌≤ℤ◌, nat_abs}
 use Prim.Native.Nat.{◌∣◌}
 use Rattle.std.proofs.lemmas.Int.{ints}
@@ -8,7 +8,7 @@ use mathlib.Core.Path.{ap₂}
 use Rattle.whole_numbers.specs.Fractions.{gcd}
 use Rattle.whole_numbers.specs.Lists.{number_at}
 use Rattle.integer_pivots.specs.declared.line.Line.{Line}
-use Rattle.integer_pivots.specs.Turns.{IsTurnedOver, turned_number}
+use Rattle.integer_pivots.specs.Turns.{IsTurnedOver}
 use Rattle.integer_pivots.proofs.Sizes.{read, read_known, read_number, size_most}
 use Rattle.integer_pivots.proofs.TurnedLines.{IsTurnPart, constant_read, denominator_read, lowest_over_turn, own_fits, own_read, own_small, turn_part, turning_denominator, turning_small}
 use Rattle.integer_pivots.proofs.line.Line.turn_and_lower.Goals as goal
@@ -30,13 +30,11 @@ pub shared_with-part-requires-clause-size : goal.shared_with-part-requires-claus
 shared_with-part-requires-clause-size c = own_small c.args.turn c.args.column c.args.entering.now c.args.self.now c.requires.turning
 
 pub turn_over-part-requires-clause-long : goal.turn_over-part-requires-clause-long
-turn_over-part-requires-clause-long c = c.requires.turning.long ∙ sym (ap length c.as_slice.ensures)
+turn_over-part-requires-clause-long c = c.requires.turning.long
 
 pub turn_over-part-requires-clause-small : goal.turn_over-part-requires-clause-small
 turn_over-part-requires-clause-small c k k_in =
-    subst (λ (zs : List ℤ). nat_abs c.args.turn.multiplier * nat_abs (number_at c.args.self.now.numbers k)
-    + nat_abs c.args.turn.factor * nat_abs (number_at zs k) ≤ 2 ^ 30) (sym c.as_slice.ensures)
-    (turning_small c.args.turn c.args.column c.args.entering.now c.args.self.now c.requires.turning k)
+    turning_small c.args.turn c.args.column c.args.entering.now c.args.self.now c.requires.turning k
 
 common : (c : After-turn_over-part) → IsTurnPart c.args.turn c.args.entering.now c.args.self.now c.turn_over-part.result.number
 common c =
@@ -52,8 +50,7 @@ common c =
     ∙ ap (λ (z : ℤ). pos (gcd (nat_abs z) (nat_abs c.new.result.number))) (own_read turn c.args.column entering old t))
     c.turn_over-part.ensures.reciprocal.positive c.turn_over-part.ensures.divides
     (λ d below turned. c.turn_over-part.ensures.greatest d below
-    (λ k k_in. subst (λ (zs : List ℤ). d ∣ nat_abs (turned_number c.args.turn (number_at c.args.self.now.numbers k) (number_at zs k)))
-    (sym c.as_slice.ensures) (turned k k_in)))
+    turned)
 
 pub over-self-requires-clause-size : goal.over-self-requires-clause-size
 over-self-requires-clause-size c =
@@ -116,8 +113,7 @@ turned c =
       count = ap length c.set.ensures ∙ length-set mids column q ∙ c.turn_over-part.ensures.count;
       others = λ k k_in apart.
           ap (λ (z : ℤ). z *ℤ part) (ap (λ (zs : List ℤ). number_at zs k) c.set.ensures ∙ get_or-set_other mids column k q (pos 0) apart)
-          ∙ c.turn_over-part.ensures.each k k_in
-          ∙ ap (λ (zs : List ℤ). turned_number turn (number_at old.numbers k) (number_at zs k)) c.as_slice.ensures;
+          ∙ c.turn_over-part.ensures.each k k_in;
       own = ap (λ (z : ℤ). z *ℤ part) (ap (λ (zs : List ℤ). number_at zs column) c.set.ensures
           ∙ get_or-set_same mids column q (pos 0) (omega (arith, t.inside, c.turn_over-part.ensures.count))
           ∙ read_known c.over.result c.over.type_inv) ∙ c.over.ensures ∙ own_read turn column entering old t;

@@ -1,6 +1,14 @@
 -- The numbers before the counter have turned, over what they have in common with the divisor.
+use Rattle.std.proofs.Common.{◌-◌, ◌≤◌, length}
 use Rattle.integer_pivots.proofs.TurnedOver.{AreTurnedFirst}
 use Rattle.integer_pivots.proofs.turn.Turn.turn_over.Given as goal
 
 abbrev pub invariant-loop-column : goal.invariant-loop-column
-invariant-loop-column l = AreTurnedFirst l.self l.fn.numbers l.entering l.fn.part l.column l.numbers l.part
+invariant-loop-column l = record {
+  turned : AreTurnedFirst l.self l.fn.numbers l.entering l.fn.part l.column l.numbers l.part;
+  until : l.column ≤ length l.numbers;
+}
+
+-- the columns that are left
+abbrev pub decreases-loop-column : goal.decreases-loop-column
+decreases-loop-column l = length l.entering - l.column

@@ -18,7 +18,7 @@ look_at_all-requires-clause-kernel c =
 pub put_latest-latest-requires-clause-leads : goal.put_latest-latest-requires-clause-leads
 put_latest-latest-requires-clause-leads c =
     let s = c.requires.kernel.shaped in
-    ap length c.as_slice-2.ensures.value ∙ s.leads ∙ sym s.entering ∙ ap length (sym c.as_slice.ensures)
+    ap length c.as_slice.ensures.value ∙ s.leads ∙ sym s.entering
 
 pub look_at_all-requires-clause-left : goal.look_at_all-requires-clause-left
 look_at_all-requires-clause-left c =
@@ -27,8 +27,8 @@ look_at_all-requires-clause-left c =
     record {
       some = grind (arith, nat_tests);
       columns = left_of c.args.self.now c.put_latest-latest.result c.put_latest-latest.new.left.items c.requires.kernel
-          (latest_read c.args.self.now c.as_slice.result.now c.as_slice-2.result.now c.put_latest-latest.result
-          c.put_latest-latest.new.left.items c.as_slice.ensures c.as_slice-2.ensures.value
+          (latest_read c.args.self.now c.args.self.now.entering.numbers c.as_slice.result.now c.put_latest-latest.result
+          c.put_latest-latest.new.left.items refl c.as_slice.ensures.value
           c.put_latest-latest.ensures.latest);
     }
 
@@ -38,8 +38,8 @@ returns-then-is_empty-clause-best c =
     let tested : (vec_len left == 0) ≡ true = sym c.is_empty.ensures ∙ c.if-is_empty.true in
     let none : vec_len left ≡ 0 = grind (arith, nat_tests) in
     none_best c.args.self.now c.put_latest-latest.result left.items c.requires.kernel.shaped
-    (latest_read c.args.self.now c.as_slice.result.now c.as_slice-2.result.now c.put_latest-latest.result left.items
-    c.as_slice.ensures c.as_slice-2.ensures.value c.put_latest-latest.ensures.latest)
+    (latest_read c.args.self.now c.args.self.now.entering.numbers c.as_slice.result.now c.put_latest-latest.result left.items
+    refl c.as_slice.ensures.value c.put_latest-latest.ensures.latest)
     (omega (arith, none, left.ok.0))
 
 pub returns-clause-best : goal.returns-clause-best
