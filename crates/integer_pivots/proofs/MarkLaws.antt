@@ -9,7 +9,7 @@ use Rattle.std.specs.Int.{bit_at, bit_not, trailing_zeros}
 use Rattle.cost_base.specs.Lists.{numbers_from}
 use Rattle.cost_base.proofs.ListLemmas.{get_or-map-numbers_from, length-map-numbers_from}
 use Rattle.whole_numbers.specs.Lists.{number_at}
-use Rattle.integer_pivots.specs.Marks.{AreMarked, IsUnmarked}
+use Rattle.integer_pivots.specs.Marks.{AreNumbersMarked, IsUnmarked}
 
 module _ (first second : List ℕ) (c : ℕ) where
   -- the words of a column's marks in both lists, as one
@@ -149,10 +149,10 @@ clear_others marks column word within is c other none =
     (λ i small apart. bit_at_clear_other w64 word (column % 64) (omega arith) i small apart ∙ ap (λ (m : ℕ). bit_at m i) is) none
 
 -- Numbers stay marked where one is put at a column: others lose no mark, and its own stands unless it is 0.
-pub stays_marked : (numbers : List ℤ) (marks new : List ℕ) (column : ℕ) (number : ℤ) (stands : Bool) → AreMarked numbers marks →
+pub stays_marked : (numbers : List ℤ) (marks new : List ℕ) (column : ℕ) (number : ℤ) (stands : Bool) → AreNumbersMarked numbers marks →
     length new ≡ length marks → column < length numbers → (stands ≡ false → number ≡ pos 0) →
     (stands ≡ true → bit_at (slice_index_or new (column / 64) 0) (column % 64) ≡ 1) →
-    ((c : ℕ) → c ≢ column → IsUnmarked new c → IsUnmarked marks c) → AreMarked (slice_set numbers column number) new
+    ((c : ℕ) → c ≢ column → IsUnmarked new c → IsUnmarked marks c) → AreNumbersMarked (slice_set numbers column number) new
 stays_marked numbers marks new column number stands kept count within zero own others = record {
   words = count ∙ kept.words ∙ ap (λ (n : ℕ). n / 64 + 1) (sym (length-set numbers column number));
   zeros =
@@ -171,7 +171,7 @@ stays_marked numbers marks new column number stands kept count within zero own o
 
 -- zeros need no mark
 pub zeros_marked : (width : ℕ) (numbers : List ℤ) (marks : List ℕ) → numbers ≡ map (λ place. pos 0) (numbers_from 0 width) →
-    marks ≡ map (λ place. 0) (numbers_from 0 (width / 64 + 1)) → AreMarked numbers marks
+    marks ≡ map (λ place. 0) (numbers_from 0 (width / 64 + 1)) → AreNumbersMarked numbers marks
 zeros_marked width numbers marks are are_marks =
     let long : length numbers ≡ width = ap length are ∙ length-map-numbers_from (λ place. pos 0) 0 width in
     let words : length marks ≡ width / 64 + 1 = ap length are_marks ∙ length-map-numbers_from (λ place. 0) 0 (width / 64 + 1) in record {

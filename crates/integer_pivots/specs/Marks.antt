@@ -8,6 +8,6 @@ abbrev pub IsUnmarked : List ℕ → ℕ → Type 0
 IsUnmarked marks c = bit_at (slice_index_or marks (c / 64) 0) (c % 64) ≡ 0
 
 -- a column without a mark has the number 0, and there is a word of marks for each 64 columns, and one more
-pub record AreMarked (numbers : List ℤ) (marks : List ℕ) : Type 0 where
+pub record AreNumbersMarked (numbers : List ℤ) (marks : List ℕ) : Type 0 where
   pub words : length marks ≡ length numbers / 64 + 1
   pub zeros : (c : ℕ) → IsUnmarked marks c → number_at numbers c ≡ pos 0

@@ -3,7 +3,7 @@ ghost use Rattle.std.specs.Prelude.{◌≡◌, ◌≢◌, ℕ, ℤ, ◌+◌, ◌
 ghost use Rattle.std.specs.Int.{bit_at};
 ghost use Rattle.cost_base.specs.Lists.{numbers_from};
 ghost use Rattle.whole_numbers.specs.Lists.{number_at};
-ghost use Rattle.integer_pivots.specs.Marks.{AreMarked, IsUnmarked};
+ghost use Rattle.integer_pivots.specs.Marks.{AreNumbersMarked, IsUnmarked};
 
 use crate::first_lines::repeated;
 use cost_base::OutOfMemory;
@@ -26,7 +26,7 @@ impl Model for MarkedNumbers {
 
     ghost view = { λ m. m.numbers.items };
 
-    ghost invariant = { λ m. AreMarked m.numbers.items m.marks.items };
+    ghost invariant = { λ m. AreNumbersMarked m.numbers.items m.marks.items };
 }
 
 /// The column of a word's bit, where it is one of so many columns; else how many there are.
