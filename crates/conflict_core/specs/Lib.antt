@@ -1,3 +1,4 @@
 pub mod Conflicts
+pub mod Asking
 pub mod Deciding
 pub mod Laws

@@ -1,6 +1,6 @@
 //! One set of requests decided.
-ghost use Rattle.std.specs.Prelude.{IfOk};
-ghost use Rattle.form_search.specs.Advised.{AreCalled};
+ghost use Rattle.std.specs.Prelude.{IfOk, OnOk};
+ghost use Rattle.conflict_core.specs.Asking.{AreAskedOfSome, IsAskedOf};
 ghost use Rattle.conflict_core.specs.Conflicts.{IsRequestSet};
 ghost use Rattle.conflict_core.specs.Deciding.{IsSetDecided};
 
@@ -42,8 +42,11 @@ pub(crate) fn decide_set(
     requires { IsRequestSet problem.now members.items }
     ensures decided { IfOk result (IsSetDecided problem.now limits.now.top limits.now.nodes
         members.items) }
-    ensures advisors { AreCalled ⟦<dyn Advisor as Advisor>⟧ (λ b. b.vtable) (λ b. state b)
-        advisors.old.items advisors.new.items }
+    ensures asked { OnOk result (IsAskedOf ⟦<dyn Advisor as Advisor>⟧ (λ b. b.vtable)
+        (λ b. state b) problem.now limits.now.top limits.now.nodes members.items advisors.old.items
+        advisors.new.items) }
+    ensures advisors { AreAskedOfSome ⟦<dyn Advisor as Advisor>⟧ (λ b. b.vtable) (λ b. state b)
+        problem.now limits.now.top limits.now.nodes advisors.old.items advisors.new.items }
 {
     keeps_conditions(problem);
     let part = problem.only(alloc, members.as_slice())?;

@@ -1,6 +1,7 @@
 //! A least conflict.
-ghost use Rattle.std.specs.Prelude.{◌≡◌, ◌⊎◌, ℕ, ◌≤◌, length, IfOk};
+ghost use Rattle.std.specs.Prelude.{◌≡◌, ◌⊎◌, ℕ, ◌≤◌, length, IfOk, OnOk};
 ghost use Rattle.form_search.specs.Advised.{AreCalled};
+ghost use Rattle.conflict_core.specs.Asking.{AreAskedOfSets, AreAskedOfSome};
 ghost use Rattle.conflict_core.specs.Conflicts.{IsConflictFound, IsConflictLessOne, all_requests};
 ghost use Rattle.conflict_core.specs.Deciding.{AreFitWithout, IsRefutedSet, IsShrunk, IsUndecidedSet};
 
@@ -74,8 +75,8 @@ fn finish(
     requires shrunk { IsShrunk problem.now shrunk }
     requires ended { length shrunk.members ≤ length shrunk.without.items }
     ensures found { IfOk result (IsConflictFound problem.now limits.now.top limits.now.nodes) }
-    ensures advisors { AreCalled ⟦<dyn Advisor as Advisor>⟧ (λ b. b.vtable) (λ b. state b)
-        advisors.old.items advisors.new.items }
+    ensures advisors { AreAskedOfSome ⟦<dyn Advisor as Advisor>⟧ (λ b. b.vtable) (λ b. state b)
+        problem.now limits.now.top limits.now.nodes advisors.old.items advisors.new.items }
 {
     let members = Vec::from_slice(alloc, shrunk.members.as_slice())?;
     match decide_set(alloc, problem, members, limits, advisors)? {
@@ -96,8 +97,8 @@ fn shrink(
     requires conflict { IsRefutedSet problem.now limits.now.top limits.now.nodes conflict }
     requires all { conflict.members.items ≡ all_requests problem.now }
     ensures found { IfOk result (IsConflictFound problem.now limits.now.top limits.now.nodes) }
-    ensures advisors { AreCalled ⟦<dyn Advisor as Advisor>⟧ (λ b. b.vtable) (λ b. state b)
-        advisors.old.items advisors.new.items }
+    ensures advisors { AreAskedOfSome ⟦<dyn Advisor as Advisor>⟧ (λ b. b.vtable) (λ b. state b)
+        problem.now limits.now.top limits.now.nodes advisors.old.items advisors.new.items }
 {
     keeps_conditions(problem);
     let Told {
@@ -137,6 +138,11 @@ pub fn find_conflict(
     advisors: &mut Vec<Box<dyn Advisor>>,
 ) -> Result<Conflict, OutOfMemory>
     ensures found { IfOk result (IsConflictFound problem.now limits.now.top limits.now.nodes) }
+
+    // The advisors are asked and told by a search of all requests, and by others of sets of requests.
+    ensures asked { OnOk result (AreAskedOfSets ⟦<dyn Advisor as Advisor>⟧ (λ b. b.vtable)
+        (λ b. state b) problem.now limits.now.top limits.now.nodes advisors.old.items
+        advisors.new.items) }
     ensures advisors { AreCalled ⟦<dyn Advisor as Advisor>⟧ (λ b. b.vtable) (λ b. state b)
         advisors.old.items advisors.new.items }
 {

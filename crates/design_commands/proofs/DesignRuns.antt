@@ -1,5 +1,5 @@
 -- What a design reports.
-use Rattle.std.proofs.Common.{sym, subst, List}
+use Rattle.std.proofs.Common.{◌≡◌, sym, subst, List}
 use Rattle.cost_base.specs.Histories.{Taken}
 use Rattle.design_problem.specs.Problems.{DesignProblem}
 use Rattle.design_problem.specs.Answers.{AnswerParts}
@@ -18,13 +18,14 @@ use Rattle.design_commands.specs.Designs.{IsAnswerTo, verdict_status, MayDesign}
 use Rattle.design_commands.proofs.DesignedLaws.{answer_may}
 use Rattle.report_writer.proofs.ReportLaws.{may_report}
 
--- the report of an answer to the problem that was read
+-- the report of an answer to the problem that was read, and for which the advisors were asked
 pub design_found : (Given : List Taken → Type 0) (limits : Bounds) (names : InputFiles) (p : DesignProblem)
-    (a : AnswerParts) (report : Report) → Gave Given (λ came. IsReadAndMade (outcome AsRequested names) came IsProblemOf p) →
-    IsAnswerTo limits p a → Reports (verdict_status a.verdict) (text a) report →
+    (a : AnswerParts) (report : Report) (asks : Input → Type 0) →
+    Gave Given (λ came. IsReadAndMade (outcome AsRequested names) came IsProblemOf p) →
+    IsAnswerTo limits p a → Reports (verdict_status a.verdict) (text a) report → ((d : Input) → d.problem ≡ p → asks d) →
     Gave Given (λ came. IsReadAndMade (outcome AsRequested names) came
-    (λ (made : Report) d. MayDesign limits d made.status (bytes_in made.text)) report)
-design_found Given limits names p a report read to r =
+    (λ (made : Report) d. MayDesign limits d made.status (bytes_in made.text) × asks d) report)
+design_found Given limits names p a report asks read to r asked =
     let d : Input = read.so.said in
     let to_d : IsAnswerTo limits d.problem a = subst (λ (q : DesignProblem). IsAnswerTo limits q a) (sym read.so.fits.0) to in
     record {
@@ -33,7 +34,10 @@ design_found Given limits names p a report read to r =
       so = record {
         said = d;
         ends = read.so.ends;
-        fits = may_report (MayDesign limits d) (verdict_status a.verdict) (text a) report r
-            (answer_may limits d a (ready_is names d read.came read.so.ends) to_d);
+        fits = (
+          may_report (MayDesign limits d) (verdict_status a.verdict) (text a) report r
+              (answer_may limits d a (ready_is names d read.came read.so.ends) to_d),
+          asked d read.so.fits.0,
+        );
       };
     }

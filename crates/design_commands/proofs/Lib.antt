@@ -1,3 +1,4 @@
+pub mod Asking
 pub mod DesignedLaws
 pub mod DesignRuns
 mod Examples

@@ -241,13 +241,14 @@ total_may limits d a report ready to reports = by_verdict a.verdict refl reports
         (impossible_is limits d.problem a to is (subst (λ (v : Verdict). VerdictHolds d.problem limits.top limits.nodes a v) is to.answered.holds))
     by_verdict (Undecided cap) is r = may_report (MayTotal limits d) status.Undecided (text a) report r (inl (undecided_is limits d.problem a cap to is))
 
--- the report of an answer to the problem that was read
+-- the report of an answer to the problem that was read, and for which the advisors were asked
 pub total_found : (Given : List Taken → Type 0) (limits : Bounds) (names : InputFiles) (p : DesignProblem)
-    (a : AnswerParts) (report : Report) → Gave Given (λ came. IsReadAndMade (outcome AsRequested names) came IsProblemOf p) →
-    IsAnswerTo limits p a → ReportsTotal limits p a a.verdict report →
+    (a : AnswerParts) (report : Report) (asks : Input → Type 0) →
+    Gave Given (λ came. IsReadAndMade (outcome AsRequested names) came IsProblemOf p) →
+    IsAnswerTo limits p a → ReportsTotal limits p a a.verdict report → ((d : Input) → d.problem ≡ p → asks d) →
     Gave Given (λ came. IsReadAndMade (outcome AsRequested names) came
-    (λ (made : Report) d. MayTotal limits d made.status (bytes_in made.text)) report)
-total_found Given limits names p a report read to reports =
+    (λ (made : Report) d. MayTotal limits d made.status (bytes_in made.text) × asks d) report)
+total_found Given limits names p a report asks read to reports asked =
     let d : Input = read.so.said in
     let here = sym read.so.fits.0 in
     let to_d : IsAnswerTo limits d.problem a = subst (λ (q : DesignProblem). IsAnswerTo limits q a) here to in
@@ -258,6 +259,6 @@ total_found Given limits names p a report read to reports =
       so = record {
         said = d;
         ends = read.so.ends;
-        fits = total_may limits d a report (ready_is names d read.came read.so.ends) to_d reports_d;
+        fits = (total_may limits d a report (ready_is names d read.came read.so.ends) to_d reports_d, asked d read.so.fits.0);
       };
     }

@@ -1,6 +1,6 @@
 -- What a trial reports is what it may write.
-use Rattle.std.proofs.Common.{◌≡◌, ℕ, refl, sym, ◌∙◌, ap, subst, List, [], length}
-use Rattle.std.specs.Prelude.{Option, Result, Ok, Err, Some, IfOk, codes, ◌++◌, slice_index}
+use Rattle.std.proofs.Common.{◌≡◌, ℕ, ◌⊎◌, refl, sym, ◌∙◌, ap, subst, inl, inr, List, [], length}
+use Rattle.std.specs.Prelude.{Option, Result, Ok, Err, Some, IfErr, IfOk, OnOk, codes, ◌++◌, slice_index}
 use Rattle.std.specs.List.{sum}
 use Rattle.std.proofs.lemmas.Result.{IfOk-weaker}
 use Rattle.std.proofs.lemmas.Slice.Zip.{AllZip-long}
@@ -25,7 +25,7 @@ use Rattle.input_files.specs.declared.problem.View.TheVariants.{AsRequested}
 use Rattle.input_files.specs.declared.stop.Stop.{Stop}
 use Rattle.input_files.specs.declared.stop.Stop.TheVariants as stops
 use Rattle.input_files.specs.Inputs.{InputFiles}
-use Rattle.input_files.specs.Readings.{End, Says, Faulty, Failed, Gave}
+use Rattle.input_files.specs.Readings.{End, Says, Faulty, Failed, Reading, EndsAs, Gave}
 use Rattle.input_files.specs.Outcomes.{Input, outcome}
 use Rattle.input_files.specs.Stops.{IsReadAndMade, IsReadAs, refusal_in}
 use Rattle.input_files.specs.Ends.{text_named, end_of_reading}
@@ -36,6 +36,8 @@ use Rattle.report_writer.specs.Reports.{Reports, ReportsAny, bytes_in}
 use Rattle.report_writer.specs.Texts.{refused_line}
 use Rattle.design_commands.specs.Designs.{IsAnswerTo, IsShownImpossible, IsShownUndecided, verdict_status}
 use Rattle.design_commands.specs.Trials.{MayTry, MayTryEnd, MayTrial, trial_end, trial_files, named_trial_texts, costless_line, summary_line, trial_limits}
+use Rattle.design_commands.specs.Asking.{AsksAt}
+use Rattle.design_commands.proofs.Asking.{asks_one, read_alone}
 use Rattle.design_commands.proofs.DesignedLaws.{gives_best, impossible_is, undecided_is}
 use Rattle.report_writer.proofs.ReportLaws.{may_report}
 
@@ -116,16 +118,16 @@ undecided_tried blocks start p a cap result to is made =
     }))
     made
 
--- the report of the answer to the problem that was read
+-- the report of the answer to the problem that was read, and for which the advisors were asked
 pub tried_found : (Given : List Taken → Type 0) (blocks start : ℕ) (names : InputFiles) (p : DesignProblem)
-    (report : Report) → Gave Given (λ came. IsReadAndMade (outcome AsRequested names) came IsProblemOf p) →
-    TriesAll blocks start p report →
+    (report : Report) (asks : Input → Type 0) → Gave Given (λ came. IsReadAndMade (outcome AsRequested names) came IsProblemOf p) →
+    TriesAll blocks start p report → ((d : Input) → d.problem ≡ p → asks d) →
     Gave Given (λ came. IsReadAndMade (outcome AsRequested names) came
-    (λ (made : Report) d. MayTry blocks start d made.status (bytes_in made.text)) report)
-tried_found Given blocks start names p report read all = record {
+    (λ (made : Report) d. MayTry blocks start d made.status (bytes_in made.text) × asks d) report)
+tried_found Given blocks start names p report asks read all asked = record {
   came = read.came;
   given = read.given;
-  so = record { said = read.so.said; ends = read.so.ends; fits = all read.so.said read.so.fits.0 };
+  so = record { said = read.so.said; ends = read.so.ends; fits = (all read.so.said read.so.fits.0, asked read.so.said read.so.fits.0) };
 }
 
 -- what came of the texts of a case is true to them, and none failed
@@ -171,18 +173,53 @@ end_tried blocks start texts names came (Err stops.OutOfMemory) result are read 
 
 -- so is what it makes of the texts of its case
 pub case_tried : (Given : List Taken → Type 0) (blocks start : ℕ) (case : TrialTexts) (names : InputFiles)
-    (made : Result Report Stop) (result : Result Report OutOfMemory) →
+    (made : Result Report Stop) (result : Result Report OutOfMemory) (asks : Input → Type 0) →
     ((came : List Taken) → Given came → AreTexts (named_trial_texts case) came) →
     names ≡ trial_files case → case ≡ made_trial blocks start →
     Gave Given (λ came. IsReadAs (outcome AsRequested names) came
-    (λ report d. MayTry blocks start d report.status (bytes_in report.text)) made) → ReportsAny made result →
+    (λ report d. MayTry blocks start d report.status (bytes_in report.text) × asks d) made) → ReportsAny made result →
     IfOk result (λ report. MayTrial blocks start report.status (bytes_in report.text))
 unfolding trial_end
-case_tried Given blocks start case names made result are named is gave r =
+case_tried Given blocks start case names made result asks are named is gave r =
     subst (λ (c : TrialTexts). IfOk result
     (λ report. MayTryEnd blocks start (end_of_reading (named_trial_texts c) (outcome AsRequested (trial_files c))) report.status
     (bytes_in report.text))) is
     (subst (λ (n : InputFiles). IfOk result
     (λ report. MayTryEnd blocks start (end_of_reading (named_trial_texts case) (outcome AsRequested n)) report.status
     (bytes_in report.text))) named
-    (end_tried blocks start (named_trial_texts case) names gave.came made result (are gave.came gave.given) gave.so r))
+    (end_tried blocks start (named_trial_texts case) names gave.came made result (are gave.came gave.given)
+    (read_alone (outcome AsRequested names) gave.came (λ (report : Report) d. MayTry blocks start d report.status (bytes_in report.text)) asks made
+    gave.so) r))
+
+-- where no memory was wanting, a report is one of what was made
+wanting_apart : (made : Result Report Stop) (result : Result Report OutOfMemory) (P : Type 0) → ReportsAny made result →
+    (made ≡ Err stops.OutOfMemory) ⊎ P → OnOk result P
+wanting_apart made (Err e) P r how = tt
+wanting_apart made (Ok report) P r (inl wanting) = absurd (subst (λ (m : Result Report Stop). ReportsAny m (Ok report)) wanting r)
+wanting_apart made (Ok report) P r (inr holds) = holds
+
+-- the advisors are asked by the end of the texts of the case
+pub case_asked : (Given : List Taken → Type 0) (blocks start : ℕ) (case : TrialTexts) (names : InputFiles)
+    (made : Result Report Stop) (result : Result Report OutOfMemory) (Fits : Report → Input → Type 0) (asks : Input → Type 0) (nobody : Type 0) →
+    ((came : List Taken) → Given came → AreTexts (named_trial_texts case) came) →
+    names ≡ trial_files case → case ≡ made_trial blocks start →
+    Gave Given (λ came. IsReadAs (outcome AsRequested names) came (λ report d. Fits report d × asks d) made) →
+    IfErr made (λ stop. (stop ≡ stops.OutOfMemory) ⊎ nobody) → ReportsAny made result →
+    OnOk result (AsksAt asks nobody (trial_end (made_trial blocks start)))
+unfolding trial_end
+case_asked Given blocks start case names made result Fits asks nobody are named is gave stopped r =
+    let m : Reading Input = outcome AsRequested names in
+    let texts = named_trial_texts case in
+    let here : OnOk result (AsksAt asks nobody (end_of_reading texts m)) =
+    wanting_apart made result (AsksAt asks nobody (end_of_reading texts m)) r
+    (either (asks_one m gave.came Fits asks nobody made gave.so stopped)) in
+    subst (λ (c : TrialTexts). OnOk result (AsksAt asks nobody (end_of_reading (named_trial_texts c) (outcome AsRequested (trial_files c))))) is
+    (subst (λ (n : InputFiles). OnOk result (AsksAt asks nobody (end_of_reading texts (outcome AsRequested n)))) named here)
+  where
+    either : (made ≡ Err stops.OutOfMemory) ⊎ ((one : End Input) → ((end : End Input) → EndsAs (outcome AsRequested names) gave.came end → end ≡ one) →
+        AsksAt asks nobody one) → (made ≡ Err stops.OutOfMemory) ⊎ AsksAt asks nobody (end_of_reading (named_trial_texts case) (outcome AsRequested names))
+    either (inl wanting) = inl wanting
+    either (inr asked) =
+        inr (asked (end_of_reading (named_trial_texts case) (outcome AsRequested names))
+        (λ end ends. sym (ends_on (named_trial_texts case) (outcome AsRequested names) gave.came end ends
+        (are gave.came gave.given).told (are gave.came gave.given).sure)))

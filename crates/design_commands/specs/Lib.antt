@@ -1,3 +1,4 @@
+pub mod Asking
 pub mod Designs
 pub mod Trials
 pub mod TotalRuns

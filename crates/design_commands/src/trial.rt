@@ -1,18 +1,21 @@
 //! `trial`: a made trial, designed.
-ghost use Rattle.std.specs.Prelude.{◌≡◌, ◌≤◌, ◌<◌, ◌^◌, ◌++◌, ℕ, List, IfOk, codes, length};
+ghost use Rattle.std.specs.Prelude.{◌≡◌, ◌⊎◌, ◌≤◌, ◌<◌, ◌^◌, ◌++◌, ℕ, List, IfErr, IfOk, OnOk, codes, length};
 ghost use Rattle.std.specs.List.{sum};
 ghost use Rattle.cost_base.specs.Decimal.{decimal};
 ghost use Rattle.command_words.specs.Jobs.{bounds};
 ghost use Rattle.design_problem.specs.Text.{text};
-ghost use Rattle.design_problem.specs.Answers.{lines_in};
+ghost use Rattle.design_problem.specs.Answers.{greatest_bound, lines_in};
 ghost use Rattle.design_problem.specs.GivenCosts.{costs_given};
 ghost use Rattle.form_search.specs.Advised.{AreCalled};
+ghost use Rattle.cost_branching.specs.Advising.{AreAskedFrom};
 ghost use Rattle.input_files.specs.Readings.{Gave};
 ghost use Rattle.input_files.specs.Outcomes.{Input, outcome};
 ghost use Rattle.input_files.specs.Stops.{IsReadAs, files_named};
 ghost use Rattle.report_writer.specs.Reports.{Reports, bytes_in};
+ghost use Rattle.trial_maker.specs.TrialTexts.{made_trial};
+ghost use Rattle.design_commands.specs.Asking.{AsksAt};
 ghost use Rattle.design_commands.specs.Designs.{IsAnswerTo, verdict_status};
-ghost use Rattle.design_commands.specs.Trials.{MayTrial, MayTry, costless_line, summary_line, trial_limits};
+ghost use Rattle.design_commands.specs.Trials.{MayTrial, MayTry, costless_line, summary_line, trial_end, trial_limits};
 
 use crate::case_files::{REQUEST, shelf_of, words_of};
 use crate::cost_sum::total_of;
@@ -115,8 +118,12 @@ fn report_on_texts<'a, S: Shelf>(
     requires { trial.blocks ≤ 125 }
     ensures read { Gave (S.gave shelf.old shelf.new) (λ came. IsReadAs
         (outcome View.AsRequested (files_named words.entry)) came
-        (λ report d. MayTry trial.blocks trial.start d report.status (bytes_in report.text))
-        result) }
+        (λ report d. MayTry trial.blocks trial.start d report.status (bytes_in report.text) ×
+        AreAskedFrom ⟦<dyn Advisor as Advisor>⟧ (λ b. b.vtable) (λ b. state b)
+        d.problem trial_limits.top trial_limits.nodes (greatest_bound d.problem)
+        advisors.old.items advisors.new.items) result) }
+    ensures stopped { IfErr result (λ stop. (stop ≡ Stop.OutOfMemory) ⊎
+        (advisors.new.items ≡ advisors.old.items)) }
     ensures advisors { AreCalled ⟦<dyn Advisor as Advisor>⟧ (λ b. b.vtable) (λ b. state b)
         advisors.old.items advisors.new.items }
 {
@@ -140,6 +147,14 @@ pub fn trial_report(
     requires start { trial.start < 2 ^ 31 }
     ensures tried { IfOk result (λ report. MayTrial trial.blocks trial.start report.status
         (bytes_in report.text)) }
+
+    // The advisors are asked where the made texts have no fault.
+    ensures asked { OnOk result (AsksAt
+        (λ d. AreAskedFrom ⟦<dyn Advisor as Advisor>⟧ (λ b. b.vtable) (λ b. state b)
+        d.problem trial_limits.top trial_limits.nodes (greatest_bound d.problem)
+        advisors.old.items advisors.new.items)
+        (advisors.new.items ≡ advisors.old.items)
+        (trial_end (made_trial trial.blocks trial.start))) }
     ensures advisors { AreCalled ⟦<dyn Advisor as Advisor>⟧ (λ b. b.vtable) (λ b. state b)
         advisors.old.items advisors.new.items }
 {

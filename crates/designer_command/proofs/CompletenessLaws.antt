@@ -184,18 +184,18 @@ no_read_fault (Some (read.Help topic)) came bytes counted h = h
 no_read_fault (Some read.Version) came bytes counted h = h
 
 -- over counts that stay 0 no run ends with a fault of a shelf
-pub sure_shelf : (words : List (List ℕ)) (gave : List Taken → Type 0) (held : List ℕ → Option (List ℕ))
+pub sure_shelf : (words : List (List ℕ)) (Asked : Option JobRead → List Taken → Type 0) (gave : List Taken → Type 0) (held : List ℕ → Option (List ℕ))
     (handed : List ℕ → Type 0) (got_before got_now : Option (List ℕ)) (count_before count_now : ℕ) (end : Status) →
-    RunMeets words gave held (λ name. 0) (λ name. 0) handed got_before got_now count_before count_now end → end ≡ status.ReadFault → ⊥
-sure_shelf words gave held handed got_before got_now count_before count_now end meets is =
+    RunMeets words Asked gave held (λ name. 0) (λ name. 0) handed got_before got_now count_before count_now end → end ≡ status.ReadFault → ⊥
+sure_shelf words Asked gave held handed got_before got_now count_before count_now end meets is =
     let whole = subst (λ (s : Status). Writes (MayWrite (job_of words) meets.came) handed got_before got_now count_before count_now s) is meets.written in
     no_read_fault (job_of words) meets.came whole.bytes meets.counted whole.allowed
 
 -- nor with one of a sink
-pub sure_sink : (words : List (List ℕ)) (gave : List Taken → Type 0) (held : List ℕ → Option (List ℕ))
+pub sure_sink : (words : List (List ℕ)) (Asked : Option JobRead → List Taken → Type 0) (gave : List Taken → Type 0) (held : List ℕ → Option (List ℕ))
     (before now : List ℕ → ℕ) (handed : List ℕ → Type 0) (got_before got_now : Option (List ℕ)) (end : Status) →
-    RunMeets words gave held before now handed got_before got_now 0 0 end → end ≡ status.WriteFault → ⊥
-sure_sink words gave held before now handed got_before got_now end meets is =
+    RunMeets words Asked gave held before now handed got_before got_now 0 0 end → end ≡ status.WriteFault → ⊥
+sure_sink words Asked gave held before now handed got_before got_now end meets is =
     let part = subst (λ (s : Status). Writes (MayWrite (job_of words) meets.came) handed got_before got_now 0 0 s) is meets.written in
     never_rose part.cause
   where

@@ -1,5 +1,6 @@
 pub mod OwnStatuses
 pub mod Runs
+pub mod Asking
 pub mod LargeBudgets
 pub mod CompletenessLaws
 pub mod FurtherCommands

@@ -33,7 +33,7 @@ use Rattle.change_commands.specs.Steps.{MaySteps}
 use Rattle.design_commands.specs.TotalRuns.{MayTotal}
 use Rattle.trial_maker.specs.TrialTexts.{made_trial}
 use Rattle.design_commands.specs.Trials.{MayTryEnd, trial_end}
-use Rattle.designer_command.specs.Runs.{IsMadeAs, IsTold, IsTried, OnSaid, MayAfter, MayReport, MayTell, MayWant, MayWrite, ReportsJob, WritesNothing, WritesAll, Writes}
+use Rattle.designer_command.specs.Runs.{IsMadeAs, IsTold, IsTried, OnSaid, MayAfter, MayReport, MayTell, MayWant, MayWrite, WritesNothing, WritesAll, Writes}
 use Rattle.help_texts.specs.Texts.{help_text, version_text}
 use Rattle.designer_command.proofs.OwnStatuses.{SaysItsOwn, own_audit, own_audit_live, own_change, own_check, own_compare, own_conflict, own_design, own_lsas, own_rewrite, own_route, own_spread, own_steps, own_total}
 
@@ -92,7 +92,7 @@ told_after text came (Ok report) result h same =
 told_after text came (Err stop) result h r = absurd h.1
 
 -- what the command of a job makes is, once it is a report, what the job may write
-done_after : (job : JobRead) (came : List Taken) (made : Result Report Stop) (result : Result Report OutOfMemory) →
+pub done_after : (job : JobRead) (came : List Taken) (made : Result Report Stop) (result : Result Report OutOfMemory) →
     IsMadeAs job came made → ReportsAny made result → IfOk result (λ report. MayWrite (Some job) came report.status (bytes_in report.text))
 done_after (read.Design s) came made result h r = report_after _ (MayDesign s.limits) came made result (own_design s.limits) h r
 done_after (read.Check request answer configs) came made result h r = report_after _ MayCheck came made result own_check h r
@@ -113,7 +113,7 @@ done_after (read.Help topic) came made result h r = told_after (help_text topic)
 done_after read.Version came made result h r = told_after version_text came made result h r
 
 -- whatever it makes, what came begins what the words ask for
-wanting_after : (job : JobRead) (came : List Taken) (made : Result Report Stop) → IsMadeAs job came made → MayWant (Some job) came
+pub wanting_after : (job : JobRead) (came : List Taken) (made : Result Report Stop) → IsMadeAs job came made → MayWant (Some job) came
 wanting_after (read.Design s) came made h = read_begins _ came _ made h
 wanting_after (read.Check request answer configs) came made h = read_begins _ came _ made h
 wanting_after (read.Audit request None configs) came made h = read_begins _ came _ made h
@@ -150,11 +150,6 @@ wants_none (Some (read.Lsas request configs)) = tt
 wants_none (Some (read.Route lsas from to)) = tt
 wants_none (Some (read.Help topic)) = refl
 wants_none (Some read.Version) = refl
-
-pub job_done : (Given : List Taken → Type 0) (job : JobRead) (made : Result Report Stop) (result : Result Report OutOfMemory) →
-    Gave Given (λ came. IsMadeAs job came made) → ReportsAny made result → ReportsJob Given job result
-job_done Given job made result a r =
-    record { came = a.came; given = a.given; so = (done_after job a.came made result a.so r, wanting_after job a.came made a.so) }
 
 -- files by another name make the same
 pub files_made : {A : Type 0} (Given : List Taken → Type 0) (reading : InputFiles → Reading A) (may : A → Status → List ℕ → Type 0)
@@ -241,11 +236,6 @@ made_meets Same may handed got_before got_now count_before count_now (Ok report)
     written_meets may handed got_before got_now count_before count_now report.status (bytes_in report.text) end none got allowed h
 made_meets Same may handed got_before got_now count_before count_now (Err e) end none got same allowed h =
     subst (λ (s : Status). Writes may handed got_before got_now count_before count_now s) (sym h.0) (same h.1)
-
--- a job with these words makes what a command with them does
-pub job_made : (Given : List Taken → Type 0) (job : Job) (said : JobRead) (made : Result Report Stop) →
-    seen job ≡ said → Gave Given (λ came. IsMadeAs said came made) → Gave Given (λ came. IsMadeAs (seen job) came made)
-job_made Given job said made is a = subst (λ (j : JobRead). Gave Given (λ came. IsMadeAs j came made)) (sym is) a
 
 -- an audit with the same live file, or without one, makes the same
 pub audit_made : (Given : List Taken → Type 0) (request : List ℕ) (configs : List (List ℕ)) (live other : Option (List ℕ))

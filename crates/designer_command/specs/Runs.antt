@@ -1,5 +1,5 @@
 -- What a run may write, with the status that it ends with.
-use Rattle.std.specs.Prelude.{◌≡◌, ℕ, List, [], take, Option, None, Some, Result, IfOk, MatchResult}
+use Rattle.std.specs.Prelude.{◌≡◌, ◌⊎◌, ℕ, List, [], take, Option, None, Some, Result, IfOk, MatchResult}
 use Rattle.cost_base.specs.declared.OutOfMemory.{OutOfMemory as NoMemory}
 use Rattle.cost_base.specs.declared.Status.{Status}
 use Rattle.cost_base.specs.declared.Status.TheVariants.{Done, Impossible, Undecided, InputRefused, ReadFault, WriteFault, OutOfMemory, WordsRefused, EvidenceRefused}
@@ -161,11 +161,6 @@ MayWant (Some (Help topic)) came = came ≡ []
 MayWant (Some Version) came = came ≡ []
 MayWant None came = came ≡ []
 
--- what a job reports, where memory suffices, is right for what came of its files; where it doesn't, this begins what it asks for
-abbrev pub ReportsJob : (List Taken → Type 0) → JobRead → Result Report NoMemory → Type 0
-ReportsJob given job made =
-    Gave given (λ came. IfOk made (λ report. MayWrite (Some job) came report.status (bytes_in report.text)) × MayWant (Some job) came)
-
 -- the sink was handed a text that may be written, and no more
 pub record WritesAll (may : Status → List ℕ → Type 0) (handed : List ℕ → Type 0) (got_before got_now : Option (List ℕ)) (status : Status) : Type 0 where
   pub bytes : List ℕ
@@ -203,8 +198,8 @@ Writes may handed got_before got_now count_before count_now WordsRefused = Write
 Writes may handed got_before got_now count_before count_now EvidenceRefused = WritesAll may handed got_before got_now EvidenceRefused
 
 -- A run of these words: this came of the files that the shelf was asked for, true to what it holds and to its counts of
--- faults, and what was written is right for that.
-pub record RunMeets (words : List (List ℕ)) (gave : List Taken → Type 0) (held : List ℕ → Option (List ℕ))
+-- faults, and what was written is right for that. `Asked` tells by which searches of what came a job asks the advisors.
+pub record RunMeets (words : List (List ℕ)) (Asked : Option JobRead → List Taken → Type 0) (gave : List Taken → Type 0) (held : List ℕ → Option (List ℕ))
     (before now : List ℕ → ℕ) (handed : List ℕ → Type 0) (got_before got_now : Option (List ℕ))
     (count_before count_now : ℕ) (status : Status) : Type 0 where
   pub came : List Taken
@@ -213,3 +208,4 @@ pub record RunMeets (words : List (List ℕ)) (gave : List Taken → Type 0) (he
   pub counted : CountsFailures before now came
   pub written : Writes (MayWrite (job_of words) came) handed got_before got_now count_before count_now status
   pub begun : status ≡ OutOfMemory → MayWant (job_of words) came
+  pub asked : (status ≡ OutOfMemory) ⊎ Asked (job_of words) came

@@ -4,6 +4,7 @@ ghost use Rattle.text_lines.specs.Arguments.{texts};
 ghost use Rattle.designer_command.specs.Completeness.{ChangesAreFound, ConflictsAreFound, DesignsAreAccepted, DifferencesAreWritten, HeadedCostsAreWritten, HelpIsWritten};
 ghost use Rattle.designer_command.specs.Completeness.{IdentifiedInputIsWritten, KnownRoutersAreRouted, LargeBudgetsSuffice, RunningAreaIsAudited, TrialsAreDesigned, SpreadsAreFound, StepsAreFound, TotalsAreFound};
 ghost use Rattle.designer_command.specs.Completeness.{ValidAnswersAreAccepted, WellFormedInputIsAudited, WellFormedInputIsDesigned};
+ghost use Rattle.designer_command.specs.Asking.{AreAskedBy};
 ghost use Rattle.designer_command.specs.Runs.{RunMeets};
 
 use crate::run;
@@ -111,7 +112,10 @@ pub fn sure_run(
     out: &mut SureSink,
     advisors: &mut Vec<Box<dyn Advisor>>,
 ) -> Status
-    ensures meets { RunMeets (texts words.now) (⟦<SureShelf as Shelf>⟧.gave shelf.old shelf.new)
+    ensures meets { RunMeets (texts words.now)
+        (AreAskedBy ⟦<dyn Advisor as Advisor>⟧ (λ b. b.vtable) (λ b. state b)
+        advisors.old.items advisors.new.items)
+        (⟦<SureShelf as Shelf>⟧.gave shelf.old shelf.new)
         (⟦<SureShelf as Shelf>⟧.held shelf.old) (⟦<SureShelf as Shelf>⟧.faults shelf.old)
         (⟦<SureShelf as Shelf>⟧.faults shelf.new) (⟦<SureSink as Sink>⟧.handed out.old out.new)
         (⟦<SureSink as Sink>⟧.got out.old) (⟦<SureSink as Sink>⟧.got out.new)

@@ -1,11 +1,12 @@
 //! From a job to its report: each command's function stands in the crate of its kind.
-ghost use Rattle.std.specs.Prelude.{◌≡◌, ◌≤◌, ◌<◌, ◌^◌, option_map, string_bytes};
+ghost use Rattle.std.specs.Prelude.{◌≡◌, ◌≤◌, ◌<◌, ◌^◌, [], OnOk, Some, option_map, string_bytes};
 ghost use Rattle.form_search.specs.Advised.{AreCalled};
 ghost use Rattle.text_lines.specs.Arguments.{texts};
-ghost use Rattle.command_words.specs.Jobs.{Audit, IsInRange, seen};
+ghost use Rattle.command_words.specs.Jobs.{Audit, IsInRange, Trial, seen};
 ghost use Rattle.help_texts.specs.Texts.{help_text, version_text};
 ghost use Rattle.input_files.specs.Readings.{Gave};
 ghost use Rattle.input_files.specs.Stops.{files_named};
+ghost use Rattle.designer_command.specs.Asking.{AreAskedBy, IsMadeAsking};
 ghost use Rattle.designer_command.specs.Runs.{IsMadeAs, IsTold, IsTried, input_files_of};
 
 use change_commands::{StepsWords, change_report, steps_report};
@@ -39,6 +40,8 @@ fn made_trial<'a>(
     requires most { blocks ≤ 125 }
     requires start { start < 2 ^ 31 }
     ensures made { IsTried blocks start result }
+    ensures asked { OnOk result (AreAskedBy ⟦<dyn Advisor as Advisor>⟧ (λ b. b.vtable)
+        (λ b. state b) advisors.old.items advisors.new.items (Some (Trial blocks start)) []) }
     ensures advisors { AreCalled ⟦<dyn Advisor as Advisor>⟧ (λ b. b.vtable) (λ b. state b)
         advisors.old.items advisors.new.items }
 {
@@ -90,7 +93,10 @@ pub(crate) fn job_report<'a, S: Shelf>(
     advisors: &mut Vec<Box<dyn Advisor>>,
 ) -> Result<Report, Stop<'a>>
     requires { IsInRange (seen job.now) }
-    ensures made { Gave (S.gave shelf.old shelf.new) (λ came. IsMadeAs (seen job.now) came result) }
+    ensures made { Gave (S.gave shelf.old shelf.new) (λ came. IsMadeAsking
+        (AreAskedBy ⟦<dyn Advisor as Advisor>⟧ (λ b. b.vtable) (λ b. state b)
+        advisors.old.items advisors.new.items)
+        (seen job.now) came result) }
     ensures advisors { AreCalled ⟦<dyn Advisor as Advisor>⟧ (λ b. b.vtable) (λ b. state b)
         advisors.old.items advisors.new.items }
 {

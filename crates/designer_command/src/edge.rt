@@ -7,6 +7,7 @@ ghost use Rattle.cost_base.specs.Statuses.{status_number};
 ghost use Rattle.text_lines.specs.Arguments.{texts};
 ghost use Rattle.report_writer.specs.Cutting.{PutsByPieces};
 ghost use Rattle.form_search.specs.Advised.{AreCalled};
+ghost use Rattle.designer_command.specs.Asking.{AreAskedBy};
 ghost use Rattle.designer_command.specs.Runs.{RunMeets};
 
 use crate::run;
@@ -24,7 +25,10 @@ pub fn run_to_exit<S: Shelf, K: Sink>(
     advisors: &mut Vec<Box<dyn Advisor>>,
 ) -> (Status, ExitCode)
     ensures exit { exit_status result.1 ≡ status_number result.0 }
-    ensures meets { RunMeets (texts words.now) (S.gave shelf.old shelf.new)
+    ensures meets { RunMeets (texts words.now)
+        (AreAskedBy ⟦<dyn Advisor as Advisor>⟧ (λ b. b.vtable) (λ b. state b)
+        advisors.old.items advisors.new.items)
+        (S.gave shelf.old shelf.new)
         (S.held shelf.old) (S.faults shelf.old) (S.faults shelf.new)
         (K.handed out.old out.new) (K.got out.old) (K.got out.new)
         (K.faults out.old) (K.faults out.new) result.0 }
@@ -51,7 +55,10 @@ pub fn recorded_run<S: Shelf, K: Sink>(
 ) -> Status
     ensures meets { let before = shelf_recorded shelf.old in let now = shelf_recorded shelf.new in
         let sink = sink_recorded out.old in let sink_now = sink_recorded out.new in
-        RunMeets (texts words.now) (IsNoted (S.gave before now) (files_recorded shelf.old)
+        RunMeets (texts words.now)
+        (AreAskedBy ⟦<dyn Advisor as Advisor>⟧ (λ b. b.vtable) (λ b. state b)
+        advisors.old.items advisors.new.items)
+        (IsNoted (S.gave before now) (files_recorded shelf.old)
         (files_recorded shelf.new)) (S.held before) (S.faults before) (S.faults now)
         (IsNotedInPieces (K.handed sink sink_now) (pieces_recorded out.old)
         (pieces_recorded out.new)) (K.got sink) (K.got sink_now) (K.faults sink) (K.faults sink_now)

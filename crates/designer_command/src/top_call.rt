@@ -4,6 +4,7 @@ ghost use Rattle.form_search.specs.Advised.{AreCalled};
 ghost use Rattle.text_lines.specs.Arguments.{texts};
 ghost use Rattle.report_writer.specs.Cutting.{PutsByPieces, PutsPieces, size_of_piece};
 ghost use Rattle.report_writer.specs.Reports.{IsWritten, Reports, bytes_in};
+ghost use Rattle.designer_command.specs.Asking.{AreAskedBy};
 ghost use Rattle.designer_command.specs.Runs.{RunMeets};
 ghost use Rattle.designer_command.specs.Usage.{usage};
 
@@ -127,9 +128,12 @@ pub fn run<S: Shelf, K: Sink>(
     out: &mut K,
     advisors: &mut Vec<Box<dyn Advisor>>,
 ) -> Status
-    ensures meets { RunMeets (texts words.now) (S.gave shelf.old shelf.new) (S.held shelf.old)
-        (S.faults shelf.old) (S.faults shelf.new) (K.handed out.old out.new) (K.got out.old)
-        (K.got out.new) (K.faults out.old) (K.faults out.new) result }
+    ensures meets { RunMeets (texts words.now)
+        (AreAskedBy ⟦<dyn Advisor as Advisor>⟧ (λ b. b.vtable) (λ b. state b)
+        advisors.old.items advisors.new.items)
+        (S.gave shelf.old shelf.new) (S.held shelf.old) (S.faults shelf.old) (S.faults shelf.new)
+        (K.handed out.old out.new) (K.got out.old) (K.got out.new) (K.faults out.old)
+        (K.faults out.new) result }
     ensures pieces { PutsByPieces K.handed out.old out.new result }
     ensures held { (name : List ℕ) → S.held shelf.new name ≡ S.held shelf.old name }
     ensures advisors { AreCalled ⟦<dyn Advisor as Advisor>⟧ (λ b. b.vtable) (λ b. state b)

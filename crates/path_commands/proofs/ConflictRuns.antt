@@ -1,5 +1,5 @@
 -- What `conflict` reports of the problem that was read.
-use Rattle.std.proofs.Common.{refl, sym, subst, List}
+use Rattle.std.proofs.Common.{◌≡◌, refl, sym, subst, List}
 use Rattle.cost_base.specs.Histories.{Taken}
 use Rattle.design_problem.specs.Problems.{DesignProblem}
 use Rattle.command_words.specs.Jobs.{Bounds}
@@ -25,15 +25,15 @@ found_may limits d (Fits w) found = record { conflict = Fits w; found = found; s
 found_may limits d (Core members rows tree without) found = record { conflict = Core members rows tree without; found = found; status = refl; spelled = refl }
 found_may limits d (Undecided members rows tree) found = record { conflict = Undecided members rows tree; found = found; status = refl; spelled = refl }
 
--- the report of what was found of the problem that was read
+-- the report of what was found of the problem that was read, and for which the advisors were asked
 pub conflict_found : (Given : List Taken → Type 0) (limits : Bounds) (names : InputFiles) (p : DesignProblem)
-    (conflict : Conflict) (report : Report) →
+    (conflict : Conflict) (report : Report) (asks : Input → Type 0) →
     Gave Given (λ came. IsReadAndMade (outcome AsRequested names) came IsProblemOf p) →
     IsConflictFound p limits.top limits.nodes conflict →
-    Reports (conflict_status conflict) (conflict_text p conflict) report →
+    Reports (conflict_status conflict) (conflict_text p conflict) report → ((d : Input) → d.problem ≡ p → asks d) →
     Gave Given (λ came. IsReadAndMade (outcome AsRequested names) came
-    (λ (made : Report) d. MayConflict limits d made.status (bytes_in made.text)) report)
-conflict_found Given limits names p conflict report read found r =
+    (λ (made : Report) d. MayConflict limits d made.status (bytes_in made.text) × asks d) report)
+conflict_found Given limits names p conflict report asks read found r asked =
     let d : Input = read.so.said in
     let same = read.so.fits.0 in
     let of_d : IsConflictFound d.problem limits.top limits.nodes conflict =
@@ -46,6 +46,9 @@ conflict_found Given limits names p conflict report read found r =
       so = record {
         said = d;
         ends = read.so.ends;
-        fits = may_report (MayConflict limits d) (conflict_status conflict) (conflict_text d.problem conflict) report reports (found_may limits d conflict of_d);
+        fits = (
+          may_report (MayConflict limits d) (conflict_status conflict) (conflict_text d.problem conflict) report reports (found_may limits d conflict of_d),
+          asked d same,
+        );
       };
     }

@@ -1,10 +1,11 @@
 //! `conflict`: a least conflict among the requests of the files of words.
-ghost use Rattle.std.specs.Prelude.{◌≡◌, ℕ, ◌≤◌, List, IfOk};
+ghost use Rattle.std.specs.Prelude.{◌≡◌, ◌⊎◌, ℕ, ◌≤◌, List, IfErr, IfOk};
 ghost use Rattle.command_words.specs.Jobs.{bounds};
 ghost use Rattle.input_files.specs.Readings.{Gave};
 ghost use Rattle.input_files.specs.Outcomes.{outcome};
 ghost use Rattle.input_files.specs.Stops.{IsReadAs, files_named};
 ghost use Rattle.report_writer.specs.Reports.{Reports, bytes_in};
+ghost use Rattle.conflict_core.specs.Asking.{AreAskedOfSets};
 ghost use Rattle.conflict_core.specs.Conflicts.{IsConflictFound};
 ghost use Rattle.form_search.specs.Advised.{AreCalled};
 ghost use Rattle.path_commands.specs.Conflicts.{MayConflict, conflict_text, conflict_status};
@@ -62,8 +63,13 @@ pub fn conflict_report<'a, S: Shelf>(
     requires itself { limits.now ≡ limits.now }
     ensures read { Gave (S.gave shelf.old shelf.new) (λ came. IsReadAs
         (outcome View.AsRequested (files_named words.entry)) came
-        (λ report d. MayConflict (bounds limits.now) d report.status (bytes_in report.text))
-        result) }
+        (λ report d. MayConflict (bounds limits.now) d report.status (bytes_in report.text) ×
+        AreAskedOfSets ⟦<dyn Advisor as Advisor>⟧ (λ b. b.vtable) (λ b. state b) d.problem
+        limits.now.top limits.now.nodes advisors.old.items advisors.new.items) result) }
+
+    // Where a file stopped it, no advisor was asked.
+    ensures stopped { IfErr result (λ stop. (stop ≡ Stop.OutOfMemory) ⊎
+        (advisors.new.items ≡ advisors.old.items)) }
     ensures advisors { AreCalled ⟦<dyn Advisor as Advisor>⟧ (λ b. b.vtable) (λ b. state b)
         advisors.old.items advisors.new.items }
 {

@@ -4,6 +4,7 @@ use Rattle.design_problem.specs.Problems.{DesignProblem}
 use Rattle.design_problem.specs.Rows.{greatest_cost}
 use Rattle.design_problem.specs.Answers.{greatest_bound}
 use Rattle.form_search.proofs.AdvisorLaws.{left_alike}
+use Rattle.conflict_core.proofs.Asking.{asked_of, some_asked}
 use Rattle.conflict_core.proofs.Sets.{cap_above}
 use Rattle.conflict_core.proofs.deciding.decide_set.Goals as goal
 
@@ -17,3 +18,70 @@ decide-requires-clause-cap g c =
     ∙ ap greatest_cost (c.as_slice-2.ensures ∙ ap (λ (r : DesignProblem). r.high) c.part.view_is) in
     cap_above c.args.problem.now q c.args.members.items c.as_slice.result.now c.greatest_of-ceiling.result
     c.keeps_conditions.ensures.problem c.requires c.as_slice.ensures.value c.in_ok-part.ensures ceiling_is
+
+pub returns-in-Costs-clause-asked : goal.returns-in-Costs-clause-asked
+returns-in-Costs-clause-asked g c =
+    let q = c.in_ok-part.part in
+    let ceiling_is : c.greatest_of-ceiling.result ≡ greatest_bound q = c.greatest_of-ceiling.ensures
+    ∙ ap greatest_cost (c.as_slice-2.ensures ∙ ap (λ (r : DesignProblem). r.high) c.part.view_is) in
+    asked_of _ _ _ _ _ c.args.problem.now q c.args.members.items c.as_slice.result.now c.args.limits.now.top c.args.limits.now.nodes
+    c.greatest_of-ceiling.result c.decide.new.pool c.decide.result c.decide.ensures.asked.tree _ _ c.as_slice.ensures.value
+    c.in_ok-part.ensures ceiling_is c.decide.ensures.decided c.decide.ensures.asked.is_tree c.decide.ensures.asked.calls
+
+pub returns-in-Refuted-clause-asked : goal.returns-in-Refuted-clause-asked
+returns-in-Refuted-clause-asked g c =
+    let q = c.in_ok-part.part in
+    let ceiling_is : c.greatest_of-ceiling.result ≡ greatest_bound q = c.greatest_of-ceiling.ensures
+    ∙ ap greatest_cost (c.as_slice-2.ensures ∙ ap (λ (r : DesignProblem). r.high) c.part.view_is) in
+    asked_of _ _ _ _ _ c.args.problem.now q c.args.members.items c.as_slice.result.now c.args.limits.now.top c.args.limits.now.nodes
+    c.greatest_of-ceiling.result c.decide.new.pool c.decide.result c.decide.ensures.asked.tree _ _ c.as_slice.ensures.value
+    c.in_ok-part.ensures ceiling_is c.decide.ensures.decided c.decide.ensures.asked.is_tree c.decide.ensures.asked.calls
+
+pub returns-in-Undecided-clause-asked : goal.returns-in-Undecided-clause-asked
+returns-in-Undecided-clause-asked g c =
+    let q = c.in_ok-part.part in
+    let ceiling_is : c.greatest_of-ceiling.result ≡ greatest_bound q = c.greatest_of-ceiling.ensures
+    ∙ ap greatest_cost (c.as_slice-2.ensures ∙ ap (λ (r : DesignProblem). r.high) c.part.view_is) in
+    asked_of _ _ _ _ _ c.args.problem.now q c.args.members.items c.as_slice.result.now c.args.limits.now.top c.args.limits.now.nodes
+    c.greatest_of-ceiling.result c.decide.new.pool c.decide.result c.decide.ensures.asked.tree _ _ c.as_slice.ensures.value
+    c.in_ok-part.ensures ceiling_is c.decide.ensures.decided c.decide.ensures.asked.is_tree c.decide.ensures.asked.calls
+
+pub returns-in_err-costs-clause-advisors : goal.returns-in_err-costs-clause-advisors
+returns-in_err-costs-clause-advisors g c =
+    let q = c.in_ok-part.part in
+    let ceiling_is : c.greatest_of-ceiling.result ≡ greatest_bound q = c.greatest_of-ceiling.ensures
+    ∙ ap greatest_cost (c.as_slice-2.ensures ∙ ap (λ (r : DesignProblem). r.high) c.part.view_is) in
+    some_asked _ _ _ _ _ c.args.problem.now c.args.limits.now.top c.args.limits.now.nodes c.args.members.items _ _ c.requires
+    (asked_of _ _ _ _ _ c.args.problem.now q c.args.members.items c.as_slice.result.now c.args.limits.now.top c.args.limits.now.nodes
+    c.greatest_of-ceiling.result c.decide.new.pool c.decide.result c.decide.ensures.asked.tree _ _ c.as_slice.ensures.value
+    c.in_ok-part.ensures ceiling_is c.decide.ensures.decided c.decide.ensures.asked.is_tree c.decide.ensures.asked.calls)
+
+pub returns-in-Costs-clause-advisors : goal.returns-in-Costs-clause-advisors
+returns-in-Costs-clause-advisors g c =
+    let q = c.in_ok-part.part in
+    let ceiling_is : c.greatest_of-ceiling.result ≡ greatest_bound q = c.greatest_of-ceiling.ensures
+    ∙ ap greatest_cost (c.as_slice-2.ensures ∙ ap (λ (r : DesignProblem). r.high) c.part.view_is) in
+    some_asked _ _ _ _ _ c.args.problem.now c.args.limits.now.top c.args.limits.now.nodes c.args.members.items _ _ c.requires
+    (asked_of _ _ _ _ _ c.args.problem.now q c.args.members.items c.as_slice.result.now c.args.limits.now.top c.args.limits.now.nodes
+    c.greatest_of-ceiling.result c.decide.new.pool c.decide.result c.decide.ensures.asked.tree _ _ c.as_slice.ensures.value
+    c.in_ok-part.ensures ceiling_is c.decide.ensures.decided c.decide.ensures.asked.is_tree c.decide.ensures.asked.calls)
+
+pub returns-in-Refuted-clause-advisors : goal.returns-in-Refuted-clause-advisors
+returns-in-Refuted-clause-advisors g c =
+    let q = c.in_ok-part.part in
+    let ceiling_is : c.greatest_of-ceiling.result ≡ greatest_bound q = c.greatest_of-ceiling.ensures
+    ∙ ap greatest_cost (c.as_slice-2.ensures ∙ ap (λ (r : DesignProblem). r.high) c.part.view_is) in
+    some_asked _ _ _ _ _ c.args.problem.now c.args.limits.now.top c.args.limits.now.nodes c.args.members.items _ _ c.requires
+    (asked_of _ _ _ _ _ c.args.problem.now q c.args.members.items c.as_slice.result.now c.args.limits.now.top c.args.limits.now.nodes
+    c.greatest_of-ceiling.result c.decide.new.pool c.decide.result c.decide.ensures.asked.tree _ _ c.as_slice.ensures.value
+    c.in_ok-part.ensures ceiling_is c.decide.ensures.decided c.decide.ensures.asked.is_tree c.decide.ensures.asked.calls)
+
+pub returns-in-Undecided-clause-advisors : goal.returns-in-Undecided-clause-advisors
+returns-in-Undecided-clause-advisors g c =
+    let q = c.in_ok-part.part in
+    let ceiling_is : c.greatest_of-ceiling.result ≡ greatest_bound q = c.greatest_of-ceiling.ensures
+    ∙ ap greatest_cost (c.as_slice-2.ensures ∙ ap (λ (r : DesignProblem). r.high) c.part.view_is) in
+    some_asked _ _ _ _ _ c.args.problem.now c.args.limits.now.top c.args.limits.now.nodes c.args.members.items _ _ c.requires
+    (asked_of _ _ _ _ _ c.args.problem.now q c.args.members.items c.as_slice.result.now c.args.limits.now.top c.args.limits.now.nodes
+    c.greatest_of-ceiling.result c.decide.new.pool c.decide.result c.decide.ensures.asked.tree _ _ c.as_slice.ensures.value
+    c.in_ok-part.ensures ceiling_is c.decide.ensures.decided c.decide.ensures.asked.is_tree c.decide.ensures.asked.calls)

@@ -4,6 +4,7 @@ use Rattle.form_search.proofs.AdvisorLaws.{left_alike, left_then}
 use Rattle.conflict_core.specs.declared.deciding.Decided.{Decided}
 use Rattle.conflict_core.specs.declared.deciding.Decided.TheVariants.{Undecided}
 use Rattle.conflict_core.specs.Deciding.{IsSetDecided}
+use Rattle.conflict_core.proofs.Asking.{all_asked, called_of_sets, where_ok}
 use Rattle.conflict_core.proofs.Sets.{all_set, fit_all}
 use Rattle.conflict_core.proofs.finding.find_conflict.Goals as goal
 
@@ -20,8 +21,43 @@ returns-in-Costs-clause-found g c =
     fit_all p c.in_ok-all.all.items c.in-Costs.costs c.in_ok-all.ensures
     (subst (λ (d : Decided). IsSetDecided p limits.top limits.nodes c.in_ok-all.all.items d) c.in-Costs.is c.in_ok-costs.ensures.decided)
 
+pub returns-in_err-costs-clause-advisors : goal.returns-in_err-costs-clause-advisors
+returns-in_err-costs-clause-advisors g c = called_of_sets _ _ _ _ _ c.args.problem.now c.args.limits.now.top c.args.limits.now.nodes _ _ c.decide_set.ensures.advisors
+
+pub returns-in-Costs-clause-advisors : goal.returns-in-Costs-clause-advisors
+returns-in-Costs-clause-advisors g c = called_of_sets _ _ _ _ _ c.args.problem.now c.args.limits.now.top c.args.limits.now.nodes _ _ c.decide_set.ensures.advisors
+
+pub returns-in-Undecided-clause-advisors : goal.returns-in-Undecided-clause-advisors
+returns-in-Undecided-clause-advisors g c = called_of_sets _ _ _ _ _ c.args.problem.now c.args.limits.now.top c.args.limits.now.nodes _ _ c.decide_set.ensures.advisors
+
 pub returns-in-Refuted-clause-advisors : goal.returns-in-Refuted-clause-advisors
-returns-in-Refuted-clause-advisors g c = left_then _ _ _ _ c.decide_set.ensures.advisors c.shrink.ensures.advisors
+returns-in-Refuted-clause-advisors g c =
+    called_of_sets _ _ _ _ _ c.args.problem.now c.args.limits.now.top c.args.limits.now.nodes _ _
+    (left_then _ _ _ _ c.decide_set.ensures.advisors c.shrink.ensures.advisors)
+
+pub returns-in-Costs-clause-asked : goal.returns-in-Costs-clause-asked
+returns-in-Costs-clause-asked g c = (
+      c.decide_set.new.advisors.items,
+      all_asked _ _ _ _ _ c.args.problem.now c.args.limits.now.top c.args.limits.now.nodes c.in_ok-all.all.items _ _ c.in_ok-all.ensures
+          c.in_ok-costs.ensures.asked,
+      left_alike _ _ _ refl,
+    )
+
+pub returns-in-Refuted-clause-asked : goal.returns-in-Refuted-clause-asked
+returns-in-Refuted-clause-asked g c = where_ok c.shrink.result (
+      c.decide_set.new.advisors.items,
+      all_asked _ _ _ _ _ c.args.problem.now c.args.limits.now.top c.args.limits.now.nodes c.in_ok-all.all.items _ _ c.in_ok-all.ensures
+          c.in_ok-costs.ensures.asked,
+      c.shrink.ensures.advisors,
+    )
+
+pub returns-in-Undecided-clause-asked : goal.returns-in-Undecided-clause-asked
+returns-in-Undecided-clause-asked g c = where_ok c.undecided.result (
+      c.decide_set.new.advisors.items,
+      all_asked _ _ _ _ _ c.args.problem.now c.args.limits.now.top c.args.limits.now.nodes c.in_ok-all.all.items _ _ c.in_ok-all.ensures
+          c.in_ok-costs.ensures.asked,
+      left_alike _ _ _ refl,
+    )
 
 pub returns-in-Undecided-clause-found : goal.returns-in-Undecided-clause-found
 returns-in-Undecided-clause-found g c =

@@ -1,17 +1,22 @@
 -- The report of the answer to the problem that was read.
 use Rattle.std.proofs.lemmas.Result.{err_from_is_err_and}
-use Rattle.std.proofs.Common.{refl}
+use Rattle.std.proofs.Common.{refl, inl, inr}
 use Rattle.form_search.proofs.AdvisorLaws.{left_alike}
+use Rattle.command_words.specs.Jobs.{bounds}
 use Rattle.input_files.specs.Stops.{files_named}
 use Rattle.input_files.proofs.Stops.{gave_wanting}
+use Rattle.design_commands.specs.Trials.{trial_limits}
+use Rattle.design_commands.proofs.Asking.{same_asked}
 use Rattle.design_commands.proofs.Trials.{tried_found}
 use Rattle.design_commands.proofs.trial.report_on_texts.Goals as goal
 
 pub returns-clause-read : goal.returns-clause-read
 returns-clause-read g c =
     tried_found (g.S.Shelf.gave c.args.shelf.now c.read_problem.new.shelf) c.args.trial.blocks c.args.trial.start
-    (files_named c.args.words) c.in_ok-problem.problem c.in_ok-report_of_trial.field-0 c.in_ok-problem.ensures.read
+    (files_named c.args.words) c.in_ok-problem.problem c.in_ok-report_of_trial.field-0 _ c.in_ok-problem.ensures.read
     c.in_ok-report_of_trial.ensures
+    (λ d same. same_asked _ _ _ _ _ c.in_ok-problem.problem d.problem (bounds c.trial_limits.result) trial_limits _ _ same c.trial_limits.ensures
+    c.in_ok-answer.ensures.asked)
 
 pub returns-in_err-answer-clause-read : goal.returns-in_err-answer-clause-read
 returns-in_err-answer-clause-read g c =
@@ -25,3 +30,18 @@ returns-in_err-report_of_trial-clause-read g c =
 
 pub returns-in_err-problem-clause-advisors : goal.returns-in_err-problem-clause-advisors
 returns-in_err-problem-clause-advisors g c = left_alike _ _ _ refl
+
+pub returns-in_err-problem-clause-stopped : goal.returns-in_err-problem-clause-stopped
+returns-in_err-problem-clause-stopped g c =
+    let p = err_from_is_err_and c.from_residual.result c.from_residual.ensures.1 in
+    rw (p.1, p.2) (inr refl)
+
+pub returns-in_err-answer-clause-stopped : goal.returns-in_err-answer-clause-stopped
+returns-in_err-answer-clause-stopped g c =
+    let p = err_from_is_err_and c.from_residual-in_err-answer.result c.from_residual-in_err-answer.ensures.1 in
+    rw (p.1, p.2) (inl refl)
+
+pub returns-in_err-report_of_trial-clause-stopped : goal.returns-in_err-report_of_trial-clause-stopped
+returns-in_err-report_of_trial-clause-stopped g c =
+    let p = err_from_is_err_and c.from_residual-in_err-report_of_trial.result c.from_residual-in_err-report_of_trial.ensures.1 in
+    rw (p.1, p.2) (inl refl)

@@ -1,5 +1,5 @@
 -- What is found of the problem that was read is told.
-use Rattle.std.proofs.Common.{refl}
+use Rattle.std.proofs.Common.{refl, inl, inr}
 use Rattle.command_words.specs.Jobs.{bounds}
 use Rattle.std.proofs.lemmas.Result.{err_from_is_err_and}
 use Rattle.input_files.specs.Stops.{files_named}
@@ -29,6 +29,21 @@ returns-in_err-report_of_conflict-clause-read g c =
 pub returns-clause-read : goal.returns-clause-read
 returns-clause-read g c =
     conflict_found (g.S.Shelf.gave c.args.shelf.now c.read_problem.new.shelf) (bounds c.args.limits.now)
-    (files_named c.args.words) c.in_ok-problem.problem c.in_ok-conflict.conflict c.in_ok-report_of_conflict.field-0
+    (files_named c.args.words) c.in_ok-problem.problem c.in_ok-conflict.conflict c.in_ok-report_of_conflict.field-0 _
     c.in_ok-problem.ensures.read
-    c.in_ok-conflict.ensures.found c.in_ok-report_of_conflict.ensures
+    c.in_ok-conflict.ensures.found c.in_ok-report_of_conflict.ensures (λ d same. rw same c.in_ok-conflict.ensures.asked)
+
+pub returns-in_err-problem-clause-stopped : goal.returns-in_err-problem-clause-stopped
+returns-in_err-problem-clause-stopped g c =
+    let p = err_from_is_err_and c.from_residual.result c.from_residual.ensures.1 in
+    rw (p.1, p.2) (inr refl)
+
+pub returns-in_err-conflict-clause-stopped : goal.returns-in_err-conflict-clause-stopped
+returns-in_err-conflict-clause-stopped g c =
+    let p = err_from_is_err_and c.from_residual-in_err-conflict.result c.from_residual-in_err-conflict.ensures.1 in
+    rw (p.1, p.2) (inl refl)
+
+pub returns-in_err-report_of_conflict-clause-stopped : goal.returns-in_err-report_of_conflict-clause-stopped
+returns-in_err-report_of_conflict-clause-stopped g c =
+    let p = err_from_is_err_and c.from_residual-in_err-report_of_conflict.result c.from_residual-in_err-report_of_conflict.ensures.1 in
+    rw (p.1, p.2) (inl refl)
