@@ -49,10 +49,12 @@ search_made Given Asked job said may asks nobody made names other is same a stop
     there : IsReadAs (outcome AsRequested other) a.came (λ (report : Report) d. may d report.status (bytes_in report.text) × asks d) made
     there = subst (λ (n : InputFiles). IsReadAs (outcome AsRequested n) a.came (λ (report : Report) d. may d report.status (bytes_in report.text) × asks d) made)
         same a.so
+
     here : IsReadAs (outcome AsRequested other) a.came (MayReport may) made
     here = read_alone (outcome AsRequested other) a.came (MayReport may) asks made
         (subst (λ (n : InputFiles). IsReadAs (outcome AsRequested n) a.came (λ (report : Report) d. may d report.status (bytes_in report.text) × asks d) made)
         same a.so)
+
     either : (made ≡ Err stops.OutOfMemory) ⊎ ((one : End Input) → ((end : End Input) → EndsAs (outcome AsRequested other) a.came end → end ≡ one) →
         AsksAt asks nobody one) → (made ≡ Err stops.OutOfMemory) ⊎ Asked (Some said) a.came
     either (inl wanting) = inl wanting
@@ -98,6 +100,7 @@ job_done Given Asked job made result a r = record {
     unmade : (end : Result Report OutOfMemory) → ReportsAny (Err stops.OutOfMemory) end → IsWanting end
     unmade (Ok report) never = absurd never
     unmade (Err e) never = tt
+
     either : (made ≡ Err stops.OutOfMemory) ⊎ Asked (Some job) a.came → IsWanting result ⊎ Asked (Some job) a.came
     either (inl wanting) = inl (unmade result (subst (λ (m : Result Report Stop). ReportsAny m result) wanting r))
     either (inr asked) = inr asked

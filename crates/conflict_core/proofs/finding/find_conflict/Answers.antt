@@ -37,27 +37,27 @@ returns-in-Refuted-clause-advisors g c =
 
 pub returns-in-Costs-clause-asked : goal.returns-in-Costs-clause-asked
 returns-in-Costs-clause-asked g c = (
-      c.decide_set.new.advisors.items,
-      all_asked _ _ _ _ _ c.args.problem.now c.args.limits.now.top c.args.limits.now.nodes c.in_ok-all.all.items _ _ c.in_ok-all.ensures
-          c.in_ok-costs.ensures.asked,
-      left_alike _ _ _ refl,
-    )
+  c.decide_set.new.advisors.items,
+  all_asked _ _ _ _ _ c.args.problem.now c.args.limits.now.top c.args.limits.now.nodes c.in_ok-all.all.items _ _ c.in_ok-all.ensures
+      c.in_ok-costs.ensures.asked,
+  left_alike _ _ _ refl,
+)
 
 pub returns-in-Refuted-clause-asked : goal.returns-in-Refuted-clause-asked
 returns-in-Refuted-clause-asked g c = where_ok c.shrink.result (
-      c.decide_set.new.advisors.items,
-      all_asked _ _ _ _ _ c.args.problem.now c.args.limits.now.top c.args.limits.now.nodes c.in_ok-all.all.items _ _ c.in_ok-all.ensures
-          c.in_ok-costs.ensures.asked,
-      c.shrink.ensures.advisors,
-    )
+  c.decide_set.new.advisors.items,
+  all_asked _ _ _ _ _ c.args.problem.now c.args.limits.now.top c.args.limits.now.nodes c.in_ok-all.all.items _ _ c.in_ok-all.ensures
+      c.in_ok-costs.ensures.asked,
+  c.shrink.ensures.advisors,
+)
 
 pub returns-in-Undecided-clause-asked : goal.returns-in-Undecided-clause-asked
 returns-in-Undecided-clause-asked g c = where_ok c.undecided.result (
-      c.decide_set.new.advisors.items,
-      all_asked _ _ _ _ _ c.args.problem.now c.args.limits.now.top c.args.limits.now.nodes c.in_ok-all.all.items _ _ c.in_ok-all.ensures
-          c.in_ok-costs.ensures.asked,
-      left_alike _ _ _ refl,
-    )
+  c.decide_set.new.advisors.items,
+  all_asked _ _ _ _ _ c.args.problem.now c.args.limits.now.top c.args.limits.now.nodes c.in_ok-all.all.items _ _ c.in_ok-all.ensures
+      c.in_ok-costs.ensures.asked,
+  left_alike _ _ _ refl,
+)
 
 pub returns-in-Undecided-clause-found : goal.returns-in-Undecided-clause-found
 returns-in-Undecided-clause-found g c =
