@@ -1,8 +1,8 @@
 //! One set of requests decided.
-ghost use Rattle.std.specs.Prelude.{IfOk, OnOk};
-ghost use Rattle.conflict_core.specs.Asking.{AreAskedOfSome, IsAskedOf};
+ghost use Rattle.std.specs.Prelude.{IfOk};
+ghost use Rattle.form_search.specs.Advised.{AreCalled};
 ghost use Rattle.conflict_core.specs.Conflicts.{IsRequestSet};
-ghost use Rattle.conflict_core.specs.Deciding.{IsSetDecided};
+ghost use Rattle.conflict_core.specs.Deciding.{IsSetAsked, IsSetDecided};
 
 use cost_base::OutOfMemory;
 use cost_branching::{Found, Pool, decide, keeps_conditions};
@@ -42,11 +42,11 @@ pub(crate) fn decide_set(
     requires { IsRequestSet problem.now members.items }
     ensures decided { IfOk result (IsSetDecided problem.now limits.now.top limits.now.nodes
         members.items) }
-    ensures asked { OnOk result (IsAskedOf ⟦<dyn Advisor as Advisor>⟧ (λ b. b.vtable)
-        (λ b. state b) problem.now limits.now.top limits.now.nodes members.items advisors.old.items
-        advisors.new.items) }
-    ensures advisors { AreAskedOfSome ⟦<dyn Advisor as Advisor>⟧ (λ b. b.vtable) (λ b. state b)
-        problem.now limits.now.top limits.now.nodes advisors.old.items advisors.new.items }
+    ensures asked { IfOk result (λ decided. IsSetAsked ⟦<dyn Advisor as Advisor>⟧
+        (λ b. b.vtable) (λ b. state b) problem.now limits.now.top limits.now.nodes members.items
+        decided advisors.old.items advisors.new.items) }
+    ensures advisors { AreCalled ⟦<dyn Advisor as Advisor>⟧ (λ b. b.vtable) (λ b. state b)
+        advisors.old.items advisors.new.items }
 {
     keeps_conditions(problem);
     let part = problem.only(alloc, members.as_slice())?;

@@ -1,9 +1,9 @@
 //! A least conflict.
 ghost use Rattle.std.specs.Prelude.{◌≡◌, ◌⊎◌, ℕ, ◌≤◌, length, IfOk, OnOk};
 ghost use Rattle.form_search.specs.Advised.{AreCalled};
-ghost use Rattle.conflict_core.specs.Asking.{AreAskedOfSets, AreAskedOfSome};
+ghost use Rattle.conflict_core.specs.Asking.{AreAskedOfSets};
 ghost use Rattle.conflict_core.specs.Conflicts.{IsConflictFound, IsConflictLessOne, all_requests};
-ghost use Rattle.conflict_core.specs.Deciding.{AreFitWithout, IsRefutedSet, IsShrunk, IsUndecidedSet};
+ghost use Rattle.conflict_core.specs.Deciding.{AreAskedUntil, AreFitWithout, IsRefutedSet, IsShrunk, IsUndecidedSet};
 
 use crate::conflict::Conflict;
 use crate::deciding::{Decided, SetTree, decide_set};
@@ -75,8 +75,11 @@ fn finish(
     requires shrunk { IsShrunk problem.now shrunk }
     requires ended { length shrunk.members ≤ length shrunk.without.items }
     ensures found { IfOk result (IsConflictFound problem.now limits.now.top limits.now.nodes) }
-    ensures advisors { AreAskedOfSome ⟦<dyn Advisor as Advisor>⟧ (λ b. b.vtable) (λ b. state b)
-        problem.now limits.now.top limits.now.nodes advisors.old.items advisors.new.items }
+    ensures asked { OnOk result (AreAskedUntil ⟦<dyn Advisor as Advisor>⟧ (λ b. b.vtable)
+        (λ b. state b) problem.now limits.now.top limits.now.nodes advisors.old.items
+        advisors.new.items) }
+    ensures advisors { AreCalled ⟦<dyn Advisor as Advisor>⟧ (λ b. b.vtable) (λ b. state b)
+        advisors.old.items advisors.new.items }
 {
     let members = Vec::from_slice(alloc, shrunk.members.as_slice())?;
     match decide_set(alloc, problem, members, limits, advisors)? {
@@ -97,8 +100,11 @@ fn shrink(
     requires conflict { IsRefutedSet problem.now limits.now.top limits.now.nodes conflict }
     requires all { conflict.members.items ≡ all_requests problem.now }
     ensures found { IfOk result (IsConflictFound problem.now limits.now.top limits.now.nodes) }
-    ensures advisors { AreAskedOfSome ⟦<dyn Advisor as Advisor>⟧ (λ b. b.vtable) (λ b. state b)
-        problem.now limits.now.top limits.now.nodes advisors.old.items advisors.new.items }
+    ensures asked { OnOk result (AreAskedUntil ⟦<dyn Advisor as Advisor>⟧ (λ b. b.vtable)
+        (λ b. state b) problem.now limits.now.top limits.now.nodes advisors.old.items
+        advisors.new.items) }
+    ensures advisors { AreCalled ⟦<dyn Advisor as Advisor>⟧ (λ b. b.vtable) (λ b. state b)
+        advisors.old.items advisors.new.items }
 {
     keeps_conditions(problem);
     let Told {
@@ -139,7 +145,8 @@ pub fn find_conflict(
 ) -> Result<Conflict, OutOfMemory>
     ensures found { IfOk result (IsConflictFound problem.now limits.now.top limits.now.nodes) }
 
-    // The advisors are asked and told by a search of all requests, and by others of sets of requests.
+    // The advisors are asked and told by a search of all requests, and where these are a conflict, by others of sets of
+    // requests, the last of which finds no costs.
     ensures asked { OnOk result (AreAskedOfSets ⟦<dyn Advisor as Advisor>⟧ (λ b. b.vtable)
         (λ b. state b) problem.now limits.now.top limits.now.nodes advisors.old.items
         advisors.new.items) }

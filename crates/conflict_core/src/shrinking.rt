@@ -1,8 +1,8 @@
 //! A conflict that is made smaller.
 ghost use Rattle.std.specs.Prelude.{◌≡◌, ◌<◌, ◌++◌, ◌∷◌, ◌==◌, [], length, IfOk, slice_index};
 ghost use Rattle.std.specs.List.{list_any, remove};
-ghost use Rattle.conflict_core.specs.Asking.{AreAskedOfSome};
-ghost use Rattle.conflict_core.specs.Deciding.{IsShrunk, IsMemberTried};
+ghost use Rattle.form_search.specs.Advised.{AreCalled};
+ghost use Rattle.conflict_core.specs.Deciding.{AreAskedTrying, IsShrunk, IsMemberTried};
 
 use crate::deciding::{Decided, SetTree, decide_set};
 use crate::members::without_one;
@@ -137,8 +137,11 @@ pub(crate) fn leave_out(
     requires left { length shrunk.without.items < length shrunk.members }
     ensures turned { IfOk result (IsMemberTried problem.now limits.now.top limits.now.nodes
         shrunk) }
-    ensures advisors { AreAskedOfSome ⟦<dyn Advisor as Advisor>⟧ (λ b. b.vtable) (λ b. state b)
-        problem.now limits.now.top limits.now.nodes advisors.old.items advisors.new.items }
+    ensures asked { IfOk result (λ tried. AreAskedTrying ⟦<dyn Advisor as Advisor>⟧
+        (λ b. b.vtable) (λ b. state b) problem.now limits.now.top limits.now.nodes tried
+        advisors.old.items advisors.new.items) }
+    ensures advisors { AreCalled ⟦<dyn Advisor as Advisor>⟧ (λ b. b.vtable) (λ b. state b)
+        advisors.old.items advisors.new.items }
 {
     keeps_conditions(problem);
     let others = without_next(alloc, &shrunk)?;

@@ -1,5 +1,5 @@
 -- Searches that decide caps are searches.
-use Rattle.std.specs.Prelude.{ℕ, List}
+use Rattle.std.specs.Prelude.{ℕ, List, Result, Ok, Err, OnOk}
 use Rattle.design_problem.specs.declared.tree.Entry.{Entry}
 use Rattle.design_problem.specs.Problems.{DesignProblem}
 use Rattle.design_problem.specs.Boxes.{capped}
@@ -21,3 +21,8 @@ called_at_caps IsItself state would left after p top nodes old new (more xs ys z
     left_then _ xs ys zs (called_at_caps IsItself state would left after p top nodes xs ys rest)
     (left_advised IsItself state would left after (IsLeastPoint (LeadsEach p)) (capped (box_of p) last.0) last.1.tree ys zs
     last.1.calls (λ b point least. least.inside))
+
+-- what holds anyhow holds where a call ended well
+pub where_ok : {T E P : Type 0} (result : Result T E) → P → OnOk result P
+where_ok (Ok made) holds = holds
+where_ok (Err e) holds = tt

@@ -1,6 +1,5 @@
 -- How the searches that decide caps call the advisors.
-use Rattle.std.specs.Prelude.{◌≡◌, ℕ, List, Result, IfOk}
-use Rattle.cost_base.specs.declared.OutOfMemory.{OutOfMemory}
+use Rattle.std.specs.Prelude.{◌≡◌, ℕ, List}
 use Rattle.design_problem.specs.declared.tree.Entry.{Entry}
 use Rattle.design_problem.specs.Problems.{DesignProblem}
 use Rattle.design_problem.specs.Boxes.{capped}
@@ -14,16 +13,16 @@ use Rattle.form_search.specs.Advised.{AreAdvisorsLeft, AreAllTold, AreCalledBySe
 use Rattle.cost_branching.specs.Pools.{Pooled}
 use Rattle.cost_branching.specs.Decisions.{IsDecided}
 
--- The search that decided a cap of the problem called them: they were asked before each Split of its tree, at the least
+-- A search that decided a cap of the problem called them: they were asked before each Split of its tree, at the least
 -- point of the open box, and told each entry.
 pub record IsAskedAt {A : Type 0} (IsItself : A → A → Type 0) (state : A → List ℕ) (would : A → List ℕ → List Candidate → ℕ)
     (left : A → List ℕ → List Candidate → List ℕ) (after : A → List ℕ → Entry → List ℕ)
     (p : DesignProblem) (top nodes cap : ℕ) (old new : List A) : Type 0 where
-  pub result : Result Found OutOfMemory
+  pub found : Found
   pub pool : Pooled
-  pub decided : IfOk result (IsDecided p top nodes cap pool)
+  pub decided : IsDecided p top nodes cap pool found
   pub tree : Growing
-  pub is_tree : IfOk result (IsTreeOf tree)
+  pub is_tree : IsTreeOf tree found
   pub calls : AreCalledBySearch (IsLeastPoint (LeadsEach p)) (IsPick IsItself state would left) (AreAllTold IsItself state after)
       (capped (box_of p) cap) tree old new
 

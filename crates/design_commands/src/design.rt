@@ -1,5 +1,5 @@
 //! `design`: an answer to the files of words.
-ghost use Rattle.std.specs.Prelude.{◌≡◌, ◌⊎◌, ℕ, List, IfErr, IfOk};
+ghost use Rattle.std.specs.Prelude.{◌≡◌, ◌⊎◌, ℕ, List, IfErr, IfOk, OnOk};
 ghost use Rattle.command_words.specs.Jobs.{bounds};
 ghost use Rattle.design_problem.specs.Answers.{greatest_bound};
 ghost use Rattle.design_problem.specs.Text.{text};
@@ -50,9 +50,9 @@ pub(crate) fn answer_to(
     // Always true: a function that hands on boxed advisors has to require something.
     requires itself { problem.now ≡ problem.now }
     ensures answered { IfOk result (IsAnswerTo (bounds limits.now) problem.now) }
-    ensures asked { AreAskedFrom ⟦<dyn Advisor as Advisor>⟧ (λ b. b.vtable) (λ b. state b)
-        problem.now limits.now.top limits.now.nodes (greatest_bound problem.now)
-        advisors.old.items advisors.new.items }
+    ensures asked { OnOk result (AreAskedFrom ⟦<dyn Advisor as Advisor>⟧ (λ b. b.vtable)
+        (λ b. state b) problem.now limits.now.top limits.now.nodes (greatest_bound problem.now)
+        advisors.old.items advisors.new.items) }
     ensures advisors { AreCalled ⟦<dyn Advisor as Advisor>⟧ (λ b. b.vtable) (λ b. state b)
         advisors.old.items advisors.new.items }
 {

@@ -1,5 +1,5 @@
 //! The least cap.
-ghost use Rattle.std.specs.Prelude.{ℕ, ◌≤◌, IfOk};
+ghost use Rattle.std.specs.Prelude.{ℕ, ◌≤◌, IfOk, OnOk};
 ghost use Rattle.design_problem.specs.Answers.{greatest_bound};
 ghost use Rattle.form_search.specs.Advised.{AreCalled};
 ghost use Rattle.cost_branching.specs.Advising.{AreAskedAtCaps, AreAskedFrom};
@@ -27,8 +27,11 @@ fn narrowed(
     requires pool { IsRowPool problem.now pool }
     requires progress { IsProgress problem.now limits.now.top limits.now.nodes pool progress }
     ensures answered { IfOk result (IsDesignAnswer problem.now limits.now.top limits.now.nodes) }
-    ensures advisors { AreAskedAtCaps ⟦<dyn Advisor as Advisor>⟧ (λ b. b.vtable) (λ b. state b)
-        problem.now limits.now.top limits.now.nodes advisors.old.items advisors.new.items }
+    ensures asked { OnOk result (AreAskedAtCaps ⟦<dyn Advisor as Advisor>⟧ (λ b. b.vtable)
+        (λ b. state b) problem.now limits.now.top limits.now.nodes advisors.old.items
+        advisors.new.items) }
+    ensures advisors { AreCalled ⟦<dyn Advisor as Advisor>⟧ (λ b. b.vtable) (λ b. state b)
+        advisors.old.items advisors.new.items }
 {
     keeps_conditions(problem);
     let mut pool = pool;
@@ -59,9 +62,9 @@ pub fn least(
     ensures answered { IfOk result (IsDesignAnswer problem.now limits.now.top limits.now.nodes) }
 
     // The advisors are asked and told by a search at the greatest upper bound, and by one at each further cap.
-    ensures asked { AreAskedFrom ⟦<dyn Advisor as Advisor>⟧ (λ b. b.vtable) (λ b. state b)
-        problem.now limits.now.top limits.now.nodes (greatest_bound problem.now)
-        advisors.old.items advisors.new.items }
+    ensures asked { OnOk result (AreAskedFrom ⟦<dyn Advisor as Advisor>⟧ (λ b. b.vtable)
+        (λ b. state b) problem.now limits.now.top limits.now.nodes (greatest_bound problem.now)
+        advisors.old.items advisors.new.items) }
     ensures advisors { AreCalled ⟦<dyn Advisor as Advisor>⟧ (λ b. b.vtable) (λ b. state b)
         advisors.old.items advisors.new.items }
 {

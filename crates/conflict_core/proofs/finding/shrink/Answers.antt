@@ -1,10 +1,13 @@
 -- Each turn leaves fewer members to try.
 use Rattle.std.proofs.Common.{refl, subst}
+use Rattle.std.proofs.lemmas.Result.{on_ok_weaker}
 use Rattle.form_search.proofs.AdvisorLaws.{left_alike, left_then}
 use Rattle.conflict_core.specs.declared.shrinking.Shrunk.{Shrunk}
 use Rattle.conflict_core.specs.declared.shrinking.Tried.{Tried}
 use Rattle.conflict_core.specs.declared.shrinking.Tried.TheVariants.{On, Stuck}
+use Rattle.cost_branching.proofs.Advising.{where_ok}
 use Rattle.conflict_core.specs.Deciding.{IsMemberTried}
+use Rattle.conflict_core.proofs.Asking.{asked_on, asked_stuck, called_of_sets}
 use Rattle.conflict_core.proofs.ShrinkingLaws.{not_tried}
 use Rattle.conflict_core.proofs.finding.shrink.Goals as goal
 
@@ -27,7 +30,8 @@ loop-shrunk-init g c =
     }
 
 pub returns-in_err-next-clause-advisors : goal.returns-in_err-next-clause-advisors
-returns-in_err-next-clause-advisors g c = left_then _ _ _ _ c.loop-shrunk.invariant.advisors c.leave_out.ensures.advisors
+returns-in_err-next-clause-advisors g c =
+    left_then _ _ _ _ (called_of_sets _ _ _ _ _ c.args.problem.now c.args.limits.now.top c.args.limits.now.nodes _ _ c.loop-shrunk.invariant.advisors) c.leave_out.ensures.advisors
 
 pub loop-shrunk-preserved : goal.loop-shrunk-preserved
 loop-shrunk-preserved g c =
@@ -36,7 +40,11 @@ loop-shrunk-preserved g c =
     let turned : IsMemberTried p limits.top limits.nodes c.loop-shrunk.shrunk (On c.in-On.next) =
     subst (λ (t : Tried). IsMemberTried p limits.top limits.nodes c.loop-shrunk.shrunk t) c.in-On.is
     c.in_ok-next.ensures.turned in
-    record { shrunk = turned.0; advisors = left_then _ _ _ _ c.loop-shrunk.invariant.advisors c.leave_out.ensures.advisors }
+    record {
+      shrunk = turned.0;
+      advisors = left_then _ _ _ _ c.loop-shrunk.invariant.advisors
+          (asked_on _ _ _ _ _ c.args.problem.now c.args.limits.now.top c.args.limits.now.nodes _ c.in-On.next _ _ c.in-On.is c.in_ok-next.ensures.asked);
+    }
 
 pub returns-in-Stuck-clause-found : goal.returns-in-Stuck-clause-found
 returns-in-Stuck-clause-found g c =
@@ -48,7 +56,19 @@ returns-in-Stuck-clause-found g c =
     c.undecided.ensures limits.top limits.nodes turned.0
 
 pub returns-in-Stuck-clause-advisors : goal.returns-in-Stuck-clause-advisors
-returns-in-Stuck-clause-advisors g c = left_then _ _ _ _ c.loop-shrunk.invariant.advisors c.leave_out.ensures.advisors
+returns-in-Stuck-clause-advisors g c =
+    left_then _ _ _ _ (called_of_sets _ _ _ _ _ c.args.problem.now c.args.limits.now.top c.args.limits.now.nodes _ _ c.loop-shrunk.invariant.advisors) c.leave_out.ensures.advisors
 
 pub returns-clause-advisors : goal.returns-clause-advisors
-returns-clause-advisors g c = left_then _ _ _ _ c.loop-shrunk.invariant.advisors c.finish.ensures.advisors
+returns-clause-advisors g c =
+    left_then _ _ _ _ (called_of_sets _ _ _ _ _ c.args.problem.now c.args.limits.now.top c.args.limits.now.nodes _ _ c.loop-shrunk.invariant.advisors) c.finish.ensures.advisors
+
+pub returns-in-Stuck-clause-asked : goal.returns-in-Stuck-clause-asked
+returns-in-Stuck-clause-asked g c =
+    let stuck = asked_stuck _ _ _ _ _ c.args.problem.now c.args.limits.now.top c.args.limits.now.nodes _ c.in-Stuck.set _ _ c.in-Stuck.is c.in_ok-next.ensures.asked in
+    where_ok c.undecided.result (stuck.0, left_then _ _ _ _ c.loop-shrunk.invariant.advisors stuck.1, stuck.2, stuck.3)
+
+pub returns-clause-asked : goal.returns-clause-asked
+returns-clause-asked g c =
+    on_ok_weaker c.finish.result (λ end. (end.0, left_then _ _ _ _ c.loop-shrunk.invariant.advisors end.1, end.2, end.3))
+    c.finish.ensures.asked

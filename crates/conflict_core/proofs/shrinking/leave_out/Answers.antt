@@ -2,12 +2,13 @@
 use Rattle.std.proofs.Common.{◌∙◌, refl, sym, subst, ap, ℕ, List, length}
 use Rattle.design_problem.specs.Problems.{restricted}
 use Rattle.design_problem.specs.Rows.{IsFit}
-use Rattle.form_search.proofs.AdvisorLaws.{left_alike}
+use Rattle.form_search.proofs.AdvisorLaws.{left_alike, left_searched}
 use Rattle.conflict_core.specs.declared.deciding.Decided.{Decided}
 use Rattle.conflict_core.specs.declared.deciding.Decided.TheVariants.{Refuted, Undecided}
 use Rattle.conflict_core.specs.declared.shrinking.Shrunk.{Shrunk}
 use Rattle.conflict_core.specs.Conflicts.{IsRequestSet}
-use Rattle.conflict_core.specs.Deciding.{IsSetDecided}
+use Rattle.conflict_core.specs.Deciding.{IsFoundAs, IsSetDecided}
+use Rattle.conflict_core.proofs.Asking.{none_if_undecided}
 use Rattle.conflict_core.proofs.Sets.{rest_set}
 use Rattle.conflict_core.proofs.ShrinkingLaws.{less_one, more_costs, not_used, refuted_less}
 use Rattle.conflict_core.proofs.shrinking.leave_out.Goals as goal
@@ -63,4 +64,42 @@ returns-in-Undecided-clause-turned g c =
     c.in_ok-costs.ensures.decided in (
       found.1,
       less_one p c.args.shrunk t.members.items (length c.args.shrunk.without.items) c.requires.shrunk c.requires.left (found.0 ∙ c.in_ok-others.ensures),
+    )
+
+pub returns-then-not-uses_next-clause-asked : goal.returns-then-not-uses_next-clause-asked
+returns-then-not-uses_next-clause-asked g c = left_alike _ _ _ refl
+
+pub returns-in_ok-with_costs-in-Costs-clause-asked : goal.returns-in_ok-with_costs-in-Costs-clause-asked
+returns-in_ok-with_costs-in-Costs-clause-asked g c =
+    let p = c.args.problem.now in
+    left_searched _ _ _ (
+      c.in_ok-others.others.items,
+      (subst (IsRequestSet p) (sym c.in_ok-others.ensures)
+          (rest_set p c.args.shrunk.members (length c.args.shrunk.without.items) c.requires.left c.requires.shrunk.set)),
+      c.in_ok-costs.ensures.asked.0,
+    )
+
+pub returns-in_ok-told-in-Refuted-clause-asked : goal.returns-in_ok-told-in-Refuted-clause-asked
+returns-in_ok-told-in-Refuted-clause-asked g c =
+    let p = c.args.problem.now in
+    left_searched _ _ _ (
+      c.in_ok-others.others.items,
+      (subst (IsRequestSet p) (sym c.in_ok-others.ensures)
+          (rest_set p c.args.shrunk.members (length c.args.shrunk.without.items) c.requires.left c.requires.shrunk.set)),
+      c.in_ok-costs.ensures.asked.0,
+    )
+
+pub returns-in-Undecided-clause-asked : goal.returns-in-Undecided-clause-asked
+returns-in-Undecided-clause-asked g c =
+    let p = c.args.problem.now in
+    let asked = c.in_ok-costs.ensures.asked in (
+      c.args.advisors.now.items,
+      left_alike _ _ _ refl,
+      (
+        c.in_ok-others.others.items,
+        (subst (IsRequestSet p) (sym c.in_ok-others.ensures)
+            (rest_set p c.args.shrunk.members (length c.args.shrunk.without.items) c.requires.left c.requires.shrunk.set)),
+        asked.0,
+      ),
+      none_if_undecided c.in-Undecided.set asked.0.found (subst (λ (d : Decided). IsFoundAs d asked.0.found) c.in-Undecided.is asked.1),
     )

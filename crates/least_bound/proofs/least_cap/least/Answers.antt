@@ -1,4 +1,5 @@
 -- At the greatest upper bound no costs are fit, costs are found, or the budget is used up.
+use Rattle.std.proofs.lemmas.Result.{on_ok_weaker}
 use Rattle.std.proofs.Common.{◌≡◌, ◌≤◌, ℕ, refl, sym, ◌∙◌, ap, subst, arith}
 use Rattle.design_problem.specs.Problems.{DesignProblem}
 use Rattle.design_problem.specs.Rows.{greatest_cost}
@@ -6,7 +7,7 @@ use Rattle.design_problem.specs.Answers.{greatest_bound}
 use Rattle.form_search.specs.declared.found.Found.{Found}
 use Rattle.form_search.specs.declared.found.Found.TheVariants.{Costs, Refuted, Undecided}
 use Rattle.form_search.proofs.AdvisorLaws.{left_alike, left_then}
-use Rattle.cost_branching.proofs.Advising.{called_at_caps}
+use Rattle.cost_branching.proofs.Advising.{where_ok}
 use Rattle.cost_branching.specs.Decisions.{IsDecided}
 use Rattle.printed_rows.proofs.CapBoxes.{floor_below_ceiling, no_low_above}
 use Rattle.least_bound.proofs.CapLaws.{floor_lowest}
@@ -65,85 +66,64 @@ narrowed-requires-in-Undecided-clause-progress g c =
     c.start-progress-in-Undecided.ensures limits.top limits.nodes c.decide.new.pool (ceiling_is, same, record { tree = found.0; undone = found.1; spent = found.2 })
 
 pub returns-in-Costs-clause-advisors : goal.returns-in-Costs-clause-advisors
-returns-in-Costs-clause-advisors g c = left_then _ _ _ _ c.decide.ensures.advisors
-    (called_at_caps _ _ _ _ _ c.args.problem.now c.args.limits.now.top c.args.limits.now.nodes _ _ c.narrowed.ensures.advisors)
+returns-in-Costs-clause-advisors g c = left_then _ _ _ _ c.decide.ensures.advisors c.narrowed.ensures.advisors
 
 pub returns-in-Undecided-clause-advisors : goal.returns-in-Undecided-clause-advisors
-returns-in-Undecided-clause-advisors g c = left_then _ _ _ _ c.decide.ensures.advisors
-    (called_at_caps _ _ _ _ _ c.args.problem.now c.args.limits.now.top c.args.limits.now.nodes _ _ c.narrowed-in-Undecided.ensures.advisors)
-
-pub returns-in_err-tree-clause-asked : goal.returns-in_err-tree-clause-asked
-returns-in_err-tree-clause-asked g c =
-    let p = c.args.problem.now in
-    let ceiling_is : c.greatest_of-ceiling.result ≡ greatest_bound p = c.greatest_of-ceiling.ensures
-    ∙ ap greatest_cost (c.as_slice.ensures ∙ ap (λ (q : DesignProblem). q.high) c.problem.view_is) in
-    let asked = c.decide.ensures.asked in
-    rw (sym ceiling_is) (
-      c.decide.new.advisors.items,
-      record {
-        result = c.decide.result;
-        pool = c.decide.new.pool;
-        decided = c.decide.ensures.decided;
-        tree = asked.tree;
-        is_tree = asked.is_tree;
-        calls = asked.calls;
-      },
-      left_alike _ _ _ refl,
-    )
+returns-in-Undecided-clause-advisors g c = left_then _ _ _ _ c.decide.ensures.advisors c.narrowed-in-Undecided.ensures.advisors
 
 pub returns-in-Refuted-clause-asked : goal.returns-in-Refuted-clause-asked
 returns-in-Refuted-clause-asked g c =
     let p = c.args.problem.now in
     let ceiling_is : c.greatest_of-ceiling.result ≡ greatest_bound p = c.greatest_of-ceiling.ensures
     ∙ ap greatest_cost (c.as_slice.ensures ∙ ap (λ (q : DesignProblem). q.high) c.problem.view_is) in
-    let asked = c.decide.ensures.asked in
-    rw (sym ceiling_is) (
+    let decided = c.in_ok-tree.ensures in
+    rw (sym ceiling_is) (where_ok c.impossible.result (
       c.decide.new.advisors.items,
       record {
-        result = c.decide.result;
+        found = c.in_ok-tree.field-0;
         pool = c.decide.new.pool;
-        decided = c.decide.ensures.decided;
-        tree = asked.tree;
-        is_tree = asked.is_tree;
-        calls = asked.calls;
+        decided = decided.decided;
+        tree = decided.asked.tree;
+        is_tree = decided.asked.is_tree;
+        calls = decided.asked.calls;
       },
       left_alike _ _ _ refl,
-    )
+    ))
 
 pub returns-in-Costs-clause-asked : goal.returns-in-Costs-clause-asked
 returns-in-Costs-clause-asked g c =
     let p = c.args.problem.now in
     let ceiling_is : c.greatest_of-ceiling.result ≡ greatest_bound p = c.greatest_of-ceiling.ensures
     ∙ ap greatest_cost (c.as_slice.ensures ∙ ap (λ (q : DesignProblem). q.high) c.problem.view_is) in
-    let asked = c.decide.ensures.asked in
-    rw (sym ceiling_is) (
+    let decided = c.in_ok-tree.ensures in
+    rw (sym ceiling_is) (on_ok_weaker c.narrowed.result (λ rest. (
       c.decide.new.advisors.items,
       record {
-        result = c.decide.result;
+        found = c.in_ok-tree.field-0;
         pool = c.decide.new.pool;
-        decided = c.decide.ensures.decided;
-        tree = asked.tree;
-        is_tree = asked.is_tree;
-        calls = asked.calls;
+        decided = decided.decided;
+        tree = decided.asked.tree;
+        is_tree = decided.asked.is_tree;
+        calls = decided.asked.calls;
       },
-      c.narrowed.ensures.advisors,
-    )
+      rest,
+    )) c.narrowed.ensures.asked)
 
 pub returns-in-Undecided-clause-asked : goal.returns-in-Undecided-clause-asked
 returns-in-Undecided-clause-asked g c =
     let p = c.args.problem.now in
     let ceiling_is : c.greatest_of-ceiling.result ≡ greatest_bound p = c.greatest_of-ceiling.ensures
     ∙ ap greatest_cost (c.as_slice.ensures ∙ ap (λ (q : DesignProblem). q.high) c.problem.view_is) in
-    let asked = c.decide.ensures.asked in
-    rw (sym ceiling_is) (
+    let decided = c.in_ok-tree.ensures in
+    rw (sym ceiling_is) (on_ok_weaker c.narrowed-in-Undecided.result (λ rest. (
       c.decide.new.advisors.items,
       record {
-        result = c.decide.result;
+        found = c.in_ok-tree.field-0;
         pool = c.decide.new.pool;
-        decided = c.decide.ensures.decided;
-        tree = asked.tree;
-        is_tree = asked.is_tree;
-        calls = asked.calls;
+        decided = decided.decided;
+        tree = decided.asked.tree;
+        is_tree = decided.asked.is_tree;
+        calls = decided.asked.calls;
       },
-      c.narrowed-in-Undecided.ensures.advisors,
-    )
+      rest,
+    )) c.narrowed-in-Undecided.ensures.asked)

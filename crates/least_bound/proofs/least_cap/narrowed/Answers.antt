@@ -2,6 +2,7 @@
 use Rattle.std.proofs.Common.{◌≤◌, refl, arith}
 use Rattle.design_problem.specs.Rows.{greatest_cost}
 use Rattle.form_search.proofs.AdvisorLaws.{left_alike, left_searched, left_then}
+use Rattle.cost_branching.proofs.Advising.{called_at_caps, where_ok}
 use Rattle.printed_rows.proofs.CapBoxes.{no_low_above}
 use Rattle.least_bound.proofs.least_cap.narrowed.Goals as goal
 
@@ -16,18 +17,16 @@ decide-requires-clause-cap g c =
 
 pub returns-in_err-found-clause-advisors : goal.returns-in_err-found-clause-advisors
 returns-in_err-found-clause-advisors g c =
-    let asked = c.decide.ensures.asked in
-    left_then _ _ _ _ c.loop-cap.invariant.advisors (left_searched _ _ _ (
-      c.in-Some.cap,
-      record {
-        result = c.decide.result;
-        pool = c.decide.new.pool;
-        decided = c.decide.ensures.decided;
-        tree = asked.tree;
-        is_tree = asked.is_tree;
-        calls = asked.calls;
-      },
-    ))
+    left_then _ _ _ _
+    (called_at_caps _ _ _ _ _ c.args.problem.now c.args.limits.now.top c.args.limits.now.nodes _ _ c.loop-cap.invariant.advisors)
+    c.decide.ensures.advisors
+
+pub returns-clause-asked : goal.returns-clause-asked
+returns-clause-asked g c = where_ok c.answer.result c.loop-cap.invariant.advisors
+
+pub returns-clause-advisors : goal.returns-clause-advisors
+returns-clause-advisors g c =
+    called_at_caps _ _ _ _ _ c.args.problem.now c.args.limits.now.top c.args.limits.now.nodes _ _ c.loop-cap.invariant.advisors
 
 pub loop-cap-smaller : goal.loop-cap-smaller
 loop-cap-smaller g c =
@@ -47,12 +46,12 @@ loop-cap-preserved g c = record {
       left_then _ _ _ _ c.loop-cap.invariant.advisors (left_searched _ _ _ (
         c.in-Some.cap,
         record {
-          result = c.decide.result;
+          found = c.in_ok-found.found;
           pool = c.decide.new.pool;
-          decided = c.decide.ensures.decided;
-          tree = c.decide.ensures.asked.tree;
-          is_tree = c.decide.ensures.asked.is_tree;
-          calls = c.decide.ensures.asked.calls;
+          decided = c.in_ok-found.ensures.decided;
+          tree = c.in_ok-found.ensures.asked.tree;
+          is_tree = c.in_ok-found.ensures.asked.is_tree;
+          calls = c.in_ok-found.ensures.asked.calls;
         },
       ));
 }
