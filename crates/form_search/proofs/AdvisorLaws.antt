@@ -11,15 +11,15 @@ use Rattle.design_problem.specs.declared.tree.WideAt.{WideAt}
 use Rattle.design_problem.specs.Forms.{Form}
 use Rattle.design_problem.specs.Boxes.{IsPointOf}
 use Rattle.design_problem.specs.Trees.{CutsAt}
-use Rattle.design_problem.specs.Earnest.{OpenPlace}
+use Rattle.design_problem.specs.Earnest.{IsLeastPoint, OpenPlace}
 use Rattle.design_problem.specs.OpenPlaces.{Growing, first_place, fresh, grown, undones}
 use Rattle.cut_advisors.specs.declared.candidate.Candidate.{Candidate}
 use Rattle.form_search.specs.declared.found.Found.{Found}
 use Rattle.form_search.specs.declared.found.Found.TheVariants.{Costs as FoundCosts, Undecided}
 use Rattle.form_search.specs.declared.turn.Next.{Next}
 use Rattle.form_search.specs.declared.turn.Next.TheVariants.{Forms, Costs, Entry as ByEntry}
-use Rattle.form_search.specs.Points.{candidates_at}
-use Rattle.form_search.specs.Turns.{IsNextRow, IsUnsplit, turned}
+use Rattle.form_search.specs.Points.{AreCostsThere, candidates_at}
+use Rattle.form_search.specs.Turns.{IsNextRow, IsNextStep, IsUnsplit, turned}
 use Rattle.form_search.specs.Advised.{AreAdvisorsLeft, AreAskedFor, AreCalledAlong, AreAllTold, AreCalledBySearch, AreReadyFor, IsAskedNext, IsAt, IsPick, IsSearched, IsToldNext, IsToldOf, IsTreeOf}
 use Rattle.form_search.specs.Advised.AreAdvisorsLeft.{none, more}
 use Rattle.form_search.specs.Advised.AreCalledAlong.{begun, longer}
@@ -291,15 +291,29 @@ wanting_end IsHere Picks Tells box tree next old now asked new along ready (inr 
 
 -- what was found is of the tree that grew
 
-found_full : (nodes : ℕ) (tree : Growing) (entry : Entry) (found : Found) (full : Bool) →
-    ended found ≡ (if full then Break (Undecided (tree.entries ++ undones (length tree.places))) else Continue (grown tree entry)) → IsTreeOf tree found
-found_full nodes tree entry found true ends = subst (IsTreeOf tree) (sym (same_found found (Undecided (tree.entries ++ undones (length tree.places))) ends)) refl
-found_full nodes tree entry found false ends = absurd (cc)
+found_full : (IsHere : CostBox → Point → Type 0) (nodes : ℕ) (tree : Growing) (entry : Entry) (found : Found) (full : Bool) →
+    ended found ≡ (if full then Break (Undecided (tree.entries ++ undones (length tree.places))) else Continue (grown tree entry)) →
+    IsTreeOf IsHere tree found
+found_full IsHere nodes tree entry found true ends = subst (IsTreeOf IsHere tree) (sym (same_found found (Undecided (tree.entries ++ undones (length tree.places))) ends)) refl
+found_full IsHere nodes tree entry found false ends = absurd (cc)
 
-pub tree_found : (nodes : ℕ) (tree : Growing) (next : Next) (found : Found) → ended found ≡ turned nodes tree next → IsTreeOf tree found
-tree_found nodes tree Forms found ends = absurd (cc)
-tree_found nodes tree (Costs w) found ends = subst (IsTreeOf tree) (sym (same_found found (FoundCosts w) ends)) tt
-tree_found nodes tree (ByEntry entry) found ends = found_full nodes tree entry found (length tree.entries == nodes) ends
+-- where costs come next, they are those of the point that is asked for in the box
+abbrev pub IsThereIfCosts : (CostBox → Point → Type 0) → CostBox → Next → Type 0
+IsThereIfCosts IsHere box Forms = Unit {0}
+IsThereIfCosts IsHere box (Costs w) = AreCostsThere IsHere box w
+IsThereIfCosts IsHere box (ByEntry entry) = Unit {0}
+
+pub there_if_costs : (accepted : Point → Type 0) (top : ℕ) (old new : List Form) (place : OpenPlace) (next : Next) →
+    IsNextStep accepted top old new place next → IsThereIfCosts (IsLeastPoint accepted) place.box next
+there_if_costs accepted top old new place Forms is = tt
+there_if_costs accepted top old new place (Costs w) is = is.2
+there_if_costs accepted top old new place (ByEntry entry) is = tt
+
+pub tree_found : (IsHere : CostBox → Point → Type 0) (nodes : ℕ) (tree : Growing) (next : Next) (found : Found) →
+    IsThereIfCosts IsHere (first_place tree.places).box next → ended found ≡ turned nodes tree next → IsTreeOf IsHere tree found
+tree_found IsHere nodes tree Forms found there ends = absurd (cc)
+tree_found IsHere nodes tree (Costs w) found there ends = subst (IsTreeOf IsHere tree) (sym (same_found found (FoundCosts w) ends)) there
+tree_found IsHere nodes tree (ByEntry entry) found there ends = found_full IsHere nodes tree entry found (length tree.entries == nodes) ends
 
 -- a search is one of those that lead on
 pub left_advised : {A : Type 0} (IsItself : A → A → Type 0) (state : A → List ℕ) (would : A → List ℕ → List Candidate → ℕ)

@@ -12,7 +12,7 @@ use Rattle.design_problem.specs.declared.form.CostBox.{CostBox}
 use Rattle.design_problem.specs.Forms.{added, dot, form_at, value_at, weighted}
 use Rattle.design_problem.specs.Boxes.{IsBox, IsInBox, IsPointOf, Refutes, greatest, upper_term, upper_sum}
 use Rattle.design_problem.specs.Trees.{CutsAt}
-use Rattle.design_problem.specs.Earnest.{IsLeastPoint, SplitsFraction}
+use Rattle.design_problem.specs.Earnest.{IsLeastPoint, LexLess, SplitsFraction}
 use Rattle.design_problem.proofs.AtCosts.{value_at_costs}
 use Rattle.cut_advisors.specs.declared.candidate.Candidate.{Candidate}
 use Rattle.form_search.specs.Sources.{IsCostPoint}
@@ -157,3 +157,36 @@ refutes_one forms row box row_in negative = record {
     one_all : (P : ℕ × ℕ → Type 0) → P (row, 1) → All P ((row, 1) ∷ [])
     one_all P p zero d k_in = p
     one_all P p (suc k) d k_in = absurd (omega arith)
+
+-- numbers none of which is less don't come before
+never_before : (f g : ℕ → ℕ) (xs ys : List ℕ) → ((k : ℕ) → k < length xs → g (slice_index ys k) ≤ f (slice_index xs k)) →
+    LexLess (map f xs) (map g ys) → ⊥
+never_before f g [] ys each less = less
+never_before f g (x ∷ xs) [] each less = less
+never_before f g (x ∷ xs) (y ∷ ys) each (inl less) = let first = each 0 (omega arith) in omega (arith, first, less)
+never_before f g (x ∷ xs) (y ∷ ys) each (inr more) = never_before f g xs ys (λ k k_in. each (suc k) (omega (arith, k_in))) more.1
+
+-- the one point of a box is its least accepted one, where it is accepted
+pub one_least : (accepted : Point → Type 0) (box : CostBox) → box.low ≡ box.high → accepted (at_costs box.low) →
+    IsLeastPoint accepted box (at_costs box.low)
+one_least accepted box one taken = record {
+  inside = record {
+    scale = omega arith;
+    low_count = refl;
+    high_count = ap length (sym one);
+    above = λ k k_in. omega arith;
+    below = λ k k_in. let same : slice_index box.low k ≡ slice_index box.high k = ap (λ xs. slice_index xs k) one in omega (arith, same);
+  };
+  accepted = taken;
+  least = λ q inside there before. never_before (λ x. x * 1) (λ y. y * q.scale) q.values box.low
+      (λ k k_in. omega (arith, inside.above k k_in)) before;
+}
+
+-- and one of its costs
+pub one_inside : (box : CostBox) → box.low ≡ box.high → IsInBox box box.low
+one_inside box one = record {
+  low_count = refl;
+  high_count = ap length (sym one);
+  above = λ k k_in. omega arith;
+  below = λ k k_in. let same : slice_index box.low k ≡ slice_index box.high k = ap (λ xs. slice_index xs k) one in omega (arith, same);
+}

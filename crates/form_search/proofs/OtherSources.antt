@@ -10,6 +10,7 @@ use Rattle.design_problem.specs.Earnest.{EarnestAt, IsLeastPoint, OpenPlace}
 use Rattle.form_search.specs.declared.turn.Next.{Next}
 use Rattle.form_search.specs.declared.turn.Next.TheVariants.{Forms, Costs, Entry as ByEntry}
 use Rattle.form_search.specs.Sources.{SameFor}
+use Rattle.form_search.specs.Points.{AreCostsThere}
 use Rattle.form_search.specs.Turns.{IsNextStep}
 
 pub least_same : (accepted other : Point → Type 0) (box : CostBox) (point : Point) → SameFor accepted other → IsLeastPoint accepted box point → IsLeastPoint other box point
@@ -35,11 +36,24 @@ earnest_same accepted other top forms place (Halve var value wide) same earnest 
 earnest_same accepted other top forms place (Refute parts) same earnest = earnest
 earnest_same accepted other top forms place Undone same earnest = earnest
 
+-- costs of the least accepted point are so by a source that accepts the same points
+pub costs_there_same : (accepted other : Point → Type 0) (box : CostBox) (w : List ℕ) → SameFor accepted other →
+    AreCostsThere (IsLeastPoint accepted) box w → AreCostsThere (IsLeastPoint other) box w
+costs_there_same accepted other box w same there = record {
+  point = there.point;
+  here = least_same accepted other box there.point same there.here;
+  costs = there.costs;
+}
+
 -- what comes next by a source that accepts the same points
 pub next_same : (accepted other : Point → Type 0) (top : ℕ) (old new : List Form) (place : OpenPlace) (next : Next) →
     SameFor accepted other → IsNextStep other top old new place next → IsNextStep accepted top old new place next
 next_same accepted other top old new place Forms same is = is
-next_same accepted other top old new place (Costs w) same is = (is.0, (same (at_costs w)).1 is.1)
+next_same accepted other top old new place (Costs w) same is = (
+  is.0,
+  (same (at_costs w)).1 is.1,
+  costs_there_same other accepted place.box w (swapped accepted other same) is.2,
+)
 next_same accepted other top old new place (ByEntry entry) same is = record {
   sound = is.sound;
   earnest = earnest_same other accepted top new place entry (swapped accepted other same) is.earnest;

@@ -18,7 +18,7 @@ use Rattle.form_search.specs.declared.found.Found.{Found}
 use Rattle.form_search.specs.declared.found.Found.TheVariants.{Costs, Refuted, Undecided}
 use Rattle.form_search.specs.declared.turn.Next.{Next}
 use Rattle.form_search.specs.declared.turn.Next.TheVariants.{Forms, Costs as ByCosts, Entry as ByEntry}
-use Rattle.form_search.specs.Points.{candidates_at}
+use Rattle.form_search.specs.Points.{AreCostsThere, candidates_at}
 
 -- The advisors are asked for a Split of the box: their choices are the variables that are fractional at a point of it, each
 -- once, and the Split is at the choice that they pick. Which point is asked for, and what a pick does, are given.
@@ -59,11 +59,11 @@ pub record AreCalledBySearch {A : Type 0} (IsHere : CostBox → Point → Type 0
   pub along : AreCalledAlong IsHere Picks Tells box tree old left
   pub last : (new ≡ left) ⊎ ((var value : ℕ) × AreAskedFor IsHere Picks (first_place tree.places).box var value left new)
 
--- the tree that grew is that of what was found
-abbrev pub IsTreeOf : Growing → Found → Type 0
-IsTreeOf tree (Costs w) = Unit {0}
-IsTreeOf tree (Refuted entries) = entries ≡ tree.entries
-IsTreeOf tree (Undecided entries) = entries ≡ tree.entries ++ undones (length tree.places)
+-- the tree that grew is that of what was found: costs are those of the point that is asked for in its open box
+abbrev pub IsTreeOf : (CostBox → Point → Type 0) → Growing → Found → Type 0
+IsTreeOf IsHere tree (Costs w) = AreCostsThere IsHere (first_place tree.places).box w
+IsTreeOf IsHere tree (Refuted entries) = entries ≡ tree.entries
+IsTreeOf IsHere tree (Undecided entries) = entries ≡ tree.entries ++ undones (length tree.places)
 
 -- What a pick does to the advisors: the first one that picks in range answers, and stands as its pick leaves it; those
 -- before it, which pick out of range, are gone; the others stay as they are.
@@ -97,7 +97,7 @@ AreCalled members rules state =
 pub record AreAdvised {A V : Type 0} {X : V → Type 0} (members : (rules : V) → Ghosts (X rules)) (rules : A → V) (state : A → List ℕ)
     (IsHere : CostBox → Point → Type 0) (box : CostBox) (result : Result Found OutOfMemory) (old new : List A) : Type 0 where
   pub tree : Growing
-  pub is_tree : IfOk result (IsTreeOf tree)
+  pub is_tree : IfOk result (IsTreeOf IsHere tree)
   pub calls : AreCalledBySearch IsHere (IsPick (λ b c. rules c ≡ rules b) state (λ b. (members (rules b)).would) (λ b. (members (rules b)).left))
       (AreAllTold (λ b c. rules c ≡ rules b) state (λ b. (members (rules b)).after)) box tree old new
 

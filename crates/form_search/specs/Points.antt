@@ -1,9 +1,10 @@
 -- Points of a box, whole and fractional, and the candidates for a cut there.
-use Rattle.std.specs.Prelude.{◌≡◌, ℕ, zero, suc, ◌+◌, ◌*◌, ◌/◌, ◌^◌, ◌<◌, ◌≤◌, ◌%◌, ◌==◌, List, [], ◌∷◌, ◌++◌, slice_index, All, length, if◌then◌else◌}
+use Rattle.std.specs.Prelude.{◌≡◌, ℕ, ◌⊎◌, zero, suc, ◌+◌, ◌*◌, ◌/◌, ◌^◌, ◌<◌, ◌≤◌, ◌%◌, ◌==◌, List, [], ◌∷◌, ◌++◌, slice_index, All, length, if◌then◌else◌}
 use Rattle.area_graph.specs.declared.Point.{Point}
 use Rattle.design_problem.specs.declared.form.CostBox.{CostBox}
 use Rattle.design_problem.specs.Boxes.{IsBox}
 use Rattle.design_problem.specs.Earnest.{IsLeastPoint}
+use Rattle.form_search.specs.Sources.{scaled}
 use Rattle.cut_advisors.specs.declared.candidate.Candidate.{Candidate}
 
 -- every value is whole
@@ -21,6 +22,16 @@ pub record IsCostsBox (n : ℕ) (box : CostBox) : Type 0 where
 pub record IsLeastOf (accepted : Point → Type 0) (box : CostBox) (point : Point) : Type 0 where
   pub least : IsLeastPoint accepted box point
   pub small : point.scale < 2 ^ 100
+
+-- costs that a point gives: its values over the scale, where these are whole; or the values themselves
+abbrev pub AreCostsOf : Point → List ℕ → Type 0
+AreCostsOf point w = (scaled w point.scale ≡ point) ⊎ (w ≡ point.values)
+
+-- the costs are those of the point of the box that is asked for
+pub record AreCostsThere (IsHere : CostBox → Point → Type 0) (box : CostBox) (w : List ℕ) : Type 0 where
+  pub point : Point
+  pub here : IsHere box point
+  pub costs : AreCostsOf point w
 
 -- the candidate's variable is fractional at the point, between its floor and the next whole number, and its range is the box's
 pub record IsFractional (box : CostBox) (point : Point) (candidate : Candidate) : Type 0 where

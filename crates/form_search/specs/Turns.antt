@@ -11,7 +11,7 @@ use Rattle.design_problem.specs.declared.tree.Entry.TheVariants.{Tighten, Split,
 use Rattle.design_problem.specs.declared.tree.Side.{Side}
 use Rattle.design_problem.specs.Boxes.{IsInBox, Refutes}
 use Rattle.design_problem.specs.Trees.{SoundAt, TightensAt, is_undone}
-use Rattle.design_problem.specs.Earnest.{EarnestAt, OpenPlace}
+use Rattle.design_problem.specs.Earnest.{EarnestAt, IsLeastPoint, OpenPlace}
 use Rattle.design_problem.specs.OpenPlaces.{Growing, grown, undones}
 use Rattle.form_search.specs.declared.found.Found.{Found}
 use Rattle.form_search.specs.declared.found.Found.TheVariants.{Costs as FoundCosts, Undecided}
@@ -21,7 +21,7 @@ use Rattle.form_search.specs.declared.turn.Desk.{Desk}
 use Rattle.form_search.specs.declared.watch.Watch.{Watch}
 use Rattle.cut_advisors.specs.declared.candidate.Candidate.{Candidate}
 use Rattle.form_search.specs.Finds.{IsShort}
-use Rattle.form_search.specs.Points.{IsFractional}
+use Rattle.form_search.specs.Points.{AreCostsThere, IsFractional}
 
 -- an entry that may come next at the place, over the pool's forms
 pub record IsNextEntry (accepted : Point → Type 0) (top : ℕ) (forms : List Form) (place : OpenPlace) (entry : Entry) : Type 0 where
@@ -60,10 +60,10 @@ pub record HasNew (old new : List Form) : Type 0 where
   pub is_new : Contains new form
   pub not_old : Contains old form → ⊥
 
--- what may come next at the place: new forms, costs of its box that are accepted, or an entry
+-- what may come next at the place: new forms, accepted costs that its box's least accepted point gives, or an entry
 abbrev pub IsNextStep : (Point → Type 0) → ℕ → List Form → List Form → OpenPlace → Next → Type 0
 IsNextStep accepted top old new place Forms = HasNew old new
-IsNextStep accepted top old new place (Costs w) = IsInBox place.box w × accepted (at_costs w)
+IsNextStep accepted top old new place (Costs w) = IsInBox place.box w × accepted (at_costs w) × AreCostsThere (IsLeastPoint accepted) place.box w
 IsNextStep accepted top old new place (ByEntry entry) = IsNextEntry accepted top new place entry
 
 -- no Split comes next

@@ -12,7 +12,7 @@ ghost use Rattle.design_problem.specs.OpenPlaces.{first_place};
 ghost use Rattle.form_search.specs.Advised.{AreAskedAt, AreAskedNext};
 ghost use Rattle.form_search.specs.Calls.{AreInStep, Leaves};
 ghost use Rattle.form_search.specs.Sources.{SameFor, SameSource};
-ghost use Rattle.form_search.specs.Points.{IsCostsBox, IsFractional, IsLeastOf, IsIntegralPoint};
+ghost use Rattle.form_search.specs.Points.{AreCostsOf, IsCostsBox, IsFractional, IsLeastOf, IsIntegralPoint};
 ghost use Rattle.form_search.specs.Turns.{IsDesk, IsNextStep, IsSplitAt};
 
 use crate::candidates::candidates_of;
@@ -43,7 +43,7 @@ fn costs_there<S: RowSource>(
 
     // Costs that come are accepted ones of the box; None comes only where the point isn't whole.
     ensures found { IfOk result (λ found. IfSome found (λ w. IsInBox costs.now w ×
-        S.accepted source.old (at_costs w))) }
+        S.accepted source.old (at_costs w) × AreCostsOf point.old w)) }
     ensures fractional { result ≡ Ok None → IsIntegralPoint point.old → ⊥ }
 
     // The point is as before, and the source accepts the same points with the same forms.

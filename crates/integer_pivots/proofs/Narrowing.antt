@@ -374,16 +374,3 @@ module _ (numbers line : List ℤ) (olds now : List ℕ) (kept index : ℕ) (s :
   greater_step greater =
       subst (λ (xs : List ℕ). AreLeast numbers line xs (take kept now)) (sym seen_more)
       (greater_goes numbers line (take index olds) (take kept now) (get_or now 0 0) (get_or now index 0) seen_each column_positive s.least first_has greater)
-
--- up to a column before which the line is 0 none joins
-pub latest_passes : (line : List ℤ) (leads : List ℕ) (i j latest : ℕ) (left : List ℕ) → AreLatest line leads i latest left →
-    i ≤ j → ((c : ℕ) → i ≤ c → c < j → number_at line c ≡ pos 0) → AreLatest line leads j latest left
-latest_passes line leads i j latest left are behind passed = record {
-  each = are.each;
-  all =
-      λ c c_in positive. elim (cases_lt c i) [
-        | inl before ↦ are.all c before positive
-        | inr here ↦ let none = passed c here c_in in absurd (omega (arith, ints, none, positive))
-      ];
-  some = are.some;
-}

@@ -8,8 +8,8 @@ use Rattle.form_search.specs.declared.found.Found.TheVariants.{Refuted}
 use Rattle.form_search.specs.Finds.{IsSearchResult}
 use Rattle.form_search.specs.Points.{IsCostsBox}
 use Rattle.form_search.specs.Turns.{IsDesk, IsNextStep}
-use Rattle.form_search.proofs.AdvisorLaws.{along_begun, along_next, asked_next_there, calls_begun, calls_end, start, tree_found, wanting_end}
-use Rattle.form_search.proofs.OtherSources.{least_same, swapped}
+use Rattle.form_search.proofs.AdvisorLaws.{along_begun, along_next, asked_next_there, calls_begun, calls_end, start, there_if_costs, tree_found, wanting_end}
+use Rattle.form_search.proofs.OtherSources.{least_same, next_same, swapped}
 use Rattle.form_search.proofs.SourceLaws.{in_step_then, leaves_none, leaves_then}
 use Rattle.form_search.proofs.GrowingTrees.{IsGrowing, ended_whole, first_costs, first_in, growing_ends, growing_start, turn_falls, turn_shown, undone_whole}
 use Rattle.form_search.proofs.searching.search.Goals as goal
@@ -171,9 +171,13 @@ returns-in-Break-clause-advisors g c =
     (λ b point least. least_same (Accepted c.boxes.source) (Accepted c.args.source.now) b point
     (swapped (Accepted c.args.source.now) (Accepted c.boxes.source) c.boxes.invariant.left.same.same_points) least)
     c.in_ok-next.ensures.asked in
+    let step = next_same (Accepted c.args.source.now) (Accepted c.boxes.source) c.boxes.desk.top c.boxes.pool c.next_at.new.pool
+    (first_place c.boxes.tree.places) c.in_ok-next.next c.boxes.invariant.left.same.same_points c.in_ok-next.ensures.next in
     record {
       tree = c.boxes.tree;
-      is_tree = tree_found c.args.limits.now.nodes c.boxes.tree c.in_ok-next.next c.in-Break.found (sym c.in-Break.is ∙ c.in_ok-longer.ensures.outcome);
+      is_tree = tree_found (IsLeastPoint (Accepted c.args.source.now)) c.args.limits.now.nodes c.boxes.tree c.in_ok-next.next c.in-Break.found
+          (there_if_costs (Accepted c.args.source.now) c.boxes.desk.top c.boxes.pool c.next_at.new.pool (first_place c.boxes.tree.places) c.in_ok-next.next step)
+          (sym c.in-Break.is ∙ c.in_ok-longer.ensures.outcome);
       calls =
           calls_end _ _ _ c.args.costs.now c.boxes.tree c.in_ok-next.next c.in_ok-longer.field-0 c.in-Break.found _ _ _ _
           c.boxes.invariant.advisors asked c.in_ok-longer.ensures.told c.in-Break.is;
