@@ -1,8 +1,9 @@
 use Rattle.std.proofs.Common.{◌∙◌, sym, subst, rules}
-use Rattle.std.specs.Prelude.{All}
+use Rattle.std.specs.Prelude.{All, IfOk}
 use Rattle.std.proofs.lemmas.Result.{IfOk-weaker, err_from_is_err_and}
 use Rattle.design_problem.specs.Earnest.{IsLeastPoint}
 use Rattle.design_problem.specs.Rows.{LeadsEach}
+use Rattle.form_search.specs.Advised.{IsTreeOf}
 use Rattle.form_search.proofs.AdvisorLaws.{calls_begun, calls_there, start}
 use Rattle.cost_branching.specs.Pools.{IsRowPool, Pooled}
 use Rattle.cost_branching.specs.Rivals.{IsTrueRowForm, KnownRows}
@@ -40,7 +41,8 @@ returns-clause-advisors g c =
     let called = c.search-found.ensures.advisors in
     record {
       tree = called.tree;
-      is_tree = called.is_tree;
+      is_tree = subst (λ (s : KnownRows). IfOk c.search-found.result (IsTreeOf (IsLeastPoint (LeadsEach s.problem)) called.tree))
+          c.new-source.ensures called.is_tree;
       calls =
           calls_there _ (IsLeastPoint (LeadsEach c.args.problem.now)) _ _ _ called.tree _ _
           (λ b point least. subst (λ (s : KnownRows). IsLeastPoint (LeadsEach s.problem) b point) c.new-source.ensures least)
