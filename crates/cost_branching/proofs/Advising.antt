@@ -41,7 +41,7 @@ cap_searched IsItself state would left after p top nodes cap found old new asked
       costs,
       asked.tree,
       calls_there (IsLeastPoint (LeadsEach p)) IsPointOf (IsPick IsItself state would left) (AreAllTold IsItself state after) costs asked.tree old new
-      (λ b point least. least.inside) asked.calls,
+          (λ b point least. least.inside) asked.calls,
     )
 
 -- what holds anyhow holds where a call ended well

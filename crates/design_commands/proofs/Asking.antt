@@ -1,13 +1,11 @@
 -- What is made of files, and of what the advisors are asked besides.
-use Rattle.std.proofs.Common.{◌≡◌, ℕ, ◌⊎◌, refl, sym, subst, inl, inr, List, Result, Ok, Err}
+use Rattle.std.proofs.Common.{◌≡◌, ℕ, ◌⊎◌, refl, sym, subst, inl, inr, List, [], Result, Ok, Err}
 use Rattle.std.specs.Prelude.{IfErr}
 use Rattle.cost_base.specs.Histories.{Taken}
-use Rattle.design_problem.specs.Answers.{greatest_bound}
 use Rattle.design_problem.specs.Problems.{DesignProblem}
 use Rattle.design_problem.specs.declared.tree.Entry.{Entry}
 use Rattle.cut_advisors.specs.declared.candidate.Candidate.{Candidate}
-use Rattle.form_search.specs.Advised.{AreAdvisorsLeft}
-use Rattle.cost_branching.specs.Advising.{IsAskedAt, IsAskedAtSome}
+use Rattle.least_bound.specs.Asking.{IsAskedOn}
 use Rattle.command_words.specs.Jobs.{Bounds}
 use Rattle.input_files.specs.declared.stop.Stop.{Stop}
 use Rattle.input_files.specs.declared.stop.Stop.TheVariants as stops
@@ -15,22 +13,15 @@ use Rattle.input_files.specs.Readings.{Reading, End, Says, Faulty, Failed, EndsA
 use Rattle.input_files.specs.Stops.{IsReadAs, refusal_in}
 use Rattle.design_commands.specs.Asking.{AsksAt}
 
--- a search that decided a first cap of a problem called the advisors, and then others
-abbrev pub AskedFrom : {A : Type 0} → (A → A → Type 0) → (A → List ℕ) → (A → List ℕ → List Candidate → ℕ) →
-    (A → List ℕ → List Candidate → List ℕ) → (A → List ℕ → Entry → List ℕ) → DesignProblem → ℕ → ℕ → ℕ → List A → List A → Type 0
-AskedFrom IsItself state would left after p top nodes first old new = (mid : List _)
-    × IsAskedAt IsItself state would left after p top nodes first old mid
-    × AreAdvisorsLeft (IsAskedAtSome IsItself state would left after p top nodes) mid new
-
 -- asked of the same problem, within the same limits
 pub same_asked : {A : Type 0} (IsItself : A → A → Type 0) (state : A → List ℕ) (would : A → List ℕ → List Candidate → ℕ)
     (left : A → List ℕ → List Candidate → List ℕ) (after : A → List ℕ → Entry → List ℕ) (p q : DesignProblem) (limits other : Bounds)
     (old new : List A) → q ≡ p → limits ≡ other →
-    AskedFrom IsItself state would left after p limits.top limits.nodes (greatest_bound p) old new →
-    AskedFrom IsItself state would left after q other.top other.nodes (greatest_bound q) old new
+    IsAskedOn IsItself state would left after p limits.top limits.nodes [] old new →
+    IsAskedOn IsItself state would left after q other.top other.nodes [] old new
 same_asked IsItself state would left after p q limits other old new same within asked =
-    subst (λ (r : DesignProblem). AskedFrom IsItself state would left after r other.top other.nodes (greatest_bound r) old new) (sym same)
-    (subst (λ (b : Bounds). AskedFrom IsItself state would left after p b.top b.nodes (greatest_bound p) old new) within asked)
+    subst (λ (r : DesignProblem). IsAskedOn IsItself state would left after r other.top other.nodes [] old new) (sym same)
+    (subst (λ (b : Bounds). IsAskedOn IsItself state would left after p b.top b.nodes [] old new) within asked)
 
 -- what is made of what the files say, alone
 pub read_alone : {A T : Type 0} (m : Reading A) (came : List Taken) (Fits : T → A → Type 0) (asks : A → Type 0) (made : Result T Stop) →

@@ -1,10 +1,9 @@
 //! `design`: an answer to the files of words.
 ghost use Rattle.std.specs.Prelude.{◌≡◌, ◌⊎◌, ℕ, List, IfErr, IfOk, OnOk};
 ghost use Rattle.command_words.specs.Jobs.{bounds};
-ghost use Rattle.design_problem.specs.Answers.{greatest_bound};
 ghost use Rattle.design_problem.specs.Text.{text};
 ghost use Rattle.form_search.specs.Advised.{AreCalled};
-ghost use Rattle.cost_branching.specs.Advising.{AreAskedFrom};
+ghost use Rattle.least_bound.specs.Asking.{AreAskedUntilSettled};
 ghost use Rattle.input_files.specs.Readings.{Gave};
 ghost use Rattle.input_files.specs.Outcomes.{outcome};
 ghost use Rattle.input_files.specs.Stops.{IsReadAs, files_named};
@@ -50,8 +49,8 @@ pub(crate) fn answer_to(
     // Always true: a function that hands on boxed advisors has to require something.
     requires itself { problem.now ≡ problem.now }
     ensures answered { IfOk result (IsAnswerTo (bounds limits.now) problem.now) }
-    ensures asked { OnOk result (AreAskedFrom ⟦<dyn Advisor as Advisor>⟧ (λ b. b.vtable)
-        (λ b. state b) problem.now limits.now.top limits.now.nodes (greatest_bound problem.now)
+    ensures asked { OnOk result (AreAskedUntilSettled ⟦<dyn Advisor as Advisor>⟧ (λ b. b.vtable)
+        (λ b. state b) problem.now limits.now.top limits.now.nodes
         advisors.old.items advisors.new.items) }
     ensures advisors { AreCalled ⟦<dyn Advisor as Advisor>⟧ (λ b. b.vtable) (λ b. state b)
         advisors.old.items advisors.new.items }
@@ -77,8 +76,8 @@ pub fn design_report<'a, S: Shelf>(
     ensures read { Gave (S.gave shelf.old shelf.new)
         (λ came. IsReadAs (outcome View.AsRequested (files_named words.entry)) came
         (λ report d. MayDesign (bounds limits.now) d report.status (bytes_in report.text) ×
-        AreAskedFrom ⟦<dyn Advisor as Advisor>⟧ (λ b. b.vtable) (λ b. state b)
-        d.problem limits.now.top limits.now.nodes (greatest_bound d.problem)
+        AreAskedUntilSettled ⟦<dyn Advisor as Advisor>⟧ (λ b. b.vtable) (λ b. state b)
+        d.problem limits.now.top limits.now.nodes
         advisors.old.items advisors.new.items) result) }
 
     // Where a file stopped it, no advisor was asked.

@@ -2,9 +2,8 @@
 ghost use Rattle.std.specs.Prelude.{◌≡◌, ◌⊎◌, ◌++◌, ◌∷◌, [], ◌≤◌, IfErr, IfOk, OnOk, codes};
 ghost use Rattle.cost_base.specs.Decimal.{decimal};
 ghost use Rattle.form_search.specs.Advised.{AreCalled};
-ghost use Rattle.cost_branching.specs.Advising.{AreAskedFrom};
+ghost use Rattle.least_bound.specs.Asking.{AreAskedUntilSettled};
 ghost use Rattle.command_words.specs.Jobs.{bounds};
-ghost use Rattle.design_problem.specs.Answers.{greatest_bound};
 ghost use Rattle.design_problem.specs.Text.{spaced, text};
 ghost use Rattle.text_lines.specs.Lines.{with_ends};
 ghost use Rattle.input_files.specs.Readings.{Gave};
@@ -137,8 +136,8 @@ pub fn total_report<'a, S: Shelf>(
     ensures read { Gave (S.gave shelf.old shelf.new) (λ came. IsReadAs
         (outcome View.AsRequested (files_named words.entry)) came
         (λ report d. MayTotal (bounds limits.now) d report.status (bytes_in report.text) ×
-        AreAskedFrom ⟦<dyn Advisor as Advisor>⟧ (λ b. b.vtable) (λ b. state b)
-        d.problem limits.now.top limits.now.nodes (greatest_bound d.problem)
+        AreAskedUntilSettled ⟦<dyn Advisor as Advisor>⟧ (λ b. b.vtable) (λ b. state b)
+        d.problem limits.now.top limits.now.nodes
         advisors.old.items advisors.new.items) result) }
 
     // Where a file stopped it, no advisor was asked.

@@ -4,10 +4,10 @@ ghost use Rattle.std.specs.List.{sum};
 ghost use Rattle.cost_base.specs.Decimal.{decimal};
 ghost use Rattle.command_words.specs.Jobs.{bounds};
 ghost use Rattle.design_problem.specs.Text.{text};
-ghost use Rattle.design_problem.specs.Answers.{greatest_bound, lines_in};
+ghost use Rattle.design_problem.specs.Answers.{lines_in};
 ghost use Rattle.design_problem.specs.GivenCosts.{costs_given};
 ghost use Rattle.form_search.specs.Advised.{AreCalled};
-ghost use Rattle.cost_branching.specs.Advising.{AreAskedFrom};
+ghost use Rattle.least_bound.specs.Asking.{AreAskedUntilSettled};
 ghost use Rattle.input_files.specs.Readings.{Gave};
 ghost use Rattle.input_files.specs.Outcomes.{Input, outcome};
 ghost use Rattle.input_files.specs.Stops.{IsReadAs, files_named};
@@ -119,8 +119,8 @@ fn report_on_texts<'a, S: Shelf>(
     ensures read { Gave (S.gave shelf.old shelf.new) (λ came. IsReadAs
         (outcome View.AsRequested (files_named words.entry)) came
         (λ report d. MayTry trial.blocks trial.start d report.status (bytes_in report.text) ×
-        AreAskedFrom ⟦<dyn Advisor as Advisor>⟧ (λ b. b.vtable) (λ b. state b)
-        d.problem trial_limits.top trial_limits.nodes (greatest_bound d.problem)
+        AreAskedUntilSettled ⟦<dyn Advisor as Advisor>⟧ (λ b. b.vtable) (λ b. state b)
+        d.problem trial_limits.top trial_limits.nodes
         advisors.old.items advisors.new.items) result) }
     ensures stopped { IfErr result (λ stop. (stop ≡ Stop.OutOfMemory) ⊎
         (advisors.new.items ≡ advisors.old.items)) }
@@ -150,8 +150,8 @@ pub fn trial_report(
 
     // The advisors are asked where the made texts have no fault.
     ensures asked { OnOk result (AsksAt
-        (λ d. AreAskedFrom ⟦<dyn Advisor as Advisor>⟧ (λ b. b.vtable) (λ b. state b)
-        d.problem trial_limits.top trial_limits.nodes (greatest_bound d.problem)
+        (λ d. AreAskedUntilSettled ⟦<dyn Advisor as Advisor>⟧ (λ b. b.vtable) (λ b. state b)
+        d.problem trial_limits.top trial_limits.nodes
         advisors.old.items advisors.new.items)
         (advisors.new.items ≡ advisors.old.items)
         (trial_end (made_trial trial.blocks trial.start))) }

@@ -1,10 +1,9 @@
 -- By which searches a run asks the advisors.
 use Rattle.std.specs.Prelude.{◌≡◌, ◌⊎◌, ℕ, List, Option, Some, Result, Err}
 use Rattle.cost_base.specs.Histories.{Taken}
-use Rattle.design_problem.specs.Answers.{greatest_bound}
 use Rattle.command_words.specs.Jobs.{JobRead, Design, Trial, Conflict, Total}
 use Rattle.cut_advisors.specs.declared.advisor.Advisor.{Ghosts}
-use Rattle.cost_branching.specs.Advising.{AreAskedFrom}
+use Rattle.least_bound.specs.Asking.{AreAskedUntilSettled}
 use Rattle.conflict_core.specs.Asking.{AreAskedOfSets}
 use Rattle.input_files.specs.declared.problem.View.TheVariants.{AsRequested}
 use Rattle.input_files.specs.declared.stop.Stop.{Stop}
@@ -17,23 +16,23 @@ use Rattle.design_commands.specs.Asking.{AsksAt}
 use Rattle.design_commands.specs.Trials.{trial_end, trial_limits}
 use Rattle.designer_command.specs.Runs.{IsMadeAs, searched}
 
--- By which searches a command asks them, where this came of its files: a design and a total by one at the greatest upper
--- bound of the problem that the files say, and then by others at caps of it; a conflict by one of all its requests, and then
--- by others of sets of them; a trial as a design, of its made texts. No advisor is asked where the files have a fault or
--- one failed, by another command, and of refused words.
+-- By which searches a command asks them, where this came of its files: a design and a total by one for each of the caps
+-- that settle the problem that the files say; a conflict by one for each of the sets of requests that settle whether all of
+-- them are a conflict; a trial as a design, of its made texts. No advisor is asked where the files have a fault or one
+-- failed, by another command, and of refused words.
 abbrev pub AreAskedBy : {A V : Type 0} {X : V → Type 0} → ((rules : V) → Ghosts (X rules)) → (A → V) → (A → List ℕ) →
     List A → List A → Option JobRead → List Taken → Type 0
 AreAskedBy members rules state old new (Some (Design s)) came =
     (end : End Input) → EndsAs (outcome AsRequested (searched s)) came end →
-    AsksAt (λ d. AreAskedFrom members rules state d.problem s.limits.top s.limits.nodes (greatest_bound d.problem) old new) (new ≡ old) end
+    AsksAt (λ d. AreAskedUntilSettled members rules state d.problem s.limits.top s.limits.nodes old new) (new ≡ old) end
 AreAskedBy members rules state old new (Some (Total s)) came =
     (end : End Input) → EndsAs (outcome AsRequested (searched s)) came end →
-    AsksAt (λ d. AreAskedFrom members rules state d.problem s.limits.top s.limits.nodes (greatest_bound d.problem) old new) (new ≡ old) end
+    AsksAt (λ d. AreAskedUntilSettled members rules state d.problem s.limits.top s.limits.nodes old new) (new ≡ old) end
 AreAskedBy members rules state old new (Some (Conflict s)) came =
     (end : End Input) → EndsAs (outcome AsRequested (searched s)) came end →
     AsksAt (λ d. AreAskedOfSets members rules state d.problem s.limits.top s.limits.nodes old new) (new ≡ old) end
 AreAskedBy members rules state old new (Some (Trial blocks start)) came =
-    AsksAt (λ d. AreAskedFrom members rules state d.problem trial_limits.top trial_limits.nodes (greatest_bound d.problem) old new)
+    AsksAt (λ d. AreAskedUntilSettled members rules state d.problem trial_limits.top trial_limits.nodes old new)
     (new ≡ old) (trial_end (made_trial blocks start))
 AreAskedBy members rules state old new job came = new ≡ old
 

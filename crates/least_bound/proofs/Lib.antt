@@ -1,2 +1,3 @@
 pub mod CapLaws
+pub mod Settling
 pub mod ValidAnswers

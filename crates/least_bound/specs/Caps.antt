@@ -1,5 +1,5 @@
 -- What is known of the least greatest cost while caps are decided. No public clause cites it.
-use Rattle.std.specs.Prelude.{◌≡◌, ℕ, ◌+◌, ◌<◌, ◌≤◌, List, Contains, Option, None, Some}
+use Rattle.std.specs.Prelude.{◌≡◌, ◌⊎◌, ℕ, ◌+◌, ◌<◌, ◌≤◌, List, All, Contains, Option, None, Some}
 use Rattle.design_problem.specs.declared.tree.Entry.TheVariants.{Undone}
 use Rattle.design_problem.specs.declared.answer.CapTree.{CapTree}
 use Rattle.design_problem.specs.Problems.{DesignProblem}
@@ -7,10 +7,11 @@ use Rattle.design_problem.specs.Rows.{IsFit, greatest_cost}
 use Rattle.design_problem.specs.Trees.{IsClosed, entry_count}
 use Rattle.design_problem.specs.Answers.{greatest_bound}
 use Rattle.cost_branching.specs.Pools.{Pooled}
-use Rattle.cost_branching.specs.Decisions.{IsTreeAt}
+use Rattle.cost_branching.specs.Decisions.{IsNoCosts, IsTreeAt}
 use Rattle.least_bound.specs.declared.progress.Best.{Best}
 use Rattle.least_bound.specs.declared.progress.Best.TheVariants.{NoCosts, Costs, Between}
 use Rattle.least_bound.specs.declared.progress.Progress.{Progress}
+use Rattle.least_bound.specs.Asking.{CapDecision, IsCapReached, IsCapRefuted, IsCeilingFirst}
 
 -- a closed tree at its cap, of at most N entries
 pub record IsRefuted (p : DesignProblem) (top nodes : ℕ) (pool : Pooled) (t : CapTree) : Type 0 where
@@ -54,8 +55,21 @@ pub record IsProgress (p : DesignProblem) (top nodes : ℕ) (pool : Pooled) (pro
   pub kept : IsKeptAt p top nodes pool progress.least progress.kept
   pub best : BestHolds p top nodes pool progress.most progress.best
 
--- costs of the least greatest cost were found
-abbrev pub IsLeastFound : ℕ → ℕ → Best → Type 0
-IsLeastFound least most (NoCosts t) = Unit {0}
-IsLeastFound least most (Costs w) = most ≤ least
-IsLeastFound least most (Between w t) = Unit {0}
+-- without costs so far, no search found any
+abbrev pub AreWithoutCosts : List CapDecision → Best → Type 0
+AreWithoutCosts decisions (NoCosts t) = All (λ d. IsNoCosts d.found) decisions
+AreWithoutCosts decisions (Costs w) = Unit {0}
+AreWithoutCosts decisions (Between w t) = Unit {0}
+
+-- what is known comes of the decided caps, of which the greatest upper bound came first
+pub record IsProgressOf (p : DesignProblem) (decisions : List CapDecision) (progress : Progress) : Type 0 where
+  pub first : IsCeilingFirst p decisions
+  pub least : (progress.least ≡ greatest_cost p.low) ⊎ ((below : ℕ) × (below + 1 ≡ progress.least) × IsCapRefuted decisions below)
+  pub most : IsCapReached decisions progress.most
+  pub without : AreWithoutCosts decisions progress.best
+
+-- no cap is left to decide; without costs the floor itself isn't one
+abbrev pub IsNarrowed : ℕ → ℕ → ℕ → Best → Type 0
+IsNarrowed floor least most (NoCosts t) = least < most → most ≤ floor + 1
+IsNarrowed floor least most (Costs w) = most ≤ least
+IsNarrowed floor least most (Between w t) = most ≤ least

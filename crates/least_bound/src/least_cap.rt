@@ -1,11 +1,10 @@
 //! The least cap.
-ghost use Rattle.std.specs.Prelude.{ℕ, ◌≤◌, IfOk, OnOk};
-ghost use Rattle.design_problem.specs.Answers.{greatest_bound};
+ghost use Rattle.std.specs.Prelude.{ℕ, ◌≤◌, List, IfOk, OnOk};
 ghost use Rattle.form_search.specs.Advised.{AreCalled};
-ghost use Rattle.cost_branching.specs.Advising.{AreAskedAtCaps, AreAskedFrom};
 ghost use Rattle.cost_branching.specs.Pools.{IsRowPool};
 ghost use Rattle.least_bound.specs.Answered.{IsDesignAnswer};
-ghost use Rattle.least_bound.specs.Caps.{IsProgress};
+ghost use Rattle.least_bound.specs.Asking.{AreAskedOn, AreAskedUntilSettled, CapDecision};
+ghost use Rattle.least_bound.specs.Caps.{IsProgress, IsProgressOf};
 
 use crate::answering::impossible;
 use crate::progress::{Best, Progress};
@@ -27,8 +26,9 @@ fn narrowed(
     requires pool { IsRowPool problem.now pool }
     requires progress { IsProgress problem.now limits.now.top limits.now.nodes pool progress }
     ensures answered { IfOk result (IsDesignAnswer problem.now limits.now.top limits.now.nodes) }
-    ensures asked { OnOk result (AreAskedAtCaps ⟦<dyn Advisor as Advisor>⟧ (λ b. b.vtable)
-        (λ b. state b) problem.now limits.now.top limits.now.nodes advisors.old.items
+    ensures asked { (decisions : List CapDecision) → IsProgressOf problem.now decisions progress →
+        OnOk result (AreAskedOn ⟦<dyn Advisor as Advisor>⟧ (λ b. b.vtable) (λ b. state b)
+        problem.now limits.now.top limits.now.nodes decisions advisors.old.items
         advisors.new.items) }
     ensures advisors { AreCalled ⟦<dyn Advisor as Advisor>⟧ (λ b. b.vtable) (λ b. state b)
         advisors.old.items advisors.new.items }
@@ -61,10 +61,11 @@ pub fn least(
 ) -> Result<Answer, OutOfMemory>
     ensures answered { IfOk result (IsDesignAnswer problem.now limits.now.top limits.now.nodes) }
 
-    // The advisors are asked and told by a search at the greatest upper bound, and by one at each further cap.
-    ensures asked { OnOk result (AreAskedFrom ⟦<dyn Advisor as Advisor>⟧ (λ b. b.vtable)
-        (λ b. state b) problem.now limits.now.top limits.now.nodes (greatest_bound problem.now)
-        advisors.old.items advisors.new.items) }
+    // The advisors are asked and told by one search for each cap that is decided: the greatest upper bound first, and
+    // then others until the problem is settled.
+    ensures asked { OnOk result (AreAskedUntilSettled ⟦<dyn Advisor as Advisor>⟧ (λ b. b.vtable)
+        (λ b. state b) problem.now limits.now.top limits.now.nodes advisors.old.items
+        advisors.new.items) }
     ensures advisors { AreCalled ⟦<dyn Advisor as Advisor>⟧ (λ b. b.vtable) (λ b. state b)
         advisors.old.items advisors.new.items }
 {

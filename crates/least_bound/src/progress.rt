@@ -1,10 +1,11 @@
 //! What is known of the least greatest cost while caps are decided.
-ghost use Rattle.std.specs.Prelude.{◌≡◌, ℕ, ◌+◌, ◌<◌, ◌≤◌, IfSome, None};
+ghost use Rattle.std.specs.Prelude.{◌≡◌, ℕ, ◌+◌, ◌<◌, ◌≤◌, List, [], ◌∷◌, ◌++◌, IfSome, None};
 ghost use Rattle.design_problem.specs.Problems.{DesignProblem, IsProblem};
 ghost use Rattle.design_problem.specs.Rows.{greatest_cost};
 ghost use Rattle.cost_branching.specs.Pools.{Pooled, IsRowPool, MoreRows};
 ghost use Rattle.cost_branching.specs.Decisions.{IsDecided};
-ghost use Rattle.least_bound.specs.Caps.{BestHolds, IsLeastFound, IsProgress, IsUndecidedAt};
+ghost use Rattle.least_bound.specs.Asking.{CapDecision, IsCapReached, IsCeilingFirst};
+ghost use Rattle.least_bound.specs.Caps.{AreWithoutCosts, BestHolds, IsNarrowed, IsProgress, IsProgressOf, IsUndecidedAt};
 
 use cost_branching::Found;
 use design_problem::{CapTree, CostList, Problem, Tree, greatest_of};
@@ -52,7 +53,8 @@ fn middle_cap(least: u16, most: u16) -> Option<u16>
 /// is next to `most`.
 fn climbed_cap(floor: u16, least: u16, most: u16) -> Option<u16>
     requires { floor ≤ least }
-    ensures { IfSome result (λ cap. (least ≤ cap) × (cap < most)) }
+    ensures within { IfSome result (λ cap. (least ≤ cap) × (cap < most)) }
+    ensures ended { result ≡ None → least < most → most ≤ floor + 1 }
 {
     let passed = u32::from(least.saturating_sub(1).max(floor));
     let end = u32::from(most);
@@ -68,10 +70,12 @@ fn climbed_cap(floor: u16, least: u16, most: u16) -> Option<u16>
 impl Best {
     /// Where the budget was used up at a further cap: with costs this tree stands there.
     fn stuck_at(self, stuck: CapTree) -> Best
-        ensures { (p : DesignProblem) (top nodes : ℕ) (old new : Pooled) (most : ℕ) →
+        ensures holds { (p : DesignProblem) (top nodes : ℕ) (old new : Pooled) (most : ℕ) →
             BestHolds p top nodes old most self → MoreRows old new →
             IsUndecidedAt p top nodes new stuck → stuck.cap < most →
             BestHolds p top nodes new stuck.cap result }
+        ensures without { (decisions : List CapDecision) → AreWithoutCosts decisions self →
+            AreWithoutCosts decisions result }
     {
         match self {
             Best::NoCosts(tree) => Best::NoCosts(tree),
@@ -85,8 +89,12 @@ impl Progress {
     /// After the greatest upper bound was decided.
     pub(crate) fn start(problem: &Problem, most: u16, best: Best) -> Progress
         requires { greatest_cost problem.now.low ≤ most }
-        ensures { (top nodes : ℕ) (pool : Pooled) → BestHolds problem.now top nodes pool most best →
+        ensures holds { (top nodes : ℕ) (pool : Pooled) →
+            BestHolds problem.now top nodes pool most best →
             IsProgress problem.now top nodes pool result }
+        ensures from { (decisions : List CapDecision) → IsCeilingFirst problem.now decisions →
+            IsCapReached decisions most → AreWithoutCosts decisions best →
+            IsProgressOf problem.now decisions result }
     {
         let floor = greatest_of(problem.low.as_slice());
         Progress {
@@ -102,7 +110,8 @@ impl Progress {
     pub(crate) fn next_cap(&self) -> Option<u16>
         requires { self.now.floor ≤ self.now.least }
         ensures within { IfSome result (λ cap. (self.now.least ≤ cap) × (cap < self.now.most)) }
-        ensures ended { result ≡ None → IsLeastFound self.now.least self.now.most self.now.best }
+        ensures ended { result ≡ None → IsNarrowed self.now.floor self.now.least self.now.most
+            self.now.best }
     {
         match &self.best {
             Best::NoCosts(_) => climbed_cap(self.floor, self.least, self.most),
@@ -117,6 +126,9 @@ impl Progress {
         ensures holds { (p : DesignProblem) (top nodes : ℕ) (old new : Pooled) → IsProblem p →
             IsRowPool p new → MoreRows old new → IsProgress p top nodes old self →
             IsDecided p top nodes cap new found → IsProgress p top nodes new result }
+        ensures from { (p : DesignProblem) (decisions : List CapDecision) →
+            IsProgressOf p decisions self →
+            IsProgressOf p (decisions ++ record { cap = cap; found = found } ∷ []) result }
         ensures nearer { (p : DesignProblem) (top nodes : ℕ) (pool : Pooled) →
             IsDecided p top nodes cap pool found → result.most + self.least <
             self.most + result.least }

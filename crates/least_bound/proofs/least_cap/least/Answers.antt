@@ -1,16 +1,18 @@
 -- At the greatest upper bound no costs are fit, costs are found, or the budget is used up.
 use Rattle.std.proofs.lemmas.Result.{on_ok_weaker}
-use Rattle.std.proofs.Common.{◌≡◌, ◌≤◌, ℕ, refl, sym, ◌∙◌, ap, subst, arith}
+use Rattle.std.proofs.Common.{◌≡◌, ◌≤◌, ℕ, [], ◌∷◌, refl, sym, ◌∙◌, ap, subst, arith}
 use Rattle.design_problem.specs.Problems.{DesignProblem}
 use Rattle.design_problem.specs.Rows.{greatest_cost}
 use Rattle.design_problem.specs.Answers.{greatest_bound}
 use Rattle.form_search.specs.declared.found.Found.{Found}
 use Rattle.form_search.specs.declared.found.Found.TheVariants.{Costs, Refuted, Undecided}
-use Rattle.form_search.proofs.AdvisorLaws.{left_alike, left_then}
+use Rattle.form_search.proofs.AdvisorLaws.{left_then}
 use Rattle.cost_branching.proofs.Advising.{where_ok}
-use Rattle.cost_branching.specs.Decisions.{IsDecided}
+use Rattle.cost_branching.specs.Decisions.{IsDecided, IsNoCosts}
 use Rattle.printed_rows.proofs.CapBoxes.{floor_below_ceiling, no_low_above}
+use Rattle.least_bound.specs.Asking.{AreCapsSettled, EndsAt}
 use Rattle.least_bound.proofs.CapLaws.{floor_lowest}
+use Rattle.least_bound.proofs.Settling.{ceiling_first, decision, first_reached, first_without, settled_at_once}
 use Rattle.least_bound.proofs.least_cap.least.Goals as goal
 
 pub decide-requires-clause-cap : goal.decide-requires-clause-cap
@@ -45,7 +47,7 @@ narrowed-requires-clause-progress g c =
     let found : IsDecided p limits.top limits.nodes c.greatest_of-ceiling.result c.decide.new.pool (Costs c.in-Costs.costs) =
     subst (λ (f : Found). IsDecided p limits.top limits.nodes c.greatest_of-ceiling.result c.decide.new.pool f) c.in-Costs.is c.in_ok-tree.ensures.decided in
     let most_is : c.greatest_of-most.result ≡ greatest_cost c.in-Costs.costs = c.greatest_of-most.ensures ∙ ap greatest_cost c.as_slice-in-Costs.ensures in
-    c.start-progress.ensures limits.top limits.nodes c.decide.new.pool (found.0, sym most_is)
+    c.start-progress.ensures.holds limits.top limits.nodes c.decide.new.pool (found.0, sym most_is)
 
 pub start-progress-requires-in-Undecided : goal.start-progress-requires-in-Undecided
 start-progress-requires-in-Undecided g c =
@@ -63,7 +65,7 @@ narrowed-requires-in-Undecided-clause-progress g c =
     let found : IsDecided p limits.top limits.nodes c.greatest_of-ceiling.result c.decide.new.pool (Undecided c.in-Undecided.tree) =
     subst (λ (f : Found). IsDecided p limits.top limits.nodes c.greatest_of-ceiling.result c.decide.new.pool f) c.in-Undecided.is c.in_ok-tree.ensures.decided in
     let same : c.greatest_of-ceiling.result ≤ c.greatest_of-ceiling.result = omega arith in
-    c.start-progress-in-Undecided.ensures limits.top limits.nodes c.decide.new.pool (ceiling_is, same, record { tree = found.0; undone = found.1; spent = found.2 })
+    c.start-progress-in-Undecided.ensures.holds limits.top limits.nodes c.decide.new.pool (ceiling_is, same, record { tree = found.0; undone = found.1; spent = found.2 })
 
 pub returns-in-Costs-clause-advisors : goal.returns-in-Costs-clause-advisors
 returns-in-Costs-clause-advisors g c = left_then _ _ _ _ c.decide.ensures.advisors c.narrowed.ensures.advisors
@@ -77,53 +79,68 @@ returns-in-Refuted-clause-asked g c =
     let ceiling_is : c.greatest_of-ceiling.result ≡ greatest_bound p = c.greatest_of-ceiling.ensures
     ∙ ap greatest_cost (c.as_slice.ensures ∙ ap (λ (q : DesignProblem). q.high) c.problem.view_is) in
     let decided = c.in_ok-tree.ensures in
-    rw (sym ceiling_is) (where_ok c.impossible.result (
+    where_ok c.impossible.result (
+      decision c.greatest_of-ceiling.result c.in_ok-tree.field-0 ∷ [],
+      subst (λ (f : Found). AreCapsSettled p (decision c.greatest_of-ceiling.result f ∷ [])) (sym c.in-Refuted.is)
+          (settled_at_once p c.greatest_of-ceiling.result c.in-Refuted.tree ceiling_is),
       c.decide.new.advisors.items,
       record {
-        found = c.in_ok-tree.field-0;
         pool = c.decide.new.pool;
         decided = decided.decided;
         tree = decided.asked.tree;
         is_tree = decided.asked.is_tree;
         calls = decided.asked.calls;
       },
-      left_alike _ _ _ refl,
-    ))
+      refl,
+    )
 
 pub returns-in-Costs-clause-asked : goal.returns-in-Costs-clause-asked
 returns-in-Costs-clause-asked g c =
     let p = c.args.problem.now in
-    let ceiling_is : c.greatest_of-ceiling.result ≡ greatest_bound p = c.greatest_of-ceiling.ensures
+    let ceiling = c.greatest_of-ceiling.result in
+    let ceiling_is : ceiling ≡ greatest_bound p = c.greatest_of-ceiling.ensures
     ∙ ap greatest_cost (c.as_slice.ensures ∙ ap (λ (q : DesignProblem). q.high) c.problem.view_is) in
+    let most_is : c.greatest_of-most.result ≡ greatest_cost c.in-Costs.costs = c.greatest_of-most.ensures ∙ ap greatest_cost c.as_slice-in-Costs.ensures in
     let decided = c.in_ok-tree.ensures in
-    rw (sym ceiling_is) (on_ok_weaker c.narrowed.result (λ rest. (
+    let found = c.in_ok-tree.field-0 in
+    let reached = first_reached ceiling c.greatest_of-most.result found
+    (subst (λ (f : Found). EndsAt c.greatest_of-most.result ceiling f) (sym c.in-Costs.is) (sym most_is)) in
+    let begun = c.start-progress.ensures.from (decision ceiling found ∷ []) (ceiling_first p ceiling found ceiling_is) reached tt in
+    on_ok_weaker c.narrowed.result (λ rest. (
+      decision ceiling found ∷ rest.0,
+      rest.1,
       c.decide.new.advisors.items,
       record {
-        found = c.in_ok-tree.field-0;
         pool = c.decide.new.pool;
         decided = decided.decided;
         tree = decided.asked.tree;
         is_tree = decided.asked.is_tree;
         calls = decided.asked.calls;
       },
-      rest,
-    )) c.narrowed.ensures.asked)
+      rest.2,
+    )) (c.narrowed.ensures.asked (decision ceiling found ∷ []) begun)
 
 pub returns-in-Undecided-clause-asked : goal.returns-in-Undecided-clause-asked
 returns-in-Undecided-clause-asked g c =
     let p = c.args.problem.now in
-    let ceiling_is : c.greatest_of-ceiling.result ≡ greatest_bound p = c.greatest_of-ceiling.ensures
+    let ceiling = c.greatest_of-ceiling.result in
+    let ceiling_is : ceiling ≡ greatest_bound p = c.greatest_of-ceiling.ensures
     ∙ ap greatest_cost (c.as_slice.ensures ∙ ap (λ (q : DesignProblem). q.high) c.problem.view_is) in
     let decided = c.in_ok-tree.ensures in
-    rw (sym ceiling_is) (on_ok_weaker c.narrowed-in-Undecided.result (λ rest. (
+    let found = c.in_ok-tree.field-0 in
+    let reached = first_reached ceiling ceiling found (subst (λ (f : Found). EndsAt ceiling ceiling f) (sym c.in-Undecided.is) refl) in
+    let without = first_without ceiling found (subst IsNoCosts (sym c.in-Undecided.is) tt) in
+    let begun = c.start-progress-in-Undecided.ensures.from (decision ceiling found ∷ []) (ceiling_first p ceiling found ceiling_is) reached without in
+    on_ok_weaker c.narrowed-in-Undecided.result (λ rest. (
+      decision ceiling found ∷ rest.0,
+      rest.1,
       c.decide.new.advisors.items,
       record {
-        found = c.in_ok-tree.field-0;
         pool = c.decide.new.pool;
         decided = decided.decided;
         tree = decided.asked.tree;
         is_tree = decided.asked.is_tree;
         calls = decided.asked.calls;
       },
-      rest,
-    )) c.narrowed-in-Undecided.ensures.asked)
+      rest.2,
+    )) (c.narrowed-in-Undecided.ensures.asked (decision ceiling found ∷ []) begun)

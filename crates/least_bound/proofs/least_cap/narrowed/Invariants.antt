@@ -1,20 +1,22 @@
-use Rattle.std.proofs.Common.{◌≡◌, ◌-◌}
-use Rattle.form_search.specs.Advised.{AreAdvisorsLeft}
-use Rattle.cost_branching.specs.Advising.{IsAskedAtSome}
+use Rattle.std.proofs.Common.{◌≡◌, ◌-◌, ◌++◌, List}
+use Rattle.cost_branching.specs.Advising.{AreAskedInTurn, IsAskedAt}
 use Rattle.cost_branching.specs.Pools.{IsRowPool}
-use Rattle.least_bound.specs.Caps.{IsProgress}
+use Rattle.least_bound.specs.Asking.{CapDecision}
+use Rattle.least_bound.specs.Caps.{IsProgress, IsProgressOf}
 use Rattle.least_bound.proofs.least_cap.narrowed.Given as goal
 
--- the pool's rows are true, and what is known is true
+-- the pool's rows are true, and what is known is true: it comes of the caps so far and those that were decided since
 abbrev pub invariant-loop-cap : goal.invariant-loop-cap
 invariant-loop-cap g l = record {
   pool : IsRowPool l.problem l.pool;
   progress : IsProgress l.problem l.limits.top l.limits.nodes l.pool l.progress;
-  advisors : AreAdvisorsLeft
-      (IsAskedAtSome (λ b c. c.vtable ≡ b.vtable) (λ b. (goal.Advisor-dyn g (b.vtable, b.value)).state b.value)
+  more : List CapDecision;
+  known : (decisions : List CapDecision) → IsProgressOf l.problem decisions l.initial.progress → IsProgressOf l.problem (decisions ++ more) l.progress;
+  asked : AreAskedInTurn
+      (λ d. IsAskedAt (λ b c. c.vtable ≡ b.vtable) (λ b. (goal.Advisor-dyn g (b.vtable, b.value)).state b.value)
       (λ b. (goal.Advisor-dyn g (b.vtable, b.value)).would) (λ b. (goal.Advisor-dyn g (b.vtable, b.value)).left)
-      (λ b. (goal.Advisor-dyn g (b.vtable, b.value)).after) l.problem l.limits.top l.limits.nodes)
-      l.initial.advisors.items l.advisors.items;
+      (λ b. (goal.Advisor-dyn g (b.vtable, b.value)).after) l.problem l.limits.top l.limits.nodes d.cap d.found)
+      more l.initial.advisors.items l.advisors.items;
 }
 
 -- the caps that are left between
