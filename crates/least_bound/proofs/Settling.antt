@@ -17,7 +17,7 @@ use Rattle.cost_branching.proofs.Advising.{cap_searched, turns_left}
 use Rattle.least_bound.specs.declared.progress.Best.{Best}
 use Rattle.least_bound.specs.declared.progress.Best.TheVariants.{NoCosts, Costs, Between}
 use Rattle.least_bound.specs.declared.progress.Progress.{Progress}
-use Rattle.least_bound.specs.Asking.{AreCapsSettled, CapDecision, EndsAt, IsCapReached, IsCapRefuted, IsCeilingFirst, IsNoCapLeft}
+use Rattle.least_bound.specs.Asking.{AreSettledCaps, CapDecision, EndsAt, IsCapReached, IsCapRefuted, IsCeilingFirst, IsNoCapLeft}
 use Rattle.least_bound.specs.Caps.{AreWithoutCosts, IsNarrowed, IsProgressOf}
 
 -- what is found at a cap
@@ -58,7 +58,7 @@ least_more p decisions more least (inr refuted) = inr (refuted.0, refuted.1, ref
 pub ceiling_first : (p : DesignProblem) (cap : ℕ) (found : Found) → cap ≡ greatest_bound p → IsCeilingFirst p (decision cap found ∷ [])
 ceiling_first p cap found is = (found, [], ap (λ (k : ℕ). decision k found ∷ []) is)
 
-pub settled_at_once : (p : DesignProblem) (cap : ℕ) (tree : List Entry) → cap ≡ greatest_bound p → AreCapsSettled p (decision cap (Refuted tree) ∷ [])
+pub settled_at_once : (p : DesignProblem) (cap : ℕ) (tree : List Entry) → cap ≡ greatest_bound p → AreSettledCaps p (decision cap (Refuted tree) ∷ [])
 settled_at_once p cap tree is = record {
   first = ceiling_first p cap (Refuted tree) is;
   settled = inl (tree, (0, omega arith, ap (λ (k : ℕ). decision k (Refuted tree)) is));
@@ -139,7 +139,7 @@ none_left p decisions floor least most (Between w t) is from ordered without nar
 
 pub settled_of : (p : DesignProblem) (decisions : List CapDecision) (progress : Progress) → IsProgressOf p decisions progress →
     progress.floor ≡ greatest_cost p.low → progress.least ≤ progress.most →
-    IsNarrowed progress.floor progress.least progress.most progress.best → AreCapsSettled p decisions
+    IsNarrowed progress.floor progress.least progress.most progress.best → AreSettledCaps p decisions
 settled_of p decisions progress of floor ordered narrowed = record {
   first = of.first;
   settled = inr (

@@ -42,14 +42,14 @@ IsCeilingFirst p decisions = (first : Found) × (behind : List CapDecision) × (
 
 -- The decided caps settle the problem: the greatest upper bound comes first; and it is refuted, or at last no cap is left
 -- below one at which a search ended otherwise.
-pub record AreCapsSettled (p : DesignProblem) (decisions : List CapDecision) : Type 0 where
+pub record AreSettledCaps (p : DesignProblem) (decisions : List CapDecision) : Type 0 where
   pub first : IsCeilingFirst p decisions
   pub settled : IsCapRefuted decisions (greatest_bound p) ⊎ ((most : ℕ) × IsCapReached decisions most × IsNoCapLeft p decisions most)
 
 -- behind the caps so far, a search called them for each further one, until the problem was settled
 abbrev pub IsAskedOn : {A : Type 0} → (A → A → Type 0) → (A → List ℕ) → (A → List ℕ → List Candidate → ℕ) →
     (A → List ℕ → List Candidate → List ℕ) → (A → List ℕ → Entry → List ℕ) → DesignProblem → ℕ → ℕ → List CapDecision → List A → List A → Type 0
-IsAskedOn IsItself state would left after p top nodes decisions old new = (more : List CapDecision) × AreCapsSettled p (decisions ++ more)
+IsAskedOn IsItself state would left after p top nodes decisions old new = (more : List CapDecision) × AreSettledCaps p (decisions ++ more)
     × AreAskedInTurn (λ d. IsAskedAt IsItself state would left after p top nodes d.cap d.found) more old new
 
 -- the same of advisors by their rules

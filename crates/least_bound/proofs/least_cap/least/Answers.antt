@@ -10,7 +10,7 @@ use Rattle.form_search.proofs.AdvisorLaws.{left_then}
 use Rattle.cost_branching.proofs.Advising.{where_ok}
 use Rattle.cost_branching.specs.Decisions.{IsDecided, IsNoCosts}
 use Rattle.printed_rows.proofs.CapBoxes.{floor_below_ceiling, no_low_above}
-use Rattle.least_bound.specs.Asking.{AreCapsSettled, EndsAt}
+use Rattle.least_bound.specs.Asking.{AreSettledCaps, EndsAt}
 use Rattle.least_bound.proofs.CapLaws.{floor_lowest}
 use Rattle.least_bound.proofs.Settling.{ceiling_first, decision, first_reached, first_without, settled_at_once}
 use Rattle.least_bound.proofs.least_cap.least.Goals as goal
@@ -81,7 +81,7 @@ returns-in-Refuted-clause-asked g c =
     let decided = c.in_ok-tree.ensures in
     where_ok c.impossible.result (
       decision c.greatest_of-ceiling.result c.in_ok-tree.field-0 ∷ [],
-      subst (λ (f : Found). AreCapsSettled p (decision c.greatest_of-ceiling.result f ∷ [])) (sym c.in-Refuted.is)
+      subst (λ (f : Found). AreSettledCaps p (decision c.greatest_of-ceiling.result f ∷ [])) (sym c.in-Refuted.is)
           (settled_at_once p c.greatest_of-ceiling.result c.in-Refuted.tree ceiling_is),
       c.decide.new.advisors.items,
       record {
