@@ -1,5 +1,5 @@
 -- How the decided caps settle a problem.
-use Rattle.std.proofs.Common.{◌≡◌, ◌⊎◌, ℕ, ◌+◌, ◌<◌, ◌≤◌, refl, sym, ◌∙◌, ap, subst, inl, inr, List, [], ◌∷◌, ◌++◌, length, arith, append_assoc}
+use Rattle.std.proofs.Common.{◌≡◌, ◌⊎◌, ℕ, zero, suc, ◌+◌, ◌≤◌, refl, sym, ap, subst, inl, inr, List, [], ◌∷◌, ◌++◌, arith, append_assoc}
 use Rattle.std.specs.Prelude.{All, Contains, None}
 use Rattle.std.proofs.lemmas.Bool.{cases_lt}
 use Rattle.std.proofs.lemmas.List.Elements.{All-push, Contains-append_left, Contains-append_right}
@@ -20,7 +20,7 @@ use Rattle.least_bound.specs.declared.progress.Progress.{Progress}
 use Rattle.least_bound.specs.Asking.{AreSettledCaps, CapDecision, EndsAt, IsCapReached, IsCapRefuted, IsCeilingFirst, IsNoCapLeft}
 use Rattle.least_bound.specs.Caps.{AreWithoutCosts, IsNarrowed, IsProgressOf}
 
--- what is found at a cap
+-- a cap, and what a search found at it
 abbrev pub decision : ℕ → Found → CapDecision
 decision cap found = record { cap = cap; found = found }
 
@@ -103,7 +103,7 @@ from_refuted p decisions progress new cap tree was least most best =
     let d : CapDecision = decision cap (Refuted tree) in
     record {
       first = ceiling_more p decisions (d ∷ []) was.first;
-      least = inr (cap, sym least, tree, among_last decisions d);
+      least = inr (cap, sym least, (tree, among_last decisions d));
       most = subst (λ (k : ℕ). IsCapReached (decisions ++ d ∷ []) k) (sym most) (reached_more decisions (d ∷ []) progress.most was.most);
       without = subst (λ (b : Best). AreWithoutCosts (decisions ++ d ∷ []) b) (sym best) (without_more decisions d progress.best tt was.without);
     }

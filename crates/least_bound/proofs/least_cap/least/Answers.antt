@@ -83,15 +83,17 @@ returns-in-Refuted-clause-asked g c =
       decision c.greatest_of-ceiling.result c.in_ok-tree.field-0 ∷ [],
       subst (λ (f : Found). AreSettledCaps p (decision c.greatest_of-ceiling.result f ∷ [])) (sym c.in-Refuted.is)
           (settled_at_once p c.greatest_of-ceiling.result c.in-Refuted.tree ceiling_is),
-      c.decide.new.advisors.items,
-      record {
-        pool = c.decide.new.pool;
-        decided = decided.decided;
-        tree = decided.asked.tree;
-        is_tree = decided.asked.is_tree;
-        calls = decided.asked.calls;
-      },
-      refl,
+      (
+        c.decide.new.advisors.items,
+        record {
+          pool = c.decide.new.pool;
+          decided = decided.decided;
+          tree = decided.asked.tree;
+          is_tree = decided.asked.is_tree;
+          calls = decided.asked.calls;
+        },
+        refl,
+      ),
     )
 
 pub returns-in-Costs-clause-asked : goal.returns-in-Costs-clause-asked
@@ -109,15 +111,17 @@ returns-in-Costs-clause-asked g c =
     on_ok_weaker c.narrowed.result (λ rest. (
       decision ceiling found ∷ rest.0,
       rest.1,
-      c.decide.new.advisors.items,
-      record {
-        pool = c.decide.new.pool;
-        decided = decided.decided;
-        tree = decided.asked.tree;
-        is_tree = decided.asked.is_tree;
-        calls = decided.asked.calls;
-      },
-      rest.2,
+      (
+        c.decide.new.advisors.items,
+        record {
+          pool = c.decide.new.pool;
+          decided = decided.decided;
+          tree = decided.asked.tree;
+          is_tree = decided.asked.is_tree;
+          calls = decided.asked.calls;
+        },
+        rest.2,
+      ),
     )) (c.narrowed.ensures.asked (decision ceiling found ∷ []) begun)
 
 pub returns-in-Undecided-clause-asked : goal.returns-in-Undecided-clause-asked
@@ -134,13 +138,15 @@ returns-in-Undecided-clause-asked g c =
     on_ok_weaker c.narrowed-in-Undecided.result (λ rest. (
       decision ceiling found ∷ rest.0,
       rest.1,
-      c.decide.new.advisors.items,
-      record {
-        pool = c.decide.new.pool;
-        decided = decided.decided;
-        tree = decided.asked.tree;
-        is_tree = decided.asked.is_tree;
-        calls = decided.asked.calls;
-      },
-      rest.2,
+      (
+        c.decide.new.advisors.items,
+        record {
+          pool = c.decide.new.pool;
+          decided = decided.decided;
+          tree = decided.asked.tree;
+          is_tree = decided.asked.is_tree;
+          calls = decided.asked.calls;
+        },
+        rest.2,
+      ),
     )) (c.narrowed-in-Undecided.ensures.asked (decision ceiling found ∷ []) begun)

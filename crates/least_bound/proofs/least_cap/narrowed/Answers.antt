@@ -36,7 +36,7 @@ returns-clause-asked g c = λ decisions known.
     where_ok c.answer.result (
       was.more,
       settled_of c.args.problem.now (decisions ++ was.more) c.loop-cap.progress (was.known decisions known) was.progress.floor was.progress.ordered
-          (c.in-None.ensures.ended c.in-None.is),
+          (c.in_default.ensures.ended refl),
       was.asked,
     )
 

@@ -1,5 +1,5 @@
 -- What a further cap tells.
-use Rattle.std.proofs.Common.{◌∙◌, ◌+◌, List, [], ◌∷◌, ◌++◌, ap, refl, subst, sym}
+use Rattle.std.proofs.Common.{◌∙◌, ◌+◌, [], ◌∷◌, ◌++◌, ap, refl, subst, sym}
 use Rattle.std.specs.Prelude.{Some}
 use Rattle.design_problem.specs.Rows.{greatest_cost}
 use Rattle.form_search.specs.declared.found.Found.{Found}
