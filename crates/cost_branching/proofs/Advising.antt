@@ -1,6 +1,6 @@
 -- Searches that decide caps, one after another, are searches.
 use Rattle.std.specs.Prelude.{◌≡◌, ℕ, List, [], ◌∷◌, ◌++◌, Result, Ok, Err, OnOk}
-use Rattle.std.proofs.Common.{refl, subst, sym}
+use Rattle.std.proofs.Common.{refl, subst}
 use Rattle.design_problem.specs.declared.tree.Entry.{Entry}
 use Rattle.design_problem.specs.Problems.{DesignProblem}
 use Rattle.design_problem.specs.Boxes.{IsPointOf, capped}
@@ -27,7 +27,7 @@ turns_then IsAskedFor (d ∷ ds) es old mid new first are = (first.0, first.1, t
 -- the advisors that they leave are those that some searches leave
 pub turns_left : {A D : Type 0} (IsAskedFor : D → List A → List A → Type 0) (Search : List A → List A → Type 0) (ds : List D) (old new : List A) →
     ((d : D) (xs ys : List A) → IsAskedFor d xs ys → Search xs ys) → AreAskedInTurn IsAskedFor ds old new → AreAdvisorsLeft Search old new
-turns_left IsAskedFor Search [] old new each same = left_alike Search old new (sym same)
+turns_left IsAskedFor Search [] old new each same = left_alike Search old new same
 turns_left IsAskedFor Search (d ∷ ds) old new each are =
     left_then Search old are.0 new (left_searched Search old are.0 (each d old are.0 are.1))
     (turns_left IsAskedFor Search ds are.0 new each are.2)
@@ -41,7 +41,7 @@ cap_searched IsItself state would left after p top nodes cap found old new asked
       costs,
       asked.tree,
       calls_there (IsLeastPoint (LeadsEach p)) IsPointOf (IsPick IsItself state would left) (AreAllTold IsItself state after) costs asked.tree old new
-      (λ b point least. least.inside) asked.calls,
+          (λ b point least. least.inside) asked.calls,
     )
 
 -- what holds anyhow holds where a call ended well
