@@ -1,47 +1,58 @@
 -- How the searches that decide sets of requests call the advisors.
-use Rattle.std.specs.Prelude.{◌≡◌, ℕ, List}
+use Rattle.std.specs.Prelude.{◌≡◌, ℕ, ◌<◌, List, [], ◌∷◌, ◌++◌, length, Contains}
+use Rattle.std.specs.List.{remove}
 use Rattle.design_problem.specs.declared.tree.Entry.{Entry}
 use Rattle.design_problem.specs.Problems.{DesignProblem, restricted}
 use Rattle.design_problem.specs.Answers.{greatest_bound}
+use Rattle.design_problem.specs.Rows.{IsFit}
 use Rattle.cut_advisors.specs.declared.advisor.Advisor.{Ghosts}
 use Rattle.cut_advisors.specs.declared.candidate.Candidate.{Candidate}
 use Rattle.form_search.specs.declared.found.Found.{Found}
 use Rattle.form_search.specs.declared.found.Found.TheVariants.{Costs, Refuted, Undecided}
-use Rattle.form_search.specs.Advised.{AreAdvisorsLeft}
-use Rattle.cost_branching.specs.Advising.{IsAskedAt}
+use Rattle.cost_branching.specs.Advising.{AreAskedInTurn, IsAskedAt}
 use Rattle.conflict_core.specs.Conflicts.{IsRequestSet, all_requests}
 
--- a search called them that decided the greatest upper bound of the problem of some set of requests alone
+-- a set of requests, and what a search found of it
+pub record SetDecision : Type 0 where
+  pub set : List ℕ
+  pub found : Found
+
+-- a search that decided the greatest upper bound of the problem of these requests alone called them
 abbrev pub IsAskedOfSet : {A : Type 0} → (A → A → Type 0) → (A → List ℕ) → (A → List ℕ → List Candidate → ℕ) →
-    (A → List ℕ → List Candidate → List ℕ) → (A → List ℕ → Entry → List ℕ) → DesignProblem → ℕ → ℕ → List A → List A → Type 0
-IsAskedOfSet IsItself state would left after p top nodes old new =
-    (set : List ℕ) × IsRequestSet p set × IsAskedAt IsItself state would left after (restricted p set) top nodes (greatest_bound p) old new
+    (A → List ℕ → List Candidate → List ℕ) → (A → List ℕ → Entry → List ℕ) → DesignProblem → ℕ → ℕ → SetDecision → List A → List A → Type 0
+IsAskedOfSet IsItself state would left after p top nodes d old new =
+    IsRequestSet p d.set × IsAskedAt IsItself state would left after (restricted p d.set) top nodes (greatest_bound p) d.found old new
 
--- what was found are no costs, but a tree
-abbrev pub IsNoCosts : Found → Type 0
-IsNoCosts (Costs w) = ⊥
-IsNoCosts (Refuted tree) = Unit {0}
-IsNoCosts (Undecided tree) = Unit {0}
+-- one of the searches found costs that are fit without the member at this place
+abbrev pub IsFoundWithout : DesignProblem → List SetDecision → List ℕ → ℕ → Type 0
+IsFoundWithout p decisions set k =
+    (other : List ℕ) × (w : List ℕ) × Contains decisions (record { set = other; found = Costs w }) × IsFit (restricted p (remove set k)) w
 
--- one search after another called them, each of a set of requests, and the last one found no costs
-abbrev pub AreAskedToEnd : {A : Type 0} → (A → A → Type 0) → (A → List ℕ) → (A → List ℕ → List Candidate → ℕ) →
-    (A → List ℕ → List Candidate → List ℕ) → (A → List ℕ → Entry → List ℕ) → DesignProblem → ℕ → ℕ → List A → List A → Type 0
-AreAskedToEnd IsItself state would left after p top nodes old new = (late : List _)
-    × AreAdvisorsLeft (IsAskedOfSet IsItself state would left after p top nodes) old late
-    × (last : IsAskedOfSet IsItself state would left after p top nodes late new) × IsNoCosts last.2.found
+-- a search of this set may be the last one: it used up the budget, or refuted the set, and others found costs without each member
+abbrev pub EndsSearch : DesignProblem → List SetDecision → List ℕ → Found → Type 0
+EndsSearch p before set (Costs w) = ⊥
+EndsSearch p before set (Refuted tree) = (k : ℕ) → k < length set → IsFoundWithout p before set k
+EndsSearch p before set (Undecided tree) = Unit {0}
 
--- others called them behind the search of all requests, where it found that these are a conflict
-abbrev pub AreAskedBehind : {A : Type 0} → (A → A → Type 0) → (A → List ℕ) → (A → List ℕ → List Candidate → ℕ) →
-    (A → List ℕ → List Candidate → List ℕ) → (A → List ℕ → Entry → List ℕ) → DesignProblem → ℕ → ℕ → Found → List A → List A → Type 0
-AreAskedBehind IsItself state would left after p top nodes (Costs w) old new = new ≡ old
-AreAskedBehind IsItself state would left after p top nodes (Refuted tree) old new = AreAskedToEnd IsItself state would left after p top nodes old new
-AreAskedBehind IsItself state would left after p top nodes (Undecided tree) old new = new ≡ old
+-- some searches, and one that ends the search
+abbrev pub AreEndedSets : DesignProblem → List SetDecision → Type 0
+AreEndedSets p decisions =
+    (before : List SetDecision) × (last : SetDecision) × (decisions ≡ before ++ last ∷ []) × EndsSearch p before last.set last.found
 
--- a search of all requests called them, and where it found that these are a conflict, others of sets of requests
+-- the searches behind that of all requests: none but where it refuted them
+abbrev pub AreSetsBehind : DesignProblem → Found → List SetDecision → Type 0
+AreSetsBehind p (Costs w) behind = behind ≡ []
+AreSetsBehind p (Refuted tree) behind = AreEndedSets p behind
+AreSetsBehind p (Undecided tree) behind = behind ≡ []
+
+-- the searches settle whether the requests are a conflict: that of all requests comes first
+abbrev pub AreSettledSets : DesignProblem → List SetDecision → Type 0
+AreSettledSets p [] = ⊥
+AreSettledSets p (first ∷ behind) = (first.set ≡ all_requests p) × AreSetsBehind p first.found behind
+
+-- searches that settle whether the requests are a conflict called them, one after another
 abbrev pub AreAskedOfSets : {A V : Type 0} {X : V → Type 0} → ((rules : V) → Ghosts (X rules)) → (A → V) → (A → List ℕ) →
     DesignProblem → ℕ → ℕ → List A → List A → Type 0
-AreAskedOfSets members rules state p top nodes old new = (mid : List _)
-    × (first : IsAskedAt (λ b c. rules c ≡ rules b) state (λ b. (members (rules b)).would) (λ b. (members (rules b)).left)
-    (λ b. (members (rules b)).after) (restricted p (all_requests p)) top nodes (greatest_bound p) old mid)
-    × AreAskedBehind (λ b c. rules c ≡ rules b) state (λ b. (members (rules b)).would) (λ b. (members (rules b)).left)
-    (λ b. (members (rules b)).after) p top nodes first.found mid new
+AreAskedOfSets members rules state p top nodes old new = (decisions : List SetDecision) × AreSettledSets p decisions
+    × AreAskedInTurn (IsAskedOfSet (λ b c. rules c ≡ rules b) state (λ b. (members (rules b)).would) (λ b. (members (rules b)).left)
+    (λ b. (members (rules b)).after) p top nodes) decisions old new

@@ -1,5 +1,5 @@
 -- What is decided of one set of requests, and of one after the other. No public clause cites it.
-use Rattle.std.specs.Prelude.{◌≡◌, ◌⊎◌, ℕ, ◌+◌, ◌<◌, ◌≤◌, List, [], length, slice_index, slice_index_or, All, Contains}
+use Rattle.std.specs.Prelude.{◌≡◌, ◌⊎◌, ℕ, ◌+◌, ◌<◌, ◌≤◌, List, [], ◌++◌, length, slice_index, slice_index_or, All, Contains}
 use Rattle.std.specs.List.{remove}
 use Rattle.design_problem.specs.declared.form.Row.{Row}
 use Rattle.design_problem.specs.declared.tree.Entry.{Entry}
@@ -12,10 +12,9 @@ use Rattle.cut_advisors.specs.declared.advisor.Advisor.{Ghosts}
 use Rattle.cut_advisors.specs.declared.candidate.Candidate.{Candidate}
 use Rattle.form_search.specs.declared.found.Found.{Found}
 use Rattle.form_search.specs.declared.found.Found.TheVariants as finds
-use Rattle.form_search.specs.Advised.{AreAdvisorsLeft}
-use Rattle.cost_branching.specs.Advising.{IsAskedAt}
+use Rattle.cost_branching.specs.Advising.{AreAskedInTurn}
 use Rattle.cost_branching.specs.Pools.{IsRowPool}
-use Rattle.cost_branching.specs.Decisions.{IsTreeAt}
+use Rattle.cost_branching.specs.Decisions.{IsNoCosts, IsTreeAt}
 use Rattle.conflict_core.specs.declared.deciding.SetTree.{SetTree}
 use Rattle.conflict_core.specs.declared.deciding.Decided.{Decided}
 use Rattle.conflict_core.specs.declared.deciding.Decided.TheVariants.{Costs, Refuted, Undecided}
@@ -23,7 +22,7 @@ use Rattle.conflict_core.specs.declared.shrinking.Shrunk.{Shrunk}
 use Rattle.conflict_core.specs.declared.shrinking.Tried.{Tried}
 use Rattle.conflict_core.specs.declared.shrinking.Tried.TheVariants.{On, Stuck}
 use Rattle.conflict_core.specs.declared.telling.Told.{Told}
-use Rattle.conflict_core.specs.Asking.{AreAskedToEnd, IsAskedOfSet}
+use Rattle.conflict_core.specs.Asking.{AreEndedSets, IsAskedOfSet, SetDecision}
 use Rattle.conflict_core.specs.Conflicts.{IsConflict, IsConflictLessOne, IsRequestSet, IsTreeOfSet, all_requests}
 
 -- a tree of the set's restricted problem, by the rows of its pool
@@ -50,39 +49,51 @@ IsSetDecided p top nodes members (Costs w) = IsFit (restricted p members) w
 IsSetDecided p top nodes members (Refuted t) = (t.members.items ≡ members) × IsRefutedSet p top nodes t
 IsSetDecided p top nodes members (Undecided t) = (t.members.items ≡ members) × IsUndecidedSet p top nodes t
 
--- it is decided by what a search found
-abbrev pub IsFoundAs : Decided → Found → Type 0
-IsFoundAs (Costs w) (finds.Costs v) = Unit {0}
-IsFoundAs (Refuted t) (finds.Refuted tree) = Unit {0}
-IsFoundAs (Undecided t) (finds.Undecided tree) = Unit {0}
-IsFoundAs decided other = ⊥
+-- what the search found of which it is decided
+abbrev pub search_found : Decided → Found
+search_found (Costs w) = finds.Costs w
+search_found (Refuted t) = finds.Refuted t.tree
+search_found (Undecided t) = finds.Undecided t.tree
 
--- the search of the set that found it called the advisors
-abbrev pub IsSetAsked : {A V : Type 0} {X : V → Type 0} → ((rules : V) → Ghosts (X rules)) → (A → V) → (A → List ℕ) →
+-- the search that decided the set called the advisors, by their rules
+abbrev pub IsAskedDeciding : {A V : Type 0} {X : V → Type 0} → ((rules : V) → Ghosts (X rules)) → (A → V) → (A → List ℕ) →
     DesignProblem → ℕ → ℕ → List ℕ → Decided → List A → List A → Type 0
-IsSetAsked members rules state p top nodes set decided old new =
-    (asked : IsAskedAt (λ b c. rules c ≡ rules b) state (λ b. (members (rules b)).would) (λ b. (members (rules b)).left)
-    (λ b. (members (rules b)).after) (restricted p set) top nodes (greatest_bound p) old new)
-    × IsFoundAs decided asked.found
+IsAskedDeciding members rules state p top nodes set decided = IsAskedOfSet (λ b c. rules c ≡ rules b) state (λ b. (members (rules b)).would)
+    (λ b. (members (rules b)).left) (λ b. (members (rules b)).after) p top nodes (record { set = set; found = search_found decided })
 
--- searches of sets of requests called the advisors, by their rules, and the last one found no costs
+-- the search of the set called them, and found no costs
+abbrev pub IsAskedLast : {A V : Type 0} {X : V → Type 0} → ((rules : V) → Ghosts (X rules)) → (A → V) → (A → List ℕ) →
+    DesignProblem → ℕ → ℕ → List ℕ → List A → List A → Type 0
+IsAskedLast members rules state p top nodes set old new = (found : Found) × IsNoCosts found
+    × IsAskedOfSet (λ b c. rules c ≡ rules b) state (λ b. (members (rules b)).would) (λ b. (members (rules b)).left)
+    (λ b. (members (rules b)).after) p top nodes (record { set = set; found = found }) old new
+
+-- searches of sets of requests called them, and the last one ends the search
 abbrev pub AreAskedUntil : {A V : Type 0} {X : V → Type 0} → ((rules : V) → Ghosts (X rules)) → (A → V) → (A → List ℕ) →
     DesignProblem → ℕ → ℕ → List A → List A → Type 0
-AreAskedUntil members rules state p top nodes = AreAskedToEnd (λ b c. rules c ≡ rules b) state (λ b. (members (rules b)).would) (λ b. (members (rules b)).left)
-    (λ b. (members (rules b)).after) p top nodes
+AreAskedUntil members rules state p top nodes old new = (decisions : List SetDecision) × AreEndedSets p decisions
+    × AreAskedInTurn (IsAskedOfSet (λ b c. rules c ≡ rules b) state (λ b. (members (rules b)).would) (λ b. (members (rules b)).left)
+    (λ b. (members (rules b)).after) p top nodes) decisions old new
 
--- searches of sets called them while a member was left out, and one that found no costs where the budget was used up
+-- each of these costs was found by one of the searches
+abbrev pub AreCostsFound : List SetDecision → List (List ℕ) → Type 0
+AreCostsFound decisions lists = All (λ w. (set : List ℕ) × Contains decisions (record { set = set; found = finds.Costs w })) lists
+
+-- searches of sets called them while a member was left out, which found the costs that are new, or used up the budget
 abbrev pub IsTriedAsking : {A : Type 0} → (A → A → Type 0) → (A → List ℕ) → (A → List ℕ → List Candidate → ℕ) →
-    (A → List ℕ → List Candidate → List ℕ) → (A → List ℕ → Entry → List ℕ) → DesignProblem → ℕ → ℕ → Tried → List A → List A → Type 0
-IsTriedAsking IsItself state would left after p top nodes (On next) old new = AreAdvisorsLeft (IsAskedOfSet IsItself state would left after p top nodes) old new
-IsTriedAsking IsItself state would left after p top nodes (Stuck set) old new = AreAskedToEnd IsItself state would left after p top nodes old new
+    (A → List ℕ → List Candidate → List ℕ) → (A → List ℕ → Entry → List ℕ) → DesignProblem → ℕ → ℕ → Shrunk → Tried → List A → List A → Type 0
+IsTriedAsking IsItself state would left after p top nodes shrunk (On next) old new = (decisions : List SetDecision) × (lists : List (List ℕ))
+    × (next.without.items ≡ shrunk.without.items ++ lists) × AreCostsFound decisions lists
+    × AreAskedInTurn (IsAskedOfSet IsItself state would left after p top nodes) decisions old new
+IsTriedAsking IsItself state would left after p top nodes shrunk (Stuck t) old new = (set : List ℕ)
+    × IsAskedOfSet IsItself state would left after p top nodes (record { set = set; found = finds.Undecided t.tree }) old new
 
 -- the same of advisors by their rules
 abbrev pub AreAskedTrying : {A V : Type 0} {X : V → Type 0} → ((rules : V) → Ghosts (X rules)) → (A → V) → (A → List ℕ) →
-    DesignProblem → ℕ → ℕ → Tried → List A → List A → Type 0
-AreAskedTrying members rules state p top nodes tried old new =
+    DesignProblem → ℕ → ℕ → Shrunk → Tried → List A → List A → Type 0
+AreAskedTrying members rules state p top nodes shrunk tried old new =
     IsTriedAsking (λ b c. rules c ≡ rules b) state (λ b. (members (rules b)).would) (λ b. (members (rules b)).left)
-    (λ b. (members (rules b)).after) p top nodes tried old new
+    (λ b. (members (rules b)).after) p top nodes shrunk tried old new
 
 -- costs for each of the first requests of a set, which are fit without it
 abbrev pub AreFitWithout : DesignProblem → List ℕ → List (List ℕ) → Type 0

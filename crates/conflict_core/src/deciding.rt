@@ -2,7 +2,7 @@
 ghost use Rattle.std.specs.Prelude.{IfOk};
 ghost use Rattle.form_search.specs.Advised.{AreCalled};
 ghost use Rattle.conflict_core.specs.Conflicts.{IsRequestSet};
-ghost use Rattle.conflict_core.specs.Deciding.{IsSetAsked, IsSetDecided};
+ghost use Rattle.conflict_core.specs.Deciding.{IsAskedDeciding, IsSetDecided};
 
 use cost_base::OutOfMemory;
 use cost_branching::{Found, Pool, decide, keeps_conditions};
@@ -42,7 +42,7 @@ pub(crate) fn decide_set(
     requires { IsRequestSet problem.now members.items }
     ensures decided { IfOk result (IsSetDecided problem.now limits.now.top limits.now.nodes
         members.items) }
-    ensures asked { IfOk result (λ decided. IsSetAsked ⟦<dyn Advisor as Advisor>⟧
+    ensures asked { IfOk result (λ decided. IsAskedDeciding ⟦<dyn Advisor as Advisor>⟧
         (λ b. b.vtable) (λ b. state b) problem.now limits.now.top limits.now.nodes members.items
         decided advisors.old.items advisors.new.items) }
     ensures advisors { AreCalled ⟦<dyn Advisor as Advisor>⟧ (λ b. b.vtable) (λ b. state b)

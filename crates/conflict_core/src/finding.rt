@@ -3,7 +3,7 @@ ghost use Rattle.std.specs.Prelude.{◌≡◌, ◌⊎◌, ℕ, ◌≤◌, length
 ghost use Rattle.form_search.specs.Advised.{AreCalled};
 ghost use Rattle.conflict_core.specs.Asking.{AreAskedOfSets};
 ghost use Rattle.conflict_core.specs.Conflicts.{IsConflictFound, IsConflictLessOne, all_requests};
-ghost use Rattle.conflict_core.specs.Deciding.{AreAskedUntil, AreFitWithout, IsRefutedSet, IsShrunk, IsUndecidedSet};
+ghost use Rattle.conflict_core.specs.Deciding.{AreAskedUntil, AreFitWithout, IsAskedLast, IsRefutedSet, IsShrunk, IsUndecidedSet};
 
 use crate::conflict::Conflict;
 use crate::deciding::{Decided, SetTree, decide_set};
@@ -75,9 +75,9 @@ fn finish(
     requires shrunk { IsShrunk problem.now shrunk }
     requires ended { length shrunk.members ≤ length shrunk.without.items }
     ensures found { IfOk result (IsConflictFound problem.now limits.now.top limits.now.nodes) }
-    ensures asked { OnOk result (AreAskedUntil ⟦<dyn Advisor as Advisor>⟧ (λ b. b.vtable)
-        (λ b. state b) problem.now limits.now.top limits.now.nodes advisors.old.items
-        advisors.new.items) }
+    ensures asked { OnOk result (IsAskedLast ⟦<dyn Advisor as Advisor>⟧ (λ b. b.vtable)
+        (λ b. state b) problem.now limits.now.top limits.now.nodes shrunk.members
+        advisors.old.items advisors.new.items) }
     ensures advisors { AreCalled ⟦<dyn Advisor as Advisor>⟧ (λ b. b.vtable) (λ b. state b)
         advisors.old.items advisors.new.items }
 {
@@ -145,8 +145,9 @@ pub fn find_conflict(
 ) -> Result<Conflict, OutOfMemory>
     ensures found { IfOk result (IsConflictFound problem.now limits.now.top limits.now.nodes) }
 
-    // The advisors are asked and told by a search of all requests, and where these are a conflict, by others of sets of
-    // requests, the last of which finds no costs.
+    // The advisors are asked and told by one search after another, each of a set of requests: by that of all requests, and
+    // where these are a conflict, by others, of which the last one refutes its set or uses up the budget. Where it refutes
+    // it, costs that are fit without a member were found by one of them, for each member.
     ensures asked { OnOk result (AreAskedOfSets ⟦<dyn Advisor as Advisor>⟧ (λ b. b.vtable)
         (λ b. state b) problem.now limits.now.top limits.now.nodes advisors.old.items
         advisors.new.items) }

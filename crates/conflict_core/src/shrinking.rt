@@ -138,7 +138,7 @@ pub(crate) fn leave_out(
     ensures turned { IfOk result (IsMemberTried problem.now limits.now.top limits.now.nodes
         shrunk) }
     ensures asked { IfOk result (λ tried. AreAskedTrying ⟦<dyn Advisor as Advisor>⟧
-        (λ b. b.vtable) (λ b. state b) problem.now limits.now.top limits.now.nodes tried
+        (λ b. b.vtable) (λ b. state b) problem.now limits.now.top limits.now.nodes shrunk tried
         advisors.old.items advisors.new.items) }
     ensures advisors { AreCalled ⟦<dyn Advisor as Advisor>⟧ (λ b. b.vtable) (λ b. state b)
         advisors.old.items advisors.new.items }

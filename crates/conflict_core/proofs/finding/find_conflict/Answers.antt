@@ -1,12 +1,14 @@
 -- All requests are decided first.
-use Rattle.std.proofs.Common.{refl, subst}
+use Rattle.std.proofs.Common.{refl, subst, [], ◌∷◌}
 use Rattle.std.proofs.lemmas.Result.{on_ok_weaker}
+use Rattle.form_search.specs.declared.found.Found.TheVariants as finds
 use Rattle.form_search.proofs.AdvisorLaws.{left_alike, left_then}
 use Rattle.conflict_core.specs.declared.deciding.Decided.{Decided}
 use Rattle.conflict_core.specs.declared.deciding.Decided.TheVariants.{Costs, Refuted, Undecided}
 use Rattle.cost_branching.proofs.Advising.{where_ok}
-use Rattle.conflict_core.specs.Deciding.{IsFoundAs, IsSetDecided}
-use Rattle.conflict_core.proofs.Asking.{all_asked, behind_costs, behind_refuted, behind_undecided}
+use Rattle.conflict_core.specs.Asking.{SetDecision}
+use Rattle.conflict_core.specs.Deciding.{IsSetDecided}
+use Rattle.conflict_core.proofs.Asking.{asked_as}
 use Rattle.conflict_core.proofs.Sets.{all_set, fit_all}
 use Rattle.conflict_core.proofs.finding.find_conflict.Goals as goal
 
@@ -28,32 +30,27 @@ returns-in-Refuted-clause-advisors g c = left_then _ _ _ _ c.decide_set.ensures.
 
 pub returns-in-Costs-clause-asked : goal.returns-in-Costs-clause-asked
 returns-in-Costs-clause-asked g c =
-    let asked = c.in_ok-costs.ensures.asked in
-    let first = all_asked _ _ _ _ _ (λ f. IsFoundAs (Costs c.in-Costs.costs) f) c.args.problem.now c.args.limits.now.top c.args.limits.now.nodes c.in_ok-all.all.items _ _ c.in_ok-all.ensures
-    (asked.0, subst (λ (d : Decided). IsFoundAs d asked.0.found) c.in-Costs.is asked.1) in
-    (c.decide_set.new.advisors.items, first.0, behind_costs _ _ _ _ _ c.args.problem.now c.args.limits.now.top c.args.limits.now.nodes c.in-Costs.costs first.0.found _ first.1)
+    let costs = c.in-Costs.costs in
+    let all = c.in_ok-all.all.items in
+    let first : SetDecision = record { set = all; found = finds.Costs costs } in
+    let asked = asked_as _ _ _ _ _ c.args.problem.now c.args.limits.now.top c.args.limits.now.nodes all _ (Costs costs) _ _ c.in-Costs.is c.in_ok-costs.ensures.asked in
+    (first ∷ [], (c.in_ok-all.ensures, refl), (c.decide_set.new.advisors.items, asked, refl))
 
 pub returns-in-Undecided-clause-asked : goal.returns-in-Undecided-clause-asked
 returns-in-Undecided-clause-asked g c =
-    let asked = c.in_ok-costs.ensures.asked in
-    let first = all_asked _ _ _ _ _ (λ f. IsFoundAs (Undecided c.in-Undecided.set) f) c.args.problem.now c.args.limits.now.top c.args.limits.now.nodes c.in_ok-all.all.items _ _ c.in_ok-all.ensures
-    (asked.0, subst (λ (d : Decided). IsFoundAs d asked.0.found) c.in-Undecided.is asked.1) in
-    where_ok c.undecided.result (
-      c.decide_set.new.advisors.items,
-      first.0,
-      behind_undecided _ _ _ _ _ c.args.problem.now c.args.limits.now.top c.args.limits.now.nodes c.in-Undecided.set first.0.found _ first.1,
-    )
+    let set = c.in-Undecided.set in
+    let all = c.in_ok-all.all.items in
+    let first : SetDecision = record { set = all; found = finds.Undecided set.tree } in
+    let asked = asked_as _ _ _ _ _ c.args.problem.now c.args.limits.now.top c.args.limits.now.nodes all _ (Undecided set) _ _ c.in-Undecided.is c.in_ok-costs.ensures.asked in
+    where_ok c.undecided.result (first ∷ [], (c.in_ok-all.ensures, refl), (c.decide_set.new.advisors.items, asked, refl))
 
 pub returns-in-Refuted-clause-asked : goal.returns-in-Refuted-clause-asked
 returns-in-Refuted-clause-asked g c =
-    let asked = c.in_ok-costs.ensures.asked in
-    let first = all_asked _ _ _ _ _ (λ f. IsFoundAs (Refuted c.in-Refuted.conflict) f) c.args.problem.now c.args.limits.now.top c.args.limits.now.nodes c.in_ok-all.all.items _ _ c.in_ok-all.ensures
-    (asked.0, subst (λ (d : Decided). IsFoundAs d asked.0.found) c.in-Refuted.is asked.1) in
-    on_ok_weaker c.shrink.result (λ rest. (
-      c.decide_set.new.advisors.items,
-      first.0,
-      behind_refuted _ _ _ _ _ c.args.problem.now c.args.limits.now.top c.args.limits.now.nodes c.in-Refuted.conflict first.0.found _ _ first.1 rest,
-    ))
+    let conflict = c.in-Refuted.conflict in
+    let all = c.in_ok-all.all.items in
+    let first : SetDecision = record { set = all; found = finds.Refuted conflict.tree } in
+    let asked = asked_as _ _ _ _ _ c.args.problem.now c.args.limits.now.top c.args.limits.now.nodes all _ (Refuted conflict) _ _ c.in-Refuted.is c.in_ok-costs.ensures.asked in
+    on_ok_weaker c.shrink.result (λ behind. (first ∷ behind.0, (c.in_ok-all.ensures, behind.1), (c.decide_set.new.advisors.items, asked, behind.2)))
     c.shrink.ensures.asked
 
 pub returns-in-Undecided-clause-found : goal.returns-in-Undecided-clause-found

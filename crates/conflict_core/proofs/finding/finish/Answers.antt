@@ -1,14 +1,15 @@
 -- The core has no fit costs, so it is refuted again, or the budget is used up.
-use Rattle.std.proofs.Common.{◌∙◌, refl, sym, subst, ℕ, List}
+use Rattle.std.proofs.Common.{◌∙◌, refl, subst, ℕ, List}
 use Rattle.design_problem.specs.Problems.{restricted}
 use Rattle.design_problem.specs.Rows.{IsFit}
+use Rattle.form_search.specs.declared.found.Found.{Found}
+use Rattle.form_search.specs.declared.found.Found.TheVariants as finds
 use Rattle.form_search.proofs.AdvisorLaws.{left_alike}
 use Rattle.conflict_core.specs.declared.deciding.Decided.{Decided}
 use Rattle.conflict_core.specs.declared.deciding.Decided.TheVariants.{Refuted, Undecided}
 use Rattle.cost_branching.proofs.Advising.{where_ok}
-use Rattle.conflict_core.specs.Conflicts.{IsRequestSet}
-use Rattle.conflict_core.specs.Deciding.{IsFoundAs, IsSetDecided}
-use Rattle.conflict_core.proofs.Asking.{none_if_refuted, none_if_undecided}
+use Rattle.conflict_core.specs.Deciding.{IsSetDecided}
+use Rattle.conflict_core.proofs.Asking.{asked_as, asked_same}
 use Rattle.conflict_core.proofs.finding.finish.Goals as goal
 
 pub returns-in_err-members-clause-advisors : goal.returns-in_err-members-clause-advisors
@@ -42,25 +43,25 @@ returns-in-Undecided-clause-found g c =
 pub returns-in-Refuted-clause-asked : goal.returns-in-Refuted-clause-asked
 returns-in-Refuted-clause-asked g c =
     let p = c.args.problem.now in
-    let asked = c.in_ok-decide_set.ensures.asked in
-    let set : IsRequestSet p c.in_ok-members.members.items =
-    subst (IsRequestSet p) (sym (c.in_ok-members.ensures.items ∙ c.as_slice.ensures)) c.requires.shrunk.set in
+    let top = c.args.limits.now.top in
+    let nodes = c.args.limits.now.nodes in
+    let found : Found = finds.Refuted c.in-Refuted.conflict.tree in
     where_ok c.core.result (
-      c.args.advisors.now.items,
-      left_alike _ _ _ refl,
-      (c.in_ok-members.members.items, set, asked.0),
-      none_if_refuted c.in-Refuted.conflict asked.0.found (subst (λ (d : Decided). IsFoundAs d asked.0.found) c.in-Refuted.is asked.1),
+      found,
+      tt,
+      asked_same _ _ _ _ _ p top nodes c.in_ok-members.members.items c.args.shrunk.members found _ _ (c.in_ok-members.ensures.items ∙ c.as_slice.ensures)
+          (asked_as _ _ _ _ _ p top nodes c.in_ok-members.members.items _ (Refuted c.in-Refuted.conflict) _ _ c.in-Refuted.is c.in_ok-decide_set.ensures.asked),
     )
 
 pub returns-in-Undecided-clause-asked : goal.returns-in-Undecided-clause-asked
 returns-in-Undecided-clause-asked g c =
     let p = c.args.problem.now in
-    let asked = c.in_ok-decide_set.ensures.asked in
-    let set : IsRequestSet p c.in_ok-members.members.items =
-    subst (IsRequestSet p) (sym (c.in_ok-members.ensures.items ∙ c.as_slice.ensures)) c.requires.shrunk.set in
+    let top = c.args.limits.now.top in
+    let nodes = c.args.limits.now.nodes in
+    let found : Found = finds.Undecided c.in-Undecided.set.tree in
     where_ok c.undecided.result (
-      c.args.advisors.now.items,
-      left_alike _ _ _ refl,
-      (c.in_ok-members.members.items, set, asked.0),
-      none_if_undecided c.in-Undecided.set asked.0.found (subst (λ (d : Decided). IsFoundAs d asked.0.found) c.in-Undecided.is asked.1),
+      found,
+      tt,
+      asked_same _ _ _ _ _ p top nodes c.in_ok-members.members.items c.args.shrunk.members found _ _ (c.in_ok-members.ensures.items ∙ c.as_slice.ensures)
+          (asked_as _ _ _ _ _ p top nodes c.in_ok-members.members.items _ (Undecided c.in-Undecided.set) _ _ c.in-Undecided.is c.in_ok-decide_set.ensures.asked),
     )

@@ -1,14 +1,19 @@
 -- What comes of leaving out the next member.
-use Rattle.std.proofs.Common.{◌∙◌, refl, sym, subst, ap, ℕ, List, length}
+use Rattle.std.proofs.Common.{◌∙◌, refl, sym, subst, ap, ℕ, List, [], ◌∷◌, length}
+use Rattle.std.specs.Prelude.{Contains}
+use Rattle.std.proofs.lemmas.List.{append-nil}
+use Rattle.std.proofs.lemmas.List.Elements.{All-cons, All-nil, Contains-push}
 use Rattle.design_problem.specs.Problems.{restricted}
 use Rattle.design_problem.specs.Rows.{IsFit}
-use Rattle.form_search.proofs.AdvisorLaws.{left_alike, left_searched}
+use Rattle.form_search.specs.declared.found.Found.TheVariants as finds
+use Rattle.form_search.proofs.AdvisorLaws.{left_alike}
 use Rattle.conflict_core.specs.declared.deciding.Decided.{Decided}
-use Rattle.conflict_core.specs.declared.deciding.Decided.TheVariants.{Refuted, Undecided}
+use Rattle.conflict_core.specs.declared.deciding.Decided.TheVariants.{Costs, Refuted, Undecided}
 use Rattle.conflict_core.specs.declared.shrinking.Shrunk.{Shrunk}
+use Rattle.conflict_core.specs.Asking.{SetDecision}
 use Rattle.conflict_core.specs.Conflicts.{IsRequestSet}
-use Rattle.conflict_core.specs.Deciding.{IsFoundAs, IsSetDecided}
-use Rattle.conflict_core.proofs.Asking.{none_if_undecided}
+use Rattle.conflict_core.specs.Deciding.{AreCostsFound, IsSetDecided}
+use Rattle.conflict_core.proofs.Asking.{asked_as}
 use Rattle.conflict_core.proofs.Sets.{rest_set}
 use Rattle.conflict_core.proofs.ShrinkingLaws.{less_one, more_costs, not_used, refuted_less}
 use Rattle.conflict_core.proofs.shrinking.leave_out.Goals as goal
@@ -67,39 +72,45 @@ returns-in-Undecided-clause-turned g c =
     )
 
 pub returns-then-not-uses_next-clause-asked : goal.returns-then-not-uses_next-clause-asked
-returns-then-not-uses_next-clause-asked g c = left_alike _ _ _ refl
+returns-then-not-uses_next-clause-asked g c =
+    ([], [], ap (λ (s : Shrunk). s.without.items) c.with_members.ensures ∙ sym (append-nil c.args.shrunk.without.items), All-nil _, refl)
 
 pub returns-in_ok-with_costs-in-Costs-clause-asked : goal.returns-in_ok-with_costs-in-Costs-clause-asked
 returns-in_ok-with_costs-in-Costs-clause-asked g c =
-    let p = c.args.problem.now in
-    left_searched _ _ _ (
-      c.in_ok-others.others.items,
-      (subst (IsRequestSet p) (sym c.in_ok-others.ensures)
-          (rest_set p c.args.shrunk.members (length c.args.shrunk.without.items) c.requires.left c.requires.shrunk.set)),
-      c.in_ok-costs.ensures.asked.0,
+    let costs = c.in-Costs.costs in
+    let set = c.in_ok-others.others.items in
+    let decision : SetDecision = record { set = set; found = finds.Costs costs } in
+    let found : AreCostsFound (decision ∷ []) (costs ∷ []) = All-cons (λ w. (ms : List ℕ) × Contains (decision ∷ []) (record { set = ms; found = finds.Costs w })) costs []
+    (set, Contains-push [] decision) (All-nil _) in (
+      decision ∷ [],
+      costs ∷ [],
+      c.in_ok-with_costs-in-Costs.ensures.without,
+      found,
+      (
+        c.decide_set.new.advisors.items,
+        asked_as _ _ _ _ _ c.args.problem.now c.args.limits.now.top c.args.limits.now.nodes set _ (Costs costs) _ _ c.in-Costs.is c.in_ok-costs.ensures.asked,
+        refl,
+      ),
     )
 
 pub returns-in_ok-told-in-Refuted-clause-asked : goal.returns-in_ok-told-in-Refuted-clause-asked
 returns-in_ok-told-in-Refuted-clause-asked g c =
-    let p = c.args.problem.now in
-    left_searched _ _ _ (
-      c.in_ok-others.others.items,
-      (subst (IsRequestSet p) (sym c.in_ok-others.ensures)
-          (rest_set p c.args.shrunk.members (length c.args.shrunk.without.items) c.requires.left c.requires.shrunk.set)),
-      c.in_ok-costs.ensures.asked.0,
+    let set = c.in_ok-others.others.items in
+    let decision : SetDecision = record { set = set; found = finds.Refuted c.in-Refuted.conflict.tree } in (
+      decision ∷ [],
+      [],
+      ap (λ (s : Shrunk). s.without.items) c.with_told.ensures ∙ sym (append-nil c.args.shrunk.without.items),
+      All-nil _,
+      (
+        c.decide_set.new.advisors.items,
+        asked_as _ _ _ _ _ c.args.problem.now c.args.limits.now.top c.args.limits.now.nodes set _ (Refuted c.in-Refuted.conflict) _ _ c.in-Refuted.is c.in_ok-costs.ensures.asked,
+        refl,
+      ),
     )
 
 pub returns-in-Undecided-clause-asked : goal.returns-in-Undecided-clause-asked
 returns-in-Undecided-clause-asked g c =
-    let p = c.args.problem.now in
-    let asked = c.in_ok-costs.ensures.asked in (
-      c.args.advisors.now.items,
-      left_alike _ _ _ refl,
-      (
-        c.in_ok-others.others.items,
-        (subst (IsRequestSet p) (sym c.in_ok-others.ensures)
-            (rest_set p c.args.shrunk.members (length c.args.shrunk.without.items) c.requires.left c.requires.shrunk.set)),
-        asked.0,
-      ),
-      none_if_undecided c.in-Undecided.set asked.0.found (subst (λ (d : Decided). IsFoundAs d asked.0.found) c.in-Undecided.is asked.1),
+    let set = c.in_ok-others.others.items in (
+      set,
+      asked_as _ _ _ _ _ c.args.problem.now c.args.limits.now.top c.args.limits.now.nodes set _ (Undecided c.in-Undecided.set) _ _ c.in-Undecided.is c.in_ok-costs.ensures.asked,
     )
