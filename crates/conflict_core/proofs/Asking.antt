@@ -1,5 +1,5 @@
 -- Searches that decide sets of requests are searches.
-use Rattle.std.proofs.Common.{◌≡◌, ℕ, ◌<◌, ◌≤◌, refl, subst, sym, List, [], ◌∷◌, ◌++◌, length, get_or, arith}
+use Rattle.std.proofs.Common.{◌≡◌, ℕ, ◌<◌, ◌≤◌, subst, sym, List, [], ◌++◌, length, get_or, arith}
 use Rattle.std.specs.Prelude.{Contains}
 use Rattle.std.proofs.lemmas.List.Elements.{All-append, Contains-append_left, Contains-append_right}
 use Rattle.design_problem.specs.declared.tree.Entry.{Entry}
@@ -20,7 +20,7 @@ use Rattle.cost_branching.proofs.Advising.{cap_searched, turns_left}
 use Rattle.conflict_core.specs.declared.deciding.Decided.{Decided}
 use Rattle.conflict_core.specs.declared.shrinking.Shrunk.{Shrunk}
 use Rattle.conflict_core.specs.declared.shrinking.Tried.{Tried}
-use Rattle.conflict_core.specs.Asking.{EndsSearch, IsAskedOfSet, IsFoundWithout, SetDecision}
+use Rattle.conflict_core.specs.Asking.{EndsSearch, IsAskedOfSet, SetDecision}
 use Rattle.conflict_core.specs.Conflicts.{IsRequestSet}
 use Rattle.conflict_core.specs.Deciding.{AreCostsFound, IsShrunk, IsTriedAsking, search_found}
 
