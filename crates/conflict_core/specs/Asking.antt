@@ -39,18 +39,18 @@ abbrev pub AreEndedSets : DesignProblem → List SetDecision → Type 0
 AreEndedSets p decisions =
     (before : List SetDecision) × (last : SetDecision) × (decisions ≡ before ++ last ∷ []) × EndsSearch p before last.set last.found
 
--- the searches behind that of all requests: none but where it refuted them
+-- the searches behind that of all requests, by what it found: none but where it refuted them
 abbrev pub AreSetsBehind : DesignProblem → Found → List SetDecision → Type 0
 AreSetsBehind p (Costs w) behind = behind ≡ []
 AreSetsBehind p (Refuted tree) behind = AreEndedSets p behind
 AreSetsBehind p (Undecided tree) behind = behind ≡ []
 
--- the searches settle whether the requests are a conflict: that of all requests comes first
+-- the searches, in order: that of all requests, and where it refuted them, others behind it
 abbrev pub AreSettledSets : DesignProblem → List SetDecision → Type 0
 AreSettledSets p [] = ⊥
 AreSettledSets p (first ∷ behind) = (first.set ≡ all_requests p) × AreSetsBehind p first.found behind
 
--- searches that settle whether the requests are a conflict called them, one after another
+-- one search after another called them: that of all requests, and where it refuted them, others of sets of requests
 abbrev pub AreAskedOfSets : {A V : Type 0} {X : V → Type 0} → ((rules : V) → Ghosts (X rules)) → (A → V) → (A → List ℕ) →
     DesignProblem → ℕ → ℕ → List A → List A → Type 0
 AreAskedOfSets members rules state p top nodes old new = (decisions : List SetDecision) × AreSettledSets p decisions
