@@ -17,8 +17,8 @@ use Rattle.cost_branching.proofs.Advising.{cap_searched, turns_left}
 use Rattle.least_bound.specs.declared.progress.Best.{Best}
 use Rattle.least_bound.specs.declared.progress.Best.TheVariants.{NoCosts, Costs, Between}
 use Rattle.least_bound.specs.declared.progress.Progress.{Progress}
-use Rattle.least_bound.specs.Asking.{AreSettledCaps, CapDecision, EndsAt, IsCapReached, IsCapRefuted, IsCeilingFirst, IsNoCapLeft}
-use Rattle.least_bound.specs.Caps.{AreWithoutCosts, IsNarrowed, IsProgressOf}
+use Rattle.least_bound.specs.Asking.{AreSettledCaps, CapDecision, StopsAtCap, IsCapReached, IsCapRefuted, IsCeilingFirst, IsNoCapLeft}
+use Rattle.least_bound.specs.Caps.{AreWithoutCosts, AreCapsDone, IsProgressOf}
 
 -- a cap, and what a search found at it
 abbrev pub decision : ℕ → Found → CapDecision
@@ -64,7 +64,7 @@ settled_at_once p cap tree is = record {
   settled = inl (tree, (0, omega arith, ap (λ (k : ℕ). decision k (Refuted tree)) is));
 }
 
-pub first_reached : (cap most : ℕ) (found : Found) → EndsAt most cap found → IsCapReached (decision cap found ∷ []) most
+pub first_reached : (cap most : ℕ) (found : Found) → StopsAtCap most cap found → IsCapReached (decision cap found ∷ []) most
 first_reached cap most found ends = (decision cap found, (0, omega arith, refl), ends)
 
 pub first_without : (cap : ℕ) (found : Found) → IsNoCosts found → All (λ (d : CapDecision). IsNoCosts d.found) (decision cap found ∷ [])
@@ -129,7 +129,7 @@ none_below p decisions least most (inl floor) from to = inl (omega arith)
 none_below p decisions least most (inr refuted) from to = inr (inl (refuted.0, omega (arith, refuted.1), refuted.2))
 
 none_left : (p : DesignProblem) (decisions : List CapDecision) (floor least most : ℕ) (best : Best) → floor ≡ greatest_cost p.low →
-    IsLeastOf p decisions least → least ≤ most → AreWithoutCosts decisions best → IsNarrowed floor least most best → IsNoCapLeft p decisions most
+    IsLeastOf p decisions least → least ≤ most → AreWithoutCosts decisions best → AreCapsDone floor least most best → IsNoCapLeft p decisions most
 none_left p decisions floor least most (NoCosts t) is from ordered without narrowed = elim (cases_lt least most) [
   | inl wide ↦ inr (inr (without, omega (arith, narrowed wide)))
   | inr narrow ↦ none_below p decisions least most from ordered narrow
@@ -139,7 +139,7 @@ none_left p decisions floor least most (Between w t) is from ordered without nar
 
 pub settled_of : (p : DesignProblem) (decisions : List CapDecision) (progress : Progress) → IsProgressOf p decisions progress →
     progress.floor ≡ greatest_cost p.low → progress.least ≤ progress.most →
-    IsNarrowed progress.floor progress.least progress.most progress.best → AreSettledCaps p decisions
+    AreCapsDone progress.floor progress.least progress.most progress.best → AreSettledCaps p decisions
 settled_of p decisions progress of floor ordered narrowed = record {
   first = of.first;
   settled = inr (

@@ -21,14 +21,14 @@ abbrev pub IsCapRefuted : List CapDecision → ℕ → Type 0
 IsCapRefuted decisions cap = (tree : List Entry) × Contains decisions (record { cap = cap; found = Refuted tree })
 
 -- costs of this greatest cost were found, or the budget was used up at this cap
-abbrev pub EndsAt : ℕ → ℕ → Found → Type 0
-EndsAt most cap (Costs w) = greatest_cost w ≡ most
-EndsAt most cap (Refuted tree) = ⊥
-EndsAt most cap (Undecided tree) = cap ≡ most
+abbrev pub StopsAtCap : ℕ → ℕ → Found → Type 0
+StopsAtCap most cap (Costs w) = greatest_cost w ≡ most
+StopsAtCap most cap (Refuted tree) = ⊥
+StopsAtCap most cap (Undecided tree) = cap ≡ most
 
 -- one of the searches ended there
 abbrev pub IsCapReached : List CapDecision → ℕ → Type 0
-IsCapReached decisions most = (d : CapDecision) × Contains decisions d × EndsAt most d.cap d.found
+IsCapReached decisions most = (d : CapDecision) × Contains decisions d × StopsAtCap most d.cap d.found
 
 -- No cap below is left to decide: the greatest lower bound isn't lower, or the cap below was refuted. Where no costs were
 -- found, the greatest lower bound itself isn't decided.

@@ -69,7 +69,7 @@ pub record IsProgressOf (p : DesignProblem) (decisions : List CapDecision) (prog
   pub without : AreWithoutCosts decisions progress.best
 
 -- no cap is left to decide; without costs the floor itself isn't one
-abbrev pub IsNarrowed : ℕ → ℕ → ℕ → Best → Type 0
-IsNarrowed floor least most (NoCosts t) = least < most → most ≤ floor + 1
-IsNarrowed floor least most (Costs w) = most ≤ least
-IsNarrowed floor least most (Between w t) = most ≤ least
+abbrev pub AreCapsDone : ℕ → ℕ → ℕ → Best → Type 0
+AreCapsDone floor least most (NoCosts t) = least < most → most ≤ floor + 1
+AreCapsDone floor least most (Costs w) = most ≤ least
+AreCapsDone floor least most (Between w t) = most ≤ least

@@ -6,7 +6,7 @@ ghost use Rattle.design_problem.specs.Answers.{greatest_bound};
 ghost use Rattle.printed_rows.specs.PrintedCosts.{ArePrintedCosts};
 ghost use Rattle.cost_branching.specs.Pools.{IsRowPool};
 ghost use Rattle.least_bound.specs.Answered.{IsDesignAnswer};
-ghost use Rattle.least_bound.specs.Caps.{IsKeptAt, IsTreeKeptBelow, IsProgress, IsNarrowed, IsRefuted, IsUndecidedAt, CostsFound};
+ghost use Rattle.least_bound.specs.Caps.{IsKeptAt, IsTreeKeptBelow, IsProgress, AreCapsDone, IsRefuted, IsUndecidedAt, CostsFound};
 ghost use Rattle.least_bound.specs.Printing.{ArePrintedIfAny, IsFloorFor};
 
 use crate::greatest::floor_of;
@@ -153,7 +153,7 @@ impl Progress {
     /// The answer once no cap is left.
     pub(crate) fn answer(self, problem: &Problem, pool: Pool) -> Result<Answer, OutOfMemory>
         requires pool { IsRowPool problem.now pool }
-        requires ended { IsNarrowed self.floor self.least self.most self.best }
+        requires ended { AreCapsDone self.floor self.least self.most self.best }
         requires progress { (top : ℕ) × (nodes : ℕ) × (nodes ≤ 10000000) ×
             IsProgress problem.now top nodes pool self }
         ensures { (top nodes : ℕ) → IsProgress problem.now top nodes pool self →

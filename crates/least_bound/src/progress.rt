@@ -5,7 +5,7 @@ ghost use Rattle.design_problem.specs.Rows.{greatest_cost};
 ghost use Rattle.cost_branching.specs.Pools.{Pooled, IsRowPool, MoreRows};
 ghost use Rattle.cost_branching.specs.Decisions.{IsDecided};
 ghost use Rattle.least_bound.specs.Asking.{CapDecision, IsCapReached, IsCeilingFirst};
-ghost use Rattle.least_bound.specs.Caps.{AreWithoutCosts, BestHolds, IsNarrowed, IsProgress, IsProgressOf, IsUndecidedAt};
+ghost use Rattle.least_bound.specs.Caps.{AreWithoutCosts, BestHolds, AreCapsDone, IsProgress, IsProgressOf, IsUndecidedAt};
 
 use cost_branching::Found;
 use design_problem::{CapTree, CostList, Problem, Tree, greatest_of};
@@ -110,7 +110,7 @@ impl Progress {
     pub(crate) fn next_cap(&self) -> Option<u16>
         requires { self.now.floor ≤ self.now.least }
         ensures within { IfSome result (λ cap. (self.now.least ≤ cap) × (cap < self.now.most)) }
-        ensures ended { result ≡ None → IsNarrowed self.now.floor self.now.least self.now.most
+        ensures ended { result ≡ None → AreCapsDone self.now.floor self.now.least self.now.most
             self.now.best }
     {
         match &self.best {

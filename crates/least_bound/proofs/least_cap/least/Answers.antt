@@ -10,7 +10,7 @@ use Rattle.form_search.proofs.AdvisorLaws.{left_then}
 use Rattle.cost_branching.proofs.Advising.{where_ok}
 use Rattle.cost_branching.specs.Decisions.{IsDecided, IsNoCosts}
 use Rattle.printed_rows.proofs.CapBoxes.{floor_below_ceiling, no_low_above}
-use Rattle.least_bound.specs.Asking.{AreSettledCaps, EndsAt}
+use Rattle.least_bound.specs.Asking.{AreSettledCaps, StopsAtCap}
 use Rattle.least_bound.proofs.CapLaws.{floor_lowest}
 use Rattle.least_bound.proofs.Settling.{ceiling_first, decision, first_reached, first_without, settled_at_once}
 use Rattle.least_bound.proofs.least_cap.least.Goals as goal
@@ -106,7 +106,7 @@ returns-in-Costs-clause-asked g c =
     let decided = c.in_ok-tree.ensures in
     let found = c.in_ok-tree.field-0 in
     let reached = first_reached ceiling c.greatest_of-most.result found
-    (subst (λ (f : Found). EndsAt c.greatest_of-most.result ceiling f) (sym c.in-Costs.is) (sym most_is)) in
+    (subst (λ (f : Found). StopsAtCap c.greatest_of-most.result ceiling f) (sym c.in-Costs.is) (sym most_is)) in
     let begun = c.start-progress.ensures.from (decision ceiling found ∷ []) (ceiling_first p ceiling found ceiling_is) reached tt in
     on_ok_weaker c.narrowed.result (λ rest. (
       decision ceiling found ∷ rest.0,
@@ -132,7 +132,7 @@ returns-in-Undecided-clause-asked g c =
     ∙ ap greatest_cost (c.as_slice.ensures ∙ ap (λ (q : DesignProblem). q.high) c.problem.view_is) in
     let decided = c.in_ok-tree.ensures in
     let found = c.in_ok-tree.field-0 in
-    let reached = first_reached ceiling ceiling found (subst (λ (f : Found). EndsAt ceiling ceiling f) (sym c.in-Undecided.is) refl) in
+    let reached = first_reached ceiling ceiling found (subst (λ (f : Found). StopsAtCap ceiling ceiling f) (sym c.in-Undecided.is) refl) in
     let without = first_without ceiling found (subst IsNoCosts (sym c.in-Undecided.is) tt) in
     let begun = c.start-progress-in-Undecided.ensures.from (decision ceiling found ∷ []) (ceiling_first p ceiling found ceiling_is) reached without in
     on_ok_weaker c.narrowed-in-Undecided.result (λ rest. (
