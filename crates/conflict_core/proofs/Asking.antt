@@ -1,7 +1,7 @@
--- Searches that decide sets of requests are searches.
-use Rattle.std.proofs.Common.{◌≡◌, ℕ, ◌<◌, ◌≤◌, subst, sym, List, [], ◌++◌, length, get_or, arith}
-use Rattle.std.specs.Prelude.{Contains}
-use Rattle.std.proofs.lemmas.List.Elements.{All-append, Contains-append_left, Contains-append_right}
+-- Searches that decide sets of requests are searches; and those by which a conflict is made smaller, in their order.
+use Rattle.std.proofs.Common.{◌≡◌, ℕ, ◌<◌, ◌≤◌, true, false, refl, sym, ◌∙◌, ap, subst, List, [], ◌∷◌, ◌++◌, append_assoc, length}
+use Rattle.std.specs.List.{remove}
+use Rattle.design_problem.specs.declared.form.Row.{Row}
 use Rattle.design_problem.specs.declared.tree.Entry.{Entry}
 use Rattle.design_problem.specs.Problems.{DesignProblem, restricted}
 use Rattle.design_problem.specs.Answers.{greatest_bound}
@@ -14,78 +14,72 @@ use Rattle.form_search.specs.declared.found.Found.{Found}
 use Rattle.form_search.specs.declared.found.Found.TheVariants as finds
 use Rattle.form_search.specs.Advised.{AreAdvisorsLeft, AreAllTold, AreCalledBySearch, IsPick, IsSearched, IsTreeOf}
 use Rattle.cost_branching.specs.Pools.{Pooled}
-use Rattle.cost_branching.specs.Decisions.{IsDecided, IsNoCosts}
+use Rattle.cost_branching.specs.Decisions.{IsDecided}
 use Rattle.cost_branching.specs.Advising.{AreAskedInTurn, IsAskedAt}
-use Rattle.cost_branching.proofs.Advising.{cap_searched, turns_left}
+use Rattle.cost_branching.proofs.Advising.{cap_searched, turns_left, turns_then}
+use Rattle.conflict_core.specs.declared.conflict.Conflict.{Conflict}
+use Rattle.conflict_core.specs.declared.conflict.Conflict.TheVariants as conflict
+use Rattle.conflict_core.specs.declared.deciding.SetTree.{SetTree}
 use Rattle.conflict_core.specs.declared.deciding.Decided.{Decided}
+use Rattle.conflict_core.specs.declared.deciding.Decided.TheVariants.{Costs, Refuted, Undecided}
 use Rattle.conflict_core.specs.declared.shrinking.Shrunk.{Shrunk}
 use Rattle.conflict_core.specs.declared.shrinking.Tried.{Tried}
-use Rattle.conflict_core.specs.Asking.{EndsSearch, IsAskedOfSet, SetDecision}
+use Rattle.conflict_core.specs.declared.telling.Told.{Told}
+use Rattle.conflict_core.specs.Asking.{AreSetsInOrder, IsAskedOfSet, IsCoreOfSet, IsPrintedOfSet, IsUndecidedOfSet, SetDecision, is_member_used}
+use Rattle.conflict_core.specs.Asking.AreSetsInOrder.{unused, needed, left_out, stuck, shown, unshown}
 use Rattle.conflict_core.specs.Conflicts.{IsRequestSet}
-use Rattle.conflict_core.specs.Deciding.{AreCostsFound, IsShrunk, IsTriedAsking, search_found}
+use Rattle.conflict_core.specs.Deciding.{AreBefore, AreShrinking, IsPoolOf, IsSetTreeTold, IsTriedBy, search_found}
+
+-- How a search of a set calls the advisors.
 
 -- a search that decides the greatest upper bound of a problem, which is that of a set of requests
 pub asked_of : {A : Type 0} (IsItself : A → A → Type 0) (state : A → List ℕ) (would : A → List ℕ → List Candidate → ℕ)
     (left : A → List ℕ → List Candidate → List ℕ) (after : A → List ℕ → Entry → List ℕ) (p q : DesignProblem) (set slice : List ℕ)
-    (top nodes cap : ℕ) (pool : Pooled) (found : Found) (tree : Growing) (old new : List A) → slice ≡ set → q ≡ restricted p slice →
-    cap ≡ greatest_bound q → IsRequestSet p set → IsDecided q top nodes cap pool found → IsTreeOf (IsLeastPoint (LeadsEach q)) tree found →
+    (top nodes cap : ℕ) (pool : Pooled) (found known : Found) (tree : Growing) (old new : List A) → slice ≡ set → q ≡ restricted p slice →
+    cap ≡ greatest_bound q → IsRequestSet p set → found ≡ known → IsDecided q top nodes cap pool found →
+    IsTreeOf (IsLeastPoint (LeadsEach q)) tree found →
     AreCalledBySearch (IsLeastPoint (LeadsEach q)) (IsPick IsItself state would left) (AreAllTold IsItself state after)
     (capped (box_of q) cap) tree old new →
-    IsAskedOfSet IsItself state would left after p top nodes (record { set = set; found = found }) old new
-asked_of IsItself state would left after p q set slice top nodes cap pool found tree old new same is cap_is are decided is_tree calls =
-    let At : DesignProblem → ℕ → Type 0 = λ r k. IsAskedAt IsItself state would left after r top nodes k found old new in
-    let here : At q cap = record { pool = pool; decided = decided; tree = tree; is_tree = is_tree; calls = calls } in
-    let at_bound : At q (greatest_bound q) = subst (λ (k : ℕ). At q k) cap_is here in
-    let of_slice : At (restricted p slice) (greatest_bound p) = subst (λ (r : DesignProblem). At r (greatest_bound r)) is at_bound in
-    (are, subst (λ (ms : List ℕ). At (restricted p ms) (greatest_bound p)) same of_slice)
+    IsAskedOfSet IsItself state would left after p top nodes (record { set = set; pool = pool; found = known }) old new
+asked_of IsItself state would left after p q set slice top nodes cap pool found known tree old new same is cap_is are found_is decided is_tree calls =
+    let At : DesignProblem → ℕ → Found → Type 0 = λ r k f. IsAskedAt IsItself state would left after r top nodes k pool f old new in
+    let here : At q cap found = record { decided = decided; tree = tree; is_tree = is_tree; calls = calls } in
+    let at_bound : At q (greatest_bound q) known = subst (λ (f : Found). At q (greatest_bound q) f) found_is (subst (λ (k : ℕ). At q k found) cap_is here) in
+    let of_slice : At (restricted p slice) (greatest_bound p) known = subst (λ (r : DesignProblem). At r (greatest_bound r) known) is at_bound in
+    (are, subst (λ (ms : List ℕ). At (restricted p ms) (greatest_bound p) known) same of_slice)
 
--- what a set came to is what the search found
+-- the search that decided a set: by the pool of its tree, where one was found
+abbrev pub decision_of : List ℕ → Pooled → Decided → SetDecision
+decision_of set pool (Costs w) = record { set = set; pool = pool; found = finds.Costs w }
+decision_of set pool (Refuted t) = record { set = set; pool = t.pool; found = finds.Refuted t.tree }
+decision_of set pool (Undecided t) = record { set = set; pool = t.pool; found = finds.Undecided t.tree }
+
+-- what holds of it by a pool holds by that of its tree
+own_pool : (Holds : SetDecision → Type 0) (set : List ℕ) (pool : Pooled) (decided : Decided) → IsPoolOf decided pool →
+    Holds (record { set = set; pool = pool; found = search_found decided }) → Holds (decision_of set pool decided)
+own_pool Holds set pool (Costs w) is holds = holds
+own_pool Holds set pool (Refuted t) is holds = subst (λ (q : Pooled). Holds (record { set = set; pool = q; found = finds.Refuted t.tree })) is holds
+own_pool Holds set pool (Undecided t) is holds = subst (λ (q : Pooled). Holds (record { set = set; pool = q; found = finds.Undecided t.tree })) is holds
+
+-- how a set was decided, by another name of the set and by what is known of it
 pub asked_as : {A : Type 0} (IsItself : A → A → Type 0) (state : A → List ℕ) (would : A → List ℕ → List Candidate → ℕ)
-    (left : A → List ℕ → List Candidate → List ℕ) (after : A → List ℕ → Entry → List ℕ) (p : DesignProblem) (top nodes : ℕ) (set : List ℕ)
-    (decided known : Decided) (old new : List A) → decided ≡ known →
-    IsAskedOfSet IsItself state would left after p top nodes (record { set = set; found = search_found decided }) old new →
-    IsAskedOfSet IsItself state would left after p top nodes (record { set = set; found = search_found known }) old new
-asked_as IsItself state would left after p top nodes set decided known old new is asked =
-    (asked.0, subst (λ (d : Decided). IsAskedAt IsItself state would left after (restricted p set) top nodes (greatest_bound p) (search_found d) old new) is asked.1)
-
--- a set by another name
-pub asked_same : {A : Type 0} (IsItself : A → A → Type 0) (state : A → List ℕ) (would : A → List ℕ → List Candidate → ℕ)
     (left : A → List ℕ → List Candidate → List ℕ) (after : A → List ℕ → Entry → List ℕ) (p : DesignProblem) (top nodes : ℕ) (set same : List ℕ)
-    (found : Found) (old new : List A) → set ≡ same →
-    IsAskedOfSet IsItself state would left after p top nodes (record { set = set; found = found }) old new →
-    IsAskedOfSet IsItself state would left after p top nodes (record { set = same; found = found }) old new
-asked_same IsItself state would left after p top nodes set same found old new is asked = (
-  subst (IsRequestSet p) is asked.0,
-  subst (λ (ms : List ℕ). IsAskedAt IsItself state would left after (restricted p ms) top nodes (greatest_bound p) found old new) is asked.1,
-)
+    (decided known : Decided) (old new : List A) → set ≡ same → decided ≡ known →
+    ((pool : Pooled) × IsPoolOf decided pool
+    × IsAskedOfSet IsItself state would left after p top nodes (record { set = set; pool = pool; found = search_found decided }) old new) →
+    (pool : Pooled) × IsAskedOfSet IsItself state would left after p top nodes (decision_of same pool known) old new
+asked_as IsItself state would left after p top nodes set same decided known old new set_is is asked =
+    let Asked : List ℕ → Decided → Type 0 = λ s d. (pool : Pooled) × IsPoolOf d pool
+    × IsAskedOfSet IsItself state would left after p top nodes (record { set = s; pool = pool; found = search_found d }) old new in
+    let here : Asked same known = subst (λ (s : List ℕ). Asked s known) set_is (subst (λ (d : Decided). Asked set d) is asked) in
+    (here.0, own_pool (λ d. IsAskedOfSet IsItself state would left after p top nodes d old new) same here.0 known here.1 here.2)
 
--- what was called while a member was left out, by what came of it
-pub tried_as : {A : Type 0} (IsItself : A → A → Type 0) (state : A → List ℕ) (would : A → List ℕ → List Candidate → ℕ)
-    (left : A → List ℕ → List Candidate → List ℕ) (after : A → List ℕ → Entry → List ℕ) (p : DesignProblem) (top nodes : ℕ)
-    (shrunk : Shrunk) (tried known : Tried) (old new : List A) → tried ≡ known →
-    IsTriedAsking IsItself state would left after p top nodes shrunk tried old new →
-    IsTriedAsking IsItself state would left after p top nodes shrunk known old new
-tried_as IsItself state would left after p top nodes shrunk tried known old new is asked =
-    subst (λ (t : Tried). IsTriedAsking IsItself state would left after p top nodes shrunk t old new) is asked
-
--- costs that more searches found
-pub costs_more : (ds es : List SetDecision) (lists more all : List (List ℕ)) → AreCostsFound ds lists → AreCostsFound es more →
-    all ≡ lists ++ more → AreCostsFound (ds ++ es) all
-costs_more ds es lists more all first rest same =
-    subst (AreCostsFound (ds ++ es)) (sym same)
-    (All-append (λ w. (set : List ℕ) × Contains (ds ++ es) (record { set = set; found = finds.Costs w })) lists more
-    (λ k d k_in. let has = first k d k_in in (has.0, Contains-append_left ds es (record { set = has.0; found = finds.Costs (get_or lists k d) }) has.1))
-    (λ k d k_in. let has = rest k d k_in in (has.0, Contains-append_right ds es (record { set = has.0; found = finds.Costs (get_or more k d) }) has.1)))
-
--- a search that finds no costs ends the search where others found costs without each member
-pub ends_search : (p : DesignProblem) (before : List SetDecision) (s : Shrunk) (found : Found) → IsShrunk p s →
-    length s.members ≤ length s.without.items → AreCostsFound before s.without.items → IsNoCosts found → EndsSearch p before s.members found
-ends_search p before s (finds.Costs w) was ended costs none = none
-ends_search p before s (finds.Refuted tree) was ended costs none = λ k k_in.
-    let within : k < length s.without.items = omega (arith, ended, k_in) in
-    let has = costs k [] within in
-    (has.0, get_or s.without.items k [], has.1, was.fits k within)
-ends_search p before s (finds.Undecided tree) was ended costs none = tt
+-- the searches by which a member was left out, by what is known of it
+pub tried_as : {A : Type 0} (IsAskedFor : SetDecision → List A → List A → Type 0) (shrunk : Shrunk) (tried known : Tried) (old new : List A) →
+    tried ≡ known → ((ds : List SetDecision) × IsTriedBy shrunk tried ds × AreAskedInTurn IsAskedFor ds old new) →
+    (ds : List SetDecision) × IsTriedBy shrunk known ds × AreAskedInTurn IsAskedFor ds old new
+tried_as IsAskedFor shrunk tried known old new is asked =
+    (asked.0, subst (λ (t : Tried). IsTriedBy shrunk t asked.0) is asked.1, asked.2)
 
 -- the advisors that they leave are those that some searches leave
 pub called_of_sets : {A : Type 0} (IsItself : A → A → Type 0) (state : A → List ℕ) (would : A → List ℕ → List Candidate → ℕ)
@@ -95,4 +89,117 @@ pub called_of_sets : {A : Type 0} (IsItself : A → A → Type 0) (state : A →
     AreAdvisorsLeft (IsSearched IsItself state would left after) old new
 called_of_sets IsItself state would left after p top nodes decisions old new are =
     turns_left (IsAskedOfSet IsItself state would left after p top nodes) (IsSearched IsItself state would left after) decisions old new
-    (λ d xs ys asked. cap_searched IsItself state would left after (restricted p d.set) top nodes (greatest_bound p) d.found xs ys asked.1) are
+    (λ d xs ys asked. cap_searched IsItself state would left after (restricted p d.set) top nodes (greatest_bound p) d.pool d.found xs ys asked.1) are
+
+-- What is printed of a set's tree.
+
+-- what is told, by another name of the set
+pub printed_as : (p : DesignProblem) (top nodes : ℕ) (t : SetTree) (told : Told) (set : List ℕ) → IsSetTreeTold p top nodes t told →
+    t.members.items ≡ set → IsPrintedOfSet set t.pool t.tree told.rows told.tree
+printed_as p top nodes t told set is same =
+    subst (λ (ms : List ℕ). IsPrintedOfSet ms t.pool t.tree told.rows told.tree) (is.members ∙ same) is.printed
+
+-- what is told where the budget was used up
+pub told_undecided : (p : DesignProblem) (top nodes : ℕ) (t : SetTree) (told : Told) → IsSetTreeTold p top nodes t told →
+    IsUndecidedOfSet t.members.items t.pool t.tree (conflict.Undecided told.members told.rows told.tree)
+told_undecided p top nodes t told is = (
+  told.rows,
+  told.tree,
+  printed_as p top nodes t told t.members.items is refl,
+  ap (λ (ms : List ℕ). conflict.Undecided ms told.rows told.tree) is.members,
+)
+
+-- what is told of a core
+pub told_core : (p : DesignProblem) (top nodes : ℕ) (t : SetTree) (told : Told) (without lists : List (List ℕ)) → IsSetTreeTold p top nodes t told →
+    lists ≡ without → IsCoreOfSet t.members.items t.pool t.tree without (conflict.Core told.members told.rows told.tree lists)
+told_core p top nodes t told without lists is same = (
+  told.rows,
+  told.tree,
+  printed_as p top nodes t told t.members.items is refl,
+  ap (λ (ms : List ℕ). conflict.Core ms told.rows told.tree lists) is.members
+      ∙ ap (λ (ws : List (List ℕ)). conflict.Core t.members.items told.rows told.tree ws) same,
+)
+
+-- Searches by which a conflict is made smaller.
+
+-- those of a set, rows and costs by other names
+in_order_as : (set other : List ℕ) (rows others : List Row) (without lists : List (List ℕ)) (ds : List SetDecision) (c : Conflict) →
+    set ≡ other → rows ≡ others → without ≡ lists → AreSetsInOrder set rows without ds c → AreSetsInOrder other others lists ds c
+in_order_as set other rows others without lists ds c set_is rows_are lists_are order =
+    subst (λ (ms : List ℕ). AreSetsInOrder ms others lists ds c) set_is
+    (subst (λ (rs : List Row). AreSetsInOrder set rs lists ds c) rows_are
+    (subst (λ (ws : List (List ℕ)). AreSetsInOrder set rows ws ds c) lists_are order))
+
+-- the next member is of no row, and stays out
+pub unused_before : (old new : Shrunk) → length old.without.items < length old.members →
+    is_member_used old.rows old.members (length old.without.items) ≡ false →
+    new.members ≡ remove old.members (length old.without.items) → new.rows ≡ old.rows → new.without.items ≡ old.without.items → AreBefore old new []
+unused_before old new within none rest rows_are same = λ more c order.
+    unused old.members old.rows old.without.items more c within none
+    (in_order_as new.members (remove old.members (length old.without.items)) new.rows old.rows new.without.items old.without.items more c rest rows_are same order)
+
+-- costs were found without it, so it stays
+pub needed_before : (old new : Shrunk) (pool : Pooled) (w : List ℕ) → length old.without.items < length old.members →
+    is_member_used old.rows old.members (length old.without.items) ≡ true →
+    new.members ≡ old.members → new.rows ≡ old.rows → new.without.items ≡ old.without.items ++ w ∷ [] →
+    AreBefore old new (record { set = remove old.members (length old.without.items); pool = pool; found = finds.Costs w } ∷ [])
+needed_before old new pool w within used same_set rows_are pushed = λ more c order.
+    needed old.members old.rows old.without.items pool w more c within used
+    (in_order_as new.members old.members new.rows old.rows new.without.items (old.without.items ++ w ∷ []) more c same_set rows_are pushed order)
+
+-- the others were refuted, so it stays out
+pub refuted_before : (p : DesignProblem) (top nodes : ℕ) (t : SetTree) (told : Told) (old new : Shrunk) → length old.without.items < length old.members →
+    is_member_used old.rows old.members (length old.without.items) ≡ true → t.members.items ≡ remove old.members (length old.without.items) →
+    IsSetTreeTold p top nodes t told → new.members ≡ told.members → new.rows ≡ told.rows → new.without.items ≡ old.without.items →
+    AreBefore old new (record { set = remove old.members (length old.without.items); pool = t.pool; found = finds.Refuted t.tree } ∷ [])
+refuted_before p top nodes t told old new within used rest is members_are rows_are same = λ more c order.
+    let others = remove old.members (length old.without.items) in
+    left_out old.members old.rows old.without.items t.pool t.tree told.rows told.tree more c within used
+    (printed_as p top nodes t told others is rest)
+    (in_order_as new.members others new.rows told.rows new.without.items old.without.items more c (members_are ∙ is.members ∙ rest) rows_are same order)
+
+-- the budget was used up at the others
+pub stuck_there : (old : Shrunk) (t : SetTree) → length old.without.items < length old.members →
+    is_member_used old.rows old.members (length old.without.items) ≡ true → t.members.items ≡ remove old.members (length old.without.items) →
+    (c : Conflict) → IsUndecidedOfSet t.members.items t.pool t.tree c →
+    AreShrinking old (record { set = remove old.members (length old.without.items); pool = t.pool; found = finds.Undecided t.tree } ∷ []) c
+stuck_there old t within used rest c found =
+    stuck old.members old.rows old.without.items t.pool t.tree c within used
+    (subst (λ (ms : List ℕ). IsUndecidedOfSet ms t.pool t.tree c) rest found)
+
+-- no member is left to try, and the set was refuted for its own tree
+pub shown_there : (s : Shrunk) (t : SetTree) → length s.members ≤ length s.without.items → t.members.items ≡ s.members →
+    (c : Conflict) → IsCoreOfSet t.members.items t.pool t.tree s.without.items c →
+    AreShrinking s (record { set = s.members; pool = t.pool; found = finds.Refuted t.tree } ∷ []) c
+shown_there s t ended same c found =
+    shown s.members s.rows s.without.items t.pool t.tree c ended
+    (subst (λ (ms : List ℕ). IsCoreOfSet ms t.pool t.tree s.without.items c) same found)
+
+-- no member is left to try, and the budget was used up at the set
+pub unshown_there : (s : Shrunk) (t : SetTree) → length s.members ≤ length s.without.items → t.members.items ≡ s.members →
+    (c : Conflict) → IsUndecidedOfSet t.members.items t.pool t.tree c →
+    AreShrinking s (record { set = s.members; pool = t.pool; found = finds.Undecided t.tree } ∷ []) c
+unshown_there s t ended same c found =
+    unshown s.members s.rows s.without.items t.pool t.tree c ended
+    (subst (λ (ms : List ℕ). IsUndecidedOfSet ms t.pool t.tree c) same found)
+
+-- those so far, and then those of one member more
+pub before_then : (begun old new : Shrunk) (ds es : List SetDecision) → AreBefore begun old ds → AreBefore old new es → AreBefore begun new (ds ++ es)
+before_then begun old new ds es first next = λ more c order.
+    subst (λ (all : List SetDecision). AreShrinking begun all c) (sym (append_assoc ds es more)) (first (es ++ more) c (next more c order))
+
+-- the searches since a set's tree was told: those so far, and then others
+pub asked_since : {A : Type 0} (IsAskedFor : SetDecision → List A → List A → Type 0) (p : DesignProblem) (top nodes : ℕ)
+    (t : SetTree) (told : Told) (begun s : Shrunk) (ds : List SetDecision) (old mid new : List A) (c : Conflict) →
+    IsSetTreeTold p top nodes t told → begun.members ≡ told.members → begun.rows ≡ told.rows → begun.without.items ≡ [] → AreBefore begun s ds →
+    AreAskedInTurn IsAskedFor ds old mid → ((es : List SetDecision) × AreShrinking s es c × AreAskedInTurn IsAskedFor es mid new) →
+    (rows : List Row) × (printed : List Entry) × IsPrintedOfSet t.members.items t.pool t.tree rows printed
+    × ((all : List SetDecision) × AreSetsInOrder t.members.items rows [] all c × AreAskedInTurn IsAskedFor all old new)
+asked_since IsAskedFor p top nodes t told begun s ds old mid new c is members_are rows_are none before first next =
+    let order = in_order_as begun.members t.members.items begun.rows told.rows begun.without.items [] (ds ++ next.0) c
+    (members_are ∙ is.members) rows_are none (before next.0 c next.1) in (
+      told.rows,
+      told.tree,
+      printed_as p top nodes t told t.members.items is refl,
+      (ds ++ next.0, order, turns_then IsAskedFor ds next.0 old mid new first next.2),
+    )

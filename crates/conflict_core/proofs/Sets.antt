@@ -27,8 +27,8 @@ use Rattle.design_problem.proofs.ProblemTrees.{low_below, tree_leaves_none}
 use Rattle.design_problem.proofs.RestrictedProblems.{restricted_kept}
 use Rattle.cost_branching.specs.Pools.{Differ}
 use Rattle.conflict_core.specs.declared.deciding.SetTree.{SetTree}
-use Rattle.conflict_core.specs.Conflicts.{IsConflict, IsRequestSet, all_requests}
-use Rattle.conflict_core.specs.Deciding.{AreConflictRows, IsRefutedSet, whole_row}
+use Rattle.conflict_core.specs.Conflicts.{IsConflict, IsRequestSet, all_requests, whole_row}
+use Rattle.conflict_core.specs.Deciding.{AreConflictRows, IsRefutedSet}
 
 -- Lists without one of their members.
 

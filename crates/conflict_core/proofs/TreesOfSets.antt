@@ -21,8 +21,9 @@ use Rattle.printed_rows.proofs.SheetLaws.{copy_sheet}
 use Rattle.cost_branching.specs.Pools.{Differ}
 use Rattle.conflict_core.specs.declared.deciding.SetTree.{SetTree}
 use Rattle.conflict_core.specs.declared.telling.Told.{Told}
-use Rattle.conflict_core.specs.Conflicts.{IsTreeOfSet}
-use Rattle.conflict_core.specs.Deciding.{IsSetTree, IsSetTreeTold, whole_row}
+use Rattle.conflict_core.specs.Asking.{IsPrintedOfSet}
+use Rattle.conflict_core.specs.Conflicts.{IsTreeOfSet, whole_row}
+use Rattle.conflict_core.specs.Deciding.{IsSetTree, IsSetTreeTold}
 use Rattle.conflict_core.proofs.Sets.{row_known, whole_differ, whole_form, whole_forms, whole_is_row}
 
 -- the tree over the forms of the whole problem's rows
@@ -96,4 +97,5 @@ told_of_set p top nodes t old told is same printed same_members =
       closed = λ closed. copy_closed named whole told.rows t.tree told.tree copy closed;
       undone = λ undone. subst (λ (es : List Entry). Contains es Undone) (sym copy.copied) (undone_kept (new_number named) t.tree undone);
       counted = ap entry_count copy.copied ∙ count_kept (new_number named) t.tree;
+      printed = subst (λ (ms : List ℕ). IsPrintedOfSet ms t.pool t.tree told.rows told.tree) (sym same_members) sheet;
     }

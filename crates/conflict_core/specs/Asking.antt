@@ -1,58 +1,98 @@
--- How the searches that decide sets of requests call the advisors.
-use Rattle.std.specs.Prelude.{◌≡◌, ℕ, ◌<◌, List, [], ◌∷◌, ◌++◌, length, Contains}
-use Rattle.std.specs.List.{remove}
+-- How the searches that decide sets of requests call the advisors: which sets are decided, in order, and what is found by them.
+use Rattle.std.specs.Prelude.{◌≡◌, ℕ, ◌<◌, ◌≤◌, ◌==◌, List, [], ◌∷◌, ◌++◌, map, length, slice_index, Bool, true, false}
+use Rattle.std.specs.List.{list_any, remove}
+use Rattle.design_problem.specs.declared.form.Row.{Row}
 use Rattle.design_problem.specs.declared.tree.Entry.{Entry}
 use Rattle.design_problem.specs.Problems.{DesignProblem, restricted}
 use Rattle.design_problem.specs.Answers.{greatest_bound}
-use Rattle.design_problem.specs.Rows.{IsFit}
 use Rattle.cut_advisors.specs.declared.advisor.Advisor.{Ghosts}
 use Rattle.cut_advisors.specs.declared.candidate.Candidate.{Candidate}
 use Rattle.form_search.specs.declared.found.Found.{Found}
 use Rattle.form_search.specs.declared.found.Found.TheVariants.{Costs, Refuted, Undecided}
+use Rattle.printed_rows.specs.NewNumbers.{IsTreePrinted}
+use Rattle.cost_branching.specs.Pools.{Pooled}
 use Rattle.cost_branching.specs.Advising.{AreAskedInTurn, IsAskedAt}
-use Rattle.conflict_core.specs.Conflicts.{IsRequestSet, all_requests}
+use Rattle.conflict_core.specs.declared.conflict.Conflict.{Conflict}
+use Rattle.conflict_core.specs.declared.conflict.Conflict.TheVariants as conflict
+use Rattle.conflict_core.specs.Conflicts.{IsRequestSet, all_requests, whole_row}
 
--- a set of requests, and what a search found of it
+-- a set of requests, and what a search found of the problem of these requests alone, by the rows of a pool
 pub record SetDecision : Type 0 where
   pub set : List ℕ
+  pub pool : Pooled
   pub found : Found
 
 -- a search that decided the greatest upper bound of the problem of these requests alone called them
 abbrev pub IsAskedOfSet : {A : Type 0} → (A → A → Type 0) → (A → List ℕ) → (A → List ℕ → List Candidate → ℕ) →
     (A → List ℕ → List Candidate → List ℕ) → (A → List ℕ → Entry → List ℕ) → DesignProblem → ℕ → ℕ → SetDecision → List A → List A → Type 0
 IsAskedOfSet IsItself state would left after p top nodes d old new =
-    IsRequestSet p d.set × IsAskedAt IsItself state would left after (restricted p d.set) top nodes (greatest_bound p) d.found old new
+    IsRequestSet p d.set × IsAskedAt IsItself state would left after (restricted p d.set) top nodes (greatest_bound p) d.pool d.found old new
 
--- one of the searches found costs that are fit without the member at this place
-abbrev pub IsFoundWithout : DesignProblem → List SetDecision → List ℕ → ℕ → Type 0
-IsFoundWithout p decisions set k =
-    (other : List ℕ) × (w : List ℕ) × Contains decisions (record { set = other; found = Costs w }) × IsFit (restricted p (remove set k)) w
+-- What is printed of a tree that a search of the set found: the rows that the tree names, with the whole problem's numbers of
+-- requests, and the tree with the new numbers of these rows.
+abbrev pub IsPrintedOfSet : List ℕ → Pooled → List Entry → List Row → List Entry → Type 0
+IsPrintedOfSet set pool tree rows printed = IsTreePrinted (map (whole_row set) pool.rows) tree rows printed
 
--- a search of this set may be the last one: it used up the budget, or refuted the set, and others found costs without each member
-abbrev pub EndsSearch : DesignProblem → List SetDecision → List ℕ → Found → Type 0
-EndsSearch p before set (Costs w) = ⊥
-EndsSearch p before set (Refuted tree) = (k : ℕ) → k < length set → IsFoundWithout p before set k
-EndsSearch p before set (Undecided tree) = Unit {0}
+-- what is found where a search of the set used up the budget: this set, and what is printed of its tree
+abbrev pub IsUndecidedOfSet : List ℕ → Pooled → List Entry → Conflict → Type 0
+IsUndecidedOfSet set pool tree c =
+    (rows : List Row) × (printed : List Entry) × IsPrintedOfSet set pool tree rows printed × (c ≡ conflict.Undecided set rows printed)
 
--- some searches, and one that ends the search
-abbrev pub AreEndedSets : DesignProblem → List SetDecision → Type 0
-AreEndedSets p decisions =
-    (before : List SetDecision) × (last : SetDecision) × (decisions ≡ before ++ last ∷ []) × EndsSearch p before last.set last.found
+-- what is found where a search refuted the set, and for each member there are costs without it
+abbrev pub IsCoreOfSet : List ℕ → Pooled → List Entry → List (List ℕ) → Conflict → Type 0
+IsCoreOfSet set pool tree without c =
+    (rows : List Row) × (printed : List Entry) × IsPrintedOfSet set pool tree rows printed × (c ≡ conflict.Core set rows printed without)
 
--- the searches behind that of all requests, by what it found: none but where it refuted them
-abbrev pub AreSetsBehind : DesignProblem → Found → List SetDecision → Type 0
-AreSetsBehind p (Costs w) behind = behind ≡ []
-AreSetsBehind p (Refuted tree) behind = AreEndedSets p behind
-AreSetsBehind p (Undecided tree) behind = behind ≡ []
+-- whether one of the rows is of the set's member at this place
+abbrev pub is_member_used : List Row → List ℕ → ℕ → Bool
+is_member_used rows set place = list_any (λ row. row.request == slice_index set place) rows
 
--- the searches, in order: that of all requests, and where it refuted them, others behind it
-abbrev pub AreSettledSets : DesignProblem → List SetDecision → Type 0
-AreSettledSets p [] = ⊥
-AreSettledSets p (first ∷ behind) = (first.set ≡ all_requests p) × AreSetsBehind p first.found behind
+-- How a conflict is made smaller: by the set, the rows of the tree that refuted it, and the costs that were found without each
+-- of its first members. The next member stays out without a search where no row is of it. Else the set without it is
+-- searched: where costs are found, it stays; where the others are refuted, it stays out, and the rows are those of that
+-- tree. At last the set is searched once more, for its own tree. A search that used up the budget is the last.
+pub data AreSetsInOrder : List ℕ → List Row → List (List ℕ) → List SetDecision → Conflict → Type 0 where
+  unused : (set : List ℕ) → (rows : List Row) → (without : List (List ℕ)) → (ds : List SetDecision) → (c : Conflict) →
+      length without < length set → is_member_used rows set (length without) ≡ false →
+      AreSetsInOrder (remove set (length without)) rows without ds c → AreSetsInOrder set rows without ds c
+  needed : (set : List ℕ) → (rows : List Row) → (without : List (List ℕ)) → (pool : Pooled) → (w : List ℕ) → (ds : List SetDecision) → (c : Conflict) →
+      length without < length set → is_member_used rows set (length without) ≡ true →
+      AreSetsInOrder set rows (without ++ w ∷ []) ds c →
+      AreSetsInOrder set rows without (record { set = remove set (length without); pool = pool; found = Costs w } ∷ ds) c
+  left_out : (set : List ℕ) → (rows : List Row) → (without : List (List ℕ)) → (pool : Pooled) → (tree : List Entry) →
+      (new_rows : List Row) → (printed : List Entry) → (ds : List SetDecision) → (c : Conflict) →
+      length without < length set → is_member_used rows set (length without) ≡ true →
+      IsPrintedOfSet (remove set (length without)) pool tree new_rows printed →
+      AreSetsInOrder (remove set (length without)) new_rows without ds c →
+      AreSetsInOrder set rows without (record { set = remove set (length without); pool = pool; found = Refuted tree } ∷ ds) c
+  stuck : (set : List ℕ) → (rows : List Row) → (without : List (List ℕ)) → (pool : Pooled) → (tree : List Entry) → (c : Conflict) →
+      length without < length set → is_member_used rows set (length without) ≡ true →
+      IsUndecidedOfSet (remove set (length without)) pool tree c →
+      AreSetsInOrder set rows without (record { set = remove set (length without); pool = pool; found = Undecided tree } ∷ []) c
+  shown : (set : List ℕ) → (rows : List Row) → (without : List (List ℕ)) → (pool : Pooled) → (tree : List Entry) → (c : Conflict) →
+      length set ≤ length without → IsCoreOfSet set pool tree without c →
+      AreSetsInOrder set rows without (record { set = set; pool = pool; found = Refuted tree } ∷ []) c
+  unshown : (set : List ℕ) → (rows : List Row) → (without : List (List ℕ)) → (pool : Pooled) → (tree : List Entry) → (c : Conflict) →
+      length set ≤ length without → IsUndecidedOfSet set pool tree c →
+      AreSetsInOrder set rows without (record { set = set; pool = pool; found = Undecided tree } ∷ []) c
 
--- one search after another called them: that of all requests, and where it refuted them, others of sets of requests
-abbrev pub AreAskedOfSets : {A V : Type 0} {X : V → Type 0} → ((rules : V) → Ghosts (X rules)) → (A → V) → (A → List ℕ) →
-    DesignProblem → ℕ → ℕ → List A → List A → Type 0
-AreAskedOfSets members rules state p top nodes old new = (decisions : List SetDecision) × AreSettledSets p decisions
+-- The searches behind that of all requests, by what it found: where it found costs or used up the budget, none, and that is
+-- the answer; where it refuted them, those by which they are made smaller.
+abbrev pub AreSetsBehind : List ℕ → Pooled → Found → List SetDecision → Conflict → Type 0
+AreSetsBehind all pool (Costs w) behind c = (behind ≡ []) × (c ≡ conflict.Fits w)
+AreSetsBehind all pool (Refuted tree) behind c =
+    (rows : List Row) × (printed : List Entry) × IsPrintedOfSet all pool tree rows printed × AreSetsInOrder all rows [] behind c
+AreSetsBehind all pool (Undecided tree) behind c = (behind ≡ []) × IsUndecidedOfSet all pool tree c
+
+-- the searches, in order, and what is found by them: that of all requests, and where it refuted them, others behind it
+abbrev pub AreSettledSets : DesignProblem → List SetDecision → Conflict → Type 0
+AreSettledSets p [] c = ⊥
+AreSettledSets p (first ∷ behind) c = (first.set ≡ all_requests p) × AreSetsBehind first.set first.pool first.found behind c
+
+-- one search after another called them, by which this was found: that of all requests, and where it refuted them, others of
+-- sets of requests
+abbrev pub AreAskedFinding : {A V : Type 0} {X : V → Type 0} → ((rules : V) → Ghosts (X rules)) → (A → V) → (A → List ℕ) →
+    DesignProblem → ℕ → ℕ → List A → List A → Conflict → Type 0
+AreAskedFinding members rules state p top nodes old new c = (decisions : List SetDecision) × AreSettledSets p decisions c
     × AreAskedInTurn (IsAskedOfSet (λ b c. rules c ≡ rules b) state (λ b. (members (rules b)).would) (λ b. (members (rules b)).left)
     (λ b. (members (rules b)).after) p top nodes) decisions old new

@@ -1,5 +1,5 @@
 -- Conflicts among requests, and what is found of them.
-use Rattle.std.specs.Prelude.{◌≡◌, ◌⊎◌, ℕ, ◌^◌, ◌<◌, List, [], length, slice_index_or, All, Contains}
+use Rattle.std.specs.Prelude.{◌≡◌, ◌⊎◌, ℕ, ◌^◌, ◌<◌, List, [], length, slice_index, slice_index_or, All, Contains}
 use Rattle.std.specs.List.{remove}
 use Rattle.std.specs.List.Sorted.{IsStrictlyIncreasing}
 use Rattle.cost_base.specs.Lists.{numbers_from}
@@ -27,6 +27,10 @@ pub record IsRequestSet (p : DesignProblem) (members : List ℕ) : Type 0 where
 -- the numbers of all requests
 abbrev pub all_requests : DesignProblem → List ℕ
 all_requests p = numbers_from 0 (length p.paths)
+
+-- the row of a problem of some requests alone, with its request's number in the whole problem
+abbrev pub whole_row : List ℕ → Row → Row
+whole_row members row = record { request = slice_index members row.request; rival = row.rival }
 
 -- a conflict: no costs are fit for these requests alone
 abbrev pub IsConflict : DesignProblem → List ℕ → Type 0

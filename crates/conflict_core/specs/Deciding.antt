@@ -1,5 +1,5 @@
 -- What is decided of one set of requests, and of one after the other. No public clause cites it.
-use Rattle.std.specs.Prelude.{◌≡◌, ◌⊎◌, ℕ, ◌+◌, ◌<◌, ◌≤◌, List, [], ◌++◌, length, slice_index, slice_index_or, All, Contains}
+use Rattle.std.specs.Prelude.{◌≡◌, ◌⊎◌, ℕ, ◌+◌, ◌<◌, ◌≤◌, List, [], ◌++◌, length, slice_index_or, All, Contains}
 use Rattle.std.specs.List.{remove}
 use Rattle.design_problem.specs.declared.form.Row.{Row}
 use Rattle.design_problem.specs.declared.tree.Entry.{Entry}
@@ -9,12 +9,11 @@ use Rattle.design_problem.specs.Rows.{IsFit}
 use Rattle.design_problem.specs.Trees.{IsClosed, entry_count}
 use Rattle.design_problem.specs.Answers.{greatest_bound}
 use Rattle.cut_advisors.specs.declared.advisor.Advisor.{Ghosts}
-use Rattle.cut_advisors.specs.declared.candidate.Candidate.{Candidate}
 use Rattle.form_search.specs.declared.found.Found.{Found}
 use Rattle.form_search.specs.declared.found.Found.TheVariants as finds
 use Rattle.cost_branching.specs.Advising.{AreAskedInTurn}
-use Rattle.cost_branching.specs.Pools.{IsRowPool}
-use Rattle.cost_branching.specs.Decisions.{IsNoCosts, IsTreeAt}
+use Rattle.cost_branching.specs.Pools.{IsRowPool, Pooled}
+use Rattle.cost_branching.specs.Decisions.{IsTreeAt}
 use Rattle.conflict_core.specs.declared.deciding.SetTree.{SetTree}
 use Rattle.conflict_core.specs.declared.deciding.Decided.{Decided}
 use Rattle.conflict_core.specs.declared.deciding.Decided.TheVariants.{Costs, Refuted, Undecided}
@@ -22,7 +21,8 @@ use Rattle.conflict_core.specs.declared.shrinking.Shrunk.{Shrunk}
 use Rattle.conflict_core.specs.declared.shrinking.Tried.{Tried}
 use Rattle.conflict_core.specs.declared.shrinking.Tried.TheVariants.{On, Stuck}
 use Rattle.conflict_core.specs.declared.telling.Told.{Told}
-use Rattle.conflict_core.specs.Asking.{AreEndedSets, IsAskedOfSet, SetDecision}
+use Rattle.conflict_core.specs.declared.conflict.Conflict.{Conflict}
+use Rattle.conflict_core.specs.Asking.{AreSetsInOrder, IsAskedOfSet, IsPrintedOfSet, IsUndecidedOfSet, SetDecision}
 use Rattle.conflict_core.specs.Conflicts.{IsConflict, IsConflictLessOne, IsRequestSet, IsTreeOfSet, all_requests}
 
 -- a tree of the set's restricted problem, by the rows of its pool
@@ -55,45 +55,52 @@ search_found (Costs w) = finds.Costs w
 search_found (Refuted t) = finds.Refuted t.tree
 search_found (Undecided t) = finds.Undecided t.tree
 
--- the search that decided the set called the advisors, by their rules
+-- the pool is that of the tree, where one was found
+abbrev pub IsPoolOf : Decided → Pooled → Type 0
+IsPoolOf (Costs w) pool = Unit {0}
+IsPoolOf (Refuted t) pool = pool ≡ t.pool
+IsPoolOf (Undecided t) pool = pool ≡ t.pool
+
+-- the search that decided the set, by this pool, called the advisors, by their rules
 abbrev pub IsAskedDeciding : {A V : Type 0} {X : V → Type 0} → ((rules : V) → Ghosts (X rules)) → (A → V) → (A → List ℕ) →
     DesignProblem → ℕ → ℕ → List ℕ → Decided → List A → List A → Type 0
-IsAskedDeciding members rules state p top nodes set decided = IsAskedOfSet (λ b c. rules c ≡ rules b) state (λ b. (members (rules b)).would)
-    (λ b. (members (rules b)).left) (λ b. (members (rules b)).after) p top nodes (record { set = set; found = search_found decided })
+IsAskedDeciding members rules state p top nodes set decided old new = (pool : Pooled) × IsPoolOf decided pool
+    × IsAskedOfSet (λ b c. rules c ≡ rules b) state (λ b. (members (rules b)).would)
+    (λ b. (members (rules b)).left) (λ b. (members (rules b)).after) p top nodes (record { set = set; pool = pool; found = search_found decided }) old new
 
--- the search of the set called them, and found no costs
-abbrev pub IsAskedLast : {A V : Type 0} {X : V → Type 0} → ((rules : V) → Ghosts (X rules)) → (A → V) → (A → List ℕ) →
-    DesignProblem → ℕ → ℕ → List ℕ → List A → List A → Type 0
-IsAskedLast members rules state p top nodes set old new = (found : Found) × IsNoCosts found
-    × IsAskedOfSet (λ b c. rules c ≡ rules b) state (λ b. (members (rules b)).would) (λ b. (members (rules b)).left)
-    (λ b. (members (rules b)).after) p top nodes (record { set = set; found = found }) old new
+-- searches in order of a conflict that is made smaller
+abbrev pub AreShrinking : Shrunk → List SetDecision → Conflict → Type 0
+AreShrinking s ds c = AreSetsInOrder s.members s.rows s.without.items ds c
 
--- searches of sets of requests called them, and the last one ends the search
-abbrev pub AreAskedUntil : {A V : Type 0} {X : V → Type 0} → ((rules : V) → Ghosts (X rules)) → (A → V) → (A → List ℕ) →
-    DesignProblem → ℕ → ℕ → List A → List A → Type 0
-AreAskedUntil members rules state p top nodes old new = (decisions : List SetDecision) × AreEndedSets p decisions
+-- the searches so far: before those of what is left now they are those of what was there
+abbrev pub AreBefore : Shrunk → Shrunk → List SetDecision → Type 0
+AreBefore old new ds = (more : List SetDecision) (c : Conflict) → AreShrinking new more c → AreShrinking old (ds ++ more) c
+
+-- the searches called them by which a conflict was made smaller, from this set, these rows and these costs on
+abbrev pub AreAskedFrom : {A V : Type 0} {X : V → Type 0} → ((rules : V) → Ghosts (X rules)) → (A → V) → (A → List ℕ) →
+    DesignProblem → ℕ → ℕ → List ℕ → List Row → List (List ℕ) → List A → List A → Conflict → Type 0
+AreAskedFrom members rules state p top nodes set rows without old new c = (ds : List SetDecision) × AreSetsInOrder set rows without ds c
     × AreAskedInTurn (IsAskedOfSet (λ b c. rules c ≡ rules b) state (λ b. (members (rules b)).would) (λ b. (members (rules b)).left)
-    (λ b. (members (rules b)).after) p top nodes) decisions old new
+    (λ b. (members (rules b)).after) p top nodes) ds old new
 
--- each of these costs was found by one of the searches
-abbrev pub AreCostsFound : List SetDecision → List (List ℕ) → Type 0
-AreCostsFound decisions lists = All (λ w. (set : List ℕ) × Contains decisions (record { set = set; found = finds.Costs w })) lists
+-- the same from the tree that refuted a set
+abbrev pub AreAskedShrinking : {A V : Type 0} {X : V → Type 0} → ((rules : V) → Ghosts (X rules)) → (A → V) → (A → List ℕ) →
+    DesignProblem → ℕ → ℕ → SetTree → List A → List A → Conflict → Type 0
+AreAskedShrinking members rules state p top nodes t old new c = (rows : List Row) × (printed : List Entry)
+    × IsPrintedOfSet t.members.items t.pool t.tree rows printed
+    × AreAskedFrom members rules state p top nodes t.members.items rows [] old new c
 
--- searches of sets called them while a member was left out, which found the costs that are new, or used up the budget
-abbrev pub IsTriedAsking : {A : Type 0} → (A → A → Type 0) → (A → List ℕ) → (A → List ℕ → List Candidate → ℕ) →
-    (A → List ℕ → List Candidate → List ℕ) → (A → List ℕ → Entry → List ℕ) → DesignProblem → ℕ → ℕ → Shrunk → Tried → List A → List A → Type 0
-IsTriedAsking IsItself state would left after p top nodes shrunk (On next) old new = (decisions : List SetDecision) × (lists : List (List ℕ))
-    × (next.without.items ≡ shrunk.without.items ++ lists) × AreCostsFound decisions lists
-    × AreAskedInTurn (IsAskedOfSet IsItself state would left after p top nodes) decisions old new
-IsTriedAsking IsItself state would left after p top nodes shrunk (Stuck t) old new = (set : List ℕ)
-    × IsAskedOfSet IsItself state would left after p top nodes (record { set = set; found = finds.Undecided t.tree }) old new
+-- what the searches that left out a member come to: those of what is left now are behind them, or the budget was used up at a set
+abbrev pub IsTriedBy : Shrunk → Tried → List SetDecision → Type 0
+IsTriedBy shrunk (On next) ds = AreBefore shrunk next ds
+IsTriedBy shrunk (Stuck t) ds = (c : Conflict) → IsUndecidedOfSet t.members.items t.pool t.tree c → AreShrinking shrunk ds c
 
--- the same of advisors by their rules
+-- searches called them while a member was left out
 abbrev pub AreAskedTrying : {A V : Type 0} {X : V → Type 0} → ((rules : V) → Ghosts (X rules)) → (A → V) → (A → List ℕ) →
     DesignProblem → ℕ → ℕ → Shrunk → Tried → List A → List A → Type 0
-AreAskedTrying members rules state p top nodes shrunk tried old new =
-    IsTriedAsking (λ b c. rules c ≡ rules b) state (λ b. (members (rules b)).would) (λ b. (members (rules b)).left)
-    (λ b. (members (rules b)).after) p top nodes shrunk tried old new
+AreAskedTrying members rules state p top nodes shrunk tried old new = (ds : List SetDecision) × IsTriedBy shrunk tried ds
+    × AreAskedInTurn (IsAskedOfSet (λ b c. rules c ≡ rules b) state (λ b. (members (rules b)).would) (λ b. (members (rules b)).left)
+    (λ b. (members (rules b)).after) p top nodes) ds old new
 
 -- costs for each of the first requests of a set, which are fit without it
 abbrev pub AreFitWithout : DesignProblem → List ℕ → List (List ℕ) → Type 0
@@ -120,10 +127,6 @@ IsMemberTried p top nodes old (On new) =
     IsShrunk p new × (length new.members + length old.without.items < length old.members + length new.without.items)
 IsMemberTried p top nodes old (Stuck t) = IsUndecidedSet p top nodes t × IsConflictLessOne p t.members.items
 
--- the row with its request's number in the whole problem
-abbrev pub whole_row : List ℕ → Row → Row
-whole_row members row = record { request = slice_index members row.request; rival = row.rival }
-
 -- what is told of a set's tree: the rows and the tree as they are printed, which is closed or not as it was
 pub record IsSetTreeTold (p : DesignProblem) (top nodes : ℕ) (t : SetTree) (told : Told) : Type 0 where
   pub members : told.members ≡ t.members.items
@@ -131,3 +134,4 @@ pub record IsSetTreeTold (p : DesignProblem) (top nodes : ℕ) (t : SetTree) (to
   pub closed : IsClosed t.tree → IsClosed told.tree
   pub undone : Contains t.tree Undone → Contains told.tree Undone
   pub counted : entry_count told.tree ≡ entry_count t.tree
+  pub printed : IsPrintedOfSet told.members t.pool t.tree told.rows told.tree

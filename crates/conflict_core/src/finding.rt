@@ -1,9 +1,9 @@
 //! A least conflict.
-ghost use Rattle.std.specs.Prelude.{◌≡◌, ◌⊎◌, ℕ, ◌≤◌, length, IfOk, OnOk};
+ghost use Rattle.std.specs.Prelude.{◌≡◌, ◌⊎◌, ℕ, ◌≤◌, length, IfOk};
 ghost use Rattle.form_search.specs.Advised.{AreCalled};
-ghost use Rattle.conflict_core.specs.Asking.{AreAskedOfSets};
+ghost use Rattle.conflict_core.specs.Asking.{AreAskedFinding, IsCoreOfSet, IsUndecidedOfSet};
 ghost use Rattle.conflict_core.specs.Conflicts.{IsConflictFound, IsConflictLessOne, all_requests};
-ghost use Rattle.conflict_core.specs.Deciding.{AreAskedUntil, AreFitWithout, IsAskedLast, IsRefutedSet, IsShrunk, IsUndecidedSet};
+ghost use Rattle.conflict_core.specs.Deciding.{AreAskedFrom, AreAskedShrinking, AreFitWithout, IsRefutedSet, IsShrunk, IsUndecidedSet};
 
 use crate::conflict::Conflict;
 use crate::deciding::{Decided, SetTree, decide_set};
@@ -22,8 +22,9 @@ fn undecided(alloc: Global, problem: &Problem, set: SetTree) -> Result<Conflict,
     requires spent { (top : ℕ) × (nodes : ℕ) × IsUndecidedSet problem.now top nodes set }
     requires tried { (set.members.items ≡ all_requests problem.now) ⊎
         IsConflictLessOne problem.now set.members.items }
-    ensures { (top nodes : ℕ) → IsUndecidedSet problem.now top nodes set →
+    ensures found { (top nodes : ℕ) → IsUndecidedSet problem.now top nodes set →
         IfOk result (IsConflictFound problem.now top nodes) }
+    ensures told { IfOk result (IsUndecidedOfSet set.members.items set.pool set.tree) }
 {
     let Told {
         members,
@@ -47,8 +48,10 @@ fn core(
     requires conflict { (top : ℕ) × (nodes : ℕ) × IsRefutedSet problem.now top nodes conflict }
     requires counted { length without.items ≡ length conflict.members.items }
     requires fits { AreFitWithout problem.now conflict.members.items without.items }
-    ensures { (top nodes : ℕ) → IsRefutedSet problem.now top nodes conflict →
+    ensures found { (top nodes : ℕ) → IsRefutedSet problem.now top nodes conflict →
         IfOk result (IsConflictFound problem.now top nodes) }
+    ensures told { IfOk result (IsCoreOfSet conflict.members.items conflict.pool conflict.tree
+        without.items) }
 {
     keeps_conditions(problem);
     let Told {
@@ -75,9 +78,9 @@ fn finish(
     requires shrunk { IsShrunk problem.now shrunk }
     requires ended { length shrunk.members ≤ length shrunk.without.items }
     ensures found { IfOk result (IsConflictFound problem.now limits.now.top limits.now.nodes) }
-    ensures asked { OnOk result (IsAskedLast ⟦<dyn Advisor as Advisor>⟧ (λ b. b.vtable)
-        (λ b. state b) problem.now limits.now.top limits.now.nodes shrunk.members
-        advisors.old.items advisors.new.items) }
+    ensures asked { IfOk result (AreAskedFrom ⟦<dyn Advisor as Advisor>⟧ (λ b. b.vtable)
+        (λ b. state b) problem.now limits.now.top limits.now.nodes shrunk.members shrunk.rows
+        shrunk.without.items advisors.old.items advisors.new.items) }
     ensures advisors { AreCalled ⟦<dyn Advisor as Advisor>⟧ (λ b. b.vtable) (λ b. state b)
         advisors.old.items advisors.new.items }
 {
@@ -100,8 +103,8 @@ fn shrink(
     requires conflict { IsRefutedSet problem.now limits.now.top limits.now.nodes conflict }
     requires all { conflict.members.items ≡ all_requests problem.now }
     ensures found { IfOk result (IsConflictFound problem.now limits.now.top limits.now.nodes) }
-    ensures asked { OnOk result (AreAskedUntil ⟦<dyn Advisor as Advisor>⟧ (λ b. b.vtable)
-        (λ b. state b) problem.now limits.now.top limits.now.nodes advisors.old.items
+    ensures asked { IfOk result (AreAskedShrinking ⟦<dyn Advisor as Advisor>⟧ (λ b. b.vtable)
+        (λ b. state b) problem.now limits.now.top limits.now.nodes conflict advisors.old.items
         advisors.new.items) }
     ensures advisors { AreCalled ⟦<dyn Advisor as Advisor>⟧ (λ b. b.vtable) (λ b. state b)
         advisors.old.items advisors.new.items }
@@ -146,9 +149,9 @@ pub fn find_conflict(
     ensures found { IfOk result (IsConflictFound problem.now limits.now.top limits.now.nodes) }
 
     // The advisors are asked and told by one search after another, each of a set of requests: by that of all requests, and
-    // where these are a conflict, by others, of which the last one refutes its set or uses up the budget. Where it refutes
-    // it, costs that are fit without a member were found by one of them, for each member.
-    ensures asked { OnOk result (AreAskedOfSets ⟦<dyn Advisor as Advisor>⟧ (λ b. b.vtable)
+    // where these are a conflict, by one for each member that is left out in turn, and at last by that of the core. What is
+    // found is what these searches found.
+    ensures asked { IfOk result (AreAskedFinding ⟦<dyn Advisor as Advisor>⟧ (λ b. b.vtable)
         (λ b. state b) problem.now limits.now.top limits.now.nodes advisors.old.items
         advisors.new.items) }
     ensures advisors { AreCalled ⟦<dyn Advisor as Advisor>⟧ (λ b. b.vtable) (λ b. state b)

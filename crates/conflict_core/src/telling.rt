@@ -1,6 +1,7 @@
 //! What is told of a set of requests: the rows and the tree as they are printed.
-ghost use Rattle.std.specs.Prelude.{◌≡◌, ℕ, ◌<◌, length, map, slice_index, All, IfOk};
-ghost use Rattle.conflict_core.specs.Deciding.{IsSetTree, IsSetTreeTold, whole_row};
+ghost use Rattle.std.specs.Prelude.{◌≡◌, ℕ, ◌<◌, length, map, All, IfOk};
+ghost use Rattle.conflict_core.specs.Conflicts.{whole_row};
+ghost use Rattle.conflict_core.specs.Deciding.{IsSetTree, IsSetTreeTold};
 
 use crate::deciding::SetTree;
 use cost_base::{Listed, OutOfMemory};

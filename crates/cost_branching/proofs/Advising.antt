@@ -10,6 +10,7 @@ use Rattle.cut_advisors.specs.declared.candidate.Candidate.{Candidate}
 use Rattle.form_search.specs.declared.found.Found.{Found}
 use Rattle.form_search.specs.Advised.{AreAdvisorsLeft, AreAllTold, IsPick, IsSearched}
 use Rattle.form_search.proofs.AdvisorLaws.{calls_there, left_alike, left_searched, left_then}
+use Rattle.cost_branching.specs.Pools.{Pooled}
 use Rattle.cost_branching.specs.Advising.{AreAskedInTurn, IsAskedAt}
 
 -- one search more, behind the others
@@ -34,9 +35,9 @@ turns_left IsAskedFor Search (d ∷ ds) old new each are =
 
 -- one that decides a cap is a search
 pub cap_searched : {A : Type 0} (IsItself : A → A → Type 0) (state : A → List ℕ) (would : A → List ℕ → List Candidate → ℕ)
-    (left : A → List ℕ → List Candidate → List ℕ) (after : A → List ℕ → Entry → List ℕ) (p : DesignProblem) (top nodes cap : ℕ) (found : Found)
-    (old new : List A) → IsAskedAt IsItself state would left after p top nodes cap found old new → IsSearched IsItself state would left after old new
-cap_searched IsItself state would left after p top nodes cap found old new asked =
+    (left : A → List ℕ → List Candidate → List ℕ) (after : A → List ℕ → Entry → List ℕ) (p : DesignProblem) (top nodes cap : ℕ) (pool : Pooled) (found : Found)
+    (old new : List A) → IsAskedAt IsItself state would left after p top nodes cap pool found old new → IsSearched IsItself state would left after old new
+cap_searched IsItself state would left after p top nodes cap pool found old new asked =
     let costs = capped (box_of p) cap in (
       costs,
       asked.tree,

@@ -21,9 +21,3 @@ abbrev pub IsDecided : DesignProblem → ℕ → ℕ → ℕ → Pooled → Foun
 IsDecided p top nodes cap pool (Costs w) = IsFit p w × IsInBox (capped (box_of p) cap) w
 IsDecided p top nodes cap pool (Refuted tree) = IsTreeAt p top cap pool tree × IsClosed tree × (entry_count tree ≤ nodes)
 IsDecided p top nodes cap pool (Undecided tree) = IsTreeAt p top cap pool tree × Contains tree Undone × (entry_count tree ≡ nodes)
-
--- what was found are no costs, but a tree
-abbrev pub IsNoCosts : Found → Type 0
-IsNoCosts (Costs w) = ⊥
-IsNoCosts (Refuted tree) = Unit {0}
-IsNoCosts (Undecided tree) = Unit {0}

@@ -14,17 +14,18 @@ use Rattle.input_files.proofs.Problems.{IsProblemOf}
 use Rattle.input_files.proofs.ReadyInputs.{ready_is}
 use Rattle.report_writer.specs.declared.report.Report.{Report}
 use Rattle.report_writer.specs.Reports.{Reports, bytes_in}
+use Rattle.design_commands.specs.Asking.{TellsAnswer}
 use Rattle.design_commands.specs.Designs.{IsAnswerTo, verdict_status, MayDesign}
 use Rattle.design_commands.proofs.DesignedLaws.{answer_may}
 use Rattle.report_writer.proofs.ReportLaws.{may_report}
 
 -- the report of an answer to the problem that was read, and for which the advisors were asked
 pub design_found : (Given : List Taken → Type 0) (limits : Bounds) (names : InputFiles) (p : DesignProblem)
-    (a : AnswerParts) (report : Report) (asks : Input → Type 0) →
+    (a : AnswerParts) (report : Report) (asks : Input → AnswerParts → Type 0) →
     Gave Given (λ came. IsReadAndMade (outcome AsRequested names) came IsProblemOf p) →
-    IsAnswerTo limits p a → Reports (verdict_status a.verdict) (text a) report → ((d : Input) → d.problem ≡ p → asks d) →
+    IsAnswerTo limits p a → Reports (verdict_status a.verdict) (text a) report → ((d : Input) → d.problem ≡ p → asks d a) →
     Gave Given (λ came. IsReadAndMade (outcome AsRequested names) came
-    (λ (made : Report) d. MayDesign limits d made.status (bytes_in made.text) × asks d) report)
+    (λ (made : Report) d. MayDesign limits d made.status (bytes_in made.text) × TellsAnswer (asks d) (bytes_in made.text)) report)
 design_found Given limits names p a report asks read to r asked =
     let d : Input = read.so.said in
     let to_d : IsAnswerTo limits d.problem a = subst (λ (q : DesignProblem). IsAnswerTo limits q a) (sym read.so.fits.0) to in
@@ -37,7 +38,7 @@ design_found Given limits names p a report asks read to r asked =
         fits = (
           may_report (MayDesign limits d) (verdict_status a.verdict) (text a) report r
               (answer_may limits d a (ready_is names d read.came read.so.ends) to_d),
-          asked d read.so.fits.0,
+          (a, to.value, r.text, asked d read.so.fits.0),
         );
       };
     }

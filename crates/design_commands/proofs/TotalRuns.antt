@@ -37,7 +37,7 @@ use Rattle.input_files.proofs.ReadyInputs.{IsReadyInput, ready_is}
 use Rattle.report_writer.specs.declared.report.Report.{Report}
 use Rattle.report_writer.specs.Reports.{bytes_in}
 use Rattle.design_commands.specs.Designs.{IsAnswerTo, IsDesigned, AreCheapestBack}
-use Rattle.design_commands.specs.TotalRuns.{IsFloorTotal, IsProvedTotal, IsShownUndecidedTotal, IsTotalled, MayTotal, ReportsFoundAs, ReportsTotal, at_cap, bound_lines, found_text, proof_lines, shown_lines, total_text}
+use Rattle.design_commands.specs.TotalRuns.{IsFloorTotal, IsProvedTotal, IsShownUndecidedTotal, IsTotalled, MayTotal, ReportsFoundAs, ReportsTotal, at_cap, bound_lines, found_text, proof_lines, shown_lines, total_text, IsTotalText, TellsTotal}
 use Rattle.design_commands.proofs.DesignedLaws.{designed_costs, designed_is, impossible_is, undecided_is, answer_prints, cheapest_back, costs_back}
 use Rattle.read_back_laws.specs.ReadBack.{IsReadBack}
 use Rattle.read_back_laws.proofs.QuietLines.{AreQuiet, open_quiet, proof_quiet, quiet_append, quiet_cons, rows_quiet}
@@ -241,13 +241,20 @@ total_may limits d a report ready to reports = by_verdict a.verdict refl reports
         (impossible_is limits d.problem a to is (subst (λ (v : Verdict). VerdictHolds d.problem limits.top limits.nodes a v) is to.answered.holds))
     by_verdict (Undecided cap) is r = may_report (MayTotal limits d) status.Undecided (text a) report r (inl (undecided_is limits d.problem a cap to is))
 
+-- the text of the report
+total_told : (limits : Bounds) (p : DesignProblem) (a : AnswerParts) (v : Verdict) (report : Report) → ReportsTotal limits p a v report →
+    IsTotalText limits p a v (bytes_in report.text)
+total_told limits p a (Optimal k) report r = (r.found, r.answered, r.reports.reports.text)
+total_told limits p a Impossible report r = r.text
+total_told limits p a (Undecided cap) report r = r.text
+
 -- the report of an answer to the problem that was read, and for which the advisors were asked
 pub total_found : (Given : List Taken → Type 0) (limits : Bounds) (names : InputFiles) (p : DesignProblem)
-    (a : AnswerParts) (report : Report) (asks : Input → Type 0) →
+    (a : AnswerParts) (report : Report) (asks : Input → AnswerParts → Type 0) →
     Gave Given (λ came. IsReadAndMade (outcome AsRequested names) came IsProblemOf p) →
-    IsAnswerTo limits p a → ReportsTotal limits p a a.verdict report → ((d : Input) → d.problem ≡ p → asks d) →
+    IsAnswerTo limits p a → ReportsTotal limits p a a.verdict report → ((d : Input) → d.problem ≡ p → asks d a) →
     Gave Given (λ came. IsReadAndMade (outcome AsRequested names) came
-    (λ (made : Report) d. MayTotal limits d made.status (bytes_in made.text) × asks d) report)
+    (λ (made : Report) d. MayTotal limits d made.status (bytes_in made.text) × TellsTotal limits d.problem (asks d) (bytes_in made.text)) report)
 total_found Given limits names p a report asks read to reports asked =
     let d : Input = read.so.said in
     let here = sym read.so.fits.0 in
@@ -259,6 +266,9 @@ total_found Given limits names p a report asks read to reports asked =
       so = record {
         said = d;
         ends = read.so.ends;
-        fits = (total_may limits d a report (ready_is names d read.came read.so.ends) to_d reports_d, asked d read.so.fits.0);
+        fits = (
+          total_may limits d a report (ready_is names d read.came read.so.ends) to_d reports_d,
+          (a, to.value, total_told limits d.problem a a.verdict report reports_d, asked d read.so.fits.0),
+        );
       };
     }

@@ -1,6 +1,6 @@
 -- What a trial reports is what it may write.
 use Rattle.std.proofs.Common.{◌≡◌, ℕ, ◌⊎◌, refl, sym, ◌∙◌, ap, subst, inl, inr, List, [], length}
-use Rattle.std.specs.Prelude.{Option, Result, Ok, Err, Some, IfErr, IfOk, OnOk, codes, ◌++◌, slice_index}
+use Rattle.std.specs.Prelude.{Option, Result, Ok, Err, Some, IfErr, IfOk, codes, ◌++◌, slice_index}
 use Rattle.std.specs.List.{sum}
 use Rattle.std.proofs.lemmas.Result.{IfOk-weaker}
 use Rattle.std.proofs.lemmas.Slice.Zip.{AllZip-long}
@@ -20,6 +20,7 @@ use Rattle.design_problem.specs.GivenCosts.{costs_given}
 use Rattle.design_problem.proofs.GivenCosts.{names_written}
 use Rattle.design_problem.specs.Answers.{AnswerParts, Names, lines_in}
 use Rattle.design_problem.specs.Text.{text}
+use Rattle.evidence_text.specs.AnswerValues.{IsAnswerValue}
 use Rattle.least_bound.specs.Answered.{VerdictHolds}
 use Rattle.input_files.specs.declared.problem.View.TheVariants.{AsRequested}
 use Rattle.input_files.specs.declared.stop.Stop.{Stop}
@@ -35,9 +36,9 @@ use Rattle.report_writer.specs.declared.report.Report.{Report}
 use Rattle.report_writer.specs.Reports.{Reports, ReportsAny, bytes_in}
 use Rattle.report_writer.specs.Texts.{refused_line}
 use Rattle.design_commands.specs.Designs.{IsAnswerTo, IsShownImpossible, IsShownUndecided, verdict_status}
-use Rattle.design_commands.specs.Trials.{MayTry, MayTryEnd, MayTrial, trial_end, trial_files, named_trial_texts, costless_line, summary_line, trial_limits}
-use Rattle.design_commands.specs.Asking.{AsksAt}
-use Rattle.design_commands.proofs.Asking.{asks_one, read_alone}
+use Rattle.design_commands.specs.Trials.{MayTry, MayTryEnd, MayTrial, trial_end, trial_files, named_trial_texts, costless_line, summary_line, trial_limits, TellsTrial, trial_text}
+use Rattle.design_commands.specs.Asking.{AsksAt, IsMadeText}
+use Rattle.design_commands.proofs.Asking.{asked_of_report, asks_one, read_alone}
 use Rattle.design_commands.proofs.DesignedLaws.{gives_best, impossible_is, undecided_is}
 use Rattle.report_writer.proofs.ReportLaws.{may_report}
 
@@ -120,15 +121,17 @@ undecided_tried blocks start p a cap result to is made =
 
 -- the report of the answer to the problem that was read, and for which the advisors were asked
 pub tried_found : (Given : List Taken → Type 0) (blocks start : ℕ) (names : InputFiles) (p : DesignProblem)
-    (report : Report) (asks : Input → Type 0) → Gave Given (λ came. IsReadAndMade (outcome AsRequested names) came IsProblemOf p) →
-    TriesAll blocks start p report → ((d : Input) → d.problem ≡ p → asks d) →
+    (a : AnswerParts) (report : Report) (asks : Input → AnswerParts → Type 0) →
+    Gave Given (λ came. IsReadAndMade (outcome AsRequested names) came IsProblemOf p) → IsAnswerValue a →
+    TriesAll blocks start p report → bytes_in report.text ≡ trial_text blocks start p a a.verdict → ((d : Input) → d.problem ≡ p → asks d a) →
     Gave Given (λ came. IsReadAndMade (outcome AsRequested names) came
-    (λ (made : Report) d. MayTry blocks start d made.status (bytes_in made.text) × asks d) report)
-tried_found Given blocks start names p report asks read all asked = record {
-  came = read.came;
-  given = read.given;
-  so = record { said = read.so.said; ends = read.so.ends; fits = (all read.so.said read.so.fits.0, asked read.so.said read.so.fits.0) };
-}
+    (λ (made : Report) d. MayTry blocks start d made.status (bytes_in made.text) × TellsTrial blocks start d.problem (asks d) (bytes_in made.text)) report)
+tried_found Given blocks start names p a report asks read value all spelled asked =
+    let d : Input = read.so.said in
+    let same = read.so.fits.0 in
+    let here : bytes_in report.text ≡ trial_text blocks start d.problem a a.verdict =
+    subst (λ (q : DesignProblem). bytes_in report.text ≡ trial_text blocks start q a a.verdict) (sym same) spelled in
+    record { came = read.came; given = read.given; so = record { said = d; ends = read.so.ends; fits = (all d same, (a, value, here, asked d same)) } }
 
 -- what came of the texts of a case is true to them, and none failed
 pub record AreTexts (texts : List (List ℕ × List ℕ)) (came : List Taken) : Type 0 where
@@ -173,11 +176,11 @@ end_tried blocks start texts names came (Err stops.OutOfMemory) result are read 
 
 -- so is what it makes of the texts of its case
 pub case_tried : (Given : List Taken → Type 0) (blocks start : ℕ) (case : TrialTexts) (names : InputFiles)
-    (made : Result Report Stop) (result : Result Report OutOfMemory) (asks : Input → Type 0) →
+    (made : Result Report Stop) (result : Result Report OutOfMemory) (asks : Report → Input → Type 0) →
     ((came : List Taken) → Given came → AreTexts (named_trial_texts case) came) →
     names ≡ trial_files case → case ≡ made_trial blocks start →
     Gave Given (λ came. IsReadAs (outcome AsRequested names) came
-    (λ report d. MayTry blocks start d report.status (bytes_in report.text) × asks d) made) → ReportsAny made result →
+    (λ report d. MayTry blocks start d report.status (bytes_in report.text) × asks report d) made) → ReportsAny made result →
     IfOk result (λ report. MayTrial blocks start report.status (bytes_in report.text))
 unfolding trial_end
 case_tried Given blocks start case names made result asks are named is gave r =
@@ -188,38 +191,65 @@ case_tried Given blocks start case names made result asks are named is gave r =
     (λ report. MayTryEnd blocks start (end_of_reading (named_trial_texts case) (outcome AsRequested n)) report.status
     (bytes_in report.text))) named
     (end_tried blocks start (named_trial_texts case) names gave.came made result (are gave.came gave.given)
-    (read_alone (outcome AsRequested names) gave.came (λ (report : Report) d. MayTry blocks start d report.status (bytes_in report.text)) asks made
-    gave.so) r))
+    (read_alone (outcome AsRequested names) gave.came (λ (report : Report) d. MayTry blocks start d report.status (bytes_in report.text)) asks
+    made gave.so) r))
 
--- where no memory was wanting, a report is one of what was made
-wanting_apart : (made : Result Report Stop) (result : Result Report OutOfMemory) (P : Type 0) → ReportsAny made result →
-    (made ≡ Err stops.OutOfMemory) ⊎ P → OnOk result P
-wanting_apart made (Err e) P r how = tt
-wanting_apart made (Ok report) P r (inl wanting) = absurd (subst (λ (m : Result Report Stop). ReportsAny m (Ok report)) wanting r)
-wanting_apart made (Ok report) P r (inr holds) = holds
+-- of what they are asked by what the texts say, for these bytes
+abbrev AsksTrial : ℕ → ℕ → (Input → AnswerParts → Type 0) → List ℕ → Input → Type 0
+AsksTrial blocks start Asks bytes d = TellsTrial blocks start d.problem (Asks d) bytes
+
+-- the same at the end of reading them
+abbrev AsksAtEnd : ℕ → ℕ → (Input → AnswerParts → Type 0) → Type 0 → End Input → List ℕ → Type 0
+AsksAtEnd blocks start Asks nobody end bytes = AsksAt (AsksTrial blocks start Asks bytes) nobody end
 
 -- the advisors are asked by the end of the texts of the case
 pub case_asked : (Given : List Taken → Type 0) (blocks start : ℕ) (case : TrialTexts) (names : InputFiles)
-    (made : Result Report Stop) (result : Result Report OutOfMemory) (Fits : Report → Input → Type 0) (asks : Input → Type 0) (nobody : Type 0) →
+    (made : Result Report Stop) (result : Result Report OutOfMemory) (Fits : Report → Input → Type 0)
+    (Asks : Input → AnswerParts → Type 0) (nobody : Type 0) →
     ((came : List Taken) → Given came → AreTexts (named_trial_texts case) came) →
     names ≡ trial_files case → case ≡ made_trial blocks start →
-    Gave Given (λ came. IsReadAs (outcome AsRequested names) came (λ report d. Fits report d × asks d) made) →
+    Gave Given (λ came. IsReadAs (outcome AsRequested names) came
+    (λ report d. Fits report d × TellsTrial blocks start d.problem (Asks d) (bytes_in report.text)) made) →
     IfErr made (λ stop. (stop ≡ stops.OutOfMemory) ⊎ nobody) → ReportsAny made result →
-    OnOk result (AsksAt asks nobody (trial_end (made_trial blocks start)))
+    IfOk result (λ report. AsksAt (λ d. TellsTrial blocks start d.problem (Asks d) (bytes_in report.text)) nobody (trial_end (made_trial blocks start)))
 unfolding trial_end
-case_asked Given blocks start case names made result Fits asks nobody are named is gave stopped r =
+case_asked Given blocks start case names made result Fits Asks nobody are named is gave stopped r =
     let m : Reading Input = outcome AsRequested names in
     let texts = named_trial_texts case in
-    let here : OnOk result (AsksAt asks nobody (end_of_reading texts m)) =
-    wanting_apart made result (AsksAt asks nobody (end_of_reading texts m)) r
-    (either (asks_one m gave.came Fits asks nobody made gave.so stopped)) in
-    subst (λ (c : TrialTexts). OnOk result (AsksAt asks nobody (end_of_reading (named_trial_texts c) (outcome AsRequested (trial_files c))))) is
-    (subst (λ (n : InputFiles). OnOk result (AsksAt asks nobody (end_of_reading texts (outcome AsRequested n)))) named here)
+    let here : IfOk result (λ report. AsksAtEnd blocks start Asks nobody (end_of_reading texts m) (bytes_in report.text)) =
+    asked_of_report made result (AsksAtEnd blocks start Asks nobody (end_of_reading texts m)) r
+    (either (asks_one m gave.came Fits (AsksTrial blocks start Asks) nobody made gave.so stopped)) in
+    subst (λ (c : TrialTexts). IfOk result (λ report.
+    AsksAtEnd blocks start Asks nobody (end_of_reading (named_trial_texts c) (outcome AsRequested (trial_files c))) (bytes_in report.text))) is
+    (subst (λ (n : InputFiles). IfOk result
+    (λ report. AsksAtEnd blocks start Asks nobody (end_of_reading texts (outcome AsRequested n)) (bytes_in report.text))) named here)
   where
-    either : (made ≡ Err stops.OutOfMemory) ⊎ ((one : End Input) → ((end : End Input) → EndsAs (outcome AsRequested names) gave.came end → end ≡ one) →
-        AsksAt asks nobody one) → (made ≡ Err stops.OutOfMemory) ⊎ AsksAt asks nobody (end_of_reading (named_trial_texts case) (outcome AsRequested names))
+    either : (made ≡ Err stops.OutOfMemory) ⊎ ((bytes : List ℕ) → IsMadeText made bytes → (one : End Input) →
+        ((end : End Input) → EndsAs (outcome AsRequested names) gave.came end → end ≡ one) → AsksAtEnd blocks start Asks nobody one bytes) →
+        (made ≡ Err stops.OutOfMemory) ⊎ ((bytes : List ℕ) → IsMadeText made bytes →
+        AsksAtEnd blocks start Asks nobody (end_of_reading (named_trial_texts case) (outcome AsRequested names)) bytes)
     either (inl wanting) = inl wanting
-    either (inr asked) =
-        inr (asked (end_of_reading (named_trial_texts case) (outcome AsRequested names))
+    either (inr asked) = inr (λ bytes text. asked bytes text (end_of_reading (named_trial_texts case) (outcome AsRequested names))
         (λ end ends. sym (ends_on (named_trial_texts case) (outcome AsRequested names) gave.came end ends
         (are gave.came gave.given).told (are gave.came gave.given).sure)))
+
+-- The text by the answer.
+
+-- with best costs
+pub best_text : (blocks start : ℕ) (p : DesignProblem) (a : AnswerParts) (k : ℕ) (lines : List CostLine) (result : Result Report OutOfMemory) →
+    a.verdict ≡ Optimal k → lines ≡ lines_in a.costs →
+    IfOk result (Reports status.Done (summary_line blocks start (codes "optimal") (decimal k) (decimal (sum (costs_given p lines))))) →
+    IfOk result (λ report. bytes_in report.text ≡ trial_text blocks start p a a.verdict)
+best_text blocks start p a k lines result is are made =
+    IfOk-weaker result _ _
+    (λ report r. r.text
+    ∙ ap (λ (ls : List CostLine). summary_line blocks start (codes "optimal") (decimal k) (decimal (sum (costs_given p ls)))) are
+    ∙ ap (λ (v : Verdict). trial_text blocks start p a v) (sym is))
+    made
+
+-- without
+pub costless_text : (blocks start : ℕ) (p : DesignProblem) (a : AnswerParts) (v : Verdict) (s : Status) (result : Result Report OutOfMemory) →
+    a.verdict ≡ v → IfOk result (Reports s (trial_text blocks start p a v)) →
+    IfOk result (λ report. bytes_in report.text ≡ trial_text blocks start p a a.verdict)
+costless_text blocks start p a v s result is made =
+    IfOk-weaker result _ _ (λ report r. r.text ∙ ap (λ (w : Verdict). trial_text blocks start p a w) (sym is)) made

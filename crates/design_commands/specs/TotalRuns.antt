@@ -152,6 +152,16 @@ pub record ReportsFound (limits : Bounds) (p : DesignProblem) (a : AnswerParts) 
   pub answered : IsTotalAnswer p limits.top limits.nodes a found
   pub reports : ReportsFoundAs cap found report
 
+-- the text by an answer's verdict: that of what was found from an optimal one, else the answer's own
+abbrev pub IsTotalText : Bounds → DesignProblem → AnswerParts → Verdict → List ℕ → Type 0
+IsTotalText limits p a (Optimal k) bytes = (found : Total) × IsTotalAnswer p limits.top limits.nodes a found × (bytes ≡ found_text k found)
+IsTotalText limits p a ByNone bytes = bytes ≡ text a
+IsTotalText limits p a (VerdictUndecided cap) bytes = bytes ≡ text a
+
+-- the bytes are the text by an answer for which the advisors were asked so
+abbrev pub TellsTotal : Bounds → DesignProblem → (AnswerParts → Type 0) → List ℕ → Type 0
+TellsTotal limits p Asks bytes = (a : AnswerParts) × IsAnswerValue a × IsTotalText limits p a a.verdict bytes × Asks a
+
 -- the report by an answer's verdict
 abbrev pub ReportsTotal : Bounds → DesignProblem → AnswerParts → Verdict → Report → Type 0
 ReportsTotal limits p a (Optimal k) report = ReportsFound limits p a k report

@@ -8,6 +8,12 @@ use Rattle.trial_maker.specs.declared.TrialTexts.{TrialTexts}
 use Rattle.trial_maker.specs.TrialTexts.{made_trial}
 use Rattle.design_problem.specs.Problems.{DesignProblem}
 use Rattle.design_problem.specs.Rows.{AreBestCosts, greatest_cost}
+use Rattle.design_problem.specs.declared.answer.Verdict.{Verdict}
+use Rattle.design_problem.specs.declared.answer.Verdict.TheVariants.{Optimal, Impossible as ByNone, Undecided as ByBudget}
+use Rattle.design_problem.specs.Answers.{AnswerParts, lines_in}
+use Rattle.design_problem.specs.GivenCosts.{costs_given}
+use Rattle.design_problem.specs.Text.{text}
+use Rattle.evidence_text.specs.AnswerValues.{IsAnswerValue}
 use Rattle.command_words.specs.Jobs.{Bounds}
 use Rattle.input_files.specs.declared.problem.View.TheVariants.{AsRequested}
 use Rattle.input_files.specs.Inputs.{InputFiles}
@@ -47,6 +53,17 @@ pub record IsLineFollowedBy (line : List ℕ) (IsText : List ℕ → Type 0) (by
   pub behind : List ℕ
   pub spelled : bytes ≡ line ++ behind
   pub is_text : IsText behind
+
+-- the text by the answer to a trial's problem: the summary line, and where there are no best costs the answer's text behind it
+abbrev pub trial_text : ℕ → ℕ → DesignProblem → AnswerParts → Verdict → List ℕ
+trial_text blocks start p a (Optimal k) =
+    summary_line blocks start (codes "optimal") (decimal k) (decimal (sum (costs_given p (lines_in a.costs))))
+trial_text blocks start p a ByNone = costless_line blocks start (codes "impossible") ++ text a
+trial_text blocks start p a (ByBudget cap) = costless_line blocks start (codes "undecided") ++ text a
+
+-- the bytes are the text by an answer for which the advisors were asked so
+abbrev pub TellsTrial : ℕ → ℕ → DesignProblem → (AnswerParts → Type 0) → List ℕ → Type 0
+TellsTrial blocks start p Asks bytes = (a : AnswerParts) × IsAnswerValue a × (bytes ≡ trial_text blocks start p a a.verdict) × Asks a
 
 -- what a trial may write of what its made texts say
 abbrev pub MayTry : ℕ → ℕ → Input → Status → List ℕ → Type 0

@@ -1,13 +1,14 @@
 //! `design`: an answer to the files of words.
-ghost use Rattle.std.specs.Prelude.{◌≡◌, ◌⊎◌, ℕ, List, IfErr, IfOk, OnOk};
+ghost use Rattle.std.specs.Prelude.{◌≡◌, ◌⊎◌, ℕ, List, IfErr, IfOk};
 ghost use Rattle.command_words.specs.Jobs.{bounds};
 ghost use Rattle.design_problem.specs.Text.{text};
 ghost use Rattle.form_search.specs.Advised.{AreCalled};
-ghost use Rattle.least_bound.specs.Asking.{AreAskedUntilSettled};
+ghost use Rattle.least_bound.specs.Asking.{AreAskedAnswering};
 ghost use Rattle.input_files.specs.Readings.{Gave};
 ghost use Rattle.input_files.specs.Outcomes.{outcome};
 ghost use Rattle.input_files.specs.Stops.{IsReadAs, files_named};
 ghost use Rattle.report_writer.specs.Reports.{Reports, bytes_in};
+ghost use Rattle.design_commands.specs.Asking.{TellsAnswer};
 ghost use Rattle.design_commands.specs.Designs.{IsAnswerTo, verdict_status, MayDesign};
 
 use cost_base::{OutOfMemory, Shelf, Status};
@@ -49,7 +50,7 @@ pub(crate) fn answer_to(
     // Always true: a function that hands on boxed advisors has to require something.
     requires itself { problem.now ≡ problem.now }
     ensures answered { IfOk result (IsAnswerTo (bounds limits.now) problem.now) }
-    ensures asked { OnOk result (AreAskedUntilSettled ⟦<dyn Advisor as Advisor>⟧ (λ b. b.vtable)
+    ensures asked { IfOk result (AreAskedAnswering ⟦<dyn Advisor as Advisor>⟧ (λ b. b.vtable)
         (λ b. state b) problem.now limits.now.top limits.now.nodes
         advisors.old.items advisors.new.items) }
     ensures advisors { AreCalled ⟦<dyn Advisor as Advisor>⟧ (λ b. b.vtable) (λ b. state b)
@@ -76,9 +77,9 @@ pub fn design_report<'a, S: Shelf>(
     ensures read { Gave (S.gave shelf.old shelf.new)
         (λ came. IsReadAs (outcome View.AsRequested (files_named words.entry)) came
         (λ report d. MayDesign (bounds limits.now) d report.status (bytes_in report.text) ×
-        AreAskedUntilSettled ⟦<dyn Advisor as Advisor>⟧ (λ b. b.vtable) (λ b. state b)
+        TellsAnswer (AreAskedAnswering ⟦<dyn Advisor as Advisor>⟧ (λ b. b.vtable) (λ b. state b)
         d.problem limits.now.top limits.now.nodes
-        advisors.old.items advisors.new.items) result) }
+        advisors.old.items advisors.new.items) (bytes_in report.text)) result) }
 
     // Where a file stopped it, no advisor was asked.
     ensures stopped { IfErr result (λ stop. (stop ≡ Stop.OutOfMemory) ⊎

@@ -2,7 +2,7 @@
 ghost use Rattle.std.specs.Prelude.{◌≡◌, ◌⊎◌, ◌++◌, ◌∷◌, [], ◌≤◌, IfErr, IfOk, OnOk, codes};
 ghost use Rattle.cost_base.specs.Decimal.{decimal};
 ghost use Rattle.form_search.specs.Advised.{AreCalled};
-ghost use Rattle.least_bound.specs.Asking.{AreAskedUntilSettled};
+ghost use Rattle.least_bound.specs.Asking.{AreAskedAnswering};
 ghost use Rattle.command_words.specs.Jobs.{bounds};
 ghost use Rattle.design_problem.specs.Text.{spaced, text};
 ghost use Rattle.text_lines.specs.Lines.{with_ends};
@@ -11,7 +11,7 @@ ghost use Rattle.input_files.specs.Outcomes.{outcome};
 ghost use Rattle.input_files.specs.Stops.{IsReadAs, files_named};
 ghost use Rattle.report_writer.specs.Reports.{bytes_in};
 ghost use Rattle.design_commands.specs.Designs.{IsAnswerTo};
-ghost use Rattle.design_commands.specs.TotalRuns.{CanPrintProof, MayTotal, CanReport, ReportsFoundAs, ReportsTotal, shown_lines};
+ghost use Rattle.design_commands.specs.TotalRuns.{CanPrintProof, MayTotal, CanReport, ReportsFoundAs, ReportsTotal, TellsTotal, shown_lines};
 
 use crate::design::{answer_to, report_of_answer};
 use cost_base::{OutOfMemory, Shelf, Status};
@@ -136,9 +136,9 @@ pub fn total_report<'a, S: Shelf>(
     ensures read { Gave (S.gave shelf.old shelf.new) (λ came. IsReadAs
         (outcome View.AsRequested (files_named words.entry)) came
         (λ report d. MayTotal (bounds limits.now) d report.status (bytes_in report.text) ×
-        AreAskedUntilSettled ⟦<dyn Advisor as Advisor>⟧ (λ b. b.vtable) (λ b. state b)
-        d.problem limits.now.top limits.now.nodes
-        advisors.old.items advisors.new.items) result) }
+        TellsTotal (bounds limits.now) d.problem (AreAskedAnswering ⟦<dyn Advisor as Advisor>⟧
+        (λ b. b.vtable) (λ b. state b) d.problem limits.now.top limits.now.nodes
+        advisors.old.items advisors.new.items) (bytes_in report.text)) result) }
 
     // Where a file stopped it, no advisor was asked.
     ensures stopped { IfErr result (λ stop. (stop ≡ Stop.OutOfMemory) ⊎

@@ -1,5 +1,5 @@
 //! `trial`: a made trial, designed.
-ghost use Rattle.std.specs.Prelude.{◌≡◌, ◌⊎◌, ◌≤◌, ◌<◌, ◌^◌, ◌++◌, ℕ, List, IfErr, IfOk, OnOk, codes, length};
+ghost use Rattle.std.specs.Prelude.{◌≡◌, ◌⊎◌, ◌≤◌, ◌<◌, ◌^◌, ◌++◌, ℕ, List, IfErr, IfOk, codes, length};
 ghost use Rattle.std.specs.List.{sum};
 ghost use Rattle.cost_base.specs.Decimal.{decimal};
 ghost use Rattle.command_words.specs.Jobs.{bounds};
@@ -7,7 +7,7 @@ ghost use Rattle.design_problem.specs.Text.{text};
 ghost use Rattle.design_problem.specs.Answers.{lines_in};
 ghost use Rattle.design_problem.specs.GivenCosts.{costs_given};
 ghost use Rattle.form_search.specs.Advised.{AreCalled};
-ghost use Rattle.least_bound.specs.Asking.{AreAskedUntilSettled};
+ghost use Rattle.least_bound.specs.Asking.{AreAskedAnswering};
 ghost use Rattle.input_files.specs.Readings.{Gave};
 ghost use Rattle.input_files.specs.Outcomes.{Input, outcome};
 ghost use Rattle.input_files.specs.Stops.{IsReadAs, files_named};
@@ -15,7 +15,7 @@ ghost use Rattle.report_writer.specs.Reports.{Reports, bytes_in};
 ghost use Rattle.trial_maker.specs.TrialTexts.{made_trial};
 ghost use Rattle.design_commands.specs.Asking.{AsksAt};
 ghost use Rattle.design_commands.specs.Designs.{IsAnswerTo, verdict_status};
-ghost use Rattle.design_commands.specs.Trials.{MayTrial, MayTry, costless_line, summary_line, trial_end, trial_limits};
+ghost use Rattle.design_commands.specs.Trials.{MayTrial, MayTry, TellsTrial, costless_line, summary_line, trial_end, trial_limits, trial_text};
 
 use crate::case_files::{REQUEST, shelf_of, words_of};
 use crate::cost_sum::total_of;
@@ -95,8 +95,10 @@ fn report_of_trial(
 ) -> Result<Report, OutOfMemory>
     requires few { trial.blocks ≤ 125 }
     requires answered { IsAnswerTo trial_limits problem.now answer.now }
-    ensures { IfOk result (λ report. (d : Input) → d.problem ≡ problem.now →
+    ensures tries { IfOk result (λ report. (d : Input) → d.problem ≡ problem.now →
         MayTry trial.blocks trial.start d report.status (bytes_in report.text)) }
+    ensures text { IfOk result (λ report. bytes_in report.text ≡ trial_text trial.blocks trial.start
+        problem.now answer.now answer.now.verdict) }
 {
     match answer.verdict {
         Verdict::Optimal(greatest) => {
@@ -119,9 +121,9 @@ fn report_on_texts<'a, S: Shelf>(
     ensures read { Gave (S.gave shelf.old shelf.new) (λ came. IsReadAs
         (outcome View.AsRequested (files_named words.entry)) came
         (λ report d. MayTry trial.blocks trial.start d report.status (bytes_in report.text) ×
-        AreAskedUntilSettled ⟦<dyn Advisor as Advisor>⟧ (λ b. b.vtable) (λ b. state b)
-        d.problem trial_limits.top trial_limits.nodes
-        advisors.old.items advisors.new.items) result) }
+        TellsTrial trial.blocks trial.start d.problem (AreAskedAnswering
+        ⟦<dyn Advisor as Advisor>⟧ (λ b. b.vtable) (λ b. state b) d.problem trial_limits.top
+        trial_limits.nodes advisors.old.items advisors.new.items) (bytes_in report.text)) result) }
     ensures stopped { IfErr result (λ stop. (stop ≡ Stop.OutOfMemory) ⊎
         (advisors.new.items ≡ advisors.old.items)) }
     ensures advisors { AreCalled ⟦<dyn Advisor as Advisor>⟧ (λ b. b.vtable) (λ b. state b)
@@ -149,10 +151,10 @@ pub fn trial_report(
         (bytes_in report.text)) }
 
     // The advisors are asked where the made texts have no fault.
-    ensures asked { OnOk result (AsksAt
-        (λ d. AreAskedUntilSettled ⟦<dyn Advisor as Advisor>⟧ (λ b. b.vtable) (λ b. state b)
-        d.problem trial_limits.top trial_limits.nodes
-        advisors.old.items advisors.new.items)
+    ensures asked { IfOk result (λ report. AsksAt
+        (λ d. TellsTrial trial.blocks trial.start d.problem (AreAskedAnswering
+        ⟦<dyn Advisor as Advisor>⟧ (λ b. b.vtable) (λ b. state b) d.problem trial_limits.top
+        trial_limits.nodes advisors.old.items advisors.new.items) (bytes_in report.text))
         (advisors.new.items ≡ advisors.old.items)
         (trial_end (made_trial trial.blocks trial.start))) }
     ensures advisors { AreCalled ⟦<dyn Advisor as Advisor>⟧ (λ b. b.vtable) (λ b. state b)

@@ -31,7 +31,7 @@ use Rattle.evidence_commands.specs.Rewrites.{IsUnfit, new_costs, MayRewrite}
 use Rattle.design_commands.specs.Designs.{IsDesigned, IsShownImpossible, IsShownUndecided, MayDesign}
 use Rattle.design_commands.specs.Trials.{MayTry, MayTryEnd, trial_end, trial_limits}
 use Rattle.path_commands.specs.Audits.{MayAudit}
-use Rattle.designer_command.specs.Runs.{MayWrite, OnFailure, RunMeets, Writes}
+use Rattle.designer_command.specs.Runs.{MayWrite, MayWriteAsking, OnFailure, RunMeets, Writes}
 use Rattle.designer_command.specs.Completeness.{CannotBeUndecided, DesignsAreAccepted, HeadedCostsAreWritten, IsRunSettled, TrialsAreDesigned, ValidAnswersAreAccepted, WellFormedInputIsAudited, WellFormedInputIsDesigned}
 use Rattle.designer_command.proofs.OwnStatuses.{only_done, own_audit, own_check, own_design, own_end, own_rewrite, own_try, said_end}
 
@@ -184,19 +184,19 @@ no_read_fault (Some (read.Help topic)) came bytes counted h = h
 no_read_fault (Some read.Version) came bytes counted h = h
 
 -- over counts that stay 0 no run ends with a fault of a shelf
-pub sure_shelf : (words : List (List ℕ)) (Asked : Option JobRead → List Taken → Type 0) (gave : List Taken → Type 0) (held : List ℕ → Option (List ℕ))
+pub sure_shelf : (words : List (List ℕ)) (Asked : Option JobRead → List Taken → List ℕ → Type 0) (gave : List Taken → Type 0) (held : List ℕ → Option (List ℕ))
     (handed : List ℕ → Type 0) (got_before got_now : Option (List ℕ)) (count_before count_now : ℕ) (end : Status) →
     RunMeets words Asked gave held (λ name. 0) (λ name. 0) handed got_before got_now count_before count_now end → end ≡ status.ReadFault → ⊥
 sure_shelf words Asked gave held handed got_before got_now count_before count_now end meets is =
-    let whole = subst (λ (s : Status). Writes (MayWrite (job_of words) meets.came) handed got_before got_now count_before count_now s) is meets.written in
-    no_read_fault (job_of words) meets.came whole.bytes meets.counted whole.allowed
+    let whole = subst (λ (s : Status). Writes (MayWriteAsking (MayWrite (job_of words) meets.came) (Asked (job_of words) meets.came)) handed got_before got_now count_before count_now s) is meets.written in
+    no_read_fault (job_of words) meets.came whole.bytes meets.counted whole.allowed.0
 
 -- nor with one of a sink
-pub sure_sink : (words : List (List ℕ)) (Asked : Option JobRead → List Taken → Type 0) (gave : List Taken → Type 0) (held : List ℕ → Option (List ℕ))
+pub sure_sink : (words : List (List ℕ)) (Asked : Option JobRead → List Taken → List ℕ → Type 0) (gave : List Taken → Type 0) (held : List ℕ → Option (List ℕ))
     (before now : List ℕ → ℕ) (handed : List ℕ → Type 0) (got_before got_now : Option (List ℕ)) (end : Status) →
     RunMeets words Asked gave held before now handed got_before got_now 0 0 end → end ≡ status.WriteFault → ⊥
 sure_sink words Asked gave held before now handed got_before got_now end meets is =
-    let part = subst (λ (s : Status). Writes (MayWrite (job_of words) meets.came) handed got_before got_now 0 0 s) is meets.written in
+    let part = subst (λ (s : Status). Writes (MayWriteAsking (MayWrite (job_of words) meets.came) (Asked (job_of words) meets.came)) handed got_before got_now 0 0 s) is meets.written in
     never_rose part.cause
   where
     never_rose : Rose 0 0 → ⊥

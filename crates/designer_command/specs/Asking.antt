@@ -3,8 +3,8 @@ use Rattle.std.specs.Prelude.{◌≡◌, ◌⊎◌, ℕ, List, Option, Some, Res
 use Rattle.cost_base.specs.Histories.{Taken}
 use Rattle.command_words.specs.Jobs.{JobRead, Design, Trial, Conflict, Total}
 use Rattle.cut_advisors.specs.declared.advisor.Advisor.{Ghosts}
-use Rattle.least_bound.specs.Asking.{AreAskedUntilSettled}
-use Rattle.conflict_core.specs.Asking.{AreAskedOfSets}
+use Rattle.least_bound.specs.Asking.{AreAskedAnswering}
+use Rattle.conflict_core.specs.Asking.{AreAskedFinding}
 use Rattle.input_files.specs.declared.problem.View.TheVariants.{AsRequested}
 use Rattle.input_files.specs.declared.stop.Stop.{Stop}
 use Rattle.input_files.specs.declared.stop.Stop.TheVariants.{OutOfMemory as NoMemoryLeft}
@@ -12,31 +12,35 @@ use Rattle.input_files.specs.Outcomes.{Input, outcome}
 use Rattle.input_files.specs.Readings.{End, EndsAs}
 use Rattle.report_writer.specs.declared.report.Report.{Report}
 use Rattle.trial_maker.specs.TrialTexts.{made_trial}
-use Rattle.design_commands.specs.Asking.{AsksAt}
-use Rattle.design_commands.specs.Trials.{trial_end, trial_limits}
+use Rattle.design_commands.specs.Asking.{AsksAt, IsMadeText, TellsAnswer}
+use Rattle.design_commands.specs.TotalRuns.{TellsTotal}
+use Rattle.design_commands.specs.Trials.{TellsTrial, trial_end, trial_limits}
+use Rattle.path_commands.specs.Conflicts.{TellsConflict}
 use Rattle.designer_command.specs.Runs.{IsMadeAs, searched}
 
--- By which searches a command asks them, where this came of its files: a design and a total by one for each of the caps
--- that settle the problem that the files say; a conflict by one for each of the sets of requests that settle whether all of
--- them are a conflict; a trial as a design, of its made texts. No advisor is asked where the files have a fault or one
--- failed, by another command, and of refused words.
+-- By which searches a command asks them, where this came of its files and it writes these bytes: a design and a total by one
+-- for each of the caps that settle the problem that the files say; a conflict by one for each of the sets of requests that
+-- settle whether all of them are a conflict; a trial as a design, of its made texts. The bytes are the text of what these
+-- searches found. No advisor is asked where the files have a fault or one failed, by another command, and of refused words.
 abbrev pub AreAskedBy : {A V : Type 0} {X : V → Type 0} → ((rules : V) → Ghosts (X rules)) → (A → V) → (A → List ℕ) →
-    List A → List A → Option JobRead → List Taken → Type 0
-AreAskedBy members rules state old new (Some (Design s)) came =
+    List A → List A → Option JobRead → List Taken → List ℕ → Type 0
+AreAskedBy members rules state old new (Some (Design s)) came bytes =
     (end : End Input) → EndsAs (outcome AsRequested (searched s)) came end →
-    AsksAt (λ d. AreAskedUntilSettled members rules state d.problem s.limits.top s.limits.nodes old new) (new ≡ old) end
-AreAskedBy members rules state old new (Some (Total s)) came =
+    AsksAt (λ d. TellsAnswer (AreAskedAnswering members rules state d.problem s.limits.top s.limits.nodes old new) bytes) (new ≡ old) end
+AreAskedBy members rules state old new (Some (Total s)) came bytes =
     (end : End Input) → EndsAs (outcome AsRequested (searched s)) came end →
-    AsksAt (λ d. AreAskedUntilSettled members rules state d.problem s.limits.top s.limits.nodes old new) (new ≡ old) end
-AreAskedBy members rules state old new (Some (Conflict s)) came =
+    AsksAt (λ d. TellsTotal s.limits d.problem (AreAskedAnswering members rules state d.problem s.limits.top s.limits.nodes old new) bytes)
+    (new ≡ old) end
+AreAskedBy members rules state old new (Some (Conflict s)) came bytes =
     (end : End Input) → EndsAs (outcome AsRequested (searched s)) came end →
-    AsksAt (λ d. AreAskedOfSets members rules state d.problem s.limits.top s.limits.nodes old new) (new ≡ old) end
-AreAskedBy members rules state old new (Some (Trial blocks start)) came =
-    AsksAt (λ d. AreAskedUntilSettled members rules state d.problem trial_limits.top trial_limits.nodes old new)
+    AsksAt (λ d. TellsConflict d.problem (AreAskedFinding members rules state d.problem s.limits.top s.limits.nodes old new) bytes) (new ≡ old) end
+AreAskedBy members rules state old new (Some (Trial blocks start)) came bytes =
+    AsksAt (λ d. TellsTrial blocks start d.problem (AreAskedAnswering members rules state d.problem trial_limits.top trial_limits.nodes old new) bytes)
     (new ≡ old) (trial_end (made_trial blocks start))
-AreAskedBy members rules state old new job came = new ≡ old
+AreAskedBy members rules state old new job came bytes = new ≡ old
 
--- what the command of a job makes is as what came of its files says, and where memory sufficed, the advisors were asked so
-pub record IsMadeAsking (Asked : Option JobRead → List Taken → Type 0) (job : JobRead) (came : List Taken) (made : Result Report Stop) : Type 0 where
+-- what the command of a job makes is as what came of its files says, and where memory sufficed, the advisors were asked so for
+-- what it writes
+pub record IsMadeAsking (Asked : Option JobRead → List Taken → List ℕ → Type 0) (job : JobRead) (came : List Taken) (made : Result Report Stop) : Type 0 where
   pub is_made : IsMadeAs job came made
-  pub asked : (made ≡ Err NoMemoryLeft) ⊎ Asked (Some job) came
+  pub asked : (made ≡ Err NoMemoryLeft) ⊎ ((bytes : List ℕ) → IsMadeText made bytes → Asked (Some job) came bytes)

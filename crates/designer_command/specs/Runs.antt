@@ -1,6 +1,5 @@
 -- What a run may write, with the status that it ends with.
-use Rattle.std.specs.Prelude.{◌≡◌, ◌⊎◌, ℕ, List, [], take, Option, None, Some, Result, IfOk, MatchResult}
-use Rattle.cost_base.specs.declared.OutOfMemory.{OutOfMemory as NoMemory}
+use Rattle.std.specs.Prelude.{◌≡◌, ℕ, List, [], take, Option, None, Some, Result, MatchResult}
 use Rattle.cost_base.specs.declared.Status.{Status}
 use Rattle.cost_base.specs.declared.Status.TheVariants.{Done, Impossible, Undecided, InputRefused, ReadFault, WriteFault, OutOfMemory, WordsRefused, EvidenceRefused}
 use Rattle.cost_base.specs.Outside.{Rose, GotAll}
@@ -9,7 +8,7 @@ use Rattle.command_words.specs.Jobs.{JobRead, SearchRead, Design, Check, Audit, 
 use Rattle.command_words.specs.Commands.{job_of}
 use Rattle.input_files.specs.declared.problem.View.TheVariants.{AsRequested, BesidePresent, AtPresent}
 use Rattle.input_files.specs.Inputs.{InputFiles}
-use Rattle.input_files.specs.Readings.{InputRefusal, Reading, Says, Faulty, Failed, EndsAs, Begins, Gave}
+use Rattle.input_files.specs.Readings.{InputRefusal, Reading, Says, Faulty, Failed, EndsAs, Begins}
 use Rattle.input_files.specs.declared.stop.Stop.{Stop}
 use Rattle.input_files.specs.declared.stop.Stop.TheVariants.{OutOfMemory as NoMemoryLeft}
 use Rattle.input_files.specs.Stops.{IsReadAs}
@@ -197,15 +196,19 @@ Writes may handed got_before got_now count_before count_now ReadFault = WritesAl
 Writes may handed got_before got_now count_before count_now WordsRefused = WritesAll may handed got_before got_now WordsRefused
 Writes may handed got_before got_now count_before count_now EvidenceRefused = WritesAll may handed got_before got_now EvidenceRefused
 
+-- a text that may be written, and for which the advisors were asked so
+abbrev pub MayWriteAsking : (Status → List ℕ → Type 0) → (List ℕ → Type 0) → Status → List ℕ → Type 0
+MayWriteAsking may asked status bytes = may status bytes × asked bytes
+
 -- A run of these words: this came of the files that the shelf was asked for, true to what it holds and to its counts of
--- faults, and what was written is right for that. `Asked` tells by which searches of what came a job asks the advisors.
-pub record RunMeets (words : List (List ℕ)) (Asked : Option JobRead → List Taken → Type 0) (gave : List Taken → Type 0) (held : List ℕ → Option (List ℕ))
+-- faults, and what was written is right for that. `Asked` tells by which searches of what came a job asks the advisors
+-- before it writes these bytes.
+pub record RunMeets (words : List (List ℕ)) (Asked : Option JobRead → List Taken → List ℕ → Type 0) (gave : List Taken → Type 0) (held : List ℕ → Option (List ℕ))
     (before now : List ℕ → ℕ) (handed : List ℕ → Type 0) (got_before got_now : Option (List ℕ))
     (count_before count_now : ℕ) (status : Status) : Type 0 where
   pub came : List Taken
   pub given : gave came
   pub told : AreTold held came
   pub counted : CountsFailures before now came
-  pub written : Writes (MayWrite (job_of words) came) handed got_before got_now count_before count_now status
+  pub written : Writes (MayWriteAsking (MayWrite (job_of words) came) (Asked (job_of words) came)) handed got_before got_now count_before count_now status
   pub begun : status ≡ OutOfMemory → MayWant (job_of words) came
-  pub asked : (status ≡ OutOfMemory) ⊎ Asked (job_of words) came

@@ -1,11 +1,12 @@
 //! From a job to its report: each command's function stands in the crate of its kind.
-ghost use Rattle.std.specs.Prelude.{◌≡◌, ◌≤◌, ◌<◌, ◌^◌, [], OnOk, Some, option_map, string_bytes};
+ghost use Rattle.std.specs.Prelude.{◌≡◌, ◌≤◌, ◌<◌, ◌^◌, [], IfOk, Some, option_map, string_bytes};
 ghost use Rattle.form_search.specs.Advised.{AreCalled};
 ghost use Rattle.text_lines.specs.Arguments.{texts};
 ghost use Rattle.command_words.specs.Jobs.{Audit, IsInRange, Trial, seen};
 ghost use Rattle.help_texts.specs.Texts.{help_text, version_text};
 ghost use Rattle.input_files.specs.Readings.{Gave};
 ghost use Rattle.input_files.specs.Stops.{files_named};
+ghost use Rattle.report_writer.specs.Reports.{bytes_in};
 ghost use Rattle.designer_command.specs.Asking.{AreAskedBy, IsMadeAsking};
 ghost use Rattle.designer_command.specs.Runs.{IsMadeAs, IsTold, IsTried, input_files_of};
 
@@ -40,8 +41,9 @@ fn made_trial<'a>(
     requires most { blocks ≤ 125 }
     requires start { start < 2 ^ 31 }
     ensures made { IsTried blocks start result }
-    ensures asked { OnOk result (AreAskedBy ⟦<dyn Advisor as Advisor>⟧ (λ b. b.vtable)
-        (λ b. state b) advisors.old.items advisors.new.items (Some (Trial blocks start)) []) }
+    ensures asked { IfOk result (λ report. AreAskedBy ⟦<dyn Advisor as Advisor>⟧ (λ b. b.vtable)
+        (λ b. state b) advisors.old.items advisors.new.items (Some (Trial blocks start)) []
+        (bytes_in report.text)) }
     ensures advisors { AreCalled ⟦<dyn Advisor as Advisor>⟧ (λ b. b.vtable) (λ b. state b)
         advisors.old.items advisors.new.items }
 {

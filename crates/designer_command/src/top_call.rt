@@ -111,8 +111,8 @@ fn write_made<K: Sink>(made: Result<Report, OutOfMemory>, out: &mut K) -> Status
 ///
 /// The advisors are asked where a box is shared out, and told of each entry of a tree. Whatever they answer, all of this
 /// holds. Some of the first may be gone after the call, since they answered out of range; every other is left in its place,
-/// and stands as these calls left it. `design`, `trial`, `total` and `conflict` ask them, in searches of the problem that
-/// their files say; where these have a fault, and by other words, none is asked.
+/// and stands as these calls left it. `design`, `trial`, `total` and `conflict` ask them, in the searches of the problem that
+/// their files say by whose findings the text is written; where these have a fault, and by other words, none is asked.
 ///
 /// Each file is asked for once, in its turn, and only where no fault stands before it. What is written is right for what
 /// came of the files, also where the shelf keeps nothing of their content.

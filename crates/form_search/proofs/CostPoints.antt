@@ -16,7 +16,7 @@ use Rattle.design_problem.specs.Earnest.{IsLeastPoint, LexLess, SplitsFraction}
 use Rattle.design_problem.proofs.AtCosts.{value_at_costs}
 use Rattle.cut_advisors.specs.declared.candidate.Candidate.{Candidate}
 use Rattle.form_search.specs.Sources.{IsCostPoint}
-use Rattle.form_search.specs.Points.{IsCostsBox, IsFractional}
+use Rattle.form_search.specs.Points.{AreCostsOf, IsCostsBox, IsFractional}
 
 low_first : (n : ℕ) (box : CostBox) → IsCostsBox n box → (k : ℕ) → k < n → 1 ≤ slice_index box.low k
 low_first n box kept k k_in = kept.lows k 0 (omega (arith, kept.is_box.low_count))
@@ -181,6 +181,14 @@ one_least accepted box one taken = record {
   least = λ q inside there before. never_before (λ x. x * 1) (λ y. y * q.scale) q.values box.low
       (λ k k_in. omega (arith, inside.above k k_in)) before;
 }
+
+-- and over its scale of 1 it gives these costs
+pub one_costs : (box : CostBox) → AreCostsOf (at_costs box.low) box.low
+one_costs box = inl (ap at_costs (times_one box.low))
+  where
+    times_one : (xs : List ℕ) → map (λ x. x * 1) xs ≡ xs
+    times_one [] = refl
+    times_one (x ∷ xs) = let same : x * 1 ≡ x = omega arith in cc (same, times_one xs)
 
 -- and one of its costs
 pub one_inside : (box : CostBox) → box.low ≡ box.high → IsInBox box box.low

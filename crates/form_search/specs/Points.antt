@@ -23,9 +23,9 @@ pub record IsLeastOf (accepted : Point → Type 0) (box : CostBox) (point : Poin
   pub least : IsLeastPoint accepted box point
   pub small : point.scale < 2 ^ 100
 
--- costs that a point gives: its values over the scale, where these are whole; or the values themselves
+-- costs that a point gives: its values over the scale, where these are whole; where one isn't, the values themselves
 abbrev pub AreCostsOf : Point → List ℕ → Type 0
-AreCostsOf point w = (scaled w point.scale ≡ point) ⊎ (w ≡ point.values)
+AreCostsOf point w = (scaled w point.scale ≡ point) ⊎ ((IsIntegralPoint point → ⊥) × (w ≡ point.values))
 
 -- the costs are those of the point of the box that is asked for
 pub record AreCostsThere (IsHere : CostBox → Point → Type 0) (box : CostBox) (w : List ℕ) : Type 0 where

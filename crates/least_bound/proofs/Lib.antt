@@ -1,3 +1,4 @@
 pub mod CapLaws
+mod Examples
 pub mod Settling
 pub mod ValidAnswers

@@ -1,170 +1,127 @@
--- How the decided caps settle a problem.
-use Rattle.std.proofs.Common.{◌≡◌, ◌⊎◌, ℕ, zero, suc, ◌+◌, ◌≤◌, refl, sym, ap, subst, inl, inr, List, [], ◌∷◌, ◌++◌, arith, append_assoc}
-use Rattle.std.specs.Prelude.{All, Contains, None}
-use Rattle.std.proofs.lemmas.Bool.{cases_lt}
-use Rattle.std.proofs.lemmas.List.Elements.{All-push, Contains-append_left, Contains-append_right}
+-- What the decided caps have come to, and how the answer tells it.
+use Rattle.std.proofs.Common.{◌≡◌, ◌∙◌, ℕ, refl, sym, ap, subst, List, [], ◌∷◌, ◌++◌, append-nil, append_assoc}
+use Rattle.std.specs.Prelude.{Option, None, Some}
 use Rattle.design_problem.specs.declared.tree.Entry.{Entry}
+use Rattle.design_problem.specs.declared.answer.CapTree.{CapTree}
+use Rattle.design_problem.specs.declared.form.Row.{Row}
 use Rattle.design_problem.specs.Problems.{DesignProblem}
 use Rattle.design_problem.specs.Rows.{greatest_cost}
-use Rattle.design_problem.specs.Answers.{greatest_bound}
+use Rattle.design_problem.specs.Answers.{AnswerParts, greatest_bound}
 use Rattle.cut_advisors.specs.declared.candidate.Candidate.{Candidate}
 use Rattle.form_search.specs.declared.found.Found.{Found}
 use Rattle.form_search.specs.declared.found.Found.TheVariants.{Costs as FoundCosts, Refuted, Undecided}
 use Rattle.form_search.specs.Advised.{AreAdvisorsLeft, IsSearched}
-use Rattle.cost_branching.specs.Advising.{AreAskedInTurn, IsAskedAt}
-use Rattle.cost_branching.specs.Decisions.{IsNoCosts}
+use Rattle.printed_rows.specs.NewNumbers.{ArePrinted, HasNumbers, named_in, new_number}
+use Rattle.cost_branching.specs.Pools.{Pooled}
+use Rattle.cost_branching.specs.Advising.{IsAskedAt}
 use Rattle.cost_branching.proofs.Advising.{cap_searched, turns_left}
 use Rattle.least_bound.specs.declared.progress.Best.{Best}
-use Rattle.least_bound.specs.declared.progress.Best.TheVariants.{NoCosts, Costs, Between}
+use Rattle.least_bound.specs.declared.progress.Best.TheVariants.{Costs}
 use Rattle.least_bound.specs.declared.progress.Progress.{Progress}
-use Rattle.least_bound.specs.Asking.{AreSettledCaps, CapDecision, StopsAtCap, IsCapReached, IsCapRefuted, IsCeilingFirst, IsNoCapLeft}
-use Rattle.least_bound.specs.Caps.{AreWithoutCosts, AreCapsDone, IsProgressOf}
+use Rattle.least_bound.specs.Asking.{AreAskedAtCaps, AreCapsBehind, AreCapsInOrder, AreSettledCaps, CapDecision, CapsSoFar, TellsCaps, TellsFound, after_cap, after_ceiling, cap_between, next_cap, unfinished_after}
+use Rattle.least_bound.specs.Caps.{caps_of, known_costs, unfinished_of}
+use Rattle.least_bound.specs.Printing.{ArePrintedIfAny}
 
 -- a cap, and what a search found at it
-abbrev pub decision : ℕ → Found → CapDecision
-decision cap found = record { cap = cap; found = found }
+abbrev pub decision : ℕ → Pooled → Found → CapDecision
+decision cap pool found = record { cap = cap; pool = pool; found = found }
 
--- the last one of some decisions is among them
-among_last : (decisions : List CapDecision) (d : CapDecision) → Contains (decisions ++ d ∷ []) d
-among_last decisions d = Contains-append_right decisions (d ∷ []) d (0, omega arith, refl)
+-- The caps so far.
 
--- more decisions leave what was decided
+-- what comes in order behind what the caps have come to since, does so behind these caps from the old on
+abbrev pub AreCapsBefore : DesignProblem → CapsSoFar → CapsSoFar → List CapDecision → Type 0
+AreCapsBefore p old new ds = (more : List CapDecision) (a : AnswerParts) → AreCapsInOrder p new more a → AreCapsInOrder p old (ds ++ more) a
 
-reached_more : (decisions more : List CapDecision) (most : ℕ) → IsCapReached decisions most → IsCapReached (decisions ++ more) most
-reached_more decisions more most is = (is.0, Contains-append_left decisions more is.0 is.1, is.2)
+-- one cap more
+pub before_more : (p : DesignProblem) (old mid new : CapsSoFar) (ds : List CapDecision) (d : CapDecision) → AreCapsBefore p old mid ds →
+    next_cap p mid ≡ Some d.cap → new ≡ after_cap mid d.cap d.found → AreCapsBefore p old new (ds ++ d ∷ [])
+before_more p old mid new ds d before next is = λ more a are.
+    subst (λ (es : List CapDecision). AreCapsInOrder p old es a) (sym (append_assoc ds (d ∷ []) more))
+    (before (d ∷ more) a (next, subst (λ (s : CapsSoFar). AreCapsInOrder p s more a) is are))
 
-refuted_more : (decisions more : List CapDecision) (cap : ℕ) → IsCapRefuted decisions cap → IsCapRefuted (decisions ++ more) cap
-refuted_more decisions more cap is = (is.0, Contains-append_left decisions more (decision cap (Refuted is.0)) is.1)
+-- none is left
+pub ended_before : (p : DesignProblem) (old new : CapsSoFar) (ds : List CapDecision) (a : AnswerParts) → AreCapsBefore p old new ds →
+    next_cap p new ≡ None → TellsCaps p new a → AreCapsInOrder p old ds a
+ended_before p old new ds a before next tells =
+    subst (λ (es : List CapDecision). AreCapsInOrder p old es a) (append-nil ds) (before [] a (next, tells))
 
-ceiling_more : (p : DesignProblem) (decisions more : List CapDecision) → IsCeilingFirst p decisions → IsCeilingFirst p (decisions ++ more)
-ceiling_more p decisions more is = (is.0, is.1 ++ more, ap (λ (ds : List CapDecision). ds ++ more) is.2)
+-- the next cap by what is known
+pub next_is : (p : DesignProblem) (progress : Progress) (next : Option ℕ) → progress.floor ≡ greatest_cost p.low →
+    next ≡ cap_between progress.floor progress.least progress.most (known_costs progress.best) → next_cap p (caps_of progress) ≡ next
+next_is p progress next floor is = sym (is ∙ ap (λ (k : ℕ). cap_between k progress.least progress.most (known_costs progress.best)) floor)
 
-without_more : (decisions : List CapDecision) (d : CapDecision) (best : Best) → IsNoCosts d.found → AreWithoutCosts decisions best →
-    AreWithoutCosts (decisions ++ d ∷ []) best
-without_more decisions d (NoCosts t) none are = All-push (λ e. IsNoCosts e.found) decisions d are none
-without_more decisions d (Costs w) none are = tt
-without_more decisions d (Between w t) none are = tt
+-- What is known behind a cap.
 
--- where the least comes from
-abbrev IsLeastOf : DesignProblem → List CapDecision → ℕ → Type 0
-IsLeastOf p decisions least = (least ≡ greatest_cost p.low) ⊎ ((below : ℕ) × (below + 1 ≡ least) × IsCapRefuted decisions below)
+-- costs were found at it
+pub caps_costs : (progress : Progress) (cap most : ℕ) (found : Found) (w : List ℕ) → found ≡ FoundCosts w → most ≡ greatest_cost w →
+    caps_of (record progress { most = most; best = Costs w }) ≡ after_cap (caps_of progress) cap found
+caps_costs progress cap most found w found_is most_is =
+    ap (λ (k : ℕ). caps_of (record progress { most = k; best = Costs w })) most_is ∙ ap (λ (f : Found). after_cap (caps_of progress) cap f) (sym found_is)
 
-least_more : (p : DesignProblem) (decisions more : List CapDecision) (least : ℕ) → IsLeastOf p decisions least → IsLeastOf p (decisions ++ more) least
-least_more p decisions more least (inl floor) = inl floor
-least_more p decisions more least (inr refuted) = inr (refuted.0, refuted.1, refuted_more decisions more refuted.0 refuted.2)
+-- the budget was used up at it
+pub caps_undecided : (progress : Progress) (cap : ℕ) (found : Found) (tree : List Entry) (best : Best) → found ≡ Undecided tree →
+    known_costs best ≡ known_costs progress.best →
+    unfinished_of best ≡ unfinished_after (known_costs progress.best) (unfinished_of progress.best) (record { cap = cap; tree = tree }) →
+    caps_of (record progress { most = cap; best = best }) ≡ after_cap (caps_of progress) cap found
+caps_undecided progress cap found tree best found_is costs_are tree_is =
+    both ∙ ap (λ (f : Found). after_cap (caps_of progress) cap f) (sym found_is)
+  where
+    both : caps_of (record progress { most = cap; best = best }) ≡ after_cap (caps_of progress) cap (Undecided tree)
+    both = λ i. record { least = progress.least; most = cap; costs = costs_are i; refuted = progress.kept; unfinished = tree_is i }
 
--- the first cap
+-- The greatest upper bound.
 
-pub ceiling_first : (p : DesignProblem) (cap : ℕ) (found : Found) → cap ≡ greatest_bound p → IsCeilingFirst p (decision cap found ∷ [])
-ceiling_first p cap found is = (found, [], ap (λ (k : ℕ). decision k found ∷ []) is)
+-- it was refuted
+pub settled_refuted : (p : DesignProblem) (cap : ℕ) (pool : Pooled) (found : Found) (tree : List Entry) (a : AnswerParts) → cap ≡ greatest_bound p →
+    found ≡ Refuted tree → TellsFound p None (Some (record { cap = cap; tree = tree })) None a → AreSettledCaps p (decision cap pool found ∷ []) a
+settled_refuted p cap pool found tree a cap_is found_is tells = (
+  cap_is,
+  subst (λ (f : Found). AreCapsBehind p f [] a) (sym found_is)
+      (refl, subst (λ (k : ℕ). TellsFound p None (Some (record { cap = k; tree = tree })) None a) cap_is tells),
+)
 
-pub settled_at_once : (p : DesignProblem) (cap : ℕ) (tree : List Entry) → cap ≡ greatest_bound p → AreSettledCaps p (decision cap (Refuted tree) ∷ [])
-settled_at_once p cap tree is = record {
-  first = ceiling_first p cap (Refuted tree) is;
-  settled = inl (tree, (0, omega arith, ap (λ (k : ℕ). decision k (Refuted tree)) is));
+-- costs were found at it
+pub settled_by_costs : (p : DesignProblem) (cap : ℕ) (pool : Pooled) (found : Found) (w : List ℕ) (s : CapsSoFar) (ds : List CapDecision)
+    (a : AnswerParts) → cap ≡ greatest_bound p → found ≡ FoundCosts w → s ≡ after_ceiling p (FoundCosts w) → AreCapsInOrder p s ds a →
+    AreSettledCaps p (decision cap pool found ∷ ds) a
+settled_by_costs p cap pool found w s ds a cap_is found_is s_is are = (
+  cap_is,
+  subst (λ (f : Found). AreCapsBehind p f ds a) (sym found_is) (subst (λ (t : CapsSoFar). AreCapsInOrder p t ds a) s_is are),
+)
+
+-- the budget was used up at it
+pub settled_undecided : (p : DesignProblem) (cap : ℕ) (pool : Pooled) (found : Found) (tree : List Entry) (s : CapsSoFar) (ds : List CapDecision)
+    (a : AnswerParts) → cap ≡ greatest_bound p → found ≡ Undecided tree → s ≡ after_ceiling p (Undecided tree) → AreCapsInOrder p s ds a →
+    AreSettledCaps p (decision cap pool found ∷ ds) a
+settled_undecided p cap pool found tree s ds a cap_is found_is s_is are = (
+  cap_is,
+  subst (λ (f : Found). AreCapsBehind p f ds a) (sym found_is) (subst (λ (t : CapsSoFar). AreCapsInOrder p t ds a) s_is are),
+)
+
+-- What the answer tells.
+
+-- the costs as they are printed, and the trees with the new numbers of the rows
+pub told_found : (p : DesignProblem) (found : Option (List ℕ)) (kept lent spent : Option CapTree) (old : List Row) (a : AnswerParts) → lent ≡ kept →
+    ArePrinted old lent spent a.rows a.proof a.unfinished → ArePrintedIfAny p found a.costs → TellsFound p found kept spent a
+told_found p found kept lent spent old a same printed costs = record {
+  costs = costs;
+  number = new_number (named_in lent spent);
+  proof = subst (λ (t : Option CapTree). HasNumbers (new_number (named_in lent spent)) t a.proof) same printed.proof_is;
+  unfinished = printed.unfinished_is;
 }
 
-pub first_reached : (cap most : ℕ) (found : Found) → StopsAtCap most cap found → IsCapReached (decision cap found ∷ []) most
-first_reached cap most found ends = (decision cap found, (0, omega arith, refl), ends)
-
-pub first_without : (cap : ℕ) (found : Found) → IsNoCosts found → All (λ (d : CapDecision). IsNoCosts d.found) (decision cap found ∷ [])
-first_without cap found none zero d k_in = none
-first_without cap found none (suc k) d k_in = absurd (omega arith)
-
-pub from_start : (p : DesignProblem) (decisions : List CapDecision) (floor most : ℕ) (best : Best) → floor ≡ greatest_cost p.low →
-    IsCeilingFirst p decisions → IsCapReached decisions most → AreWithoutCosts decisions best →
-    IsProgressOf p decisions (record { floor = floor; least = floor; most = most; kept = None; best = best })
-from_start p decisions floor most best is first reached without = record {
-  first = first;
-  least = inl is;
-  most = reached;
-  without = without;
-}
-
--- a further cap
-
-pub from_costs : (p : DesignProblem) (decisions : List CapDecision) (progress : Progress) (cap : ℕ) (w : List ℕ) (most : ℕ) →
-    IsProgressOf p decisions progress → most ≡ greatest_cost w →
-    IsProgressOf p (decisions ++ decision cap (FoundCosts w) ∷ [])
-    (record { floor = progress.floor; least = progress.least; most = most; kept = progress.kept; best = Costs w })
-from_costs p decisions progress cap w most was is =
-    let d : CapDecision = decision cap (FoundCosts w) in
-    record {
-      first = ceiling_more p decisions (d ∷ []) was.first;
-      least = least_more p decisions (d ∷ []) progress.least was.least;
-      most = (d, among_last decisions d, sym is);
-      without = tt;
-    }
-
-pub from_refuted : (p : DesignProblem) (decisions : List CapDecision) (progress new : Progress) (cap : ℕ) (tree : List Entry) →
-    IsProgressOf p decisions progress → new.least ≡ cap + 1 → new.most ≡ progress.most → new.best ≡ progress.best →
-    IsProgressOf p (decisions ++ decision cap (Refuted tree) ∷ []) new
-from_refuted p decisions progress new cap tree was least most best =
-    let d : CapDecision = decision cap (Refuted tree) in
-    record {
-      first = ceiling_more p decisions (d ∷ []) was.first;
-      least = inr (cap, sym least, (tree, among_last decisions d));
-      most = subst (λ (k : ℕ). IsCapReached (decisions ++ d ∷ []) k) (sym most) (reached_more decisions (d ∷ []) progress.most was.most);
-      without = subst (λ (b : Best). AreWithoutCosts (decisions ++ d ∷ []) b) (sym best) (without_more decisions d progress.best tt was.without);
-    }
-
-pub from_undecided : (p : DesignProblem) (decisions : List CapDecision) (progress new : Progress) (cap : ℕ) (tree : List Entry) →
-    IsProgressOf p decisions progress → new.least ≡ progress.least → new.most ≡ cap → AreWithoutCosts decisions new.best →
-    IsProgressOf p (decisions ++ decision cap (Undecided tree) ∷ []) new
-from_undecided p decisions progress new cap tree was least most without =
-    let d : CapDecision = decision cap (Undecided tree) in
-    record {
-      first = ceiling_more p decisions (d ∷ []) was.first;
-      least = subst (λ (k : ℕ). IsLeastOf p (decisions ++ d ∷ []) k) (sym least) (least_more p decisions (d ∷ []) progress.least was.least);
-      most = (d, among_last decisions d, sym most);
-      without = without_more decisions d new.best tt without;
-    }
-
--- no cap is left
-
--- below the least there is none
-none_below : (p : DesignProblem) (decisions : List CapDecision) (least most : ℕ) → IsLeastOf p decisions least → least ≤ most → most ≤ least →
-    IsNoCapLeft p decisions most
-none_below p decisions least most (inl floor) from to = inl (omega arith)
-none_below p decisions least most (inr refuted) from to = inr (inl (refuted.0, omega (arith, refuted.1), refuted.2))
-
-none_left : (p : DesignProblem) (decisions : List CapDecision) (floor least most : ℕ) (best : Best) → floor ≡ greatest_cost p.low →
-    IsLeastOf p decisions least → least ≤ most → AreWithoutCosts decisions best → AreCapsDone floor least most best → IsNoCapLeft p decisions most
-none_left p decisions floor least most (NoCosts t) is from ordered without narrowed = elim (cases_lt least most) [
-  | inl wide ↦ inr (inr (without, omega (arith, narrowed wide)))
-  | inr narrow ↦ none_below p decisions least most from ordered narrow
-]
-none_left p decisions floor least most (Costs w) is from ordered without narrowed = none_below p decisions least most from ordered narrowed
-none_left p decisions floor least most (Between w t) is from ordered without narrowed = none_below p decisions least most from ordered narrowed
-
-pub settled_of : (p : DesignProblem) (decisions : List CapDecision) (progress : Progress) → IsProgressOf p decisions progress →
-    progress.floor ≡ greatest_cost p.low → progress.least ≤ progress.most →
-    AreCapsDone progress.floor progress.least progress.most progress.best → AreSettledCaps p decisions
-settled_of p decisions progress of floor ordered narrowed = record {
-  first = of.first;
-  settled = inr (
-    progress.most,
-    of.most,
-    none_left p decisions progress.floor progress.least progress.most progress.best floor of.least ordered of.without narrowed,
-  );
-}
-
--- how the advisors stand
+-- what the best so far is told to be
+pub told_best : (p : DesignProblem) (kept : Option CapTree) (best known : Best) (a : AnswerParts) → best ≡ known →
+    TellsFound p (known_costs known) kept (unfinished_of known) a → TellsFound p (known_costs best) kept (unfinished_of best) a
+told_best p kept best known a is tells = subst (λ (b : Best). TellsFound p (known_costs b) kept (unfinished_of b) a) (sym is) tells
 
 -- the searches at these caps are searches
 pub called_at_caps : {A : Type 0} (IsItself : A → A → Type 0) (state : A → List ℕ) (would : A → List ℕ → List Candidate → ℕ)
     (left : A → List ℕ → List Candidate → List ℕ) (after : A → List ℕ → Entry → List ℕ) (p : DesignProblem) (top nodes : ℕ)
     (decisions : List CapDecision) (old new : List A) →
-    AreAskedInTurn (λ d. IsAskedAt IsItself state would left after p top nodes d.cap d.found) decisions old new →
+    AreAskedAtCaps IsItself state would left after p top nodes decisions old new →
     AreAdvisorsLeft (IsSearched IsItself state would left after) old new
 called_at_caps IsItself state would left after p top nodes decisions old new are =
-    turns_left (λ (d : CapDecision). IsAskedAt IsItself state would left after p top nodes d.cap d.found) (IsSearched IsItself state would left after)
+    turns_left (λ (d : CapDecision). IsAskedAt IsItself state would left after p top nodes d.cap d.pool d.found) (IsSearched IsItself state would left after)
     decisions old new
-    (λ d xs ys asked. cap_searched IsItself state would left after p top nodes d.cap d.found xs ys asked) are
-
--- what the caps so far come to, and a further one
-pub progress_more : (p : DesignProblem) (decisions more : List CapDecision) (d : CapDecision) (progress new : Progress) →
-    (IsProgressOf p (decisions ++ more) progress → IsProgressOf p ((decisions ++ more) ++ d ∷ []) new) →
-    IsProgressOf p (decisions ++ more) progress → IsProgressOf p (decisions ++ (more ++ d ∷ [])) new
-progress_more p decisions more d progress new further was =
-    subst (λ (ds : List CapDecision). IsProgressOf p ds new) (append_assoc decisions more (d ∷ [])) (further was)
+    (λ d xs ys asked. cap_searched IsItself state would left after p top nodes d.cap d.pool d.found xs ys asked) are

@@ -1,17 +1,18 @@
 -- What is known of the least greatest cost while caps are decided. No public clause cites it.
-use Rattle.std.specs.Prelude.{◌≡◌, ◌⊎◌, ℕ, ◌+◌, ◌<◌, ◌≤◌, List, All, Contains, Option, None, Some}
+use Rattle.std.specs.Prelude.{◌≡◌, ℕ, ◌+◌, ◌<◌, ◌≤◌, List, Contains, Option, None, Some}
 use Rattle.design_problem.specs.declared.tree.Entry.TheVariants.{Undone}
 use Rattle.design_problem.specs.declared.answer.CapTree.{CapTree}
 use Rattle.design_problem.specs.Problems.{DesignProblem}
 use Rattle.design_problem.specs.Rows.{IsFit, greatest_cost}
 use Rattle.design_problem.specs.Trees.{IsClosed, entry_count}
-use Rattle.design_problem.specs.Answers.{greatest_bound}
+use Rattle.design_problem.specs.Answers.{AnswerParts, greatest_bound}
+use Rattle.cut_advisors.specs.declared.advisor.Advisor.{Ghosts}
 use Rattle.cost_branching.specs.Pools.{Pooled}
-use Rattle.cost_branching.specs.Decisions.{IsNoCosts, IsTreeAt}
+use Rattle.cost_branching.specs.Decisions.{IsTreeAt}
 use Rattle.least_bound.specs.declared.progress.Best.{Best}
 use Rattle.least_bound.specs.declared.progress.Best.TheVariants.{NoCosts, Costs, Between}
 use Rattle.least_bound.specs.declared.progress.Progress.{Progress}
-use Rattle.least_bound.specs.Asking.{CapDecision, IsCapReached, IsCapRefuted, IsCeilingFirst}
+use Rattle.least_bound.specs.Asking.{AreAskedAtCaps, AreCapsInOrder, CapDecision, CapsSoFar}
 
 -- a closed tree at its cap, of at most N entries
 pub record IsRefuted (p : DesignProblem) (top nodes : ℕ) (pool : Pooled) (t : CapTree) : Type 0 where
@@ -55,18 +56,34 @@ pub record IsProgress (p : DesignProblem) (top nodes : ℕ) (pool : Pooled) (pro
   pub kept : IsKeptAt p top nodes pool progress.least progress.kept
   pub best : BestHolds p top nodes pool progress.most progress.best
 
--- without costs so far, no search found any
-abbrev pub AreWithoutCosts : List CapDecision → Best → Type 0
-AreWithoutCosts decisions (NoCosts t) = All (λ d. IsNoCosts d.found) decisions
-AreWithoutCosts decisions (Costs w) = Unit {0}
-AreWithoutCosts decisions (Between w t) = Unit {0}
+-- the costs of the best so far, if there are any
+abbrev pub known_costs : Best → Option (List ℕ)
+known_costs (NoCosts t) = None
+known_costs (Costs w) = Some w
+known_costs (Between w t) = Some w
 
--- what is known comes of the decided caps, of which the greatest upper bound came first
-pub record IsProgressOf (p : DesignProblem) (decisions : List CapDecision) (progress : Progress) : Type 0 where
-  pub first : IsCeilingFirst p decisions
-  pub least : (progress.least ≡ greatest_cost p.low) ⊎ ((below : ℕ) × (below + 1 ≡ progress.least) × IsCapRefuted decisions below)
-  pub most : IsCapReached decisions progress.most
-  pub without : AreWithoutCosts decisions progress.best
+-- its unfinished tree, if there is one
+abbrev pub unfinished_of : Best → Option CapTree
+unfinished_of (NoCosts t) = Some t
+unfinished_of (Costs w) = None
+unfinished_of (Between w t) = Some t
+
+-- what the caps so far have come to, by what is known
+abbrev pub caps_of : Progress → CapsSoFar
+caps_of progress = record {
+  least = progress.least;
+  most = progress.most;
+  costs = known_costs progress.best;
+  refuted = progress.kept;
+  unfinished = unfinished_of progress.best;
+}
+
+-- behind what the caps so far have come to, a search called the advisors, by their rules, for each further one, until the answer
+abbrev pub AreAskedOn : {A V : Type 0} {X : V → Type 0} → ((rules : V) → Ghosts (X rules)) → (A → V) → (A → List ℕ) →
+    DesignProblem → ℕ → ℕ → CapsSoFar → List A → List A → AnswerParts → Type 0
+AreAskedOn members rules state p top nodes s old new a = (ds : List CapDecision) × AreCapsInOrder p s ds a
+    × AreAskedAtCaps (λ b c. rules c ≡ rules b) state (λ b. (members (rules b)).would) (λ b. (members (rules b)).left)
+    (λ b. (members (rules b)).after) p top nodes ds old new
 
 -- no cap is left to decide; without costs the floor itself isn't one
 abbrev pub AreCapsDone : ℕ → ℕ → ℕ → Best → Type 0

@@ -1,4 +1,4 @@
--- What is printed beside the rows and trees: a floor, and costs where there are some. No public clause cites it.
+-- What is printed beside the rows and trees: a floor, and costs where there are some.
 use Rattle.std.specs.Prelude.{◌≡◌, ℕ, ◌<◌, List, length, slice_index, Option, None, Some}
 use Rattle.design_problem.specs.declared.answer.CapTree.{CapTree}
 use Rattle.design_problem.specs.declared.answer.Costs.{Costs}

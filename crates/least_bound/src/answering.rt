@@ -1,12 +1,13 @@
 //! Answers to a problem, by what the decided caps have come to.
-ghost use Rattle.std.specs.Prelude.{◌≡◌, ℕ, ◌≤◌, IfOk, IfSome};
+ghost use Rattle.std.specs.Prelude.{◌≡◌, ℕ, ◌≤◌, IfOk, IfSome, None, Some};
 ghost use Rattle.std.specs.Option.{option_copied};
 ghost use Rattle.design_problem.specs.Rows.{IsFit, greatest_cost};
 ghost use Rattle.design_problem.specs.Answers.{greatest_bound};
 ghost use Rattle.printed_rows.specs.PrintedCosts.{ArePrintedCosts};
 ghost use Rattle.cost_branching.specs.Pools.{IsRowPool};
 ghost use Rattle.least_bound.specs.Answered.{IsDesignAnswer};
-ghost use Rattle.least_bound.specs.Caps.{IsKeptAt, IsTreeKeptBelow, IsProgress, AreCapsDone, IsRefuted, IsUndecidedAt, CostsFound};
+ghost use Rattle.least_bound.specs.Asking.{TellsCaps, TellsFound};
+ghost use Rattle.least_bound.specs.Caps.{caps_of, IsKeptAt, IsTreeKeptBelow, IsProgress, AreCapsDone, IsRefuted, IsUndecidedAt, CostsFound};
 ghost use Rattle.least_bound.specs.Printing.{ArePrintedIfAny, IsFloorFor};
 
 use crate::greatest::floor_of;
@@ -28,9 +29,11 @@ pub(crate) fn impossible(
     requires ceiling { ceiling ≡ greatest_bound problem.now }
     requires refuted { (top : ℕ) × (nodes : ℕ) × (nodes ≤ 10000000) ×
         IsRefuted problem.now top nodes pool (record { cap = ceiling; tree = tree }) }
-    ensures { (top nodes : ℕ) → IsRefuted problem.now top nodes pool
+    ensures answered { (top nodes : ℕ) → IsRefuted problem.now top nodes pool
         (record { cap = ceiling; tree = tree }) → IfOk result
         (IsDesignAnswer problem.now top nodes) }
+    ensures tells { IfOk result (TellsFound problem.now None
+        (Some (record { cap = ceiling; tree = tree })) None) }
 {
     keeps_conditions(problem);
     let alloc = pool.alloc();
@@ -67,8 +70,10 @@ fn optimal(
     requires fit { IsFit problem.now costs.now }
     requires kept { (top : ℕ) × (nodes : ℕ) × (nodes ≤ 10000000) ×
         IsKeptAt problem.now top nodes pool (greatest_cost costs.now) kept }
-    ensures { (top nodes : ℕ) → IsKeptAt problem.now top nodes pool (greatest_cost costs.now) kept →
+    ensures answered { (top nodes : ℕ) →
+        IsKeptAt problem.now top nodes pool (greatest_cost costs.now) kept →
         IfOk result (IsDesignAnswer problem.now top nodes) }
+    ensures tells { IfOk result (TellsFound problem.now (Some costs.now) kept None) }
 {
     keeps_conditions(problem);
     let alloc = pool.alloc();
@@ -131,9 +136,12 @@ fn undecided(
     requires trees { (top : ℕ) × (nodes : ℕ) × (nodes ≤ 10000000) ×
         IsTreeKeptBelow problem.now top nodes pool unfinished.cap kept ×
         IsUndecidedAt problem.now top nodes pool unfinished }
-    ensures { (top nodes : ℕ) → IsTreeKeptBelow problem.now top nodes pool unfinished.cap kept →
+    ensures answered { (top nodes : ℕ) →
+        IsTreeKeptBelow problem.now top nodes pool unfinished.cap kept →
         IsUndecidedAt problem.now top nodes pool unfinished →
         IfOk result (IsDesignAnswer problem.now top nodes) }
+    ensures tells { IfOk result (TellsFound problem.now (option_copied costs.entry) kept
+        (Some unfinished)) }
 {
     keeps_conditions(problem);
     let alloc = pool.alloc();
@@ -156,8 +164,9 @@ impl Progress {
         requires ended { AreCapsDone self.floor self.least self.most self.best }
         requires progress { (top : ℕ) × (nodes : ℕ) × (nodes ≤ 10000000) ×
             IsProgress problem.now top nodes pool self }
-        ensures { (top nodes : ℕ) → IsProgress problem.now top nodes pool self →
+        ensures answered { (top nodes : ℕ) → IsProgress problem.now top nodes pool self →
             IfOk result (IsDesignAnswer problem.now top nodes) }
+        ensures tells { IfOk result (TellsCaps problem.now (caps_of self)) }
     {
         let Progress { kept, best, .. } = self;
         match best {

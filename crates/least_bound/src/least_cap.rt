@@ -1,10 +1,10 @@
 //! The least cap.
-ghost use Rattle.std.specs.Prelude.{ℕ, ◌≤◌, List, IfOk, OnOk};
+ghost use Rattle.std.specs.Prelude.{◌≤◌, IfOk};
 ghost use Rattle.form_search.specs.Advised.{AreCalled};
 ghost use Rattle.cost_branching.specs.Pools.{IsRowPool};
 ghost use Rattle.least_bound.specs.Answered.{IsDesignAnswer};
-ghost use Rattle.least_bound.specs.Asking.{AreAskedOn, AreAskedUntilSettled, CapDecision};
-ghost use Rattle.least_bound.specs.Caps.{IsProgress, IsProgressOf};
+ghost use Rattle.least_bound.specs.Asking.{AreAskedAnswering};
+ghost use Rattle.least_bound.specs.Caps.{AreAskedOn, IsProgress, caps_of};
 
 use crate::answering::impossible;
 use crate::progress::{Best, Progress};
@@ -26,9 +26,8 @@ fn narrowed(
     requires pool { IsRowPool problem.now pool }
     requires progress { IsProgress problem.now limits.now.top limits.now.nodes pool progress }
     ensures answered { IfOk result (IsDesignAnswer problem.now limits.now.top limits.now.nodes) }
-    ensures asked { (decisions : List CapDecision) → IsProgressOf problem.now decisions progress →
-        OnOk result (AreAskedOn ⟦<dyn Advisor as Advisor>⟧ (λ b. b.vtable) (λ b. state b)
-        problem.now limits.now.top limits.now.nodes decisions advisors.old.items
+    ensures asked { IfOk result (AreAskedOn ⟦<dyn Advisor as Advisor>⟧ (λ b. b.vtable) (λ b. state b)
+        problem.now limits.now.top limits.now.nodes (caps_of progress) advisors.old.items
         advisors.new.items) }
     ensures advisors { AreCalled ⟦<dyn Advisor as Advisor>⟧ (λ b. b.vtable) (λ b. state b)
         advisors.old.items advisors.new.items }
@@ -62,8 +61,8 @@ pub fn least(
     ensures answered { IfOk result (IsDesignAnswer problem.now limits.now.top limits.now.nodes) }
 
     // The advisors are asked and told by one search for each cap that is decided: the greatest upper bound first, and
-    // then others until the problem is settled.
-    ensures asked { OnOk result (AreAskedUntilSettled ⟦<dyn Advisor as Advisor>⟧ (λ b. b.vtable)
+    // then each that comes next until none is left. The answer tells what these searches found.
+    ensures asked { IfOk result (AreAskedAnswering ⟦<dyn Advisor as Advisor>⟧ (λ b. b.vtable)
         (λ b. state b) problem.now limits.now.top limits.now.nodes advisors.old.items
         advisors.new.items) }
     ensures advisors { AreCalled ⟦<dyn Advisor as Advisor>⟧ (λ b. b.vtable) (λ b. state b)

@@ -1,11 +1,11 @@
 //! What is known of the least greatest cost while caps are decided.
-ghost use Rattle.std.specs.Prelude.{◌≡◌, ℕ, ◌+◌, ◌<◌, ◌≤◌, List, [], ◌∷◌, ◌++◌, IfSome, None};
+ghost use Rattle.std.specs.Prelude.{◌≡◌, ℕ, ◌+◌, ◌-◌, ◌<◌, ◌≤◌, max, IfSome, None};
 ghost use Rattle.design_problem.specs.Problems.{DesignProblem, IsProblem};
 ghost use Rattle.design_problem.specs.Rows.{greatest_cost};
 ghost use Rattle.cost_branching.specs.Pools.{Pooled, IsRowPool, MoreRows};
 ghost use Rattle.cost_branching.specs.Decisions.{IsDecided};
-ghost use Rattle.least_bound.specs.Asking.{CapDecision, IsCapReached, IsCeilingFirst};
-ghost use Rattle.least_bound.specs.Caps.{AreWithoutCosts, BestHolds, AreCapsDone, IsProgress, IsProgressOf, IsUndecidedAt};
+ghost use Rattle.least_bound.specs.Asking.{after_cap, cap_between, climbed_cap, halved_cap, unfinished_after};
+ghost use Rattle.least_bound.specs.Caps.{AreCapsDone, BestHolds, IsProgress, IsUndecidedAt, caps_of, known_costs, unfinished_of};
 
 use cost_branching::Found;
 use design_problem::{CapTree, CostList, Problem, Tree, greatest_of};
@@ -37,7 +37,8 @@ pub(crate) struct Progress {
 }
 
 /// The cap in the middle, rounded down, of those from `least - 1` to `most`.
-fn middle_cap(least: u16, most: u16) -> Option<u16>
+fn halved_cap(least: u16, most: u16) -> Option<u16>
+    ensures rule { result ≡ halved_cap least most }
     ensures within { IfSome result (λ cap. (least ≤ cap) × (cap < most)) }
     ensures ended { result ≡ None → most ≤ least }
 {
@@ -53,6 +54,7 @@ fn middle_cap(least: u16, most: u16) -> Option<u16>
 /// is next to `most`.
 fn climbed_cap(floor: u16, least: u16, most: u16) -> Option<u16>
     requires { floor ≤ least }
+    ensures rule { result ≡ climbed_cap floor (max (least - 1) floor) most }
     ensures within { IfSome result (λ cap. (least ≤ cap) × (cap < most)) }
     ensures ended { result ≡ None → least < most → most ≤ floor + 1 }
 {
@@ -74,8 +76,9 @@ impl Best {
             BestHolds p top nodes old most self → MoreRows old new →
             IsUndecidedAt p top nodes new stuck → stuck.cap < most →
             BestHolds p top nodes new stuck.cap result }
-        ensures without { (decisions : List CapDecision) → AreWithoutCosts decisions self →
-            AreWithoutCosts decisions result }
+        ensures costs { known_costs result ≡ known_costs self }
+        ensures unfinished { unfinished_of result ≡ unfinished_after (known_costs self)
+            (unfinished_of self) stuck }
     {
         match self {
             Best::NoCosts(tree) => Best::NoCosts(tree),
@@ -92,9 +95,13 @@ impl Progress {
         ensures holds { (top nodes : ℕ) (pool : Pooled) →
             BestHolds problem.now top nodes pool most best →
             IsProgress problem.now top nodes pool result }
-        ensures from { (decisions : List CapDecision) → IsCeilingFirst problem.now decisions →
-            IsCapReached decisions most → AreWithoutCosts decisions best →
-            IsProgressOf problem.now decisions result }
+        ensures caps { caps_of result ≡ record {
+          least = greatest_cost problem.now.low;
+          most = most;
+          costs = known_costs best;
+          refuted = None;
+          unfinished = unfinished_of best;
+        } }
     {
         let floor = greatest_of(problem.low.as_slice());
         Progress {
@@ -109,13 +116,15 @@ impl Progress {
     /// The next cap to decide, if one is left.
     pub(crate) fn next_cap(&self) -> Option<u16>
         requires { self.now.floor ≤ self.now.least }
+        ensures rule { result ≡ cap_between self.now.floor self.now.least self.now.most
+            (known_costs self.now.best) }
         ensures within { IfSome result (λ cap. (self.now.least ≤ cap) × (cap < self.now.most)) }
         ensures ended { result ≡ None → AreCapsDone self.now.floor self.now.least self.now.most
             self.now.best }
     {
         match &self.best {
             Best::NoCosts(_) => climbed_cap(self.floor, self.least, self.most),
-            Best::Costs(_) | Best::Between(_, _) => middle_cap(self.least, self.most),
+            Best::Costs(_) | Best::Between(_, _) => halved_cap(self.least, self.most),
         }
     }
 
@@ -126,9 +135,7 @@ impl Progress {
         ensures holds { (p : DesignProblem) (top nodes : ℕ) (old new : Pooled) → IsProblem p →
             IsRowPool p new → MoreRows old new → IsProgress p top nodes old self →
             IsDecided p top nodes cap new found → IsProgress p top nodes new result }
-        ensures from { (p : DesignProblem) (decisions : List CapDecision) →
-            IsProgressOf p decisions self →
-            IsProgressOf p (decisions ++ record { cap = cap; found = found } ∷ []) result }
+        ensures caps { caps_of result ≡ after_cap (caps_of self) cap found }
         ensures nearer { (p : DesignProblem) (top nodes : ℕ) (pool : Pooled) →
             IsDecided p top nodes cap pool found → result.most + self.least <
             self.most + result.least }

@@ -15,7 +15,7 @@ use Rattle.report_writer.proofs.ReportLaws.{may_report}
 use Rattle.conflict_core.specs.declared.conflict.Conflict.{Conflict}
 use Rattle.conflict_core.specs.declared.conflict.Conflict.TheVariants.{Fits, Core, Undecided}
 use Rattle.conflict_core.specs.Conflicts.{IsConflictFound}
-use Rattle.path_commands.specs.Conflicts.{MayConflict, conflict_text, conflict_status}
+use Rattle.path_commands.specs.Conflicts.{MayConflict, TellsConflict, conflict_text, conflict_status}
 
 -- what was found may be written
 found_may : (limits : Bounds) (d : Input) (conflict : Conflict) →
@@ -27,12 +27,12 @@ found_may limits d (Undecided members rows tree) found = record { conflict = Und
 
 -- the report of what was found of the problem that was read, and for which the advisors were asked
 pub conflict_found : (Given : List Taken → Type 0) (limits : Bounds) (names : InputFiles) (p : DesignProblem)
-    (conflict : Conflict) (report : Report) (asks : Input → Type 0) →
+    (conflict : Conflict) (report : Report) (asks : Input → Conflict → Type 0) →
     Gave Given (λ came. IsReadAndMade (outcome AsRequested names) came IsProblemOf p) →
     IsConflictFound p limits.top limits.nodes conflict →
-    Reports (conflict_status conflict) (conflict_text p conflict) report → ((d : Input) → d.problem ≡ p → asks d) →
+    Reports (conflict_status conflict) (conflict_text p conflict) report → ((d : Input) → d.problem ≡ p → asks d conflict) →
     Gave Given (λ came. IsReadAndMade (outcome AsRequested names) came
-    (λ (made : Report) d. MayConflict limits d made.status (bytes_in made.text) × asks d) report)
+    (λ (made : Report) d. MayConflict limits d made.status (bytes_in made.text) × TellsConflict d.problem (asks d) (bytes_in made.text)) report)
 conflict_found Given limits names p conflict report asks read found r asked =
     let d : Input = read.so.said in
     let same = read.so.fits.0 in
@@ -48,7 +48,7 @@ conflict_found Given limits names p conflict report asks read found r asked =
         ends = read.so.ends;
         fits = (
           may_report (MayConflict limits d) (conflict_status conflict) (conflict_text d.problem conflict) report reports (found_may limits d conflict of_d),
-          asked d same,
+          (conflict, reports.text, asked d same),
         );
       };
     }

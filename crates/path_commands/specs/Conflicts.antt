@@ -53,6 +53,10 @@ pub record ShowsConflict (limits : Bounds) (p : DesignProblem) (aim : Status) (b
   pub status : conflict_status conflict ≡ aim
   pub spelled : bytes ≡ conflict_text p conflict
 
+-- the bytes are the text of something that was found of the problem, for which the advisors were asked so
+abbrev pub TellsConflict : DesignProblem → (Conflict → Type 0) → List ℕ → Type 0
+TellsConflict p Asks bytes = (c : Conflict) × (bytes ≡ conflict_text p c) × Asks c
+
 -- `conflict`: fit costs of the whole problem, or a least conflict; or that the budget was used up
 abbrev pub MayConflict : Bounds → Input → Status → List ℕ → Type 0
 MayConflict limits d Done bytes = ShowsConflict limits d.problem Done bytes

@@ -5,10 +5,10 @@ ghost use Rattle.input_files.specs.Readings.{Gave};
 ghost use Rattle.input_files.specs.Outcomes.{outcome};
 ghost use Rattle.input_files.specs.Stops.{IsReadAs, files_named};
 ghost use Rattle.report_writer.specs.Reports.{Reports, bytes_in};
-ghost use Rattle.conflict_core.specs.Asking.{AreAskedOfSets};
+ghost use Rattle.conflict_core.specs.Asking.{AreAskedFinding};
 ghost use Rattle.conflict_core.specs.Conflicts.{IsConflictFound};
 ghost use Rattle.form_search.specs.Advised.{AreCalled};
-ghost use Rattle.path_commands.specs.Conflicts.{MayConflict, conflict_text, conflict_status};
+ghost use Rattle.path_commands.specs.Conflicts.{MayConflict, TellsConflict, conflict_text, conflict_status};
 
 use crate::conflict_text::text_of_conflict;
 use conflict_core::{Conflict, find_conflict};
@@ -64,8 +64,9 @@ pub fn conflict_report<'a, S: Shelf>(
     ensures read { Gave (S.gave shelf.old shelf.new) (λ came. IsReadAs
         (outcome View.AsRequested (files_named words.entry)) came
         (λ report d. MayConflict (bounds limits.now) d report.status (bytes_in report.text) ×
-        AreAskedOfSets ⟦<dyn Advisor as Advisor>⟧ (λ b. b.vtable) (λ b. state b) d.problem
-        limits.now.top limits.now.nodes advisors.old.items advisors.new.items) result) }
+        TellsConflict d.problem (AreAskedFinding ⟦<dyn Advisor as Advisor>⟧ (λ b. b.vtable)
+        (λ b. state b) d.problem limits.now.top limits.now.nodes advisors.old.items
+        advisors.new.items) (bytes_in report.text)) result) }
 
     // Where a file stopped it, no advisor was asked.
     ensures stopped { IfErr result (λ stop. (stop ≡ Stop.OutOfMemory) ⊎

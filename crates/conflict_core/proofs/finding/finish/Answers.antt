@@ -1,15 +1,13 @@
 -- The core has no fit costs, so it is refuted again, or the budget is used up.
-use Rattle.std.proofs.Common.{◌∙◌, refl, subst, ℕ, List}
+use Rattle.std.proofs.Common.{◌∙◌, refl, subst, ℕ, List, [], ◌∷◌}
+use Rattle.std.proofs.lemmas.Result.{IfOk-weaker}
 use Rattle.design_problem.specs.Problems.{restricted}
 use Rattle.design_problem.specs.Rows.{IsFit}
-use Rattle.form_search.specs.declared.found.Found.{Found}
-use Rattle.form_search.specs.declared.found.Found.TheVariants as finds
 use Rattle.form_search.proofs.AdvisorLaws.{left_alike}
 use Rattle.conflict_core.specs.declared.deciding.Decided.{Decided}
 use Rattle.conflict_core.specs.declared.deciding.Decided.TheVariants.{Refuted, Undecided}
-use Rattle.cost_branching.proofs.Advising.{where_ok}
 use Rattle.conflict_core.specs.Deciding.{IsSetDecided}
-use Rattle.conflict_core.proofs.Asking.{asked_as, asked_same}
+use Rattle.conflict_core.proofs.Asking.{asked_as, decision_of, shown_there, unshown_there}
 use Rattle.conflict_core.proofs.finding.finish.Goals as goal
 
 pub returns-in_err-members-clause-advisors : goal.returns-in_err-members-clause-advisors
@@ -30,7 +28,7 @@ returns-in-Refuted-clause-found g c =
     let limits = c.args.limits.now in
     let found : IsSetDecided p limits.top limits.nodes c.in_ok-members.members.items (Refuted c.in-Refuted.conflict) =
     subst (λ (d : Decided). IsSetDecided p limits.top limits.nodes c.in_ok-members.members.items d) c.in-Refuted.is c.in_ok-decide_set.ensures.decided in
-    c.core.ensures limits.top limits.nodes found.1
+    c.core.ensures.found limits.top limits.nodes found.1
 
 pub returns-in-Undecided-clause-found : goal.returns-in-Undecided-clause-found
 returns-in-Undecided-clause-found g c =
@@ -38,30 +36,40 @@ returns-in-Undecided-clause-found g c =
     let limits = c.args.limits.now in
     let found : IsSetDecided p limits.top limits.nodes c.in_ok-members.members.items (Undecided c.in-Undecided.set) =
     subst (λ (d : Decided). IsSetDecided p limits.top limits.nodes c.in_ok-members.members.items d) c.in-Undecided.is c.in_ok-decide_set.ensures.decided in
-    c.undecided.ensures limits.top limits.nodes found.1
+    c.undecided.ensures.found limits.top limits.nodes found.1
 
 pub returns-in-Refuted-clause-asked : goal.returns-in-Refuted-clause-asked
 returns-in-Refuted-clause-asked g c =
     let p = c.args.problem.now in
-    let top = c.args.limits.now.top in
-    let nodes = c.args.limits.now.nodes in
-    let found : Found = finds.Refuted c.in-Refuted.conflict.tree in
-    where_ok c.core.result (
-      found,
-      tt,
-      asked_same _ _ _ _ _ p top nodes c.in_ok-members.members.items c.args.shrunk.members found _ _ (c.in_ok-members.ensures.items ∙ c.as_slice.ensures)
-          (asked_as _ _ _ _ _ p top nodes c.in_ok-members.members.items _ (Refuted c.in-Refuted.conflict) _ _ c.in-Refuted.is c.in_ok-decide_set.ensures.asked),
-    )
+    let limits = c.args.limits.now in
+    let t = c.in-Refuted.conflict in
+    let members = c.in_ok-members.members.items in
+    let set = c.args.shrunk.members in
+    let same = c.in_ok-members.ensures.items ∙ c.as_slice.ensures in
+    let found : IsSetDecided p limits.top limits.nodes members (Refuted t) =
+    subst (λ (d : Decided). IsSetDecided p limits.top limits.nodes members d) c.in-Refuted.is c.in_ok-decide_set.ensures.decided in
+    let asked = asked_as _ _ _ _ _ p limits.top limits.nodes members set _ (Refuted t) _ _ same c.in-Refuted.is c.in_ok-decide_set.ensures.asked in
+    IfOk-weaker c.core.result _ _ (λ end told. (
+      decision_of set asked.0 (Refuted t) ∷ [],
+      shown_there c.args.shrunk t c.requires.ended (found.0 ∙ same) end told,
+      (c.decide_set.new.advisors.items, asked.1, refl),
+    ))
+    c.core.ensures.told
 
 pub returns-in-Undecided-clause-asked : goal.returns-in-Undecided-clause-asked
 returns-in-Undecided-clause-asked g c =
     let p = c.args.problem.now in
-    let top = c.args.limits.now.top in
-    let nodes = c.args.limits.now.nodes in
-    let found : Found = finds.Undecided c.in-Undecided.set.tree in
-    where_ok c.undecided.result (
-      found,
-      tt,
-      asked_same _ _ _ _ _ p top nodes c.in_ok-members.members.items c.args.shrunk.members found _ _ (c.in_ok-members.ensures.items ∙ c.as_slice.ensures)
-          (asked_as _ _ _ _ _ p top nodes c.in_ok-members.members.items _ (Undecided c.in-Undecided.set) _ _ c.in-Undecided.is c.in_ok-decide_set.ensures.asked),
-    )
+    let limits = c.args.limits.now in
+    let t = c.in-Undecided.set in
+    let members = c.in_ok-members.members.items in
+    let set = c.args.shrunk.members in
+    let same = c.in_ok-members.ensures.items ∙ c.as_slice.ensures in
+    let found : IsSetDecided p limits.top limits.nodes members (Undecided t) =
+    subst (λ (d : Decided). IsSetDecided p limits.top limits.nodes members d) c.in-Undecided.is c.in_ok-decide_set.ensures.decided in
+    let asked = asked_as _ _ _ _ _ p limits.top limits.nodes members set _ (Undecided t) _ _ same c.in-Undecided.is c.in_ok-decide_set.ensures.asked in
+    IfOk-weaker c.undecided.result _ _ (λ end told. (
+      decision_of set asked.0 (Undecided t) ∷ [],
+      unshown_there c.args.shrunk t c.requires.ended (found.0 ∙ same) end told,
+      (c.decide_set.new.advisors.items, asked.1, refl),
+    ))
+    c.undecided.ensures.told

@@ -1,20 +1,20 @@
 use Rattle.std.proofs.Common.{◌≡◌, ◌-◌, List, length}
 use Rattle.cost_branching.specs.Advising.{AreAskedInTurn}
 use Rattle.conflict_core.specs.Asking.{IsAskedOfSet, SetDecision}
-use Rattle.conflict_core.specs.Deciding.{AreCostsFound, IsShrunk}
+use Rattle.conflict_core.specs.Deciding.{AreBefore, IsShrunk}
 use Rattle.conflict_core.proofs.finding.shrink.Given as goal
 
--- the conflict so far, and the searches that found its costs and left the advisors as they stand
+-- the conflict so far, and the searches that led to it and left the advisors as they stand
 abbrev pub invariant-loop-shrunk : goal.invariant-loop-shrunk
 invariant-loop-shrunk g l = record {
   shrunk : IsShrunk l.problem l.shrunk;
-  asked : (decisions : List SetDecision) × AreCostsFound decisions l.shrunk.without.items
+  asked : (ds : List SetDecision) × AreBefore l.initial.shrunk l.shrunk ds
       × AreAskedInTurn
       (IsAskedOfSet (λ b c. c.vtable ≡ b.vtable) (λ b. (goal.Advisor-dyn g (b.vtable, b.value)).state b.value)
       (λ b. (goal.Advisor-dyn g (b.vtable, b.value)).would) (λ b. (goal.Advisor-dyn g (b.vtable, b.value)).left)
       (λ b. (goal.Advisor-dyn g (b.vtable, b.value)).after)
       l.problem l.limits.top l.limits.nodes)
-      decisions l.initial.advisors.items l.advisors.items;
+      ds l.initial.advisors.items l.advisors.items;
 }
 
 -- the members that are left to try

@@ -1,7 +1,13 @@
 -- What is told of the set at which the budget was used up.
+use Rattle.conflict_core.proofs.Asking.{told_undecided}
 use Rattle.conflict_core.proofs.ShrinkingLaws.{undecided_found}
 use Rattle.conflict_core.proofs.finding.undecided.Goals as goal
 
-pub returns : goal.returns
-returns c = λ top nodes spent. undecided_found c.args.problem.now top nodes c.args.set c.in_ok-members.field-0 spent
+pub returns-clause-found : goal.returns-clause-found
+returns-clause-found c = λ top nodes spent. undecided_found c.args.problem.now top nodes c.args.set c.in_ok-members.field-0 spent
     c.requires.tried (c.in_ok-members.ensures top nodes spent.tree)
+
+pub returns-clause-told : goal.returns-clause-told
+returns-clause-told c =
+    let spent = c.requires.spent in
+    told_undecided c.args.problem.now spent.0 spent.1 c.args.set c.in_ok-members.field-0 (c.in_ok-members.ensures spent.0 spent.1 spent.2.tree)

@@ -1,19 +1,15 @@
 -- What comes of leaving out the next member.
 use Rattle.std.proofs.Common.{◌∙◌, refl, sym, subst, ap, ℕ, List, [], ◌∷◌, length}
-use Rattle.std.specs.Prelude.{Contains}
-use Rattle.std.proofs.lemmas.List.{append-nil}
-use Rattle.std.proofs.lemmas.List.Elements.{All-cons, All-nil, Contains-push}
+use Rattle.std.specs.List.{remove}
 use Rattle.design_problem.specs.Problems.{restricted}
 use Rattle.design_problem.specs.Rows.{IsFit}
-use Rattle.form_search.specs.declared.found.Found.TheVariants as finds
 use Rattle.form_search.proofs.AdvisorLaws.{left_alike}
 use Rattle.conflict_core.specs.declared.deciding.Decided.{Decided}
 use Rattle.conflict_core.specs.declared.deciding.Decided.TheVariants.{Costs, Refuted, Undecided}
 use Rattle.conflict_core.specs.declared.shrinking.Shrunk.{Shrunk}
-use Rattle.conflict_core.specs.Asking.{SetDecision}
 use Rattle.conflict_core.specs.Conflicts.{IsRequestSet}
-use Rattle.conflict_core.specs.Deciding.{AreCostsFound, IsSetDecided}
-use Rattle.conflict_core.proofs.Asking.{asked_as}
+use Rattle.conflict_core.specs.Deciding.{IsSetDecided}
+use Rattle.conflict_core.proofs.Asking.{asked_as, decision_of, needed_before, refuted_before, stuck_there, unused_before}
 use Rattle.conflict_core.proofs.Sets.{rest_set}
 use Rattle.conflict_core.proofs.ShrinkingLaws.{less_one, more_costs, not_used, refuted_less}
 use Rattle.conflict_core.proofs.shrinking.leave_out.Goals as goal
@@ -72,45 +68,63 @@ returns-in-Undecided-clause-turned g c =
     )
 
 pub returns-then-not-uses_next-clause-asked : goal.returns-then-not-uses_next-clause-asked
-returns-then-not-uses_next-clause-asked g c =
-    ([], [], ap (λ (s : Shrunk). s.without.items) c.with_members.ensures ∙ sym (append-nil c.args.shrunk.without.items), All-nil _, refl)
+returns-then-not-uses_next-clause-asked g c = (
+  [],
+  unused_before c.args.shrunk c.with_members.result c.requires.left
+      (sym c.uses_next.ensures ∙ c.if-not-uses_next.true)
+      (ap (λ (s : Shrunk). s.members) c.with_members.ensures ∙ c.in_ok-others.ensures)
+      (ap (λ (s : Shrunk). s.rows) c.with_members.ensures)
+      (ap (λ (s : Shrunk). s.without.items) c.with_members.ensures),
+  refl,
+)
 
 pub returns-in_ok-with_costs-in-Costs-clause-asked : goal.returns-in_ok-with_costs-in-Costs-clause-asked
 returns-in_ok-with_costs-in-Costs-clause-asked g c =
+    let limits = c.args.limits.now in
     let costs = c.in-Costs.costs in
-    let set = c.in_ok-others.others.items in
-    let decision : SetDecision = record { set = set; found = finds.Costs costs } in
-    let found : AreCostsFound (decision ∷ []) (costs ∷ []) = All-cons (λ w. (ms : List ℕ) × Contains (decision ∷ []) (record { set = ms; found = finds.Costs w })) costs []
-    (set, Contains-push [] decision) (All-nil _) in (
-      decision ∷ [],
-      costs ∷ [],
-      c.in_ok-with_costs-in-Costs.ensures.without,
-      found,
-      (
-        c.decide_set.new.advisors.items,
-        asked_as _ _ _ _ _ c.args.problem.now c.args.limits.now.top c.args.limits.now.nodes set _ (Costs costs) _ _ c.in-Costs.is c.in_ok-costs.ensures.asked,
-        refl,
-      ),
+    let made = c.in_ok-with_costs-in-Costs in
+    let rest = remove c.args.shrunk.members (length c.args.shrunk.without.items) in
+    let asked = asked_as _ _ _ _ _ c.args.problem.now limits.top limits.nodes c.in_ok-others.others.items rest _ (Costs costs) _ _
+    c.in_ok-others.ensures c.in-Costs.is c.in_ok-costs.ensures.asked in (
+      decision_of rest asked.0 (Costs costs) ∷ [],
+      needed_before c.args.shrunk made.field-0 asked.0 costs c.requires.left (sym c.uses_next.ensures ∙ c.if-not-uses_next.false)
+          made.ensures.members made.ensures.rows made.ensures.without,
+      (c.decide_set.new.advisors.items, asked.1, refl),
     )
 
 pub returns-in_ok-told-in-Refuted-clause-asked : goal.returns-in_ok-told-in-Refuted-clause-asked
 returns-in_ok-told-in-Refuted-clause-asked g c =
-    let set = c.in_ok-others.others.items in
-    let decision : SetDecision = record { set = set; found = finds.Refuted c.in-Refuted.conflict.tree } in (
-      decision ∷ [],
-      [],
-      ap (λ (s : Shrunk). s.without.items) c.with_told.ensures ∙ sym (append-nil c.args.shrunk.without.items),
-      All-nil _,
-      (
-        c.decide_set.new.advisors.items,
-        asked_as _ _ _ _ _ c.args.problem.now c.args.limits.now.top c.args.limits.now.nodes set _ (Refuted c.in-Refuted.conflict) _ _ c.in-Refuted.is c.in_ok-costs.ensures.asked,
-        refl,
-      ),
+    let p = c.args.problem.now in
+    let limits = c.args.limits.now in
+    let t = c.in-Refuted.conflict in
+    let others = c.in_ok-others.others.items in
+    let found : IsSetDecided p limits.top limits.nodes others (Refuted t) =
+    subst (λ (d : Decided). IsSetDecided p limits.top limits.nodes others d) c.in-Refuted.is c.in_ok-costs.ensures.decided in
+    let rest = remove c.args.shrunk.members (length c.args.shrunk.without.items) in
+    let asked = asked_as _ _ _ _ _ p limits.top limits.nodes others rest _ (Refuted t) _ _
+    c.in_ok-others.ensures c.in-Refuted.is c.in_ok-costs.ensures.asked in (
+      decision_of rest asked.0 (Refuted t) ∷ [],
+      refuted_before p limits.top limits.nodes t c.in_ok-told-in-Refuted.told c.args.shrunk c.with_told.result c.requires.left
+          (sym c.uses_next.ensures ∙ c.if-not-uses_next.false) (found.0 ∙ c.in_ok-others.ensures)
+          (c.in_ok-told-in-Refuted.ensures limits.top limits.nodes found.1.tree)
+          (ap (λ (s : Shrunk). s.members) c.with_told.ensures)
+          (ap (λ (s : Shrunk). s.rows) c.with_told.ensures)
+          (ap (λ (s : Shrunk). s.without.items) c.with_told.ensures),
+      (c.decide_set.new.advisors.items, asked.1, refl),
     )
 
 pub returns-in-Undecided-clause-asked : goal.returns-in-Undecided-clause-asked
 returns-in-Undecided-clause-asked g c =
-    let set = c.in_ok-others.others.items in (
-      set,
-      asked_as _ _ _ _ _ c.args.problem.now c.args.limits.now.top c.args.limits.now.nodes set _ (Undecided c.in-Undecided.set) _ _ c.in-Undecided.is c.in_ok-costs.ensures.asked,
+    let p = c.args.problem.now in
+    let limits = c.args.limits.now in
+    let t = c.in-Undecided.set in
+    let others = c.in_ok-others.others.items in
+    let found : IsSetDecided p limits.top limits.nodes others (Undecided t) =
+    subst (λ (d : Decided). IsSetDecided p limits.top limits.nodes others d) c.in-Undecided.is c.in_ok-costs.ensures.decided in
+    let rest = remove c.args.shrunk.members (length c.args.shrunk.without.items) in
+    let asked = asked_as _ _ _ _ _ p limits.top limits.nodes others rest _ (Undecided t) _ _
+    c.in_ok-others.ensures c.in-Undecided.is c.in_ok-costs.ensures.asked in (
+      decision_of rest asked.0 (Undecided t) ∷ [],
+      stuck_there c.args.shrunk t c.requires.left (sym c.uses_next.ensures ∙ c.if-not-uses_next.false) (found.0 ∙ c.in_ok-others.ensures),
+      (c.decide_set.new.advisors.items, asked.1, refl),
     )

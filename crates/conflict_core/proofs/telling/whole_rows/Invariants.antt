@@ -1,5 +1,5 @@
 use Rattle.std.proofs.Common.{◌≡◌, ◌++◌, map}
-use Rattle.conflict_core.specs.Deciding.{whole_row}
+use Rattle.conflict_core.specs.Conflicts.{whole_row}
 use Rattle.conflict_core.proofs.telling.whole_rows.Given as goal
 
 -- the rows so far, and those that are left

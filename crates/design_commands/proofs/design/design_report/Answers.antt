@@ -14,7 +14,7 @@ returns-clause-read g c =
     design_found (g.S.Shelf.gave c.args.shelf.now c.read_problem.new.shelf) (bounds c.args.limits.now)
     (files_named c.args.words) c.in_ok-problem.problem c.in_ok-answer.answer c.in_ok-report_of_answer.field-0 _
     c.in_ok-problem.ensures.read c.in_ok-answer.ensures.answered c.in_ok-report_of_answer.ensures
-    (λ d same. same_asked _ _ _ _ _ c.in_ok-problem.problem d.problem (bounds c.args.limits.now) (bounds c.args.limits.now) _ _ same refl
+    (λ d same. same_asked _ _ _ _ _ c.in_ok-problem.problem d.problem (bounds c.args.limits.now) (bounds c.args.limits.now) _ _ _ same refl
     c.in_ok-answer.ensures.asked)
 
 pub returns-in_err-report_of_answer-clause-read : goal.returns-in_err-report_of_answer-clause-read

@@ -13,9 +13,9 @@ use Rattle.design_commands.proofs.trial.report_on_texts.Goals as goal
 pub returns-clause-read : goal.returns-clause-read
 returns-clause-read g c =
     tried_found (g.S.Shelf.gave c.args.shelf.now c.read_problem.new.shelf) c.args.trial.blocks c.args.trial.start
-    (files_named c.args.words) c.in_ok-problem.problem c.in_ok-report_of_trial.field-0 _ c.in_ok-problem.ensures.read
-    c.in_ok-report_of_trial.ensures
-    (λ d same. same_asked _ _ _ _ _ c.in_ok-problem.problem d.problem (bounds c.trial_limits.result) trial_limits _ _ same c.trial_limits.ensures
+    (files_named c.args.words) c.in_ok-problem.problem c.in_ok-answer.answer c.in_ok-report_of_trial.field-0 _ c.in_ok-problem.ensures.read
+    c.in_ok-answer.ensures.answered.value c.in_ok-report_of_trial.ensures.tries c.in_ok-report_of_trial.ensures.text
+    (λ d same. same_asked _ _ _ _ _ c.in_ok-problem.problem d.problem (bounds c.trial_limits.result) trial_limits _ _ _ same c.trial_limits.ensures
     c.in_ok-answer.ensures.asked)
 
 pub returns-in_err-answer-clause-read : goal.returns-in_err-answer-clause-read

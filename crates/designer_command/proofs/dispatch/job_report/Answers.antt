@@ -4,7 +4,7 @@ use Rattle.form_search.proofs.AdvisorLaws.{left_alike}
 use Rattle.text_lines.specs.Arguments.{texts}
 use Rattle.command_words.specs.Jobs.{bounds}
 use Rattle.command_words.specs.Jobs as read
-use Rattle.input_files.specs.declared.problem.View.TheVariants.{AsRequested, BesidePresent}
+use Rattle.input_files.specs.declared.problem.View.TheVariants.{BesidePresent}
 use Rattle.input_files.specs.Outcomes.{outcome}
 use Rattle.input_files.specs.Stops.{files_named}
 use Rattle.change_commands.specs.Changes.{MayChange}
@@ -32,7 +32,7 @@ returns-in-Design-clause-made g c =
     (MayDesign limits) _ _ c.design_report.result (files_named c.files-words.result)
     (input_files_of c.deref.result.now (texts c.deref-in-Design.result.now))
     (rw (c.in-Design.is, c.deref.ensures, c.deref-in-Design.ensures.value) refl) c.files-words.ensures
-    c.design_report.ensures.read c.design_report.ensures.stopped (λ came h. h) (λ came h. h)
+    c.design_report.ensures.read c.design_report.ensures.stopped (λ came h. h) (λ came bytes h. h)
 
 pub returns-in-Check-clause-made : goal.returns-in-Check-clause-made
 returns-in-Check-clause-made g c =
@@ -40,7 +40,7 @@ returns-in-Check-clause-made g c =
     job_made given _ c.args.job.now
     (read.Check c.deref-in-Check.result.now c.deref-in-Check-3.result.now (texts c.deref-in-Check-2.result.now))
     c.check_report.result
-    (rw (c.in-Check.is, c.deref-in-Check.ensures, c.deref-in-Check-3.ensures, c.deref-in-Check-2.ensures.value) refl) (λ came. refl)
+    (rw (c.in-Check.is, c.deref-in-Check.ensures, c.deref-in-Check-3.ensures, c.deref-in-Check-2.ensures.value) refl) (λ came bytes. refl)
     (files_made given (λ names. claim_read names c.deref-in-Check-3.result.now) MayCheck c.check_report.result
     (files_named c.files.result) (input_files_of c.deref-in-Check.result.now (texts c.deref-in-Check-2.result.now))
     c.files.ensures c.check_report.ensures)
@@ -53,7 +53,7 @@ returns-in-Audit-clause-made g c =
     let given = g.S.Shelf.gave c.args.shelf.now c.made_audit.new.shelf in
     job_made given _ c.args.job.now
     (read.Audit c.deref-in-Audit.result.now (option_map string_bytes c.in-Audit.live) (texts c.deref-in-Audit-2.result.now))
-    c.made_audit.result (rw (c.in-Audit.is, c.deref-in-Audit.ensures, c.deref-in-Audit-2.ensures.value) refl) (λ came. refl)
+    c.made_audit.result (rw (c.in-Audit.is, c.deref-in-Audit.ensures, c.deref-in-Audit-2.ensures.value) refl) (λ came bytes. refl)
     c.made_audit.ensures
 
 pub returns-in-Audit-clause-advisors : goal.returns-in-Audit-clause-advisors
@@ -63,7 +63,7 @@ pub returns-in-Rewrite-clause-made : goal.returns-in-Rewrite-clause-made
 returns-in-Rewrite-clause-made g c =
     job_made (g.S.Shelf.gave c.args.shelf.now c.rewrite_report.new.shelf) _ c.args.job.now
     (read.Rewrite c.deref-in-Rewrite.result.now c.deref-in-Rewrite-2.result.now) c.rewrite_report.result
-    (rw (c.in-Rewrite.is, c.deref-in-Rewrite.ensures, c.deref-in-Rewrite-2.ensures) refl) (λ came. refl) c.rewrite_report.ensures
+    (rw (c.in-Rewrite.is, c.deref-in-Rewrite.ensures, c.deref-in-Rewrite-2.ensures) refl) (λ came bytes. refl) c.rewrite_report.ensures
 
 pub returns-in-Rewrite-clause-advisors : goal.returns-in-Rewrite-clause-advisors
 returns-in-Rewrite-clause-advisors g c = left_alike _ _ _ refl
@@ -82,7 +82,7 @@ returns-in-Conflict-clause-made g c =
     (MayConflict limits) _ _ c.conflict_report.result (files_named c.files-words-in-Conflict.result)
     (input_files_of c.deref-in-Conflict.result.now (texts c.deref-in-Conflict-2.result.now))
     (rw (c.in-Conflict.is, c.deref-in-Conflict.ensures, c.deref-in-Conflict-2.ensures.value) refl) c.files-words-in-Conflict.ensures
-    c.conflict_report.ensures.read c.conflict_report.ensures.stopped (λ came h. h) (λ came h. h)
+    c.conflict_report.ensures.read c.conflict_report.ensures.stopped (λ came h. h) (λ came bytes h. h)
 
 pub returns-in-Spread-clause-made : goal.returns-in-Spread-clause-made
 returns-in-Spread-clause-made g c =
@@ -92,7 +92,7 @@ returns-in-Spread-clause-made g c =
     (read.Spread (record { request = c.deref-in-Spread.result.now; limits = limits; configs = texts c.deref-in-Spread-2.result.now })
     c.deref-in-Spread-3.result.now)
     c.spread_report.result
-    (rw (c.in-Spread.is, c.deref-in-Spread.ensures, c.deref-in-Spread-2.ensures.value, c.deref-in-Spread-3.ensures) refl) (λ came. refl)
+    (rw (c.in-Spread.is, c.deref-in-Spread.ensures, c.deref-in-Spread-2.ensures.value, c.deref-in-Spread-3.ensures) refl) (λ came bytes. refl)
     (files_made given (λ names. spread_read names c.deref-in-Spread-3.result.now) (MaySpread limits)
     c.spread_report.result (files_named c.files-words-in-Spread.result)
     (input_files_of c.deref-in-Spread.result.now (texts c.deref-in-Spread-2.result.now)) c.files-words-in-Spread.ensures
@@ -110,7 +110,7 @@ returns-in-Total-clause-made g c =
     (MayTotal limits) _ _ c.total_report.result (files_named c.files-words-in-Total.result)
     (input_files_of c.deref-in-Total.result.now (texts c.deref-in-Total-2.result.now))
     (rw (c.in-Total.is, c.deref-in-Total.ensures, c.deref-in-Total-2.ensures.value) refl) c.files-words-in-Total.ensures
-    c.total_report.ensures.read c.total_report.ensures.stopped (λ came h. h) (λ came h. h)
+    c.total_report.ensures.read c.total_report.ensures.stopped (λ came h. h) (λ came bytes h. h)
 
 pub returns-in-Change-clause-made : goal.returns-in-Change-clause-made
 returns-in-Change-clause-made g c =
@@ -118,7 +118,7 @@ returns-in-Change-clause-made g c =
     let limits = bounds c.in-Change.search.limits in
     job_made given _ c.args.job.now
     (read.Change (record { request = c.deref-in-Change.result.now; limits = limits; configs = texts c.deref-in-Change-2.result.now }))
-    c.change_report.result (rw (c.in-Change.is, c.deref-in-Change.ensures, c.deref-in-Change-2.ensures.value) refl) (λ came. refl)
+    c.change_report.result (rw (c.in-Change.is, c.deref-in-Change.ensures, c.deref-in-Change-2.ensures.value) refl) (λ came bytes. refl)
     (files_made given (outcome BesidePresent) (MayChange limits) c.change_report.result (files_named c.files-words-in-Change.result)
     (input_files_of c.deref-in-Change.result.now (texts c.deref-in-Change-2.result.now)) c.files-words-in-Change.ensures
     c.change_report.ensures)
@@ -132,7 +132,7 @@ returns-in-Steps-clause-made g c =
     job_made given _ c.args.job.now
     (read.Steps c.deref-in-Steps-2.result.now c.deref-in-Steps.result.now c.in-Steps.nodes c.in-Steps.by (texts c.deref-in-Steps-3.result.now))
     c.steps_report.result
-    (rw (c.in-Steps.is, c.deref-in-Steps.ensures, c.deref-in-Steps-2.ensures, c.deref-in-Steps-3.ensures.value) refl) (λ came. refl)
+    (rw (c.in-Steps.is, c.deref-in-Steps.ensures, c.deref-in-Steps-2.ensures, c.deref-in-Steps-3.ensures.value) refl) (λ came bytes. refl)
     (files_made given (λ names. plan_read names c.deref-in-Steps.result.now) (MaySteps c.in-Steps.nodes c.in-Steps.by) c.steps_report.result
     (files_named c.files-in-Steps.result) (input_files_of c.deref-in-Steps-2.result.now (texts c.deref-in-Steps-3.result.now))
     c.files-in-Steps.ensures c.steps_report.ensures)
@@ -146,7 +146,7 @@ returns-in-Compare-clause-made g c =
     job_made given _ c.args.job.now
     (read.Compare c.deref-in-Compare-3.result.now c.deref-in-Compare.result.now (texts c.deref-in-Compare-2.result.now))
     c.compare_report.result
-    (rw (c.in-Compare.is, c.deref-in-Compare.ensures, c.deref-in-Compare-3.ensures, c.deref-in-Compare-2.ensures.value) refl) (λ came. refl)
+    (rw (c.in-Compare.is, c.deref-in-Compare.ensures, c.deref-in-Compare-3.ensures, c.deref-in-Compare-2.ensures.value) refl) (λ came bytes. refl)
     (files_made given (λ names. compare_read names c.deref-in-Compare-3.result.now) MayCompare c.compare_report.result
     (files_named c.files-in-Compare.result) (input_files_of c.deref-in-Compare.result.now (texts c.deref-in-Compare-2.result.now))
     c.files-in-Compare.ensures c.compare_report.ensures)
@@ -157,7 +157,7 @@ returns-in-Compare-clause-advisors g c = left_alike _ _ _ refl
 pub returns-in-Help-clause-made : goal.returns-in-Help-clause-made
 returns-in-Help-clause-made g c =
     let given = g.S.Shelf.gave c.args.shelf.now c.args.shelf.now in
-    job_made given _ c.args.job.now (read.Help c.in-Help.topic) c.told_help.result (ap read.seen c.in-Help.is) (λ came. refl)
+    job_made given _ c.args.job.now (read.Help c.in-Help.topic) c.told_help.result (ap read.seen c.in-Help.is) (λ came bytes. refl)
     (record { came = []; given = g.met.S.Shelf.gave_none c.args.shelf.now; so = (refl, c.told_help.ensures) })
 
 pub returns-in-Help-clause-advisors : goal.returns-in-Help-clause-advisors
@@ -166,7 +166,7 @@ returns-in-Help-clause-advisors g c = left_alike _ _ _ refl
 pub returns-in-Version-clause-made : goal.returns-in-Version-clause-made
 returns-in-Version-clause-made g c =
     let given = g.S.Shelf.gave c.args.shelf.now c.args.shelf.now in
-    job_made given _ c.args.job.now read.Version c.told_version.result (ap read.seen c.in-Version.is) (λ came. refl)
+    job_made given _ c.args.job.now read.Version c.told_version.result (ap read.seen c.in-Version.is) (λ came bytes. refl)
     (record { came = []; given = g.met.S.Shelf.gave_none c.args.shelf.now; so = (refl, c.told_version.ensures) })
 
 pub returns-in-Version-clause-advisors : goal.returns-in-Version-clause-advisors
@@ -176,7 +176,7 @@ pub returns-in-Lsas-clause-made : goal.returns-in-Lsas-clause-made
 returns-in-Lsas-clause-made g c =
     let given = g.S.Shelf.gave c.args.shelf.now c.lsas_report.new.shelf in
     job_made given _ c.args.job.now (read.Lsas c.deref-in-Lsas.result.now (texts c.deref-in-Lsas-2.result.now))
-    c.lsas_report.result (rw (c.in-Lsas.is, c.deref-in-Lsas.ensures, c.deref-in-Lsas-2.ensures.value) refl) (λ came. refl)
+    c.lsas_report.result (rw (c.in-Lsas.is, c.deref-in-Lsas.ensures, c.deref-in-Lsas-2.ensures.value) refl) (λ came bytes. refl)
     (files_made given identified_read MayLsas c.lsas_report.result (files_named c.files-in-Lsas.result)
     (input_files_of c.deref-in-Lsas.result.now (texts c.deref-in-Lsas-2.result.now)) c.files-in-Lsas.ensures
     c.lsas_report.ensures)
@@ -188,7 +188,7 @@ pub returns-in-Route-clause-made : goal.returns-in-Route-clause-made
 returns-in-Route-clause-made g c =
     job_made (g.S.Shelf.gave c.args.shelf.now c.route_report.new.shelf) _ c.args.job.now
     (read.Route c.deref-in-Route.result.now c.in-Route.from c.in-Route.to) c.route_report.result
-    (rw (c.in-Route.is, c.deref-in-Route.ensures) refl) (λ came. refl) c.route_report.ensures
+    (rw (c.in-Route.is, c.deref-in-Route.ensures) refl) (λ came bytes. refl) c.route_report.ensures
 
 pub returns-in-Route-clause-advisors : goal.returns-in-Route-clause-advisors
 returns-in-Route-clause-advisors g c = left_alike _ _ _ refl

@@ -1,18 +1,14 @@
 -- What was written of the report is right for what came of the files.
-use Rattle.std.proofs.Common.{◌≡◌, refl, sym, ap, subst, inl, inr, [], Err, Some, None}
+use Rattle.std.proofs.Common.{◌≡◌, refl, sym, ap, subst, [], Err, Some, None}
 use Rattle.form_search.proofs.AdvisorLaws.{left_alike}
-use Rattle.cost_base.specs.declared.Status.TheVariants as status
 use Rattle.command_words.specs.declared.job.WordsStop.{WordsStop}
 use Rattle.command_words.specs.Jobs.{seen}
 use Rattle.command_words.specs.Commands.{job_of}
 use Rattle.text_lines.specs.Arguments.{texts}
-use Rattle.report_writer.specs.Reports.{IsWritten, bytes_in}
-use Rattle.designer_command.specs.Usage.{usage}
-use Rattle.designer_command.specs.Runs.{MayWrite}
-use Rattle.designer_command.proofs.Asking.{asked_end, job_done, run_meets}
-use Rattle.designer_command.proofs.Runs.{made_meets, wants_none, written_meets, writes_none}
+use Rattle.designer_command.specs.Runs.{MayWrite, MayWriteAsking}
+use Rattle.designer_command.proofs.Asking.{asking_none, job_done, refused_meets, run_meets}
+use Rattle.designer_command.proofs.Runs.{made_meets, wants_none, writes_none}
 use Rattle.report_writer.proofs.Cuts.{made_by_pieces, none_by_pieces, text_by_pieces}
-use Rattle.report_writer.proofs.ReportLaws.{may_report}
 use Rattle.designer_command.proofs.top_call.run.Goals as goal
 
 pub returns-in-Ok : goal.returns-in-Ok
@@ -28,18 +24,16 @@ returns-in-Ok g c =
       meets = run_meets (texts c.args.words.now) _ (g.S.Shelf.gave a b) _ _ _ (g.K.Sink.handed o p) (g.K.Sink.got o) (g.K.Sink.got p)
           (g.K.Sink.faults o) (g.K.Sink.faults p) c.write_made.result (Some (seen c.in-Ok.job)) did.came c.in-Ok.ensures.job did.given
           (g.met.S.Shelf.gave_told a b did.came did.given) (g.met.S.Shelf.gave_counted a b did.came did.given)
-          (made_meets (p ≡ o) (MayWrite (Some (seen c.in-Ok.job)) did.came) (g.K.Sink.handed o p) (g.K.Sink.got o)
+          (made_meets (p ≡ o) (MayWriteAsking (MayWrite (Some (seen c.in-Ok.job)) did.came) _) (g.K.Sink.handed o p) (g.K.Sink.got o)
           (g.K.Sink.got p) (g.K.Sink.faults o) (g.K.Sink.faults p) c.report_of.result c.write_made.result
-          (writes_none (Some (seen c.in-Ok.job)) did.came) (g.met.K.Sink.handed_got o p)
+          (asking_none (MayWrite (Some (seen c.in-Ok.job)) did.came) _ (writes_none (Some (seen c.in-Ok.job)) did.came)) (g.met.K.Sink.handed_got o p)
           (λ same. record {
             written = subst (λ sink. g.K.Sink.handed o sink []) (sym same)
                 (g.met.K.Sink.handed_none o);
             same = ap (λ sink. g.K.Sink.got sink) same;
           })
           did.so.done c.write_made.ensures.written)
-          did.so.begun
-          (asked_end (p ≡ o) (λ report. IsWritten report.status (bytes_in report.text) (g.K.Sink.handed o p) (g.K.Sink.faults o)
-          (g.K.Sink.faults p) c.write_made.result) _ c.report_of.result c.write_made.result c.write_made.ensures.written did.so.asked);
+          did.so.begun;
       pieces = made_by_pieces g.K.Sink.handed o p c.report_of.result c.write_made.result c.write_made.ensures.pieces;
       held = g.met.S.Shelf.gave_held a b did.came did.given;
       advisors = c.job_report-made.ensures.advisors;
@@ -52,15 +46,10 @@ returns-in-Err-Refused-clause-meets g c =
     let p = c.write_report.new.out in
     let words = texts c.args.words.now in
     let none : job_of words ≡ None = c.in-Err-Refused.ensures.refused (ap (λ (stop : WordsStop). Err stop) c.in-Err-Refused.field-0-is) in
-    run_meets words _ (g.S.Shelf.gave a a) _ _ _ (g.K.Sink.handed o p) (g.K.Sink.got o) (g.K.Sink.got p) (g.K.Sink.faults o)
-    (g.K.Sink.faults p) c.write_report.result None [] none (g.met.S.Shelf.gave_none a) tt
-    (g.met.S.Shelf.gave_counted a a [] (g.met.S.Shelf.gave_none a))
-    (written_meets (MayWrite None []) (g.K.Sink.handed o p) (g.K.Sink.got o) (g.K.Sink.got p)
-    (g.K.Sink.faults o) (g.K.Sink.faults p) c.usage_report.result.status (bytes_in c.usage_report.result.text)
-    c.write_report.result (writes_none None []) (g.met.K.Sink.handed_got o p)
-    (may_report (MayWrite None []) status.WordsRefused usage c.usage_report.result c.usage_report.ensures (refl, refl))
-    c.write_report.ensures.written)
-    refl (inr refl)
+    refused_meets words _ (g.S.Shelf.gave a a) _ _ _ (g.K.Sink.handed o p) (g.K.Sink.got o) (g.K.Sink.got p) (g.K.Sink.faults o)
+    (g.K.Sink.faults p) c.usage_report.result c.write_report.result none (g.met.S.Shelf.gave_none a)
+    (g.met.S.Shelf.gave_counted a a [] (g.met.S.Shelf.gave_none a)) (g.met.K.Sink.handed_got o p) c.usage_report.ensures
+    c.write_report.ensures.written refl
 
 pub returns-in-Err-Refused-clause-pieces : goal.returns-in-Err-Refused-clause-pieces
 returns-in-Err-Refused-clause-pieces g c =
@@ -80,7 +69,6 @@ returns-in-Err-OutOfMemory-clause-meets g c =
       counted = g.met.S.Shelf.gave_counted a a [] (g.met.S.Shelf.gave_none a);
       written = record { written = g.met.K.Sink.handed_none c.args.out.now; same = refl };
       begun = λ wanting. wants_none (job_of (texts c.args.words.now));
-      asked = inl refl;
     }
 
 pub returns-in-Err-OutOfMemory-clause-pieces : goal.returns-in-Err-OutOfMemory-clause-pieces

@@ -1,4 +1,4 @@
-use Rattle.std.proofs.Common.{ℕ, List, refl, sym, subst, inr}
+use Rattle.std.proofs.Common.{ℕ, List, refl, sym, subst}
 use Rattle.area_graph.specs.declared.Point.{Point}
 use Rattle.area_graph.specs.Costs.{at_costs}
 use Rattle.design_problem.specs.Forms.{AreMet}
@@ -6,7 +6,7 @@ use Rattle.form_search.specs.declared.source.Asked.{Asked}
 use Rattle.form_search.specs.declared.turn.Next.TheVariants.{Costs}
 use Rattle.form_search.specs.Sources.{IsSourceAnswer}
 use Rattle.form_search.specs.Turns.{IsNextOfPoint}
-use Rattle.form_search.proofs.CostPoints.{one_inside, one_least, one_met}
+use Rattle.form_search.proofs.CostPoints.{one_costs, one_inside, one_least, one_met}
 use Rattle.form_search.proofs.one_point.ask_there.Goals as goal
 
 pub ask-requires-clause-met : goal.ask-requires-clause-met
@@ -22,6 +22,6 @@ returns-in_ok-low_costs-in-Nothing-clause-next g c =
     let taken : Accepted (at_costs low) = subst Accepted c.put_costs.ensures answer.0 in
     let inside = one_inside box c.requires.one in
     subst (λ (w : List ℕ). IsNextOfPoint Accepted c.args.pool.now c.ask.new.pool box (Costs w)) (sym c.in_ok-low_costs-in-Nothing.ensures) (record {
-      step = λ top since. (inside, taken, record { point = at_costs low; here = one_least Accepted box c.requires.one taken; costs = inr refl });
+      step = λ top since. (inside, taken, record { point = at_costs low; here = one_least Accepted box c.requires.one taken; costs = one_costs box });
       unsplit = tt;
     })

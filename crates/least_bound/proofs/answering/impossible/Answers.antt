@@ -1,5 +1,5 @@
 -- No costs are fit: the tree at the greatest upper bound is printed.
-use Rattle.std.proofs.Common.{◌≡◌, ℕ, List, arith}
+use Rattle.std.proofs.Common.{◌≡◌, ℕ, List, refl, arith}
 use Rattle.std.specs.Prelude.{Option, Some, None}
 use Rattle.area_graph.specs.Area.{FitsGraph}
 use Rattle.design_problem.specs.declared.answer.CapTree.{CapTree}
@@ -9,6 +9,7 @@ use Rattle.printed_rows.specs.NewNumbers.{ArePrinted}
 use Rattle.cost_branching.specs.Pools.{Pooled, IsRowPool}
 use Rattle.least_bound.specs.Caps.{IsRefuted}
 use Rattle.least_bound.proofs.ValidAnswers.{AreOnSheet, impossible_answered, impossible_kept, names_rows, on_sheet, sheet_of}
+use Rattle.least_bound.proofs.Settling.{told_found}
 use Rattle.least_bound.proofs.answering.impossible.Goals as goal
 
 -- the sheet of a closed tree
@@ -37,8 +38,8 @@ invariant_of-result c =
     printed.proof printed.unfinished are.sheet are.proof_is are.unfinished_is c.requires.ceiling
     (omega arith) c.requires.refuted.2 refuted
 
-pub returns : goal.returns
-returns c = λ top nodes refuted.
+pub returns-clause-answered : goal.returns-clause-answered
+returns-clause-answered c = λ top nodes refuted.
     let p = c.args.problem.now in
     let t : CapTree = record { cap = c.args.ceiling; tree = c.args.tree } in
     let printed = c.in_ok-printed.printed in
@@ -47,3 +48,8 @@ returns c = λ top nodes refuted.
     c.into_rows.ensures refuted c.in_ok-printed.ensures in
     impossible_answered p top nodes c.args.pool (sheet_of (Some t) None printed.rows) t printed.proof printed.unfinished
     are.sheet are.proof_is are.unfinished_is c.requires.ceiling refuted are.whole
+
+pub returns-clause-tells : goal.returns-clause-tells
+returns-clause-tells c =
+    let t : CapTree = record { cap = c.args.ceiling; tree = c.args.tree } in
+    told_found c.args.problem.now None (Some t) (Some t) None _ _ refl c.in_ok-printed.ensures tt

@@ -1,7 +1,7 @@
 -- Costs of the least greatest cost: the kept tree is printed, or a floor.
 use Rattle.std.proofs.Common.{rules, ◌≡◌, ◌≤◌, ℕ, List, length, subst, sym, arith}
 use Rattle.std.specs.Option.{option_copied}
-use Rattle.std.specs.Prelude.{Option, None}
+use Rattle.std.specs.Prelude.{Option, None, Some}
 use Rattle.area_graph.specs.Area.{FitsGraph}
 use Rattle.design_problem.specs.declared.answer.CapTree.{CapTree}
 use Rattle.design_problem.specs.declared.form.Row.{Row}
@@ -12,6 +12,7 @@ use Rattle.printed_rows.specs.NewNumbers.{ArePrinted}
 use Rattle.cost_branching.specs.Pools.{Pooled, IsRowPool}
 use Rattle.least_bound.specs.Caps.{IsKeptAt}
 use Rattle.least_bound.proofs.ValidAnswers.{AreOnSheet, optimal_answered, optimal_kept, kept_below, kept_names, kept_on_sheet, sheet_of}
+use Rattle.least_bound.proofs.Settling.{told_found}
 use Rattle.least_bound.proofs.answering.optimal.Goals as goal
 
 -- the sheet of the tree that is kept at the cap below the greatest of some costs
@@ -51,8 +52,8 @@ invariant_of-result c =
     c.floor_without-floor.result kept printed.proof printed.unfinished are.sheet are.proof_is are.unfinished_is
     c.in_ok-costs.ensures c.floor_without-floor.ensures c.requires.kept.2 c.requires.kept.3
 
-pub returns : goal.returns
-returns c = λ top nodes holds.
+pub returns-clause-answered : goal.returns-clause-answered
+returns-clause-answered c = λ top nodes holds.
     let p = c.args.problem.now in
     let pool = c.args.pool in
     let w = c.args.costs.now in
@@ -65,3 +66,8 @@ returns c = λ top nodes holds.
     optimal_answered p top nodes pool (sheet_of kept None printed.rows) w c.in_ok-costs.costs
     c.floor_without-floor.result kept printed.proof printed.unfinished are.sheet are.proof_is are.unfinished_is
     c.requires.fit c.in_ok-costs.ensures c.floor_without-floor.ensures holds are.whole
+
+pub returns-clause-tells : goal.returns-clause-tells
+returns-clause-tells c =
+    let lent : option_copied c.as_ref.result ≡ c.args.kept = search rules in
+    told_found c.args.problem.now (Some c.args.costs.now) c.args.kept _ None _ _ lent c.in_ok-printed.ensures c.in_ok-costs.ensures

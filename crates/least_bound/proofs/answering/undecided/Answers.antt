@@ -11,6 +11,7 @@ use Rattle.printed_rows.specs.NewNumbers.{ArePrinted}
 use Rattle.cost_branching.specs.Pools.{Pooled, IsRowPool}
 use Rattle.least_bound.specs.Caps.{IsTreeKeptBelow, IsUndecidedAt}
 use Rattle.least_bound.proofs.ValidAnswers.{AreOnSheet, undecided_answered, undecided_kept, kept_names, kept_on_sheet, names_rows, sheet_of}
+use Rattle.least_bound.proofs.Settling.{told_found}
 use Rattle.least_bound.proofs.answering.undecided.Goals as goal
 
 -- the sheet of a kept tree and of an unfinished one
@@ -57,8 +58,8 @@ invariant_of-result c =
     c.requires.trees.4 in
     rw c.cap_of-cap.ensures holds
 
-pub returns : goal.returns
-returns c = λ top nodes below spent.
+pub returns-clause-answered : goal.returns-clause-answered
+returns-clause-answered c = λ top nodes below spent.
     let p = c.args.problem.now in
     let pool = c.args.pool in
     let t = c.args.unfinished in
@@ -73,3 +74,9 @@ returns c = λ top nodes below spent.
     c.in_ok-printed_if_any.field-0 kept printed.proof t printed.unfinished are.sheet are.proof_is are.unfinished_is
     c.requires.from_floor c.requires.costs c.in_ok-printed_if_any.ensures below spent are.whole in
     rw c.cap_of-cap.ensures holds
+
+pub returns-clause-tells : goal.returns-clause-tells
+returns-clause-tells c =
+    let lent : option_copied c.as_ref.result ≡ c.args.kept = search rules in
+    told_found c.args.problem.now (option_copied c.args.costs) c.args.kept _ (Some c.args.unfinished) _ _ lent c.in_ok-printed.ensures
+    c.in_ok-printed_if_any.ensures

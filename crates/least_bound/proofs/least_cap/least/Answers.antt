@@ -1,18 +1,19 @@
 -- At the greatest upper bound no costs are fit, costs are found, or the budget is used up.
-use Rattle.std.proofs.lemmas.Result.{on_ok_weaker}
 use Rattle.std.proofs.Common.{◌≡◌, ◌≤◌, ℕ, [], ◌∷◌, refl, sym, ◌∙◌, ap, subst, arith}
+use Rattle.std.specs.Prelude.{Some}
+use Rattle.std.proofs.lemmas.Result.{IfOk-weaker}
 use Rattle.design_problem.specs.Problems.{DesignProblem}
 use Rattle.design_problem.specs.Rows.{greatest_cost}
 use Rattle.design_problem.specs.Answers.{greatest_bound}
 use Rattle.form_search.specs.declared.found.Found.{Found}
 use Rattle.form_search.specs.declared.found.Found.TheVariants.{Costs, Refuted, Undecided}
 use Rattle.form_search.proofs.AdvisorLaws.{left_then}
-use Rattle.cost_branching.proofs.Advising.{where_ok}
-use Rattle.cost_branching.specs.Decisions.{IsDecided, IsNoCosts}
+use Rattle.cost_branching.specs.Decisions.{IsDecided}
 use Rattle.printed_rows.proofs.CapBoxes.{floor_below_ceiling, no_low_above}
-use Rattle.least_bound.specs.Asking.{AreSettledCaps, StopsAtCap}
+use Rattle.least_bound.specs.Asking.{after_ceiling}
+use Rattle.least_bound.specs.Caps.{caps_of}
 use Rattle.least_bound.proofs.CapLaws.{floor_lowest}
-use Rattle.least_bound.proofs.Settling.{ceiling_first, decision, first_reached, first_without, settled_at_once}
+use Rattle.least_bound.proofs.Settling.{decision, settled_by_costs, settled_refuted, settled_undecided}
 use Rattle.least_bound.proofs.least_cap.least.Goals as goal
 
 pub decide-requires-clause-cap : goal.decide-requires-clause-cap
@@ -76,25 +77,23 @@ returns-in-Undecided-clause-advisors g c = left_then _ _ _ _ c.decide.ensures.ad
 pub returns-in-Refuted-clause-asked : goal.returns-in-Refuted-clause-asked
 returns-in-Refuted-clause-asked g c =
     let p = c.args.problem.now in
-    let ceiling_is : c.greatest_of-ceiling.result ≡ greatest_bound p = c.greatest_of-ceiling.ensures
+    let ceiling = c.greatest_of-ceiling.result in
+    let ceiling_is : ceiling ≡ greatest_bound p = c.greatest_of-ceiling.ensures
     ∙ ap greatest_cost (c.as_slice.ensures ∙ ap (λ (q : DesignProblem). q.high) c.problem.view_is) in
+    let pool = c.decide.new.pool in
+    let found = c.in_ok-tree.field-0 in
     let decided = c.in_ok-tree.ensures in
-    where_ok c.impossible.result (
-      decision c.greatest_of-ceiling.result c.in_ok-tree.field-0 ∷ [],
-      subst (λ (f : Found). AreSettledCaps p (decision c.greatest_of-ceiling.result f ∷ [])) (sym c.in-Refuted.is)
-          (settled_at_once p c.greatest_of-ceiling.result c.in-Refuted.tree ceiling_is),
+    IfOk-weaker c.impossible.result _ _
+    (λ a tells. (
+      decision ceiling pool found ∷ [],
+      settled_refuted p ceiling pool found c.in-Refuted.tree a ceiling_is c.in-Refuted.is tells,
       (
         c.decide.new.advisors.items,
-        record {
-          pool = c.decide.new.pool;
-          decided = decided.decided;
-          tree = decided.asked.tree;
-          is_tree = decided.asked.is_tree;
-          calls = decided.asked.calls;
-        },
+        record { decided = decided.decided; tree = decided.asked.tree; is_tree = decided.asked.is_tree; calls = decided.asked.calls },
         refl,
       ),
-    )
+    ))
+    c.impossible.ensures.tells
 
 pub returns-in-Costs-clause-asked : goal.returns-in-Costs-clause-asked
 returns-in-Costs-clause-asked g c =
@@ -102,27 +101,24 @@ returns-in-Costs-clause-asked g c =
     let ceiling = c.greatest_of-ceiling.result in
     let ceiling_is : ceiling ≡ greatest_bound p = c.greatest_of-ceiling.ensures
     ∙ ap greatest_cost (c.as_slice.ensures ∙ ap (λ (q : DesignProblem). q.high) c.problem.view_is) in
-    let most_is : c.greatest_of-most.result ≡ greatest_cost c.in-Costs.costs = c.greatest_of-most.ensures ∙ ap greatest_cost c.as_slice-in-Costs.ensures in
-    let decided = c.in_ok-tree.ensures in
+    let w = c.in-Costs.costs in
+    let most_is : c.greatest_of-most.result ≡ greatest_cost w = c.greatest_of-most.ensures ∙ ap greatest_cost c.as_slice-in-Costs.ensures in
+    let pool = c.decide.new.pool in
     let found = c.in_ok-tree.field-0 in
-    let reached = first_reached ceiling c.greatest_of-most.result found
-    (subst (λ (f : Found). StopsAtCap c.greatest_of-most.result ceiling f) (sym c.in-Costs.is) (sym most_is)) in
-    let begun = c.start-progress.ensures.from (decision ceiling found ∷ []) (ceiling_first p ceiling found ceiling_is) reached tt in
-    on_ok_weaker c.narrowed.result (λ rest. (
-      decision ceiling found ∷ rest.0,
-      rest.1,
+    let decided = c.in_ok-tree.ensures in
+    let begun : caps_of c.start-progress.result ≡ after_ceiling p (Costs w) = c.start-progress.ensures.caps
+    ∙ ap (λ (k : ℕ). record (after_ceiling p (Costs w)) { most = k }) most_is in
+    IfOk-weaker c.narrowed.result _ _
+    (λ a rest. (
+      decision ceiling pool found ∷ rest.0,
+      settled_by_costs p ceiling pool found w (caps_of c.start-progress.result) rest.0 a ceiling_is c.in-Costs.is begun rest.1,
       (
         c.decide.new.advisors.items,
-        record {
-          pool = c.decide.new.pool;
-          decided = decided.decided;
-          tree = decided.asked.tree;
-          is_tree = decided.asked.is_tree;
-          calls = decided.asked.calls;
-        },
+        record { decided = decided.decided; tree = decided.asked.tree; is_tree = decided.asked.is_tree; calls = decided.asked.calls },
         rest.2,
       ),
-    )) (c.narrowed.ensures.asked (decision ceiling found ∷ []) begun)
+    ))
+    c.narrowed.ensures.asked
 
 pub returns-in-Undecided-clause-asked : goal.returns-in-Undecided-clause-asked
 returns-in-Undecided-clause-asked g c =
@@ -130,23 +126,20 @@ returns-in-Undecided-clause-asked g c =
     let ceiling = c.greatest_of-ceiling.result in
     let ceiling_is : ceiling ≡ greatest_bound p = c.greatest_of-ceiling.ensures
     ∙ ap greatest_cost (c.as_slice.ensures ∙ ap (λ (q : DesignProblem). q.high) c.problem.view_is) in
-    let decided = c.in_ok-tree.ensures in
+    let tree = c.in-Undecided.tree in
+    let pool = c.decide.new.pool in
     let found = c.in_ok-tree.field-0 in
-    let reached = first_reached ceiling ceiling found (subst (λ (f : Found). StopsAtCap ceiling ceiling f) (sym c.in-Undecided.is) refl) in
-    let without = first_without ceiling found (subst IsNoCosts (sym c.in-Undecided.is) tt) in
-    let begun = c.start-progress-in-Undecided.ensures.from (decision ceiling found ∷ []) (ceiling_first p ceiling found ceiling_is) reached without in
-    on_ok_weaker c.narrowed-in-Undecided.result (λ rest. (
-      decision ceiling found ∷ rest.0,
-      rest.1,
+    let decided = c.in_ok-tree.ensures in
+    let begun : caps_of c.start-progress-in-Undecided.result ≡ after_ceiling p (Undecided tree) = c.start-progress-in-Undecided.ensures.caps
+    ∙ ap (λ (k : ℕ). record (after_ceiling p (Undecided tree)) { most = k; unfinished = Some (record { cap = k; tree = tree }) }) ceiling_is in
+    IfOk-weaker c.narrowed-in-Undecided.result _ _
+    (λ a rest. (
+      decision ceiling pool found ∷ rest.0,
+      settled_undecided p ceiling pool found tree (caps_of c.start-progress-in-Undecided.result) rest.0 a ceiling_is c.in-Undecided.is begun rest.1,
       (
         c.decide.new.advisors.items,
-        record {
-          pool = c.decide.new.pool;
-          decided = decided.decided;
-          tree = decided.asked.tree;
-          is_tree = decided.asked.is_tree;
-          calls = decided.asked.calls;
-        },
+        record { decided = decided.decided; tree = decided.asked.tree; is_tree = decided.asked.is_tree; calls = decided.asked.calls },
         rest.2,
       ),
-    )) (c.narrowed-in-Undecided.ensures.asked (decision ceiling found ∷ []) begun)
+    ))
+    c.narrowed-in-Undecided.ensures.asked

@@ -1,7 +1,9 @@
 -- Without costs the tree at the greatest upper bound stays.
-use Rattle.std.proofs.Common.{subst}
+use Rattle.std.proofs.Common.{◌≡◌, refl, subst, sym}
+use Rattle.std.specs.Prelude.{Some}
 use Rattle.least_bound.specs.declared.progress.Best.{Best}
-use Rattle.least_bound.specs.Caps.{AreWithoutCosts, BestHolds}
+use Rattle.least_bound.specs.Asking.{unfinished_after}
+use Rattle.least_bound.specs.Caps.{BestHolds, known_costs, unfinished_of}
 use Rattle.least_bound.proofs.CapLaws.{still_none}
 use Rattle.least_bound.proofs.progress.Best.stuck_at.Goals as goal
 
@@ -10,5 +12,6 @@ returns-in-NoCosts-clause-holds c = λ p top nodes old new most holds grows spen
     still_none p top nodes old new most c.args.stuck.cap c.in-NoCosts.tree grows below
     (subst (λ (b : Best). BestHolds p top nodes old most b) c.in-NoCosts.is holds)
 
-pub returns-in-NoCosts-clause-without : goal.returns-in-NoCosts-clause-without
-returns-in-NoCosts-clause-without c = λ decisions are. subst (λ (b : Best). AreWithoutCosts decisions b) c.in-NoCosts.is are
+pub returns-in-NoCosts-clause-unfinished : goal.returns-in-NoCosts-clause-unfinished
+returns-in-NoCosts-clause-unfinished c =
+    subst (λ (b : Best). Some c.in-NoCosts.tree ≡ unfinished_after (known_costs b) (unfinished_of b) c.args.stuck) (sym c.in-NoCosts.is) refl

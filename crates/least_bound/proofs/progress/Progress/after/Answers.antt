@@ -1,15 +1,13 @@
 -- What a further cap tells.
-use Rattle.std.proofs.Common.{◌∙◌, ◌+◌, [], ◌∷◌, ◌++◌, ap, refl, subst, sym}
-use Rattle.std.specs.Prelude.{Some}
+use Rattle.std.proofs.Common.{◌∙◌, ap, subst, sym}
 use Rattle.design_problem.specs.Rows.{greatest_cost}
 use Rattle.form_search.specs.declared.found.Found.{Found}
 use Rattle.form_search.specs.declared.found.Found.TheVariants.{Costs, Refuted, Undecided}
 use Rattle.cost_branching.specs.Decisions.{IsDecided}
 use Rattle.least_bound.proofs.CapLaws.{after_costs, after_refuted, after_spent, costs_nearer}
-use Rattle.least_bound.specs.declared.progress.Best.TheVariants.{Costs as BestCosts}
-use Rattle.least_bound.specs.declared.progress.Progress.{Progress}
-use Rattle.least_bound.specs.Caps.{IsProgressOf}
-use Rattle.least_bound.proofs.Settling.{decision, from_costs, from_refuted, from_undecided}
+use Rattle.least_bound.specs.Asking.{after_cap}
+use Rattle.least_bound.specs.Caps.{caps_of}
+use Rattle.least_bound.proofs.Settling.{caps_costs, caps_undecided}
 use Rattle.least_bound.proofs.progress.Progress.after.Goals as goal
 
 pub returns-in-Costs-clause-holds : goal.returns-in-Costs-clause-holds
@@ -40,29 +38,14 @@ returns-in-Undecided-clause-holds c = λ p top nodes old new problem pool grows 
     (c.stuck_at.ensures.holds p top nodes old new c.args.self.most holds.best grows
     (record { tree = found.0; undone = found.1; spent = found.2 }) c.requires.below_most)
 
-pub returns-in-Costs-clause-from : goal.returns-in-Costs-clause-from
-returns-in-Costs-clause-from c = λ p decisions was.
-    let most_is = c.greatest_of.ensures ∙ ap greatest_cost c.as_slice.ensures in
-    let new : Progress = record { floor = c.args.self.floor; least = c.args.self.least; most = c.greatest_of.result; kept = c.args.self.kept; best = BestCosts c.in-Costs.costs } in
-    subst (λ (f : Found). IsProgressOf p (decisions ++ decision c.args.cap f ∷ []) new) (sym c.in-Costs.is)
-    (from_costs p decisions c.args.self c.args.cap c.in-Costs.costs c.greatest_of.result was most_is)
+pub returns-in-Costs-clause-caps : goal.returns-in-Costs-clause-caps
+returns-in-Costs-clause-caps c =
+    caps_costs c.args.self c.args.cap c.greatest_of.result c.args.found c.in-Costs.costs c.in-Costs.is
+    (c.greatest_of.ensures ∙ ap greatest_cost c.as_slice.ensures)
 
-pub returns-in-Refuted-clause-from : goal.returns-in-Refuted-clause-from
-returns-in-Refuted-clause-from c = λ p decisions was.
-    let self = c.args.self in
-    let new : Progress = record {
-      floor = self.floor;
-      least = c.args.cap + 1;
-      most = self.most;
-      kept = Some (record { cap = c.args.cap; tree = c.in-Refuted.tree });
-      best = self.best;
-    } in
-    subst (λ (f : Found). IsProgressOf p (decisions ++ decision c.args.cap f ∷ []) new) (sym c.in-Refuted.is)
-    (from_refuted p decisions self new c.args.cap c.in-Refuted.tree was refl refl refl)
+pub returns-in-Refuted-clause-caps : goal.returns-in-Refuted-clause-caps
+returns-in-Refuted-clause-caps c = ap (λ (f : Found). after_cap (caps_of c.args.self) c.args.cap f) (sym c.in-Refuted.is)
 
-pub returns-in-Undecided-clause-from : goal.returns-in-Undecided-clause-from
-returns-in-Undecided-clause-from c = λ p decisions was.
-    let self = c.args.self in
-    let new : Progress = record { floor = self.floor; least = self.least; most = c.args.cap; kept = self.kept; best = c.stuck_at.result } in
-    subst (λ (f : Found). IsProgressOf p (decisions ++ decision c.args.cap f ∷ []) new) (sym c.in-Undecided.is)
-    (from_undecided p decisions self new c.args.cap c.in-Undecided.tree was refl refl (c.stuck_at.ensures.without decisions was.without))
+pub returns-in-Undecided-clause-caps : goal.returns-in-Undecided-clause-caps
+returns-in-Undecided-clause-caps c =
+    caps_undecided c.args.self c.args.cap c.args.found c.in-Undecided.tree c.stuck_at.result c.in-Undecided.is c.stuck_at.ensures.costs c.stuck_at.ensures.unfinished

@@ -1,8 +1,10 @@
 -- What is kept is a tree at a cap below that of the unfinished one.
 use Rattle.std.proofs.Common.{◌≤◌, subst, arith}
+use Rattle.std.proofs.lemmas.Result.{IfOk-weaker}
 use Rattle.least_bound.specs.declared.progress.Best.{Best}
-use Rattle.least_bound.specs.declared.progress.Best.TheVariants.{NoCosts, Between}
+use Rattle.least_bound.specs.declared.progress.Best.TheVariants.{NoCosts, Costs, Between}
 use Rattle.least_bound.specs.Caps.{BestHolds}
+use Rattle.least_bound.proofs.Settling.{told_best}
 use Rattle.least_bound.proofs.ValidAnswers.{kept_below}
 use Rattle.least_bound.proofs.progress.Progress.answer.Goals as goal
 
@@ -27,3 +29,19 @@ undecided-requires-in-Between-clause-trees c =
     subst (λ (b : Best). BestHolds p top nodes c.args.pool c.args.self.most b) c.in-Between.is holds.best in
     let below : c.args.self.least ≤ c.in-Between.tree.cap = omega (arith, holds.ordered, best.2) in
     (top, nodes, c.requires.progress.2, kept_below p top nodes c.args.pool c.args.self.least c.in-Between.tree.cap c.args.self.kept below holds.kept, best.3)
+
+pub returns-in-NoCosts-clause-tells : goal.returns-in-NoCosts-clause-tells
+returns-in-NoCosts-clause-tells c =
+    IfOk-weaker c.undecided.result _ _ (λ a tells. told_best c.args.problem.now c.args.self.kept c.args.self.best (NoCosts c.in-NoCosts.tree) a c.in-NoCosts.is tells)
+    c.undecided.ensures.tells
+
+pub returns-in-Costs-clause-tells : goal.returns-in-Costs-clause-tells
+returns-in-Costs-clause-tells c =
+    IfOk-weaker c.optimal.result _ _ (λ a tells. told_best c.args.problem.now c.args.self.kept c.args.self.best (Costs c.in-Costs.costs) a c.in-Costs.is tells)
+    c.optimal.ensures.tells
+
+pub returns-in-Between-clause-tells : goal.returns-in-Between-clause-tells
+returns-in-Between-clause-tells c =
+    IfOk-weaker c.undecided-in-Between.result _ _
+    (λ a tells. told_best c.args.problem.now c.args.self.kept c.args.self.best (Between c.in-Between.costs c.in-Between.tree) a c.in-Between.is tells)
+    c.undecided-in-Between.ensures.tells
