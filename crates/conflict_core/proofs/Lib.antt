@@ -1,3 +1,4 @@
+mod Examples
 pub mod Sets
 pub mod ShrinkingLaws
 pub mod TreesOfSets
