@@ -1,5 +1,5 @@
 //! `design`: an answer to the files of words.
-ghost use Rattle.std.specs.Prelude.{◌≡◌, ◌⊎◌, ℕ, IfErr, IfOk};
+ghost use Rattle.std.specs.Prelude.{◌≡◌, ◌⊎◌, ℕ, List, IfErr, IfOk};
 ghost use Rattle.command_words.specs.Jobs.{bounds};
 ghost use Rattle.design_problem.specs.Text.{text};
 ghost use Rattle.form_search.specs.Advised.{AreCalled};

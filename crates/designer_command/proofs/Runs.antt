@@ -6,7 +6,7 @@ use Rattle.cost_base.specs.declared.Status.{Status}
 use Rattle.cost_base.specs.declared.Status.TheVariants as status
 use Rattle.cost_base.specs.Outside.{GotAll}
 use Rattle.cost_base.specs.Histories.{Taken}
-use Rattle.command_words.specs.Jobs.{JobRead}
+use Rattle.command_words.specs.Jobs.{JobRead, seen}
 use Rattle.command_words.specs.Jobs as read
 use Rattle.input_files.specs.declared.stop.Stop.{Stop}
 use Rattle.input_files.specs.declared.stop.Stop.TheVariants as stops
