@@ -1,8 +1,9 @@
 """Checks what the documents claim and a machine can tell. It is run by hand, from any folder:
 
-    python3 bench/documents.py          counts, edges of the map, names, refusal numbers, texts of help, links, what must be
-                                        believed
-    python3 bench/documents.py --run    besides, each command of the documents and of the texts of help, with the built program
+    python3 bench/documents.py          counts, edges of the map, names, definitions, refusal numbers, texts of help,
+                                        links, what must be believed
+    python3 bench/documents.py --run    besides, each command of the documents and of the texts of help, with the built
+                                        program
 
 A document says in comments that no reader sees what its commands print:
 
@@ -25,10 +26,11 @@ import believed
 
 TOP = os.path.dirname(os.path.dirname(os.path.abspath(__file__)))
 COMMENT = re.compile(r"<!-- (prints|begins|makes|status) (.*?) -->")
-# Words in backquotes that look like names of the code and are of other things: of files, lines, commands, Rust, the toolchain.
+# Words in backquotes that look like names of the code and are of other things: of files, lines, commands, Rust, the
+# toolchain.
 FOREIGN = set(
-    """anyhow clap clippy indexmap memchr gnuplot graphviz neato cbc glpsol vtysh ospfd zebra malloc cargo rustc rt rattle antt
-    std core alloc u8 u16 u32 u64 u128 i64 i128 usize bool char str
+    """anyhow clap clippy indexmap memchr gnuplot graphviz neato cbc glpsol vtysh ospfd zebra malloc cargo rustc rt
+    rattle antt std core alloc u8 u16 u32 u64 u128 i64 i128 usize bool char str
     ap cc conv omega grind search simp rw refl sym subst hlevel ring ring_by arith common_steps
     hostname shutdown exit router interface network broadcast redistribute Full
     shr_and_one _x broadcast_address SubnetEnds
@@ -97,20 +99,74 @@ def without_blocks(text):
 
 # Counts, and the edges of the map.
 
-NUMBERS = "no one two three four five six seven eight nine ten eleven twelve thirteen fourteen fifteen sixteen seventeen eighteen nineteen twenty".split()
-COUNTED = re.compile(r"\b(\d[\d,]*|[a-z]+) crates\b")
+SMALL = """no one two three four five six seven eight nine ten eleven twelve thirteen fourteen fifteen sixteen seventeen
+eighteen nineteen""".split()
+TENS = "twenty thirty forty fifty sixty seventy eighty ninety".split()
+NUMBERS = {
+    **{word: number for number, word in enumerate(SMALL)},
+    **{word: 10 * number for number, word in enumerate(TENS, 2)},
+    **{f"{ten}-{SMALL[one]}": 10 * tens + one for tens, ten in enumerate(TENS, 2) for one in range(1, 10)},
+}
+NUMBER = r"(?<![\w.,-])(\d+|" + "|".join(sorted(NUMBERS, key=len, reverse=True)) + r")\b"
 
 
-def check_counts(claims):
-    """Where a document says how many crates there are in all: 'N crates' behind 'all', 'of', 'the' or 'stack of'."""
-    count = len(crates())
+def groups():
+    """The groups of crates.txt, each with the names of its crates."""
+    found = {}
+    for line in text_of("crates.txt").splitlines():
+        if re.fullmatch(r"# [A-Z][a-z]+( [a-z]+)?", line):
+            group = found.setdefault(line[2:], [])
+        elif line and not line.startswith("#"):
+            group.append(line.partition(":")[0])
+    return found
+
+
+def counted():
+    """What a document may count, N standing for the number, and how many there are."""
+    of, group = crates(), groups()
+    return {
+        "N crates of the program": 1 + len(reached(of, "ospfcost") & of.keys()),
+        "N crates of cases": len(group["Cases"]),
+        "N crates of commands": sum(name.endswith("_commands") for name in of),
+        "N crates in all": len(of),
+        "N groups of crates": len(group) - 1,
+        "scripts of N other programs": sum(os.path.exists(os.path.join(TOP, "crates", name, "stdin")) for name in of),
+    }
+
+
+def number_said(word):
+    return int(word) if word.isdigit() else NUMBERS[word]
+
+
+def place_in(text, at):
+    """The line of a place in a text, counted from 1."""
+    return 1 + text.count("\n", 0, at)
+
+
+def check_counts(claims, page="docs/architecture.md"):
+    """Where a document counts crates, their groups or programs, in digits or words, there are as many. The map does."""
+    of, kinds = crates(), counted()
     for path in documents():
-        for number, line in without_blocks(text_of(path)):
-            for found in re.finditer(r"\b(?:all|of the|stack of) (\d+) crates\b", line):
-                claims.claim(int(found.group(1)) == count, f"{path}:{number}", f"`{found.group(0)}`, and crates.txt has {count}")
+        told = set()
+        text = "\n".join("" if line.startswith("    ") else line for line in text_of(path).splitlines())
+        for kind, count in kinds.items():
+            for found in re.finditer(kind.replace(" ", r"\s+").replace("N", NUMBER, 1), text):
+                told.add(kind)
+                place = f"{path}:{place_in(text, found.start())}"
+                claims.claim(number_said(found.group(1)) == count, place, f"`{found.group(0)}`, and there are {count}")
+        if path == page:
+            for kind in list(kinds)[:2]:
+                claims.claim(kind in told, path, f"it doesn't tell '{kind}'")
+        for found in re.finditer(r"`([a-z_]+)`,?\s+stands\s+on\s+" + NUMBER + r"\s+others:([^.]*)", text):
+            name, number, rest = found.groups()
+            below = reached(of, name) & of.keys()
+            place = f"{path}:{place_in(text, found.start())}"
+            claims.claim(number_said(number) == len(below), place, f"`{name}` stands on {len(below)} others")
+            claims.claim(set(re.findall(r"`([a-z_]+)`", rest)) == below, place, f"`{name}` stands on {sorted(below)}")
 
 
-ENTRY = re.compile(r"^- ((?:\*\*)?`[a-z_0-9]+`(?:\*\*)?(?:, (?:\*\*)?`[a-z_0-9]+`(?:\*\*)?)*)(?: \(on nothing\))?(?: < ([^:]*))?:")
+CRATE = r"(?:\*\*)?`[a-z_0-9]+`(?:\*\*)?"
+ENTRY = re.compile(rf"^- ({CRATE}(?:, {CRATE})*)(?: \(on nothing\))?(?: < ([^:]*))?:")
 
 
 def entries_of_crates(path):
@@ -160,13 +216,15 @@ def check_map(claims, path="docs/proved.md"):
 # Names in backquotes.
 
 WORD = re.compile(r"[A-Za-z_][A-Za-z_0-9']*")
+# What ends the names of files, which may be anyone's.
+ENDINGS = (".txt", ".conf", ".md", ".sh", ".svg", ".py", ".lsa", ".log")
 
 
 def known_words():
     """Every word of the sources, with the names of their files, folders, crates and cases."""
     words = set()
-    for folder, ending in (("crates", ".rt"), ("crates", ".antt"), ("crates", ".edit"), ("bench", ".py"), ("crates", "case.txt")):
-        for path in files_below(folder, ending):
+    for ending in (".rt", ".antt", ".edit", ".py", "case.txt"):
+        for path in files_below("bench" if ending == ".py" else "crates", ending):
             words.update(WORD.findall(text_of(path)))
             words.update(WORD.findall(path))
     for path, _, names in os.walk(os.path.join(TOP, "crates")):
@@ -176,24 +234,106 @@ def known_words():
 
 
 def check_names(claims):
-    """A name in backquotes that looks like one of the code (with `_`, `::`, or capitals inside) stands in the sources."""
+    """A name in backquotes that looks like one of the code (has `_`, `::` or capitals inside) stands in the sources."""
     words = known_words()
     for path in documents():
         for number, line in without_blocks(text_of(path)):
             for quoted in re.findall(r"`([^`]+)`", line):
                 quoted = quoted.strip()
-                if not re.fullmatch(r"[A-Za-z_][A-Za-z_0-9:'/.{},-]*", quoted) or quoted.endswith((".txt", ".conf", ".md", ".sh", ".svg", ".py", ".lsa", ".log")):
+                if not re.fullmatch(r"[A-Za-z_][A-Za-z_0-9:'/.{},-]*", quoted) or quoted.endswith(ENDINGS):
                     continue
                 if not re.search(r"_|::|[a-z][A-Z]|^[A-Z][a-z]+$", quoted):
                     continue
                 for word in WORD.findall(quoted):
                     if len(word) > 1:
-                        claims.claim(word in words, f"{path}:{number}", f"`{quoted}`: nothing in the sources is called `{word}`")
+                        text = f"`{quoted}`: nothing in the sources is called `{word}`"
+                        claims.claim(word in words, f"{path}:{number}", text)
+
+
+# Names of definitions.
+
+DEFINED = re.compile(r"^(?:abbrev |unfoldable )*pub (?:record |data )?([A-Za-z_][A-Za-z_0-9']*)", re.M)
+FIELD = re.compile(r"^  pub ([a-z_]+) :", re.M)
+ITEM = re.compile(r"^ *(?:pub(?:\([a-z]+\))? )?(?:enum|struct|trait|type|const|fn) ([A-Za-z_][A-Za-z_0-9]*)", re.M)
+ENUM = re.compile(r"^( *)(?:pub(?:\([a-z]+\))? )?enum [A-Z][^{;]*\{\n(.*?)^\1\}", re.M | re.S)
+VARIANT = re.compile(r"^ +([A-Z][A-Za-z0-9]*)", re.M)
+
+
+def names_by_crate():
+    """For each crate the files, definitions and fields of its specs with the items and variants of its code; and for
+    each its proof files."""
+    stated, proved = {name: set() for name in crates()}, {name: set() for name in crates()}
+    for path in files_below("crates", ".antt"):
+        _, crate, folder, *_ = path.split("/")
+        file = os.path.basename(path).removesuffix(".antt")
+        if folder == "specs":
+            text = text_of(path)
+            stated[crate] |= {file, *DEFINED.findall(text), *FIELD.findall(text)}
+            for data in re.findall(r"^pub data .*\n((?:  .*\n)*)", text, re.M):
+                stated[crate].update(re.findall(r"^  (?:pub )?([A-Z][A-Za-z0-9]*)", data, re.M))
+        elif folder == "proofs":
+            proved[crate].add(file)
+    for path in files_below("crates", ".rt"):
+        _, crate, folder, *_ = path.split("/")
+        if folder == "src":
+            text = text_of(path)
+            stated[crate].update(ITEM.findall(text))
+            for _, variants in ENUM.findall(text):
+                stated[crate].update(VARIANT.findall(variants))
+    return stated, proved
+
+
+def parts_of(path):
+    """The headings, bullets and paragraphs of a document, each with the line where it begins and the heading above."""
+    heading, begun, lines = "", 0, []
+    for number, line in enumerate([*text_of(path).splitlines(), ""], 1):
+        is_new = not line.strip() or line.startswith(("- ", "#")) or re.match(r"\d+\. ", line)
+        if is_new and lines:
+            yield begun, heading, "\n".join(lines)
+            lines = []
+        if line.startswith("#"):
+            heading = line
+        elif lines and lines[0].startswith("#"):
+            heading += " " + line
+        if line.strip():
+            begun = begun if lines else number
+            lines.append(line)
+
+
+def crates_named(text, of):
+    """The crates that stand in backquotes, alone or before a file."""
+    fronts = [quoted.partition("/")[0] for quoted in re.findall(r"`([^`\n]+)`", text)]
+    return {it for front in fronts for it in WORD.findall(front) if it in of}
+
+
+def check_definitions(claims, path="docs/definitions.md"):
+    """On the page of definitions a capitalised name in backquotes is a definition, a file of definitions, a type or a
+    variant of a crate that its bullet or the heading above names, or a proof file of one where the bullet speaks of
+    proofs; so is a name with `_`, but for the crates themselves. `crate/File` is a file of that crate's definitions."""
+    stated, proved = names_by_crate()
+    for begun, heading, part in parts_of(path):
+        named = crates_named(part, stated) | crates_named(heading, stated)
+        if "crates of commands" in heading:
+            named |= set(groups()["Commands"])
+        known = set().union(*(stated[crate] for crate in named))
+        if "proofs" in part:
+            known = known.union(*(proved[crate] for crate in named))
+        for found in re.finditer(r"`([^`\n]+)`", part):
+            quoted, place = found.group(1), f"{path}:{begun + part.count(chr(10), 0, found.start())}"
+            crate, _, file = quoted.replace("/specs/", "/").partition("/")
+            if crate in stated and re.fullmatch(r"[A-Z][A-Za-z]*", file):
+                there = os.path.exists(os.path.join(TOP, "crates", crate, "specs", f"{file}.antt"))
+                claims.claim(there, place, f"`{crate}` has no file of definitions `{file}`")
+            elif re.fullmatch(r"[A-Z][A-Za-z]*|[a-z]+(_[a-z]+)+", quoted) and quoted not in stated:
+                others = sorted(crate for crate in stated if quoted in stated[crate])
+                where = f"it is of {', '.join(others)}" if others else "no crate has it in `specs` or `src`"
+                text = f"`{quoted}` is of no crate that its bullet or heading names: {where}"
+                claims.claim(quoted in known, place, text)
 
 
 # Refusal numbers.
 
-NUMBER = re.compile(r"^[a-z_]*(?:number_of|fault_number)[a-z_]* .*= (\d+)$")
+NUMBERED = re.compile(r"^[a-z_]*(?:number_of|fault_number)[a-z_]* .*= (\d+)$")
 TABLE = re.compile(r"^[a-z_]+ .*= (\d+)$")
 
 
@@ -205,7 +345,7 @@ def numbers_of_code():
         name, _, rest = path.removeprefix("crates/").partition("/specs/")
         if name not in below or not rest or "CapNumbers" in rest or "NewNumbers" in rest:
             continue
-        form = TABLE if rest.endswith("Numbers.antt") else NUMBER
+        form = TABLE if rest.endswith("Numbers.antt") else NUMBERED
         found |= {int(it.group(1)) for it in map(form.match, text_of(path).splitlines()) if it}
     return found - {0}
 
@@ -231,7 +371,8 @@ def check_meanings(claims, path="crates/refusal_sentences/src/sayings.rt", page=
     """Each number of the code has a sentence, and a faulty line with its mended form, and no other number has one."""
     code = numbers_of_code()
     meant = {int(number) for number in MEANING.findall(text_of(path))}
-    mended = {int(it) for it in re.findall(r"^\| (\d+) \|", text_of(page).partition("## Faulty lines, mended")[2].partition("\n## ")[0], re.M)}
+    table = text_of(page).partition("## Faulty lines, mended")[2].partition("\n## ")[0]
+    mended = {int(it) for it in re.findall(r"^\| (\d+) \|", table, re.M)}
     for place, told in ((path, meant), (page, mended)):
         for number in sorted(code ^ told):
             claims.claim(number not in code, place, f"refusal {number} of the code isn't there")
@@ -251,7 +392,8 @@ def rust_text(path, name):
 
 def usage_lines():
     lines = rust_text("crates/designer_command/src/top_call.rt", "USAGE").splitlines()
-    return {line.split()[2 if line.startswith("usage:") else 1]: "usage: " + line.removeprefix("usage:").strip() for line in lines}
+    lines = [line.removeprefix("usage:").strip() for line in lines]
+    return {line.split()[1]: "usage: " + line for line in lines}
 
 
 def help_texts():
@@ -286,14 +428,16 @@ def check_help(claims):
                 claims.claim(f"{low} to {high}" in about.group(1), path, f"--{option} goes from {low} to {high}")
                 for usual in default:
                     claims.claim(f"({usual})" in about.group(1), path, f"{usual} stands for --{option}")
-                    claims.claim(f"{usual:,}" in readme or str(usual) in readme, "README.md", f"no word on the default {usual} of --{option}")
+                    is_told = f"{usual:,}" in readme or str(usual) in readme
+                    claims.claim(is_told, "README.md", f"no word on the default {usual} of --{option}")
         row = re.search(rf"^\| `{name}\b(.*?)`(?: \||,)|`{name}`", readme, re.M)
         claims.claim(row, "README.md", f"no row of {name}")
     version = rust_text("crates/help_texts/src/lib.rt", "VERSION").splitlines()[1].removeprefix("proved with ")
     claims.claim(f"`{version}`" in readme, "README.md", f"the program says that it is proved with {version}")
     try:
         kit = subprocess.run(["rt", "version"], capture_output=True, text=True).stdout.strip()
-        claims.claim(kit == version, "crates/help_texts/src/lib.rt", f"`rt version` says {kit}")
+        same = kit.split()[-2:] == version.split()[-2:]
+        claims.claim(same, "crates/help_texts/src/lib.rt", f"`rt version` says {kit}")
     except OSError:
         print("no `rt` here: the checker of `version` isn't looked at")
 
@@ -306,10 +450,14 @@ def run_help(claims, folder):
         told = (0, 1) if name == "compare" else (0,)
         claims.claim(ran.returncode in told, path, f"{command} ends with status {ran.returncode}")
         if name in ("help", "all"):
-            claims.claim(ran.stdout.decode() == rust_text(f"{HELP}/design.rt", "TEXT"), path, f"{command} prints something else")
+            is_told = ran.stdout.decode() == rust_text(f"{HELP}/design.rt", "TEXT")
+            claims.claim(is_told, path, f"{command} prints something else")
 
 
 # Links.
+
+PATH = re.compile(r"\b((?:docs|bench|examples|crates)/(?!NAME)[A-Za-z_0-9/.-]+\.(?:md|py|sh|txt|svg|rt|antt))\b")
+
 
 def check_links(claims):
     for path in documents():
@@ -318,7 +466,7 @@ def check_links(claims):
                 if "://" not in target:
                     there = os.path.exists(os.path.join(TOP, os.path.dirname(path), target))
                     claims.claim(there, f"{path}:{number}", f"the link to {target} leads nowhere")
-            for target in re.findall(r"\b((?:docs|bench|examples|crates)/(?!NAME)[A-Za-z_0-9/.-]+\.(?:md|py|sh|txt|svg|rt|antt))\b", line):
+            for target in PATH.findall(line):
                 claims.claim(os.path.exists(os.path.join(TOP, target)), f"{path}:{number}", f"there is no {target}")
 
 
@@ -326,7 +474,8 @@ def check_links(claims):
 
 def check_believed(claims):
     """docs/believed.md is what believed.py makes of the code."""
-    claims.claim(text_of(believed.PAGE) == believed.page(believed.believed()), believed.PAGE, "the code has another list (python3 bench/believed.py --write)")
+    is_made = text_of(believed.PAGE) == believed.page(believed.believed())
+    claims.claim(is_made, believed.PAGE, "the code has another list (python3 bench/believed.py --write)")
 
 
 # Commands.
@@ -395,19 +544,22 @@ def run_one(claims, path, command, folder):
     if not command.wants and command.status is None:
         return
     environment = {**os.environ, **command.names}
-    ran = subprocess.run(["sh", "-c", command.text], cwd=folder, env=environment, stdin=subprocess.DEVNULL, capture_output=True)
-    status = command.status or 0
-    claims.claim(ran.returncode == status, place, f"{command.text} ends with status {ran.returncode}, {status} was said")
+    words = ["sh", "-c", command.text]
+    ran = subprocess.run(words, cwd=folder, env=environment, stdin=subprocess.DEVNULL, capture_output=True)
+    status, ended = command.status or 0, ran.returncode
+    claims.claim(ended == status, place, f"{command.text} ends with status {ended}, {status} was said")
     for kind, rest in command.wants:
         if rest == "below":
             wanted = command.block.encode()
             same = ran.stdout.startswith(wanted) if kind == "begins" else ran.stdout == wanted
             claims.claim(same, place, f"{command.text} prints something else than the block behind it")
         elif kind == "prints":
-            claims.claim(ran.stdout == bytes_of(os.path.join(folder, rest)), place, f"{command.text} doesn't print {rest}")
+            is_so = ran.stdout == bytes_of(os.path.join(folder, rest))
+            claims.claim(is_so, place, f"{command.text} doesn't print {rest}")
         else:
             made, _, kept = rest.partition(" as ")
-            claims.claim(bytes_of(os.path.join(folder, made)) == bytes_of(os.path.join(folder, kept)), place, f"{made} isn't {kept}")
+            is_so = bytes_of(os.path.join(folder, made)) == bytes_of(os.path.join(folder, kept))
+            claims.claim(is_so, place, f"{made} isn't {kept}")
 
 
 def bytes_of(path):
@@ -425,6 +577,7 @@ def main(words):
     check_counts(claims)
     check_map(claims)
     check_names(claims)
+    check_definitions(claims)
     check_numbers(claims)
     check_meanings(claims)
     check_help(claims)

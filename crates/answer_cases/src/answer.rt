@@ -7,14 +7,14 @@ use case_scripts::Texts;
 use cost_base::OutOfMemory;
 use std::alloc::{AllocError, Global};
 
-/// What is answered to a line that asks of the last text or of a line, in which `more` is what it says.
-fn asked(alloc: Global, texts: &Texts, first: &str, more: &str) -> Result<String, OutOfMemory> {
-    let bytes = texts.with(alloc, more)?;
+/// What is answered to a line that asks of the last text or of a line, in which `more` is what it says. The last text with
+/// this behind it is `bytes`.
+fn asked(alloc: Global, bytes: &[u8], first: &str, more: &str) -> Result<String, OutOfMemory> {
     match first {
-        "answer" => read_text(alloc, bytes.as_slice()),
-        "put" => put_text(alloc, bytes.as_slice()),
-        "parts" => parts_text(alloc, bytes.as_slice()),
-        "heads" => Ok(heads_text(alloc, bytes.as_slice())?),
+        "answer" => read_text(alloc, bytes),
+        "put" => put_text(alloc, bytes),
+        "parts" => parts_text(alloc, bytes),
+        "heads" => Ok(heads_text(alloc, bytes)?),
         "begun" => Ok(begun_text(alloc, more)?),
         "longest" => Ok(longest_text(alloc)?),
         _ => line_text(alloc, first, more.as_bytes()),
@@ -27,7 +27,8 @@ pub(crate) fn answer(alloc: Global, texts: &mut Texts, line: &str) -> Result<Str
         return Ok(String::new(alloc));
     }
     let (first, more) = line.split_once(' ').unwrap_or((line, ""));
-    match asked(alloc, texts, first, more) {
+    let bytes = texts.with(alloc, more)?;
+    match asked(alloc, bytes.as_slice(), first, more) {
         Ok(text) => Ok(text),
         Err(_) => Err(AllocError),
     }

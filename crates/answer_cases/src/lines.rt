@@ -37,22 +37,40 @@ pub(crate) fn heads_text(alloc: Global, bytes: &[u8]) -> Result<String, AllocErr
     }
 }
 
-/// Whether a line was read.
-fn told(alloc: Global, is_read: bool) -> Result<String, AllocError> {
-    String::from_str(alloc, if is_read { ": read" } else { ": not read" })
+/// Whether a line is an entry.
+fn is_entry(alloc: Global, line: &[u8]) -> Result<bool, OutOfMemory> {
+    Ok(entry_of(alloc, line)?.is_some())
 }
 
-/// What is answered to a line that asks of a line: `entry LINE`, `row LINE`, `floor LINE`, `proof LINE` and `router LINE`.
-pub(crate) fn line_text(alloc: Global, kind: &str, line: &[u8]) -> Result<String, OutOfMemory> {
-    Ok(match kind {
-        "entry" => told(alloc, entry_of(alloc, line)?.is_some())?,
-        "row" => told(alloc, row_of(alloc, line)?.is_some())?,
-        "floor" => format!(in alloc; ": {:?}", floor_of(line))?,
-        "proof" => format!(in alloc; ": {:?}", tree_head_of(line, TreePart::Proof))?,
+/// Whether a line is a row.
+fn is_row(alloc: Global, line: &[u8]) -> Result<bool, OutOfMemory> {
+    Ok(row_of(alloc, line)?.is_some())
+}
+
+/// Whether a line was read.
+fn told(alloc: Global, is_read: Result<bool, OutOfMemory>) -> Result<String, OutOfMemory> {
+    let told = if is_read? { ": read" } else { ": not read" };
+    Ok(String::from_str(alloc, told)?)
+}
+
+/// What is answered to a line that asks what a line says: `floor LINE`, `proof LINE` and `router LINE`.
+fn said_text(alloc: Global, kind: &str, line: &[u8]) -> Result<String, AllocError> {
+    match kind {
+        "floor" => format!(in alloc; ": {:?}", floor_of(line)),
+        "proof" => format!(in alloc; ": {:?}", tree_head_of(line, TreePart::Proof)),
         "router" => match name_after(line, b"router ") {
-            Some(name) => format!(in alloc; ": {}", name.escape_ascii())?,
-            None => String::from_str(alloc, ": none")?,
+            Some(name) => format!(in alloc; ": {}", name.escape_ascii()),
+            None => String::from_str(alloc, ": none"),
         },
-        _ => String::from_str(alloc, "")?,
-    })
+        _ => String::from_str(alloc, ""),
+    }
+}
+
+/// What is answered to a line that asks of a line: `entry LINE` and `row LINE`, or what it says.
+pub(crate) fn line_text(alloc: Global, kind: &str, line: &[u8]) -> Result<String, OutOfMemory> {
+    match kind {
+        "entry" => told(alloc, is_entry(alloc, line)),
+        "row" => told(alloc, is_row(alloc, line)),
+        _ => Ok(said_text(alloc, kind, line)?),
+    }
 }

@@ -13,13 +13,22 @@ mod texts;
 use case_scripts::Texts;
 use std::io;
 
-fn main(rt: HostRuntime) -> io::Result<()> {
-    let alloc = rt.alloc();
-    let mut texts = Texts::new(alloc);
-    for line in rt.lines(alloc) {
+/// Writes a line, and behind it what is answered.
+fn play(rt: HostRuntime, texts: &mut Texts, line: &str) -> io::Result<()> {
+    let text = answer::answer(rt.alloc(), texts, line)?;
+    println!(rt; "{line}{text}")
+}
+
+/// Plays each line of standard input.
+fn play_all(rt: HostRuntime, texts: &mut Texts) -> io::Result<()> {
+    for line in rt.lines(rt.alloc()) {
         let line = line?;
-        let text = answer::answer(alloc, &mut texts, line.as_str())?;
-        println!(rt; "{line}{text}")?;
+        play(rt, texts, line.as_str())?;
     }
     Ok(())
+}
+
+fn main(rt: HostRuntime) -> io::Result<()> {
+    let mut texts = Texts::new(rt.alloc());
+    play_all(rt, &mut texts)
 }

@@ -7,6 +7,7 @@ use Rattle.cost_base.specs.declared.Ratio.{Ratio}
 use Rattle.cost_base.specs.declared.StepName.{StepName}
 use Rattle.cost_base.specs.declared.StepName.TheVariants.{Add, Sub, Mul, Div, Lcm, Scale}
 use Rattle.cost_base.proofs.ListLemmas.{all_from_each}
+use Rattle.cost_base.specs.Words.{HasNoSpace}
 use Rattle.design_problem.specs.declared.tree.Side.{Side}
 use Rattle.design_problem.specs.declared.tree.Side.TheVariants.{Low as LowSide, High as HighSide}
 use Rattle.design_problem.specs.declared.tree.Member.{Member}
@@ -16,15 +17,15 @@ use Rattle.design_problem.specs.declared.tree.Entry.TheVariants.{Tighten, Split,
 use Rattle.design_problem.specs.Bounds.{BoundsEntry}
 use Rattle.design_problem.specs.Text.{spaced, integer, side_word, step_word, ratio_word, members_words, part_words, entry_line, FitsEntry}
 use Rattle.text_lines.specs.Numbers.{split}
-use Rattle.answer_lines.specs.Words.{IsSpaceless, entry_words, SaysEntry, SaysNoEntry}
+use Rattle.answer_lines.specs.Words.{entry_words, SaysEntry, SaysNoEntry}
 use Rattle.answer_lines.proofs.EntryWords.{entry_line-words}
 use Rattle.answer_lines.proofs.SpacedWords.{spaceless-from, decimal-spaceless, split-spaced, spaced-split}
 
-pub side-spaceless : (side : Side) → IsSpaceless (side_word side)
+pub side-spaceless : (side : Side) → HasNoSpace (side_word side)
 side-spaceless LowSide = spaceless-from (codes "low") refl
 side-spaceless HighSide = spaceless-from (codes "high") refl
 
-pub step-spaceless : (step : StepName) → IsSpaceless (step_word step)
+pub step-spaceless : (step : StepName) → HasNoSpace (step_word step)
 step-spaceless Add = spaceless-from (codes "add") refl
 step-spaceless Sub = spaceless-from (codes "sub") refl
 step-spaceless Mul = spaceless-from (codes "mul") refl
@@ -32,18 +33,18 @@ step-spaceless Div = spaceless-from (codes "div") refl
 step-spaceless Lcm = spaceless-from (codes "lcm") refl
 step-spaceless Scale = spaceless-from (codes "scale") refl
 
-integer-spaceless : (z : ℤ) → IsSpaceless (integer z)
+integer-spaceless : (z : ℤ) → HasNoSpace (integer z)
 integer-spaceless (pos n) = decimal-spaceless n
 integer-spaceless (negsuc n) = All-cons (λ c. eqb c 32 ≡ false) 45 (decimal (n + 1)) refl (decimal-spaceless (n + 1))
 
-pub ratio-spaceless : (q : Ratio) → IsSpaceless (ratio_word q)
+pub ratio-spaceless : (q : Ratio) → HasNoSpace (ratio_word q)
 ratio-spaceless q =
     All-append (λ c. eqb c 32 ≡ false) (integer q.numerator) (47 ∷ integer q.denominator) (integer-spaceless q.numerator)
     (All-cons (λ c. eqb c 32 ≡ false) 47 (integer q.denominator) refl (integer-spaceless q.denominator))
 
 -- each word is without spaces
 abbrev Plain : List (List ℕ) → Type 0
-Plain ws = AllByRecursion IsSpaceless ws
+Plain ws = AllByRecursion HasNoSpace ws
 
 members-plain : (ms : List Member) → Plain (members_words ms)
 members-plain [] = tt
@@ -79,7 +80,7 @@ entry-plain Undone = (spaceless-from (codes "open") refl, tt)
 
 some_pieces : (ws : List (List ℕ)) → ws ≢ [] → Plain ws → split 32 (spaced ws) ≡ ws
 some_pieces [] some plain = absurd (some refl)
-some_pieces (w ∷ ws) some plain = split-spaced w ws (all_from_each IsSpaceless (w ∷ ws) plain)
+some_pieces (w ∷ ws) some plain = split-spaced w ws (all_from_each HasNoSpace (w ∷ ws) plain)
 
 entry-some : (entry : Entry) → entry_words entry ≢ []
 entry-some (Tighten v side b row) e = cc

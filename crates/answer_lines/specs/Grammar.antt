@@ -49,11 +49,11 @@ pub data TextPlace : Type 0 where
   -- among the lines that nobody reads, with how many lines `end` still stand before the last one
   AtUnread : ℕ → TextPlace
 
--- `router R`
+-- the line `router R` of a section
 abbrev pub router_line : List ℕ → List ℕ
 router_line name = spaced (codes "router" ∷ name ∷ [])
 
--- a router that isn't that of the cost line before
+-- the line of a router that isn't that of the cost line before, which leads to an interface
 pub record IsRouterNext (text : Option OtherText) (before : Option (List ℕ)) (line : List ℕ) (next : TextPlace) : Type 0 where
   pub name : List ℕ
   pub word : IsOneWord name
@@ -61,7 +61,7 @@ pub record IsRouterNext (text : Option OtherText) (before : Option (List ℕ)) (
   pub is : line ≡ router_line name
   pub leads : next ≡ AtInterface text name
 
--- an interface of a router
+-- the line of an interface of a router, which leads to its cost
 pub record IsInterfaceNext (text : Option OtherText) (router line : List ℕ) (next : TextPlace) : Type 0 where
   pub name : List ℕ
   pub word : IsOneWord name
@@ -75,7 +75,7 @@ pub record IsFloorNext (line : List ℕ) (next : TextPlace) : Type 0 where
   pub is : line ≡ floor_line floor
   pub leads : next ≡ AtRows
 
--- a further interface stands only behind a cost line
+-- the line of a further interface of a router, which stands only behind a cost line
 abbrev pub IsInterfaceAgain : Option OtherText → Option (List ℕ) → List ℕ → TextPlace → Type 0
 IsInterfaceAgain text None line next = ⊥
 IsInterfaceAgain text (Some router) line next = IsInterfaceNext text router line next
@@ -116,7 +116,7 @@ pub record IsRowNext (left : ℕ) (line : List ℕ) (next : TextPlace) : Type 0 
   pub is : line ≡ row_line row
   pub leads : next ≡ AtRow left
 
--- the head of a part with a tree: one place is open
+-- the first line of a part with a tree, behind which one place is open
 pub record IsTreeNext (part : TreePart) (line : List ℕ) (next : TextPlace) : Type 0 where
   pub cap : ℕ
   pub count : ℕ
@@ -125,7 +125,7 @@ pub record IsTreeNext (part : TreePart) (line : List ℕ) (next : TextPlace) : T
   pub is : line ≡ tree_line part cap count
   pub leads : next ≡ AtTree part 1 count
 
--- a part without a tree stands as a tree that is done
+-- the first line of a part: without a tree it leads where the end of a tree does, else to the tree's first place
 abbrev pub IsPartNext : TreePart → List ℕ → TextPlace → Type 0
 IsPartNext part line next = ((line ≡ no_tree_line part) × (next ≡ AtTree part 0 0)) ⊎ IsTreeNext part line next
 
@@ -175,7 +175,7 @@ costs_front text = codes "costs "
 abbrev pub no_costs_line : OtherText → List ℕ
 no_costs_line text = costs_front text ++ codes "none"
 
--- the greatest number that may stand there: a cost, or how many cost lines there are
+-- the greatest number behind the word for costs of another text: a cost, or how many cost lines there are
 abbrev pub greatest_of_costs : OtherText → ℕ
 greatest_of_costs Change = 4294967295
 greatest_of_costs text = 65535
@@ -195,12 +195,12 @@ abbrev pub IsEndNext : Option OtherText → List ℕ → TextPlace → Type 0
 IsEndNext None line next = IsFloorNext line next
 IsEndNext (Some text) line next = IsSectionsEnd text line × (next ≡ AtUnread (inner_ends text))
 
--- behind a line `end` that so many others still follow
+-- the place behind a line `end` that so many others still follow
 abbrev pub behind_end : ℕ → TextPlace
 behind_end zero = AfterEnd
 behind_end (suc more) = AtUnread more
 
--- behind a line that nobody reads
+-- the place behind a line that nobody reads
 abbrev pub behind_unread : ℕ → List ℕ → TextPlace
 behind_unread more line = if same_bytes line (codes "end") then behind_end more else AtUnread more
 

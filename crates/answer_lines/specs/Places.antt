@@ -14,10 +14,10 @@ pub record IsFirstInText (bytes line left : List ℕ) : Type 0 where
 abbrev pub LacksFirst : List ℕ → Type 0
 LacksFirst bytes = (line left : List ℕ) → IsFirstInText bytes line left → ⊥
 
--- no lawful line stands first
+-- no lawful line stands first in a text
 abbrev pub LacksLawful : TextPlace → List ℕ → Type 0
 LacksLawful place bytes = (line left : List ℕ) → bytes ≡ line ++ 10 ∷ left → IsOneLine line → IsLawful place line → ⊥
 
--- a lawful line at a place begins with this
+-- some lawful line at a place begins with these bytes
 abbrev pub BeginsLawful : TextPlace → List ℕ → Type 0
 BeginsLawful place rest = (more : List ℕ) × IsLawful place (rest ++ more)

@@ -1,5 +1,5 @@
 -- The words of a line that is cut at each space.
-use Rattle.std.specs.Prelude.{◌≡◌, ℕ, List, [], ◌∷◌, codes, Option, Some, None, All, ◌==◌, false}
+use Rattle.std.specs.Prelude.{◌≡◌, ℕ, List, [], ◌∷◌, codes, Option, Some, None}
 use Rattle.std.specs.Option.{option_copied}
 use Rattle.cost_base.specs.Decimal.{decimal}
 use Rattle.design_problem.specs.declared.tree.Entry.{Entry}
@@ -9,16 +9,12 @@ use Rattle.design_problem.specs.Text.{side_word, step_word, ratio_word, members_
 use Rattle.text_lines.specs.Numbers.{split}
 use Rattle.answer_lines.specs.declared.words.Pieces.{Pieces}
 
--- no byte is a space
-abbrev pub IsSpaceless : List ℕ → Type 0
-IsSpaceless w = All (λ c. (c == 32) ≡ false) w
-
--- the words of the text that is left, where there is one
+-- the words of the rest of a line, where there is one
 abbrev pub words_of_rest : Option (List ℕ) → List (List ℕ)
 words_of_rest None = []
 words_of_rest (Some text) = split 32 text
 
--- the words that a reader of words has left
+-- the words of a line that its reader has left
 abbrev pub words_left : Pieces → List (List ℕ)
 words_left p = words_of_rest (option_copied p.left)
 

@@ -7,20 +7,18 @@ ghost use Rattle.design_problem.specs.Text.{row_line};
 ghost use Rattle.answer_lines.specs.Words.{words_left};
 
 use crate::words::Pieces;
-use area_graph::Path;
 use cost_base::{Listed, OutOfMemory};
 use design_problem::Row;
 use std::alloc::Global;
 
-/// The row that a line says. Its rival starts at 0, since a text says no start.
+/// The row that a line says.
 ///
 /// # Errors
 ///
 /// `OutOfMemory` where a growth was refused.
 pub fn row_of(alloc: Global, line: &[u8]) -> Result<Option<Row>, OutOfMemory>
     ensures { IfOk result (λ found. MatchOption found ((row : Row) → BoundsRow row →
-        line.now ≢ row_line row) (λ row. BoundsRow row × (line.now ≡ row_line row) ×
-        (row.rival.start ≡ 0))) }
+        line.now ≢ row_line row) (λ row. BoundsRow row × (line.now ≡ row_line row))) }
 {
     let Some(numbers) = Pieces::new(line).behind(b"row") else {
         return Ok(None);
@@ -33,10 +31,7 @@ pub fn row_of(alloc: Global, line: &[u8]) -> Result<Option<Row>, OutOfMemory>
     };
     Ok(Some(Row {
         request: request as u32,
-        rival: Path {
-            start: 0,
-            edges: Listed::from_items(edges),
-        },
+        rival: Listed::from_items(edges),
     }))
 }
 

@@ -8,7 +8,7 @@ use Rattle.area_graph.specs.Area.{Area, edge_at, edges_out}
 use Rattle.area_graph.specs.Paths.{Joins, Avoids}
 use Rattle.area_graph.specs.Costs.{FitsPoint, price_at, cost}
 
--- which edges are gone, as a mark for each edge
+-- the marks, one for each edge, tell which edges are excluded
 abbrev pub AreEdgeMarks : List ℕ → List Bool → Type 0
 AreEdgeMarks excluded marks = (e : ℕ) → e < length marks → (slice_index_or marks e true ≡ false) ↔ Lacks excluded e
 
@@ -16,27 +16,27 @@ AreEdgeMarks excluded marks = (e : ℕ) → e < length marks → (slice_index_or
 abbrev pub far : Point → ℕ
 far p = 2 ^ 26 * p.scale
 
--- a walk from v to t with no edge that is gone, that costs at most so much
+-- a walk from v to t with no excluded edge, that costs at most so much
 pub record WalkWithin (g : Area) (p : Point) (excluded : List ℕ) (v t most : ℕ) : Type 0 where
   pub edges : List ℕ
   pub joins : Joins g v edges t
   pub kept : Avoids excluded edges
   pub within : cost g p edges ≤ most
 
--- some walk to t costs no more than each number below a limit
+-- each vertex whose number is below the limit has a walk to t that costs no more than its number; t's own number is 0
 pub record AreReached (g : Area) (p : Point) (excluded : List ℕ) (t limit : ℕ) (d : List ℕ) : Type 0 where
   pub target : slice_index d t ≡ 0
   pub reached : (v : ℕ) → v < length d → slice_index d v < limit → WalkWithin g p excluded v t (slice_index d v)
 
--- what a vertex would get by an edge
+-- the number that an edge leads its start to: the edge's price and the number of its end
 abbrev pub through : Point → Edge → List ℕ → ℕ
 through p edge d = price_at p edge.price + slice_index d edge.to
 
--- none of the first n edges that aren't gone leads to a smaller number
+-- none of the first n edges that isn't excluded leads its start to a number smaller than the start's own
 abbrev pub SettledBelow : ℕ → Area → Point → List ℕ → List ℕ → Type 0
 SettledBelow n g p excluded d = (e : ℕ) → e < n → Lacks excluded e → slice_index d (edge_at g e).from ≤ through p (edge_at g e) d
 
--- the point is one for the graph
+-- the subgraph's point is one for its graph
 abbrev pub FitsSubgraph : Subgraph → Type 0
 FitsSubgraph s = FitsPoint s.graph.now s.point.now
 
@@ -45,26 +45,26 @@ pub record AreNumbersIn (s : Subgraph) (d : List ℕ) : Type 0 where
   pub count : length d ≡ length s.graph.now.vertices
   pub bounded : All (λ x. x ≤ far s.point.now) d
 
--- the numbers below a limit are what walks to t cost, and no edge that is left leads to a smaller one
+-- the numbers below a limit are costs of walks to t, and no edge that isn't excluded leads its start to a smaller one
 pub record AreDistancesTo (s : Subgraph) (t limit : ℕ) (d : List ℕ) : Type 0 where
   pub reached : AreReached s.graph.now s.point.now s.removal.now t limit d
   pub settled : SettledBelow (length s.graph.now.edges) s.graph.now s.point.now s.removal.now d
 
--- nothing was changed, since the edge leads to no smaller number
+-- the numbers stayed as they were, since the edge leads its start to no smaller one
 pub record StaysBy (p : Point) (edge : Edge) (old new : List ℕ) : Type 0 where
   pub same : new ≡ old
   pub least : slice_index old edge.from ≤ through p edge old
 
--- the edge's start got a smaller number
+-- the edge's start got the number that the edge leads it to, which is smaller
 pub record ShorterBy (p : Point) (edge : Edge) (old new : List ℕ) : Type 0 where
   pub set : new ≡ slice_set old edge.from (through p edge old)
   pub less : through p edge old < slice_index old edge.from
 
--- an edge is gone, is the named one, or leads to more than so much
+-- an edge is excluded, is the named one, or leads to more than so much
 abbrev pub LeadsToMore : Area → Point → List ℕ → List ℕ → ℕ → ℕ → ℕ → Type 0
 LeadsToMore g p excluded d number most e = Lacks excluded e → e ≢ number → most < through p (edge_at g e) d
 
--- at each vertex of the path every other edge that isn't gone leads to more than what the path costs from there
+-- at each vertex of the path every other edge that isn't excluded leads to more than what the path costs from there
 abbrev pub OtherEdgesLeadToMore : Area → Point → List ℕ → List ℕ → List ℕ → Type 0
 OtherEdgesLeadToMore g p excluded d [] = Unit {0}
 OtherEdgesLeadToMore g p excluded d (e ∷ es) = All (LeadsToMore g p excluded d e (cost g p (e ∷ es))) (edges_out g (edge_at g e).from) × OtherEdgesLeadToMore g p excluded d es

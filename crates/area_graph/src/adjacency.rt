@@ -72,7 +72,7 @@ fn edges_on(
     Ok(lists)
 }
 
-/// Each fixed price is within its 16 bits: a fact for proofs alone.
+/// For the prover alone: keeps that each fixed price of the edges is within the 16 bits of an interface cost.
 fn hold_metrics(edges: &[Edge])
     ensures { All (λ edge. IsMetric edge.price) edges.now }
 {
@@ -81,6 +81,7 @@ fn hold_metrics(edges: &[Edge])
     }
 }
 
+/// For the prover alone: keeps that the price, where it is fixed, is within the 16 bits of an interface cost.
 fn hold_metric(price: Price)
     ensures { IsMetric price }
 {

@@ -1,5 +1,5 @@
-//! Whether a path is only cheapest, by plain distances: passes over all edges until nothing changes. A checker stands on
-//! this module and on the passes alone for its test of paths, and on no shortest-path algorithm.
+//! Whether a path is the only cheapest, by plain distances: passes over all edges until nothing changes. A checker
+//! stands on this module and on the passes alone for its test of paths, and on no shortest-path algorithm.
 
 ghost use Rattle.std.specs.Prelude.{◌≡◌, ◌↔◌, ◌++◌, ◌∷◌, [], ◌≤◌, ◌<◌, ◌*◌, ◌+◌, ◌^◌, ℕ, All, IfOk, IsTrue, List, length};
 ghost use Rattle.area_graph.specs.Area.{edge_at, edges_out};
@@ -26,7 +26,7 @@ pub struct RequestedPath<'a> {
     pub path: &'a Path,
     /// The vertex where it is to end.
     pub end: u32,
-    /// The edges that are taken away.
+    /// The request's excluded edges.
     pub excluded: &'a [u32],
 }
 
@@ -48,7 +48,7 @@ fn distances_to(
     Ok(distances)
 }
 
-/// Whether an edge is gone, is the named one, or leads to the target at a cost above `most`.
+/// Whether an edge is excluded, is the named one, or leads to the target at a cost above `most`.
 fn is_dearer(
     subgraph: &Subgraph<'_>,
     distances: &[u128],
@@ -70,7 +70,7 @@ fn is_dearer(
     most < price_of(edge.price, subgraph.point) + distances[edge.to as usize]
 }
 
-/// Whether each other edge out of the named edge's start is gone or leads to the target at a cost above `most`.
+/// Whether each other edge out of the named edge's start is excluded or leads to the target at a cost above `most`.
 fn others_are_dearer(subgraph: &Subgraph<'_>, distances: &[u128], named: u32, most: u128) -> bool
     requires fits { FitsSubgraph subgraph.now }
     requires known { named < length subgraph.now.graph.now.edges }
@@ -90,8 +90,8 @@ fn others_are_dearer(subgraph: &Subgraph<'_>, distances: &[u128], named: u32, mo
     true
 }
 
-/// Whether at each vertex of the path every other edge that isn't gone leads to the target at a cost above what the path
-/// costs from there.
+/// Whether at each vertex of the path every other edge that isn't excluded leads to the target at a cost above what the
+/// path costs from there.
 fn leads(subgraph: &Subgraph<'_>, path: &Path, distances: &[u128]) -> bool
     requires fits { FitsSubgraph subgraph.now }
     requires simple { (end : ℕ) × IsSimple subgraph.now.graph.now path.now.start path.now.edges
@@ -112,10 +112,10 @@ fn leads(subgraph: &Subgraph<'_>, path: &Path, distances: &[u128]) -> bool
     true
 }
 
-/// Whether a path of a request is only cheapest: each other simple path between its ends without an edge that is gone
+/// Whether a path of a request is the only cheapest: each other simple path between its ends without an excluded edge
 /// costs more (RFC 2328, 16.1; equal costs would be used together by 16.8). Least costs to the end are found by passes
-/// over all edges until nothing changes. The path is only cheapest exactly where at each of its vertices every other
-/// edge, with the least cost from its end on, costs more than the rest of the path.
+/// over all edges until nothing changes. The path is the only cheapest exactly where at each of its vertices every
+/// other edge, with the least cost from its end on, costs more than the rest of the path.
 ///
 /// # Errors
 ///

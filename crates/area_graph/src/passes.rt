@@ -36,7 +36,7 @@ fn shorten(edge: Edge, point: &Point, distances: &mut Vec<u128>) -> bool
     }
 }
 
-/// Looks at one edge, unless it is gone, and tells whether the number of its start was lowered.
+/// Looks at one edge, unless it is excluded, and tells whether the number of its start was lowered.
 fn visit(subgraph: &Subgraph<'_>, number: u32, distances: &mut Vec<u128>) -> bool
     // Each vertex of the subgraph has a number.
     requires fits { FitsSubgraph subgraph.now }
@@ -60,7 +60,7 @@ fn visit(subgraph: &Subgraph<'_>, number: u32, distances: &mut Vec<u128>) -> boo
     }
 }
 
-/// Goes once through the edges that aren't gone, and tells whether a number was lowered.
+/// Goes once through the edges that aren't excluded, and tells whether a number was lowered.
 fn pass(subgraph: &Subgraph<'_>, distances: &mut Vec<u128>) -> bool
     // Each vertex of the subgraph has a number.
     requires fits { FitsSubgraph subgraph.now }

@@ -37,7 +37,7 @@ pub fn is_simple(graph: &Graph, path: &Path, end: u32) -> bool
         && (end as usize) < graph.vertices().len()
 }
 
-/// Whether none of the edges is among those that are gone. Takes no memory.
+/// Whether none of the edges is excluded. Takes no memory.
 pub fn avoids(excluded: &[u32], edges: &[u32]) -> bool
     ensures { IsTrue result ↔ Avoids excluded.now edges.now }
 {
@@ -49,7 +49,7 @@ pub fn avoids(excluded: &[u32], edges: &[u32]) -> bool
     true
 }
 
-/// Whether a path is a simple path to `end` with no edge that is gone. Takes no memory.
+/// Whether a path is a simple path to `end` with no excluded edge. Takes no memory.
 pub fn is_path_of(graph: &Graph, path: &Path, end: u32, excluded: &[u32]) -> bool
     ensures { IsTrue result ↔
         IsPathOf graph.now (record { start = path.now.start; end = end; excluded = excluded.now })
@@ -99,7 +99,7 @@ fn misses(graph: &Graph, start: u32, edges: &[u32], vertex: u32) -> bool
     true
 }
 
-/// Whether an edge isn't among those that are gone.
+/// Whether an edge isn't excluded.
 pub(crate) fn lacks(excluded: &[u32], edge: u32) -> bool
     ensures { IsTrue result ↔ Lacks excluded.now edge }
 {

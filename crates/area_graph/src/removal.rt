@@ -1,4 +1,4 @@
-//! The edges that a request takes away.
+//! The excluded edges of a request.
 
 ghost use Rattle.std.specs.Prelude.{◌≡◌, ◌↔◌, ◌++◌, ◌∷◌, [], ℕ, IsTrue, List, length};
 ghost use Rattle.cost_base.specs.Lists.{Lacks};
@@ -7,11 +7,11 @@ ghost use Rattle.area_graph.specs.Distances.{AreEdgeMarks};
 use crate::paths::lacks;
 use std::marker::Model;
 
-/// The edges that a request takes away, with a mark for each edge of the graph that tells at once whether it is one of
+/// The excluded edges of a request, with a mark for each edge of the graph that tells at once whether it is one of
 /// them (`mark_excluded` sets the marks). Contracts see the list of their numbers.
 #[derive(Drop)]
 pub struct Removal<'a> {
-    /// The numbers of the edges that are taken away.
+    /// The numbers of the excluded edges.
     pub excluded: &'a [u32],
     /// For each edge of the graph, whether it is one of them.
     pub marks: &'a [bool],
@@ -30,7 +30,7 @@ impl<'a> Model for Removal<'a> {
 }
 
 impl<'a> Removal<'a> {
-    /// Whether an edge is left. Takes no memory.
+    /// Whether an edge isn't excluded. Takes no memory.
     pub fn leaves(&self, edge: u32) -> bool
         ensures { IsTrue result ↔ Lacks self.now edge }
     {
@@ -42,7 +42,7 @@ impl<'a> Removal<'a> {
     }
 }
 
-/// Marks the edges that are gone, and no other. Takes no memory.
+/// Marks the excluded edges, and no other. Takes no memory.
 pub fn mark_excluded(marks: &mut Vec<bool>, excluded: &[u32])
     ensures marks { AreEdgeMarks excluded.now marks.new.items }
     ensures count { length marks.new.items ≡ length marks.old.items }

@@ -1,14 +1,14 @@
-//! A graph at a point with edges taken away.
+//! A graph at a point without the excluded edges of a request.
 
 use crate::{Graph, Point, Removal};
 
-/// What is left of a graph without the edges that a request takes away, with the costs of a point.
+/// What is left of a graph without the excluded edges of a request, with the costs of a point.
 #[derive(Clone, Copy)]
 pub struct Subgraph<'a> {
     /// The whole graph.
     pub graph: &'a Graph,
     /// The point that its prices are taken at.
     pub point: &'a Point,
-    /// The edges that are taken away.
+    /// The excluded edges.
     pub removal: &'a Removal<'a>,
 }

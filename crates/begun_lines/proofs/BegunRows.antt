@@ -94,7 +94,7 @@ numbers-front n (k ∷ ks) text more all e some =
 
 -- a row of these numbers
 abbrev row_of_numbers : ℕ → List ℕ → Row
-row_of_numbers first others = record { request = first; rival = record { start = 0; edges = others } }
+row_of_numbers first others = record { request = first; rival = others }
 
 -- `row` and numbers are the line of a row
 row-line : (rest text : List ℕ) → rest ≡ codes "row " ++ text → IsNumbers text → IsLineOfRow rest
@@ -119,12 +119,12 @@ edge-begins rest left edge = go edge.0 edge.1.0 edge.1.1 edge.1.2 edge.2 edge.3
   where
     go : (line : List ℕ) (row : Row) → BoundsRow row → line ≡ row_line row → rest ≡ line ++ 32 ∷ [] → length rest < 65536 → BeginsLawful (AtRow (suc left)) rest
     go line row bounds is space room =
-        let longer : Row = row_of_numbers row.request (row.rival.edges ++ 0 ∷ []) in
+        let longer : Row = row_of_numbers row.request (row.rival ++ 0 ∷ []) in
         let whole : rest ++ 48 ∷ [] ≡ row_line longer =
         ap (λ bytes. bytes ++ 48 ∷ []) space ∙ append_assoc line (32 ∷ []) (48 ∷ [])
-        ∙ ap (λ bytes. bytes ++ 32 ∷ 48 ∷ []) is ∙ sym (row-more row.request row.rival.edges) in
+        ∙ ap (λ bytes. bytes ++ 32 ∷ 48 ∷ []) is ∙ sym (row-more row.request row.rival) in
         begins-from (AtRow (suc left)) (AtRow left) rest (row_line longer)
-        (record { row = longer; bounds = (bounds.0, All-push IsThing row.rival.edges 0 bounds.1 (omega arith)); is = refl; leads = refl })
+        (record { row = longer; bounds = (bounds.0, All-push IsThing row.rival 0 bounds.1 (omega arith)); is = refl; leads = refl })
         (omega (arith, ap length whole, length-append rest (48 ∷ []))) (48 ∷ [], whole)
 
 pub row-begun : (rest : List ℕ) (left : ℕ) →
@@ -160,11 +160,11 @@ row-begun rest left = (
     parts : (more : List ℕ) (row : Row) → BoundsRow row → rest ++ more ≡ row_line row → length (rest ++ more) ≤ 65536 →
         (BeginsNumber rest (codes "row ") 4294967295 ⊎ IsShortRow rest) ⊎ BeginsEdge rest
     parts more row bounds is short =
-        elim (two_parts rest more (codes "row ") (spaced (map decimal (row.request ∷ row.rival.edges))) is) [
+        elim (two_parts rest more (codes "row ") (spaced (map decimal (row.request ∷ row.rival))) is) [
           | inl started ↦ inl (inl (0, omega arith, front-longer rest (codes "row ") (decimal 0) started))
           | inr into ↦
               behind more into.cut into.is short
-              (numbers-front row.request row.rival.edges into.cut more (All-cons IsThing row.request row.rival.edges bounds.0 bounds.1) into.left into.some)
+              (numbers-front row.request row.rival into.cut more (All-cons IsThing row.request row.rival bounds.0 bounds.1) into.left into.some)
         ]
 
 -- a word `row`, and numbers behind it, one at least, are the words of a row's line
@@ -179,10 +179,10 @@ row-said line words cut = (λ said. from said.1.0 said.1.1 said.1.2 said.0, λ r
 
     back : (row : Row) → BoundsRow row → line ≡ row_line row → (words ≢ []) × AreNumberWords words
     back row bounds is =
-        let same : words ≡ map decimal (row.request ∷ row.rival.edges) =
-        tail-is (codes "row") (codes "row") words (map decimal (row.request ∷ row.rival.edges))
+        let same : words ≡ map decimal (row.request ∷ row.rival) =
+        tail-is (codes "row") (codes "row") words (map decimal (row.request ∷ row.rival))
         (sym cut ∙ row-words line row is) in
-        (λ none. cc, (row.request ∷ row.rival.edges, All-cons IsThing row.request row.rival.edges bounds.0 bounds.1, same))
+        (λ none. cc, (row.request ∷ row.rival, All-cons IsThing row.request row.rival bounds.0 bounds.1, same))
 
 -- words that begin with no number aren't numbers
 pub numbers-off : (words : List (List ℕ)) → words ≢ [] → ((n : ℕ) (rest : List (List ℕ)) → n ≤ 4294967295 → words ≢ decimal n ∷ rest) → AreNumberWords words → ⊥

@@ -2,11 +2,11 @@
 use Rattle.std.proofs.Common.{◌≡◌, ◌≢◌, ℕ, ◌+◌, ◌<◌, ◌≤◌, List, [], ◌∷◌, ◌++◌, length, eqb, Bool, false, MatchOption, Option, Some, None, ◌↔◌, IsTrue, refl, sym, ap, subst, ◌∙◌, arith, inl, inr, append_assoc, append-nil, length-append}
 use Rattle.std.specs.Prelude.{◌⊎◌}
 use Rattle.std.proofs.lemmas.List.Elements.{All-head, All-tail}
+use Rattle.cost_base.specs.Words.{HasNoSpace}
 use Rattle.design_problem.specs.Text.{spaced}
 use Rattle.text_lines.specs.Lines.{grow}
 use Rattle.text_lines.specs.Numbers.{split}
 use Rattle.text_lines.proofs.Pieces.{split-some}
-use Rattle.answer_lines.specs.Words.{IsSpaceless}
 use Rattle.begun_lines.specs.BegunLines.{GoesOn, Then, Alone, Never, IsLeastCompletion, IsWordStep, IsNoStep, IsNumberInRange, IsRatio}
 use Rattle.begun_lines.specs.declared.numbers.Numbers.{Numbers}
 use Rattle.begun_lines.specs.declared.begun.Begun.{Begun}
@@ -17,7 +17,7 @@ use Rattle.answer_lines.proofs.LineEntries.{ratio-spaceless}
 
 -- the first word of a text, alone or with a text behind its space
 pub record FirstWord (text w : List ℕ) (ws : List (List ℕ)) : Type 0 where
-  pub spaceless : IsSpaceless w
+  pub spaceless : HasNoSpace w
   pub parts : ((ws ≡ []) × (text ≡ w)) ⊎ ((rest : List ℕ) × (text ≡ w ++ 32 ∷ rest) × (ws ≡ split 32 rest))
 
 pub first_word : (text w : List ℕ) (ws : List (List ℕ)) → split 32 text ≡ w ∷ ws → FirstWord text w ws
@@ -32,14 +32,14 @@ first_word text w ws e = record { spaceless = split-whole 32 text w ws e; parts 
         inr (spaced (v ∷ vs), parts, tail-is w w (v ∷ vs) (split 32 (spaced (v ∷ vs))) (sym e ∙ cut))
 
 -- more bytes behind a word without spaces
-pub longer_word : (t more m : List ℕ) (ms : List (List ℕ)) → IsSpaceless t → split 32 more ≡ m ∷ ms → split 32 (t ++ more) ≡ (t ++ m) ∷ ms
+pub longer_word : (t more m : List ℕ) (ms : List (List ℕ)) → HasNoSpace t → split 32 more ≡ m ∷ ms → split 32 (t ++ more) ≡ (t ++ m) ∷ ms
 longer_word [] more m ms spaceless e = e
 longer_word (c ∷ cs) more m ms spaceless e =
     let other : eqb c 32 ≡ false = All-head (λ x. eqb x 32 ≡ false) c cs spaceless in
     rw other (ap (grow c) (longer_word cs more m ms (All-tail (λ x. eqb x 32 ≡ false) c cs spaceless) e))
 
 -- more bytes behind a word that has a space behind it
-pub word_behind : (text w rest more : List ℕ) → text ≡ w ++ 32 ∷ rest → IsSpaceless w → split 32 (text ++ more) ≡ w ∷ split 32 (rest ++ more)
+pub word_behind : (text w rest more : List ℕ) → text ≡ w ++ 32 ∷ rest → HasNoSpace w → split 32 (text ++ more) ≡ w ∷ split 32 (rest ++ more)
 word_behind text w rest more parts spaceless =
     ap (λ l. split 32 (l ++ more)) parts ∙ ap (split 32) (append_assoc w (32 ∷ rest) more) ∙ split-front 32 w (rest ++ more) spaceless
 
@@ -111,7 +111,7 @@ StandsBehind b missing after =
 step_here : (word : List ℕ → Type 0) (b after : Begun) (v : List ℕ) (vs : List (List ℕ)) (n : ℕ) → IsLeastCompletion word v n → split 32 b.text.now ≡ v ∷ vs →
     (u : List ℕ) → b.text.now ≡ u ++ 32 ∷ after.text.now → split 32 b.text.now ≡ u ∷ split 32 after.text.now → n ≡ 0 → after.room ≡ b.room → IsWordStep word b after
 step_here word b after v vs n least first u parts cut none same =
-    let spaceless : IsSpaceless u = split-whole 32 b.text.now u (split 32 after.text.now) cut in
+    let spaceless : HasNoSpace u = split-whole 32 b.text.now u (split 32 after.text.now) cut in
     let is_u : v ≡ u = head-is v u vs (split 32 after.text.now) (sym first ∙ cut) in
     let empty : least.more ≡ [] = no_bytes least.more (omega (arith, least.count_is)) in
     let whole : word u = subst word (ap (λ m. v ++ m) empty ∙ append-nil v ∙ is_u) least.fits in
@@ -147,7 +147,7 @@ onward word text more w ws n least alone is some e =
           }
     ]
 
-step_grown : (word : List ℕ → Type 0) → ((w : List ℕ) → word w → IsSpaceless w) → (b after : Begun) (n : ℕ) →
+step_grown : (word : List ℕ → Type 0) → ((w : List ℕ) → word w → HasNoSpace w) → (b after : Begun) (n : ℕ) →
     IsLeastCompletion word b.text.now n → split 32 b.text.now ≡ b.text.now ∷ [] →
     after.text.now ≡ [] → after.room + n + 1 ≡ b.room → IsWordStep word b after
 step_grown word spaceless b after n least alone empty room = record {
@@ -169,7 +169,7 @@ step_grown word spaceless b after n least alone empty room = record {
 }
 
 -- what follows a word that lacks some bytes
-pub step_behind : (word : List ℕ → Type 0) → ((w : List ℕ) → word w → IsSpaceless w) →
+pub step_behind : (word : List ℕ → Type 0) → ((w : List ℕ) → word w → HasNoSpace w) →
     (b : Begun) (v : List ℕ) (vs : List (List ℕ)) (n : ℕ) → IsLeastCompletion word v n → split 32 b.text.now ≡ v ∷ vs →
     (r : Option Begun) → MatchOption r (NotBehind b n) (λ after. StandsBehind b n after) → MatchOption r (IsNoStep word b) (λ after. IsWordStep word b after)
 step_behind word spaceless b v vs n least first (Some after) (inl here) = step_here word b after v vs n least first here.0 here.1 here.2 here.3 here.4
@@ -207,7 +207,7 @@ last_never word text v vs room first never = (
 )
 
 -- a line that may end with a word
-pub last_word : (word : List ℕ → Type 0) → ((w : List ℕ) → word w → IsSpaceless w) →
+pub last_word : (word : List ℕ → Type 0) → ((w : List ℕ) → word w → HasNoSpace w) →
     (text v : List ℕ) (vs : List (List ℕ)) (room n : ℕ) → split 32 text ≡ v ∷ vs → IsLeastCompletion word v n → (r : Bool) →
     IsTrue r ↔ ((split 32 text ≡ text ∷ []) × (n ≤ room)) → IsTrue r ↔ GoesOn (Alone word) text room
 last_word word spaceless text v vs room n first least r h = (λ yes_it. forth (h.0 yes_it), λ on. h.1 (back on))
@@ -284,11 +284,11 @@ least_name wanted word missing e = record {
   least = λ other is. omega (arith, ap length e, ap length is, length-append word missing, length-append word other);
 }
 
-pub name-spaceless : (wanted : List ℕ) → IsSpaceless wanted → (w : List ℕ) → w ≡ wanted → IsSpaceless w
-name-spaceless wanted spaceless w e = subst IsSpaceless (sym e) spaceless
+pub name-spaceless : (wanted : List ℕ) → HasNoSpace wanted → (w : List ℕ) → w ≡ wanted → HasNoSpace w
+name-spaceless wanted spaceless w e = subst HasNoSpace (sym e) spaceless
 
-pub number-spaceless : (numbers : Numbers) (w : List ℕ) → IsNumberInRange numbers w → IsSpaceless w
-number-spaceless numbers w is = subst IsSpaceless (sym is.2) (decimal-spaceless is.0)
+pub number-spaceless : (numbers : Numbers) (w : List ℕ) → IsNumberInRange numbers w → HasNoSpace w
+number-spaceless numbers w is = subst HasNoSpace (sym is.2) (decimal-spaceless is.0)
 
-pub ratio_word-spaceless : (w : List ℕ) → IsRatio w → IsSpaceless w
-ratio_word-spaceless w is = subst IsSpaceless (sym is.2) (ratio-spaceless is.0)
+pub ratio_word-spaceless : (w : List ℕ) → IsRatio w → HasNoSpace w
+ratio_word-spaceless w is = subst HasNoSpace (sym is.2) (ratio-spaceless is.0)

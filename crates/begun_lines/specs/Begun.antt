@@ -33,7 +33,7 @@ BeginsTree rest front = (cap count : ℕ) × (cap ≤ 65535) × (count ≤ 42949
 abbrev pub BeginsCount : List ℕ → List ℕ → Type 0
 BeginsCount rest front = (cap : ℕ) × (behind : List ℕ) × (cap ≤ 65535) × (rest ≡ front ++ (decimal cap ++ 32 ∷ behind)) × BeginsNumber behind [] 4294967295
 
--- the line of this router
+-- the line `router R` of this router; no line where there is none
 abbrev pub IsRouterOf : Option (List ℕ) → List ℕ → Type 0
 IsRouterOf router line = (name : List ℕ) × (router ≡ Some name) × (line ≡ router_line name)
 

@@ -56,7 +56,7 @@ pub record IsWordStep (word : List ℕ → Type 0) (before after : Begun) : Type
   pub back : (left : List ℕ) → length left ≤ after.room →
       (more w : List ℕ) × word w × (split 32 (before.text.now ++ more) ≡ w ∷ split 32 (after.text.now ++ left)) × (length more ≤ before.room)
 
--- no such word with words behind it goes on with a line
+-- no word of the kind, with words behind it, goes on with a begun line
 abbrev pub IsNoStep : (List ℕ → Type 0) → Begun → Type 0
 IsNoStep word before =
     (more w : List ℕ) (ws : List (List ℕ)) → word w → ws ≢ [] → split 32 (before.text.now ++ more) ≡ w ∷ ws → length more ≤ before.room → ⊥
@@ -67,7 +67,7 @@ pub record IsCoprimeInRange (numbers : Numbers) (n : ℕ) : Type 0 where
   pub greatest : n ≤ numbers.greatest
   pub coprime : gcd numbers.coprime_to n ≡ 1
 
--- the decimal digits of such a number
+-- the decimal digits of a number of a range that has no divisor in common with another
 abbrev pub IsNumberInRange : Numbers → List ℕ → Type 0
 IsNumberInRange numbers w = (n : ℕ) × IsCoprimeInRange numbers n × (w ≡ decimal n)
 
@@ -75,7 +75,7 @@ IsNumberInRange numbers w = (n : ℕ) × IsCoprimeInRange numbers n × (w ≡ de
 abbrev pub Extends : ℕ → ℕ → ℕ → Type 0
 Extends begun digits n = (begun * 10 ^ digits ≤ n) × (n < begun * 10 ^ digits + 10 ^ digits)
 
--- all numbers of a range
+-- the numbers of a range, whatever their divisors
 abbrev pub range : ℕ → ℕ → Numbers
 range least greatest = record { least = least; greatest = greatest; coprime_to = 1 }
 
@@ -99,19 +99,19 @@ IsEitherStep first second w = (w ≡ step_word first) ⊎ (w ≡ step_word secon
 abbrev pub IsLaterStep : List ℕ → Type 0
 IsLaterStep w = IsEitherStep Mul Div w ⊎ IsEitherStep Lcm Scale w
 
--- the numbers of variables: 32 bits
+-- the numbers of 32 bits, which number variables
 abbrev pub vars : Numbers
 vars = range 0 4294967295
 
--- the numbers of bounds: 16 bits
+-- the numbers of 16 bits, which are bounds
 abbrev pub values : Numbers
 values = range 0 65535
 
--- rows from this one on
+-- the numbers of rows from this one on
 abbrev pub rows_from : ℕ → Numbers
 rows_from least = range least 18446744073709551615
 
--- multipliers, of at most 31 digits
+-- the numbers of at most 31 digits from 1 on, which are multipliers
 abbrev pub multiplier_range : Numbers
 multiplier_range = range 1 9999999999999999999999999999999
 
@@ -148,7 +148,7 @@ RefuteWords ws = Then (λ w. w ≡ codes "refute") (PartsWords 0) ws
 abbrev pub MemberWords : List (List ℕ) → Type 0
 MemberWords ws = (member : Member) × BoundsMember member × (ws ≡ member_words member)
 
--- the member of a row, and what follows the side of a bound
+-- the words of a row's member of a basis: `row`, and the row's number
 abbrev pub RowWords : List (List ℕ) → Type 0
 RowWords ws = Then (λ w. w ≡ codes "row") (Alone (IsNumberInRange (rows_from 0))) ws
 
@@ -168,7 +168,7 @@ BasisWords ws = Then IsRatio (Then IsRatio MembersWords) ws
 abbrev pub HalveWords : List (List ℕ) → Type 0
 HalveWords ws = Then (λ w. w ≡ codes "halve") (Then (IsNumberInRange vars) (Then (IsNumberInRange values) (Then IsStepWord BasisWords))) ws
 
--- entries without a subtree, with two, and with one or two
+-- the words of an entry without a subtree
 abbrev pub LeafWords : List (List ℕ) → Type 0
 LeafWords ws = RefuteWords ws ⊎ OpenWords ws
 

@@ -1,8 +1,8 @@
 //! Lines that are begun: what may still follow, in the room that is left.
 ghost use Rattle.std.specs.Prelude.{◌≡◌, ◌≢◌, ◌+◌, ◌^◌, ◌<◌, ◌≤◌, ◌⊎◌, ◌↔◌, List, [], ◌∷◌, ◌++◌, ℕ, MatchOption, IsTrue, length};
+ghost use Rattle.cost_base.specs.Words.{HasNoSpace};
 ghost use Rattle.text_lines.specs.Numbers.{split};
 ghost use Rattle.whole_numbers.specs.Fractions.{gcd};
-ghost use Rattle.answer_lines.specs.Words.{IsSpaceless};
 ghost use Rattle.begun_lines.specs.BegunLines.{IsWordStep, IsNoStep, Becomes, Alone, IsNumberInRange, IsRatio};
 
 use crate::numbers::{Numbers, missing_digits};
@@ -20,7 +20,7 @@ pub(crate) struct Begun<'a> {
 impl<'a> Begun<'a> {
     /// What follows this name, where the next word is it or begins it.
     pub(crate) fn name(self, wanted: &[u8]) -> Option<Begun<'a>>
-        requires { IsSpaceless wanted.now }
+        requires { HasNoSpace wanted.now }
         ensures { MatchOption result (IsNoStep (λ w. w ≡ wanted.now) self.entry)
             (λ after. IsWordStep (λ w. w ≡ wanted.now) self.entry after) }
     {
@@ -30,7 +30,7 @@ impl<'a> Begun<'a> {
 
     /// Whether the line may end with this name.
     pub(crate) fn last_name(self, wanted: &[u8]) -> bool
-        requires { IsSpaceless wanted.now }
+        requires { HasNoSpace wanted.now }
         ensures { IsTrue result ↔ Becomes (Alone (λ w. w ≡ wanted.now)) self.entry }
     {
         match after(wanted, self.first_word()) {

@@ -19,6 +19,6 @@ pub record IsExactTightening (form : Form) (box : CostBox) (side : Side) (var va
 abbrev pub NoneAt : Form → CostBox → ℕ → Type 0
 NoneAt form box var = (side : Side) (value : ℕ) → IsSmaller box side var value → greatest form (removed box side var value) <ℤ pos 0 → ⊥
 
--- the form refutes no such part of any variable before the given number
+-- the form makes no range smaller of a variable before the given number
 abbrev pub NoneBefore : Form → CostBox → ℕ → Type 0
 NoneBefore form box count = (var : ℕ) → var < count → NoneAt form box var

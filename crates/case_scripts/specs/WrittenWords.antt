@@ -10,6 +10,6 @@ member_text (Low var bound) = codes " low" ++ (decimal var ++ (codes "=" ++ deci
 member_text (High var bound) = codes " high" ++ (decimal var ++ (codes "=" ++ decimal bound))
 member_text (Row row) = codes " row" ++ decimal row
 
--- a row's multiplier
+-- a row's number and its multiplier, as a script writes them
 abbrev pub part_text : ℕ → ℕ → List ℕ
 part_text row multiplier = codes " " ++ (decimal multiplier ++ (codes "*row" ++ decimal row))

@@ -3,12 +3,12 @@ use Rattle.std.proofs.Common.{◌≡◌, ℕ, List}
 use Rattle.cost_base.specs.declared.Status.TheVariants as status
 use Rattle.design_problem.specs.Rows.{IsFit}
 use Rattle.design_problem.specs.ProblemLaws.{HasNoFit}
-use Rattle.command_words.specs.Jobs.{Bounds}
+use Rattle.command_words.specs.Jobs.{SearchLimits}
 use Rattle.input_files.specs.Outcomes.{Input}
 use Rattle.least_change.specs.declared.change.Change.{Change}
 use Rattle.least_change.specs.declared.change.Change.TheVariants.{Fewest, Impossible, Undecided}
 use Rattle.least_change.specs.Changes.{IsChangeFound}
-use Rattle.least_change.specs.Laws.{CannotSpendOnChanges}
+use Rattle.least_change.specs.Laws.{CannotBeUndecidedOnChanges}
 use Rattle.least_change.proofs.Unspent.{unspent_settle}
 use Rattle.change_commands.specs.Changes.{ShowsChange, change_status, question_of}
 
@@ -31,7 +31,7 @@ undecided_impossible : status.Undecided ≡ status.Impossible → ⊥
 undecided_impossible is = cc
 
 -- with status 0 some costs are fit
-pub fewest_fit : (limits : Bounds) (d : Input) (bytes : List ℕ) → ShowsChange limits d status.Done bytes → (w : List ℕ) × IsFit d.problem w
+pub fewest_fit : (limits : SearchLimits) (d : Input) (bytes : List ℕ) → ShowsChange limits d status.Done bytes → (w : List ℕ) × IsFit d.problem w
 fewest_fit limits d bytes shown = by_found shown.change shown.found shown.status
   where
     by_found : (change : Change) → IsChangeFound (question_of limits d) change → change_status change ≡ status.Done → (w : List ℕ) × IsFit d.problem w
@@ -40,7 +40,7 @@ fewest_fit limits d bytes shown = by_found shown.change shown.found shown.status
     by_found (Undecided w evidence stuck) found is = absurd (undecided_done is)
 
 -- with status 1 none are
-pub none_fit : (limits : Bounds) (d : Input) (bytes : List ℕ) → ShowsChange limits d status.Impossible bytes → HasNoFit d.problem
+pub none_fit : (limits : SearchLimits) (d : Input) (bytes : List ℕ) → ShowsChange limits d status.Impossible bytes → HasNoFit d.problem
 none_fit limits d bytes shown = by_found shown.change shown.found shown.status
   where
     by_found : (change : Change) → IsChangeFound (question_of limits d) change → change_status change ≡ status.Impossible → HasNoFit d.problem
@@ -49,7 +49,7 @@ none_fit limits d bytes shown = by_found shown.change shown.found shown.status
     by_found (Undecided w evidence stuck) found is = absurd (undecided_impossible is)
 
 -- where the budget can't be used up, the status isn't 2
-pub never_unknown : (limits : Bounds) (d : Input) (bytes : List ℕ) → CannotSpendOnChanges (question_of limits d) →
+pub never_unknown : (limits : SearchLimits) (d : Input) (bytes : List ℕ) → CannotBeUndecidedOnChanges (question_of limits d) →
     ShowsChange limits d status.Undecided bytes → ⊥
 never_unknown limits d bytes cannot shown = by_found shown.change shown.found shown.status
   where

@@ -1,19 +1,22 @@
 -- What `change` reports of the network that was read.
-use Rattle.std.proofs.Common.{◌≤◌, refl, subst, List}
+use Rattle.std.proofs.Common.{◌≡◌, ◌≤◌, refl, sym, subst, List, Result, Ok, Err, IfOk, IfErr}
 use Rattle.std.specs.Prelude.{IfSome}
 use Rattle.cost_base.specs.Histories.{Taken}
 use Rattle.lsdb_build.specs.Graphs.{Database}
 use Rattle.design_problem.specs.Problems.{DesignProblem}
 use Rattle.design_problem.specs.Answers.{greatest_bound}
 use Rattle.request_reader.specs.Asked.{Asked}
-use Rattle.command_words.specs.Jobs.{Bounds}
+use Rattle.command_words.specs.Jobs.{SearchLimits}
 use Rattle.input_files.specs.declared.network.Network.{Network}
 use Rattle.input_files.specs.declared.problem.View.TheVariants.{BesidePresent}
+use Rattle.input_files.specs.declared.stop.Stop.{Stop}
+use Rattle.input_files.specs.declared.stop.Stop.TheVariants as stops
 use Rattle.input_files.specs.Inputs.{InputFiles}
 use Rattle.input_files.specs.Readings.{Gave}
 use Rattle.input_files.specs.Outcomes.{Input, outcome}
 use Rattle.input_files.specs.Networks.{IsNetworkOf}
-use Rattle.input_files.specs.Stops.{IsReadAndMade}
+use Rattle.input_files.specs.Stops.{IsReadAndMade, IsReadAs, StopsAs}
+use Rattle.input_files.proofs.Stops.{gave_wanting}
 use Rattle.input_files.proofs.ReadyInputs.{IsReadyInput, ready_beside_present}
 use Rattle.report_writer.specs.declared.report.Report.{Report}
 use Rattle.report_writer.specs.Reports.{bytes_in}
@@ -25,7 +28,7 @@ use Rattle.change_commands.proofs.ChangesBack.{shown_back}
 use Rattle.change_commands.specs.Changes.{AreChangesBack, IsReportIn, MayChange, costs_shown, change_status, change_text, question_of}
 
 -- what was found may be written
-found_may : (limits : Bounds) (d : Input) (change : Change) → IsReadyInput d → greatest_bound d.problem ≤ 65535 →
+found_may : (limits : SearchLimits) (d : Input) (change : Change) → IsReadyInput d → greatest_bound d.problem ≤ 65535 →
     IsChangeFound (question_of limits d) change → MayChange limits d (change_status change) (change_text d.asked d.database d.problem change)
 found_may limits d change ready small found = by_change change found (shown_back limits d change ready small found)
   where
@@ -46,7 +49,7 @@ of_input P names network d of holds =
     (subst (λ (p : DesignProblem). P network.requests network.lsdb p) of.problem holds))
 
 -- the report of what was found of the network that was read
-pub change_found : (Given : List Taken → Type 0) (limits : Bounds) (names : InputFiles) (network : Network) (report : Report) →
+change_found : (Given : List Taken → Type 0) (limits : SearchLimits) (names : InputFiles) (network : Network) (report : Report) →
     Gave Given (λ came. IsReadAndMade (outcome BesidePresent names) came (IsNetworkOf BesidePresent names) network) →
     IsReportIn limits network.requests network.lsdb network.problem report →
     Gave Given (λ came. IsReadAndMade (outcome BesidePresent names) came
@@ -64,3 +67,15 @@ change_found Given limits names network report read told =
             (found_may limits d of_d.change (ready_beside_present names d read.came read.so.ends) of_d.ceiling of_d.found);
       };
     }
+
+-- what the report of the network that was read came to
+pub change_ended : (Given : List Taken → Type 0) (limits : SearchLimits) (names : InputFiles) (network : Network) (result : Result Report Stop) →
+    Gave Given (λ came. IsReadAndMade (outcome BesidePresent names) came (IsNetworkOf BesidePresent names) network) →
+    IfOk result (IsReportIn limits network.requests network.lsdb network.problem) →
+    IfErr result (λ stop. stop ≡ stops.OutOfMemory) →
+    Gave Given (λ came. IsReadAs (outcome BesidePresent names) came
+    (λ (made : Report) d. MayChange limits d made.status (bytes_in made.text)) result)
+change_ended Given limits names network (Ok report) read told wanting = change_found Given limits names network report read told
+change_ended Given limits names network (Err stop) read told wanting =
+    subst (λ (s : Stop). Gave Given (λ came. StopsAs (outcome BesidePresent names) came s)) (sym wanting)
+    (gave_wanting Given (outcome BesidePresent names) (IsNetworkOf BesidePresent names) network read)

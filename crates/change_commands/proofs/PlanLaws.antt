@@ -1,9 +1,9 @@
 -- The steps that cost lines make, line by line and link by link.
-use Rattle.std.proofs.Common.{◌≡◌, ℕ, zero, suc, ◌+◌, ◌<◌, ◌≤◌, refl, sym, ◌∙◌, ap, subst, List, [], ◌∷◌, ◌++◌, length, map, filter, drop, get_or, replicate, arith, All, append_assoc, inl, inr, Bool, true, false, cond, Option, None, Some}
+use Rattle.std.proofs.Common.{◌≡◌, ℕ, zero, suc, ◌+◌, ◌<◌, ◌≤◌, refl, sym, ◌∙◌, ap, subst, List, [], ◌∷◌, ◌++◌, length, map, filter, drop, get_or, arith, All, append_assoc, inl, inr, Bool, true, false, cond, Option, None, Some}
 use Rattle.std.specs.Prelude.{◌==◌, ◌||◌, ◌⊎◌, slice_index, slice_set, slice_index_or}
 use Rattle.std.specs.List.{cons_option, list_any}
 use Rattle.std.proofs.lemmas.Bool.{eqb-true, eq-eqb, ne_eqb}
-use Rattle.std.proofs.lemmas.List.{append-nil, at_drop_all, at_drop_more, get_or_default, length-replicate, length-set, get_or-set_same, get_or-set_other}
+use Rattle.std.proofs.lemmas.List.{append-nil, at_drop_all, at_drop_more, get_or_default, length-set, get_or-set_same, get_or-set_other}
 use Rattle.std.proofs.lemmas.List.Elements.{All-cons, All-filter, All-head, All-nil, All-set, All-tail, filter-append, filter_map-append}
 use Rattle.std.proofs.lemmas.Option.{slice_get_within}
 use native.Mathlib.Decide.{ℕ_discrete}
@@ -15,8 +15,8 @@ use Rattle.design_problem.specs.declared.answer.CostLine.{CostLine}
 use Rattle.wanted_paths.specs.Paths.{link_number}
 use Rattle.wanted_paths.specs.Resolution.{knows_link}
 use Rattle.wanted_paths.proofs.RouteLaws.{link_known}
-use Rattle.change_commands.specs.declared.plan.LineFault.{LineFault}
-use Rattle.change_commands.specs.declared.plan.LineFault.TheVariants.{LineTwice}
+use Rattle.change_commands.specs.declared.fault.PlanFault.{PlanFault}
+use Rattle.change_commands.specs.declared.fault.PlanFault.TheVariants.{LineTwice}
 use Rattle.change_steps.specs.Rollouts.{AreMoves, IsInterfaceCost}
 use Rattle.command_words.specs.declared.job.StepUnit.{StepUnit}
 use Rattle.command_words.specs.declared.job.StepUnit.TheVariants as unit
@@ -43,12 +43,6 @@ fault_none d before line known new = rw (known, new) refl
 
 -- Line after line.
 
--- no link is marked at first
-pub none_marked : (n k : ℕ) → slice_index_or (replicate n false) k false ≡ false
-none_marked zero k = refl
-none_marked (suc n) zero = refl
-none_marked (suc n) (suc k) = none_marked n k
-
 -- one link more is marked
 pub marked_more : (before : List ℕ) (seen : List Bool) (l : ℕ) → l < length seen → AreSeen before seen → AreSeen (l ∷ before) (slice_set seen l true)
 marked_more before seen l within marked k =
@@ -68,15 +62,17 @@ pub record AreTakenTo (d : Database) (present : List ℕ) (lines : List CostLine
   pub fault : first_fault_after d before (drop i lines) ≡ first_line_fault d lines
   pub rest : with_lines d costs (drop i lines) ≡ with_lines d present lines
 
-pub none_taken : (d : Database) (present : List ℕ) (lines : List CostLine) (n : ℕ) →
-    length present ≡ length d.links → n ≡ length d.links → AreTakenTo d present lines 0 present (replicate n false)
-none_taken d present lines n count same = record {
+-- no line is taken yet
+pub none_taken : (d : Database) (present : List ℕ) (lines : List CostLine) (costs : List ℕ) (seen : List Bool) → costs ≡ present →
+    length seen ≡ length present → ((k : ℕ) → slice_index_or seen k false ≡ false) → length present ≡ length d.links →
+    AreTakenTo d present lines 0 costs seen
+none_taken d present lines costs seen same counted none count = record {
   before = [];
-  marked = none_marked n;
-  costs_count = count;
-  seen_count = length-replicate n false ∙ same;
+  marked = none;
+  costs_count = ap length same ∙ count;
+  seen_count = counted ∙ count;
   fault = refl;
-  rest = refl;
+  rest = ap (λ (cs : List ℕ). with_lines d cs lines) same;
 }
 
 -- a line that is without a fault
@@ -100,13 +96,13 @@ line_taken d present lines i costs seen line new_costs new_seen taken within at 
       rest = ap (λ (cs : List ℕ). with_lines d cs (drop (i + 1) lines)) is.1 ∙ sym (ap (with_lines d costs) next) ∙ taken.rest;
     }
   where
-    no_fault : (f : Option LineFault) → f ≡ None → or_first f (first_fault_after d (link_of_line d line ∷ taken.before) (drop (i + 1) lines)) ≡ first_fault_after d (link_of_line d line ∷ taken.before) (drop (i + 1) lines)
+    no_fault : (f : Option PlanFault) → f ≡ None → or_first f (first_fault_after d (link_of_line d line ∷ taken.before) (drop (i + 1) lines)) ≡ first_fault_after d (link_of_line d line ∷ taken.before) (drop (i + 1) lines)
     no_fault None is = refl
     no_fault (Some fault) is = absurd cc
 
 -- a line with a fault
 pub line_refused : (d : Database) (present : List ℕ) (lines : List CostLine) (i : ℕ) (costs : List ℕ) (seen : List Bool)
-    (line : CostLine) (fault : LineFault) (taken : AreTakenTo d present lines i costs seen) →
+    (line : CostLine) (fault : PlanFault) (taken : AreTakenTo d present lines i costs seen) →
     i < length lines → line ≡ get_or lines i line → line_fault d taken.before line ≡ Some fault → first_line_fault d lines ≡ Some fault
 line_refused d present lines i costs seen line fault taken within at is =
     let next : drop i lines ≡ line ∷ drop (i + 1) lines = at_drop_more (λ ls. ls) lines i line within ∙ ap (λ (x : CostLine). x ∷ drop (i + 1) lines) (sym at) in

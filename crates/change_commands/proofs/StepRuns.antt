@@ -1,9 +1,8 @@
 -- What `steps` made of the network and the text that it read.
-use Rattle.std.proofs.Common.{◌≡◌, ℕ, ◌<◌, ◌≤◌, refl, sym, ◌∙◌, ap, subst, List, length, map, replicate, get_or, arith, All, None, Some}
+use Rattle.std.proofs.Common.{◌≡◌, ℕ, ◌<◌, ◌≤◌, refl, sym, ◌∙◌, ap, subst, List, length, map, replicate, get_or, arith, inr, All, None, Some}
 use Rattle.std.proofs.lemmas.List.{get_or-replicate, length-replicate}
 use Rattle.cost_base.specs.declared.Status.{Status}
 use Rattle.area_graph.specs.declared.Edge.{Edge}
-use Rattle.area_graph.specs.Area.{Area}
 use Rattle.area_graph.specs.Costs.{IsPriced}
 use Rattle.lsdb_build.specs.Graphs.{Database}
 use Rattle.design_problem.specs.declared.answer.CostLine.{CostLine}
@@ -14,6 +13,7 @@ use Rattle.request_reader.specs.Asked.{Asked}
 use Rattle.path_requests.specs.Meaning.{present_cost}
 use Rattle.path_requests.specs.Resolving.{present_problem_of}
 use Rattle.present_costs.specs.AtCosts.{graph_by_links}
+use Rattle.present_costs.specs.PresentCosts.{present_of_links}
 use Rattle.present_costs.proofs.ByLinks.{costs_fit, present_paths_by_links}
 use Rattle.input_files.specs.declared.problem.View.TheVariants.{AtPresent}
 use Rattle.input_files.specs.declared.network.Network.{Network}
@@ -24,14 +24,16 @@ use Rattle.input_files.proofs.PresentNetworks.{above_at_present, at_present}
 use Rattle.command_words.specs.declared.job.StepUnit.{StepUnit}
 use Rattle.change_steps.specs.Rollouts.{CostMoves, Rollout}
 use Rattle.change_steps.specs.Outcomes.{AreStepsFound}
-use Rattle.change_steps.specs.declared.found.Steps.{Steps}
 use Rattle.change_steps.specs.declared.found.Outcome.{Outcome}
 use Rattle.change_steps.specs.declared.found.Outcome.TheVariants.{Order, NoOrder, Undecided}
 use Rattle.sections_reader.specs.Texts.{SaysCosts}
+use Rattle.report_writer.specs.declared.rejection.Rejection.{Rejection}
 use Rattle.report_writer.specs.declared.report.Report.{Report}
-use Rattle.report_writer.specs.Reports.{Reports, bytes_in}
-use Rattle.change_commands.specs.Plans.{IsAtPresent, IsPlanOf, Plan, first_line_fault, moves_between, moves_of, present_costs_in, rollout_of, wanted_costs_in, with_lines}
-use Rattle.change_commands.specs.Steps.{MaySteps, ReportsSteps, ShowsSteps, outcome_status, steps_text}
+use Rattle.report_writer.specs.Reports.{bytes_in}
+use Rattle.change_commands.specs.declared.fault.PlanFault.{PlanFault}
+use Rattle.change_commands.specs.FaultNumbers.{plan_fault_number}
+use Rattle.change_commands.specs.Plans.{IsAtPresent, IsPlanOf, Plan, first_line_fault, moves_between, moves_of, rollout_of, wanted_costs_in, with_lines}
+use Rattle.change_commands.specs.Steps.{IsPlanRefused, MaySteps, ReportsSteps, ShowsSteps, outcome_status, steps_text}
 
 -- The network.
 
@@ -82,18 +84,18 @@ may_show nodes by plan bytes (Undecided stuck) shows = shows
 abbrev rollout : Database → List Request → CostMoves → Rollout
 rollout d paths moves = record { graph = graph_by_links d; paths = paths; moves = moves }
 
--- the report of what was found
-pub reported : (nodes : ℕ) (by : StepUnit) (names : Database) (moves : CostMoves) (g graph : Area) (ps paths : List Request)
-    (steps : Steps) (status : Status) (text : List ℕ) (report : Report) → g ≡ graph → ps ≡ paths →
-    AreStepsFound (record { graph = g; paths = ps; moves = moves }) nodes steps → status ≡ outcome_status steps.outcome →
-    text ≡ steps_text by names moves steps → Reports status text report →
-    ReportsSteps nodes by names (record { graph = graph; paths = paths; moves = moves }) report
-reported nodes by names moves g graph ps paths steps status text report graph_is paths_are found status_is text_is is = record {
-  steps = steps;
-  found = subst (λ (x : Area). AreStepsFound (record { graph = x; paths = paths; moves = moves }) nodes steps) graph_is
-      (subst (λ (xs : List Request). AreStepsFound (record { graph = g; paths = xs; moves = moves }) nodes steps) paths_are found);
-  reports = record { status = is.status ∙ status_is; text = is.text ∙ text_is };
-}
+-- a faulty line of a plan refuses it
+pub faulty : (plan : Plan) (network : Network) (names : Database) (lines : List CostLine) (fault : PlanFault) (rejection : Rejection) →
+    IsPlanOf network plan → SaysCosts plan.bytes (Some lines) → names ≡ network.lsdb → first_line_fault names lines ≡ Some fault →
+    rejection.number ≡ plan_fault_number fault → rejection.place ≡ 0 → IsPlanRefused plan rejection
+faulty plan network names lines fault rejection is said same first number place = inr (inr (record {
+  lines = lines;
+  said = said;
+  fault = fault;
+  first = sym (ap (λ (x : Database). first_line_fault x lines) (same ∙ is.lsdb)) ∙ first;
+  number = number;
+  place = place;
+}))
 
 -- what was found of a plan's steps
 pub shown : (nodes : ℕ) (by : StepUnit) (plan : Plan) (network : Network) (lines : List CostLine) (names : Database)
@@ -106,7 +108,7 @@ pub shown : (nodes : ℕ) (by : StepUnit) (plan : Plan) (network : Network) (lin
 shown nodes by plan network lines names present wanted moves report is said same present_are faultless wanted_are moves_made reports =
     let d = plan.input in
     let names_are : names ≡ d.database = same ∙ is.lsdb in
-    let present_is : present ≡ present_costs_in d = present_are
+    let present_is : present ≡ present_of_links d.asked d.database = present_are
     ∙ ap (λ (a : Asked). map (present_cost a) network.lsdb.links) is.requests
     ∙ ap (λ (x : Database). map (present_cost d.asked) x.links) is.lsdb in
     let wanted_is : wanted ≡ wanted_costs_in d lines = wanted_are
@@ -115,7 +117,7 @@ shown nodes by plan network lines names present wanted moves report is said same
     let moves_are : moves ≡ moves_of by d lines = moves_made
     ∙ ap (λ (x : Database). moves_between by x present wanted) names_are
     ∙ ap (λ (costs : List ℕ). moves_between by d.database costs wanted) present_is
-    ∙ ap (moves_between by d.database (present_costs_in d)) wanted_is in
+    ∙ ap (moves_between by d.database (present_of_links d.asked d.database)) wanted_is in
     let rollout_is : rollout network.lsdb network.problem.paths moves ≡ rollout_of by d lines =
     ap (λ (x : Database). rollout x network.problem.paths moves) is.lsdb
     ∙ ap (λ (p : DesignProblem). rollout d.database p.paths moves) is.problem

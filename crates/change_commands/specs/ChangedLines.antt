@@ -26,19 +26,19 @@ changed_names_from a d w l (link ∷ links) =
 abbrev pub changed_names : Asked → Database → List ℕ → List VarName
 changed_names a d w = changed_names_from a d w 0 d.links
 
--- their cost lines
+-- the cost lines of the free interfaces that costs change
 abbrev pub changed_lines : Asked → Database → List ℕ → List CostLine
 changed_lines a d w = map (named_cost w) (changed_names a d w)
 
 -- Link by link. No public clause cites these.
 
--- the new cost of a link at this price, where it isn't the present one
+-- the new cost of a link at this price, where it isn't the link's present one
 abbrev pub changed_cost : Price → ℕ → List ℕ → Option ℕ
 changed_cost (Fixed cost) present w = None
 changed_cost (Var v) present w = if present == slice_index w v then None else Some (slice_index w v)
 changed_cost Zero present w = None
 
--- the line of a link that has a new cost
+-- the cost line of a link that gets a new cost; no line where it gets none
 abbrev pub line_with : Database → Linked → Option ℕ → List CostLine
 line_with d link None = []
 line_with d link (Some cost) = record { router = slice_index_or d.routers link.router []; interface = link.interface; cost = cost } ∷ []

@@ -1,3 +1,4 @@
+pub mod FaultNumbers
 pub mod ChangedLines
 pub mod Changes
 pub mod ShortParts

@@ -7,14 +7,14 @@ use Rattle.lsdb_build.specs.Graphs.{Database, router_of}
 use Rattle.design_problem.specs.declared.answer.CostLine.{CostLine}
 use Rattle.wanted_paths.specs.Paths.{link_number}
 use Rattle.wanted_paths.specs.Resolution.{knows_link}
-use Rattle.path_requests.specs.Meaning.{present_cost}
 use Rattle.path_requests.specs.Resolving.{present_problem_of}
 use Rattle.present_costs.specs.AtCosts.{graph_by_links}
+use Rattle.present_costs.specs.PresentCosts.{present_of_links}
 use Rattle.change_steps.specs.Rollouts.{CostMoves, Rollout}
 use Rattle.command_words.specs.declared.job.StepUnit.{StepUnit}
 use Rattle.command_words.specs.declared.job.StepUnit.TheVariants as unit
-use Rattle.change_commands.specs.declared.plan.LineFault.{LineFault}
-use Rattle.change_commands.specs.declared.plan.LineFault.TheVariants.{NoLink, LineTwice}
+use Rattle.change_commands.specs.declared.fault.PlanFault.{PlanFault}
+use Rattle.change_commands.specs.declared.fault.PlanFault.TheVariants.{NoLink, LineTwice}
 use Rattle.input_files.specs.declared.problem.View.TheVariants.{AtPresent}
 use Rattle.input_files.specs.declared.network.Network.{Network}
 use Rattle.input_files.specs.Inputs.{InputFiles}
@@ -33,58 +33,53 @@ plan_read names answer =
     file_read longest_answer answer >>= λ bytes.
     Ready (record { input = d; bytes = bytes })
 
+-- what the text with the costs says behind the files of an audit. No public clause cites it
+abbrev pub plan_with : List ℕ → Input → Reading Plan
+plan_with answer d = file_read longest_answer answer >>= λ bytes. Ready (record { input = d; bytes = bytes })
+
 -- the network is one at present costs: they are above 0, and its problem is the one that they make
 pub record IsAtPresent (network : Network) : Type 0 where
-  pub above : All (λ cost. 0 < cost) (map (present_cost network.requests) network.lsdb.links)
+  pub above : All (λ cost. 0 < cost) (present_of_links network.requests network.lsdb)
   pub problem : network.problem ≡ present_problem_of network.requests network.lsdb
 
--- the plan's network is this one
+-- the plan's network has these requests, this database and this problem
 pub record IsPlanOf (network : Network) (plan : Plan) : Type 0 where
   pub requests : network.requests ≡ plan.input.asked
   pub lsdb : network.lsdb ≡ plan.input.database
   pub problem : network.problem ≡ plan.input.problem
 
--- the linked interface that a cost line names, by its number
+-- the number of the linked interface that a cost line names
 abbrev pub link_of_line : Database → CostLine → ℕ
 link_of_line d line = link_number d line.router line.interface
 
--- the number of what is wrong with a cost line
-abbrev pub number_of_line : LineFault → ℕ
-number_of_line NoLink = 50
-number_of_line LineTwice = 54
-
 -- what is wrong with a cost line that comes after lines of these links
-abbrev pub line_fault : Database → List ℕ → CostLine → Option LineFault
+abbrev pub line_fault : Database → List ℕ → CostLine → Option PlanFault
 line_fault d before line =
     if knows_link d line.router line.interface then (if list_any (λ l. l == link_of_line d line) before then Some LineTwice else None)
     else Some NoLink
 
--- the first of two faults
-abbrev pub or_first : Option LineFault → Option LineFault → Option LineFault
+-- the first of two faults of cost lines, where there is one
+abbrev pub or_first : Option PlanFault → Option PlanFault → Option PlanFault
 or_first None later = later
 or_first (Some fault) later = Some fault
 
 -- the first thing that is wrong with cost lines that come after lines of these links
-abbrev pub first_fault_after : Database → List ℕ → List CostLine → Option LineFault
+abbrev pub first_fault_after : Database → List ℕ → List CostLine → Option PlanFault
 first_fault_after d before [] = None
 first_fault_after d before (line ∷ lines) = or_first (line_fault d before line) (first_fault_after d (link_of_line d line ∷ before) lines)
 
 -- the first thing that is wrong with the cost lines of a text
-abbrev pub first_line_fault : Database → List CostLine → Option LineFault
+abbrev pub first_line_fault : Database → List CostLine → Option PlanFault
 first_line_fault d lines = first_fault_after d [] lines
 
--- costs of the links, with those of the lines in their places
+-- these costs of the links, but for those that cost lines name: theirs are the lines'
 abbrev pub with_lines : Database → List ℕ → List CostLine → List ℕ
 with_lines d costs [] = costs
 with_lines d costs (line ∷ lines) = with_lines d (slice_set costs (link_of_line d line) line.cost) lines
 
--- the present costs of the links
-abbrev pub present_costs_in : Input → List ℕ
-present_costs_in d = map (present_cost d.asked) d.database.links
-
--- the wanted ones: those of the lines, and else the present ones
+-- the wanted costs of the links: those of a text's cost lines, and else the present ones
 abbrev pub wanted_costs_in : Input → List CostLine → List ℕ
-wanted_costs_in d lines = with_lines d.database (present_costs_in d) lines
+wanted_costs_in d lines = with_lines d.database (present_of_links d.asked d.database) lines
 
 -- whether the link of this number gets another cost
 abbrev pub is_moved : List ℕ → List ℕ → ℕ → Bool
@@ -94,32 +89,32 @@ is_moved present wanted l = not (slice_index wanted l == slice_index present l)
 abbrev pub moved_links : List ℕ → List ℕ → List ℕ
 moved_links present wanted = filter (is_moved present wanted) (numbers_from 0 (length present))
 
--- the links of a router among some
+-- those of some links that are a router's
 abbrev pub links_of_router : List Linked → List ℕ → ℕ → List ℕ
 links_of_router links moved router = filter (λ l. router_of links l == router) moved
 
--- what isn't empty
+-- a list, where it isn't empty
 abbrev pub if_some : List ℕ → Option (List ℕ)
 if_some [] = None
 if_some (l ∷ ls) = Some (l ∷ ls)
 
--- for each of some routers that has such links a step with all of them
+-- the steps router by router: for each of these routers that has some of the moved links one step with all of them
 abbrev pub router_steps : List Linked → List ℕ → List ℕ → List (List ℕ)
 router_steps links moved routers = filter_map (λ router. if_some (links_of_router links moved router)) routers
 
--- the steps: a line each, in the order of the linked interfaces; or all lines of a router, in the order of the configurations
+-- the steps of moved links: each link alone, in order; or all of a router at once, in the order of the configurations
 abbrev pub steps_of : StepUnit → Database → List ℕ → List (List ℕ)
 steps_of unit.Line d moved = map (λ l. l ∷ []) moved
 steps_of unit.Router d moved = router_steps d.links moved (numbers_from 0 (length d.routers))
 
--- the moves from present costs to wanted ones
+-- the moves from present costs of the links to wanted ones: both lists of costs, and the steps between them
 abbrev pub moves_between : StepUnit → Database → List ℕ → List ℕ → CostMoves
 moves_between by d present wanted = record { present = present; wanted = wanted; steps = steps_of by d (moved_links present wanted) }
 
--- the moves from the present costs to those of the lines
+-- the moves from the present costs of an input's links to those that cost lines say
 abbrev pub moves_of : StepUnit → Input → List CostLine → CostMoves
-moves_of by d lines = moves_between by d.database (present_costs_in d) (wanted_costs_in d lines)
+moves_of by d lines = moves_between by d.database (present_of_links d.asked d.database) (wanted_costs_in d lines)
 
--- the rollout: each linked interface has a variable of its own
+-- the rollout from present costs to those of cost lines; in its graph each linked interface has a variable of its own
 abbrev pub rollout_of : StepUnit → Input → List CostLine → Rollout
 rollout_of by d lines = record { graph = graph_by_links d.database; paths = d.problem.paths; moves = moves_of by d lines }

@@ -25,8 +25,10 @@ use Rattle.report_writer.specs.declared.rejection.Rejection.{Rejection}
 use Rattle.report_writer.specs.declared.report.Report.{Report}
 use Rattle.report_writer.specs.Reports.{Reports}
 use Rattle.report_writer.specs.Texts.{rejected_line}
-use Rattle.change_commands.specs.declared.plan.LineFault.{LineFault}
-use Rattle.change_commands.specs.Plans.{Plan, first_line_fault, moves_of, number_of_line, rollout_of}
+use Rattle.change_commands.specs.declared.fault.PlanFault.{PlanFault}
+use Rattle.change_commands.specs.declared.fault.PlanFault.TheVariants.{NoCosts}
+use Rattle.change_commands.specs.FaultNumbers.{plan_fault_number}
+use Rattle.change_commands.specs.Plans.{Plan, first_line_fault, moves_of, rollout_of}
 
 -- the name of the router that a link leaves
 abbrev pub link_router : Database → ℕ → List ℕ
@@ -44,7 +46,7 @@ link_interface d l = name_of (slice_get d.links l)
     name_of None = []
     name_of (Some link) = link.interface
 
--- the first link of a step
+-- the number of the first link of a step
 abbrev pub link_of_step : CostMoves → ℕ → ℕ
 link_of_step m k = slice_index (lines_of_step m k) 0
 
@@ -59,54 +61,54 @@ step_words unit.Line m k =
     decimal (slice_index m.present (link_of_step m k)) ∷ decimal (slice_index m.wanted (link_of_step m k)) ∷ []
 step_words unit.Router m k = decimal (length (lines_of_step m k)) ∷ []
 
--- `step I ROUTER INTERFACE OLD NEW` or `step I ROUTER COUNT`, I counting the lines from 0
+-- the line of a step: `step I ROUTER INTERFACE OLD NEW` or `step I ROUTER COUNT`, where I counts the lines from 0
 abbrev pub step_line : StepUnit → Database → CostMoves → ℕ → ℕ → List ℕ
 step_line by d m i k = spaced (codes "step" ∷ decimal i ∷ step_name by d m k ++ step_words by m k)
 
--- the lines of steps, from line i on
+-- the lines of steps in `steps`' text, from line i on
 abbrev pub step_lines_from : StepUnit → Database → CostMoves → ℕ → List ℕ → List (List ℕ)
 step_lines_from by d m i [] = []
 step_lines_from by d m i (k ∷ ks) = step_line by d m i k ∷ step_lines_from by d m (i + 1) ks
 
--- `steps COUNT`, and the steps
+-- the part of `steps`' text with an order: `steps COUNT`, and a line for each step
 abbrev pub steps_lines : StepUnit → Database → CostMoves → List ℕ → List (List ℕ)
 steps_lines by d m order = spaced (codes "steps" ∷ decimal (length order) ∷ []) ∷ step_lines_from by d m 0 order
 
--- the number of the path that is in the way of a step, or `untested`
+-- the word for what is in the way of a step: the number of the path that would be lost, or `untested`
 abbrev pub barrier_word : Barrier → List ℕ
 barrier_word (Path path) = decimal path
 barrier_word Untested = codes "untested"
 
--- `stuck ROUTER INTERFACE PATH` or `stuck ROUTER PATH`
+-- the line of a step that is blocked: `stuck ROUTER INTERFACE PATH` or `stuck ROUTER PATH`
 abbrev pub stuck_line : StepUnit → Database → CostMoves → Blocked → List ℕ
 stuck_line by d m blocked = spaced (codes "stuck" ∷ step_name by d m blocked.step ++ barrier_word blocked.by ∷ [])
 
--- `held COUNT I ..`
+-- the line `held COUNT I ..` with the numbers of the held paths
 abbrev pub held_line : List ℕ → List ℕ
 held_line held = spaced (codes "held" ∷ decimal (length held) ∷ map decimal held)
 
--- the steps that were done, and what stops each other one
+-- the lines of a state from which no order goes on: the steps that were done, and what stops each other one
 abbrev pub stuck_lines : StepUnit → Database → CostMoves → Stuck → List (List ℕ)
 stuck_lines by d m stuck = steps_lines by d m stuck.done.items ++ map (stuck_line by d m) stuck.blocked.items
 
--- the verdict, the held paths and the steps
+-- the lines of `steps`' text between its first and its last one: the verdict, the held paths and the steps
 abbrev pub outcome_lines : StepUnit → Database → CostMoves → List ℕ → Outcome → List (List ℕ)
 outcome_lines by d m held (Order order) = codes "verdict order" ∷ held_line held ∷ steps_lines by d m order.items
 outcome_lines by d m held (NoOrder stuck) = codes "verdict none" ∷ held_line held ∷ stuck_lines by d m stuck
 outcome_lines by d m held (Undecided stuck) = codes "verdict undecided" ∷ held_line held ∷ stuck_lines by d m stuck
 
--- the text of `steps`
+-- the text of `steps` on what was found
 abbrev pub steps_text : StepUnit → Database → CostMoves → Steps → List ℕ
 steps_text by d m steps =
     with_ends (codes "ospfcost steps 1" ∷ outcome_lines by d m steps.held.items steps.outcome ++ codes "end" ∷ [])
 
--- the status of a run that prints what was found
+-- the status of a run of `steps` that prints what was found
 abbrev pub outcome_status : Outcome → Status
 outcome_status (Order order) = status.Done
 outcome_status (NoOrder stuck) = status.Impossible
 outcome_status (Undecided stuck) = status.Undecided
 
--- the report tells what was found of the steps of a rollout in these names
+-- the report is `steps`' text on what was found of a rollout, whose links have their names in this database
 pub record ReportsSteps (nodes : ℕ) (by : StepUnit) (d : Database) (r : Rollout) (report : Report) : Type 0 where
   pub steps : Steps
   pub found : AreStepsFound r nodes steps
@@ -123,28 +125,28 @@ pub record ShowsSteps (nodes : ℕ) (by : StepUnit) (plan : Plan) (aim : Status)
   pub status : outcome_status steps.outcome ≡ aim
   pub spelled : bytes ≡ steps_text by plan.input.database (moves_of by plan.input lines) steps
 
--- the text says that there are no costs
+-- a plan is refused, since its text says that there are no costs
 pub record SaysNoCosts (bytes : List ℕ) (rejection : Rejection) : Type 0 where
   pub said : SaysCosts bytes None
-  pub number : rejection.number ≡ 49
+  pub number : rejection.number ≡ plan_fault_number NoCosts
   pub place : rejection.place ≡ 0
 
--- a cost line of the text names no linked interface, or the interface of an earlier line
+-- a plan is refused, since a cost line of its text names no linked interface, or that of an earlier line
 pub record HasFaultyLine (plan : Plan) (rejection : Rejection) : Type 0 where
   pub lines : List CostLine
   pub said : SaysCosts plan.bytes (Some lines)
-  pub fault : LineFault
+  pub fault : PlanFault
   pub first : first_line_fault plan.input.database lines ≡ Some fault
-  pub number : rejection.number ≡ number_of_line fault
+  pub number : rejection.number ≡ plan_fault_number fault
   pub place : rejection.place ≡ 0
 
--- why a plan is refused
+-- why a plan is refused: its text is off the grammar, says no costs, or has a faulty cost line
 abbrev pub IsPlanRefused : Plan → Rejection → Type 0
 IsPlanRefused plan rejection =
     IsOffGrammar (start_of_bytes plan.bytes) plan.bytes rejection.number rejection.place
     ⊎ SaysNoCosts plan.bytes rejection ⊎ HasFaultyLine plan rejection
 
--- `steps`: a safe order; or that there is none; or that the budget was used up; else the text is refused
+-- what `steps` may write: a safe order; that there is none; that the budget was used up; or that the text is refused
 abbrev pub MaySteps : ℕ → StepUnit → Plan → Status → List ℕ → Type 0
 MaySteps nodes by plan status.Done bytes = ShowsSteps nodes by plan status.Done bytes
 MaySteps nodes by plan status.Impossible bytes = ShowsSteps nodes by plan status.Impossible bytes

@@ -1,6 +1,6 @@
 //! `change`: the fewest changes of present costs for the requests of the files of words.
-ghost use Rattle.std.specs.Prelude.{◌≡◌, ℕ, ◌≤◌, IfOk};
-ghost use Rattle.command_words.specs.Jobs.{bounds};
+ghost use Rattle.std.specs.Prelude.{◌≡◌, ℕ, ◌≤◌, IfErr, IfOk};
+ghost use Rattle.command_words.specs.Jobs.{limits_seen};
 ghost use Rattle.input_files.specs.Readings.{Gave};
 ghost use Rattle.input_files.specs.Outcomes.{outcome};
 ghost use Rattle.input_files.specs.Stops.{IsReadAs, files_named};
@@ -94,21 +94,36 @@ fn report_of_change(
     Ok(Report::made(status_of(change), text))
 }
 
-/// The report of the changes of a network's present costs.
-fn report_of_network(
+/// The report of the changes of a network's present costs, which are these.
+fn report_of_present(
     alloc: Global,
     network: &Network,
+    present: &[Option<u16>],
     limits: &Limits,
 ) -> Result<Report, OutOfMemory>
-    requires { network.now.problem ≡ problem_of network.now.requests network.now.lsdb }
-    ensures { IfOk result (IsReportIn (bounds limits.now) network.now.requests network.now.lsdb
+    requires built { network.now.problem ≡ problem_of network.now.requests network.now.lsdb }
+    requires present { present.now ≡ present_of_variables network.now.requests network.now.lsdb }
+    ensures { IfOk result (IsReportIn (limits_seen limits.now) network.now.requests network.now.lsdb
         network.now.problem) }
 {
     keeps_ceiling(&network.problem);
-    let costs = present_of_variables(alloc, &network.requests, &network.lsdb, &network.problem)?;
-    let present = costs.as_slice();
     let change = find_change(alloc, &network.problem, present, limits)?;
     report_of_change(alloc, network, present, &change)
+}
+
+/// The report of the changes of a network's present costs.
+fn report_of_network<'a>(
+    alloc: Global,
+    network: &Network,
+    limits: &Limits,
+) -> Result<Report, Stop<'a>>
+    requires { network.now.problem ≡ problem_of network.now.requests network.now.lsdb }
+    ensures made { IfOk result (IsReportIn (limits_seen limits.now) network.now.requests
+        network.now.lsdb network.now.problem) }
+    ensures wanting { IfErr result (λ stop. stop ≡ Stop.OutOfMemory) }
+{
+    let costs = present_of_variables(alloc, &network.requests, &network.lsdb, &network.problem)?;
+    Ok(report_of_present(alloc, network, costs.as_slice(), limits)?)
 }
 
 /// The report of `change` from the files of words: the text of what was found, with status 0 where it is fit costs that
@@ -125,8 +140,8 @@ pub fn change_report<'a, S: Shelf>(
 ) -> Result<Report, Stop<'a>>
     ensures { Gave (S.gave shelf.old shelf.new)
         (λ came. IsReadAs (outcome View.BesidePresent (files_named words.entry)) came
-        (λ report d. MayChange (bounds limits.now) d report.status (bytes_in report.text)) result) }
+        (λ report d. MayChange (limits_seen limits.now) d report.status (bytes_in report.text)) result) }
 {
     let network = read_network(alloc, View::BesidePresent, words, shelf)?;
-    Ok(report_of_network(alloc, &network, limits)?)
+    report_of_network(alloc, &network, limits)
 }

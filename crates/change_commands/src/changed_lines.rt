@@ -1,6 +1,5 @@
 //! The cost lines that differ from the present ones.
 ghost use Rattle.std.specs.Prelude.{◌≡◌, [], ◌++◌, slice_index_or, IfOk, OnOk};
-ghost use Rattle.area_graph.specs.Area.{edge_at};
 ghost use Rattle.lsdb_build.specs.Graphs.{IsAreaDatabase};
 ghost use Rattle.path_requests.specs.Meaning.{problem_of};
 ghost use Rattle.change_commands.specs.ChangedLines.{changed_lines, line_with, changed_cost};
@@ -11,6 +10,7 @@ use design_problem::CostLine;
 use input_files::Network;
 use lsdb_build::{Linked, Lsdb};
 use path_requests::present_cost;
+use present_costs::price_of_link;
 use std::alloc::Global;
 
 /// The graph of a network's problem.
@@ -18,16 +18,6 @@ fn graph_of(network: &Network) -> &Graph
     ensures { result.now ≡ network.now.problem.graph }
 {
     &network.problem.graph
-}
-
-/// The price of the link of a number.
-fn price_of_link(graph: &Graph, number: u32) -> Price
-    ensures { result ≡ (edge_at graph.now number).price }
-{
-    match graph.edges().get(number as usize) {
-        Some(edge) => edge.price,
-        None => Price::Zero,
-    }
 }
 
 /// The new cost of a link at this price, where it isn't the present one.

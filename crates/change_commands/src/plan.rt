@@ -2,37 +2,17 @@
 ghost use Rattle.std.specs.Prelude.{◌≡◌, ℕ, ◌<◌, ◌≤◌, ◌++◌, cond, true, List, [], ◌∷◌, None, Some, length, map, slice_index, slice_set, All, IfOk, OnOk, MatchResult};
 ghost use Rattle.std.specs.List.{cons_option};
 ghost use Rattle.change_commands.specs.Plans.{first_line_fault, if_some, line_fault, link_of_line, links_of_router, moved_links, moves_between};
-ghost use Rattle.change_commands.specs.Plans.{number_of_line, router_steps, steps_of, with_lines};
+ghost use Rattle.change_commands.specs.Plans.{router_steps, steps_of, with_lines};
 ghost use Rattle.change_commands.specs.SeenLinks.{AreSeen};
 ghost use Rattle.cost_base.specs.Lists.{numbers_from};
 
+use crate::fault::PlanFault;
 use change_steps::Moves;
 use command_words::StepUnit;
-use cost_base::{Listed, OutOfMemory};
+use cost_base::{Listed, OutOfMemory, no_marks};
 use design_problem::CostLine;
 use std::alloc::Global;
 use wanted_paths::Names;
-
-/// What is wrong with a cost line.
-#[derive(Clone, Copy, Debug, PartialEq, Eq)]
-pub(crate) enum LineFault {
-    /// It names no linked interface.
-    NoLink,
-    /// An earlier line names the same interface.
-    LineTwice,
-}
-
-impl LineFault {
-    /// The number by which it is written.
-    pub(crate) fn number(self) -> u8
-        ensures { result ≡ number_of_line self }
-    {
-        match self {
-            LineFault::NoLink => 50,
-            LineFault::LineTwice => 54,
-        }
-    }
-}
 
 /// Puts a line's cost into the place of its link, and marks that; or tells what is wrong with the line.
 #[tactic(auto, using(crate::proofs::PlanLaws::known_within, crate::proofs::PlanLaws::fault_twice, crate::proofs::PlanLaws::fault_none))]
@@ -41,7 +21,7 @@ fn take_line(
     line: &CostLine,
     costs: &mut Vec<u16>,
     seen: &mut Vec<bool>,
-) -> Result<(), LineFault>
+) -> Result<(), PlanFault>
     requires costs { length costs.old.items ≡ length names.now.links }
     requires seen { length seen.old.items ≡ length names.now.links }
     ensures { (before : List ℕ) → AreSeen before seen.old.items →
@@ -54,11 +34,11 @@ fn take_line(
 {
     let found = names.find_interface(line.router.as_bytes(), line.interface.as_bytes());
     let Some(link) = found else {
-        return Err(LineFault::NoLink);
+        return Err(PlanFault::NoLink);
     };
     let place = link as usize;
     if seen[place] {
-        return Err(LineFault::LineTwice);
+        return Err(PlanFault::LineTwice);
     }
     seen[place] = true;
     costs[place] = line.cost;
@@ -66,13 +46,12 @@ fn take_line(
 }
 
 /// The costs of the links, with those of the lines in their places; or what is wrong with the first faulty line.
-#[tactic(auto, using(crate::proofs::PlanLaws::none_taken, crate::proofs::PlanLaws::all_taken, crate::proofs::PlanLaws::line_refused))]
 pub(crate) fn wanted_costs(
     alloc: Global,
     names: &Names,
     present: &[u16],
     lines: &[CostLine],
-) -> Result<Result<Vec<u16>, LineFault>, OutOfMemory>
+) -> Result<Result<Vec<u16>, PlanFault>, OutOfMemory>
     requires { length present.now ≡ length names.now.links }
     ensures { IfOk result (λ wanted. MatchResult wanted (λ costs.
         (first_line_fault names.now lines.now ≡ None) ×
@@ -80,7 +59,7 @@ pub(crate) fn wanted_costs(
         (λ fault. first_line_fault names.now lines.now ≡ Some fault)) }
 {
     let mut costs = Vec::from_slice(alloc, present)?;
-    let mut seen = vec![in alloc; false; present.len()]?;
+    let mut seen = no_marks(alloc, present.len())?;
     for line in lines {
         match take_line(names, line, &mut costs, &mut seen) {
             Ok(()) => {}
@@ -195,6 +174,23 @@ fn steps_of(
     }
 }
 
+/// The steps from the present costs to the wanted ones.
+fn steps_between(
+    alloc: Global,
+    by: StepUnit,
+    names: &Names,
+    present: &[u16],
+    wanted: &[u16],
+) -> Result<Vec<Listed<u32>>, OutOfMemory>
+    requires present { length present.now ≡ length names.now.links }
+    requires wanted { length wanted.now ≡ length names.now.links }
+    ensures { IfOk result (λ steps. steps.items ≡ steps_of by names.now
+        (moved_links present.now wanted.now)) }
+{
+    let moved = moved_links(alloc, names, present, wanted)?;
+    steps_of(alloc, by, names, moved.as_slice())
+}
+
 /// A law of costs, which takes no time: each has 16 bits.
 fn keep_bits(costs: &[u16])
     ensures { (k : ℕ) → k < length costs.now → slice_index costs.now k ≤ 65535 }
@@ -218,8 +214,7 @@ pub(crate) fn moves_to(
 {
     keep_bits(present.as_slice());
     keep_bits(wanted.as_slice());
-    let moved = moved_links(alloc, names, present.as_slice(), wanted.as_slice())?;
-    let steps = steps_of(alloc, by, names, moved.as_slice())?;
+    let steps = steps_between(alloc, by, names, present.as_slice(), wanted.as_slice())?;
     Ok(Moves {
         present: Listed::from_items(present),
         wanted: Listed::from_items(wanted),

@@ -7,12 +7,13 @@ ghost use Rattle.change_steps.specs.Rollouts.{lines_of_step};
 ghost use Rattle.change_commands.specs.Steps.{barrier_word, held_line, link_interface, link_of_step, outcome_lines, link_router};
 ghost use Rattle.change_commands.specs.Steps.{step_line, step_name, step_words, steps_lines, steps_text, stuck_line, stuck_lines};
 
+use crate::number_lines::push_count;
 use change_steps::{Barrier, Blocked, Moves, Outcome, Steps, Stuck};
 use command_words::StepUnit;
 use cost_base::OutOfMemory;
 use printed_parts::{push_line, push_word, push_words};
 use std::alloc::Global;
-use text_lines::{push_bytes, push_number};
+use text_lines::push_bytes;
 use wanted_paths::Names;
 
 /// Whose names and costs stand in the lines of steps, and what one step is.
@@ -81,14 +82,6 @@ fn push_name(line: &mut Vec<u8>, name: &[u8]) -> Result<(), OutOfMemory>
     push_bytes(line, name)
 }
 
-/// Adds a count behind a space.
-fn push_count(line: &mut Vec<u8>, count: usize) -> Result<(), OutOfMemory>
-    ensures { OnOk result (line.new.items ≡ line.old.items ++ 32 ∷ decimal count) }
-{
-    push_bytes(line, b" ")?;
-    push_number(line, count as u128)
-}
-
 /// Adds the words that name a step, each behind a space.
 fn push_step_name(line: &mut Vec<u8>, of: StepNames, step: usize) -> Result<(), OutOfMemory>
     ensures { OnOk result (line.new.items ≡ with_words line.old.items
@@ -122,7 +115,7 @@ fn push_step_words(line: &mut Vec<u8>, of: StepNames, step: usize) -> Result<(),
 {
     match of.by {
         StepUnit::Line => push_costs_of_step(line, of.moves, step),
-        StepUnit::Router => push_count(line, links_of_step(of.moves, step).len()),
+        StepUnit::Router => push_count(line, links_of_step(of.moves, step).len() as u64),
     }
 }
 
@@ -137,7 +130,7 @@ fn step_line(
         of.entry.moves.now number step) }
 {
     let mut line = Vec::from_slice(alloc, b"step")?;
-    push_count(&mut line, number)?;
+    push_count(&mut line, number as u64)?;
     push_step_name(&mut line, of, step)?;
     push_step_words(&mut line, of, step)?;
     Ok(line)
@@ -164,7 +157,7 @@ fn push_steps_count(alloc: Global, text: &mut Vec<u8>, count: usize) -> Result<(
         ((codes "steps" ++ 32 ∷ decimal count) ∷ [])) }
 {
     let mut line = Vec::from_slice(alloc, b"steps")?;
-    push_count(&mut line, count)?;
+    push_count(&mut line, count as u64)?;
     push_line(text, line.as_slice())
 }
 
@@ -242,7 +235,7 @@ fn held_line(alloc: Global, held: &[u32]) -> Result<Vec<u8>, OutOfMemory>
     ensures { IfOk result (λ line. line.items ≡ held_line held.now) }
 {
     let mut line = Vec::from_slice(alloc, b"held")?;
-    push_count(&mut line, held.len())?;
+    push_count(&mut line, held.len() as u64)?;
     push_words(&mut line, held)?;
     Ok(line)
 }

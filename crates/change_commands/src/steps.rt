@@ -5,16 +5,22 @@ ghost use Rattle.rival_separation.specs.Askers.{ArePathsOf};
 ghost use Rattle.evidence_reader.specs.Refusals.{IsReaderStop};
 ghost use Rattle.sections_reader.specs.Texts.{FitLines, SaysCosts, start_of_bytes};
 ghost use Rattle.present_costs.specs.AtCosts.{graph_by_links};
-ghost use Rattle.input_files.specs.Outcomes.{longest_answer};
+ghost use Rattle.present_costs.specs.PresentCosts.{present_of_links};
+ghost use Rattle.change_steps.specs.Outcomes.{AreStepsFound};
+ghost use Rattle.input_files.specs.declared.problem.View.TheVariants.{AtPresent};
+ghost use Rattle.input_files.specs.Inputs.{InputFiles};
+ghost use Rattle.input_files.specs.Networks.{IsNetworkOf};
+ghost use Rattle.input_files.specs.Outcomes.{Input, longest_answer};
 ghost use Rattle.input_files.specs.Readings.{Gave};
 ghost use Rattle.input_files.specs.Stops.{IsReadAs, files_named};
-ghost use Rattle.report_writer.specs.Reports.{bytes_in};
-ghost use Rattle.change_commands.specs.Plans.{IsAtPresent, IsPlanOf, Plan, plan_read};
-ghost use Rattle.change_commands.specs.Steps.{IsPlanRefused, MaySteps, ReportsSteps, outcome_status};
+ghost use Rattle.report_writer.specs.Reports.{Reports, bytes_in};
+ghost use Rattle.change_commands.specs.Plans.{IsAtPresent, IsPlanOf, Plan, moves_between, plan_read, plan_with};
+ghost use Rattle.change_commands.specs.Steps.{IsPlanRefused, MaySteps, ReportsSteps, outcome_status, steps_text};
 
+use crate::fault::PlanFault;
 use crate::plan::{moves_to, wanted_costs};
 use crate::step_text::text_of_steps;
-use change_steps::{Moves, Outcome, find_steps};
+use change_steps::{Moves, Outcome, Steps, find_steps};
 use command_words::StepUnit;
 use cost_base::{Fault, Listed, OutOfMemory, Refusal, Shelf, Status};
 use design_problem::{CostLine, Problem, Request};
@@ -84,6 +90,43 @@ fn report_of_stop(alloc: Global, stop: Refusal<AnswerFault>) -> Result<Report, O
     }
 }
 
+/// What is found of the steps of moves.
+fn steps_of_moves(
+    alloc: Global,
+    network: &Network,
+    moves: &Moves,
+    nodes: u32,
+) -> Result<Steps, OutOfMemory>
+    requires priced { All (λ edge. IsPriced (length moves.now.present) edge.price)
+        (graph_by_links network.now.lsdb).edges }
+    requires paths { ArePathsOf (graph_by_links network.now.lsdb) network.now.problem.paths }
+    requires few { length network.now.problem.paths ≤ 10000 }
+    ensures { IfOk result
+        (AreStepsFound (record {
+          graph = graph_by_links network.now.lsdb;
+          paths = network.now.problem.paths;
+          moves = moves.now;
+        }) nodes) }
+{
+    let graph = priced_by_links(alloc, &network.lsdb)?;
+    find_steps(alloc, &graph, paths_of(&network.problem), moves, nodes)
+}
+
+/// The report of what was found of the steps of moves.
+fn report_of_steps(
+    alloc: Global,
+    by: StepUnit,
+    names: &Names,
+    moves: &Moves,
+    steps: &Steps,
+) -> Result<Report, OutOfMemory>
+    ensures { IfOk result (Reports (outcome_status steps.now.outcome)
+        (steps_text by names.now moves.now steps.now)) }
+{
+    let text = text_of_steps(alloc, by, names, moves, steps)?;
+    Ok(Report::made(status_of(&steps.outcome), text))
+}
+
 /// The report of the steps of moves.
 fn report_of_moves(
     alloc: Global,
@@ -103,16 +146,62 @@ fn report_of_moves(
           moves = moves.now;
         })) }
 {
-    let graph = priced_by_links(alloc, &network.lsdb)?;
-    let steps = find_steps(
-        alloc,
-        &graph,
-        paths_of(&network.problem),
-        moves,
-        words.nodes,
-    )?;
-    let text = text_of_steps(alloc, words.by, names, moves, &steps)?;
-    Ok(Report::made(status_of(&steps.outcome), text))
+    let steps = steps_of_moves(alloc, network, moves, words.nodes)?;
+    report_of_steps(alloc, words.by, names, moves, &steps)
+}
+
+/// The report of the steps from the present costs to these wanted ones.
+fn report_of_wanted(
+    network: &Network,
+    names: &Names,
+    present: Vec<u16>,
+    wanted: Vec<u16>,
+    words: StepsWords,
+) -> Result<Report, OutOfMemory>
+    requires network { IsAtPresent network.now }
+    requires names { names.now ≡ network.now.lsdb }
+    requires present { present.items ≡ present_of_links network.now.requests network.now.lsdb }
+    requires wanted { length wanted.items ≡ length names.now.links }
+    requires positive { All (λ cost. 0 < cost) wanted.items }
+    ensures { IfOk result (ReportsSteps words.entry.nodes words.entry.by names.now
+        (record {
+          graph = graph_by_links network.now.lsdb;
+          paths = network.now.problem.paths;
+          moves = moves_between words.entry.by names.now present.items wanted.items;
+        })) }
+{
+    network.problem.keeps_conditions();
+    let alloc = *present.allocator();
+    let moves = moves_to(alloc, words.by, names, present, wanted)?;
+    report_of_moves(alloc, network, names, &moves, words)
+}
+
+/// The report of the steps to the costs of lines, with the names of the area.
+fn report_by_names(
+    alloc: Global,
+    network: &Network,
+    names: &Names,
+    lines: &[CostLine],
+    words: StepsWords,
+) -> Result<Report, OutOfMemory>
+    requires network { IsAtPresent network.now }
+    requires names { names.now ≡ network.now.lsdb }
+    requires lines { All (λ line. 0 < line.cost) lines.now }
+    ensures { IfOk result (λ report. (plan : Plan) → IsPlanOf network.now plan →
+        SaysCosts plan.bytes (Some lines.now) → MaySteps words.entry.nodes words.entry.by plan
+        report.status (bytes_in report.text)) }
+{
+    let present = costs_of_links(alloc, &network.requests, &network.lsdb)?;
+    match wanted_costs(alloc, names, &present, lines)? {
+        Ok(wanted) => report_of_wanted(network, names, present, wanted, words),
+        Err(fault) => {
+            let rejection = Rejection {
+                number: fault.number(),
+                place: 0,
+            };
+            report_of_rejection(alloc, rejection)
+        }
+    }
 }
 
 /// The report of the steps to the costs of lines.
@@ -128,22 +217,8 @@ fn report_of_lines(
         SaysCosts plan.bytes (Some lines.now) → MaySteps words.entry.nodes words.entry.by plan
         report.status (bytes_in report.text)) }
 {
-    network.problem.keeps_conditions();
     let names = Names::new(alloc, &network.lsdb)?;
-    let present = costs_of_links(alloc, &network.requests, &network.lsdb)?;
-    match wanted_costs(alloc, &names, &present, lines)? {
-        Ok(wanted) => {
-            let moves = moves_to(alloc, words.by, &names, present, wanted)?;
-            report_of_moves(alloc, network, &names, &moves, words)
-        }
-        Err(fault) => {
-            let rejection = Rejection {
-                number: fault.number(),
-                place: 0,
-            };
-            report_of_rejection(alloc, rejection)
-        }
-    }
+    report_by_names(alloc, network, &names, lines, words)
 }
 
 /// The report of the steps to the costs of a text, where it has costs.
@@ -164,7 +239,7 @@ fn report_of_costs(
         None => report_of_rejection(
             alloc,
             Rejection {
-                number: 49,
+                number: PlanFault::NoCosts.number(),
                 place: 0,
             },
         ),
@@ -190,6 +265,24 @@ fn report_of_text(
     }
 }
 
+/// The report of `steps` of a network that was read, and of the text with the costs.
+fn report_by_file<'a, S: Shelf>(
+    alloc: Global,
+    network: &Network,
+    words: StepsWords<'a>,
+    shelf: &mut S,
+) -> Result<Report, Stop<'a>>
+    requires { IsAtPresent network.now }
+    ensures { (names : InputFiles) → (d : Input) → IsNetworkOf AtPresent names network.now d →
+        Gave (S.gave shelf.old shelf.new) (λ came. IsReadAs
+        (plan_with words.entry.answer.now d) came
+        (λ report plan. MaySteps words.entry.nodes words.entry.by plan report.status
+        (bytes_in report.text)) result) }
+{
+    let bytes = read_answer_file(alloc, shelf, words.answer)?;
+    Ok(report_of_text(alloc, network, &bytes, words)?)
+}
+
 /// The report of `steps` from the files of words, and after them the text with the costs: an order of its lines, or of its
 /// routers, in which each path that is the only cheapest before and after stays so after each step; that there is none; or
 /// that the budget of states was used up.
@@ -209,6 +302,5 @@ pub fn steps_report<'a, S: Shelf>(
         (bytes_in report.text)) result) }
 {
     let network = read_network(alloc, View::AtPresent, files, shelf)?;
-    let bytes = read_answer_file(alloc, shelf, words.answer)?;
-    Ok(report_of_text(alloc, &network, &bytes, words)?)
+    report_by_file(alloc, &network, words, shelf)
 }

@@ -7,7 +7,7 @@ use Rattle.clap.specs.Lexer.{usize_max}
 use Rattle.clap.specs.Walk.{Row, Rule, first_of, all_of, is_empty}
 use Rattle.clap.specs.Simple.{App, new_app, new_rule, with_rule, matches_of}
 use Rattle.clap.specs.Faults.{fault_of}
-use Rattle.command_words.specs.Jobs.{Text, Bounds, SearchRead, JobRead, Design, Check, Audit, Rewrite, Trial, Conflict, Spread, Total, Change, Steps, Compare, Lsas, Route, Help, Version}
+use Rattle.command_words.specs.Jobs.{Text, SearchLimits, SearchRead, JobRead, Design, Check, Audit, Rewrite, Trial, Conflict, Spread, Total, Change, Steps, Compare, Lsas, Route, Help, Version}
 use Rattle.command_words.specs.declared.job.CommandName.{CommandName}
 use Rattle.command_words.specs.declared.job.CommandName.TheVariants as name
 use Rattle.command_words.specs.declared.job.StepUnit.{StepUnit}
@@ -126,7 +126,7 @@ abbrev pub number_or : ℕ → ℕ → ℕ → Option Text → Option ℕ
 number_or default low high None = Some default
 number_or default low high (Some text) = number_between low high text
 
--- the whole of its parts, where each part is there
+-- the whole of two parts, where each is there
 abbrev pub of_two : {A B C : Type 0} → (A → B → C) → Option A → Option B → Option C
 of_two whole (Some a) (Some b) = Some (whole a b)
 of_two whole _ _ = None
@@ -142,12 +142,12 @@ abbrev pub of_five : {A B C D E F : Type 0} → (A → B → C → D → E → F
 of_five whole (Some a) (Some b) (Some c) (Some d) (Some e) = Some (whole a b c d e)
 of_five whole _ _ _ _ _ = None
 
--- the budget of nodes: `--nodes N` of 1 to 10,000,000, else 100,000
+-- the budget: `--nodes N` of 1 to 10,000,000, else 100,000
 abbrev pub nodes_found : Found → Option ℕ
 nodes_found found = number_or 100000 1 10000000 (option_value (codes "nodes") found)
 
--- the limits of a search: the budget of nodes; `--bits B` of 28 to 127, else 127
-abbrev pub limits : Found → Option Bounds
+-- the limits of a search: the budget; `--bits B` of 28 to 127, else 127
+abbrev pub limits : Found → Option SearchLimits
 limits found = of_two (λ nodes bits. record { nodes = nodes; top = 2 ^ bits - 1 })
     (nodes_found found) (number_or 127 28 127 (option_value (codes "bits") found))
 
@@ -190,7 +190,7 @@ audit_job found = of_two (λ request configs. Audit request (option_value (codes
 abbrev pub rewrite_job : Found → Option JobRead
 rewrite_job found = of_two Rewrite (option_value (codes "answer") found) (option_value (codes "CONFIG") found)
 
--- `--blocks T` of 1 to 125, and `--start S` of 0 to 2147483647, or 1
+-- `trial`: `--blocks T` of 1 to 125, and `--start S` of 0 to 2147483647, or 1
 abbrev pub trial_job : Found → Option JobRead
 trial_job found = of_two Trial
     (option_and_then (number_between 1 125) (option_value (codes "blocks") found))
@@ -212,7 +212,7 @@ total_job found = option_map Total (search_of found)
 abbrev pub change_job : Found → Option JobRead
 change_job found = option_map Change (search_of found)
 
--- `steps`: a request file, an answer, a budget of nodes, what a step is, and configurations
+-- `steps`: a request file, an answer, the budget, what a step is, and configurations
 abbrev pub steps_job : Found → Option JobRead
 steps_job found = of_five Steps (option_value (codes "request") found) (option_value (codes "answer") found)
     (nodes_found found) (step_unit (option_value (codes "by") found)) (configs_found found)
@@ -225,7 +225,7 @@ compare_job found = of_three Compare (option_value (codes "live") found) (option
 abbrev pub lsas_job : Found → Option JobRead
 lsas_job found = of_two Lsas (option_value (codes "request") found) (configs_found found)
 
--- `route`: a file of LSAs, and the router ids of the two ends
+-- `route`: a file of LSAs, and the router IDs of the two ends
 abbrev pub route_job : Found → Option JobRead
 route_job found = of_three Route (option_value (codes "lsas") found)
     (option_and_then quad (option_value (codes "from") found)) (option_and_then quad (option_value (codes "to") found))
@@ -292,7 +292,7 @@ app_of_row form = command_of (word_of form.name) form.must form.may form.operand
 abbrev pub takes_words : CommandRow → List Text → Bool
 takes_words form words = is_empty (fault_of (app_of_row form) words)
 
--- what it finds there
+-- what the simple command of a row finds in the words behind the first
 abbrev pub found_in : CommandRow → List Text → Found
 found_in form words = matches_of (app_of_row form) words
 

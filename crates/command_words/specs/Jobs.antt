@@ -12,15 +12,15 @@ use Rattle.text_lines.specs.Arguments.{texts}
 abbrev pub Text : Type 0
 Text = List ℕ
 
--- a budget of nodes, and the greatest size of a whole number
-pub record Bounds : Type 0 where
+-- the limits of a search: its budget, and the greatest size of a whole number
+pub record SearchLimits : Type 0 where
   pub nodes : ℕ
   pub top : ℕ
 
 -- what a search is asked
 pub record SearchRead : Type 0 where
   pub request : Text
-  pub limits : Bounds
+  pub limits : SearchLimits
   pub configs : List Text
 
 -- what the words ask for
@@ -42,12 +42,12 @@ pub data JobRead : Type 0 where
   Version : JobRead
 
 -- the limits of a search as contracts see them
-abbrev pub bounds : Limits → Bounds
-bounds limits = record { nodes = limits.nodes; top = limits.top }
+abbrev pub limits_seen : Limits → SearchLimits
+limits_seen limits = record { nodes = limits.nodes; top = limits.top }
 
 -- a search with the bytes of its texts
 abbrev pub search_seen : Search → SearchRead
-search_seen search = record { request = string_bytes search.request; limits = bounds search.limits; configs = texts search.configs.items }
+search_seen search = record { request = string_bytes search.request; limits = limits_seen search.limits; configs = texts search.configs.items }
 
 -- a job with the bytes of its texts
 abbrev pub seen : Job → JobRead
@@ -68,7 +68,7 @@ seen (variant.Route lsas from to) = Route (string_bytes lsas) from to
 seen (variant.Help topic) = Help topic
 seen variant.Version = Version
 
--- the numbers of a trial and the budget of steps are within their ranges
+-- the numbers of a trial and the budget of `steps` are within their ranges
 abbrev pub IsInRange : JobRead → Type 0
 IsInRange (Trial blocks start) = (1 ≤ blocks) × (blocks ≤ 125) × (start < 2 ^ 31)
 IsInRange (Steps request answer nodes by configs) = (1 ≤ nodes) × (nodes ≤ 10000000)

@@ -68,7 +68,7 @@ pub enum Job {
         answer: String,
         config: String,
     },
-    /// Make a case of so many blocks, 1 to 125, whose sides are chosen by numbers from `start` on, and design it.
+    /// Make a trial of so many blocks, 1 to 125, whose sides are chosen by numbers from `start` on, and design it.
     Trial {
         blocks: u32,
         start: u32,

@@ -82,38 +82,57 @@ pub(crate) fn simple_command<'a>(
 ) -> Result<Command<'a>, AllocError>
     ensures { IfOk result (λ command. app_of command ≡ app_of_row (row_of name)) }
 {
-    let word = name.word();
+    command(
+        alloc,
+        name.word(),
+        must_options(name),
+        may_options(name),
+        operand_kind(name),
+    )
+}
+
+/// The options of a command that must be given.
+fn must_options<'a>(name: CommandName) -> &'a [&'a str]
+    ensures { now_texts result.now ≡ (row_of name).must }
+{
     match name {
-        CommandName::Design | CommandName::Conflict | CommandName::Total | CommandName::Change => {
-            command(alloc, word, &["request"], &["nodes", "bits"], Configs)
-        }
-        CommandName::Check => command(alloc, word, &["request", "answer"], &[], Configs),
-        CommandName::Audit => command(alloc, word, &["request"], &["live"], Configs),
-        CommandName::Rewrite => command(alloc, word, &["answer"], &[], Config),
-        CommandName::Trial => command(alloc, word, &["blocks"], &["start"], Nothing),
-        CommandName::Spread => {
-            command(
-                alloc,
-                word,
-                &["request", "sets"],
-                &["nodes", "bits"],
-                Configs,
-            )
-        }
-        CommandName::Steps => {
-            command(
-                alloc,
-                word,
-                &["request", "answer"],
-                &["nodes", "by"],
-                Configs,
-            )
-        }
-        CommandName::Compare => command(alloc, word, &["live", "request"], &[], Configs),
-        CommandName::Lsas => command(alloc, word, &["request"], &[], Configs),
-        CommandName::Route => command(alloc, word, &["lsas", "from", "to"], &[], Nothing),
-        CommandName::Help => command(alloc, word, &[], &[], Topic),
-        CommandName::Version => command(alloc, word, &[], &[], Nothing),
+        CommandName::Check | CommandName::Steps => &["request", "answer"],
+        CommandName::Rewrite => &["answer"],
+        CommandName::Trial => &["blocks"],
+        CommandName::Spread => &["request", "sets"],
+        CommandName::Compare => &["live", "request"],
+        CommandName::Route => &["lsas", "from", "to"],
+        CommandName::Help | CommandName::Version => &[],
+        _ => &["request"],
+    }
+}
+
+/// The options of a command that may be given.
+fn may_options<'a>(name: CommandName) -> &'a [&'a str]
+    ensures { now_texts result.now ≡ (row_of name).may }
+{
+    match name {
+        CommandName::Design
+        | CommandName::Conflict
+        | CommandName::Spread
+        | CommandName::Total
+        | CommandName::Change => &["nodes", "bits"],
+        CommandName::Audit => &["live"],
+        CommandName::Trial => &["start"],
+        CommandName::Steps => &["nodes", "by"],
+        _ => &[],
+    }
+}
+
+/// The operands of a command.
+fn operand_kind(name: CommandName) -> Operands
+    ensures { operands_of result ≡ (row_of name).operands }
+{
+    match name {
+        CommandName::Rewrite => Config,
+        CommandName::Help => Topic,
+        CommandName::Trial | CommandName::Route | CommandName::Version => Nothing,
+        _ => Configs,
     }
 }
 
@@ -159,12 +178,13 @@ fn with_operands<'a>(
     ensures { IfOk result (λ more. app_of more ≡ with_rules (app_of command.entry)
         (operand_rules (operands_of operands))) }
 {
-    match operands {
-        Nothing => Ok(command),
-        Config => command.arg(config_word(alloc)),
-        Configs => command.arg(config_words(alloc)),
-        Topic => command.arg(topic_word(alloc)),
-    }
+    let word = match operands {
+        Nothing => return Ok(command),
+        Config => config_word(alloc),
+        Configs => config_words(alloc),
+        Topic => topic_word(alloc),
+    };
+    command.arg(word)
 }
 
 /// The option `--NAME VALUE`.

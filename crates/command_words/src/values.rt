@@ -4,7 +4,7 @@ ghost use Rattle.text_lines.specs.Numbers as numbers;
 ghost use Rattle.command_words.specs.Commands.{option_value, configs_found, number_between, number_or, limits};
 ghost use Rattle.command_words.specs.Commands.{nodes_found, step_unit, unit_named, topic_of};
 ghost use Rattle.command_words.specs.Forms.{found, now_texts, Answers};
-ghost use Rattle.command_words.specs.Jobs.{bounds};
+ghost use Rattle.command_words.specs.Jobs.{limits_seen};
 ghost use Rattle.text_lines.specs.Arguments.{texts};
 
 use crate::table::command_named;
@@ -107,7 +107,7 @@ pub(crate) fn router(matches: &ArgMatches<'_>, name: &str) -> Option<u32>
     quad(value(matches, name)?.as_bytes())
 }
 
-/// The budget of nodes; None where it is off its range.
+/// The budget; None where it is off its range.
 pub(crate) fn nodes(matches: &ArgMatches<'_>) -> Option<u64>
     ensures { result ≡ nodes_found (found matches.now) }
 {
@@ -147,7 +147,7 @@ pub(crate) fn topic(matches: &ArgMatches<'_>) -> Option<Option<CommandName>>
 
 /// The limits of a search; None where one is off its range.
 pub(crate) fn limits(matches: &ArgMatches<'_>) -> Option<Limits>
-    ensures { option_map bounds result ≡ limits (found matches.now) }
+    ensures { option_map limits_seen result ≡ limits (found matches.now) }
 {
     let nodes = nodes(matches)?;
     let bits = may_number(matches, "bits", 28, 127, 127)?;

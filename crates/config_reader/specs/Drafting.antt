@@ -48,7 +48,7 @@ new_interface name line =
 abbrev pub new_draft : List ℕ × ℕ → Draft
 new_draft head = record { interface = new_interface head.0 head.1; matched = false; listed = false }
 
--- the first address is kept
+-- the interface with an address and its prefix length, unless it has an address already
 abbrev pub with_address : Prefix → Option ℕ → Interface → Interface
 with_address p None i = record i { address = Some p.address; length = p.length }
 with_address p (Some first) i = i
@@ -123,7 +123,7 @@ at_place (Some i) xs = slice_get xs i
 abbrev pub find_draft : List ℕ → List Draft → Option Draft
 find_draft name drafts = at_place (position (same_bytes name) (map (λ d. d.interface.name) drafts)) drafts
 
--- another address than the first, of a draft with an area
+-- the prefix is another than that of the draft's address, and the draft has an area
 abbrev pub is_second : Prefix → Option Draft → Bool
 is_second p None = false
 is_second p (Some d) = (is_some d.interface.area || d.matched) && differs p (whole_address d.interface.address d.interface.length)
@@ -133,7 +133,7 @@ abbrev pub second_in : List Draft → Block → Statement → Bool
 second_in drafts (OfInterface name) (AddressIs p) = is_second p (find_draft name drafts)
 second_in drafts _ _ = false
 
--- fault 6 of a line, where it gives such a second address
+-- fault 6 of a line, where it gives an interface that takes part another address than its first
 abbrev pub second_of : List Draft → ℕ → Block → Statement → Option Fault
 second_of drafts n block s =
     if second_in drafts block s then Some (record { line = n; fault = SecondAddress }) else None
@@ -147,7 +147,7 @@ abbrev pub twice_at : Option ℕ → Option Fault
 twice_at None = None
 twice_at (Some n) = Some (record { line = n; fault = AreaTwice })
 
--- the second area of an interface without an area line
+-- fault 7 of an interface without an area line, where `network` lines give its address two areas
 abbrev pub clash_for : List NetworkLine → Option ℕ → Option Prefix → Option Fault
 clash_for nets (Some area) address = None
 clash_for nets None None = None
@@ -157,7 +157,7 @@ clash_for nets None (Some p) = twice_at (clash p None nets)
 abbrev pub clash_of : List NetworkLine → Draft → Option Fault
 clash_of nets d = clash_for nets d.interface.area (whole_address d.interface.address d.interface.length)
 
--- the fault of the lesser line, the first where there is one line
+-- of two faults the one of the lesser line; the first, where both are of one line
 abbrev pub earliest : Option Fault → Option Fault → Option Fault
 earliest None b = b
 earliest (Some a) None = Some a
@@ -168,12 +168,12 @@ abbrev pub first_clash : List NetworkLine → Option Fault → List Draft → Op
 first_clash nets found [] = found
 first_clash nets found (d ∷ ds) = first_clash nets (earliest found (clash_of nets d)) ds
 
--- the router id of a line of a router block
+-- the router ID that a line of a router block sets
 abbrev pub router_id_set : Block → Statement → Option ℕ
 router_id_set OfRouter (RouterIdIs id) = Some id
 router_id_set _ _ = None
 
--- the last router id that the lines set, or the one from before
+-- the last router ID that the lines set, or the one from before
 abbrev pub id_after : Option ℕ → List Said → Option ℕ
 id_after found [] = found
 id_after found (s ∷ ss) = id_after (option_or (router_id_set s.block s.statement) found) ss

@@ -30,11 +30,11 @@ read_line line = if is_short line then line else []
 abbrev pub read_lines : List (List ℕ) → List (List ℕ)
 read_lines file = map read_line file
 
--- 1: the line is too long
+-- fault 1 of a line: it is too long
 abbrev pub long_line : List ℕ → Option ConfigFault
 long_line line = if is_short line then None else Some LongLine
 
--- 2 to 5: the line is refused by itself
+-- fault 2, 3, 4 or 5 of a line: it is refused by itself
 abbrev pub refused : Statement → Option ConfigFault
 refused (Refused fault) = Some fault
 refused _ = None
@@ -45,12 +45,12 @@ is_given_area all name =
     is_some (setting area_set (about all name))
     || list_any (λ p. list_any (matches p) (networks_said all)) (filter_map address_said (about all name))
 
--- the address or its prefix length isn't that of the first
+-- the address or its prefix length isn't that of the first one, where there is a first one
 abbrev pub differs : Prefix → Option Prefix → Bool
 differs p None = false
 differs p (Some first) = not (p.address == first.address && p.length == first.length)
 
--- 6: another address than the first, of an interface that takes part
+-- fault 6 of a line: another address than the first, of an interface that takes part
 abbrev pub second_address : List Said → Block → Statement → Option ConfigFault
 second_address all (OfInterface name) (AddressIs p) =
     if is_given_area all name && differs p (interface_address all name) then Some SecondAddress else None
@@ -66,14 +66,14 @@ abbrev pub is_other_area : List Network → Network → Option Prefix → Bool
 is_other_area earlier n None = false
 is_other_area earlier n (Some p) = matches p n && list_any (λ m. matches p m && not (m.area == n.area)) earlier
 
--- 7: a `network` line gives an interface without an area line a second area
+-- fault 7 of a line: a `network` line gives an interface without an area line a second area
 abbrev pub area_twice : List Said → List (List ℕ × ℕ) → List Network → Block → Statement → Option ConfigFault
 area_twice all heads earlier OfRouter (NetworkIs n) =
     if list_any (λ head. is_other_area earlier n (address_by_networks (setting area_set (about all head.0)) (interface_address all head.0))) heads
     then Some AreaTwice else None
 area_twice all heads earlier _ _ = None
 
--- 8: the router's name is from this line, and is none
+-- fault 8 of a line: the router's name is from it, and is none
 abbrev pub bad_name : List ℕ × ℕ → ℕ → Option ConfigFault
 bad_name name line = if name.1 == line && not (is_router_name name.0) then Some BadName else None
 

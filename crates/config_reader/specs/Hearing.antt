@@ -54,7 +54,7 @@ hear_kind Head h n ws = hear_head h n ws
 hear_kind Indented h n ws = hear_statement h n h.block (statement_in h.block ws)
 hear_kind _ h n ws = h
 
--- a line that isn't too long
+-- what is kept after a line of this number that isn't too long
 abbrev pub hear : Heard → ℕ → List ℕ → Heard
 hear h n line = hear_kind (kind_of line) h n (words line)
 

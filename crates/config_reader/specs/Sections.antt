@@ -10,11 +10,11 @@ use Rattle.interface_model.specs.Records.{Router}
 use Rattle.config_reader.specs.Configs.{first_heads, config_of}
 use Rattle.config_reader.specs.FaultList.{config_fault}
 
--- `interface NAME`
+-- the line `interface NAME`
 abbrev pub name_line : List ℕ → List ℕ
 name_line name = join_with_byte 32 (codes "interface" ∷ name ∷ [])
 
--- ` ip ospf cost N`
+-- the line ` ip ospf cost N`
 abbrev pub section_cost_line : ℕ → List ℕ
 section_cost_line n = join_with_byte 32 (codes " ip" ∷ codes "ospf" ∷ codes "cost" ∷ decimal n ∷ [])
 

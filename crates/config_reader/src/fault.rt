@@ -8,7 +8,7 @@ use cost_base::Fault;
 pub enum ConfigFault {
     /// The line has more than 4,096 bytes.
     LongLine,
-    /// An address, a prefix or a router id is missing, or none.
+    /// An address, a prefix or a router ID is missing, or none.
     BadAddress,
     /// A cost or a priority is missing, none, or out of range.
     BadNumber,

@@ -96,7 +96,7 @@ pub(crate) fn area_twice(drafts: &[Draft], networks: &Networks) -> Option<LineFa
     found
 }
 
-/// The router id of a line of a router block.
+/// The router ID of a line of a router block.
 fn id_in(said: &SaidLine<'_>) -> Option<u32>
     ensures { result ≡ drafting.router_id_set (block_spoken said.now.block)
         (statement_of said.now.statement) }
@@ -107,7 +107,7 @@ fn id_in(said: &SaidLine<'_>) -> Option<u32>
     }
 }
 
-/// The last router id.
+/// The last router ID.
 pub(crate) fn router_id(said: &[SaidLine<'_>]) -> Option<u32>
     ensures { result ≡ drafting.id_after None (map said_of said.now) }
 {

@@ -141,7 +141,7 @@ impl Networks {
         }
     }
 
-    /// These lines and one more.
+    /// The `network` lines with one more behind them.
     fn with(self, line: NetworkLine) -> Result<Networks, OutOfMemory>
         ensures { IfOk result (λ n. n ≡ self ++ line ∷ []) }
     {

@@ -16,7 +16,7 @@ use Rattle.design_problem.specs.declared.answer.CostLine.{CostLine}
 use Rattle.config_writer.specs.declared.RewriteStop.{RewriteStop}
 use Rattle.config_writer.specs.declared.RewriteStop.TheVariants.{NoInterface, OutOfMemory}
 
--- interfaces with their new costs
+-- the interfaces of some cost lines with their new costs
 abbrev pub costs_of : List CostLine → List (List ℕ × ℕ)
 costs_of costs = map (λ line. (line.interface, line.cost)) costs
 
@@ -45,11 +45,11 @@ is_indented_kind _ = false
 abbrev pub is_cost_line : List ℕ → Bool
 is_cost_line line = is_indented_kind (kind_of line) && begin_with (ip_ospf (codes "cost")) (words line)
 
--- a cost line in a block of an interface that has a new cost; the lines before it stand first
+-- whether a line is taken out: a cost line in a block of an interface with a new cost; the lines before it stand first
 abbrev pub is_replaced : List (List ℕ × ℕ) → List (List ℕ) → List ℕ → Bool
 is_replaced costs before line = is_some (new_cost costs (open_block before)) && is_cost_line line
 
--- a block of an interface that no line before it opens
+-- whether a block is of an interface that no line before it opens
 abbrev pub is_first_block : List (List ℕ) → Block → Bool
 is_first_block before (OfInterface name) = not (list_any (same_bytes name) (headed before))
 is_first_block before OfRouter = false
@@ -86,7 +86,7 @@ rewritten costs bytes = concat (map (written_at costs bytes) (numbers_from 0 (le
 abbrev pub first_missing : List (List ℕ × ℕ) → List ℕ → Option ℕ
 first_missing costs bytes = position (λ cost. not (list_any (same_bytes cost.0) (headed (lines bytes)))) costs
 
--- a stop tells that cost; want of memory tells nothing
+-- a stop of a rewrite tells the first cost whose interface has no head; want of memory tells nothing
 abbrev pub TellsMissing : Option ℕ → RewriteStop → Type 0
 TellsMissing missing (NoInterface i) = missing ≡ Some i
 TellsMissing missing OutOfMemory = Unit {0}

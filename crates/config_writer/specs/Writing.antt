@@ -11,30 +11,30 @@ use Rattle.config_reader.specs.Sections.{section_cost_line}
 use Rattle.config_writer.specs.Rewriting.{is_cost_line}
 use Rattle.config_writer.specs.declared.writer.Writer.{Writer}
 
--- the value of the first entry of a name
+-- the value of the first entry that has a name
 abbrev pub look_up : List ℕ → List (List ℕ × ℕ) → Option ℕ
 look_up name [] = None
 look_up name (entry ∷ entries) = if same_bytes name entry.0 then Some entry.1 else look_up name entries
 
--- the cost of the interface of a block
+-- the new cost of the interface of a block, where it has one
 abbrev pub block_cost : List (List ℕ × ℕ) → Block → Option ℕ
 block_cost costs (OfInterface name) = look_up name costs
 block_cost costs OfRouter = None
 block_cost costs OfOther = None
 
--- the cost of the interface of a block, where no block before is of that interface
+-- the new cost of the interface of a block, where no block before it is of that interface
 abbrev pub first_cost : List (List ℕ × ℕ) → List (List ℕ) → Block → Option ℕ
 first_cost costs heads (OfInterface name) = if list_any (same_bytes name) heads then None else look_up name costs
 first_cost costs heads OfRouter = None
 first_cost costs heads OfOther = None
 
--- the interfaces that have heads, with one more block
+-- the interfaces that have heads, with that of one more block
 abbrev pub heads_with : List (List ℕ) → Block → List (List ℕ)
 heads_with heads (OfInterface name) = if list_any (same_bytes name) heads then heads else heads ++ name ∷ []
 heads_with heads OfRouter = heads
 heads_with heads OfOther = heads
 
--- the cost behind a line
+-- the new cost that is put behind a line, where it is the first head of an interface that has one
 abbrev pub cost_after_line : LineKind → List (List ℕ × ℕ) → List (List ℕ) → Block → Option ℕ
 cost_after_line Head costs heads block = first_cost costs heads block
 cost_after_line _ costs heads block = None

@@ -1,6 +1,8 @@
 -- Searches that decide sets of requests are searches; and those by which a conflict is made smaller, in their order.
 use Rattle.std.proofs.Common.{◌≡◌, ℕ, ◌<◌, ◌≤◌, true, false, refl, sym, ◌∙◌, ap, subst, List, [], ◌∷◌, ◌++◌, append_assoc, length}
+use Rattle.std.specs.Prelude.{IfOk, Result, Ok, Err}
 use Rattle.std.specs.List.{remove}
+use Rattle.cost_base.specs.declared.OutOfMemory.{OutOfMemory}
 use Rattle.design_problem.specs.declared.form.Row.{Row}
 use Rattle.design_problem.specs.declared.tree.Entry.{Entry}
 use Rattle.design_problem.specs.Problems.{DesignProblem, restricted}
@@ -47,6 +49,39 @@ asked_of IsItself state would left after p q set slice top nodes cap pool found 
     let at_bound : At q (greatest_bound q) known = subst (λ (f : Found). At q (greatest_bound q) f) found_is (subst (λ (k : ℕ). At q k found) cap_is here) in
     let of_slice : At (restricted p slice) (greatest_bound p) known = subst (λ (r : DesignProblem). At r (greatest_bound r) known) is at_bound in
     (are, subst (λ (ms : List ℕ). At (restricted p ms) (greatest_bound p) known) same of_slice)
+
+-- two facts of a search that ended well, and what follows from both
+pub both_ok : (result : Result Found OutOfMemory) (P Q R : Found → Type 0) → ((found : Found) → P found → Q found → R found) →
+    IfOk result P → IfOk result Q → IfOk result R
+both_ok (Ok found) P Q R step p q = step found p q
+both_ok (Err e) P Q R step p q = tt
+
+-- what is decided at a cap that is the greatest upper bound of a problem, which is that of a set of requests
+pub decided_of : (p q : DesignProblem) (set : List ℕ) (top nodes cap : ℕ) (pool : Pooled) (result : Result Found OutOfMemory) →
+    q ≡ restricted p set → cap ≡ greatest_bound q → IfOk result (IsDecided q top nodes cap pool) →
+    IfOk result (IsDecided (restricted p set) top nodes (greatest_bound p) pool)
+decided_of p q set top nodes cap pool result is cap_is decided =
+    subst (λ (r : DesignProblem). IfOk result (IsDecided r top nodes (greatest_bound r) pool)) is
+    (subst (λ (k : ℕ). IfOk result (IsDecided q top nodes k pool)) cap_is decided)
+
+-- what is decided of a set by another name, and by what is known of it
+pub decided_by : (p : DesignProblem) (set slice : List ℕ) (top nodes : ℕ) (pool : Pooled) (found known : Found) → slice ≡ set → found ≡ known →
+    IsDecided (restricted p slice) top nodes (greatest_bound p) pool found → IsDecided (restricted p set) top nodes (greatest_bound p) pool known
+decided_by p set slice top nodes pool found known same is decided =
+    let known_of_slice : IsDecided (restricted p slice) top nodes (greatest_bound p) pool known =
+    subst (λ (f : Found). IsDecided (restricted p slice) top nodes (greatest_bound p) pool f) is decided in
+    subst (λ (ms : List ℕ). IsDecided (restricted p ms) top nodes (greatest_bound p) pool known) same known_of_slice
+
+-- the search of a set by another name, and by what is known of what it found
+pub asked_by : {A : Type 0} (IsItself : A → A → Type 0) (state : A → List ℕ) (would : A → List ℕ → List Candidate → ℕ)
+    (left : A → List ℕ → List Candidate → List ℕ) (after : A → List ℕ → Entry → List ℕ) (p : DesignProblem) (set slice : List ℕ)
+    (top nodes : ℕ) (pool : Pooled) (found known : Found) (old new : List A) → slice ≡ set → found ≡ known →
+    IsAskedOfSet IsItself state would left after p top nodes (record { set = slice; pool = pool; found = found }) old new →
+    IsAskedOfSet IsItself state would left after p top nodes (record { set = set; pool = pool; found = known }) old new
+asked_by IsItself state would left after p set slice top nodes pool found known old new same is asked =
+    let Asked : List ℕ → Found → Type 0 = λ ms f. IsAskedOfSet IsItself state would left after p top nodes (record { set = ms; pool = pool; found = f }) old new in
+    let of_slice : Asked slice known = subst (λ (f : Found). Asked slice f) is asked in
+    subst (λ (ms : List ℕ). Asked ms known) same of_slice
 
 -- the search that decided a set: by the pool of its tree, where one was found
 abbrev pub decision_of : List ℕ → Pooled → Decided → SetDecision

@@ -145,7 +145,7 @@ pub row_known : (p : DesignProblem) (members : List ℕ) (row : Row) → IsRow (
 row_known p members row is =
     elim (cases_lt row.request (length members)) [
       | inl below ↦ below
-      | inr past ↦ absurd (no_rival p.graph _ row.rival.edges
+      | inr past ↦ absurd (no_rival p.graph _ row.rival
           (slice_get_past (map (request_at p.paths) members) row.request
           (omega (arith, length-map members (request_at p.paths)))) is)
     ]
@@ -189,12 +189,12 @@ same_request p members i known within =
 pub whole_is_row : (p : DesignProblem) (members : List ℕ) (row : Row) → All (λ m. m < length p.paths) members →
     IsRow (restricted p members) row → IsRow p (whole_row members row)
 whole_is_row p members row known is =
-    subst (λ (r : Option Request). IsRivalOf p.graph r row.rival.edges) (same_request p members row.request known (row_known p members row is)) is
+    subst (λ (r : Option Request). IsRivalOf p.graph r row.rival) (same_request p members row.request known (row_known p members row is)) is
 
 pub whole_form : (p : DesignProblem) (members : List ℕ) (row : Row) → All (λ m. m < length p.paths) members →
     IsRow (restricted p members) row → form_of_row p (whole_row members row) ≡ form_of_row (restricted p members) row
 whole_form p members row known is =
-    ap (λ (r : Option Request). form_between p.graph (length p.low) (path_edges r) row.rival.edges)
+    ap (λ (r : Option Request). form_between p.graph (length p.low) (path_edges r) row.rival)
     (sym (same_request p members row.request known (row_known p members row is)))
 
 -- the forms of all rows
@@ -251,7 +251,7 @@ within_set p members (row ∷ rows) known true_rows contained =
       same = ap (λ (n : ℕ). let r : Row = record { request = n; rival = row.rival } in r ∷ map (whole_row members) rest.restricted_rows) at
           ∙ ap (λ (rs : List Row). row ∷ rs) rest.same;
       are = All-cons (IsRow (restricted p members)) here rest.restricted_rows
-          (subst (λ (r : Option Request). IsRivalOf p.graph r row.rival.edges)
+          (subst (λ (r : Option Request). IsRivalOf p.graph r row.rival)
           (sym (same_request p members has.0 known has.1 ∙ ap (λ (m : ℕ). slice_get p.paths m) at)) (true_rows 0 row (omega arith)))
           rest.are;
     }

@@ -22,7 +22,7 @@ pub record SetDecision : Type 0 where
   pub pool : Pooled
   pub found : Found
 
--- a search that decided the greatest upper bound of the problem of these requests alone called them
+-- a search that decided the greatest upper bound of the problem of a set's requests alone called the advisors
 abbrev pub IsAskedOfSet : {A : Type 0} → (A → A → Type 0) → (A → List ℕ) → (A → List ℕ → List Candidate → ℕ) →
     (A → List ℕ → List Candidate → List ℕ) → (A → List ℕ → Entry → List ℕ) → DesignProblem → ℕ → ℕ → SetDecision → List A → List A → Type 0
 IsAskedOfSet IsItself state would left after p top nodes d old new =
@@ -38,7 +38,7 @@ abbrev pub IsUndecidedOfSet : List ℕ → Pooled → List Entry → Conflict �
 IsUndecidedOfSet set pool tree c =
     (rows : List Row) × (printed : List Entry) × IsPrintedOfSet set pool tree rows printed × (c ≡ conflict.Undecided set rows printed)
 
--- what is found where a search refuted the set, and for each member there are costs without it
+-- what is found where a search refuted the set, and for each member there are fit costs without it: a least conflict
 abbrev pub IsCoreOfSet : List ℕ → Pooled → List Entry → List (List ℕ) → Conflict → Type 0
 IsCoreOfSet set pool tree without c =
     (rows : List Row) × (printed : List Entry) × IsPrintedOfSet set pool tree rows printed × (c ≡ conflict.Core set rows printed without)

@@ -19,7 +19,7 @@ use Rattle.conflict_core.specs.declared.deciding.Decided.{Decided}
 use Rattle.conflict_core.specs.declared.deciding.Decided.TheVariants.{Costs, Refuted, Undecided}
 use Rattle.conflict_core.specs.declared.shrinking.Shrunk.{Shrunk}
 use Rattle.conflict_core.specs.declared.shrinking.Tried.{Tried}
-use Rattle.conflict_core.specs.declared.shrinking.Tried.TheVariants.{On, Stuck}
+use Rattle.conflict_core.specs.declared.shrinking.Tried.TheVariants.{On, Undecided as TriedUndecided}
 use Rattle.conflict_core.specs.declared.telling.Told.{Told}
 use Rattle.conflict_core.specs.declared.conflict.Conflict.{Conflict}
 use Rattle.conflict_core.specs.Asking.{AreSetsInOrder, IsAskedOfSet, IsPrintedOfSet, IsUndecidedOfSet, SetDecision}
@@ -32,36 +32,42 @@ pub record IsSetTree (p : DesignProblem) (top nodes : ℕ) (t : SetTree) : Type 
   pub tree : IsTreeAt (restricted p t.members.items) top (greatest_bound p) t.pool t.tree
   pub few : entry_count t.tree ≤ nodes
 
--- a set's closed tree
+-- a set of requests with its tree, which is closed
 pub record IsRefutedSet (p : DesignProblem) (top nodes : ℕ) (t : SetTree) : Type 0 where
   pub tree : IsSetTree p top nodes t
   pub closed : IsClosed t.tree
 
--- a set's tree that used up the budget: it has an Undone and exactly N entries
+-- a set of requests with its tree, which used up the budget: it has an Undone and exactly N entries
 pub record IsUndecidedSet (p : DesignProblem) (top nodes : ℕ) (t : SetTree) : Type 0 where
   pub tree : IsSetTree p top nodes t
   pub undone : Contains t.tree Undone
   pub spent : entry_count t.tree ≡ nodes
 
--- what is decided of a set: fit costs of its restricted problem, a closed tree, or a tree of a used-up budget
+-- what is decided of a set: fit costs of its restricted problem, a closed tree, or a tree that used up the budget
 abbrev pub IsSetDecided : DesignProblem → ℕ → ℕ → List ℕ → Decided → Type 0
 IsSetDecided p top nodes members (Costs w) = IsFit (restricted p members) w
 IsSetDecided p top nodes members (Refuted t) = (t.members.items ≡ members) × IsRefutedSet p top nodes t
 IsSetDecided p top nodes members (Undecided t) = (t.members.items ≡ members) × IsUndecidedSet p top nodes t
 
--- what the search found of which it is decided
+-- what a search found, by what was decided of the set
 abbrev pub search_found : Decided → Found
 search_found (Costs w) = finds.Costs w
 search_found (Refuted t) = finds.Refuted t.tree
 search_found (Undecided t) = finds.Undecided t.tree
 
--- the pool is that of the tree, where one was found
+-- the pool is that of the tree by which a set was decided, where a tree was found
 abbrev pub IsPoolOf : Decided → Pooled → Type 0
 IsPoolOf (Costs w) pool = Unit {0}
 IsPoolOf (Refuted t) pool = pool ≡ t.pool
 IsPoolOf (Undecided t) pool = pool ≡ t.pool
 
--- the search that decided the set, by this pool, called the advisors, by their rules
+-- the search of a restricted problem, which came to this decision, called the advisors, by their rules
+abbrev pub IsAskedSearching : {A V : Type 0} {X : V → Type 0} → ((rules : V) → Ghosts (X rules)) → (A → V) → (A → List ℕ) →
+    DesignProblem → ℕ → ℕ → SetDecision → List A → List A → Type 0
+IsAskedSearching members rules state p top nodes d old new = IsAskedOfSet (λ b c. rules c ≡ rules b) state (λ b. (members (rules b)).would)
+    (λ b. (members (rules b)).left) (λ b. (members (rules b)).after) p top nodes d old new
+
+-- the search that decided a set of requests, by a pool, called the advisors, by their rules
 abbrev pub IsAskedDeciding : {A V : Type 0} {X : V → Type 0} → ((rules : V) → Ghosts (X rules)) → (A → V) → (A → List ℕ) →
     DesignProblem → ℕ → ℕ → List ℕ → Decided → List A → List A → Type 0
 IsAskedDeciding members rules state p top nodes set decided old new = (pool : Pooled) × IsPoolOf decided pool
@@ -83,7 +89,7 @@ AreAskedFrom members rules state p top nodes set rows without old new c = (ds : 
     × AreAskedInTurn (IsAskedOfSet (λ b c. rules c ≡ rules b) state (λ b. (members (rules b)).would) (λ b. (members (rules b)).left)
     (λ b. (members (rules b)).after) p top nodes) ds old new
 
--- the same from the tree that refuted a set
+-- the searches called the advisors by which a conflict was made smaller, from the tree that refuted a set on
 abbrev pub AreAskedShrinking : {A V : Type 0} {X : V → Type 0} → ((rules : V) → Ghosts (X rules)) → (A → V) → (A → List ℕ) →
     DesignProblem → ℕ → ℕ → SetTree → List A → List A → Conflict → Type 0
 AreAskedShrinking members rules state p top nodes t old new c = (rows : List Row) × (printed : List Entry)
@@ -93,9 +99,9 @@ AreAskedShrinking members rules state p top nodes t old new c = (rows : List Row
 -- what the searches that left out a member come to: those of what is left now are behind them, or the budget was used up at a set
 abbrev pub IsTriedBy : Shrunk → Tried → List SetDecision → Type 0
 IsTriedBy shrunk (On next) ds = AreBefore shrunk next ds
-IsTriedBy shrunk (Stuck t) ds = (c : Conflict) → IsUndecidedOfSet t.members.items t.pool t.tree c → AreShrinking shrunk ds c
+IsTriedBy shrunk (TriedUndecided t) ds = (c : Conflict) → IsUndecidedOfSet t.members.items t.pool t.tree c → AreShrinking shrunk ds c
 
--- searches called them while a member was left out
+-- searches called the advisors while a member was left out
 abbrev pub AreAskedTrying : {A V : Type 0} {X : V → Type 0} → ((rules : V) → Ghosts (X rules)) → (A → V) → (A → List ℕ) →
     DesignProblem → ℕ → ℕ → Shrunk → Tried → List A → List A → Type 0
 AreAskedTrying members rules state p top nodes shrunk tried old new = (ds : List SetDecision) × IsTriedBy shrunk tried ds
@@ -125,7 +131,7 @@ pub record IsShrunk (p : DesignProblem) (s : Shrunk) : Type 0 where
 abbrev pub IsMemberTried : DesignProblem → ℕ → ℕ → Shrunk → Tried → Type 0
 IsMemberTried p top nodes old (On new) =
     IsShrunk p new × (length new.members + length old.without.items < length old.members + length new.without.items)
-IsMemberTried p top nodes old (Stuck t) = IsUndecidedSet p top nodes t × IsConflictLessOne p t.members.items
+IsMemberTried p top nodes old (TriedUndecided t) = IsUndecidedSet p top nodes t × IsConflictLessOne p t.members.items
 
 -- what is told of a set's tree: the rows and the tree as they are printed, which is closed or not as it was
 pub record IsSetTreeTold (p : DesignProblem) (top nodes : ℕ) (t : SetTree) (told : Told) : Type 0 where

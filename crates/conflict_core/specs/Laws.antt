@@ -21,19 +21,19 @@ IsConflictSettled (Undecided members rows tree) = ⊥
 
 -- The budget can't be used up: for no set of requests has an earnest tree over the box at the greatest upper bound an undone entry
 -- and exactly as many entries as the budget.
-abbrev pub CannotSpendOnSets : DesignProblem → ℕ → ℕ → Type 0
-CannotSpendOnSets p top nodes =
+abbrev pub CannotBeUndecidedOnSets : DesignProblem → ℕ → ℕ → Type 0
+CannotBeUndecidedOnSets p top nodes =
     (members : List ℕ) (rows : List Row) (tree : List Entry) → IsRequestSet p members → All (IsRow p) rows →
     IsEarnestOver (LeadsEach (restricted p members)) (IsFormOfRow (restricted p members)) top (forms_of_rows p rows) (whole_box p) tree →
     Contains tree Undone → entry_count tree ≡ nodes → ⊥
 
--- where it can't, the requests are settled
+-- where the budget can't be used up, what is found is fit costs or a least conflict
 abbrev pub ConflictSettlesUnspent : Type 0
 ConflictSettlesUnspent =
-    (p : DesignProblem) (top nodes : ℕ) (conflict : Conflict) → CannotSpendOnSets p top nodes →
+    (p : DesignProblem) (top nodes : ℕ) (conflict : Conflict) → CannotBeUndecidedOnSets p top nodes →
     IsConflictFound p top nodes conflict → IsConflictSettled conflict
 
 -- a budget of twice as many entries as the box at the greatest upper bound has points, less one, can't be used up
 abbrev pub ConflictUnspentIfLarge : Type 0
 ConflictUnspentIfLarge =
-    (p : DesignProblem) (top nodes : ℕ) → IsProblem p → 2 * points (whole_box p) ≤ nodes + 1 → CannotSpendOnSets p top nodes
+    (p : DesignProblem) (top nodes : ℕ) → IsProblem p → 2 * points (whole_box p) ≤ nodes + 1 → CannotBeUndecidedOnSets p top nodes

@@ -1,8 +1,12 @@
 //! One set of requests decided.
 ghost use Rattle.std.specs.Prelude.{IfOk};
+ghost use Rattle.design_problem.specs.Problems.{restricted};
+ghost use Rattle.design_problem.specs.Answers.{greatest_bound};
 ghost use Rattle.form_search.specs.Advised.{AreCalled};
+ghost use Rattle.cost_branching.specs.Decisions.{IsDecided};
+ghost use Rattle.cost_branching.specs.Pools.{IsRowPool};
 ghost use Rattle.conflict_core.specs.Conflicts.{IsRequestSet};
-ghost use Rattle.conflict_core.specs.Deciding.{IsAskedDeciding, IsSetDecided};
+ghost use Rattle.conflict_core.specs.Deciding.{IsAskedDeciding, IsAskedSearching, IsSetDecided};
 
 use cost_base::OutOfMemory;
 use cost_branching::{Found, Pool, decide, keeps_conditions};
@@ -31,6 +35,35 @@ pub(crate) enum Decided {
     Undecided(SetTree),
 }
 
+/// Decides the greatest upper bound of the problem of these requests alone, by a pool of its rows.
+fn search_set(
+    problem: &Problem,
+    members: &[u32],
+    limits: &Limits,
+    pool: &mut Pool,
+    advisors: &mut Vec<Box<dyn Advisor>>,
+) -> Result<Found, OutOfMemory>
+    requires set { IsRequestSet problem.now members.now }
+    requires pool { IsRowPool (restricted problem.now members.now) pool.old }
+    ensures decided { IfOk result (IsDecided (restricted problem.now members.now) limits.now.top
+        limits.now.nodes (greatest_bound problem.now) pool.new) }
+    ensures pool { IsRowPool (restricted problem.now members.now) pool.new }
+    ensures asked { IfOk result (λ found. IsAskedSearching ⟦<dyn Advisor as Advisor>⟧
+        (λ b. b.vtable) (λ b. state b) problem.now limits.now.top limits.now.nodes (record {
+          set = members.now;
+          pool = pool.new;
+          found = found;
+        }) advisors.old.items
+        advisors.new.items) }
+    ensures advisors { AreCalled ⟦<dyn Advisor as Advisor>⟧ (λ b. b.vtable) (λ b. state b)
+        advisors.old.items advisors.new.items }
+{
+    keeps_conditions(problem);
+    let part = problem.only(pool.alloc(), members)?;
+    let ceiling = greatest_of(part.high.as_slice());
+    decide(&part, ceiling, limits, pool, advisors)
+}
+
 /// Decides a set of requests at the greatest upper bound, with a pool of its own.
 pub(crate) fn decide_set(
     alloc: Global,
@@ -48,11 +81,8 @@ pub(crate) fn decide_set(
     ensures advisors { AreCalled ⟦<dyn Advisor as Advisor>⟧ (λ b. b.vtable) (λ b. state b)
         advisors.old.items advisors.new.items }
 {
-    keeps_conditions(problem);
-    let part = problem.only(alloc, members.as_slice())?;
-    let ceiling = greatest_of(part.high.as_slice());
     let mut pool = Pool::new(alloc);
-    match decide(&part, ceiling, limits, &mut pool, advisors)? {
+    match search_set(problem, members.as_slice(), limits, &mut pool, advisors)? {
         Found::Costs(costs) => Ok(Decided::Costs(costs)),
         Found::Refuted(tree) => Ok(Decided::Refuted(SetTree {
             members,

@@ -86,6 +86,7 @@ fn finish(
 {
     let members = Vec::from_slice(alloc, shrunk.members.as_slice())?;
     match decide_set(alloc, problem, members, limits, advisors)? {
+        // The members are a conflict: rows of them show that no costs are fit.
         Decided::Costs(_) => unreachable!(),
         Decided::Refuted(conflict) => core(alloc, problem, conflict, shrunk.without),
         Decided::Undecided(set) => undecided(alloc, problem, set),
@@ -123,7 +124,7 @@ fn shrink(
     while shrunk.without.len() < shrunk.members.as_slice().len() {
         match leave_out(alloc, problem, limits, shrunk, advisors)? {
             Tried::On(next) => shrunk = next,
-            Tried::Stuck(set) => return undecided(alloc, problem, set),
+            Tried::Undecided(set) => return undecided(alloc, problem, set),
         }
     }
     finish(alloc, problem, limits, shrunk, advisors)
@@ -148,9 +149,9 @@ pub fn find_conflict(
 ) -> Result<Conflict, OutOfMemory>
     ensures found { IfOk result (IsConflictFound problem.now limits.now.top limits.now.nodes) }
 
-    // The advisors are asked and told by one search after another, each of a set of requests: by that of all requests, and
-    // where these are a conflict, by one for each member that is left out in turn, and at last by that of the core. What is
-    // found is what these searches found.
+    // The advisors are asked and told by one search after another, each of a set of requests: by
+    // that of all requests, and where these are a conflict, by one for each member that is left
+    // out in turn, and at last by that of the core. What is found is what these searches found.
     ensures asked { IfOk result (AreAskedFinding ⟦<dyn Advisor as Advisor>⟧ (λ b. b.vtable)
         (λ b. state b) problem.now limits.now.top limits.now.nodes advisors.old.items
         advisors.new.items) }

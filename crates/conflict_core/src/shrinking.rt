@@ -31,7 +31,7 @@ pub(crate) enum Tried {
     /// It stays out, or there are costs without it.
     On(Shrunk),
     /// The budget was used up.
-    Stuck(SetTree),
+    Undecided(SetTree),
 }
 
 impl Shrunk {
@@ -154,6 +154,6 @@ pub(crate) fn leave_out(
             let told = tell(alloc, problem, conflict)?;
             Ok(Tried::On(shrunk.with_told(told)))
         }
-        Decided::Undecided(set) => Ok(Tried::Stuck(set)),
+        Decided::Undecided(set) => Ok(Tried::Undecided(set)),
     }
 }

@@ -2,7 +2,7 @@
 use Rattle.std.specs.Prelude.{ℕ, ◌+◌, ◌-◌, ◌==◌, ◌&&◌, nat_le, List, [], ◌∷◌, map, if◌then◌else◌, Bool}
 use Rattle.std.specs.Int.Digits.{number_from_digits, digits_of}
 
--- `0` to `9`
+-- the byte is a digit, `0` to `9`
 abbrev pub is_digit : ℕ → Bool
 is_digit c = nat_le 48 c && nat_le c 57
 

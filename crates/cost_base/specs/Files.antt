@@ -7,7 +7,7 @@ abbrev pub first_file : List (List ℕ × List ℕ) → List ℕ → Option (Lis
 first_file [] name = None
 first_file (file ∷ files) name = if bytes_eq file.0 name then Some file.1 else first_file files name
 
--- some bytes, or the empty list
+-- the bytes, where there are some, else the empty list
 abbrev pub or_empty : Option (List ℕ) → List ℕ
 or_empty None = []
 or_empty (Some bytes) = bytes

@@ -36,7 +36,7 @@ given_more held_a held_b held_c noted_a noted_b noted_c xs ys first second = rec
       ∙ ap (λ (names : List (List ℕ)). noted_a ++ names) (sym (failures-append xs ys));
 }
 
--- what stays the same in one part and in the next
+-- what stays the same in one part and in the next stays the same in both together
 pub same_after : {A : Type 0} (a b c : A) → b ≡ a → c ≡ b → c ≡ a
 same_after a b c first second = second ∙ first
 
@@ -56,13 +56,13 @@ pub given_surely : (held_a held_b : List ℕ → Option (List ℕ)) (came : List
     CountsFailures (λ name. 0) (λ name. 0) came
 given_surely held_a held_b came given = given_counts held_a held_b [] [] came given
 
--- a sink was handed nothing between a state and itself
-pub handed_none : (got : Option (List ℕ)) → GotAll got got []
+-- a sink or a record got nothing between a state and itself
+pub handed_none : {A : Type 0} (got : Option (List A)) → GotAll got got []
 handed_none None = tt
 handed_none (Some bytes) = sym (append-nil bytes)
 
--- a sink that was handed one text and then another was handed both
-pub handed_more : (a b c : Option (List ℕ)) (p q : List ℕ) → GotAll a b p → GotAll b c q → GotAll a c (p ++ q)
+-- a sink or a record that got one list and then another got both
+pub handed_more : {A : Type 0} (a b c : Option (List A)) (p q : List A) → GotAll a b p → GotAll b c q → GotAll a c (p ++ q)
 handed_more a b None p q first second = tt
 handed_more a None (Some z) p q first second = absurd second
 handed_more None (Some y) (Some z) p q first second = absurd first

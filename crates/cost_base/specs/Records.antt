@@ -1,11 +1,6 @@
 -- The records that a shelf and a sink keep of what went through them.
 use Rattle.std.specs.Prelude.{◌≡◌, ℕ, Bool, true, false, List, [], ◌∷◌, ◌++◌, take, Option, None, Some}
-
--- a record grew by exactly this much, as long as it tells all
-abbrev pub GrewBy : {A : Type 0} → Option (List A) → Option (List A) → List A → Type 0
-GrewBy before None more = Unit {0}
-GrewBy None (Some now) more = ⊥
-GrewBy (Some before) (Some now) more = now ≡ before ++ more
+use Rattle.cost_base.specs.Outside.{GotAll}
 
 -- what a record tells, as long as nothing was left out of it
 abbrev pub unless_lacking : {A : Type 0} → Bool → List A → Option (List A)
@@ -32,12 +27,12 @@ AreTakenOf (put ∷ puts) bytes = (first : List ℕ) × ((rest : List ℕ) ×
 pub record IsNoted {A : Type 0} (gave : List A → Type 0) (before now : Option (List A))
     (came : List A) : Type 0 where
   pub given : gave came
-  pub noted : GrewBy before now came
+  pub noted : GotAll before now came
 
 -- what a sink was handed, and a record of pieces that grew by those of which it took exactly these bytes
 pub record IsNotedInPieces (handed : List ℕ → Type 0) (before now : Option (List PutPiece))
     (bytes : List ℕ) : Type 0 where
   pub given : handed bytes
   pub puts : List PutPiece
-  pub noted : GrewBy before now puts
+  pub noted : GotAll before now puts
   pub taken : AreTakenOf puts bytes

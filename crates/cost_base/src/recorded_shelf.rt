@@ -2,7 +2,8 @@
 
 ghost use Rattle.std.specs.Prelude.{◌≡◌, [], ◌∷◌, IfOk, false};
 ghost use Rattle.cost_base.specs.Histories.{Taken, came_of};
-ghost use Rattle.cost_base.specs.Records.{GrewBy, IsNoted, unless_lacking};
+ghost use Rattle.cost_base.specs.Outside.{GotAll};
+ghost use Rattle.cost_base.specs.Records.{IsNoted, unless_lacking};
 ghost use Rattle.cost_base.specs.RecordLaws.{noted_none, noted_more};
 
 use crate::{Name, OutOfMemory, Shelf, ShelfStop};
@@ -82,7 +83,7 @@ impl<S: Shelf> RecordedShelf<S> {
     #[tactic(auto, using(crate::proofs::RecordSteps::grew_one))]
     fn note(&mut self, name: &str, most: usize, answer: &Result<(), ShelfStop>, read: &[u8])
         ensures shelf { self.new.shelf ≡ self.old.shelf }
-        ensures noted { GrewBy
+        ensures noted { GotAll
             (unless_lacking self.old.lacking self.old.files.items)
             (unless_lacking self.new.lacking self.new.files.items)
             (record { name = name.now; most = most; came = came_of answer.now read.now } ∷ []) }

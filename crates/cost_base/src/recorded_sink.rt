@@ -1,7 +1,8 @@
 //! A sink that records what is put into another one.
 
 ghost use Rattle.std.specs.Prelude.{◌≡◌, [], ◌∷◌, IfOk, false};
-ghost use Rattle.cost_base.specs.Records.{PutPiece, GrewBy, IsNotedInPieces, unless_lacking};
+ghost use Rattle.cost_base.specs.Outside.{GotAll};
+ghost use Rattle.cost_base.specs.Records.{PutPiece, IsNotedInPieces, unless_lacking};
 ghost use Rattle.cost_base.specs.RecordLaws.{pieces_none, pieces_more};
 
 use crate::{Name, OutOfMemory, PutFailed, Sink};
@@ -66,7 +67,7 @@ impl<K: Sink> RecordedSink<K> {
     #[tactic(auto, using(crate::proofs::RecordSteps::grew_one))]
     fn note(&mut self, piece: &[u8], whole: bool)
         ensures sink { self.new.sink ≡ self.old.sink }
-        ensures noted { GrewBy
+        ensures noted { GotAll
             (unless_lacking self.old.lacking self.old.pieces.items)
             (unless_lacking self.new.lacking self.new.pieces.items)
             (record { piece = piece.now; whole = whole } ∷ []) }

@@ -15,14 +15,14 @@ use Rattle.design_problem.specs.Forms.{Form, AreMet}
 use Rattle.design_problem.specs.Forms.{no_form, value_at}
 use Rattle.design_problem.specs.Problems.{DesignProblem, IsProblem, request_ends, no_request, request_at}
 use Rattle.design_problem.specs.Rows.{IsRivalOf, IsRow, LeadsEach, form_of_row, forms_of_rows, path_edges}
-use Rattle.rival_separation.specs.Askers.{AreCheapestRivals, IsCheapestIfAny}
+use Rattle.rival_separation.specs.Askers.{AreCheapestRivals, IsCheapestIfAny, RequestLeads}
 use Rattle.rival_separation.specs.Rivals.{IsCheapestRival}
 use Rattle.form_search.specs.Sources.{Grows, IsSourceAnswer}
 use Rattle.form_search.specs.declared.source.Asked.{Asked}
 use Rattle.form_search.specs.declared.source.Asked.TheVariants.{Nothing, Added}
 use Rattle.form_search.proofs.SourceLaws.{grows_none}
 use Rattle.cost_branching.specs.Pools.{ArePoolRows, Differ, IsRowPool}
-use Rattle.cost_branching.specs.Rivals.{BeginWith, IsProblemOnGraph, IsRivalTooCheap, IsTrueRowForm, KnownRows, LeadsAt}
+use Rattle.cost_branching.specs.Rivals.{BeginWith, IsProblemOnGraph, IsRivalTooCheap, IsTrueRowForm, KnownRows}
 use Rattle.cost_branching.specs.Asking.{AnswersRequestsBelow, AreAllRequestsAsked, AreRequestsAsked, AreAskedAmong, IsRequestAsked, NoRivalRow, OneRivalRow}
 use Rattle.cost_branching.specs.SourceLaws.{rival_row_met}
 use Rattle.cost_branching.proofs.NewForms.{between_negative, grows_more, new_rival}
@@ -48,13 +48,13 @@ none_asked point old forms in_step met = record {
 
 -- one request more, whose path leads
 answers_more : (p : DesignProblem) (point : Point) (requests : ℕ) (old_forms forms : List Form) (asked : Asked) →
-    AnswersRequestsBelow p point requests old_forms forms asked → LeadsAt p point requests →
+    AnswersRequestsBelow p point requests old_forms forms asked → RequestLeads p.graph point (request_at p.paths requests) →
     AnswersRequestsBelow p point (requests + 1) old_forms forms asked
 answers_more p point requests old_forms forms Nothing answer leads = (
   answer.0,
   λ k k_in. elim (cases_lt k requests) [
     | inl before ↦ answer.1 k before
-    | inr last ↦ subst (λ (i : ℕ). LeadsAt p point i) (let e : requests ≡ k = omega arith in e) leads
+    | inr last ↦ subst (λ (i : ℕ). RequestLeads p.graph point (request_at p.paths i)) (let e : requests ≡ k = omega arith in e) leads
   ],
 )
 answers_more p point requests old_forms forms Added answer leads = answer
@@ -79,7 +79,7 @@ more_lead point requests old old_forms now forms new new_forms asked are one =
       grows = are.grows;
       apart = All-weaker (Apart old.problem point requests) (Apart old.problem point (requests + 1)) (apart_more old.problem point requests) now.rows are.apart;
       answer = answers_more old.problem point requests old_forms forms asked are.answer
-          (subst (λ (p : DesignProblem). LeadsAt p point requests) are.problem one.leads);
+          (subst (λ (p : DesignProblem). RequestLeads p.graph point (request_at p.paths requests)) are.problem one.leads);
     }))
 
 -- one request more, of which a row came
@@ -111,7 +111,7 @@ told_cheap p point k rivals rival es are known told is =
 
 pub told_leads : (p : DesignProblem) (point : Point) (k : ℕ) (rivals : List (Option (List ℕ))) (rival : Option (List ℕ)) →
     AreCheapestRivals p.graph point p.paths rivals → k < length p.paths → rival ≡ get_or rivals k None → rival ≡ None →
-    LeadsAt p point k
+    RequestLeads p.graph point (request_at p.paths k)
 told_leads p point k rivals rival are known told is =
     subst (IsCheapestIfAny p.graph point (request_at p.paths k)) (sym told ∙ is) (are.each k known)
 
@@ -127,11 +127,11 @@ begun_more first point request old forms new new_forms false begun one =
     record { more = begun.more; same = ap (λ (s : KnownRows). s.rows) one.rows ∙ begun.same }
 
 row_negative : (p : DesignProblem) (point : Point) (row : Row) → IsProblem p → length point.values ≡ length p.low →
-    IsRivalTooCheap p point row.request row.rival.edges → value_at (form_of_row p row) point <ℤ pos 0
+    IsRivalTooCheap p point row.request row.rival → value_at (form_of_row p row) point <ℤ pos 0
 row_negative p point row kept count cheap =
-    between_negative p point (path_edges (slice_get p.paths row.request)) row.rival.edges kept count cheap.cheap
+    between_negative p point (path_edges (slice_get p.paths row.request)) row.rival kept count cheap.cheap
 
-same_row_form : (p : DesignProblem) (a b : Row) → a.request ≡ b.request → a.rival.edges ≡ b.rival.edges → form_of_row p a ≡ form_of_row p b
+same_row_form : (p : DesignProblem) (a b : Row) → a.request ≡ b.request → a.rival ≡ b.rival → form_of_row p a ≡ form_of_row p b
 same_row_form p a b same_request same_edges = cc
 
 -- a row that came differs from each that is apart
@@ -144,7 +144,7 @@ differs p point requests a row here negative (inr met) same_request same_edges =
 -- a pool with one row more
 pool_more : (p : DesignProblem) (point : Point) (requests : ℕ) (rows : List Row) (forms : List Form) (row : Row) →
     IsRowPool p (record { rows = rows; forms = forms }) → All (Apart p point requests) rows → row.request ≡ requests →
-    IsRivalTooCheap p point row.request row.rival.edges → value_at (form_of_row p row) point <ℤ pos 0 →
+    IsRivalTooCheap p point row.request row.rival → value_at (form_of_row p row) point <ℤ pos 0 →
     IsRowPool p (record { rows = rows ++ row ∷ []; forms = forms ++ form_of_row p row ∷ [] })
 pool_more p point requests rows forms row pool apart here cheap negative = record {
   rows = All-push (IsRow p) rows row pool.rows cheap.rival;
@@ -155,7 +155,7 @@ pool_more p point requests rows forms row pool apart here cheap negative = recor
 row_added : (point : Point) (requests : ℕ) (old : KnownRows) (old_forms : List Form) (now : KnownRows)
     (forms : List Form) (asked : Asked) (row : Row) → AreRequestsAsked point requests old old_forms now forms asked →
     AreMet old_forms point → length point.values ≡ length old.problem.low → IsProblemOnGraph old.problem →
-    row.request ≡ requests → IsRivalTooCheap old.problem point row.request row.rival.edges →
+    row.request ≡ requests → IsRivalTooCheap old.problem point row.request row.rival →
     AreRequestsAsked point (requests + 1) old old_forms (record now { rows = now.rows ++ row ∷ [] })
     (forms ++ form_of_row old.problem row ∷ []) Added
 row_added point requests old old_forms now forms asked row are met count kept here cheap =
@@ -185,11 +185,11 @@ one_added point requests old old_forms now forms new new_forms asked are met cou
     (subst (λ (fs : List Form). AreRequestsAsked point (requests + 1) old old_forms (record now { rows = now.rows ++ one.row ∷ [] }) fs Added)
     (sym (one.forms ∙ ap (λ (p : DesignProblem). forms ++ form_of_row p one.row ∷ []) are.problem))
     (row_added point requests old old_forms now forms asked one.row are met count (subst IsProblemOnGraph are.problem one.kept)
-    one.request_is (subst (λ (p : DesignProblem). IsRivalTooCheap p point one.row.request one.row.rival.edges)
+    one.request_is (subst (λ (p : DesignProblem). IsRivalTooCheap p point one.row.request one.row.rival)
     are.problem one.cheap)))
 
 -- where the paths of all requests lead, each path leads
-pub all_lead : (p : DesignProblem) (point : Point) (requests : ℕ) → length p.paths ≤ requests → ((k : ℕ) → k < requests → LeadsAt p point k) → LeadsEach p point
+pub all_lead : (p : DesignProblem) (point : Point) (requests : ℕ) → length p.paths ≤ requests → ((k : ℕ) → k < requests → RequestLeads p.graph point (request_at p.paths k)) → LeadsEach p point
 all_lead p point requests all lead =
     All-from_get_or (λ r. LeadsBy point.scale p.graph point (request_ends r) r.path.edges) p.paths no_request (λ k k_in. lead k (omega arith))
 
@@ -270,7 +270,7 @@ one_added_among point requests old old_forms now forms new new_forms asked are m
             kept = subst IsProblemOnGraph are.own.problem one.kept;
             of_row = record {
               row = one.row;
-              is_row = (subst (λ (q : DesignProblem). IsRivalTooCheap q point one.row.request one.row.rival.edges)
+              is_row = (subst (λ (q : DesignProblem). IsRivalTooCheap q point one.row.request one.row.rival)
                   are.own.problem one.cheap).rival;
               same = refl;
             };

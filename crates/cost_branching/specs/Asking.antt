@@ -4,17 +4,18 @@ use Rattle.area_graph.specs.declared.Point.{Point}
 use Rattle.design_problem.specs.Forms.{Form}
 use Rattle.design_problem.specs.Forms.{value_at}
 use Rattle.design_problem.specs.declared.form.Row.{Row}
-use Rattle.design_problem.specs.Problems.{DesignProblem}
+use Rattle.design_problem.specs.Problems.{DesignProblem, request_at}
 use Rattle.design_problem.specs.Rows.{LeadsEach, form_of_row, forms_of_rows}
+use Rattle.rival_separation.specs.Askers.{RequestLeads}
 use Rattle.form_search.specs.Sources.{Grows, HasNewRival, IsSourceAnswer}
 use Rattle.form_search.specs.declared.source.Asked.{Asked}
 use Rattle.form_search.specs.declared.source.Asked.TheVariants.{Nothing, Added}
 use Rattle.cost_branching.specs.Pools.{ArePoolRows, IsRowPool}
-use Rattle.cost_branching.specs.Rivals.{IsProblemOnGraph, IsRivalTooCheap, IsTrueRowForm, KnownRows, LeadsAt}
+use Rattle.cost_branching.specs.Rivals.{IsProblemOnGraph, IsRivalTooCheap, IsTrueRowForm, KnownRows}
 
--- the path of the request leads, and nothing came
+-- a request was asked whose path leads, and nothing came
 pub record NoRivalRow (point : Point) (request : ℕ) (old : KnownRows) (old_forms : List Form) (new : KnownRows) (new_forms : List Form) : Type 0 where
-  pub leads : LeadsAt old.problem point request
+  pub leads : RequestLeads old.problem.graph point (request_at old.problem.paths request)
   pub rows : new ≡ old
   pub forms : new_forms ≡ old_forms
 
@@ -23,18 +24,18 @@ pub record OneRivalRow (point : Point) (request : ℕ) (old : KnownRows) (old_fo
   pub kept : IsProblemOnGraph old.problem
   pub row : Row
   pub request_is : row.request ≡ request
-  pub cheap : IsRivalTooCheap old.problem point row.request row.rival.edges
+  pub cheap : IsRivalTooCheap old.problem point row.request row.rival
   pub rows : new ≡ record old { rows = old.rows ++ row ∷ [] }
   pub forms : new_forms ≡ old_forms ++ form_of_row old.problem row ∷ []
 
--- the answer on one request
+-- a request was asked: its path leads and nothing came, or a rival that is too cheap came as a row
 abbrev pub IsRequestAsked : Point → ℕ → KnownRows → List Form → KnownRows → List Form → Bool → Type 0
 IsRequestAsked point request old old_forms new new_forms true = OneRivalRow point request old old_forms new new_forms
 IsRequestAsked point request old old_forms new new_forms false = NoRivalRow point request old old_forms new new_forms
 
 -- nothing was added where the paths of the first requests lead, and something where one doesn't
 abbrev pub AnswersRequestsBelow : DesignProblem → Point → ℕ → List Form → List Form → Asked → Type 0
-AnswersRequestsBelow p point requests old_forms new_forms Nothing = (new_forms ≡ old_forms) × ((k : ℕ) → k < requests → LeadsAt p point k)
+AnswersRequestsBelow p point requests old_forms new_forms Nothing = (new_forms ≡ old_forms) × ((k : ℕ) → k < requests → RequestLeads p.graph point (request_at p.paths k))
 AnswersRequestsBelow p point requests old_forms new_forms Added = (LeadsEach p point → ⊥) × HasNewRival point old_forms new_forms
 
 -- The first requests were asked: rows and forms are in step, and true forms came. A row is of one of these requests, or its

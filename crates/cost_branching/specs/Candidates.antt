@@ -20,7 +20,7 @@ lists_within xs (suc most) = [] ∷ begun_by xs (lists_within xs most)
 abbrev pub edge_lists : DesignProblem → List (List ℕ)
 edge_lists p = lists_within (numbers_from 0 (length p.graph.edges)) (length p.graph.vertices)
 
--- the forms of these lists as rivals of the requests' paths
+-- the forms of lists of edges as rivals of the requests' paths
 abbrev pub forms_of_requests : DesignProblem → List Request → List Form
 forms_of_requests p [] = []
 forms_of_requests p (r ∷ rs) = map (form_between p.graph (length p.low) r.path.edges) (edge_lists p) ++ forms_of_requests p rs

@@ -15,7 +15,7 @@ use Rattle.cost_branching.specs.Pools.{Pooled}
 abbrev pub IsTreeAt : DesignProblem → ℕ → ℕ → Pooled → List Entry → Type 0
 IsTreeAt p top cap pool tree = IsSearchTree (LeadsEach p) top (forms_of_rows p pool.rows) (capped (box_of p) cap) tree
 
--- What is decided: fit costs of at most the cap; a closed tree of at most N entries; or, where the budget was used up, a
+-- What is decided at a cap: fit costs of at most the cap; a closed tree of at most N entries; or, where the budget was used up, a
 -- tree with an Undone and exactly N entries.
 abbrev pub IsDecided : DesignProblem → ℕ → ℕ → ℕ → Pooled → Found → Type 0
 IsDecided p top nodes cap pool (Costs w) = IsFit p w × IsInBox (capped (box_of p) cap) w

@@ -5,14 +5,14 @@ use Rattle.design_problem.specs.declared.form.Row.{Row}
 use Rattle.design_problem.specs.Problems.{DesignProblem}
 use Rattle.design_problem.specs.Rows.{IsRow, forms_of_rows}
 
--- the rows, and a form for each
+-- a pool: rows, and a form for each
 pub record Pooled : Type 0 where
   pub rows : List Row
   pub forms : List Form
 
 -- the rows differ in their request or in their edges
 abbrev pub Differ : Row → Row → Type 0
-Differ a b = a.request ≡ b.request → a.rival.edges ≡ b.rival.edges → ⊥
+Differ a b = a.request ≡ b.request → a.rival ≡ b.rival → ⊥
 
 -- rows of a problem, none twice
 abbrev pub ArePoolRows : DesignProblem → List Row → Type 0

@@ -2,10 +2,10 @@
 use Rattle.std.specs.Prelude.{◌≡◌, ℕ, ◌+◌, ◌<◌, List, [], ◌++◌, slice_get}
 use Rattle.area_graph.specs.declared.Point.{Point}
 use Rattle.area_graph.specs.Area.{FitsGraph, HasMetrics}
-use Rattle.area_graph.specs.Costs.{LeadsBy, cost}
+use Rattle.area_graph.specs.Costs.{cost}
 use Rattle.design_problem.specs.Forms.{Form}
 use Rattle.design_problem.specs.declared.form.Row.{Row}
-use Rattle.design_problem.specs.Problems.{DesignProblem, IsProblem, request_ends, request_at}
+use Rattle.design_problem.specs.Problems.{DesignProblem, IsProblem}
 use Rattle.design_problem.specs.Rows.{IsRivalOf, path_edges}
 use Rattle.design_problem.specs.Earnest.{IsFormOfRow}
 use Rattle.form_search.specs.Sources.{Grows}
@@ -31,10 +31,6 @@ pub record IsTrueRowForm (p : DesignProblem) (form : Form) : Type 0 where
   pub kept : IsProblemOnGraph p
   pub of_row : IsFormOfRow p form
 
--- the path of a request leads at a point by the scale
-abbrev pub LeadsAt : DesignProblem → Point → ℕ → Type 0
-LeadsAt p point k = LeadsBy point.scale p.graph point (request_ends (request_at p.paths k)) (request_at p.paths k).path.edges
-
 -- a rival of a request that costs less at a point than its path and the scale
 pub record IsRivalTooCheap (p : DesignProblem) (point : Point) (request : ℕ) (edges : List ℕ) : Type 0 where
   pub rival : IsRivalOf p.graph (slice_get p.paths request) edges
@@ -50,7 +46,7 @@ pub record GrowsByRows (p : DesignProblem) (old new : Pooled) : Type 0 where
   pub rows : MoreRows old new
   pub forms : Grows (IsTrueRowForm p) old.forms new.forms
 
--- the rows begin with those
+-- the rows of the second pool begin with those of the first
 pub record BeginWith (first rows : List Row) : Type 0 where
   pub more : List Row
   pub same : rows ≡ first ++ more

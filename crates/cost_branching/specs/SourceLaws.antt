@@ -59,10 +59,10 @@ path_at p row = (get_or p.paths row.request no_request).path.edges
 
 -- the paths of a row are the wanted one of its request and its rival
 pub paths_of_row : (p : DesignProblem) (row : Row) → IsProblem p →
-    IsRivalOf p.graph (slice_get p.paths row.request) row.rival.edges →
-    RowPaths p row no_request (path_at p row) row.rival.edges
+    IsRivalOf p.graph (slice_get p.paths row.request) row.rival →
+    RowPaths p row no_request (path_at p row) row.rival
 paths_of_row p row kept rival =
-    row_paths p row no_request (path_at p row) row.rival.edges kept (route_of_rival p.graph (slice_get p.paths row.request) row.rival.edges rival) refl refl
+    row_paths p row no_request (path_at p row) row.rival kept (route_of_rival p.graph (slice_get p.paths row.request) row.rival rival) refl refl
 
 -- a rival that costs at least the scale more has a value of at least 0
 pub at_least : (rival wanted scale : ℕ) → wanted + scale ≤ rival → pos 0 ≤ℤ ((pos rival -ℤ pos wanted) -ℤ pos scale)
@@ -70,12 +70,12 @@ at_least rival wanted scale dearer = omega (arith, ints)
 
 -- a row's form is at least 0 where each wanted path leads
 pub rival_row_met : (p : DesignProblem) (point : Point) (row : Row) → IsProblem p → length point.values ≡ length p.low →
-    IsRivalOf p.graph (slice_get p.paths row.request) row.rival.edges → LeadsEach p point →
+    IsRivalOf p.graph (slice_get p.paths row.request) row.rival → LeadsEach p point →
     pos 0 ≤ℤ value_at (form_of_row p row) point
 rival_row_met p point row kept count rival leads =
-    subst (λ (z : ℤ). pos 0 ≤ℤ z) (sym (value_between p point (path_edges (slice_get p.paths row.request)) row.rival.edges kept count))
-    (at_least (cost p.graph point row.rival.edges) (cost p.graph point (path_edges (slice_get p.paths row.request)))
-    point.scale (rival_dearer p.graph point p.paths row.request row.rival.edges leads rival))
+    subst (λ (z : ℤ). pos 0 ≤ℤ z) (sym (value_between p point (path_edges (slice_get p.paths row.request)) row.rival kept count))
+    (at_least (cost p.graph point row.rival) (cost p.graph point (path_edges (slice_get p.paths row.request)))
+    point.scale (rival_dearer p.graph point p.paths row.request row.rival leads rival))
 
 -- a number below one that is at most another is below it
 below : (a b c : ℕ) → a ≤ b → b < c → a < c
@@ -93,7 +93,7 @@ rival_forms_hold p form is =
     let row = is.of_row.row in
     let paths = paths_of_row p row is.kept.problem is.of_row.is_row in
     let small = subst (λ (f : Form). IsSmallForm (length p.low) f) (paths.form ∙ is.of_row.same)
-    (simple_form_small p.graph (length p.low) _ _ (path_at p row) row.rival.edges is.kept.graph is.kept.metrics
+    (simple_form_small p.graph (length p.low) _ _ (path_at p row) row.rival is.kept.graph is.kept.metrics
     is.kept.problem.priced paths.wanted_path paths.rival_path) in
     record {
       count = small.count;
@@ -160,8 +160,8 @@ pub rival_forms_listed : (p : DesignProblem) (form : Form) → IsTrueRowForm p f
 rival_forms_listed p form is =
     let row = is.of_row.row in
     let path = (paths_of_row p row is.kept.problem is.of_row.is_row).rival_path in
-    let has = path_listed p _ row.rival.edges is.kept.graph path in
-    subst (λ (f : Form). Contains (candidate_forms p) f) is.of_row.same (form-listed p p.paths row.request row.rival.edges is.of_row.is_row has)
+    let has = path_listed p _ row.rival is.kept.graph path in
+    subst (λ (f : Form). Contains (candidate_forms p) f) is.of_row.same (form-listed p p.paths row.request row.rival is.of_row.is_row has)
 
 -- A path that leads at multiples of costs leads at the costs.
 

@@ -102,8 +102,8 @@ pub fn decide_within(
 
 /// Decides whether a problem has fit costs of at most `cap`.
 ///
-/// Costs are fit and lie in the box at the cap. Refuted comes with a closed earnest tree over that box, Spent with one that
-/// has an Undone and exactly `limits.nodes` entries; the rows of the trees are numbered as in the pool. The pool keeps its
+/// Costs are fit and lie in the box at the cap. Refuted comes with a closed earnest tree over that box, Undecided with one
+/// that has an Undone and exactly `limits.nodes` entries; the rows of the trees are numbered as in the pool. The pool keeps its
 /// rows, and new ones come at its end.
 ///
 /// # Errors
@@ -126,7 +126,8 @@ pub fn decide(
     ensures pool { IsRowPool problem.now pool.new }
     ensures more { MoreRows pool.old pool.new }
 
-    // The advisors are asked before each Split and told each entry, along the tree that grows over the box at the cap.
+    // The advisors are asked before each Split and told each entry, along the tree that grows over
+    // the box at the cap.
     ensures asked { AreAdvised ⟦<dyn Advisor as Advisor>⟧ (λ b. b.vtable) (λ b. state b)
         (IsLeastPoint (LeadsEach problem.now)) (capped (box_of problem.now) cap) result
         advisors.old.items advisors.new.items }

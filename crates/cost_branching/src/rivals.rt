@@ -9,7 +9,7 @@ ghost use Rattle.cost_branching.specs.Rivals.{BeginWith, IsProblemOnGraph, IsTru
 ghost use Rattle.cost_branching.specs.Asking.{AreAllRequestsAsked, IsRequestAsked};
 ghost use Rattle.area_graph.specs.declared.Point.{Point};
 
-use area_graph::{Path, Point};
+use area_graph::Point;
 use cost_base::{Listed, OutOfMemory};
 use design_problem::{Problem, Row, form_of};
 use form_search::{Asked, FormPool, RowSource};
@@ -66,7 +66,8 @@ impl<'a, B: Begun> Model for Rivals<'a, B> {
     } };
 }
 
-/// A law of each problem, which takes no time: it keeps the conditions of its type, and its graph those of a graph.
+/// For the prover alone: keeps that a problem meets the conditions of its type, and its graph those of a graph; takes no
+/// time and changes nothing.
 pub fn keeps_conditions(problem: &Problem)
     ensures { IsProblemOnGraph problem.now }
 {
@@ -87,20 +88,17 @@ pub fn variable_count(problem: &Problem) -> u32
     problem.low.as_slice().len() as u32
 }
 
-/// The row of a request and a rival's edges. Its own start plays no part.
+/// The row of a request and a rival's edges.
 ///
 /// # Errors
 ///
 /// `OutOfMemory`.
 pub fn row_of(alloc: Global, request: u32, edges: &[u32]) -> Result<Row, OutOfMemory>
     ensures request { IfOk result (λ row. row.request ≡ request) }
-    ensures edges { IfOk result (λ row. row.rival.edges ≡ edges.now) }
+    ensures edges { IfOk result (λ row. row.rival ≡ edges.now) }
 {
-    let edges = Listed::from_slice(alloc, edges)?;
-    Ok(Row {
-        request,
-        rival: Path { start: 0, edges },
-    })
+    let rival = Listed::from_slice(alloc, edges)?;
+    Ok(Row { request, rival })
 }
 
 /// The cheapest rival of each request, None where its path leads at the point by the scale.

@@ -2,7 +2,7 @@
 use crate::Candidate;
 use design_problem::Entry;
 
-/// Picks the variable at which a box is shared out.
+/// Picks the variable at which a box is cut.
 ///
 /// Its meanings are `state`, a list of numbers, and three functions of the state: `would`, the position that `pick`
 /// answers; `left`, the state that `pick` leaves; and `after`, the state that `told` leaves.

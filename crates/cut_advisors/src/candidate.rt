@@ -1,6 +1,6 @@
 //! What an advisor picks from.
 
-/// A variable at which the box may be shared out, with its range.
+/// A variable at which the box may be cut, with its range.
 #[derive(Clone, Copy, Debug, PartialEq, Eq)]
 pub struct Candidate {
     /// The number of the variable.

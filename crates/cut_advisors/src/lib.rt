@@ -1,4 +1,4 @@
-//! Advisors, who pick the variable at which a box is shared out.
+//! Advisors, who pick the variable at which a box is cut.
 //!
 //! An advisor is asked and told, and keeps a state. Whatever it answers, a search stays sound: an advisor that answers
 //! out of range is removed.

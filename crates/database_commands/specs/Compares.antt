@@ -15,7 +15,8 @@ use Rattle.live_area.specs.declared.Difference.{Difference}
 use Rattle.live_area.specs.declared.Difference.TheVariants.{Absent, Cost, Missing, Stranger, Unknown, Same}
 use Rattle.live_area.specs.Differences.{difference_lines}
 use Rattle.live_input.specs.LiveReadings.{live_read}
-use Rattle.database_commands.specs.Lsas.{identified_read, present_costs}
+use Rattle.present_costs.specs.PresentCosts.{present_of_links}
+use Rattle.database_commands.specs.Lsas.{identified_read}
 use Rattle.database_commands.specs.Quads.{router_id_text}
 
 -- what is compared: what well-formed input says, and the LSAs of its area that count by a live file
@@ -32,7 +33,7 @@ compare_read names live =
 
 -- where the running area differs from its configurations at present costs
 abbrev pub differences_of : Comparison → List Difference
-differences_of c = difference_lines (routers_of c.input.files) c.input.database (present_costs c.input) c.live
+differences_of c = difference_lines (routers_of c.input.files) c.input.database (present_of_links c.input.asked c.input.database) c.live
 
 -- the name of a router by its number
 abbrev pub router_named : Database → ℕ → List ℕ

@@ -11,3 +11,9 @@ use Rattle.lsa_bytes.specs.Ids.{first_id_fault}
 pub record IsIdentified (names : InputFiles) (network : Network) (d : Input) : Type 0 where
   pub network_is : IsNetworkOf AtPresent names network d
   pub identified : first_id_fault [] 0 (routers_of d.files) ≡ None
+
+-- a network that was read, each of whose configurations has a router ID of its own
+pub record HasRouterIds (network : Network) : Type 0 where
+  pub names : InputFiles
+  pub said : Input
+  pub is : IsIdentified names network said

@@ -1,8 +1,8 @@
 -- What `lsas` writes of the configurations of a network.
-use Rattle.std.specs.Prelude.{◌≡◌, ℕ, List, [], map, Option, None, Some}
+use Rattle.std.specs.Prelude.{◌≡◌, ℕ, List, [], Option, None, Some}
 use Rattle.cost_base.specs.declared.Status.{Status}
 use Rattle.cost_base.specs.declared.Status.TheVariants.{Done}
-use Rattle.path_requests.specs.Meaning.{present_cost}
+use Rattle.present_costs.specs.PresentCosts.{present_of_links}
 use Rattle.input_files.specs.declared.problem.View.TheVariants.{AtPresent}
 use Rattle.input_files.specs.Inputs.{InputFiles}
 use Rattle.input_files.specs.Readings.{Reading, Refused, Ready, ◌>>=◌}
@@ -23,13 +23,9 @@ if_identified names d (Some found) = Refused (record { number = lsa_fault_number
 abbrev pub identified_read : InputFiles → Reading Input
 identified_read names = outcome AtPresent names >>= λ d. if_identified names d (first_id_fault [] 0 (routers_of d.files))
 
--- the present cost of each link, or the default where it has none
-abbrev pub present_costs : Input → List ℕ
-present_costs d = map (present_cost d.asked) d.database.links
-
 -- the bytes are the LSAs of the configurations at present costs, and the graph of these is the one that an audit goes by
 pub record AreWritten (d : Input) (bytes : List ℕ) : Type 0 where
-  pub written : bytes ≡ bytes_of_all (written_lsas (routers_of d.files) d.database (present_costs d))
+  pub written : bytes ≡ bytes_of_all (written_lsas (routers_of d.files) d.database (present_of_links d.asked d.database))
   pub one_graph : SayGraph bytes d.problem.graph
 
 -- what `lsas` may write of what its files say

@@ -2,13 +2,17 @@
 ghost use Rattle.std.specs.Prelude.{◌≡◌, IfOk, map};
 ghost use Rattle.std.specs.List.{list_all};
 ghost use Rattle.path_requests.specs.Meaning.{present_cost};
+ghost use Rattle.input_files.specs.declared.problem.View.TheVariants.{AtPresent};
+ghost use Rattle.input_files.specs.Inputs.{InputFiles};
+ghost use Rattle.input_files.specs.Networks.{IsNetworkOf};
+ghost use Rattle.input_files.specs.Outcomes.{Input};
 ghost use Rattle.input_files.specs.Readings.{Gave};
 ghost use Rattle.input_files.specs.Stops.{IsReadAs, files_named};
 ghost use Rattle.report_writer.specs.Reports.{bytes_in};
 ghost use Rattle.live_area.specs.Differences.{difference_lines};
 ghost use Rattle.database_commands.specs.Compares.{MayCompare, compare_read};
 ghost use Rattle.database_commands.specs.Compares as definition;
-ghost use Rattle.database_commands.specs.Compared.{ReportsLines, status_of_lines};
+ghost use Rattle.database_commands.specs.Compared.{ReportsLines, live_then, status_of_lines};
 
 use crate::differences::text_of_lines;
 use crate::identified::read_identified;
@@ -76,6 +80,22 @@ fn comparison(alloc: Global, network: &Network, live: &Database) -> Result<Repor
     Ok(Report::made(status_of(&lines), text))
 }
 
+/// The report of a network beside a live file.
+fn compare_live<'a, S: Shelf>(
+    alloc: Global,
+    network: &Network,
+    live: &'a str,
+    shelf: &mut S,
+) -> Result<Report, Stop<'a>>
+    ensures { (names : InputFiles) → (d : Input) → IsNetworkOf AtPresent names network.now d →
+        Gave (S.gave shelf.old shelf.new) (λ came. IsReadAs (live_then live.now d) came
+        (λ report said. MayCompare said report.status (bytes_in report.text)) result) }
+{
+    let database = read_live_file(alloc, shelf, live, area_of(network))?;
+    let report = comparison(alloc, network, &database)?;
+    Ok(report)
+}
+
 /// The report of where the running area of a live file differs from the files of words: a line for each difference, and the
 /// count of the linked interfaces that have a link with their present cost.
 ///
@@ -94,7 +114,5 @@ pub fn compare_report<'a, S: Shelf>(
         (λ report said. MayCompare said report.status (bytes_in report.text)) result) }
 {
     let network = read_identified(alloc, words, shelf)?;
-    let database = read_live_file(alloc, shelf, live, area_of(&network))?;
-    let report = comparison(alloc, &network, &database)?;
-    Ok(report)
+    compare_live(alloc, &network, live, shelf)
 }

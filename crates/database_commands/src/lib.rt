@@ -1,4 +1,5 @@
-//! The commands on link state advertisements (LSAs): those of configurations, and a route in a file of them.
+//! The commands on link state advertisements (LSAs): those of configurations (`lsas`), where those of the running area
+//! differ from its configurations (`compare`), and a route in a file of them (`route`).
 #![tactic(auto)]
 
 mod compare;

@@ -1,17 +1,44 @@
 //! `lsas`: the LSAs of configurations at present costs.
-ghost use Rattle.std.specs.Prelude.{◌≡◌};
+ghost use Rattle.std.specs.Prelude.{◌≡◌, IfErr, IfOk};
+ghost use Rattle.input_files.specs.declared.problem.View.TheVariants.{AtPresent};
+ghost use Rattle.input_files.specs.Inputs.{InputFiles};
+ghost use Rattle.input_files.specs.Networks.{IsNetworkOf};
+ghost use Rattle.input_files.specs.Outcomes.{Input};
 ghost use Rattle.input_files.specs.Readings.{Gave};
 ghost use Rattle.input_files.specs.Stops.{IsReadAs, files_named};
-ghost use Rattle.database_commands.specs.Lsas.{MayLsas, identified_read};
+ghost use Rattle.database_commands.specs.Identified.{HasRouterIds};
+ghost use Rattle.database_commands.specs.Lsas.{AreWritten, MayLsas, identified_read};
 ghost use Rattle.report_writer.specs.Reports.{bytes_in};
 
 use crate::identified::read_identified;
-use cost_base::{Shelf, Status};
-use input_files::{FileWords, Stop};
+use cost_base::{OutOfMemory, Shelf, Status};
+use input_files::{FileWords, Network, Stop};
 use lsa_writer::lsas_of;
 use present_costs::costs_of_links;
 use report_writer::Report;
 use std::alloc::Global;
+
+/// The LSAs of a network at present costs.
+fn lsas_bytes(alloc: Global, network: &Network) -> Result<Vec<u8>, OutOfMemory>
+    requires { HasRouterIds network.now }
+    ensures { IfOk result (λ bytes. (names : InputFiles) → (d : Input) →
+        IsNetworkOf AtPresent names network.now d → AreWritten d bytes.items) }
+{
+    let costs = costs_of_links(alloc, &network.requests, &network.lsdb)?;
+    lsas_of(alloc, &network.configs, &network.lsdb, &costs)
+}
+
+/// The report of the LSAs of a network at present costs.
+fn report_of<'a>(alloc: Global, network: &Network) -> Result<Report, Stop<'a>>
+    requires { HasRouterIds network.now }
+    ensures made { IfOk result (λ report. (names : InputFiles) → (d : Input) →
+        IsNetworkOf AtPresent names network.now d →
+        MayLsas d report.status (bytes_in report.text)) }
+    ensures wanting { IfErr result (λ stop. stop ≡ Stop.OutOfMemory) }
+{
+    let bytes = lsas_bytes(alloc, network)?;
+    Ok(Report::lsas(Status::Done, bytes))
+}
 
 /// The report of the LSAs of the files of words.
 ///
@@ -29,7 +56,5 @@ pub fn lsas_report<'a, S: Shelf>(
         MayLsas d report.status (bytes_in report.text)) result) }
 {
     let network = read_identified(alloc, words, shelf)?;
-    let costs = costs_of_links(alloc, &network.requests, &network.lsdb)?;
-    let bytes = lsas_of(alloc, &network.configs, &network.lsdb, &costs)?;
-    Ok(Report::lsas(Status::Done, bytes))
+    report_of(alloc, &network)
 }

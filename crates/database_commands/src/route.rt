@@ -5,9 +5,10 @@ ghost use Rattle.area_graph.specs.Costs.{FitsPoint, at_costs};
 ghost use Rattle.spf_ties.specs.Distances.{IsRoomFor};
 ghost use Rattle.input_files.specs.Readings.{Gave};
 ghost use Rattle.input_files.specs.Stops.{IsReadAs};
+ghost use Rattle.lsa_bytes.specs.AreaGraphs.{lsa_graph};
 ghost use Rattle.lsa_bytes.specs.Databases.{is_router_of};
 ghost use Rattle.database_commands.specs.Found.{EndsBy, IsFoundEnd, end_by};
-ghost use Rattle.database_commands.specs.Routes.{IsRoute, MayRoute, route_read};
+ghost use Rattle.database_commands.specs.Routes.{IsRoute, MayRoute, route_read, vertex_ids, vertex_of_router};
 ghost use Rattle.report_writer.specs.Reports.{bytes_in};
 
 use crate::database::check_router;
@@ -96,17 +97,32 @@ fn own_end(alloc: Global) -> Result<Vec<u8>, OutOfMemory>
     Ok(words)
 }
 
+/// What is found of a route between two routers of a database by their vertices.
+fn routed_end(
+    alloc: Global,
+    database: &Database,
+    from: u32,
+    to: u32,
+) -> Result<Vec<u8>, OutOfMemory>
+    requires from { list_any (is_router_of from) database.now ≡ true }
+    requires to { list_any (is_router_of to) database.now ≡ true }
+    ensures { IfOk result (λ words. EndsBy (lsa_graph database.now) (vertex_ids database.now)
+        (vertex_of_router database.now from) (vertex_of_router database.now to) words.items) }
+{
+    let lsas = database.as_slice();
+    let graph = graph_of_lsas(alloc, database)?;
+    let ids = vertex_ids(alloc, lsas)?;
+    let (start, end) = (vertex_of(lsas, from), vertex_of(lsas, to));
+    route_end(alloc, &graph, &ids, start, end)
+}
+
 /// What is found of a route between two routers of a database.
 fn found_end(alloc: Global, database: &Database, from: u32, to: u32) -> Result<Vec<u8>, OutOfMemory>
     requires from { list_any (is_router_of from) database.now ≡ true }
     requires to { list_any (is_router_of to) database.now ≡ true }
     ensures { IfOk result (λ words. IsFoundEnd database.now from to words.items) }
 {
-    let lsas = database.as_slice();
-    let graph = graph_of_lsas(alloc, database)?;
-    let ids = vertex_ids(alloc, lsas)?;
-    let (start, end) = (vertex_of(lsas, from), vertex_of(lsas, to));
-    let words = route_end(alloc, &graph, &ids, start, end)?;
+    let words = routed_end(alloc, database, from, to)?;
     if is_same(from, to) {
         let own = own_end(alloc)?;
         return Ok(own);

@@ -27,6 +27,21 @@ impl Scene {
         }
     }
 
+    /// Another network is said.
+    fn begin(&mut self, alloc: Global, routers: u32, subnets: u32) -> Result<(), OutOfMemory> {
+        self.draft = Draft::of_network(alloc, routers, subnets)?;
+        Ok(())
+    }
+
+    /// Puts the problem that is said in place of the one at hand.
+    fn make(&mut self, alloc: Global) -> Result<String, OutOfMemory> {
+        let draft = mem::replace(&mut self.draft, Draft::new(alloc));
+        match draft.into_problem(alloc) {
+            Ok(problem) => self.take(alloc, problem),
+            Err(OutOfMemory) => Err(OutOfMemory),
+        }
+    }
+
     /// Puts a problem in place of the one at hand.
     fn take(&mut self, alloc: Global, problem: Option<Problem>) -> Result<String, OutOfMemory> {
         let word = if problem.is_some() {
@@ -57,50 +72,62 @@ fn only(alloc: Global, problem: &Problem, members: &[u32]) -> Result<Option<Prob
 }
 
 /// What is answered to a line that asks something of the problem at hand.
-fn called(alloc: Global, problem: &Problem, asked: Command) -> Result<String, OutOfMemory> {
+fn called(alloc: Global, problem: &Problem, asked: &Command) -> Result<String, OutOfMemory> {
     match asked {
-        Command::Decide(cap, budget) => decide_text(alloc, problem, cap, budget),
-        Command::Told(cap, budget, count) => told_text(alloc, problem, cap, budget, count),
-        Command::Least(budget) => least_text(alloc, problem, budget),
+        Command::Decide(cap, budget) => decide_text(alloc, problem, *cap, *budget),
+        Command::Told(cap, budget, count) => told_text(alloc, problem, *cap, *budget, *count),
+        Command::Least(budget) => least_text(alloc, problem, *budget),
         Command::Show => problem_text(alloc, problem),
-        Command::Ranges(cap) => ranges(alloc, problem, cap),
+        Command::Ranges(cap) => ranges(alloc, problem, *cap),
         _ => Ok(String::from_str(alloc, "")?),
     }
 }
 
+/// The restricted problem of these requests in place of the one at hand, where they are some in order.
+fn restricted(
+    alloc: Global,
+    scene: &mut Scene,
+    part: Option<Problem>,
+) -> Result<String, OutOfMemory> {
+    match part {
+        None => Ok(String::from_str(alloc, ": unfit")?),
+        part => scene.take(alloc, part),
+    }
+}
+
 /// What is answered to a line that speaks of the problem at hand.
-fn of_problem(alloc: Global, scene: &mut Scene, asked: Command) -> Result<String, OutOfMemory> {
+fn of_problem(alloc: Global, scene: &mut Scene, asked: &Command) -> Result<String, OutOfMemory> {
     let Some(problem) = &scene.problem else {
         return Ok(String::from_str(alloc, ": no problem")?);
     };
-    match asked {
-        Command::Only(members) => match only(alloc, problem, members.as_slice())? {
-            None => Ok(String::from_str(alloc, ": unfit")?),
-            part => scene.take(alloc, part),
-        },
-        _ => called(alloc, problem, asked),
+    let Command::Only(members) = asked else {
+        return called(alloc, problem, asked);
+    };
+    match only(alloc, problem, members.as_slice()) {
+        Ok(part) => restricted(alloc, scene, part),
+        Err(OutOfMemory) => Err(OutOfMemory),
     }
+}
+
+/// What is answered where something more was said.
+fn said(alloc: Global, done: Result<(), OutOfMemory>) -> Result<String, OutOfMemory> {
+    done?;
+    Ok(String::from_str(alloc, "")?)
 }
 
 /// What is answered to what is asked.
 fn answered(alloc: Global, scene: &mut Scene, asked: Command) -> Result<String, OutOfMemory> {
     match asked {
-        Command::Network(routers, subnets) => {
-            scene.draft = Draft::of_network(alloc, routers, subnets)?;
-        }
-        Command::Variable(router, interface, low, high) => {
-            scene.draft.add_variable(router, interface, low, high)?;
-        }
-        Command::Link(edge) => scene.draft.add_edge(edge)?,
-        Command::Wish(request) => scene.draft.add_path(request)?,
-        Command::Problem => {
-            let draft = mem::replace(&mut scene.draft, Draft::new(alloc));
-            let problem = draft.into_problem(alloc)?;
-            return scene.take(alloc, problem);
-        }
-        _ => return of_problem(alloc, scene, asked),
+        Command::Network(routers, subnets) => said(alloc, scene.begin(alloc, routers, subnets)),
+        Command::Variable(router, interface, low, high) => said(
+            alloc,
+            scene.draft.add_variable(router, interface, low, high),
+        ),
+        Command::Link(edge) => said(alloc, scene.draft.add_edge(edge)),
+        Command::Wish(request) => said(alloc, scene.draft.add_path(request)),
+        Command::Problem => scene.make(alloc),
+        asked => of_problem(alloc, scene, &asked),
     }
-    Ok(String::from_str(alloc, "")?)
 }
 
 /// What is answered to a line.

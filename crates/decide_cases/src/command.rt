@@ -16,7 +16,7 @@ pub enum Command {
     Variable(Name, Name, u16, u16),
     /// `edge FROM TO fixed COST`, `edge FROM TO variable NUMBER` or `edge FROM TO zero`: one more edge.
     Link(Edge),
-    /// `path START END EDGE .. without EDGE ..`: one more wanted path, with the edges that its request takes away.
+    /// `path START END EDGE .. without EDGE ..`: one more wanted path, with the edges that its request excludes.
     Wish(Request),
     /// `problem`: what the lines since the last network say is the problem at hand, where it is one.
     Problem,
@@ -94,17 +94,12 @@ fn variable(alloc: Global, words: &mut SplitWhitespace<'_>) -> Result<Command, S
 
 /// A price.
 fn price(words: &mut SplitWhitespace<'_>) -> Result<Price, Stop> {
-    let kind = words.next().unwrap_or("");
-    if kind == "fixed" {
-        return Ok(Price::Fixed(cost(words)?));
+    match words.next().unwrap_or("") {
+        "fixed" => Ok(Price::Fixed(cost(words)?)),
+        "variable" => Ok(Price::Var(number(words)?)),
+        "zero" => Ok(Price::Zero),
+        _ => Err(Stop::Unread),
     }
-    if kind == "variable" {
-        return Ok(Price::Var(number(words)?));
-    }
-    if kind == "zero" {
-        return Ok(Price::Zero);
-    }
-    Err(Stop::Unread)
 }
 
 /// An edge.
@@ -138,56 +133,42 @@ fn read_budget(words: &mut SplitWhitespace<'_>) -> Result<Budget, Stop> {
     Ok(Budget { nodes, bits })
 }
 
-/// What a line that speaks of a network asks for, by its first word and those behind it.
-fn network_line(
-    alloc: Global,
-    first: &str,
-    words: &mut SplitWhitespace<'_>,
-) -> Result<Command, Stop> {
-    if first == "network" {
-        let routers = number(words)?;
-        let subnets = number(words)?;
-        return Ok(Command::Network(routers, subnets));
-    }
-    if first == "variable" {
-        return variable(alloc, words);
-    }
-    if first == "edge" {
-        return edge(words);
-    }
-    if first == "path" {
-        return directive(alloc, words);
-    }
-    Err(Stop::Unread)
+/// Another network.
+fn network(words: &mut SplitWhitespace<'_>) -> Result<Command, Stop> {
+    let routers = number(words)?;
+    let subnets = number(words)?;
+    Ok(Command::Network(routers, subnets))
 }
 
-/// What a line that calls for an answer asks for, by its first word and those behind it.
-fn call_line(alloc: Global, first: &str, words: &mut SplitWhitespace<'_>) -> Result<Command, Stop> {
-    if first == "problem" {
-        return Ok(Command::Problem);
+/// A cap to be decided.
+fn decided(words: &mut SplitWhitespace<'_>) -> Result<Command, Stop> {
+    let cap = cost(words)?;
+    Ok(Command::Decide(cap, read_budget(words)?))
+}
+
+/// A cap to be decided with an advisor that counts.
+fn told(words: &mut SplitWhitespace<'_>) -> Result<Command, Stop> {
+    let cap = cost(words)?;
+    let budget = read_budget(words)?;
+    Ok(Command::Told(cap, budget, number(words)?))
+}
+
+/// What a line asks for, by its first word and those behind it.
+fn line_of(alloc: Global, first: &str, words: &mut SplitWhitespace<'_>) -> Result<Command, Stop> {
+    match first {
+        "problem" => Ok(Command::Problem),
+        "show" => Ok(Command::Show),
+        "decide" => decided(words),
+        "told" => told(words),
+        "least" => Ok(Command::Least(read_budget(words)?)),
+        "only" => Ok(Command::Only(numbers(alloc, words, "")?)),
+        "box" => Ok(Command::Ranges(cost(words)?)),
+        "network" => network(words),
+        "variable" => variable(alloc, words),
+        "edge" => edge(words),
+        "path" => directive(alloc, words),
+        _ => Err(Stop::Unread),
     }
-    if first == "show" {
-        return Ok(Command::Show);
-    }
-    if first == "decide" {
-        let cap = cost(words)?;
-        return Ok(Command::Decide(cap, read_budget(words)?));
-    }
-    if first == "told" {
-        let cap = cost(words)?;
-        let budget = read_budget(words)?;
-        return Ok(Command::Told(cap, budget, number(words)?));
-    }
-    if first == "least" {
-        return Ok(Command::Least(read_budget(words)?));
-    }
-    if first == "only" {
-        return Ok(Command::Only(numbers(alloc, words, "")?));
-    }
-    if first == "box" {
-        return Ok(Command::Ranges(cost(words)?));
-    }
-    network_line(alloc, first, words)
 }
 
 /// What the line asks for.
@@ -199,5 +180,5 @@ pub(crate) fn read_command(alloc: Global, line: &str) -> Result<Command, Stop> {
     if first.starts_with("#") {
         return Ok(Command::Comment);
     }
-    call_line(alloc, first, &mut words)
+    line_of(alloc, first, &mut words)
 }

@@ -5,7 +5,7 @@ ghost use Rattle.cost_base.specs.Words.{IsWord, ends_a_word};
 ghost use Rattle.area_graph.specs.Area.{Area};
 ghost use Rattle.area_graph.specs.Costs.{IsPriced};
 ghost use Rattle.area_graph.specs.Paths.{IsPathOf};
-ghost use Rattle.design_problem.specs.Problems.{IsProblem, TakesAway, request_ends};
+ghost use Rattle.design_problem.specs.Problems.{IsProblem, MayBeExcluded, request_ends};
 
 use area_graph::{Graph, Price, is_path_of};
 use cost_base::Listed;
@@ -108,10 +108,10 @@ fn is_priced(price: Price, count: usize) -> bool
     }
 }
 
-/// Whether a wanted path is a simple path of its request, which takes away edges of the graph.
+/// Whether a wanted path is a simple path of its request, which excludes edges of the graph.
 fn is_request(graph: &Graph, request: &Request) -> bool
     ensures { IsTrue result → IsPathOf graph.now (request_ends request.now) request.now.path.edges ×
-        TakesAway graph.now request.now.excluded }
+        MayBeExcluded graph.now request.now.excluded }
 {
     let excluded = request.excluded.as_slice();
     is_path_of(graph, &request.path, request.end, excluded)
@@ -132,7 +132,7 @@ fn are_priced(graph: &Graph, count: usize) -> bool
 fn are_requests(graph: &Graph, paths: &[Request]) -> bool
     ensures few { IsTrue result → length paths.now ≤ 10000 }
     ensures each { IsTrue result → All (λ r. IsPathOf graph.now (request_ends r) r.path.edges ×
-        TakesAway graph.now r.excluded) paths.now }
+        MayBeExcluded graph.now r.excluded) paths.now }
 {
     paths.len() <= 10_000 && paths.iter().all(|request| is_request(graph, request))
 }

@@ -1,5 +1,6 @@
 //! What deciding one cap, and looking for the least one, answer.
-ghost use Rattle.std.specs.Prelude.{◌≤◌, All};
+ghost use Rattle.std.specs.Prelude.{◌<◌, ◌≤◌, length, All};
+ghost use Rattle.cost_branching.specs.Pools.{IsRowPool};
 
 use crate::advisors::Counting;
 use crate::command::Budget;
@@ -8,10 +9,11 @@ use case_scripts::Line;
 use cost_base::{MemorySink, OutOfMemory};
 use cost_branching::{Found, Pool, decide};
 use cut_advisors::{Advisor, Candidate, choose};
-use design_problem::{Problem, Row, Tree};
+use design_problem::{Answer, Entry, Problem, Row};
 use evidence_text::put_answer;
 use least_bound::least;
 use std::alloc::{AllocError, Global};
+use std::fmt;
 use wide_fraction::{Limits, Top};
 
 /// How many bytes the text of an answer has at most.
@@ -23,46 +25,81 @@ fn limits_of(budget: Budget) -> Option<Limits> {
     Limits::new(u64::from(budget.nodes), top)
 }
 
-/// A row, as it is written.
-fn row_text(alloc: Global, row: &Row) -> Result<String, AllocError> {
-    let mut text = format!(in alloc; "\n  row {}", row.request)?;
-    for edge in row.rival.edges.as_slice() {
-        let word = format!(in alloc; " {edge}")?;
-        text.push_str(word.as_str())?;
+/// Rows, each on a line of its own.
+#[derive(Drop)]
+struct Rows<'a>(&'a [Row]);
+
+impl<'a> fmt::Display for Rows<'a> {
+    fn fmt<W: fmt::Write>(&self, f: &mut fmt::Formatter<W>) -> fmt::Result {
+        for row in self.0 {
+            write!(f, "\n  row {}", row.request)?;
+            write_words(row.rival.as_slice(), f)?;
+        }
+        Ok(())
     }
-    Ok(text)
 }
 
-/// The rows and the entries of a tree, each on a line of its own.
-fn tree_text(alloc: Global, word: &str, rows: &[Row], tree: &Tree) -> Result<String, AllocError> {
-    let mut text = format!(in alloc; ": {word}")?;
-    for row in rows {
-        let line = row_text(alloc, row)?;
-        text.push_str(line.as_str())?;
+/// Numbers, with a blank before each.
+fn write_words<W: fmt::Write>(numbers: &[u32], f: &mut fmt::Formatter<W>) -> fmt::Result {
+    for number in numbers {
+        write!(f, " {number}")?;
     }
-    for entry in tree.as_slice() {
-        let line = format!(in alloc; "\n  {}", Line(entry))?;
-        text.push_str(line.as_str())?;
-    }
-    Ok(text)
+    Ok(())
 }
 
-/// Costs.
-fn costs_text(alloc: Global, costs: &[u16]) -> Result<String, AllocError> {
-    let mut text = String::from_str(alloc, ": costs")?;
-    for cost in costs {
-        let written = format!(in alloc; " {cost}")?;
-        text.push_str(written.as_str())?;
+/// The entries of a tree, each on a line of its own.
+#[derive(Drop)]
+struct Entries<'a>(&'a [Entry]);
+
+impl<'a> fmt::Display for Entries<'a> {
+    fn fmt<W: fmt::Write>(&self, f: &mut fmt::Formatter<W>) -> fmt::Result {
+        for entry in self.0 {
+            write!(f, "\n  {}", Line(entry))?;
+        }
+        Ok(())
     }
-    Ok(text)
+}
+
+/// Costs, with a blank before each.
+#[derive(Drop)]
+struct Costs<'a>(&'a [u16]);
+
+impl<'a> fmt::Display for Costs<'a> {
+    fn fmt<W: fmt::Write>(&self, f: &mut fmt::Formatter<W>) -> fmt::Result {
+        for cost in self.0 {
+            write!(f, " {cost}")?;
+        }
+        Ok(())
+    }
 }
 
 /// What was found, over the pool's rows.
-fn found_text(alloc: Global, found: &Found, rows: &[Row]) -> Result<String, AllocError> {
-    match found {
-        Found::Costs(costs) => costs_text(alloc, costs.as_slice()),
-        Found::Refuted(tree) => tree_text(alloc, "refuted", rows, tree),
-        Found::Undecided(tree) => tree_text(alloc, "spent", rows, tree),
+fn found_text(alloc: Global, found: &Found, rows: &[Row]) -> Result<String, OutOfMemory> {
+    let (word, tree) = match found {
+        Found::Costs(costs) => {
+            return Ok(format!(in alloc; ": costs{}", Costs(costs.as_slice()))?);
+        }
+        Found::Refuted(tree) => ("refuted", tree),
+        Found::Undecided(tree) => ("spent", tree),
+    };
+    let entries = Entries(tree.as_slice());
+    Ok(format!(in alloc; ": {word}{}{entries}", Rows(rows))?)
+}
+
+/// What deciding a cap over this pool answers.
+fn decided_in(
+    problem: &Problem,
+    cap: u16,
+    limits: &Limits,
+    pool: &mut Pool,
+    advisors: &mut Vec<Box<dyn Advisor>>,
+) -> Result<String, OutOfMemory>
+    requires cap { All (λ low. low ≤ cap) problem.now.low }
+    requires pool { IsRowPool problem.now pool.old }
+{
+    match decide(problem, cap, limits, pool, advisors) {
+        Ok(found) => found_text(pool.alloc(), &found, pool.rows()),
+        Err(OutOfMemory) => Err(OutOfMemory),
     }
 }
 
@@ -77,8 +114,7 @@ fn decided_text(
     requires { All (λ low. low ≤ cap) problem.now.low }
 {
     let mut pool = Pool::new(alloc);
-    let found = decide(problem, cap, limits, &mut pool, advisors)?;
-    Ok(found_text(alloc, &found, pool.rows())?)
+    decided_in(problem, cap, limits, &mut pool, advisors)
 }
 
 /// What deciding a cap without an advisor answers.
@@ -112,6 +148,40 @@ fn choices(alloc: Global, count: u32) -> Result<Vec<Candidate>, AllocError> {
     Ok(choices)
 }
 
+/// What deciding a cap with these advisors answers, and what is chosen of these choices then.
+fn chosen_text(
+    problem: &Problem,
+    cap: u16,
+    limits: &Limits,
+    advisors: &mut Vec<Box<dyn Advisor>>,
+    choices: &[Candidate],
+) -> Result<String, OutOfMemory>
+    requires cap { All (λ low. low ≤ cap) problem.now.low }
+    requires some { 0 < length choices.now }
+{
+    let alloc = *advisors.allocator();
+    let text = decided_text(alloc, problem, cap, limits, advisors)?;
+    let chosen = choose(advisors, choices);
+    let left = advisors.len();
+    Ok(format!(in alloc; "{text}\n  chosen {chosen}, advisors left {left}")?)
+}
+
+/// What deciding a cap with an advisor that counts answers, and what is chosen of these choices then.
+fn counted_text(
+    alloc: Global,
+    problem: &Problem,
+    cap: u16,
+    limits: &Limits,
+    choices: &[Candidate],
+) -> Result<String, OutOfMemory> {
+    if choices.is_empty() || !are_below(problem.low.as_slice(), cap) {
+        return Ok(String::from_str(alloc, ": unfit")?);
+    }
+    let mut advisors: Vec<Box<dyn Advisor>> = Vec::new(alloc);
+    advisors.push(Box::new(alloc, Counting { told: 0 })?)?;
+    chosen_text(problem, cap, limits, &mut advisors, choices)
+}
+
 /// What deciding a cap with an advisor that counts answers, and what is chosen of so many choices then.
 pub(crate) fn told_text(
     alloc: Global,
@@ -124,17 +194,22 @@ pub(crate) fn told_text(
         return Ok(String::from_str(alloc, ": no budget")?);
     };
     let choices = choices(alloc, count)?;
-    if choices.is_empty() || !are_below(problem.low.as_slice(), cap) {
-        return Ok(String::from_str(alloc, ": unfit")?);
+    counted_text(alloc, problem, cap, &limits, choices.as_slice())
+}
+
+/// An answer, where it has room.
+fn answer_text(alloc: Global, answer: &Answer) -> Result<String, OutOfMemory> {
+    let mut sink = MemorySink::new(alloc, ROOM, Vec::new(alloc))?;
+    match put_answer(answer, &mut sink) {
+        Ok(()) => text_of(alloc, sink.got()),
+        Err(_) => Ok(String::from_str(alloc, ": too long")?),
     }
-    let mut advisors: Vec<Box<dyn Advisor>> = Vec::new(alloc);
-    advisors.push(Box::new(alloc, Counting { told: 0 })?)?;
-    let text = decided_text(alloc, problem, cap, &limits, &mut advisors)?;
-    let chosen = choose(&mut advisors, choices.as_slice());
-    Ok(format!(in alloc;
-        "{text}\n  chosen {chosen}, advisors left {}",
-        advisors.len()
-    )?)
+}
+
+/// The text of these bytes, on lines of its own.
+fn text_of(alloc: Global, bytes: &[u8]) -> Result<String, OutOfMemory> {
+    let text = str::from_utf8(bytes).unwrap_or("?");
+    Ok(format!(in alloc; ":\n{}", text.trim_end())?)
 }
 
 /// The text of the answer with the least cap.
@@ -147,11 +222,8 @@ pub(crate) fn least_text(
         return Ok(String::from_str(alloc, ": no budget")?);
     };
     let mut advisors: Vec<Box<dyn Advisor>> = Vec::new(alloc);
-    let answer = least(alloc, problem, &limits, &mut advisors)?;
-    let mut sink = MemorySink::new(alloc, ROOM, Vec::new(alloc))?;
-    if put_answer(&answer, &mut sink).is_err() {
-        return Ok(String::from_str(alloc, ": too long")?);
+    match least(alloc, problem, &limits, &mut advisors) {
+        Ok(answer) => answer_text(alloc, &answer),
+        Err(OutOfMemory) => Err(OutOfMemory),
     }
-    let text = str::from_utf8(sink.got()).unwrap_or("?");
-    Ok(format!(in alloc; ":\n{}", text.trim_end())?)
 }

@@ -11,10 +11,28 @@ use std::alloc::Global;
 pub struct Draft {
     vertices: Vec<Vertex>,
     edges: Vec<Edge>,
+    lists: Lists,
+}
+
+/// The free interfaces, bounds and wanted paths that lines say.
+#[derive(Drop)]
+struct Lists {
     vars: Listed<VarName>,
     low: Listed<u16>,
     high: Listed<u16>,
     paths: Listed<Request>,
+}
+
+impl Lists {
+    /// Nothing is said.
+    fn new(alloc: Global) -> Lists {
+        Lists {
+            vars: Listed::new(alloc),
+            low: Listed::new(alloc),
+            high: Listed::new(alloc),
+            paths: Listed::new(alloc),
+        }
+    }
 }
 
 impl Draft {
@@ -23,10 +41,7 @@ impl Draft {
         Draft {
             vertices: Vec::new(alloc),
             edges: Vec::new(alloc),
-            vars: Listed::new(alloc),
-            low: Listed::new(alloc),
-            high: Listed::new(alloc),
-            paths: Listed::new(alloc),
+            lists: Lists::new(alloc),
         }
     }
 
@@ -59,19 +74,19 @@ impl Draft {
         low: u16,
         high: u16,
     ) -> Result<(), OutOfMemory> {
-        let var = u32::try_from(self.low.as_slice().len()).unwrap_or(0);
-        self.vars.push(VarName {
+        let var = u32::try_from(self.lists.low.as_slice().len()).unwrap_or(0);
+        self.lists.vars.push(VarName {
             router,
             interface,
             var,
         })?;
-        self.low.push(low)?;
-        self.high.push(high)
+        self.lists.low.push(low)?;
+        self.lists.high.push(high)
     }
 
     /// One more wanted path.
     pub(crate) fn add_path(&mut self, request: Request) -> Result<(), OutOfMemory> {
-        self.paths.push(request)
+        self.lists.paths.push(request)
     }
 
     /// The problem that is said, where it is one.
@@ -79,24 +94,47 @@ impl Draft {
         let Draft {
             vertices,
             edges,
-            vars,
-            low,
-            high,
-            paths,
+            lists,
         } = self;
-        if !fits_graph(vertices.as_slice(), edges.as_slice()) {
-            return Ok(None);
+        match graph_of(alloc, vertices, edges) {
+            Ok(Some(graph)) => Ok(problem_of(graph, lists)),
+            Ok(None) => Ok(None),
+            Err(OutOfMemory) => Err(OutOfMemory),
         }
-        let graph = Graph::new(alloc, vertices, edges)?;
-        if !is_problem(&graph, &vars, &low, &high, &paths) {
-            return Ok(None);
-        }
-        Ok(Some(Problem {
-            graph,
-            vars,
-            low,
-            high,
-            paths,
-        }))
     }
+}
+
+/// The graph of these vertices and edges, where they fit one.
+fn graph_of(
+    alloc: Global,
+    vertices: Vec<Vertex>,
+    edges: Vec<Edge>,
+) -> Result<Option<Graph>, OutOfMemory> {
+    if !fits_graph(vertices.as_slice(), edges.as_slice()) {
+        return Ok(None);
+    }
+    match Graph::new(alloc, vertices, edges) {
+        Ok(graph) => Ok(Some(graph)),
+        Err(OutOfMemory) => Err(OutOfMemory),
+    }
+}
+
+/// The problem of these parts, where they are those of one.
+fn problem_of(graph: Graph, lists: Lists) -> Option<Problem> {
+    if !is_problem(&graph, &lists.vars, &lists.low, &lists.high, &lists.paths) {
+        return None;
+    }
+    let Lists {
+        vars,
+        low,
+        high,
+        paths,
+    } = lists;
+    Some(Problem {
+        graph,
+        vars,
+        low,
+        high,
+        paths,
+    })
 }

@@ -1,9 +1,9 @@
 //! A problem and a box as they are written: the lines of a script that say them.
 
-use area_graph::{Edge, Graph, Price, Vertex};
+use area_graph::{Graph, Price, Vertex};
 use cost_base::{Name, OutOfMemory};
 use design_problem::{CostBox, Problem, Request, VarName};
-use std::alloc::{AllocError, Global};
+use std::alloc::Global;
 use std::fmt;
 
 /// A price, as it is written.
@@ -29,23 +29,26 @@ fn routers_of(graph: &Graph) -> usize {
         .count()
 }
 
-/// Puts the lines of the vertices and edges.
-fn put_graph(alloc: Global, graph: &Graph, text: &mut String) -> Result<(), AllocError> {
-    let vertices = graph.vertices().len();
-    let routers = routers_of(graph);
-    let line = format!(in alloc; "\n  vertices {vertices}, routers {routers}")?;
-    text.push_str(line.as_str())?;
-    for edge in graph.edges() {
-        put_edge(alloc, *edge, text)?;
-    }
-    Ok(())
-}
+/// The lines of the vertices and edges.
+#[derive(Drop)]
+struct GraphLines<'a>(&'a Graph);
 
-/// Puts the line of an edge.
-fn put_edge(alloc: Global, edge: Edge, text: &mut String) -> Result<(), AllocError> {
-    let price = PriceWords(edge.price);
-    let line = format!(in alloc; "\n  edge {} {} {price}", edge.from, edge.to)?;
-    text.push_str(line.as_str())
+impl<'a> fmt::Display for GraphLines<'a> {
+    fn fmt<W: fmt::Write>(&self, f: &mut fmt::Formatter<W>) -> fmt::Result {
+        let vertices = self.0.vertices().len();
+        let routers = routers_of(self.0);
+        write!(f, "\n  vertices {vertices}, routers {routers}")?;
+        for edge in self.0.edges() {
+            write!(
+                f,
+                "\n  edge {} {} {}",
+                edge.from,
+                edge.to,
+                PriceWords(edge.price)
+            )?;
+        }
+        Ok(())
+    }
 }
 
 /// The letters of a name.
@@ -53,78 +56,78 @@ fn letters(name: &Name) -> &str {
     str::from_utf8(name.as_bytes()).unwrap_or("?")
 }
 
-/// Puts the line of a free interface.
-fn put_variable(alloc: Global, name: &VarName, text: &mut String) -> Result<(), AllocError> {
-    let router = letters(&name.router);
-    let interface = letters(&name.interface);
-    let line = format!(in alloc; "\n  free {router} {interface}, variable {}", name.var)?;
-    text.push_str(line.as_str())
+/// The lines of the free interfaces.
+#[derive(Drop)]
+struct FreeLines<'a>(&'a [VarName]);
+
+impl<'a> fmt::Display for FreeLines<'a> {
+    fn fmt<W: fmt::Write>(&self, f: &mut fmt::Formatter<W>) -> fmt::Result {
+        for name in self.0 {
+            let router = letters(&name.router);
+            let interface = letters(&name.interface);
+            write!(f, "\n  free {router} {interface}, variable {}", name.var)?;
+        }
+        Ok(())
+    }
 }
 
-/// Puts the numbers of edges.
-fn put_numbers(alloc: Global, numbers: &[u32], text: &mut String) -> Result<(), AllocError> {
+/// Numbers of edges, with a blank before each.
+fn write_numbers<W: fmt::Write>(numbers: &[u32], f: &mut fmt::Formatter<W>) -> fmt::Result {
     for number in numbers {
-        let word = format!(in alloc; " {number}")?;
-        text.push_str(word.as_str())?;
+        write!(f, " {number}")?;
     }
     Ok(())
 }
 
-/// Puts the line of a wanted path.
-fn put_path(alloc: Global, request: &Request, text: &mut String) -> Result<(), AllocError> {
-    let line = format!(in alloc; "\n  path {} {}", request.path.start, request.end)?;
-    text.push_str(line.as_str())?;
-    put_numbers(alloc, request.path.edges.as_slice(), text)?;
+/// The line of a wanted path.
+fn write_path<W: fmt::Write>(request: &Request, f: &mut fmt::Formatter<W>) -> fmt::Result {
+    write!(f, "\n  path {} {}", request.path.start, request.end)?;
+    write_numbers(request.path.edges.as_slice(), f)?;
     let excluded = request.excluded.as_slice();
     if excluded.is_empty() {
         return Ok(());
     }
-    text.push_str(" without")?;
-    put_numbers(alloc, excluded, text)
+    write!(f, " without")?;
+    write_numbers(excluded, f)
 }
 
-/// Puts ranges.
-fn put_ranges(
-    alloc: Global,
-    low: &[u16],
-    high: &[u16],
-    text: &mut String,
-) -> Result<(), AllocError> {
-    for (least, most) in low.iter().zip(high) {
-        let range = format!(in alloc; " {least}-{most}")?;
-        text.push_str(range.as_str())?;
+/// The lines of the wanted paths.
+#[derive(Drop)]
+struct PathLines<'a>(&'a [Request]);
+
+impl<'a> fmt::Display for PathLines<'a> {
+    fn fmt<W: fmt::Write>(&self, f: &mut fmt::Formatter<W>) -> fmt::Result {
+        for request in self.0 {
+            write_path(request, f)?;
+        }
+        Ok(())
     }
-    Ok(())
+}
+
+/// Ranges, by their lower and their upper bounds.
+#[derive(Drop)]
+struct Ranges<'a>(&'a [u16], &'a [u16]);
+
+impl<'a> fmt::Display for Ranges<'a> {
+    fn fmt<W: fmt::Write>(&self, f: &mut fmt::Formatter<W>) -> fmt::Result {
+        for (least, most) in self.0.iter().zip(self.1) {
+            write!(f, " {least}-{most}")?;
+        }
+        Ok(())
+    }
 }
 
 /// The ranges of a box.
 pub(crate) fn box_text(alloc: Global, costs: &CostBox) -> Result<String, OutOfMemory> {
-    let mut text = String::from_str(alloc, ":")?;
-    put_ranges(
-        alloc,
-        costs.low.as_slice(),
-        costs.high.as_slice(),
-        &mut text,
-    )?;
-    Ok(text)
+    let ranges = Ranges(costs.low.as_slice(), costs.high.as_slice());
+    Ok(format!(in alloc; ":{ranges}")?)
 }
 
 /// The lines of a problem.
 pub(crate) fn problem_text(alloc: Global, problem: &Problem) -> Result<String, OutOfMemory> {
-    let mut text = String::from_str(alloc, ":")?;
-    put_graph(alloc, &problem.graph, &mut text)?;
-    for name in problem.vars.as_slice() {
-        put_variable(alloc, name, &mut text)?;
-    }
-    text.push_str("\n  ranges")?;
-    put_ranges(
-        alloc,
-        problem.low.as_slice(),
-        problem.high.as_slice(),
-        &mut text,
-    )?;
-    for request in problem.paths.as_slice() {
-        put_path(alloc, request, &mut text)?;
-    }
-    Ok(text)
+    let graph = GraphLines(&problem.graph);
+    let free = FreeLines(problem.vars.as_slice());
+    let ranges = Ranges(problem.low.as_slice(), problem.high.as_slice());
+    let paths = PathLines(problem.paths.as_slice());
+    Ok(format!(in alloc; ":{graph}{free}\n  ranges{ranges}{paths}")?)
 }

@@ -8,7 +8,7 @@ use Rattle.design_problem.specs.Answers.{AnswerParts}
 use Rattle.design_problem.specs.declared.tree.Entry.{Entry}
 use Rattle.cut_advisors.specs.declared.candidate.Candidate.{Candidate}
 use Rattle.least_bound.specs.Asking.{IsAskedAnswering}
-use Rattle.command_words.specs.Jobs.{Bounds}
+use Rattle.command_words.specs.Jobs.{SearchLimits}
 use Rattle.input_files.specs.declared.stop.Stop.{Stop}
 use Rattle.input_files.specs.declared.stop.Stop.TheVariants as stops
 use Rattle.input_files.specs.Readings.{Reading, End, Says, Faulty, Failed, EndsAs}
@@ -19,13 +19,13 @@ use Rattle.design_commands.specs.Asking.{AsksAt, IsMadeText}
 
 -- asked of the same problem, within the same limits
 pub same_asked : {A : Type 0} (IsItself : A → A → Type 0) (state : A → List ℕ) (would : A → List ℕ → List Candidate → ℕ)
-    (left : A → List ℕ → List Candidate → List ℕ) (after : A → List ℕ → Entry → List ℕ) (p q : DesignProblem) (limits other : Bounds)
+    (left : A → List ℕ → List Candidate → List ℕ) (after : A → List ℕ → Entry → List ℕ) (p q : DesignProblem) (limits other : SearchLimits)
     (old new : List A) (a : AnswerParts) → q ≡ p → limits ≡ other →
     IsAskedAnswering IsItself state would left after p limits.top limits.nodes old new a →
     IsAskedAnswering IsItself state would left after q other.top other.nodes old new a
 same_asked IsItself state would left after p q limits other old new a same within asked =
     subst (λ (r : DesignProblem). IsAskedAnswering IsItself state would left after r other.top other.nodes old new a) (sym same)
-    (subst (λ (b : Bounds). IsAskedAnswering IsItself state would left after p b.top b.nodes old new a) within asked)
+    (subst (λ (b : SearchLimits). IsAskedAnswering IsItself state would left after p b.top b.nodes old new a) within asked)
 
 -- what is made of what the files say, alone
 pub read_alone : {A : Type 0} (m : Reading A) (came : List Taken) (Fits asks : Report → A → Type 0) (made : Result Report Stop) →

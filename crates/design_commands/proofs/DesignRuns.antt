@@ -4,7 +4,7 @@ use Rattle.cost_base.specs.Histories.{Taken}
 use Rattle.design_problem.specs.Problems.{DesignProblem}
 use Rattle.design_problem.specs.Answers.{AnswerParts}
 use Rattle.design_problem.specs.Text.{text}
-use Rattle.command_words.specs.Jobs.{Bounds}
+use Rattle.command_words.specs.Jobs.{SearchLimits}
 use Rattle.input_files.specs.declared.problem.View.TheVariants.{AsRequested}
 use Rattle.input_files.specs.Inputs.{InputFiles}
 use Rattle.input_files.specs.Readings.{Gave}
@@ -20,7 +20,7 @@ use Rattle.design_commands.proofs.DesignedLaws.{answer_may}
 use Rattle.report_writer.proofs.ReportLaws.{may_report}
 
 -- the report of an answer to the problem that was read, and for which the advisors were asked
-pub design_found : (Given : List Taken → Type 0) (limits : Bounds) (names : InputFiles) (p : DesignProblem)
+pub design_found : (Given : List Taken → Type 0) (limits : SearchLimits) (names : InputFiles) (p : DesignProblem)
     (a : AnswerParts) (report : Report) (asks : Input → AnswerParts → Type 0) →
     Gave Given (λ came. IsReadAndMade (outcome AsRequested names) came IsProblemOf p) →
     IsAnswerTo limits p a → Reports (verdict_status a.verdict) (text a) report → ((d : Input) → d.problem ≡ p → asks d a) →

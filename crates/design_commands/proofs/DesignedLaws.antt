@@ -22,7 +22,7 @@ use Rattle.design_problem.proofs.ProblemTrees.{valid_holds}
 use Rattle.evidence_text.specs.AnswerValues.{IsAnswerValue}
 use Rattle.printed_rows.specs.PrintedCosts.{CostLinesOf}
 use Rattle.least_bound.specs.Answered.{VerdictHolds}
-use Rattle.command_words.specs.Jobs.{Bounds}
+use Rattle.command_words.specs.Jobs.{SearchLimits}
 use Rattle.input_files.specs.Outcomes.{Input}
 use Rattle.input_files.proofs.ReadyInputs.{IsReadyInput}
 use Rattle.design_commands.specs.Designs.{IsAnswerTo, IsDesigned, IsShownImpossible, IsShownUndecided, verdict_status, MayDesign, AreCheapestBack}
@@ -82,7 +82,7 @@ cheapest_back d bytes w back fit = λ n r within.
     ((only_cheapest_with w d.problem.graph (request_ends request) request.path.edges).1 (fit.only n r within))
 
 -- the text of a valid optimal answer
-pub designed_is : (limits : Bounds) (d : Input) (a : AnswerParts) (k : ℕ) → IsReadyInput d →
+pub designed_is : (limits : SearchLimits) (d : Input) (a : AnswerParts) (k : ℕ) → IsReadyInput d →
     IsAnswerTo limits d.problem a → a.verdict ≡ Optimal k → IsValid d.problem a → GivesBest d.problem k a.costs →
     IsDesigned limits d (text a)
 designed_is limits d a k ready to is valid gives =
@@ -105,7 +105,7 @@ designed_is limits d a k ready to is valid gives =
     }
 
 -- its costs are those of the answer
-pub designed_costs : (limits : Bounds) (d : Input) (a : AnswerParts) (k : ℕ) (ready : IsReadyInput d)
+pub designed_costs : (limits : SearchLimits) (d : Input) (a : AnswerParts) (k : ℕ) (ready : IsReadyInput d)
     (to : IsAnswerTo limits d.problem a) (is : a.verdict ≡ Optimal k)
     (valid : IsValid d.problem a) (gives : GivesBest d.problem k a.costs) →
     (designed_is limits d a k ready to is valid gives).costs ≡ gives.values
@@ -113,7 +113,7 @@ unfolding designed_is
 designed_costs limits d a k ready to is valid gives = refl
 
 -- the text of a valid impossible answer
-pub impossible_is : (limits : Bounds) (p : DesignProblem) (a : AnswerParts) → IsAnswerTo limits p a →
+pub impossible_is : (limits : SearchLimits) (p : DesignProblem) (a : AnswerParts) → IsAnswerTo limits p a →
     a.verdict ≡ Impossible → IsValid p a → IsShownImpossible limits p (text a)
 impossible_is limits p a to is valid = record {
   answer = a;
@@ -127,7 +127,7 @@ impossible_is limits p a to is valid = record {
 }
 
 -- the text of an undecided answer
-pub undecided_is : (limits : Bounds) (p : DesignProblem) (a : AnswerParts) (cap : ℕ) → IsAnswerTo limits p a →
+pub undecided_is : (limits : SearchLimits) (p : DesignProblem) (a : AnswerParts) (cap : ℕ) → IsAnswerTo limits p a →
     a.verdict ≡ Undecided cap → IsShownUndecided limits p (text a)
 undecided_is limits p a cap to is = record {
   answer = a;
@@ -141,14 +141,14 @@ undecided_is limits p a cap to is = record {
 }
 
 -- what a verdict claims, of an answer
-pub gives_best : (limits : Bounds) (p : DesignProblem) (a : AnswerParts) (k : ℕ) → IsAnswerTo limits p a →
+pub gives_best : (limits : SearchLimits) (p : DesignProblem) (a : AnswerParts) (k : ℕ) → IsAnswerTo limits p a →
     a.verdict ≡ Optimal k → IsValid p a × GivesBest p k a.costs
 gives_best limits p a k to is =
     let valid : IsValid p a = subst (λ (v : Verdict). VerdictHolds p limits.top limits.nodes a v) is to.answered.holds in
     (valid, subst (λ (v : Verdict). IsTrueVerdict p v a.costs) is (valid_holds p a to.kept valid))
 
 -- an answer's text may be written with the status of its verdict
-pub answer_may : (limits : Bounds) (d : Input) (a : AnswerParts) → IsReadyInput d → IsAnswerTo limits d.problem a →
+pub answer_may : (limits : SearchLimits) (d : Input) (a : AnswerParts) → IsReadyInput d → IsAnswerTo limits d.problem a →
     MayDesign limits d (verdict_status a.verdict) (text a)
 answer_may limits d a ready to = by_verdict a.verdict refl
   where

@@ -1,4 +1,4 @@
--- The names of a case's files are ASCII, and so UTF-8; they are as many as its texts.
+-- The names of a trial's files are ASCII, and so UTF-8; they are as many as its texts.
 use Rattle.std.proofs.Common.{◌≡◌, ℕ, zero, suc, ◌+◌, ◌<◌, ◌≤◌, List, [], ◌∷◌, ◌++◌, length, drop, get_or, true, refl, sym, ◌∙◌, ap, arith, append_assoc, length-append}
 use Rattle.std.specs.Prelude.{All, codes}
 use Rattle.std.specs.List.{list_all, zip}
@@ -72,6 +72,6 @@ over_length : {X Y : Type 0} (f : ℕ → List X) (g : ℕ → List Y) (n : ℕ)
 over_length f g zero same = refl
 over_length f g (suc n) same = omega (arith, length-append (over_blocks f n) (f n), length-append (over_blocks g n) (g n), over_length f g n same, same n)
 
--- a case has a text for each name
+-- a trial has a text for each name
 pub names_as_texts : (blocks : ℕ) → length (file_names blocks) ≡ length (trial_configs blocks)
 names_as_texts blocks = ap suc (over_length block_files (block_configs blocks) blocks (λ i. refl))

@@ -26,7 +26,7 @@ use Rattle.least_total.specs.declared.finding.TotalProof.{TotalProof}
 use Rattle.least_total.specs.declared.finding.TotalProof.TheVariants.{Floor, Tree}
 use Rattle.least_total.specs.Totals.{HasLeastTotal, total}
 use Rattle.least_total.specs.Results.{IsTotalAnswer, IsRecosted, IsUndecidedTotal, ShowsLeastTotal}
-use Rattle.command_words.specs.Jobs.{Bounds}
+use Rattle.command_words.specs.Jobs.{SearchLimits}
 use Rattle.input_files.specs.declared.problem.View.TheVariants.{AsRequested}
 use Rattle.input_files.specs.Inputs.{InputFiles}
 use Rattle.input_files.specs.Readings.{Gave}
@@ -102,7 +102,7 @@ same_sheet p a b same_rows same_proof same_unfinished sheet =
     (subst (λ (rs : List Row). IsAnswerSheet p rs a.proof a.unfinished) (sym same_rows) sheet))
 
 -- the answer with other costs is an answer to the problem
-recosted_to : (limits : Bounds) (p : DesignProblem) (a b : AnswerParts) (w : List ℕ) → IsAnswerTo limits p a →
+recosted_to : (limits : SearchLimits) (p : DesignProblem) (a b : AnswerParts) (w : List ℕ) → IsAnswerTo limits p a →
     IsRecosted p a b w → IsAnswerValue b → IsAnswerTo limits p b
 recosted_to limits p a b w to other value =
     let before : IsValid p a =
@@ -120,12 +120,12 @@ recosted_to limits p a b w to other value =
     }
 
 -- its text is a design's, with these costs, which are read back from a text with their sections
-record IsDesignedWith (limits : Bounds) (d : Input) (b : AnswerParts) (w : List ℕ) : Type 0 where
+record IsDesignedWith (limits : SearchLimits) (d : Input) (b : AnswerParts) (w : List ℕ) : Type 0 where
   designed : IsDesigned limits d (text b)
   costs_are : designed.costs ≡ w
   backs : (behind : List (List ℕ)) → all_lack_end behind ≡ true → all_other behind ≡ true → IsReadBack d (total_around b behind) w
 
-recosted_designed : (limits : Bounds) (d : Input) (a b : AnswerParts) (w : List ℕ) → IsReadyInput d →
+recosted_designed : (limits : SearchLimits) (d : Input) (a b : AnswerParts) (w : List ℕ) → IsReadyInput d →
     IsAnswerTo limits d.problem a → IsRecosted d.problem a b w → IsAnswerValue b → IsDesignedWith limits d b w
 recosted_designed limits d a b w ready to other value =
     let gives : GivesBest d.problem (greatest_cost w) b.costs =
@@ -150,7 +150,7 @@ recosted_designed limits d a b w ready to other value =
 same_cap : (p : DesignProblem) (a b : AnswerParts) (w : List ℕ) (k : ℕ) → a.verdict ≡ Optimal k → IsRecosted p a b w → greatest_cost w ≡ k
 same_cap p a b w k is other = ap cap_in (sym other.tells ∙ other.verdict ∙ is)
 
-shows_total : (limits : Bounds) (p : DesignProblem) (w : List ℕ) (k : ℕ) (proof : TotalProof) → greatest_cost w ≡ k →
+shows_total : (limits : SearchLimits) (p : DesignProblem) (w : List ℕ) (k : ℕ) (proof : TotalProof) → greatest_cost w ≡ k →
     ShowsLeastTotal p limits.top limits.nodes (greatest_cost w) (total w) proof → IsFloorTotal p w (shown_lines k proof)
     ⊎ IsProvedTotal limits p w (shown_lines k proof)
 shows_total limits p w k Floor same shows = inl (record { floor = shows; spelled = refl })
@@ -167,14 +167,14 @@ shows_total limits p w k (Tree rows tree) same shows =
     })
 
 -- the costs are read back from the whole text
-total_back : (limits : Bounds) (d : Input) (b : AnswerParts) (w : List ℕ) (sum : ℕ) (shown : List (List ℕ)) →
+total_back : (limits : SearchLimits) (d : Input) (b : AnswerParts) (w : List ℕ) (sum : ℕ) (shown : List (List ℕ)) →
     IsDesignedWith limits d b w → AreQuiet shown → IsReadBack d (total_text (text b) sum shown) w
 total_back limits d b w sum shown here quiet =
     subst (λ (bytes : List ℕ). IsReadBack d bytes w) (total_around_is b sum shown)
     (here.backs (behind_it sum shown) (behind_lacks sum shown quiet.lack) (behind_other sum shown quiet.other))
 
 -- what was found from a valid optimal answer
-found_may : (limits : Bounds) (d : Input) (a : AnswerParts) (k : ℕ) (found : Total) (report : Report) → IsReadyInput d →
+found_may : (limits : SearchLimits) (d : Input) (a : AnswerParts) (k : ℕ) (found : Total) (report : Report) → IsReadyInput d →
     IsAnswerTo limits d.problem a → a.verdict ≡ Optimal k →
     IsTotalAnswer d.problem limits.top limits.nodes a found → ReportsFoundAs k found report →
     MayTotal limits d report.status (bytes_in report.text)
@@ -229,7 +229,7 @@ found_may limits d a k (TotalUndecided answer sum bound rows tree) report ready 
     may_report (MayTotal limits d) status.Undecided (found_text k (TotalUndecided answer sum bound rows tree)) report reports.reports (inr undecided)
 
 -- what is reported of an answer may be written
-total_may : (limits : Bounds) (d : Input) (a : AnswerParts) (report : Report) → IsReadyInput d →
+total_may : (limits : SearchLimits) (d : Input) (a : AnswerParts) (report : Report) → IsReadyInput d →
     IsAnswerTo limits d.problem a → ReportsTotal limits d.problem a a.verdict report →
     MayTotal limits d report.status (bytes_in report.text)
 total_may limits d a report ready to reports = by_verdict a.verdict refl reports
@@ -242,14 +242,14 @@ total_may limits d a report ready to reports = by_verdict a.verdict refl reports
     by_verdict (Undecided cap) is r = may_report (MayTotal limits d) status.Undecided (text a) report r (inl (undecided_is limits d.problem a cap to is))
 
 -- the text of the report
-total_told : (limits : Bounds) (p : DesignProblem) (a : AnswerParts) (v : Verdict) (report : Report) → ReportsTotal limits p a v report →
+total_told : (limits : SearchLimits) (p : DesignProblem) (a : AnswerParts) (v : Verdict) (report : Report) → ReportsTotal limits p a v report →
     IsTotalText limits p a v (bytes_in report.text)
 total_told limits p a (Optimal k) report r = (r.found, r.answered, r.reports.reports.text)
 total_told limits p a Impossible report r = r.text
 total_told limits p a (Undecided cap) report r = r.text
 
 -- the report of an answer to the problem that was read, and for which the advisors were asked
-pub total_found : (Given : List Taken → Type 0) (limits : Bounds) (names : InputFiles) (p : DesignProblem)
+pub total_found : (Given : List Taken → Type 0) (limits : SearchLimits) (names : InputFiles) (p : DesignProblem)
     (a : AnswerParts) (report : Report) (asks : Input → AnswerParts → Type 0) →
     Gave Given (λ came. IsReadAndMade (outcome AsRequested names) came IsProblemOf p) →
     IsAnswerTo limits p a → ReportsTotal limits p a a.verdict report → ((d : Input) → d.problem ≡ p → asks d a) →

@@ -133,7 +133,7 @@ tried_found Given blocks start names p a report asks read value all spelled aske
     subst (λ (q : DesignProblem). bytes_in report.text ≡ trial_text blocks start q a a.verdict) (sym same) spelled in
     record { came = read.came; given = read.given; so = record { said = d; ends = read.so.ends; fits = (all d same, (a, value, here, asked d same)) } }
 
--- what came of the texts of a case is true to them, and none failed
+-- what came of the texts of a trial is true to them, and none failed
 pub record AreTexts (texts : List (List ℕ × List ℕ)) (came : List Taken) : Type 0 where
   pub told : AreTold (λ name. Some (text_named texts name)) came
   pub sure : failures came ≡ []
@@ -174,23 +174,23 @@ end_tried blocks start texts names came (Err stops.OutOfMemory) result are read 
     (λ made. MayTryEnd blocks start (end_of_reading texts (outcome AsRequested names)) made.status (bytes_in made.text))
     (λ report never. absurd never) r
 
--- so is what it makes of the texts of its case
-pub case_tried : (Given : List Taken → Type 0) (blocks start : ℕ) (case : TrialTexts) (names : InputFiles)
+-- so is what it makes of its own texts
+pub trial_tried : (Given : List Taken → Type 0) (blocks start : ℕ) (trial : TrialTexts) (names : InputFiles)
     (made : Result Report Stop) (result : Result Report OutOfMemory) (asks : Report → Input → Type 0) →
-    ((came : List Taken) → Given came → AreTexts (named_trial_texts case) came) →
-    names ≡ trial_files case → case ≡ made_trial blocks start →
+    ((came : List Taken) → Given came → AreTexts (named_trial_texts trial) came) →
+    names ≡ trial_files trial → trial ≡ made_trial blocks start →
     Gave Given (λ came. IsReadAs (outcome AsRequested names) came
     (λ report d. MayTry blocks start d report.status (bytes_in report.text) × asks report d) made) → ReportsAny made result →
     IfOk result (λ report. MayTrial blocks start report.status (bytes_in report.text))
 unfolding trial_end
-case_tried Given blocks start case names made result asks are named is gave r =
+trial_tried Given blocks start trial names made result asks are named is gave r =
     subst (λ (c : TrialTexts). IfOk result
     (λ report. MayTryEnd blocks start (end_of_reading (named_trial_texts c) (outcome AsRequested (trial_files c))) report.status
     (bytes_in report.text))) is
     (subst (λ (n : InputFiles). IfOk result
-    (λ report. MayTryEnd blocks start (end_of_reading (named_trial_texts case) (outcome AsRequested n)) report.status
+    (λ report. MayTryEnd blocks start (end_of_reading (named_trial_texts trial) (outcome AsRequested n)) report.status
     (bytes_in report.text))) named
-    (end_tried blocks start (named_trial_texts case) names gave.came made result (are gave.came gave.given)
+    (end_tried blocks start (named_trial_texts trial) names gave.came made result (are gave.came gave.given)
     (read_alone (outcome AsRequested names) gave.came (λ (report : Report) d. MayTry blocks start d report.status (bytes_in report.text)) asks
     made gave.so) r))
 
@@ -202,20 +202,20 @@ AsksTrial blocks start Asks bytes d = TellsTrial blocks start d.problem (Asks d)
 abbrev AsksAtEnd : ℕ → ℕ → (Input → AnswerParts → Type 0) → Type 0 → End Input → List ℕ → Type 0
 AsksAtEnd blocks start Asks nobody end bytes = AsksAt (AsksTrial blocks start Asks bytes) nobody end
 
--- the advisors are asked by the end of the texts of the case
-pub case_asked : (Given : List Taken → Type 0) (blocks start : ℕ) (case : TrialTexts) (names : InputFiles)
+-- the advisors are asked by the end of the texts of the trial
+pub trial_asked : (Given : List Taken → Type 0) (blocks start : ℕ) (trial : TrialTexts) (names : InputFiles)
     (made : Result Report Stop) (result : Result Report OutOfMemory) (Fits : Report → Input → Type 0)
     (Asks : Input → AnswerParts → Type 0) (nobody : Type 0) →
-    ((came : List Taken) → Given came → AreTexts (named_trial_texts case) came) →
-    names ≡ trial_files case → case ≡ made_trial blocks start →
+    ((came : List Taken) → Given came → AreTexts (named_trial_texts trial) came) →
+    names ≡ trial_files trial → trial ≡ made_trial blocks start →
     Gave Given (λ came. IsReadAs (outcome AsRequested names) came
     (λ report d. Fits report d × TellsTrial blocks start d.problem (Asks d) (bytes_in report.text)) made) →
     IfErr made (λ stop. (stop ≡ stops.OutOfMemory) ⊎ nobody) → ReportsAny made result →
     IfOk result (λ report. AsksAt (λ d. TellsTrial blocks start d.problem (Asks d) (bytes_in report.text)) nobody (trial_end (made_trial blocks start)))
 unfolding trial_end
-case_asked Given blocks start case names made result Fits Asks nobody are named is gave stopped r =
+trial_asked Given blocks start trial names made result Fits Asks nobody are named is gave stopped r =
     let m : Reading Input = outcome AsRequested names in
-    let texts = named_trial_texts case in
+    let texts = named_trial_texts trial in
     let here : IfOk result (λ report. AsksAtEnd blocks start Asks nobody (end_of_reading texts m) (bytes_in report.text)) =
     asked_of_report made result (AsksAtEnd blocks start Asks nobody (end_of_reading texts m)) r
     (either (asks_one m gave.came Fits (AsksTrial blocks start Asks) nobody made gave.so stopped)) in
@@ -227,10 +227,10 @@ case_asked Given blocks start case names made result Fits Asks nobody are named 
     either : (made ≡ Err stops.OutOfMemory) ⊎ ((bytes : List ℕ) → IsMadeText made bytes → (one : End Input) →
         ((end : End Input) → EndsAs (outcome AsRequested names) gave.came end → end ≡ one) → AsksAtEnd blocks start Asks nobody one bytes) →
         (made ≡ Err stops.OutOfMemory) ⊎ ((bytes : List ℕ) → IsMadeText made bytes →
-        AsksAtEnd blocks start Asks nobody (end_of_reading (named_trial_texts case) (outcome AsRequested names)) bytes)
+        AsksAtEnd blocks start Asks nobody (end_of_reading (named_trial_texts trial) (outcome AsRequested names)) bytes)
     either (inl wanting) = inl wanting
-    either (inr asked) = inr (λ bytes text. asked bytes text (end_of_reading (named_trial_texts case) (outcome AsRequested names))
-        (λ end ends. sym (ends_on (named_trial_texts case) (outcome AsRequested names) gave.came end ends
+    either (inr asked) = inr (λ bytes text. asked bytes text (end_of_reading (named_trial_texts trial) (outcome AsRequested names))
+        (λ end ends. sym (ends_on (named_trial_texts trial) (outcome AsRequested names) gave.came end ends
         (are gave.came gave.given).told (are gave.came gave.given).sure)))
 
 -- The text by the answer.

@@ -8,17 +8,17 @@ use Rattle.input_files.specs.Readings.{End, Says, Faulty, Failed}
 use Rattle.report_writer.specs.declared.report.Report.{Report}
 use Rattle.report_writer.specs.Reports.{bytes_in}
 
--- they are asked so where the files say this, and not at all where the files say nothing
+-- how the advisors were asked, by the end of reading: as the first tells of what files say, else as the second tells
 abbrev pub AsksAt : {A : Type 0} → (A → Type 0) → Type 0 → End A → Type 0
 AsksAt asks nobody (Says said) = asks said
 AsksAt asks nobody (Faulty fault) = nobody
 AsksAt asks nobody (Failed file) = nobody
 
--- the bytes are the text of an answer for which they were asked so
+-- the bytes are the text of an answer of `design` for which the advisors were asked as `Asks` tells
 abbrev pub TellsAnswer : (AnswerParts → Type 0) → List ℕ → Type 0
 TellsAnswer Asks bytes = (a : AnswerParts) × IsAnswerValue a × (bytes ≡ text a) × Asks a
 
--- the bytes of the report that was made; where files stopped it, whatever is written of that
+-- the bytes are those of the report that a command made; where files stopped the command they are any
 abbrev pub IsMadeText : Result Report Stop → List ℕ → Type 0
 IsMadeText (Ok report) bytes = bytes ≡ bytes_in report.text
 IsMadeText (Err stop) bytes = Unit {0}

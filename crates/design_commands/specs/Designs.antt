@@ -13,17 +13,17 @@ use Rattle.design_problem.specs.ProblemLaws.{HasNoFit}
 use Rattle.design_problem.specs.Text.{text}
 use Rattle.evidence_text.specs.AnswerValues.{IsAnswerValue}
 use Rattle.least_bound.specs.Answered.{IsDesignAnswer, IsUndecided, ProofIsPrinted, IsAnswerSheet}
-use Rattle.command_words.specs.Jobs.{Bounds}
+use Rattle.command_words.specs.Jobs.{SearchLimits}
 use Rattle.input_files.specs.Outcomes.{Input}
 use Rattle.read_back_laws.specs.ReadBack.{graph_back, IsReadBack}
 
 -- what is known of an answer to a problem: it is one, within the limits, and both are values of their types
-pub record IsAnswerTo (limits : Bounds) (p : DesignProblem) (a : AnswerParts) : Type 0 where
+pub record IsAnswerTo (limits : SearchLimits) (p : DesignProblem) (a : AnswerParts) : Type 0 where
   pub kept : IsProblem p
   pub answered : IsDesignAnswer p limits.top limits.nodes a
   pub value : IsAnswerValue a
 
--- in the graph read back each wanted path is the only cheapest of its request
+-- in the graph read back from a text each wanted path is the only cheapest of its request
 abbrev pub AreCheapestBack : Input → List ℕ → Type 0
 AreCheapestBack d text = All (λ r. IsOnlyCheapest (graph_back d text) (at_costs []) (request_ends r) r.path.edges) d.problem.paths
 
@@ -31,7 +31,7 @@ AreCheapestBack d text = All (λ r. IsOnlyCheapest (graph_back d text) (at_costs
 -- sections are accepted, and read back, the costs lie within the bounds and make each wanted path the only cheapest of
 -- its request; no fit costs have a smaller greatest cost, and the verdict tells it. A tree that shows this is earnest, and
 -- just the rows that it names are printed.
-pub record IsDesigned (limits : Bounds) (d : Input) (bytes : List ℕ) : Type 0 where
+pub record IsDesigned (limits : SearchLimits) (d : Input) (bytes : List ℕ) : Type 0 where
   pub answer : AnswerParts
   pub spelled : bytes ≡ text answer
   pub value : IsAnswerValue answer
@@ -47,7 +47,7 @@ pub record IsDesigned (limits : Bounds) (d : Input) (bytes : List ℕ) : Type 0 
 
 -- The bytes show that no costs are fit: they are the text of a valid answer with that verdict, whose tree is earnest, and
 -- just the rows that it names are printed.
-pub record IsShownImpossible (limits : Bounds) (p : DesignProblem) (bytes : List ℕ) : Type 0 where
+pub record IsShownImpossible (limits : SearchLimits) (p : DesignProblem) (bytes : List ℕ) : Type 0 where
   pub answer : AnswerParts
   pub spelled : bytes ≡ text answer
   pub value : IsAnswerValue answer
@@ -60,7 +60,7 @@ pub record IsShownImpossible (limits : Bounds) (p : DesignProblem) (bytes : List
 -- The bytes show that the budget was used up at a cap: they are the text of an answer with that verdict, whose
 -- unfinished tree is earnest over the box at that cap, has an undone entry and exactly as many entries as the budget; its costs
 -- and its proof, where it has such, are true. Just the rows that its trees name are printed.
-pub record IsShownUndecided (limits : Bounds) (p : DesignProblem) (bytes : List ℕ) : Type 0 where
+pub record IsShownUndecided (limits : SearchLimits) (p : DesignProblem) (bytes : List ℕ) : Type 0 where
   pub answer : AnswerParts
   pub spelled : bytes ≡ text answer
   pub value : IsAnswerValue answer
@@ -76,8 +76,8 @@ verdict_status (Optimal k) = status.Done
 verdict_status Impossible = status.Impossible
 verdict_status (Undecided cap) = status.Undecided
 
--- `design`: best costs; or that there are none; or that the budget was used up
-abbrev pub MayDesign : Bounds → Input → Status → List ℕ → Type 0
+-- what `design` may write: best costs; or that there are none; or that the budget was used up
+abbrev pub MayDesign : SearchLimits → Input → Status → List ℕ → Type 0
 MayDesign limits d status.Done bytes = IsDesigned limits d bytes
 MayDesign limits d status.Impossible bytes = IsShownImpossible limits d.problem bytes
 MayDesign limits d status.Undecided bytes = IsShownUndecided limits d.problem bytes

@@ -2,3 +2,4 @@ pub mod Asking
 pub mod Designs
 pub mod Trials
 pub mod TotalRuns
+pub mod Made

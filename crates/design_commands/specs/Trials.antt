@@ -1,4 +1,4 @@
--- What a trial prints of its made trial.
+-- What `trial` prints of a made network.
 use Rattle.std.specs.Prelude.{◌≡◌, ℕ, ◌+◌, ◌*◌, ◌-◌, ◌^◌, List, [], ◌∷◌, ◌++◌, codes}
 use Rattle.std.specs.List.{sum, zip}
 use Rattle.cost_base.specs.declared.Status.{Status}
@@ -14,7 +14,7 @@ use Rattle.design_problem.specs.Answers.{AnswerParts, lines_in}
 use Rattle.design_problem.specs.GivenCosts.{costs_given}
 use Rattle.design_problem.specs.Text.{text}
 use Rattle.evidence_text.specs.AnswerValues.{IsAnswerValue}
-use Rattle.command_words.specs.Jobs.{Bounds}
+use Rattle.command_words.specs.Jobs.{SearchLimits}
 use Rattle.input_files.specs.declared.problem.View.TheVariants.{AsRequested}
 use Rattle.input_files.specs.Inputs.{InputFiles}
 use Rattle.input_files.specs.Readings.{End, Says, Faulty, Failed}
@@ -23,17 +23,17 @@ use Rattle.input_files.specs.Ends.{end_of_reading}
 use Rattle.report_writer.specs.Texts.{refused_line}
 use Rattle.design_commands.specs.Designs.{IsShownImpossible, IsShownUndecided}
 
--- a budget of 100,000 entries, and numbers of 127 bits
-abbrev pub trial_limits : Bounds
+-- the limits of a trial: a budget of 100,000 entries, and numbers of 127 bits
+abbrev pub trial_limits : SearchLimits
 trial_limits = record { nodes = 100000; top = 2 ^ 127 - 1 }
 
--- `trial blocks T start S routers R interfaces I requests Q`
+-- what a trial's summary line begins with: `trial blocks T start S routers R interfaces I requests Q`
 abbrev pub trial_part : ℕ → ℕ → List ℕ
 trial_part blocks start =
     codes "trial blocks " ++ decimal blocks ++ codes " start " ++ decimal start ++ codes " routers " ++ decimal (3 * blocks + 1)
     ++ codes " interfaces " ++ decimal (8 * blocks) ++ codes " requests " ++ decimal (blocks + 1)
 
--- the summary line of a trial: its case, ` verdict V greatest G total C`, and an LF
+-- the summary line of a trial: what it is made of, ` verdict V greatest G total C`, and an LF
 abbrev pub summary_line : ℕ → ℕ → List ℕ → List ℕ → List ℕ → List ℕ
 summary_line blocks start verdict greatest total =
     trial_part blocks start ++ codes " verdict " ++ verdict ++ codes " greatest " ++ greatest ++ codes " total " ++ total ++ 10 ∷ []
@@ -42,13 +42,13 @@ summary_line blocks start verdict greatest total =
 abbrev pub costless_line : ℕ → ℕ → List ℕ → List ℕ
 costless_line blocks start verdict = summary_line blocks start verdict (codes "none") (codes "none")
 
--- the summary line tells the greatest and the total of best costs
+-- the bytes are the summary line of a trial with the greatest and the total of some best costs
 pub record TellsBest (blocks start : ℕ) (p : DesignProblem) (bytes : List ℕ) : Type 0 where
   pub costs : List ℕ
   pub best : AreBestCosts p costs
   pub spelled : bytes ≡ summary_line blocks start (codes "optimal") (decimal (greatest_cost costs)) (decimal (sum costs))
 
--- a line, and a text of this kind behind it
+-- the bytes are this line, and a text of this kind behind it
 pub record IsLineFollowedBy (line : List ℕ) (IsText : List ℕ → Type 0) (bytes : List ℕ) : Type 0 where
   pub behind : List ℕ
   pub spelled : bytes ≡ line ++ behind
@@ -61,7 +61,7 @@ trial_text blocks start p a (Optimal k) =
 trial_text blocks start p a ByNone = costless_line blocks start (codes "impossible") ++ text a
 trial_text blocks start p a (ByBudget cap) = costless_line blocks start (codes "undecided") ++ text a
 
--- the bytes are the text by an answer for which the advisors were asked so
+-- the bytes are the text of a trial by an answer for which the advisors were asked as `Asks` tells
 abbrev pub TellsTrial : ℕ → ℕ → DesignProblem → (AnswerParts → Type 0) → List ℕ → Type 0
 TellsTrial blocks start p Asks bytes = (a : AnswerParts) × IsAnswerValue a × (bytes ≡ trial_text blocks start p a a.verdict) × Asks a
 
@@ -74,17 +74,17 @@ MayTry blocks start d Undecided bytes =
     IsLineFollowedBy (costless_line blocks start (codes "undecided")) (IsShownUndecided trial_limits d.problem) bytes
 MayTry blocks start d status bytes = ⊥
 
--- the names of a case's files
+-- the names of a trial's files
 abbrev pub trial_files : TrialTexts → InputFiles
-trial_files case = record { request = codes "request.txt"; configs = case.names }
+trial_files trial = record { request = codes "request.txt"; configs = trial.names }
 
 -- the texts of a trial, each with its name: the request file, then the configurations
 abbrev pub named_trial_texts : TrialTexts → List (List ℕ × List ℕ)
-named_trial_texts case = (codes "request.txt", case.request) ∷ zip case.names case.configs
+named_trial_texts trial = (codes "request.txt", trial.request) ∷ zip trial.names trial.configs
 
--- what the texts of a case say: they take the place of files, and none is read
+-- what the texts of a trial say: they take the place of files, and none is read
 unfoldable pub trial_end : TrialTexts → End Input
-trial_end case = end_of_reading (named_trial_texts case) (outcome AsRequested (trial_files case))
+trial_end trial = end_of_reading (named_trial_texts trial) (outcome AsRequested (trial_files trial))
 
 -- what a trial may write by the end of reading its texts: the first fault, or what comes of the problem
 abbrev pub MayTryEnd : ℕ → ℕ → End Input → Status → List ℕ → Type 0

@@ -1,6 +1,6 @@
 //! `design`: an answer to the files of words.
 ghost use Rattle.std.specs.Prelude.{◌≡◌, ◌⊎◌, ℕ, List, IfErr, IfOk};
-ghost use Rattle.command_words.specs.Jobs.{bounds};
+ghost use Rattle.command_words.specs.Jobs.{limits_seen};
 ghost use Rattle.design_problem.specs.Text.{text};
 ghost use Rattle.form_search.specs.Advised.{AreCalled};
 ghost use Rattle.least_bound.specs.Asking.{AreAskedAnswering};
@@ -10,6 +10,8 @@ ghost use Rattle.input_files.specs.Stops.{IsReadAs, files_named};
 ghost use Rattle.report_writer.specs.Reports.{Reports, bytes_in};
 ghost use Rattle.design_commands.specs.Asking.{TellsAnswer};
 ghost use Rattle.design_commands.specs.Designs.{IsAnswerTo, verdict_status, MayDesign};
+ghost use Rattle.design_commands.specs.Made.{ReportsAnswer, ReportsDesign};
+ghost use Rattle.design_commands.specs.Made as definition;
 
 use cost_base::{OutOfMemory, Shelf, Status};
 use cut_advisors::Advisor;
@@ -49,7 +51,7 @@ pub(crate) fn answer_to(
 ) -> Result<Answer, OutOfMemory>
     // Always true: a function that hands on boxed advisors has to require something.
     requires itself { problem.now ≡ problem.now }
-    ensures answered { IfOk result (IsAnswerTo (bounds limits.now) problem.now) }
+    ensures answered { IfOk result (IsAnswerTo (limits_seen limits.now) problem.now) }
     ensures asked { IfOk result (AreAskedAnswering ⟦<dyn Advisor as Advisor>⟧ (λ b. b.vtable)
         (λ b. state b) problem.now limits.now.top limits.now.nodes
         advisors.old.items advisors.new.items) }
@@ -60,6 +62,35 @@ pub(crate) fn answer_to(
     let answer = least(alloc, problem, limits, advisors)?;
     keeps_answer(&answer);
     Ok(answer)
+}
+
+/// What was made, or the stop of want of memory.
+pub(crate) fn or_stop<'a>(made: Result<Report, OutOfMemory>) -> Result<Report, Stop<'a>>
+    ensures { result ≡ definition.or_stop made }
+{
+    match made {
+        Ok(report) => Ok(report),
+        Err(OutOfMemory) => Err(Stop::OutOfMemory),
+    }
+}
+
+/// The report of a design for a problem.
+fn report_of_design(
+    alloc: Global,
+    problem: &Problem,
+    limits: &Limits,
+    advisors: &mut Vec<Box<dyn Advisor>>,
+) -> Result<Report, OutOfMemory>
+    // Always true: see `answer_to`.
+    requires itself { problem.now ≡ problem.now }
+    ensures made { IfOk result (ReportsAnswer (limits_seen limits.now) problem.now
+        (AreAskedAnswering ⟦<dyn Advisor as Advisor>⟧ (λ b. b.vtable) (λ b. state b) problem.now
+        limits.now.top limits.now.nodes advisors.old.items advisors.new.items) ReportsDesign) }
+    ensures advisors { AreCalled ⟦<dyn Advisor as Advisor>⟧ (λ b. b.vtable) (λ b. state b)
+        advisors.old.items advisors.new.items }
+{
+    let answer = answer_to(alloc, problem, limits, advisors)?;
+    report_of_answer(alloc, &answer)
 }
 
 /// The report of a design from the files of words: the text of an answer.
@@ -76,7 +107,7 @@ pub fn design_report<'a, S: Shelf>(
 ) -> Result<Report, Stop<'a>>
     ensures read { Gave (S.gave shelf.old shelf.new)
         (λ came. IsReadAs (outcome View.AsRequested (files_named words.entry)) came
-        (λ report d. MayDesign (bounds limits.now) d report.status (bytes_in report.text) ×
+        (λ report d. MayDesign (limits_seen limits.now) d report.status (bytes_in report.text) ×
         TellsAnswer (AreAskedAnswering ⟦<dyn Advisor as Advisor>⟧ (λ b. b.vtable) (λ b. state b)
         d.problem limits.now.top limits.now.nodes
         advisors.old.items advisors.new.items) (bytes_in report.text)) result) }
@@ -88,6 +119,5 @@ pub fn design_report<'a, S: Shelf>(
         advisors.old.items advisors.new.items }
 {
     let problem = read_problem(alloc, View::AsRequested, words, shelf)?;
-    let answer = answer_to(alloc, &problem, limits, advisors)?;
-    Ok(report_of_answer(alloc, &answer)?)
+    or_stop(report_of_design(alloc, &problem, limits, advisors))
 }

@@ -3,20 +3,23 @@ ghost use Rattle.std.specs.Prelude.{◌≡◌, ◌⊎◌, ◌++◌, ◌∷◌, [
 ghost use Rattle.cost_base.specs.Decimal.{decimal};
 ghost use Rattle.form_search.specs.Advised.{AreCalled};
 ghost use Rattle.least_bound.specs.Asking.{AreAskedAnswering};
-ghost use Rattle.command_words.specs.Jobs.{bounds};
-ghost use Rattle.design_problem.specs.Text.{spaced, text};
+ghost use Rattle.command_words.specs.Jobs.{limits_seen};
+ghost use Rattle.design_problem.specs.Text.{row_line, spaced, text};
 ghost use Rattle.text_lines.specs.Lines.{with_ends};
+ghost use Rattle.printed_rows.specs.FittingTexts.{FitText};
 ghost use Rattle.input_files.specs.Readings.{Gave};
 ghost use Rattle.input_files.specs.Outcomes.{outcome};
 ghost use Rattle.input_files.specs.Stops.{IsReadAs, files_named};
 ghost use Rattle.report_writer.specs.Reports.{bytes_in};
+ghost use Rattle.least_total.specs.declared.finding.Total.TheVariants.{Least, Undecided};
 ghost use Rattle.design_commands.specs.Designs.{IsAnswerTo};
-ghost use Rattle.design_commands.specs.TotalRuns.{CanPrintProof, MayTotal, CanReport, ReportsFoundAs, ReportsTotal, TellsTotal, shown_lines};
+ghost use Rattle.design_commands.specs.Made.{ReportsAnswer};
+ghost use Rattle.design_commands.specs.TotalRuns.{CanPrintProof, MayTotal, CanReport, ReportsFoundAs, ReportsTotal, TellsTotal, bound_lines, shown_lines, total_text};
 
-use crate::design::{answer_to, report_of_answer};
+use crate::design::{answer_to, or_stop, report_of_answer};
 use cost_base::{OutOfMemory, Shelf, Status};
 use cut_advisors::Advisor;
-use design_problem::{Answer, CapTree, Problem, Verdict};
+use design_problem::{Answer, CapTree, Problem, Row, Verdict};
 use evidence_text::{TreePart, keeps_answer, push_evidence, text_of_answer};
 use input_files::{FileWords, Stop, View, read_problem};
 use least_total::{Total, TotalProof, least_total};
@@ -67,6 +70,83 @@ fn push_proof(
     }
 }
 
+/// The text where no best costs have a smaller total.
+fn least_text(
+    alloc: Global,
+    cap: u16,
+    answer: &Answer,
+    total: u64,
+    proof: TotalProof,
+) -> Result<Vec<u8>, OutOfMemory>
+    requires { CanPrintProof cap proof }
+    ensures { IfOk result (λ bytes. bytes.items ≡
+        total_text (text answer.now) total (shown_lines cap proof)) }
+{
+    let mut text = begun_text(alloc, answer, total)?;
+    push_proof(alloc, &mut text, cap, proof)?;
+    push_bytes(&mut text, b"end\n")?;
+    Ok(text)
+}
+
+/// The least total that was found, and the bound of it at which the budget was used up.
+#[derive(Clone, Copy)]
+struct TotalRange {
+    total: u64,
+    bound: u64,
+}
+
+/// The text where the budget was used up at a bound of the total.
+fn undecided_text(
+    alloc: Global,
+    answer: &Answer,
+    range: TotalRange,
+    rows: &[Row],
+    tree: &CapTree,
+) -> Result<Vec<u8>, OutOfMemory>
+    requires { FitText row_line tree.now.cap rows.now tree.now.tree }
+    ensures { IfOk result (λ bytes. bytes.items ≡
+        total_text (text answer.now) range.total (bound_lines range.bound rows.now tree.now)) }
+{
+    let mut text = begun_text(alloc, answer, range.total)?;
+    push_line(&mut text, b"bound", range.bound)?;
+    push_evidence(alloc, &mut text, rows, TreePart::Unfinished, tree)?;
+    push_bytes(&mut text, b"end\n")?;
+    Ok(text)
+}
+
+/// The report where no best costs have a smaller total.
+fn least_report(
+    alloc: Global,
+    cap: u16,
+    answer: &Answer,
+    total: u64,
+    proof: TotalProof,
+) -> Result<Report, OutOfMemory>
+    requires { CanPrintProof cap proof }
+    ensures { IfOk result (ReportsFoundAs cap (Least answer.now total proof)) }
+{
+    keeps_answer(answer);
+    let text = least_text(alloc, cap, answer, total, proof)?;
+    Ok(Report::made(Status::Done, text))
+}
+
+/// The report where the budget was used up at a bound of the total.
+fn undecided_report(
+    alloc: Global,
+    answer: &Answer,
+    range: TotalRange,
+    rows: Vec<Row>,
+    tree: CapTree,
+) -> Result<Report, OutOfMemory>
+    requires { FitText row_line tree.cap rows.items tree.tree }
+    ensures { IfOk result (ReportsFoundAs tree.cap
+        (Undecided answer.now range.total range.bound rows tree.tree)) }
+{
+    keeps_answer(answer);
+    let text = undecided_text(alloc, answer, range, &rows, &tree)?;
+    Ok(Report::made(Status::Undecided, text))
+}
+
 /// The report of what was found from a valid optimal answer of this greatest cost.
 fn report_of_found(alloc: Global, cap: u16, found: Total) -> Result<Report, OutOfMemory>
     requires { CanReport cap found }
@@ -77,28 +157,20 @@ fn report_of_found(alloc: Global, cap: u16, found: Total) -> Result<Report, OutO
             answer,
             total,
             proof,
-        } => {
-            keeps_answer(&answer);
-            let mut text = begun_text(alloc, &answer, total)?;
-            push_proof(alloc, &mut text, cap, proof)?;
-            push_bytes(&mut text, b"end\n")?;
-            Ok(Report::made(Status::Done, text))
-        }
+        } => least_report(alloc, cap, &answer, total, proof),
         Total::Undecided {
             answer,
             total,
             bound,
             rows,
             tree,
-        } => {
-            keeps_answer(&answer);
-            let mut text = begun_text(alloc, &answer, total)?;
-            push_line(&mut text, b"bound", bound)?;
-            let tree = CapTree { cap, tree };
-            push_evidence(alloc, &mut text, &rows, TreePart::Unfinished, &tree)?;
-            push_bytes(&mut text, b"end\n")?;
-            Ok(Report::made(Status::Undecided, text))
-        }
+        } => undecided_report(
+            alloc,
+            &answer,
+            TotalRange { total, bound },
+            rows,
+            CapTree { cap, tree },
+        ),
     }
 }
 
@@ -109,8 +181,8 @@ fn report_of_total(
     answer: Answer,
     limits: &Limits,
 ) -> Result<Report, OutOfMemory>
-    requires { IsAnswerTo (bounds limits.now) problem.now answer }
-    ensures { IfOk result (ReportsTotal (bounds limits.now) problem.now answer answer.verdict) }
+    requires { IsAnswerTo (limits_seen limits.now) problem.now answer }
+    ensures { IfOk result (ReportsTotal (limits_seen limits.now) problem.now answer answer.verdict) }
 {
     match answer.verdict {
         Verdict::Optimal(cap) => {
@@ -119,6 +191,26 @@ fn report_of_total(
         }
         Verdict::Impossible | Verdict::Undecided(_) => report_of_answer(alloc, &answer),
     }
+}
+
+/// The report of `total` for a problem.
+fn total_of_problem(
+    alloc: Global,
+    problem: &Problem,
+    limits: &Limits,
+    advisors: &mut Vec<Box<dyn Advisor>>,
+) -> Result<Report, OutOfMemory>
+    // Always true: see `answer_to`.
+    requires itself { problem.now ≡ problem.now }
+    ensures made { IfOk result (ReportsAnswer (limits_seen limits.now) problem.now
+        (AreAskedAnswering ⟦<dyn Advisor as Advisor>⟧ (λ b. b.vtable) (λ b. state b) problem.now
+        limits.now.top limits.now.nodes advisors.old.items advisors.new.items)
+        (λ a report. ReportsTotal (limits_seen limits.now) problem.now a a.verdict report)) }
+    ensures advisors { AreCalled ⟦<dyn Advisor as Advisor>⟧ (λ b. b.vtable) (λ b. state b)
+        advisors.old.items advisors.new.items }
+{
+    let answer = answer_to(alloc, problem, limits, advisors)?;
+    report_of_total(alloc, problem, answer, limits)
 }
 
 /// The report of `total` from the files of words: best costs of the least total, or what a design finds in their place.
@@ -135,8 +227,8 @@ pub fn total_report<'a, S: Shelf>(
 ) -> Result<Report, Stop<'a>>
     ensures read { Gave (S.gave shelf.old shelf.new) (λ came. IsReadAs
         (outcome View.AsRequested (files_named words.entry)) came
-        (λ report d. MayTotal (bounds limits.now) d report.status (bytes_in report.text) ×
-        TellsTotal (bounds limits.now) d.problem (AreAskedAnswering ⟦<dyn Advisor as Advisor>⟧
+        (λ report d. MayTotal (limits_seen limits.now) d report.status (bytes_in report.text) ×
+        TellsTotal (limits_seen limits.now) d.problem (AreAskedAnswering ⟦<dyn Advisor as Advisor>⟧
         (λ b. b.vtable) (λ b. state b) d.problem limits.now.top limits.now.nodes
         advisors.old.items advisors.new.items) (bytes_in report.text)) result) }
 
@@ -147,6 +239,5 @@ pub fn total_report<'a, S: Shelf>(
         advisors.old.items advisors.new.items }
 {
     let problem = read_problem(alloc, View::AsRequested, words, shelf)?;
-    let answer = answer_to(alloc, &problem, limits, advisors)?;
-    Ok(report_of_total(alloc, &problem, answer, limits)?)
+    or_stop(total_of_problem(alloc, &problem, limits, advisors))
 }

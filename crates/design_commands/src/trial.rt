@@ -1,8 +1,8 @@
-//! `trial`: a made trial, designed.
+//! `trial`: a made network, designed.
 ghost use Rattle.std.specs.Prelude.{◌≡◌, ◌⊎◌, ◌≤◌, ◌<◌, ◌^◌, ◌++◌, ℕ, List, IfErr, IfOk, codes, length};
 ghost use Rattle.std.specs.List.{sum};
 ghost use Rattle.cost_base.specs.Decimal.{decimal};
-ghost use Rattle.command_words.specs.Jobs.{bounds};
+ghost use Rattle.command_words.specs.Jobs.{limits_seen};
 ghost use Rattle.design_problem.specs.Text.{text};
 ghost use Rattle.design_problem.specs.Answers.{lines_in};
 ghost use Rattle.design_problem.specs.GivenCosts.{costs_given};
@@ -15,12 +15,13 @@ ghost use Rattle.report_writer.specs.Reports.{Reports, bytes_in};
 ghost use Rattle.trial_maker.specs.TrialTexts.{made_trial};
 ghost use Rattle.design_commands.specs.Asking.{AsksAt};
 ghost use Rattle.design_commands.specs.Designs.{IsAnswerTo, verdict_status};
+ghost use Rattle.design_commands.specs.Made.{ReportsAnswer, ReportsTrial};
 ghost use Rattle.design_commands.specs.Trials.{MayTrial, MayTry, TellsTrial, costless_line, summary_line, trial_end, trial_limits, trial_text};
 
-use crate::case_files::{REQUEST, shelf_of, words_of};
 use crate::cost_sum::total_of;
-use crate::design::{answer_to, status_of};
-use crate::trial_line::{TrialCase, best_line, costless_line};
+use crate::design::{answer_to, or_stop, status_of};
+use crate::trial_files::{REQUEST, shelf_of, words_of};
+use crate::trial_line::{TrialNumbers, best_line, costless_line};
 use cost_base::{OutOfMemory, Shelf, Status};
 use cut_advisors::Advisor;
 use design_problem::{Answer, CostLine, Costs, Problem, Verdict};
@@ -29,12 +30,12 @@ use input_files::{FileWords, Stop, View, read_problem};
 use report_writer::{Report, report_of};
 use std::alloc::Global;
 use text_lines::push_bytes;
-use trial_maker::make_trial;
+use trial_maker::{TrialTexts, make_trial};
 use wide_fraction::{Limits, Top};
 
 /// The limits of a trial: a budget of 100,000 entries, and numbers of 127 bits.
 fn trial_limits() -> Limits
-    ensures { bounds result ≡ trial_limits }
+    ensures { limits_seen result ≡ trial_limits }
 {
     let top = Top::new(127).unwrap();
     Limits::new(100_000, top).unwrap()
@@ -43,7 +44,7 @@ fn trial_limits() -> Limits
 /// The report of a trial without best costs: the summary line, and the answer's text behind it.
 fn costless_report(
     alloc: Global,
-    trial: TrialCase,
+    trial: TrialNumbers,
     verdict: &[u8],
     answer: &Answer,
 ) -> Result<Report, OutOfMemory>
@@ -70,7 +71,7 @@ fn lines_of(costs: &Option<Costs>) -> &[CostLine]
 /// The report of a trial with best costs of this greatest cost: the summary line.
 fn best_report(
     alloc: Global,
-    trial: TrialCase,
+    trial: TrialNumbers,
     problem: &Problem,
     greatest: u16,
     lines: &[CostLine],
@@ -89,7 +90,7 @@ fn best_report(
 /// The report of a trial by the answer to its problem.
 fn report_of_trial(
     alloc: Global,
-    trial: TrialCase,
+    trial: TrialNumbers,
     problem: &Problem,
     answer: &Answer,
 ) -> Result<Report, OutOfMemory>
@@ -109,10 +110,29 @@ fn report_of_trial(
     }
 }
 
-/// The report of a trial whose case's texts stand on a shelf.
+/// The report of a trial for its problem.
+fn trial_of_problem(
+    alloc: Global,
+    trial: TrialNumbers,
+    problem: &Problem,
+    advisors: &mut Vec<Box<dyn Advisor>>,
+) -> Result<Report, OutOfMemory>
+    requires { trial.blocks ≤ 125 }
+    ensures made { IfOk result (ReportsAnswer trial_limits problem.now
+        (AreAskedAnswering ⟦<dyn Advisor as Advisor>⟧ (λ b. b.vtable) (λ b. state b) problem.now
+        trial_limits.top trial_limits.nodes advisors.old.items advisors.new.items)
+        (ReportsTrial trial.blocks trial.start problem.now)) }
+    ensures advisors { AreCalled ⟦<dyn Advisor as Advisor>⟧ (λ b. b.vtable) (λ b. state b)
+        advisors.old.items advisors.new.items }
+{
+    let answer = answer_to(alloc, problem, &trial_limits(), advisors)?;
+    report_of_trial(alloc, trial, problem, &answer)
+}
+
+/// The report of a trial whose texts stand on a shelf.
 fn report_on_texts<'a, S: Shelf>(
     alloc: Global,
-    trial: TrialCase,
+    trial: TrialNumbers,
     words: FileWords<'a>,
     shelf: &mut S,
     advisors: &mut Vec<Box<dyn Advisor>>,
@@ -130,18 +150,49 @@ fn report_on_texts<'a, S: Shelf>(
         advisors.old.items advisors.new.items }
 {
     let problem = read_problem(alloc, View::AsRequested, words, shelf)?;
-    let answer = answer_to(alloc, &problem, &trial_limits(), advisors)?;
-    Ok(report_of_trial(alloc, trial, &problem, &answer)?)
+    or_stop(trial_of_problem(alloc, trial, &problem, advisors))
 }
 
-/// The report of a trial. No file is read: the texts of its case stand on a shelf of their own.
+/// The report of a trial of these texts.
+fn report_of_texts(
+    alloc: Global,
+    trial: TrialNumbers,
+    made: &TrialTexts,
+    advisors: &mut Vec<Box<dyn Advisor>>,
+) -> Result<Report, OutOfMemory>
+    requires few { trial.blocks ≤ 125 }
+    requires made { made.now ≡ made_trial trial.blocks trial.start }
+    ensures tried { IfOk result (λ report. MayTrial trial.blocks trial.start report.status
+        (bytes_in report.text)) }
+    ensures asked { IfOk result (λ report. AsksAt
+        (λ d. TellsTrial trial.blocks trial.start d.problem (AreAskedAnswering
+        ⟦<dyn Advisor as Advisor>⟧ (λ b. b.vtable) (λ b. state b) d.problem trial_limits.top
+        trial_limits.nodes advisors.old.items advisors.new.items) (bytes_in report.text))
+        (advisors.new.items ≡ advisors.old.items)
+        (trial_end (made_trial trial.blocks trial.start))) }
+    ensures advisors { AreCalled ⟦<dyn Advisor as Advisor>⟧ (λ b. b.vtable) (λ b. state b)
+        advisors.old.items advisors.new.items }
+{
+    let configs = words_of(alloc, made.names.as_slice())?;
+    let mut shelf = shelf_of(alloc, made)?;
+    let words = FileWords {
+        request: REQUEST,
+        configs: configs.as_slice(),
+    };
+    report_of(
+        alloc,
+        report_on_texts(alloc, trial, words, &mut shelf, advisors),
+    )
+}
+
+/// The report of a trial. No file is read: the made texts stand on a shelf of their own.
 ///
 /// # Errors
 ///
 /// `OutOfMemory`.
 pub fn trial_report(
     alloc: Global,
-    trial: TrialCase,
+    trial: TrialNumbers,
     advisors: &mut Vec<Box<dyn Advisor>>,
 ) -> Result<Report, OutOfMemory>
     requires some { 1 ≤ trial.blocks }
@@ -160,15 +211,6 @@ pub fn trial_report(
     ensures advisors { AreCalled ⟦<dyn Advisor as Advisor>⟧ (λ b. b.vtable) (λ b. state b)
         advisors.old.items advisors.new.items }
 {
-    let case = make_trial(alloc, trial.blocks, trial.start)?;
-    let mut shelf = shelf_of(alloc, &case)?;
-    let configs = words_of(alloc, case.names.as_slice())?;
-    let words = FileWords {
-        request: REQUEST,
-        configs: configs.as_slice(),
-    };
-    report_of(
-        alloc,
-        report_on_texts(alloc, trial, words, &mut shelf, advisors),
-    )
+    let made = make_trial(alloc, trial.blocks, trial.start)?;
+    report_of_texts(alloc, trial, &made, advisors)
 }

@@ -7,9 +7,9 @@ use cost_base::OutOfMemory;
 use std::alloc::Global;
 use text_lines::{push_bytes, push_number};
 
-/// A trial: how many blocks its case has, 1 to 125, and the number from which the sides of the blocks are chosen.
+/// What makes a trial: how many blocks it has, 1 to 125, and the number from which the sides of the blocks are chosen.
 #[derive(Clone, Copy)]
-pub struct TrialCase {
+pub struct TrialNumbers {
     /// How many blocks there are.
     pub blocks: u32,
     /// The number from which the sides are chosen.
@@ -24,8 +24,8 @@ fn push_field(line: &mut Vec<u8>, word: &[u8], number: u32) -> Result<(), OutOfM
     push_number(line, u128::from(number))
 }
 
-/// The numbers of a trial's case.
-fn case_part(alloc: Global, trial: TrialCase) -> Result<Vec<u8>, OutOfMemory>
+/// The first part of the summary line: what the trial is made of, and how large it is.
+fn trial_part(alloc: Global, trial: TrialNumbers) -> Result<Vec<u8>, OutOfMemory>
     requires { trial.blocks ≤ 125 }
     ensures { IfOk result (λ line. line.items ≡ trial_part trial.blocks trial.start) }
 {
@@ -41,7 +41,7 @@ fn case_part(alloc: Global, trial: TrialCase) -> Result<Vec<u8>, OutOfMemory>
 /// The summary line of a trial, with its LF.
 pub(crate) fn summary_line(
     alloc: Global,
-    trial: TrialCase,
+    trial: TrialNumbers,
     verdict: &[u8],
     greatest: &[u8],
     total: &[u8],
@@ -50,7 +50,7 @@ pub(crate) fn summary_line(
     ensures { IfOk result (λ line. line.items ≡ summary_line trial.blocks trial.start verdict.now
         greatest.now total.now) }
 {
-    let mut line = case_part(alloc, trial)?;
+    let mut line = trial_part(alloc, trial)?;
     push_bytes(&mut line, b" verdict ")?;
     push_bytes(&mut line, verdict)?;
     push_bytes(&mut line, b" greatest ")?;
@@ -73,7 +73,7 @@ fn digits_of(alloc: Global, number: u128) -> Result<Vec<u8>, OutOfMemory>
 /// The summary line of a trial whose best costs have this greatest cost and this total.
 pub(crate) fn best_line(
     alloc: Global,
-    trial: TrialCase,
+    trial: TrialNumbers,
     greatest: u16,
     total: u128,
 ) -> Result<Vec<u8>, OutOfMemory>
@@ -89,7 +89,7 @@ pub(crate) fn best_line(
 /// The summary line of a trial without best costs.
 pub(crate) fn costless_line(
     alloc: Global,
-    trial: TrialCase,
+    trial: TrialNumbers,
     verdict: &[u8],
 ) -> Result<Vec<u8>, OutOfMemory>
     requires { trial.blocks ≤ 125 }

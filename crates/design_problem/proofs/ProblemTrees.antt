@@ -44,16 +44,16 @@ request_of_rival g (r ∷ rs) (suc k) d es rival =
 -- the form of a row is at least 0 at fit costs
 row_met : (p : DesignProblem) (w : List ℕ) (row : Row) → IsProblem p → IsFit p w → IsRow p row → pos 0 ≤ℤ value_for_costs (form_of_row p row) w
 row_met p w row kept fit is_row =
-    let found = request_of_rival p.graph p.paths row.request no_request row.rival.edges is_row in
+    let found = request_of_rival p.graph p.paths row.request no_request row.rival is_row in
     let meets = (fit-iff p w kept).0 fit in
-    let met = meets.rows row.request no_request found.within row.rival.edges found.path found.other in
+    let met = meets.rows row.request no_request found.within row.rival found.path found.other in
     let counted = subst (λ (n : ℕ).
-    pos 0 ≤ℤ value_for_costs (form_between p.graph n (get_or p.paths row.request no_request).path.edges row.rival.edges) w)
+    pos 0 ≤ℤ value_for_costs (form_between p.graph n (get_or p.paths row.request no_request).path.edges row.rival) w)
     (sym fit.within.low_count) met in
-    subst (λ (r : Option Request). pos 0 ≤ℤ value_for_costs (form_between p.graph (length p.low) (path_edges r) row.rival.edges) w) (sym found.is_there) counted
+    subst (λ (r : Option Request). pos 0 ≤ℤ value_for_costs (form_between p.graph (length p.low) (path_edges r) row.rival) w) (sym found.is_there) counted
 
 abbrev no_row : Row
-no_row = record { request = 0; rival = record { start = 0; edges = [] } }
+no_row = record { request = 0; rival = [] }
 
 -- fit costs meet the forms of all rows
 pub fit_meets : (p : DesignProblem) (rows : List Row) (w : List ℕ) → IsProblem p → All (IsRow p) rows → IsFit p w → Meets (forms_of_rows p rows) w

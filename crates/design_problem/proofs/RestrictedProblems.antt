@@ -7,7 +7,7 @@ use Rattle.area_graph.specs.Area.{Area}
 use Rattle.area_graph.specs.Paths.{IsPathOf}
 use Rattle.design_problem.specs.declared.problem.VarName.{VarName}
 use Rattle.design_problem.specs.declared.problem.Request.{Request}
-use Rattle.design_problem.specs.Problems.{DesignProblem, IsProblem, TakesAway, request_ends, no_request, request_at, restricted}
+use Rattle.design_problem.specs.Problems.{DesignProblem, IsProblem, MayBeExcluded, request_ends, no_request, request_at, restricted}
 
 -- rising numbers are at least their places
 increasing_above : (xs : List ℕ) (k : ℕ) → IsStrictlyIncreasing xs → k < length xs → k ≤ get_or xs k 0
@@ -37,7 +37,7 @@ pub restricted_kept : (p : DesignProblem) (members : List ℕ) → IsProblem p �
     All (λ m. m < length p.paths) members → IsProblem (restricted p members)
 restricted_kept p members kept rising known = record {
   paths = chosen_keep (λ r. IsPathOf p.graph (request_ends r) r.path.edges) p.paths members kept.paths known;
-  excluded = chosen_keep (λ r. TakesAway p.graph r.excluded) p.paths members kept.excluded known;
+  excluded = chosen_keep (λ r. MayBeExcluded p.graph r.excluded) p.paths members kept.excluded known;
   low_count = kept.low_count;
   var_count = kept.var_count;
   ordered = kept.ordered;

@@ -21,9 +21,9 @@ pub record RowPaths (p : DesignProblem) (row : Row) (d : Request) (wanted rival 
   pub form : form_between p.graph (length p.low) wanted rival ≡ form_of_row p row
 
 pub row_paths : (p : DesignProblem) (row : Row) (d : Request) (wanted rival : List ℕ) → IsProblem p → HasRoute p row →
-    wanted ≡ (get_or p.paths row.request d).path.edges → rival ≡ row.rival.edges → RowPaths p row d wanted rival
+    wanted ≡ (get_or p.paths row.request d).path.edges → rival ≡ row.rival → RowPaths p row d wanted rival
 row_paths p row d wanted rival kept route is_wanted is_rival =
-    let found = request_of_route p.graph p.paths row.request d row.rival.edges route in
+    let found = request_of_route p.graph p.paths row.request d row.rival route in
     let r = get_or p.paths row.request d in
     let here : wanted ≡ path_edges (slice_get p.paths row.request) = is_wanted ∙ sym (ap path_edges found.is_there) in
     record {

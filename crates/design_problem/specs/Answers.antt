@@ -69,7 +69,7 @@ pub record IsValid (p : DesignProblem) (a : AnswerParts) : Type 0 where
   pub finished : a.unfinished ≡ None
   pub claim : ClaimHolds p a.rows a.verdict a.costs a.floor a.proof
 
--- the box at the greatest upper bound
+-- the box of the problem at the cap of its greatest upper bound
 abbrev pub whole_box : DesignProblem → CostBox
 whole_box p = capped (box_of p) (greatest_bound p)
 

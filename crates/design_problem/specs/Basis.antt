@@ -34,7 +34,7 @@ abbrev pub coordinate : Form → ℕ → ℤ
 coordinate f zero = f.constant
 coordinate f (suc var) = slice_index_or f.coefficients var (pos 0)
 
--- a coordinate of the sum of the forms, each times its number
+-- a coordinate of the sum of the forms, each times its factor
 abbrev pub mixture : List ℤ → List Form → ℕ → ℤ
 mixture [] fs i = pos 0
 mixture (m ∷ ms) [] i = pos 0

@@ -70,9 +70,9 @@ BoundsFloor Absent = Unit {0}
 BoundsFloor Empty = Unit {0}
 BoundsFloor (Var v) = IsThing v
 
--- a row's request and edges have 32 bits; the start of its rival plays no part
+-- a row's request and edges have 32 bits
 abbrev pub BoundsRow : Row → Type 0
-BoundsRow row = IsThing row.request × All IsThing row.rival.edges
+BoundsRow row = IsThing row.request × All IsThing row.rival
 
 -- an answer is a value of its type: all its numbers are within their types, and its trees are whole
 pub record HasBounds (a : AnswerParts) : Type 0 where

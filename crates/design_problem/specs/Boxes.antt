@@ -30,7 +30,7 @@ pub record IsPointOf (box : CostBox) (point : Point) : Type 0 where
 abbrev pub capped : CostBox → ℕ → CostBox
 capped box cap = record { low = box.low; high = map (λ h. min h cap) box.high }
 
--- how many whole points a box has
+-- how many whole points lie between these lower ends and these upper ends
 abbrev pub points_of : List ℕ → List ℕ → ℕ
 points_of [] hs = 1
 points_of (l ∷ ls) [] = 1
@@ -52,7 +52,7 @@ upper_sum (c ∷ cs) [] hs = pos 0
 upper_sum (c ∷ cs) (l ∷ ls) [] = pos 0
 upper_sum (c ∷ cs) (l ∷ ls) (h ∷ hs) = upper_term c l h +ℤ upper_sum cs ls hs
 
--- the greatest value over the box
+-- the greatest value of a form over a box
 abbrev pub greatest : Form → CostBox → ℤ
 greatest f box = f.constant +ℤ upper_sum f.coefficients box.low box.high
 
@@ -63,7 +63,7 @@ pub record Refutes (forms : List Form) (parts : List (ℕ × ℕ)) (box : CostBo
   pub sum : sum_by (λ part. part.1) parts < 2 ^ 100
   pub negative : greatest (weighted forms parts) box <ℤ pos 0
 
--- the box with another bound of one variable
+-- the box with another lower bound of one variable
 abbrev pub with_low : CostBox → ℕ → ℕ → CostBox
 with_low box var value = record { low = slice_set box.low var value; high = box.high }
 

@@ -28,7 +28,7 @@ abbrev pub opened : Bool → OpenBoxes → List CostBox
 opened false boxes = []
 opened true boxes = boxes.present ∷ boxes.behind
 
--- the open places
+-- the open places of a tree that is built, the present one first; none where none is open
 abbrev pub places_of : Bool → OpenBoxes → List Entry → List OpenPlace
 places_of false boxes entries = []
 places_of true boxes entries = record { box = boxes.present; since = run_of entries } ∷ map fresh boxes.behind

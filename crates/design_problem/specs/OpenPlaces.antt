@@ -18,12 +18,12 @@ LeavesPlacesOpen accepts top forms [] (entry ∷ entries) left = ⊥
 LeavesPlacesOpen accepts top forms (place ∷ places) (entry ∷ entries) left =
     SoundAt forms place.box entry × EarnestAt accepts top forms place entry × LeavesPlacesOpen accepts top forms (subplaces place entry ++ places) entries left
 
--- a tree as it grows
+-- a tree as it grows: its entries so far in preorder, and its open places
 pub record Growing : Type 0 where
   pub entries : List Entry
   pub places : List OpenPlace
 
--- the places after an entry at the first of them
+-- the open places after an entry at the first of these open places
 abbrev pub places_after : List OpenPlace → Entry → List OpenPlace
 places_after [] entry = []
 places_after (place ∷ places) entry = subplaces place entry ++ places

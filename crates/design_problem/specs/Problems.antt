@@ -16,18 +16,18 @@ pub record DesignProblem : Type 0 where
   pub high : List ℕ
   pub paths : List Request
 
--- the ends of a request's path, and the edges that it takes away
+-- the ends of a request's path, and its excluded edges
 abbrev pub request_ends : Request → Ends
 request_ends r = record { start = r.path.start; end = r.end; excluded = r.excluded }
 
--- the edges that a request takes away: their numbers rise strictly, and each is an edge of the graph
-abbrev pub TakesAway : Area → List ℕ → Type 0
-TakesAway g excluded = IsStrictlyIncreasing excluded × All (λ e. e < length g.edges) excluded
+-- a request may exclude these edges of the graph: their numbers rise strictly, and each is an edge of it
+abbrev pub MayBeExcluded : Area → List ℕ → Type 0
+MayBeExcluded g excluded = IsStrictlyIncreasing excluded × All (λ e. e < length g.edges) excluded
 
 -- what every problem keeps
 pub record IsProblem (p : DesignProblem) : Type 0 where
   pub paths : All (λ r. IsPathOf p.graph (request_ends r) r.path.edges) p.paths
-  pub excluded : All (λ r. TakesAway p.graph r.excluded) p.paths
+  pub excluded : All (λ r. MayBeExcluded p.graph r.excluded) p.paths
   pub low_count : length p.low ≡ length p.high
   pub var_count : length p.low ≤ 1000
   pub ordered : (k : ℕ) → k < length p.low → (1 ≤ slice_index p.low k) × (slice_index p.low k ≤ slice_index p.high k)

@@ -14,7 +14,7 @@ use Rattle.design_problem.specs.declared.form.Row.{Row}
 use Rattle.design_problem.specs.Problems.{DesignProblem, request_ends}
 use Rattle.design_problem.specs.Boxes.{IsInBox, IsPointOf}
 
--- the price is that variable's
+-- the price is the one of this variable
 abbrev pub is_var : ℕ → Price → Bool
 is_var v (Fixed cost) = false
 is_var v (Var u) = u == v
@@ -26,7 +26,7 @@ fixed_price (Fixed cost) = cost
 fixed_price (Var v) = 0
 fixed_price Zero = 0
 
--- how often a path pays a variable, and what it pays besides
+-- how often a path pays a variable
 abbrev pub uses : Area → List ℕ → ℕ → ℕ
 uses g es v = count_by (λ e. is_var v (edge_at g e).price) es
 
@@ -51,7 +51,7 @@ form_between g n wanted rival =
 abbrev pub box_of : DesignProblem → CostBox
 box_of p = record { low = p.low; high = p.high }
 
--- the costs are fit: within the bounds, and each wanted path is only cheapest
+-- the costs are fit: within the bounds, and each wanted path is the only cheapest of its request
 pub record IsFit (p : DesignProblem) (w : List ℕ) : Type 0 where
   pub within : IsInBox (box_of p) w
   pub only : All (λ r. IsOnlyCheapest p.graph (at_costs w) (request_ends r) r.path.edges) p.paths
@@ -60,7 +60,7 @@ pub record IsFit (p : DesignProblem) (w : List ℕ) : Type 0 where
 abbrev pub greatest_cost : List ℕ → ℕ
 greatest_cost w = fold max 0 w
 
--- fit, and no fit costs have a smaller greatest cost
+-- the costs are fit, and no fit costs have a smaller greatest cost
 pub record AreBestCosts (p : DesignProblem) (w : List ℕ) : Type 0 where
   pub fit : IsFit p w
   pub least : (other : List ℕ) → IsFit p other → greatest_cost w ≤ greatest_cost other
@@ -69,7 +69,7 @@ pub record AreBestCosts (p : DesignProblem) (w : List ℕ) : Type 0 where
 abbrev pub LeadsEach : DesignProblem → Point → Type 0
 LeadsEach p point = All (λ r. LeadsBy point.scale p.graph point (request_ends r) r.path.edges) p.paths
 
--- the edges are a simple path of the request, other than the requested one
+-- the edges are a simple path of the request, other than the wanted path
 abbrev pub IsRivalOf : Area → Option Request → List ℕ → Type 0
 IsRivalOf g None es = ⊥
 IsRivalOf g (Some r) es = IsPathOf g (request_ends r) es × (es ≢ r.path.edges)
@@ -79,17 +79,17 @@ abbrev pub IsRouteOf : Area → Option Request → List ℕ → Type 0
 IsRouteOf g None es = ⊥
 IsRouteOf g (Some r) es = IsPathOf g (request_ends r) es
 
--- the row's number is a request's, and its edges are a simple path of that request, be it the requested one
+-- the row's number is a request's, and its edges are a simple path of that request, be it the wanted path
 abbrev pub HasRoute : DesignProblem → Row → Type 0
-HasRoute p row = IsRouteOf p.graph (slice_get p.paths row.request) row.rival.edges
+HasRoute p row = IsRouteOf p.graph (slice_get p.paths row.request) row.rival
 
--- a row: its edges are a simple path of its request, other than the requested one. The start of its rival plays no part
+-- a row: its edges are a simple path of its request, other than the wanted path
 abbrev pub IsRow : DesignProblem → Row → Type 0
-IsRow p row = IsRivalOf p.graph (slice_get p.paths row.request) row.rival.edges
+IsRow p row = IsRivalOf p.graph (slice_get p.paths row.request) row.rival
 
 -- the form of a row
 abbrev pub form_of_row : DesignProblem → Row → Form
-form_of_row p row = form_between p.graph (length p.low) (path_edges (slice_get p.paths row.request)) row.rival.edges
+form_of_row p row = form_between p.graph (length p.low) (path_edges (slice_get p.paths row.request)) row.rival
 
 -- the forms of rows, in their order
 abbrev pub forms_of_rows : DesignProblem → List Row → List Form

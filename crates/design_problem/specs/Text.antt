@@ -63,7 +63,7 @@ floor_word (Var v) = decimal v
 
 -- `row`, the number of a request, and the edges of its rival
 abbrev pub row_line : Row → List ℕ
-row_line row = spaced (codes "row" ∷ decimal row.request ∷ map decimal row.rival.edges)
+row_line row = spaced (codes "row" ∷ decimal row.request ∷ map decimal row.rival)
 
 -- `low` or `high`
 abbrev pub side_word : Side → List ℕ

@@ -2,7 +2,6 @@
 ghost use Rattle.std.specs.Prelude.{◌≡◌, ◌^◌, ◌<◌, ◌≤◌, ◌++◌, length, All, IfOk, OnOk};
 ghost use Rattle.design_problem.specs.Forms.{term_of, terms_from, terms_of, form_by, AreTerms};
 
-use area_graph::Path;
 use cost_base::{Listed, OutOfMemory};
 use std::alloc::Global;
 use std::marker::Model;
@@ -18,11 +17,11 @@ pub struct CostBox {
 }
 
 /// A request, by its number, and a rival of its path: a simple path of that request other than the wanted one. The
-/// rival's edges are taken from the start of the request's path; its own `start` plays no part.
+/// rival is its edges, in their order; they start where the wanted path starts.
 #[derive(Drop)]
 pub struct Row {
     pub request: u32,
-    pub rival: Path,
+    pub rival: Listed<u32>,
 }
 
 /// A variable of a form, by its number, with its coefficient.
@@ -81,8 +80,12 @@ fn terms_of_all(alloc: Global, coefficients: &[i64]) -> Result<Vec<Term>, OutOfM
     Ok(terms)
 }
 
-/// The same terms.
-fn copied(alloc: Global, terms: &[Term]) -> Result<Vec<Term>, OutOfMemory>
+/// The same terms, in memory of their own.
+///
+/// # Errors
+///
+/// `OutOfMemory`.
+pub fn copied_terms(alloc: Global, terms: &[Term]) -> Result<Vec<Term>, OutOfMemory>
     ensures { IfOk result (λ copy. copy.items ≡ terms.now) }
 {
     Ok(terms.to_vec(alloc)?)
@@ -148,7 +151,7 @@ impl Form {
         self.terms.as_slice()
     }
 
-    /// The same form.
+    /// A copy of the form.
     ///
     /// # Errors
     ///
@@ -156,7 +159,7 @@ impl Form {
     pub fn copy(&self, alloc: Global) -> Result<Form, OutOfMemory>
         ensures { IfOk result (λ form. form ≡ self.now) }
     {
-        let terms = copied(alloc, self.terms.as_slice())?;
+        let terms = copied_terms(alloc, self.terms.as_slice())?;
         Ok(Form {
             constant: self.constant,
             variables: self.variables,

@@ -8,21 +8,21 @@ use area_graph::Path;
 use cost_base::{Listed, Name, OutOfMemory};
 use std::alloc::Global;
 
-/// The same numbers.
+/// A copy of numbers.
 fn copied_numbers(alloc: Global, numbers: &[u32]) -> Result<Listed<u32>, OutOfMemory>
     ensures { IfOk result (λ copy. copy ≡ numbers.now) }
 {
     Ok(Listed::from_items(numbers.to_vec(alloc)?))
 }
 
-/// The same bounds.
+/// A copy of bounds.
 fn copied_bounds(alloc: Global, bounds: &[u16]) -> Result<Listed<u16>, OutOfMemory>
     ensures { IfOk result (λ copy. copy ≡ bounds.now) }
 {
     Ok(Listed::from_items(bounds.to_vec(alloc)?))
 }
 
-/// An equal request.
+/// A copy of a request.
 fn copied_request(alloc: Global, request: &Request) -> Result<Request, OutOfMemory>
     ensures { IfOk result (λ copy. copy ≡ request.now) }
 {

@@ -87,7 +87,7 @@ pub fn form_of(alloc: Global, problem: &Problem, row: &Row) -> Result<Form, OutO
         .path
         .edges
         .as_slice();
-    let rival = row.rival.edges.as_slice();
+    let rival = row.rival.as_slice();
     form_of_paths(
         alloc,
         &problem.graph,

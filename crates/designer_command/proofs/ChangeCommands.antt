@@ -5,12 +5,12 @@ use Rattle.cost_base.specs.declared.Status.{Status}
 use Rattle.cost_base.specs.declared.Status.TheVariants as status
 use Rattle.design_problem.specs.Problems.{DesignProblem}
 use Rattle.design_problem.specs.Rows.{IsFit}
-use Rattle.command_words.specs.Jobs.{Bounds}
+use Rattle.command_words.specs.Jobs.{SearchLimits}
 use Rattle.input_files.specs.Outcomes.{Input}
 use Rattle.least_change.specs.declared.change.Change.{Change}
 use Rattle.least_change.specs.declared.change.Change.TheVariants.{Fewest, Impossible, Undecided}
 use Rattle.least_change.specs.Changes.{IsChangeFound}
-use Rattle.least_change.specs.Laws.{CannotSpendOnChanges}
+use Rattle.least_change.specs.Laws.{CannotBeUndecidedOnChanges}
 use Rattle.least_change.proofs.Unspent.{unspent_settle as changes_settle}
 use Rattle.change_commands.specs.Changes.{MayChange, ShowsChange, change_status, question_of}
 use Rattle.design_problem.specs.declared.answer.CostLine.{CostLine}
@@ -25,7 +25,7 @@ use Rattle.command_words.specs.declared.job.StepUnit.{StepUnit}
 use Rattle.report_writer.specs.declared.rejection.Rejection.{Rejection}
 use Rattle.change_commands.specs.Plans.{Plan, first_line_fault, rollout_of}
 use Rattle.change_commands.specs.Steps.{IsPlanRefused, MaySteps, ShowsSteps, outcome_status}
-use Rattle.designer_command.specs.Completeness.{AreStepsSettled, CannotSpendOnSteps, ChangesAreFound, IsRunSettled, StepsAreFound}
+use Rattle.designer_command.specs.Completeness.{AreStepsSettled, CannotBeUndecidedOnSteps, ChangesAreFound, IsRunSettled, StepsAreFound}
 use Rattle.designer_command.proofs.CompletenessLaws.{none_settles}
 use Rattle.designer_command.proofs.FurtherCommands.{IsFound, done_impossible, done_undecided, impossible_done, impossible_undecided, undecided_done, undecided_impossible}
 use Rattle.designer_command.proofs.OwnStatuses.{own_change, own_steps, said_end}
@@ -38,7 +38,7 @@ fit_settles p w fits = record {
   unfit = λ none. absurd (none w fits);
 }
 
-change_settles : (limits : Bounds) (d : Input) (bytes : List ℕ) → ShowsChange limits d status.Done bytes → IsRunSettled d.problem status.Done
+change_settles : (limits : SearchLimits) (d : Input) (bytes : List ℕ) → ShowsChange limits d status.Done bytes → IsRunSettled d.problem status.Done
 change_settles limits d bytes shown = by_found shown.change shown.found shown.status
   where
     by_found : (change : Change) → IsChangeFound (question_of limits d) change → change_status change ≡ status.Done → IsRunSettled d.problem status.Done
@@ -46,7 +46,7 @@ change_settles limits d bytes shown = by_found shown.change shown.found shown.st
     by_found (Impossible rows tree) found is = absurd (impossible_done is)
     by_found (Undecided w evidence stuck) found is = absurd (undecided_done is)
 
-none_change : (limits : Bounds) (d : Input) (bytes : List ℕ) → ShowsChange limits d status.Impossible bytes → IsRunSettled d.problem status.Impossible
+none_change : (limits : SearchLimits) (d : Input) (bytes : List ℕ) → ShowsChange limits d status.Impossible bytes → IsRunSettled d.problem status.Impossible
 none_change limits d bytes shown = by_found shown.change shown.found shown.status
   where
     by_found : (change : Change) → IsChangeFound (question_of limits d) change → change_status change ≡ status.Impossible →
@@ -55,7 +55,7 @@ none_change limits d bytes shown = by_found shown.change shown.found shown.statu
     by_found (Impossible rows tree) found is = none_settles d.problem found.none
     by_found (Undecided w evidence stuck) found is = absurd (undecided_impossible is)
 
-unknown_change : (limits : Bounds) (d : Input) (bytes : List ℕ) → CannotSpendOnChanges (question_of limits d) →
+unknown_change : (limits : SearchLimits) (d : Input) (bytes : List ℕ) → CannotBeUndecidedOnChanges (question_of limits d) →
     ShowsChange limits d status.Undecided bytes → ⊥
 unknown_change limits d bytes cannot shown = by_found shown.change shown.found shown.status
   where
@@ -67,7 +67,7 @@ unknown_change limits d bytes cannot shown = by_found shown.change shown.found s
 pub changes_found : ChangesAreFound
 changes_found limits names came d end bytes ends h =
     said_end _ (MayChange limits) came d end bytes
-    (λ s. IsFound s × (CannotSpendOnChanges (question_of limits d) → IsRunSettled d.problem s)) (own_change limits)
+    (λ s. IsFound s × (CannotBeUndecidedOnChanges (question_of limits d) → IsRunSettled d.problem s)) (own_change limits)
     (record {
       done = λ h. (inl refl, λ cannot. change_settles limits d bytes h);
       impossible = λ h. (inr (inl refl), λ cannot. none_change limits d bytes h);
@@ -132,7 +132,7 @@ none_steps nodes by plan lines of = by_outcome of.steps.outcome of.found.outcome
     by_outcome (NoStepsKnown stuck) found is = absurd (undecided_impossible is)
 
 unknown_steps : (nodes : ℕ) (by : StepUnit) (plan : Plan) (lines : List CostLine) →
-    CannotSpendOnSteps nodes (rollout_of by plan.input lines) → IsFoundOf nodes by plan lines status.Undecided → ⊥
+    CannotBeUndecidedOnSteps nodes (rollout_of by plan.input lines) → IsFoundOf nodes by plan lines status.Undecided → ⊥
 unknown_steps nodes by plan lines cannot of = by_outcome of.steps.outcome of.found.outcome of.status
   where
     by_outcome : (outcome : Outcome) → IsOutcome (rollout_of by plan.input lines) of.steps.held.items nodes outcome →
@@ -162,7 +162,7 @@ never_refused plan lines rejection said faultless (inr (inr faulty)) =
 pub steps_found : StepsAreFound
 steps_found nodes by names answer came plan lines end bytes ends said faultless h =
     said_end _ (MaySteps nodes by) came plan end bytes
-    (λ s. IsFound s × (CannotSpendOnSteps nodes (rollout_of by plan.input lines) → AreStepsSettled by plan lines s)) (own_steps nodes by)
+    (λ s. IsFound s × (CannotBeUndecidedOnSteps nodes (rollout_of by plan.input lines) → AreStepsSettled by plan lines s)) (own_steps nodes by)
     (record {
       done = λ h. (inl refl, λ cannot. order_settles nodes by plan lines (found_of nodes by plan lines status.Done bytes said h));
       impossible = λ h. (inr (inl refl), λ cannot. none_steps nodes by plan lines (found_of nodes by plan lines status.Impossible bytes said h));

@@ -18,7 +18,7 @@ use Rattle.design_problem.specs.ProblemLaws.{HasNoFit}
 use Rattle.sections_reader.proofs.SaidCosts.{said_once, said_read}
 use Rattle.least_bound.specs.Answered.{UnfinishedAt}
 use Rattle.config_writer.specs.Rewriting.{first_missing}
-use Rattle.command_words.specs.Jobs.{Bounds, JobRead}
+use Rattle.command_words.specs.Jobs.{SearchLimits, JobRead}
 use Rattle.command_words.specs.Jobs as read
 use Rattle.command_words.specs.Commands.{job_of}
 use Rattle.trial_maker.specs.TrialTexts.{made_trial}
@@ -58,7 +58,7 @@ none_settles p none = record {
 }
 
 -- where the budget can't be used up, no text shows that it was
-pub never_undecided : (limits : Bounds) (p : DesignProblem) (bytes : List ℕ) → CannotBeUndecided limits p → IsShownUndecided limits p bytes → ⊥
+pub never_undecided : (limits : SearchLimits) (p : DesignProblem) (bytes : List ℕ) → CannotBeUndecided limits p → IsShownUndecided limits p bytes → ⊥
 never_undecided limits p bytes never shown = by_tree shown.answer.unfinished shown.undecided.unfinished
   where
     by_tree : (t : Option CapTree) → UnfinishedAt p limits.top limits.nodes shown.answer.rows shown.cap t → ⊥
@@ -78,8 +78,8 @@ designed limits names came d end bytes ends never h =
       rejected = λ h. absurd h;
     }) ends h
 
-pub cases_designed : TrialsAreDesigned
-cases_designed blocks start d end bytes says never h =
+pub trials_designed : TrialsAreDesigned
+trials_designed blocks start d end bytes says never h =
     own_end (MayTry blocks start) d end bytes (IsRunSettled d.problem) (own_try blocks start)
     (record {
       done = λ h. best_settles d.problem h.costs h.best;

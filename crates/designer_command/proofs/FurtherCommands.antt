@@ -4,11 +4,11 @@ use Rattle.std.specs.Prelude.{◌⊎◌}
 use Rattle.cost_base.specs.declared.Status.{Status}
 use Rattle.cost_base.specs.declared.Status.TheVariants as status
 use Rattle.design_problem.specs.Problems.{DesignProblem}
-use Rattle.command_words.specs.Jobs.{Bounds}
+use Rattle.command_words.specs.Jobs.{SearchLimits}
 use Rattle.conflict_core.specs.declared.conflict.Conflict.{Conflict}
 use Rattle.conflict_core.specs.declared.conflict.Conflict.TheVariants.{Fits, Core, Undecided as NoConflictKnown}
 use Rattle.conflict_core.specs.Conflicts.{IsConflictFound}
-use Rattle.conflict_core.specs.Laws.{CannotSpendOnSets}
+use Rattle.conflict_core.specs.Laws.{CannotBeUndecidedOnSets}
 use Rattle.conflict_core.proofs.LargeBudgets.{unspent_settle as conflict_settles}
 use Rattle.path_commands.specs.Conflicts as conflicts
 use Rattle.path_commands.specs.Conflicts.{MayConflict, ShowsConflict}
@@ -23,7 +23,7 @@ use Rattle.input_files.specs.Outcomes.{Input}
 use Rattle.database_commands.specs.Lsas.{MayLsas}
 use Rattle.database_commands.specs.Routes.{MayRoute}
 use Rattle.design_commands.specs.TotalRuns.{IsShownUndecidedTotal, MayTotal}
-use Rattle.designer_command.specs.Completeness.{CannotBeUndecided, CannotSpendOnSharing, CannotSpendOnTotal, ConflictsAreFound, IdentifiedInputIsWritten, IsRunSettled, IsSpreadSettled, KnownRoutersAreRouted, SpreadsAreFound, TotalsAreFound}
+use Rattle.designer_command.specs.Completeness.{CannotBeUndecided, CannotBeUndecidedOnSharing, CannotBeUndecidedOnTotal, ConflictsAreFound, IdentifiedInputIsWritten, IsRunSettled, IsSpreadSettled, KnownRoutersAreRouted, SpreadsAreFound, TotalsAreFound}
 use Rattle.designer_command.proofs.CompletenessLaws.{best_settles, never_undecided, none_settles}
 use Rattle.designer_command.proofs.OwnStatuses.{only_done, own_conflict, own_lsas, own_route, own_spread, own_total, said_end}
 
@@ -32,7 +32,7 @@ use Rattle.designer_command.proofs.OwnStatuses.{only_done, own_conflict, own_lsa
 pub done_undecided : status.Done ≡ status.Undecided → ⊥
 done_undecided is = cc
 
-unknown_conflict : (limits : Bounds) (p : DesignProblem) (bytes : List ℕ) → CannotSpendOnSets p limits.top limits.nodes →
+unknown_conflict : (limits : SearchLimits) (p : DesignProblem) (bytes : List ℕ) → CannotBeUndecidedOnSets p limits.top limits.nodes →
     ShowsConflict limits p status.Undecided bytes → ⊥
 unknown_conflict limits p bytes cannot shown = by_found shown.conflict shown.found shown.status
   where
@@ -45,7 +45,7 @@ unknown_conflict limits p bytes cannot shown = by_found shown.conflict shown.fou
 pub conflicts_found : ConflictsAreFound
 conflicts_found limits names came d end bytes ends h =
     said_end _ (MayConflict limits) came d end bytes (λ s. ((s ≡ status.Done) ⊎ (s ≡ status.Undecided))
-    × (CannotSpendOnSets d.problem limits.top limits.nodes → s ≡ status.Done)) (own_conflict limits)
+    × (CannotBeUndecidedOnSets d.problem limits.top limits.nodes → s ≡ status.Done)) (own_conflict limits)
     (record {
       done = λ h. (inl refl, λ cannot. refl);
       impossible = λ h. absurd h;
@@ -59,7 +59,7 @@ IsFound s = (s ≡ status.Done) ⊎ (s ≡ status.Impossible) ⊎ (s ≡ status.
 
 -- `total`
 
-unknown_total : (limits : Bounds) (d : Input) (bytes : List ℕ) → CannotSpendOnTotal limits d.problem → IsShownUndecidedTotal limits d bytes → ⊥
+unknown_total : (limits : SearchLimits) (d : Input) (bytes : List ℕ) → CannotBeUndecidedOnTotal limits d.problem → IsShownUndecidedTotal limits d bytes → ⊥
 unknown_total limits d bytes cannot shown =
     cannot shown.designed.costs shown.bound shown.rows shown.tree shown.designed.best shown.sheet.true_rows
     shown.spent.printed.earnest shown.spent.undone shown.spent.spent
@@ -67,7 +67,7 @@ unknown_total limits d bytes cannot shown =
 pub totals_found : TotalsAreFound
 totals_found limits names came d end bytes ends h =
     said_end _ (MayTotal limits) came d end bytes (λ s. IsFound s
-    × (CannotBeUndecided limits d.problem → CannotSpendOnTotal limits d.problem → IsRunSettled d.problem s)) (own_total limits)
+    × (CannotBeUndecided limits d.problem → CannotBeUndecidedOnTotal limits d.problem → IsRunSettled d.problem s)) (own_total limits)
     (record {
       done = λ h. (inl refl, λ cannot none. best_settles d.problem h.designed.costs h.designed.best);
       impossible = λ h. (inr (inl refl), λ cannot none. none_settles d.problem h.none);
@@ -99,7 +99,7 @@ impossible_done is = cc
 pub done_impossible : status.Done ≡ status.Impossible → ⊥
 done_impossible is = cc
 
-fit_settles : (limits : Bounds) (sharing : Sharing) (bytes : List ℕ) → ShowsSpread limits sharing status.Done bytes → IsSpreadSettled sharing status.Done
+fit_settles : (limits : SearchLimits) (sharing : Sharing) (bytes : List ℕ) → ShowsSpread limits sharing status.Done bytes → IsSpreadSettled sharing status.Done
 fit_settles limits sharing bytes shown = by_found shown.spread shown.found shown.status
   where
     by_found : (spread : Spread) → IsSpreadFound sharing.input.problem shown.sets limits.top limits.nodes spread →
@@ -108,7 +108,7 @@ fit_settles limits sharing bytes shown = by_found shown.spread shown.found shown
     by_found (NoSpread rows tree) found is = absurd (impossible_done is)
     by_found (NoSpreadKnown rows tree) found is = absurd (undecided_done is)
 
-none_fit_settles : (limits : Bounds) (sharing : Sharing) (bytes : List ℕ) →
+none_fit_settles : (limits : SearchLimits) (sharing : Sharing) (bytes : List ℕ) →
     ShowsSpread limits sharing status.Impossible bytes → IsSpreadSettled sharing status.Impossible
 none_fit_settles limits sharing bytes shown = by_found shown.spread shown.found shown.status
   where
@@ -125,7 +125,7 @@ none_fit_settles limits sharing bytes shown = by_found shown.spread shown.found 
         }
     by_found (NoSpreadKnown rows tree) found is = absurd (undecided_impossible is)
 
-unknown_spread : (limits : Bounds) (sharing : Sharing) (bytes : List ℕ) → CannotSpendOnSharing limits sharing →
+unknown_spread : (limits : SearchLimits) (sharing : Sharing) (bytes : List ℕ) → CannotBeUndecidedOnSharing limits sharing →
     ShowsSpread limits sharing status.Undecided bytes → ⊥
 unknown_spread limits sharing bytes cannot shown = by_found shown.spread shown.found shown.status
   where
@@ -138,7 +138,7 @@ unknown_spread limits sharing bytes cannot shown = by_found shown.spread shown.f
 pub spreads_found : SpreadsAreFound
 spreads_found limits names file came sharing end bytes ends h =
     said_end _ (MaySpread limits) came sharing end bytes
-    (λ s. IsFound s × (CannotSpendOnSharing limits sharing → IsSpreadSettled sharing s))
+    (λ s. IsFound s × (CannotBeUndecidedOnSharing limits sharing → IsSpreadSettled sharing s))
     (own_spread limits)
     (record {
       done = λ h. (inl refl, λ cannot. fit_settles limits sharing bytes h);

@@ -14,7 +14,7 @@ use Rattle.design_problem.specs.Answers.{greatest_bound}
 use Rattle.design_problem.proofs.ProblemTrees.{le_greatest}
 use Rattle.design_problem.proofs.TreeShapes.{few_entries}
 use Rattle.printed_rows.proofs.CapBoxes.{capped_box}
-use Rattle.command_words.specs.Jobs.{Bounds}
+use Rattle.command_words.specs.Jobs.{SearchLimits}
 use Rattle.conflict_core.proofs.LargeBudgets.{large_suffice as conflict_large}
 use Rattle.spread_sets.proofs.PrintedSets.{large_suffice as spread_large}
 use Rattle.least_total.specs.Totals.{forms_within}
@@ -59,7 +59,7 @@ capped-le p cap =
     omega arith)
 
 -- no tree over the box at such a cap has an undone entry and exactly as many entries
-never_spent : (limits : Bounds) (p : DesignProblem) (cap : ℕ) (forms : List Form) (tree : List Entry) → IsProblem p →
+never_spent : (limits : SearchLimits) (p : DesignProblem) (cap : ℕ) (forms : List Form) (tree : List Entry) → IsProblem p →
     IsLarge limits p → All (λ low. low ≤ cap) p.low → IsSoundTree forms (capped (box_of p) cap) tree → Contains tree Undone →
     entry_count tree ≡ limits.nodes → ⊥
 never_spent limits p cap forms tree kept large no_higher sound undone spent =
@@ -67,7 +67,7 @@ never_spent limits p cap forms tree kept large no_higher sound undone spent =
     omega (arith, few, large, spent, capped-le p cap)
 
 -- for a problem a large budget is enough
-enough : (limits : Bounds) (p : DesignProblem) → IsProblem p → IsLarge limits p → LargeBudgetIsEnough limits p
+enough : (limits : SearchLimits) (p : DesignProblem) → IsProblem p → IsLarge limits p → LargeBudgetIsEnough limits p
 enough limits p kept large = record {
   design = λ cap rows tree no_higher true_rows earnest undone spent.
       never_spent limits p cap (forms_of_rows p rows) tree kept large no_higher earnest.sound undone spent;

@@ -3,7 +3,7 @@ use Rattle.std.proofs.Common.{◌≡◌, ℕ, refl, subst, List}
 use Rattle.cost_base.specs.declared.Status.{Status}
 use Rattle.cost_base.specs.declared.Status.TheVariants as status
 use Rattle.cost_base.specs.Histories.{Taken}
-use Rattle.command_words.specs.Jobs.{Bounds}
+use Rattle.command_words.specs.Jobs.{SearchLimits}
 use Rattle.input_files.specs.Readings.{Reading, Says, Faulty, Failed, EndsAs}
 use Rattle.input_files.proofs.Readings.{one_end, one_said, said_faulty, said_failed}
 use Rattle.database_commands.specs.Compares.{MayCompare}
@@ -31,7 +31,7 @@ pub record SaysItsOwn {A : Type 0} (may : A → Status → List ℕ → Type 0) 
   pub wanting : (x : A) (bytes : List ℕ) → may x status.OutOfMemory bytes → ⊥
   pub worded : (x : A) (bytes : List ℕ) → may x status.WordsRefused bytes → ⊥
 
-pub own_design : (limits : Bounds) → SaysItsOwn (MayDesign limits)
+pub own_design : (limits : SearchLimits) → SaysItsOwn (MayDesign limits)
 own_design limits = record { refused = λ x bytes h. h; failed = λ x bytes h. h; unwritten = λ x bytes h. h; wanting = λ x bytes h. h; worded = λ x bytes h. h }
 
 pub own_check : SaysItsOwn MayCheck
@@ -58,7 +58,7 @@ own_try blocks start = record {
   worded = λ x bytes h. h;
 }
 
-pub own_conflict : (limits : Bounds) → SaysItsOwn (MayConflict limits)
+pub own_conflict : (limits : SearchLimits) → SaysItsOwn (MayConflict limits)
 own_conflict limits = record {
   refused = λ x bytes h. h;
   failed = λ x bytes h. h;
@@ -67,13 +67,13 @@ own_conflict limits = record {
   worded = λ x bytes h. h;
 }
 
-pub own_spread : (limits : Bounds) → SaysItsOwn (MaySpread limits)
+pub own_spread : (limits : SearchLimits) → SaysItsOwn (MaySpread limits)
 own_spread limits = record { refused = λ x bytes h. h; failed = λ x bytes h. h; unwritten = λ x bytes h. h; wanting = λ x bytes h. h; worded = λ x bytes h. h }
 
-pub own_total : (limits : Bounds) → SaysItsOwn (MayTotal limits)
+pub own_total : (limits : SearchLimits) → SaysItsOwn (MayTotal limits)
 own_total limits = record { refused = λ x bytes h. h; failed = λ x bytes h. h; unwritten = λ x bytes h. h; wanting = λ x bytes h. h; worded = λ x bytes h. h }
 
-pub own_change : (limits : Bounds) → SaysItsOwn (MayChange limits)
+pub own_change : (limits : SearchLimits) → SaysItsOwn (MayChange limits)
 own_change limits = record {
   refused = λ x bytes h. h;
   failed = λ x bytes h. h;

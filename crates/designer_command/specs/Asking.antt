@@ -18,10 +18,10 @@ use Rattle.design_commands.specs.Trials.{TellsTrial, trial_end, trial_limits}
 use Rattle.path_commands.specs.Conflicts.{TellsConflict}
 use Rattle.designer_command.specs.Runs.{IsMadeAs, searched}
 
--- By which searches a command asks them, where this came of its files and it writes these bytes: a design and a total by one
--- for each of the caps that settle the problem that the files say; a conflict by one for each of the sets of requests that
--- settle whether all of them are a conflict; a trial as a design, of its made texts. The bytes are the text of what these
--- searches found. No advisor is asked where the files have a fault or one failed, by another command, and of refused words.
+-- By which searches a command asks the advisors, where this came of its files and it writes these bytes: `design` and
+-- `total` by one for each cap that settles the files' problem; `conflict` by one for each set of requests that settles
+-- whether all are a conflict; `trial` as `design`, of its made texts. The bytes are the text of what these searches
+-- found. No advisor is asked where files have a fault or one failed, by another command, and of refused words.
 abbrev pub AreAskedBy : {A V : Type 0} {X : V → Type 0} → ((rules : V) → Ghosts (X rules)) → (A → V) → (A → List ℕ) →
     List A → List A → Option JobRead → List Taken → List ℕ → Type 0
 AreAskedBy members rules state old new (Some (Design s)) came bytes =
@@ -39,8 +39,8 @@ AreAskedBy members rules state old new (Some (Trial blocks start)) came bytes =
     (new ≡ old) (trial_end (made_trial blocks start))
 AreAskedBy members rules state old new job came bytes = new ≡ old
 
--- what the command of a job makes is as what came of its files says, and where memory sufficed, the advisors were asked so for
--- what it writes
+-- what the command of a job makes is as what came of its files says, and where memory sufficed, the advisors were asked
+-- as `Asked` tells for what it writes
 pub record IsMadeAsking (Asked : Option JobRead → List Taken → List ℕ → Type 0) (job : JobRead) (came : List Taken) (made : Result Report Stop) : Type 0 where
   pub is_made : IsMadeAs job came made
   pub asked : (made ≡ Err NoMemoryLeft) ⊎ ((bytes : List ℕ) → IsMadeText made bytes → Asked (Some job) came bytes)

@@ -20,7 +20,7 @@ use Rattle.design_problem.specs.Answers.{AnswerParts, IsValid, whole_box}
 use Rattle.design_problem.specs.ProblemLaws.{HasNoFit}
 use Rattle.design_problem.specs.Text.{text}
 use Rattle.evidence_text.specs.AnswerValues.{IsAnswerValue}
-use Rattle.command_words.specs.Jobs.{Bounds, Help, Version}
+use Rattle.command_words.specs.Jobs.{SearchLimits, Help, Version}
 use Rattle.command_words.specs.declared.job.CommandName.{CommandName}
 use Rattle.trial_maker.specs.TrialTexts.{made_trial}
 use Rattle.config_writer.specs.Rewriting.{first_missing}
@@ -32,10 +32,10 @@ use Rattle.path_commands.specs.SetFiles.{AreSetsIn, Sharing, spread_read}
 use Rattle.path_commands.specs.Spreads.{MaySpread}
 use Rattle.spread_sets.specs.Spreads.{IsSpreadFit, all_sets}
 use Rattle.spread_sets.specs.Answers.{HasNoSpread}
-use Rattle.spread_sets.specs.Laws.{CannotSpendOnSpread}
-use Rattle.conflict_core.specs.Laws.{CannotSpendOnSets}
+use Rattle.spread_sets.specs.Laws.{CannotBeUndecidedOnSpread}
+use Rattle.conflict_core.specs.Laws.{CannotBeUndecidedOnSets}
 use Rattle.least_total.specs.Totals.{IsFormWithin, LeadsWithin, forms_within}
-use Rattle.least_change.specs.Laws.{CannotSpendOnChanges}
+use Rattle.least_change.specs.Laws.{CannotBeUndecidedOnChanges}
 use Rattle.change_commands.specs.Changes.{MayChange, question_of}
 use Rattle.change_commands.specs.Plans.{Plan, plan_read, rollout_of, first_line_fault}
 use Rattle.change_commands.specs.Steps.{MaySteps}
@@ -61,12 +61,12 @@ use Rattle.evidence_commands.specs.Rewrites.{MayRewrite}
 
 -- The budget can't be used up: over the box at any cap that isn't below a lower bound no earnest tree has an undone entry and
 -- exactly as many entries as the budget.
-abbrev pub CannotBeUndecided : Bounds → DesignProblem → Type 0
+abbrev pub CannotBeUndecided : SearchLimits → DesignProblem → Type 0
 CannotBeUndecided limits p =
     (cap : ℕ) (rows : List Row) (tree : List Entry) → All (λ low. low ≤ cap) p.low → All (IsRow p) rows →
     IsEarnestFor p limits.top rows (capped (box_of p) cap) tree → Contains tree Undone → entry_count tree ≡ limits.nodes → ⊥
 
--- Done where there are fit costs, Impossible where there are none, and nothing else
+-- a run on a problem ends Done where there are fit costs, Impossible where there are none, and with no other status
 pub record IsRunSettled (p : DesignProblem) (end : Status) : Type 0 where
   pub either : (end ≡ status.Done) ⊎ (end ≡ status.Impossible)
   pub fit : (w : List ℕ) → IsFit p w → end ≡ status.Done
@@ -75,11 +75,11 @@ pub record IsRunSettled (p : DesignProblem) (end : Status) : Type 0 where
 -- A design of well-formed input is settled, where the budget can't be used up.
 abbrev pub WellFormedInputIsDesigned : Type 0
 WellFormedInputIsDesigned =
-    (limits : Bounds) (names : InputFiles) (came : List Taken) (d : Input) (end : Status) (bytes : List ℕ) →
+    (limits : SearchLimits) (names : InputFiles) (came : List Taken) (d : Input) (end : Status) (bytes : List ℕ) →
     EndsAs (outcome AsRequested names) came (Says d) → CannotBeUndecided limits d.problem →
     MayAfter (outcome AsRequested names) (MayDesign limits) came end bytes → IsRunSettled d.problem end
 
--- So is a trial whose texts have no fault.
+-- A trial whose texts have no fault is settled, where the budget can't be used up.
 abbrev pub TrialsAreDesigned : Type 0
 TrialsAreDesigned =
     (blocks start : ℕ) (d : Input) (end : Status) (bytes : List ℕ) →
@@ -96,7 +96,7 @@ ValidAnswersAreAccepted =
 -- accepted.
 abbrev pub DesignsAreAccepted : Type 0
 DesignsAreAccepted =
-    (limits : Bounds) (d : Input) (aim : Status) (printed : List ℕ) → (aim ≡ status.Done) ⊎ (aim ≡ status.Impossible) → MayDesign limits d aim printed →
+    (limits : SearchLimits) (d : Input) (aim : Status) (printed : List ℕ) → (aim ≡ status.Done) ⊎ (aim ≡ status.Impossible) → MayDesign limits d aim printed →
     (names : InputFiles) (answer : List ℕ) (came : List Taken) (end : Status) (bytes : List ℕ) →
     EndsAs (claim_read names answer) came (Says (record { problem = d.problem; bytes = printed })) →
     MayAfter (claim_read names answer) MayCheck came end bytes → end ≡ status.Done
@@ -116,19 +116,19 @@ HeadedCostsAreWritten =
     first_missing (new_costs r.config costs) r.config.bytes ≡ None →
     MayAfter (revision_read config answer) MayRewrite came end bytes → end ≡ status.Done
 
--- a budget of twice as many entries as the box at the greatest upper bound has points, less one
-abbrev pub IsLarge : Bounds → DesignProblem → Type 0
+-- the budget is large: at least twice as many entries as the box at the greatest upper bound has points, less one
+abbrev pub IsLarge : SearchLimits → DesignProblem → Type 0
 IsLarge limits p = 2 * points (whole_box p) ≤ limits.nodes + 1
 
 -- Where its files say a problem, `conflict` may write nothing but what it found: that is settled where the budget can't be
 -- used up for a set of requests.
 abbrev pub ConflictsAreFound : Type 0
 ConflictsAreFound =
-    (limits : Bounds) (names : InputFiles) (came : List Taken) (d : Input) (end : Status) (bytes : List ℕ) →
+    (limits : SearchLimits) (names : InputFiles) (came : List Taken) (d : Input) (end : Status) (bytes : List ℕ) →
     EndsAs (outcome AsRequested names) came (Says d) → MayAfter (outcome AsRequested names) (MayConflict limits) came end bytes →
-    ((end ≡ status.Done) ⊎ (end ≡ status.Undecided)) × (CannotSpendOnSets d.problem limits.top limits.nodes → end ≡ status.Done)
+    ((end ≡ status.Done) ⊎ (end ≡ status.Undecided)) × (CannotBeUndecidedOnSets d.problem limits.top limits.nodes → end ≡ status.Done)
 
--- Done where some costs are spread-fit for the sets that the file says, Impossible where none are, and nothing else
+-- `spread` ends Done where some costs are spread-fit for the sets of its file, Impossible where none are, never else
 pub record IsSpreadSettled (sharing : Sharing) (end : Status) : Type 0 where
   pub sets : List (List ℕ)
   pub said : AreSetsIn sets sharing
@@ -137,60 +137,60 @@ pub record IsSpreadSettled (sharing : Sharing) (end : Status) : Type 0 where
   pub unfit : HasNoSpread sharing.input.problem (all_sets sharing.input.problem sets) → end ≡ status.Impossible
 
 -- the budget can't be used up for any sets of wanted paths that the file may say
-abbrev pub CannotSpendOnSharing : Bounds → Sharing → Type 0
-CannotSpendOnSharing limits sharing =
-    (sets : List (List ℕ)) → AreSetsIn sets sharing → CannotSpendOnSpread sharing.input.problem sets limits.top limits.nodes
+abbrev pub CannotBeUndecidedOnSharing : SearchLimits → Sharing → Type 0
+CannotBeUndecidedOnSharing limits sharing =
+    (sets : List (List ℕ)) → AreSetsIn sets sharing → CannotBeUndecidedOnSpread sharing.input.problem sets limits.top limits.nodes
 
 -- Where its files say a problem and sets of its wanted paths, `spread` may write nothing but what it found: that is settled
 -- where the budget can't be used up.
 abbrev pub SpreadsAreFound : Type 0
 SpreadsAreFound =
-    (limits : Bounds) (names : InputFiles) (file : List ℕ) (came : List Taken) (sharing : Sharing) (end : Status) (bytes : List ℕ) →
+    (limits : SearchLimits) (names : InputFiles) (file : List ℕ) (came : List Taken) (sharing : Sharing) (end : Status) (bytes : List ℕ) →
     EndsAs (spread_read names file) came (Says sharing) → MayAfter (spread_read names file) (MaySpread limits) came end bytes →
     ((end ≡ status.Done) ⊎ (end ≡ status.Impossible) ⊎ (end ≡ status.Undecided))
-    × (CannotSpendOnSharing limits sharing → IsSpreadSettled sharing end)
+    × (CannotBeUndecidedOnSharing limits sharing → IsSpreadSettled sharing end)
 
 -- The budget can't be used up for a bound of the total: over the box at the greatest of best costs no earnest tree, by rivals
 -- and the form of the total, has an undone entry and exactly as many entries as the budget.
-abbrev pub CannotSpendOnTotal : Bounds → DesignProblem → Type 0
-CannotSpendOnTotal limits p =
+abbrev pub CannotBeUndecidedOnTotal : SearchLimits → DesignProblem → Type 0
+CannotBeUndecidedOnTotal limits p =
     (w : List ℕ) (bound : ℕ) (rows : List Row) (tree : List Entry) → AreBestCosts p w → All (IsRow p) rows →
     IsEarnestOver (LeadsWithin p bound) (IsFormWithin p bound) limits.top (forms_within p bound rows) (capped (box_of p) (greatest_cost w)) tree →
     Contains tree Undone → entry_count tree ≡ limits.nodes → ⊥
 
--- So with `total`: Done where there are fit costs, and Impossible where there are none.
+-- Where its files say a problem, `total` may write nothing but what it found: settled if the budget can't be used up.
 abbrev pub TotalsAreFound : Type 0
 TotalsAreFound =
-    (limits : Bounds) (names : InputFiles) (came : List Taken) (d : Input) (end : Status) (bytes : List ℕ) →
+    (limits : SearchLimits) (names : InputFiles) (came : List Taken) (d : Input) (end : Status) (bytes : List ℕ) →
     EndsAs (outcome AsRequested names) came (Says d) → MayAfter (outcome AsRequested names) (MayTotal limits) came end bytes →
     ((end ≡ status.Done) ⊎ (end ≡ status.Impossible) ⊎ (end ≡ status.Undecided))
-    × (CannotBeUndecided limits d.problem → CannotSpendOnTotal limits d.problem → IsRunSettled d.problem end)
+    × (CannotBeUndecided limits d.problem → CannotBeUndecidedOnTotal limits d.problem → IsRunSettled d.problem end)
 
--- A large budget can't be used up for any of these.
-pub record LargeBudgetIsEnough (limits : Bounds) (p : DesignProblem) : Type 0 where
+-- The budget can't be used up by `design`, `conflict`, `spread` or `total` on this problem.
+pub record LargeBudgetIsEnough (limits : SearchLimits) (p : DesignProblem) : Type 0 where
   pub design : CannotBeUndecided limits p
-  pub conflict : CannotSpendOnSets p limits.top limits.nodes
-  pub spread : (sets : List (List ℕ)) → CannotSpendOnSpread p sets limits.top limits.nodes
-  pub total : CannotSpendOnTotal limits p
+  pub conflict : CannotBeUndecidedOnSets p limits.top limits.nodes
+  pub spread : (sets : List (List ℕ)) → CannotBeUndecidedOnSpread p sets limits.top limits.nodes
+  pub total : CannotBeUndecidedOnTotal limits p
 
 -- For well-formed input a large budget can't be used up; nor for the sets that a file of well-formed input says.
 abbrev pub LargeBudgetsSuffice : Type 0
 LargeBudgetsSuffice =
-    ((limits : Bounds) (names : InputFiles) (came : List Taken) (d : Input) →
+    ((limits : SearchLimits) (names : InputFiles) (came : List Taken) (d : Input) →
     EndsAs (outcome AsRequested names) came (Says d) → IsLarge limits d.problem → LargeBudgetIsEnough limits d.problem)
-    × ((limits : Bounds) (names : InputFiles) (file : List ℕ) (came : List Taken) (sharing : Sharing) →
-    EndsAs (spread_read names file) came (Says sharing) → IsLarge limits sharing.input.problem → CannotSpendOnSharing limits sharing)
+    × ((limits : SearchLimits) (names : InputFiles) (file : List ℕ) (came : List Taken) (sharing : Sharing) →
+    EndsAs (spread_read names file) came (Says sharing) → IsLarge limits sharing.input.problem → CannotBeUndecidedOnSharing limits sharing)
 
 -- Where its files say a problem, `change` may write nothing but what it found: that is settled where the budget can't be used
 -- up for a set of variables that keep their present costs, or for a cover tree.
 abbrev pub ChangesAreFound : Type 0
 ChangesAreFound =
-    (limits : Bounds) (names : InputFiles) (came : List Taken) (d : Input) (end : Status) (bytes : List ℕ) →
+    (limits : SearchLimits) (names : InputFiles) (came : List Taken) (d : Input) (end : Status) (bytes : List ℕ) →
     EndsAs (outcome BesidePresent names) came (Says d) → MayAfter (outcome BesidePresent names) (MayChange limits) came end bytes →
     ((end ≡ status.Done) ⊎ (end ≡ status.Impossible) ⊎ (end ≡ status.Undecided))
-    × (CannotSpendOnChanges (question_of limits d) → IsRunSettled d.problem end)
+    × (CannotBeUndecidedOnChanges (question_of limits d) → IsRunSettled d.problem end)
 
--- Done where the steps have a safe order for the held paths, Impossible where they have none, and nothing else
+-- `steps` ends Done where its steps have a safe order for the held paths, Impossible where they have none, never else
 pub record AreStepsSettled (by : StepUnit) (plan : Plan) (lines : List CostLine) (end : Status) : Type 0 where
   pub held : List ℕ
   pub are_held : AreHeld (rollout_of by plan.input lines) held
@@ -198,9 +198,9 @@ pub record AreStepsSettled (by : StepUnit) (plan : Plan) (lines : List CostLine)
   pub order : (order : List ℕ) → IsSafeOrder (rollout_of by plan.input lines) held order → end ≡ status.Done
   pub none : ((order : List ℕ) → IsSafeOrder (rollout_of by plan.input lines) held order → ⊥) → end ≡ status.Impossible
 
--- the budget can't be used up: it has as many states as the steps between have sets
-abbrev pub CannotSpendOnSteps : ℕ → Rollout → Type 0
-CannotSpendOnSteps nodes r = (held : List ℕ) → AreHeld r held → 2 ^ length (steps_between r held) ≤ nodes
+-- the budget of states can't be used up by `steps`: there are at least as many as sets of the steps between
+abbrev pub CannotBeUndecidedOnSteps : ℕ → Rollout → Type 0
+CannotBeUndecidedOnSteps nodes r = (held : List ℕ) → AreHeld r held → 2 ^ length (steps_between r held) ≤ nodes
 
 -- Where its files say a network and a text with cost lines of its linked interfaces, none named twice, `steps` may write
 -- nothing but what it found: that is settled where the budget can't be used up.
@@ -210,7 +210,7 @@ StepsAreFound =
     (end : Status) (bytes : List ℕ) → EndsAs (plan_read names answer) came (Says plan) → SaysCosts plan.bytes (Some lines) →
     first_line_fault plan.input.database lines ≡ None → MayAfter (plan_read names answer) (MaySteps nodes by) came end bytes →
     ((end ≡ status.Done) ⊎ (end ≡ status.Impossible) ⊎ (end ≡ status.Undecided))
-    × (CannotSpendOnSteps nodes (rollout_of by plan.input lines) → AreStepsSettled by plan lines end)
+    × (CannotBeUndecidedOnSteps nodes (rollout_of by plan.input lines) → AreStepsSettled by plan lines end)
 
 -- Where the files of `lsas` say a problem, and each configuration a router ID of its own, nothing may be written but the LSAs.
 abbrev pub IdentifiedInputIsWritten : Type 0
@@ -218,26 +218,26 @@ IdentifiedInputIsWritten =
     (names : InputFiles) (came : List Taken) (d : Input) (end : Status) (bytes : List ℕ) →
     EndsAs (identified_read names) came (Says d) → MayAfter (identified_read names) MayLsas came end bytes → end ≡ status.Done
 
--- Where the files of an audit of a running area say one, nothing may be written but its lines.
+-- Where the files of an audit of a running area say such an area, nothing may be written but the lines of its audit.
 abbrev pub RunningAreaIsAudited : Type 0
 RunningAreaIsAudited =
     (names : InputFiles) (live : List ℕ) (came : List Taken) (now : Running) (end : Status) (bytes : List ℕ) →
     EndsAs (live_audit_read names live) came (Says now) → MayAfter (live_audit_read names live) MayAuditLive came end bytes →
     end ≡ status.Done
 
--- Done where the running area has no difference from its configurations, Impossible where it has one
+-- `compare` ends Done where the running area has no difference from its configurations, Impossible where it has one
 abbrev pub IsCompared : Comparison → Status → Type 0
 IsCompared c end =
     (are_alike (differences_of c) ≡ true → end ≡ status.Done) × (are_alike (differences_of c) ≡ false → end ≡ status.Impossible)
 
--- Where the files of a comparison say one, nothing may be written but the differences.
+-- Where the files of `compare` say a running area and its configurations, nothing may be written but the differences.
 abbrev pub DifferencesAreWritten : Type 0
 DifferencesAreWritten =
     (names : InputFiles) (live : List ℕ) (came : List Taken) (c : Comparison) (end : Status) (bytes : List ℕ) →
     EndsAs (compare_read names live) came (Says c) → MayAfter (compare_read names live) MayCompare came end bytes →
     IsCompared c end × (bytes ≡ difference_text c.input.database (differences_of c))
 
--- Words that ask for help, or for the version, may write nothing but that text, whatever the files.
+-- Words that ask for help, or for the version, may write nothing but the text on that, whatever the files.
 abbrev pub HelpIsWritten : Type 0
 HelpIsWritten =
     (came : List Taken) (end : Status) (bytes : List ℕ) →

@@ -35,19 +35,19 @@ use Rattle.design_commands.specs.Designs.{MayDesign}
 use Rattle.design_commands.specs.Trials.{MayTrial}
 use Rattle.design_commands.specs.TotalRuns.{MayTotal}
 
--- the files say this, and that is what the command may write of it
+-- what came of the files says this, and the text is one that the command may write of that with this status
 pub record OnSaid {A : Type 0} (reading : Reading A) (came : List Taken) (may : A → Status → List ℕ → Type 0) (status : Status) (bytes : List ℕ) : Type 0 where
   pub said : A
   pub ends : EndsAs reading came (Says said)
   pub allowed : may said status bytes
 
--- 3: the first fault of the files is written
+-- status 3, `InputRefused`: the line of the first fault of the files is written
 pub record OnFault {A : Type 0} (reading : Reading A) (came : List Taken) (bytes : List ℕ) : Type 0 where
   pub fault : InputRefusal
   pub ends : EndsAs reading came (Faulty fault)
   pub written : bytes ≡ refused_line fault
 
--- 4: the file that failed is written
+-- status 4, `ReadFault`: the line of the file that failed is written
 pub record OnFailure {A : Type 0} (reading : Reading A) (came : List Taken) (bytes : List ℕ) : Type 0 where
   pub file : List ℕ
   pub ends : EndsAs reading came (Failed file)
@@ -65,12 +65,12 @@ MayAfter reading may came Undecided bytes = OnSaid reading came may Undecided by
 MayAfter reading may came WordsRefused bytes = OnSaid reading came may WordsRefused bytes
 MayAfter reading may came EvidenceRefused bytes = OnSaid reading came may EvidenceRefused bytes
 
--- words that are refused: no file is asked for
+-- what a run may write whose words are refused: the usage text, and no file is asked for
 abbrev pub MayRefuse : List Taken → Status → List ℕ → Type 0
 MayRefuse came WordsRefused bytes = (came ≡ []) × (bytes ≡ usage)
 MayRefuse came status bytes = ⊥
 
--- a text that is always the same is told: no file is asked for
+-- what `help` or `version` may write: this text, which is always the same, and no file is asked for
 abbrev pub MayTell : List ℕ → List Taken → Status → List ℕ → Type 0
 MayTell text came Done bytes = (came ≡ []) × (bytes ≡ text)
 MayTell text came status bytes = ⊥
@@ -110,7 +110,7 @@ MayWrite None came status bytes = MayRefuse came status bytes
 abbrev pub MayReport : {A : Type 0} → (A → Status → List ℕ → Type 0) → Report → A → Type 0
 MayReport may report said = may said report.status (bytes_in report.text)
 
--- what a trial makes: only want of memory stops it
+-- what a trial of so many blocks and this start makes: a report of what it may write; only want of memory stops it
 abbrev pub IsTried : ℕ → ℕ → Result Report Stop → Type 0
 IsTried blocks start made = MatchResult made (λ report. MayTrial blocks start report.status (bytes_in report.text)) (λ stop. stop ≡ NoMemoryLeft)
 
@@ -160,14 +160,14 @@ MayWant (Some (Help topic)) came = came ≡ []
 MayWant (Some Version) came = came ≡ []
 MayWant None came = came ≡ []
 
--- the sink was handed a text that may be written, and no more
+-- the sink was handed the whole of a text that may be written, and no more
 pub record WritesAll (may : Status → List ℕ → Type 0) (handed : List ℕ → Type 0) (got_before got_now : Option (List ℕ)) (status : Status) : Type 0 where
   pub bytes : List ℕ
   pub allowed : may status bytes
   pub written : handed bytes
   pub whole : GotAll got_before got_now bytes
 
--- the sink's count rose, and it was handed a prefix of a text that may be written
+-- the sink's count of faults rose, and it was handed a prefix of a text that may be written
 pub record WritesPart (may : Status → List ℕ → Type 0) (handed : List ℕ → Type 0) (got_before got_now : Option (List ℕ))
     (count_before count_now : ℕ) : Type 0 where
   pub status : Status
@@ -196,7 +196,7 @@ Writes may handed got_before got_now count_before count_now ReadFault = WritesAl
 Writes may handed got_before got_now count_before count_now WordsRefused = WritesAll may handed got_before got_now WordsRefused
 Writes may handed got_before got_now count_before count_now EvidenceRefused = WritesAll may handed got_before got_now EvidenceRefused
 
--- a text that may be written, and for which the advisors were asked so
+-- a text that may be written, and for which the advisors were asked as the second tells
 abbrev pub MayWriteAsking : (Status → List ℕ → Type 0) → (List ℕ → Type 0) → Status → List ℕ → Type 0
 MayWriteAsking may asked status bytes = may status bytes × asked bytes
 

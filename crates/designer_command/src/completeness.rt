@@ -18,13 +18,14 @@ pub fn well_formed_input_is_designed()
     ensures { WellFormedInputIsDesigned }
 {}
 
-/// So does a trial whose texts have no fault.
-pub fn made_cases_are_designed()
+/// A trial whose texts have no fault answers that there are fit costs, or that there are none, as it is, where the
+/// budget can't be used up.
+pub fn trials_are_designed()
     ensures { TrialsAreDesigned }
 {}
 
-/// For well-formed input a budget of twice as many entries as the box at the greatest upper bound has points, less one, can't
-/// be used up: by `design`, `conflict`, `spread` or `total`.
+/// For well-formed input a budget of twice as many entries as the box at the greatest upper bound has points, less one,
+/// can't be used up: by `design`, `conflict`, `spread` or `total`.
 pub fn large_budgets_suffice()
     ensures { LargeBudgetsSuffice }
 {}
@@ -61,7 +62,8 @@ pub fn spreads_are_found()
     ensures { SpreadsAreFound }
 {}
 
-/// So with `total`: where the budget can't be used up it writes that there are no fit costs exactly where there are none.
+/// `total` on well-formed input may write nothing but what it found: where the budget can't be used up it writes that
+/// there are no fit costs exactly where there are none.
 pub fn totals_are_found()
     ensures { TotalsAreFound }
 {}

@@ -15,7 +15,7 @@ use command_words::{CommandName, Job};
 use cost_base::{Shelf, Status};
 use cut_advisors::Advisor;
 use database_commands::{compare_report, lsas_report, route_report};
-use design_commands::{TrialCase, design_report, total_report, trial_report};
+use design_commands::{TrialNumbers, design_report, total_report, trial_report};
 use evidence_commands::{check_report, rewrite_report};
 use help_texts::{help_text, version_text};
 use input_files::{FileWords, Stop};
@@ -37,9 +37,12 @@ fn made_trial<'a>(
     start: u32,
     advisors: &mut Vec<Box<dyn Advisor>>,
 ) -> Result<Report, Stop<'a>>
+    // The words are within their ranges.
     requires some { 1 ≤ blocks }
     requires most { blocks ≤ 125 }
     requires start { start < 2 ^ 31 }
+
+    // The report tells of the trial that they make, and the advisors were asked by its searches.
     ensures made { IsTried blocks start result }
     ensures asked { IfOk result (λ report. AreAskedBy ⟦<dyn Advisor as Advisor>⟧ (λ b. b.vtable)
         (λ b. state b) advisors.old.items advisors.new.items (Some (Trial blocks start)) []
@@ -47,7 +50,7 @@ fn made_trial<'a>(
     ensures advisors { AreCalled ⟦<dyn Advisor as Advisor>⟧ (λ b. b.vtable) (λ b. state b)
         advisors.old.items advisors.new.items }
 {
-    Ok(trial_report(alloc, TrialCase { blocks, start }, advisors)?)
+    Ok(trial_report(alloc, TrialNumbers { blocks, start }, advisors)?)
 }
 
 /// What `audit` makes: at present costs, or with a live file at those of the running area.

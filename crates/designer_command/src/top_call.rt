@@ -65,11 +65,11 @@ fn write_made<K: Sink>(made: Result<Report, OutOfMemory>, out: &mut K) -> Status
 /// to the sink: with status `Done` that of best costs, with `Impossible` that no costs are fit, and with `Undecided` that
 /// the budget of `--nodes` was used up at the cap that it names. Each comes with its evidence.
 ///
-/// `trial --blocks T` makes a case and designs it with a budget of 100,000 entries. It writes a summary line and, with
-/// `Impossible` and `Undecided`, the answer's text behind it. No file is read.
+/// `trial --blocks T` makes a network of T blocks and designs it with a budget of 100,000 entries. It writes a summary
+/// line and, with `Impossible` and `Undecided`, the answer's text behind it. No file is read.
 ///
-/// `audit --request F CONFIG..` writes a line for each wanted path, with status `Done`: at present costs, or with `--live L` at
-/// those at which the area runs whose database the file L has.
+/// `audit --request F CONFIG..` writes a line for each wanted path, with status `Done`: at present costs, or with
+/// `--live L` at those at which the area runs whose database the file L has.
 ///
 /// `check --request F --answer A CONFIG..` reads the answer's file after the other files. It writes `accepted optimal K` or
 /// `accepted impossible`, with status `Done`, where the file's bytes are the text of a valid answer; else
@@ -109,7 +109,7 @@ fn write_made<K: Sink>(made: Result<Report, OutOfMemory>, out: &mut K) -> Status
 ///
 /// `help [COMMAND]` and `version` write a text that is always the same, with status `Done`. No file is read.
 ///
-/// The advisors are asked where a box is shared out, and told of each entry of a tree. Whatever they answer, all of this
+/// The advisors are asked where a box is cut, and told of each entry of a tree. Whatever they answer, all of this
 /// holds. Some of the first may be gone after the call, since they answered out of range; every other is left in its place,
 /// and stands as these calls left it. `design`, `trial`, `total` and `conflict` ask them, in the searches of the problem that
 /// their files say by whose findings the text is written; where these have a fault, and by other words, none is asked.

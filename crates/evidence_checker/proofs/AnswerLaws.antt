@@ -1,4 +1,4 @@
--- An answer that passes all tests is valid, and a valid answer meets none.
+-- An answer that passes all tests is valid, and a valid answer fails none.
 use Rattle.std.proofs.Common.{◌≡◌, ℕ, ◌+◌, ◌≤◌, refl, sym, ◌∙◌, ap, subst, List, [], ◌∷◌, ◌++◌, length, arith, inl, inr}
 use Rattle.std.specs.Prelude.{slice_index, Option, Some, None, All}
 use Rattle.std.specs.List.{AllZip}
@@ -28,12 +28,12 @@ use Rattle.design_problem.specs.Trees.{Sound, IsSoundTree, IsClosed, subboxes}
 use Rattle.design_problem.specs.Answers.{AnswerParts, Proves, ShowsLeastGreatest, ClaimHolds, IsValid, greatest_bound}
 use Rattle.evidence_checker.specs.declared.accepted.Accepted.{Accepted}
 use Rattle.evidence_checker.specs.declared.fault.CheckFault.{CheckFault}
-use Rattle.evidence_checker.specs.Refusals.{MetTest, AtNoPlace, AtFirstItem, StopsBy}
+use Rattle.evidence_checker.specs.Refusals.{FailedTest, AtNoPlace, AtFirstItem, StopsBy}
 use Rattle.evidence_checker.specs.Laws.{IsAcceptedAs, RefusesInvalid, CostsHold, ProofHolds}
 use Rattle.evidence_checker.specs.Tests.{ClaimsNothing, ShapeOfLeast, ShapeOfClaim, HasWrongShape, NamesPlaces, IsFalseFloor, cost_tests, row_tests, line_tests, AtFirstLine, proof_tests, tests}
 use Rattle.design_problem.proofs.GivenCosts.{names_written}
 use Rattle.evidence_checker.proofs.CostTests.{TestsAt, passes}
-use Rattle.evidence_checker.proofs.LineLaws.{sound_meets_none}
+use Rattle.evidence_checker.proofs.LineLaws.{sound_fails_none}
 use Rattle.evidence_checker.proofs.RowLaws.{row_meets_none}
 use Rattle.evidence_checker.proofs.StopLaws.{none_first, none_left_right, none_refused, stop_left, stop_right}
 
@@ -157,61 +157,61 @@ costs_of p rows (Optimal k) None floor proof claim = tt
 costs_of p rows Impossible costs floor proof claim = tt
 costs_of p rows (Undecided cap) costs floor proof claim = tt
 
--- costs that hold meet no test
-costs_met : (p : DesignProblem) (verdict : Verdict) (costs : Option Costs) (floor : Floor) → IsProblem p →
+-- costs that hold fail no test
+costs_fail : (p : DesignProblem) (verdict : Verdict) (costs : Option Costs) (floor : Floor) → IsProblem p →
     CostsHold p verdict costs floor → NoneOf (cost_tests p verdict costs floor)
-costs_met p (Optimal k) (Some costs) floor kept holds =
+costs_fail p (Optimal k) (Some costs) floor kept holds =
     let gives = holds.0 in
     let w = gives.values in
     let is = names_written p costs.lines w kept.each_named gives.fit.within.low_count gives.names in
     subst (λ (v : List ℕ). NoneOf (TestsAt p k costs.greatest costs.lines floor v)) (sym is)
     (passes p k costs.greatest costs.lines floor w (places_of w p.vars costs.lines gives.names) gives.names
     gives.fit.within (gives.printed, gives.greatest) gives.fit.only holds.1)
-costs_met p (Optimal k) None floor kept holds = tt
-costs_met p Impossible costs floor kept holds = tt
-costs_met p (Undecided cap) costs floor kept holds = tt
+costs_fail p (Optimal k) None floor kept holds = tt
+costs_fail p Impossible costs floor kept holds = tt
+costs_fail p (Undecided cap) costs floor kept holds = tt
 
-rows_met : (p : DesignProblem) (place : ℕ) (rows : List Row) (f : MetTest) → All (IsRow p) rows → AtFirstItem (row_tests p) place rows f → ⊥
-rows_met p place [] f true_rows met = met
-rows_met p place (row ∷ rows) f true_rows met =
-    elim met [
+rows_fail : (p : DesignProblem) (place : ℕ) (rows : List Row) (f : FailedTest) → All (IsRow p) rows → AtFirstItem (row_tests p) place rows f → ⊥
+rows_fail p place [] f true_rows failed = failed
+rows_fail p place (row ∷ rows) f true_rows failed =
+    elim failed [
       | inl here ↦ none_first (row_tests p row) f.number (row_meets_none p row (true_rows 0 row (omega arith))) here.1
-      | inr later ↦ rows_met p (place + 1) rows f (All-tail (IsRow p) row rows true_rows) later.1
+      | inr later ↦ rows_fail p (place + 1) rows f (All-tail (IsRow p) row rows true_rows) later.1
     ]
 
-lines_met : (forms : List Form) (boxes : List CostBox) (place : ℕ) (entries : List Entry) (f : MetTest) →
+lines_fail : (forms : List Form) (boxes : List CostBox) (place : ℕ) (entries : List Entry) (f : FailedTest) →
     Sound forms boxes entries → IsClosed entries → AtFirstLine forms boxes place entries f → ⊥
-lines_met forms [] place entries f sound closed met = met
-lines_met forms (box ∷ boxes) place [] f sound closed met = met
-lines_met forms (box ∷ boxes) place (entry ∷ entries) f sound closed met =
-    elim met [
-      | inl here ↦ none_first (line_tests forms box entry) f.number (sound_meets_none forms box entry sound.0 closed.0) here.1
-      | inr later ↦ lines_met forms (subboxes box entry ++ boxes) (place + 1) entries f sound.1 closed.1 later.1
+lines_fail forms [] place entries f sound closed failed = failed
+lines_fail forms (box ∷ boxes) place [] f sound closed failed = failed
+lines_fail forms (box ∷ boxes) place (entry ∷ entries) f sound closed failed =
+    elim failed [
+      | inl here ↦ none_first (line_tests forms box entry) f.number (sound_fails_none forms box entry sound.0 closed.0) here.1
+      | inr later ↦ lines_fail forms (subboxes box entry ++ boxes) (place + 1) entries f sound.1 closed.1 later.1
     ]
 
-proof_met : (p : DesignProblem) (rows : List Row) (proof : Option CapTree) → ProofHolds p rows proof → NoneOf (proof_tests p rows proof)
-proof_met p rows None holds = tt
-proof_met p rows (Some proof) holds = (λ f met. lines_met (forms_of_rows p rows) (capped (box_of p) proof.cap ∷ []) 0 proof.tree f holds.0 holds.1 met, tt)
+proof_fails : (p : DesignProblem) (rows : List Row) (proof : Option CapTree) → ProofHolds p rows proof → NoneOf (proof_tests p rows proof)
+proof_fails p rows None holds = tt
+proof_fails p rows (Some proof) holds = (λ f failed. lines_fail (forms_of_rows p rows) (capped (box_of p) proof.cap ∷ []) 0 proof.tree f holds.0 holds.1 failed, tt)
 
 -- the tests before those of the rows
-abbrev pub EarlyTests : DesignProblem → AnswerParts → List (MetTest → Type 0)
+abbrev pub EarlyTests : DesignProblem → AnswerParts → List (FailedTest → Type 0)
 EarlyTests p a = AtNoPlace 49 (ClaimsNothing a.verdict) ∷ AtNoPlace 51 (HasWrongShape p a) ∷ cost_tests p a.verdict a.costs a.floor
 
-early_met : (p : DesignProblem) (a : AnswerParts) → IsProblem p → (ClaimsNothing a.verdict → ⊥) →
+early_fail : (p : DesignProblem) (a : AnswerParts) → IsProblem p → (ClaimsNothing a.verdict → ⊥) →
     ShapeOfClaim p a.verdict a.costs a.floor a.proof × (a.unfinished ≡ None) → CostsHold p a.verdict a.costs a.floor →
     NoneOf (EarlyTests p a)
-early_met p a kept claims shape holds =
-    (λ f met. claims met.2, (λ f met. met.2 shape, costs_met p a.verdict a.costs a.floor kept holds))
+early_fail p a kept claims shape holds =
+    (λ f failed. claims failed.2, (λ f failed. failed.2 shape, costs_fail p a.verdict a.costs a.floor kept holds))
 
--- a valid answer meets no test
+-- a valid answer fails no test
 valid_meets_none : (p : DesignProblem) (a : AnswerParts) → IsProblem p → IsValid p a → NoneOf (tests p a)
 valid_meets_none p a kept valid =
     let claim = valid.claim in
     none_left_right (EarlyTests p a) (AtFirstItem (row_tests p) 0 a.rows ∷ proof_tests p a.rows a.proof)
-    (early_met p a kept (claims_something p a.rows a.verdict a.costs a.floor a.proof claim)
+    (early_fail p a kept (claims_something p a.rows a.verdict a.costs a.floor a.proof claim)
     (shape_of p a.rows a.verdict a.costs a.floor a.proof claim, valid.finished)
     (costs_of p a.rows a.verdict a.costs a.floor a.proof claim))
-    (λ f met. rows_met p 0 a.rows f valid.rows met, proof_met p a.rows a.proof (proof_of p a.rows a.verdict a.costs a.floor a.proof claim))
+    (λ f failed. rows_fail p 0 a.rows f valid.rows failed, proof_fails p a.rows a.proof (proof_of p a.rows a.verdict a.costs a.floor a.proof claim))
 
 -- so an answer that a test refuses isn't valid
 pub refuses : (p : DesignProblem) (a : AnswerParts) (s : Refusal CheckFault ℕ) → IsProblem p → StopsBy (tests p a) s → RefusesInvalid p a s
@@ -231,7 +231,7 @@ stops_costs p a accepted s is shape stops =
     let costs = cost_tests p a.verdict a.costs a.floor in
     let others = AtFirstItem (row_tests p) 0 a.rows ∷ proof_tests p a.rows a.proof in
     stop_right (AtNoPlace 49 (ClaimsNothing a.verdict) ∷ AtNoPlace 51 (HasWrongShape p a) ∷ []) (costs ++ others) s
-    (λ f met. accepted_claims a.verdict accepted is met.2, (λ f met. met.2 shape, tt))
+    (λ f failed. accepted_claims a.verdict accepted is failed.2, (λ f failed. failed.2 shape, tt))
     (stop_left costs others s stops)
 
 -- a test of the rows or of the proof, after all others
@@ -241,7 +241,7 @@ pub stops_evidence : (p : DesignProblem) (a : AnswerParts) (accepted : Accepted)
     StopsBy (AtFirstItem (row_tests p) 0 a.rows ∷ proof_tests p a.rows a.proof) s → StopsBy (tests p a) s
 stops_evidence p a accepted s kept is shape holds stops =
     stop_right (EarlyTests p a) (AtFirstItem (row_tests p) 0 a.rows ∷ proof_tests p a.rows a.proof) s
-    (early_met p a kept (accepted_claims a.verdict accepted is) shape holds) stops
+    (early_fail p a kept (accepted_claims a.verdict accepted is) shape holds) stops
 
 -- a test of the proof, after those of the rows
 pub stops_proof : (p : DesignProblem) (rows : List Row) (stands : Option CapTree) (proof : CapTree)
@@ -261,4 +261,4 @@ stops_proof p rows stands proof forms given low high s is given_is low_is high_i
     StopsBy (AtFirstLine (forms_of_rows p rows) (capped (record { low = p.low; high = xs }) proof.cap ∷ []) 0
     proof.tree ∷ []) s) high_is at_low in
     subst (λ (o : Option CapTree). StopsBy (AtFirstItem (row_tests p) 0 rows ∷ proof_tests p rows o) s) (sym is)
-    (stop_right (AtFirstItem (row_tests p) 0 rows ∷ []) (proof_tests p rows (Some proof)) s (λ f met. rows_met p 0 rows f true_rows met, tt) at_high)
+    (stop_right (AtFirstItem (row_tests p) 0 rows ∷ []) (proof_tests p rows (Some proof)) s (λ f failed. rows_fail p 0 rows f true_rows failed, tt) at_high)

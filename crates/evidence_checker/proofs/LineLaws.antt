@@ -1,4 +1,4 @@
--- The tests of a line of a tree: the first that is met, and none at a sound line.
+-- The tests of a line of a tree: the first that fails, and none at a sound line.
 use Rattle.std.proofs.Common.{◌≡◌, ℕ, ◌^◌, ◌<◌, ◌≤◌, refl, sym, ap, subst, List, length, arith, inl, inr}
 use Rattle.std.specs.Prelude.{IsTrue, Option, None, Some, MatchOption, ◌⊎◌, ℤ, pos, ◌≤ℤ◌, ◌<ℤ◌, All, Any, sum_by, false, true}
 use Rattle.std.proofs.lemmas.Int.{ints}
@@ -20,7 +20,7 @@ use Rattle.evidence_checker.specs.Tests.{line_tests}
 pub nothing_refuted : (forms : List Form) (box : CostBox) (parts : List (ℕ × ℕ)) →
     sum_by (λ part. part.1) parts < 2 ^ 100 → Any (λ part. length forms ≤ part.0) parts
     ⊎ (pos 0 ≤ℤ greatest (weighted forms parts) box) → FirstOf (line_tests forms box (Refute parts)) 43
-nothing_refuted forms box parts small nothing = inr (λ n met. absurd (omega (arith, met.1)), inl (refl, nothing))
+nothing_refuted forms box parts small nothing = inr (λ n failed. absurd (omega (arith, failed.1)), inl (refl, nothing))
 
 any_past : (n : ℕ) (parts : List (ℕ × ℕ)) → All (λ part. part.0 < n) parts → Any (λ part. n ≤ part.0) parts → ⊥
 any_past n parts known past = absurd (omega (arith, known past.0 past.1 past.2, ap (λ (p : ℕ × ℕ). p.0) past.3, past.4))
@@ -28,20 +28,20 @@ any_past n parts known past = absurd (omega (arith, known past.0 past.1 past.2, 
 true_false : true ≡ false → ⊥
 true_false e = cc
 
--- a sound line that isn't open meets no test
-pub sound_meets_none : (forms : List Form) (box : CostBox) (entry : Entry) → SoundAt forms box entry →
+-- a sound line that isn't open fails no test
+pub sound_fails_none : (forms : List Form) (box : CostBox) (entry : Entry) → SoundAt forms box entry →
     is_undone entry ≡ false → NoneOf (line_tests forms box entry)
-sound_meets_none forms box (Tighten var side value row) sound closed = (λ n met. met.1, (λ n met. met.1, (λ n met. met.1 sound, (λ n met. met.1, tt))))
-sound_meets_none forms box (Split var value) sound closed = (λ n met. met.1, (λ n met. met.1, (λ n met. met.1 sound, (λ n met. met.1, tt))))
-sound_meets_none forms box (Halve var value wide) sound closed = (λ n met. met.1, (λ n met. met.1, (λ n met. met.1 sound, (λ n met. met.1, tt))))
-sound_meets_none forms box (Refute parts) sound closed = (
-  λ n met. absurd (omega (arith, met.1, sound.sum)),
+sound_fails_none forms box (Tighten var side value row) sound closed = (λ n failed. failed.1, (λ n failed. failed.1, (λ n failed. failed.1 sound, (λ n failed. failed.1, tt))))
+sound_fails_none forms box (Split var value) sound closed = (λ n failed. failed.1, (λ n failed. failed.1, (λ n failed. failed.1 sound, (λ n failed. failed.1, tt))))
+sound_fails_none forms box (Halve var value wide) sound closed = (λ n failed. failed.1, (λ n failed. failed.1, (λ n failed. failed.1 sound, (λ n failed. failed.1, tt))))
+sound_fails_none forms box (Refute parts) sound closed = (
+  λ n failed. absurd (omega (arith, failed.1, sound.sum)),
   (
-    λ n met. elim (met.1) [ inl past ↦ any_past (length forms) parts sound.rows past | inr above ↦ absurd (omega (arith, ints, above, sound.negative)) ],
-    (λ n met. met.1, (λ n met. met.1, tt)),
+    λ n failed. elim (failed.1) [ inl past ↦ any_past (length forms) parts sound.rows past | inr above ↦ absurd (omega (arith, ints, above, sound.negative)) ],
+    (λ n failed. failed.1, (λ n failed. failed.1, tt)),
   ),
 )
-sound_meets_none forms box Undone sound closed = absurd (true_false closed)
+sound_fails_none forms box Undone sound closed = absurd (true_false closed)
 
 -- a Refute, as it stands among the lines
 pub refute_line : (forms : List Form) (box : CostBox) (entry : Entry) (parts : List (ℕ × ℕ)) (r : Option CheckFault) →
@@ -49,8 +49,8 @@ pub refute_line : (forms : List Form) (box : CostBox) (entry : Entry) (parts : L
     (λ f. FirstOf (line_tests forms box (Refute parts)) (check_fault_number f)) →
     MatchOption r (SoundAt forms box entry × (is_undone entry ≡ false))
     (λ f. FirstOf (line_tests forms box entry) (check_fault_number f))
-refute_line forms box entry parts None e met = subst (λ (x : Entry). SoundAt forms box x × (is_undone x ≡ false)) (sym e) (met, refl)
-refute_line forms box entry parts (Some f) e met = subst (λ (x : Entry). FirstOf (line_tests forms box x) (check_fault_number f)) (sym e) met
+refute_line forms box entry parts None e failed = subst (λ (x : Entry). SoundAt forms box x × (is_undone x ≡ false)) (sym e) (failed, refl)
+refute_line forms box entry parts (Some f) e failed = subst (λ (x : Entry). FirstOf (line_tests forms box x) (check_fault_number f)) (sym e) failed
 
 pub false_true : IsTrue false → ⊥
 false_true e = cc

@@ -10,18 +10,18 @@ use Rattle.design_problem.specs.declared.problem.Request.{Request}
 use Rattle.design_problem.specs.Problems.{DesignProblem}
 use Rattle.design_problem.specs.Rows.{IsRow, IsRivalOf, path_edges}
 use Rattle.design_problem.proofs.RowForms.{route_of_rival}
-use Rattle.evidence_checker.specs.Refusals.{MetTest, AtFirstItem}
+use Rattle.evidence_checker.specs.Refusals.{FailedTest, AtFirstItem}
 use Rattle.evidence_checker.specs.Tests.{row_tests}
 
 rival_is_other : (g : Area) (r : Option Request) (es : List ℕ) → IsRivalOf g r es → es ≡ path_edges r → ⊥
 rival_is_other g None es rival same = rival
 rival_is_other g (Some r) es rival same = rival.1 same
 
--- a row meets no test
+-- a rival row fails no test
 pub row_meets_none : (p : DesignProblem) (row : Row) → IsRow p row → NoneOf (row_tests p row)
 row_meets_none p row is_row = (
-  λ n met. met.1 (route_of_rival p.graph (slice_get p.paths row.request) row.rival.edges is_row),
-  (λ n met. rival_is_other p.graph (slice_get p.paths row.request) row.rival.edges is_row met.1, tt),
+  λ n failed. failed.1 (route_of_rival p.graph (slice_get p.paths row.request) row.rival is_row),
+  (λ n failed. rival_is_other p.graph (slice_get p.paths row.request) row.rival is_row failed.1, tt),
 )
 
 row_read : (rows : List Row) (k : ℕ) (row : Row) → k < length rows → row ≡ get_or rows k row → drop k rows ≡ row ∷ drop (k + 1) rows
@@ -31,19 +31,19 @@ row_read rows k row k_in e =
 
 -- the first faulty row of all, by the rows that are left
 abbrev pub FirstIsLeft : DesignProblem → List Row → ℕ → Type 0
-FirstIsLeft p rows k = (f : MetTest) → AtFirstItem (row_tests p) k (drop k rows) f → AtFirstItem (row_tests p) 0 rows f
+FirstIsLeft p rows k = (f : FailedTest) → AtFirstItem (row_tests p) k (drop k rows) f → AtFirstItem (row_tests p) 0 rows f
 
 pub first_goes_on : (p : DesignProblem) (rows : List Row) (k : ℕ) (row : Row) → k < length rows →
     row ≡ get_or rows k row → IsRow p row → FirstIsLeft p rows k → FirstIsLeft p rows (k + 1)
-first_goes_on p rows k row k_in e is_row left f met =
-    left f (subst (λ (xs : List Row). AtFirstItem (row_tests p) k xs f) (sym (row_read rows k row k_in e)) (inr (row_meets_none p row is_row, met)))
+first_goes_on p rows k row k_in e is_row left f failed =
+    left f (subst (λ (xs : List Row). AtFirstItem (row_tests p) k xs f) (sym (row_read rows k row k_in e)) (inr (row_meets_none p row is_row, failed)))
 
 pub first_is_here : (p : DesignProblem) (rows : List Row) (k number : ℕ) (row : Row) → k < length rows →
     row ≡ get_or rows k row → FirstOf (row_tests p row) number → FirstIsLeft p rows k →
     AtFirstItem (row_tests p) 0 rows (record { number = number; place = k })
-first_is_here p rows k number row k_in e met left =
-    let f : MetTest = record { number = number; place = k } in
-    left f (subst (λ (xs : List Row). AtFirstItem (row_tests p) k xs f) (sym (row_read rows k row k_in e)) (inl (refl, met)))
+first_is_here p rows k number row k_in e failed left =
+    let f : FailedTest = record { number = number; place = k } in
+    left f (subst (λ (xs : List Row). AtFirstItem (row_tests p) k xs f) (sym (row_read rows k row k_in e)) (inl (refl, failed)))
 
 -- one form more
 pub forms_more : (g : Row → Form) (fs more : List Form) (f : Form) (rows : List Row) (k : ℕ) (row : Row) →

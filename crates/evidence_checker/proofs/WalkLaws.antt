@@ -12,20 +12,20 @@ use Rattle.design_problem.specs.declared.form.CostBox.{CostBox}
 use Rattle.design_problem.specs.declared.tree.Entry.{Entry}
 use Rattle.design_problem.specs.declared.tree.Entry.TheVariants.{Tighten, Split, Halve, Refute, Undone}
 use Rattle.design_problem.specs.Trees.{Sound, SoundAt, IsClosed, AreSeveralTrees, subboxes, subtree_count, is_undone}
-use Rattle.evidence_checker.specs.Refusals.{MetTest, StopsBy}
+use Rattle.evidence_checker.specs.Refusals.{FailedTest, StopsBy}
 use Rattle.evidence_checker.specs.Tests.{line_tests, AtFirstLine}
-use Rattle.evidence_checker.proofs.LineLaws.{sound_meets_none}
+use Rattle.evidence_checker.proofs.LineLaws.{sound_fails_none}
 
--- what is left tells of the whole tree: where it is sound, and its first line that meets a test
+-- what is left tells of the whole tree: where it is sound, and its first line that fails a test
 pub record Walks (forms : List Form) (start : List CostBox) (whole : List Entry) (box : CostBox) (boxes : List CostBox)
     (place : ℕ) (rest : List Entry) : Type 0 where
   pub sound : Sound forms (box ∷ boxes) rest → Sound forms start whole
   pub closed : IsClosed rest → IsClosed whole
-  pub first : (f : MetTest) → AtFirstLine forms (box ∷ boxes) place rest f → AtFirstLine forms start 0 whole f
+  pub first : (f : FailedTest) → AtFirstLine forms (box ∷ boxes) place rest f → AtFirstLine forms start 0 whole f
   pub trees : AreSeveralTrees (suc (length boxes)) rest
 
 pub walk_begins : (forms : List Form) (box : CostBox) (whole : List Entry) → AreSeveralTrees 1 whole → Walks forms (box ∷ []) whole box [] 0 whole
-walk_begins forms box whole trees = record { sound = λ s. s; closed = λ c. c; first = λ f met. met; trees = trees }
+walk_begins forms box whole trees = record { sound = λ s. s; closed = λ c. c; first = λ f failed. failed; trees = trees }
 
 subbox_count : (box : CostBox) (entry : Entry) (boxes : List CostBox) → length (subboxes box entry ++ boxes) ≡ subtree_count entry + length boxes
 subbox_count box (Tighten var side value row) boxes = omega arith
@@ -42,10 +42,10 @@ pub walk_goes_on : (forms : List Form) (start : List CostBox) (whole : List Entr
 walk_goes_on forms start whole box boxes place entry rest next others walks here closed e = record {
   sound = λ s. walks.sound (here, subst (λ (bs : List CostBox). Sound forms bs rest) (sym e) s);
   closed = λ c. walks.closed (closed, c);
-  first = λ f met. walks.first f
+  first = λ f failed. walks.first f
       (inr (
-        sound_meets_none forms box entry here closed,
-        subst (λ (bs : List CostBox). AtFirstLine forms bs (place + 1) rest f) (sym e) met,
+        sound_fails_none forms box entry here closed,
+        subst (λ (bs : List CostBox). AtFirstLine forms bs (place + 1) rest f) (sym e) failed,
       ));
   trees = subst (λ (n : ℕ). AreSeveralTrees n rest) (sym (subbox_count box entry boxes) ∙ ap length e) walks.trees;
 }
@@ -65,12 +65,12 @@ walk_ends forms start whole box boxes place entry rest walks here closed e =
       walks.closed (closed, subst IsClosed (sym last) tt),
     )
 
--- a line that meets a test
+-- a line that fails a test
 pub walk_stops : (forms : List Form) (start : List CostBox) (whole : List Entry) (box : CostBox) (boxes : List CostBox)
     (place : ℕ) (entry : Entry) (rest : List Entry) (number : ℕ) →
     Walks forms start whole box boxes place (entry ∷ rest) → FirstOf (line_tests forms box entry) number →
     AtFirstLine forms start 0 whole (record { number = number; place = place })
-walk_stops forms start whole box boxes place entry rest number walks met = walks.first (record { number = number; place = place }) (inl (refl, met))
+walk_stops forms start whole box boxes place entry rest number walks failed = walks.first (record { number = number; place = place }) (inl (refl, failed))
 
 -- the line that was read, and those after it
 pub line_read : (entries : List Entry) (k : ℕ) (entry : Entry) → k < length entries → entry ≡ get_or entries k entry →

@@ -10,15 +10,15 @@ abbrev pub lesser_of : Option ℕ → ℕ → ℕ
 lesser_of None var = var
 lesser_of (Some least) var = min least var
 
--- the request's path is only cheapest at the costs
+-- the wanted path is the only cheapest one at the costs
 abbrev pub IsOnlyAt : Area → List ℕ → Request → Type 0
 IsOnlyAt g w r = IsOnlyCheapest g (at_costs w) (request_ends r) r.path.edges
 
--- the path of the request with this number isn't
+-- the path of the request with this number isn't the only cheapest one at the costs
 abbrev pub IsNotOnlyAt : Area → List Request → List ℕ → ℕ → Type 0
 IsNotOnlyAt g paths w request = (request < length paths) × (IsOnlyAt g w (request_at paths request) → ⊥)
 
--- the first request whose path isn't only cheapest; where there is none, each path is
+-- the first request whose path isn't the only cheapest one; None where each is
 abbrev pub IsFirstTied : Area → List Request → List ℕ → Option ℕ → Type 0
 IsFirstTied g paths w None = All (IsOnlyAt g w) paths
 IsFirstTied g paths w (Some first) = IsNotOnlyAt g paths w first × ((k : ℕ) → k < first → IsNotOnlyAt g paths w k → ⊥)

@@ -8,7 +8,7 @@ use Rattle.evidence_checker.specs.declared.fault.CheckFault.TheVariants.{NotAPat
 use Rattle.evidence_checker.specs.Numbers.{check_fault_number}
 use Rattle.evidence_checker.specs.Refusals.{OnItem}
 
--- a simple path of the request, other than the requested one
+-- a simple path between a request's ends without its excluded edges, other than its wanted path
 abbrev pub IsRivalRoute : Area → Request → List ℕ → Type 0
 IsRivalRoute g r es = IsPathOf g (request_ends r) es × (es ≢ r.path.edges)
 

@@ -25,7 +25,7 @@ use Rattle.design_problem.specs.Answers.{AnswerParts, greatest_bound}
 use Rattle.design_problem.specs.GivenCosts.{GivesCost, costs_given}
 use Rattle.evidence_checker.specs.declared.fault.CheckFault.TheVariants.{NothingClaimed, WrongShape, WrongPlaces, UnequalEnds, OutOfBounds, WrongGreatest, NotOnlyCheapest, FalseFloor, NotAPath, NotARival, GreatMultipliers, NothingRefuted, WeakStep, OpenLeaf}
 use Rattle.evidence_checker.specs.Numbers.{check_fault_number}
-use Rattle.evidence_checker.specs.Refusals.{MetTest, AtNoPlace, AtFirst, OnItem, AtFirstItem}
+use Rattle.evidence_checker.specs.Refusals.{FailedTest, AtNoPlace, AtFirst, OnItem, AtFirstItem}
 
 -- 49: the verdict claims nothing
 abbrev pub ClaimsNothing : Verdict → Type 0
@@ -89,7 +89,7 @@ IsFalseFloor p k Empty = length p.low ≡ 0 → ⊥
 IsFalseFloor p k (Var v) = (v < length p.low) × (slice_index p.low v ≡ k) → ⊥
 
 -- the tests of the costs and the floor of an optimal answer; an impossible one has nothing to speak of
-abbrev pub cost_tests : DesignProblem → Verdict → Option Costs → Floor → List (MetTest → Type 0)
+abbrev pub cost_tests : DesignProblem → Verdict → Option Costs → Floor → List (FailedTest → Type 0)
 cost_tests p (Optimal k) (Some costs) floor =
     AtNoPlace (check_fault_number WrongPlaces) (NamesPlaces p.vars costs.lines → ⊥)
     ∷ AtFirst (check_fault_number UnequalEnds) (HasUnequalEnds p.vars costs.lines)
@@ -106,7 +106,7 @@ cost_tests p (Undecided cap) costs floor = []
 abbrev pub row_tests : DesignProblem → Row → List (ℕ → Type 0)
 row_tests p row =
     OnItem (check_fault_number NotAPath) (HasRoute p row → ⊥)
-    ∷ OnItem (check_fault_number NotARival) (row.rival.edges ≡ path_edges (slice_get p.paths row.request))
+    ∷ OnItem (check_fault_number NotARival) (row.rival ≡ path_edges (slice_get p.paths row.request))
     ∷ []
 
 -- 48: the sum of a Refute's multipliers is 2^100 or more
@@ -150,8 +150,8 @@ line_tests forms box entry =
     ∷ OnItem (check_fault_number OpenLeaf) (IsOpenLeaf entry)
     ∷ []
 
--- the first line of a tree that meets a test, where each next line speaks of the first box that is still open
-abbrev pub AtFirstLine : List Form → List CostBox → ℕ → List Entry → MetTest → Type 0
+-- the first line of a tree that fails a test, where each next line speaks of the first box that is still open
+abbrev pub AtFirstLine : List Form → List CostBox → ℕ → List Entry → FailedTest → Type 0
 AtFirstLine forms [] place entries f = ⊥
 AtFirstLine forms (box ∷ boxes) place [] f = ⊥
 AtFirstLine forms (box ∷ boxes) place (entry ∷ entries) f =
@@ -159,12 +159,12 @@ AtFirstLine forms (box ∷ boxes) place (entry ∷ entries) f =
     ⊎ (NoneOf (line_tests forms box entry) × AtFirstLine forms (subboxes box entry ++ boxes) (place + 1) entries f)
 
 -- the tests of the proof, where there is one: those of its lines, over the box at its cap
-abbrev pub proof_tests : DesignProblem → List Row → Option CapTree → List (MetTest → Type 0)
+abbrev pub proof_tests : DesignProblem → List Row → Option CapTree → List (FailedTest → Type 0)
 proof_tests p rows None = []
 proof_tests p rows (Some proof) = AtFirstLine (forms_of_rows p rows) (capped (box_of p) proof.cap ∷ []) 0 proof.tree ∷ []
 
 -- all tests, in their order
-abbrev pub tests : DesignProblem → AnswerParts → List (MetTest → Type 0)
+abbrev pub tests : DesignProblem → AnswerParts → List (FailedTest → Type 0)
 tests p a =
     AtNoPlace (check_fault_number NothingClaimed) (ClaimsNothing a.verdict)
     ∷ AtNoPlace (check_fault_number WrongShape) (HasWrongShape p a)

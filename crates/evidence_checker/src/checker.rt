@@ -90,11 +90,11 @@ fn check_evidence(
 }
 
 /// Checks the evidence of an answer to a problem. An answer is accepted exactly where it is valid; else it is refused by
-/// the first of the tests that is met.
+/// the first of the tests that fails.
 ///
 /// # Errors
 ///
-/// `Refused` with the first test that is met and its place, in the order of `CheckFault`: the tests of each row are made row
+/// `Refused` with the first test that fails and its place, in the order of `CheckFault`: the tests of each row are made row
 /// by row, and those of each line of the tree line by line. `OutOfMemory` where memory ran out.
 pub fn check(
     alloc: Global,

@@ -61,7 +61,7 @@ fn cuts(costs: &CostBox, var: usize, value: u16) -> bool
     var < low.len() && low[var] <= value && value < high[var]
 }
 
-/// The first test that a Refute meets.
+/// The first test that a Refute fails.
 fn refute_fault(
     forms: &[Form],
     parts: &[(u64, u128)],
@@ -88,7 +88,7 @@ fn refute_fault(
     None
 }
 
-/// The first test that a line of a tree meets at its box. The sums are room for a number for each variable.
+/// The first test that a line of a tree fails at its box. The sums are room for a number for each variable.
 pub(crate) fn line_fault(
     forms: &[Form],
     costs: &CostBox,

@@ -36,12 +36,12 @@ fn is_only(
     ensures { IfOk result (λ yes. IsTrue yes ↔ IsOnlyCheapest graph.now point.now
         (request_ends request.now) request.now.path.edges) }
 {
-    let requested = RequestedPath {
+    let wanted = RequestedPath {
         path: &request.path,
         end: request.end,
         excluded: request.excluded.as_slice(),
     };
-    is_only_cheapest(alloc, graph, point, &requested)
+    is_only_cheapest(alloc, graph, point, &wanted)
 }
 
 /// The first request whose path isn't the only cheapest among the simple paths of the request.

@@ -39,7 +39,7 @@ fn is_route(
     Ok(is_path_of(graph, &path, request.end, request.excluded.as_slice()))
 }
 
-/// The first test that edges meet as a rival of a request's path.
+/// The first test that edges fail as a rival of a request's path.
 fn route_fault(
     alloc: Global,
     graph: &Graph,
@@ -59,13 +59,13 @@ fn route_fault(
     Ok(None)
 }
 
-/// The first test that a row meets.
+/// The first test that a row fails.
 fn row_fault(alloc: Global, problem: &Problem, row: &Row) -> Result<Option<CheckFault>, OutOfMemory>
     ensures { IfOk result (λ fault. MatchOption fault (IsRow problem.now row.now)
         (λ f. FirstOf (row_tests problem.now row.now) (check_fault_number f))) }
 {
     match problem.paths.as_slice().get(row.request as usize) {
-        Some(request) => route_fault(alloc, &problem.graph, request, row.rival.edges.as_slice()),
+        Some(request) => route_fault(alloc, &problem.graph, request, row.rival.as_slice()),
         None => Ok(Some(CheckFault::NotAPath)),
     }
 }

@@ -1,4 +1,4 @@
-//! The lines of a tree, gone through in order.
+//! The lines of a tree, tested in order.
 ghost use Rattle.std.specs.Prelude.{◌≡◌, ℕ, List, [], ◌∷◌, ◌++◌, length, map, min, All, IfOk, IfErr, false, MatchBool, MatchOption};
 ghost use Rattle.design_problem.specs.Boxes.{capped};
 ghost use Rattle.design_problem.specs.Forms.{Form, IsSmallForm};
@@ -43,7 +43,7 @@ fn go_on(boxes: &mut OpenBoxes, entry: &Entry) -> Result<bool, OutOfMemory>
     Ok(true)
 }
 
-/// The first test that a line meets at a box. The sums are room for a number for each variable, before and after.
+/// The first test that a line fails at a box. The sums are room for a number for each variable, before and after.
 fn fault_at(
     forms: &[Form],
     costs: &CostBox,
@@ -61,7 +61,7 @@ fn fault_at(
     line_fault(forms, costs, sums, entry)
 }
 
-/// Whether a tree is closed and sound over a box: its lines are gone through in order with one box and a stack of the ends
+/// Whether a tree is closed and sound over a box: its lines are tested in order with one box and a stack of the ends
 /// that were changed, so it recurses on no depth and copies no box.
 pub(crate) fn check_tree(
     alloc: Global,

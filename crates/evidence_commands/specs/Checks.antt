@@ -1,5 +1,5 @@
 -- What a check says of an answer's file.
-use Rattle.std.specs.Prelude.{◌≡◌, ℕ, ◌⊎◌, List, [], ◌∷◌, All, codes}
+use Rattle.std.specs.Prelude.{◌≡◌, ℕ, ◌⊎◌, List, [], ◌∷◌, codes}
 use Rattle.cost_base.specs.Decimal.{decimal}
 use Rattle.cost_base.specs.declared.Status.{Status}
 use Rattle.cost_base.specs.declared.Status.TheVariants as status
@@ -32,6 +32,10 @@ pub record Claim : Type 0 where
   pub problem : DesignProblem
   pub bytes : List ℕ
 
+-- what the answer's file says, as the text of an answer to this problem
+abbrev pub claim_with : DesignProblem → List ℕ → Reading Claim
+claim_with p answer = file_read longest_answer answer >>= λ bytes. Ready (record { problem = p; bytes = bytes })
+
 -- what the files of a check say, read in their order: those of the problem, and then the answer's
 abbrev pub claim_read : InputFiles → List ℕ → Reading Claim
 claim_read names answer =
@@ -39,11 +43,10 @@ claim_read names answer =
     file_read longest_answer answer >>= λ bytes.
     Ready (record { problem = d.problem; bytes = bytes })
 
--- the bytes are the text of an answer; a text says no start of its rows' rivals, which stand at 0
+-- the bytes are the text of an answer
 pub record IsTextOf (bytes : List ℕ) (answer : AnswerParts) : Type 0 where
   pub spelled : bytes ≡ text answer
   pub value : IsAnswerValue answer
-  pub starts : All (λ row. row.rival.start ≡ 0) answer.rows
 
 -- the bytes are the text of a valid answer, and what its verdict claims is true
 pub record IsAccepted (claim : Claim) (acceptance : Acceptance) : Type 0 where
@@ -53,7 +56,7 @@ pub record IsAccepted (claim : Claim) (acceptance : Acceptance) : Type 0 where
   pub holds : IsTrueVerdict claim.problem answer.verdict answer.costs
   pub claimed : IsAcceptedAs answer.verdict acceptance
 
--- the bytes are the text of an answer that isn't valid: the first of the checker's tests that is met, with its place
+-- the bytes are the text of an answer that isn't valid: the first of the checker's tests that fails, with its place
 pub record IsInvalid (claim : Claim) (rejection : Rejection) : Type 0 where
   pub answer : AnswerParts
   pub said : IsTextOf claim.bytes answer
@@ -65,23 +68,23 @@ pub record IsRejected (claim : Claim) (rejection : Rejection) : Type 0 where
   pub cause : IsOffGrammar AtHead claim.bytes rejection.number rejection.place ⊎ IsInvalid claim rejection
   pub never : IsNoValidText claim.problem claim.bytes
 
--- what a check of these comes to
+-- what a check of a claim comes to: it is accepted, or it is rejected
 abbrev pub IsJudged : Claim → Judgement → Type 0
 IsJudged claim (Accepted acceptance) = IsAccepted claim acceptance
 IsJudged claim (Rejected rejection) = IsRejected claim rejection
 
--- `accepted optimal K` or `accepted impossible`
+-- the line of an accepted answer: `accepted optimal K` or `accepted impossible`
 abbrev pub accepted_line : Acceptance → List ℕ
 accepted_line (Optimal k) = line_of_words (codes "accepted" ∷ codes "optimal" ∷ decimal k ∷ [])
 accepted_line Impossible = line_of_words (codes "accepted" ∷ codes "impossible" ∷ [])
 
--- `check`: a valid answer is accepted, and exactly that; else its text or its evidence is refused, by the first fault
+-- what `check` may write: that the answer is accepted, exactly where it is valid; else its first fault
 abbrev pub MayCheck : Claim → Status → List ℕ → Type 0
 MayCheck claim status.Done bytes = (acceptance : Acceptance) × IsAccepted claim acceptance × (bytes ≡ accepted_line acceptance)
 MayCheck claim status.EvidenceRefused bytes = (rejection : Rejection) × IsRejected claim rejection × (bytes ≡ rejected_line rejection)
 MayCheck claim end bytes = ⊥
 
--- the report of what a check came to
+-- the report of what a check came to: the line of an acceptance or of a rejection
 abbrev pub ReportsJudgement : Judgement → Report → Type 0
 ReportsJudgement (Accepted accepted) report = Reports status.Done (accepted_line accepted) report
 ReportsJudgement (Rejected rejection) report = Reports status.EvidenceRefused (rejected_line rejection) report

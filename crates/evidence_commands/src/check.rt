@@ -8,7 +8,7 @@ ghost use Rattle.input_files.specs.Readings.{Gave};
 ghost use Rattle.input_files.specs.Outcomes.{longest_answer};
 ghost use Rattle.input_files.specs.Stops.{IsReadAs, files_named};
 ghost use Rattle.report_writer.specs.Reports.{bytes_in};
-ghost use Rattle.evidence_commands.specs.Checks.{Claim, IsInvalid, IsJudged, IsTextOf, MayCheck, ReportsJudgement, claim_read};
+ghost use Rattle.evidence_commands.specs.Checks.{Claim, IsInvalid, IsJudged, IsTextOf, MayCheck, ReportsJudgement, claim_read, claim_with};
 
 use crate::rejection::rejection_of_text;
 use crate::verdict_lines::accepted_line_of;
@@ -70,6 +70,21 @@ fn judge(alloc: Global, problem: &Problem, bytes: &[u8]) -> Result<Judgement, Ou
     }
 }
 
+/// What a check of an answer's file comes to, where the problem was read.
+fn check_file<'a, S: Shelf>(
+    alloc: Global,
+    problem: &Problem,
+    answer: &'a str,
+    shelf: &mut S,
+) -> Result<Judgement, Stop<'a>>
+    ensures { Gave (S.gave shelf.old shelf.new) (λ came. IsReadAs
+        (claim_with problem.now answer.now) came (λ judgement claim. IsJudged claim judgement)
+        result) }
+{
+    let bytes = read_answer_file(alloc, shelf, answer)?;
+    Ok(judge(alloc, problem, &bytes)?)
+}
+
 /// What a check of an answer's file comes to, after the files of words.
 fn check_files<'a, S: Shelf>(
     alloc: Global,
@@ -82,8 +97,7 @@ fn check_files<'a, S: Shelf>(
         (λ judgement claim. IsJudged claim judgement) result) }
 {
     let problem = read_problem(alloc, View::AsRequested, words, shelf)?;
-    let bytes = read_answer_file(alloc, shelf, answer)?;
-    Ok(judge(alloc, &problem, &bytes)?)
+    check_file(alloc, &problem, answer, shelf)
 }
 
 /// The report of what a check came to.

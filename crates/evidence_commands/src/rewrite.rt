@@ -8,7 +8,7 @@ ghost use Rattle.input_files.specs.Outcomes.{longest_answer};
 ghost use Rattle.input_files.specs.Stops.{IsReadAs};
 ghost use Rattle.sections_reader.specs.Texts.{FitLines, SaysCosts};
 ghost use Rattle.report_writer.specs.Reports.{bytes_in};
-ghost use Rattle.evidence_commands.specs.Rewrites.{HasFewLines, IsRevised, MayRewrite, ReportsRevised, Revision, new_costs, revision_read};
+ghost use Rattle.evidence_commands.specs.Rewrites.{HasFewLines, IsRevised, MayRewrite, ReportsRevised, Revision, new_costs, revision_read, revision_with};
 
 use crate::own_lines::last_lines;
 use crate::rejection::rejection_of_text;
@@ -104,6 +104,21 @@ fn revised_by_text(
     }
 }
 
+/// What a rewrite of a configuration that was read comes to, with a file of costs.
+fn rewrite_by_file<'a, S: Shelf>(
+    alloc: Global,
+    config: &ConfigText<'_>,
+    answer: &'a str,
+    shelf: &mut S,
+) -> Result<Revised, Stop<'a>>
+    ensures { Gave (S.gave shelf.old shelf.new) (λ came. IsReadAs
+        (revision_with config.now answer.now) came (λ revised revision. IsRevised revision revised)
+        result) }
+{
+    let bytes = read_answer_file(alloc, shelf, answer)?;
+    Ok(revised_by_text(alloc, config, &bytes)?)
+}
+
 /// What a rewrite of a configuration with a file of costs comes to.
 fn rewrite_files<'a, S: Shelf>(
     alloc: Global,
@@ -116,8 +131,7 @@ fn rewrite_files<'a, S: Shelf>(
         result) }
 {
     let text = read_config_text(alloc, shelf, config)?;
-    let bytes = read_answer_file(alloc, shelf, answer)?;
-    Ok(revised_by_text(alloc, &text, &bytes)?)
+    rewrite_by_file(alloc, &text, answer, shelf)
 }
 
 /// The report of what a rewrite came to.

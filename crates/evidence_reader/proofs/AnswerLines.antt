@@ -25,7 +25,7 @@ row-lines : (rows : List Row) → All IsOneLine (map row_line rows)
 row-lines [] = All-nil IsOneLine
 row-lines (row ∷ rows) =
     All-cons IsOneLine (row_line row) (map row_line rows)
-    (spaced-whole (codes "row" ∷ map decimal (row.request ∷ row.rival.edges)) (written (codes "row") refl, numbers-whole (row.request ∷ row.rival.edges)))
+    (spaced-whole (codes "row" ∷ map decimal (row.request ∷ row.rival)) (written (codes "row") refl, numbers-whole (row.request ∷ row.rival)))
     (row-lines rows)
 
 -- the router's line or none, and what follows

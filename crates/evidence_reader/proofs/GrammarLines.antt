@@ -108,9 +108,9 @@ next_is_one_line (AtExit of router) line next a = one-along line (codes "exit") 
 next_is_one_line AtRows line next a = one-of line (codes "rows" ∷ decimal a.count ∷ []) a.is (written (codes "rows") refl, (number-whole a.count, tt))
 next_is_one_line (AtRow zero) line next a = part-line-one Proof line next a
 next_is_one_line (AtRow (suc left)) line next a =
-    one-of line (codes "row" ∷ map decimal (a.row.request ∷ a.row.rival.edges)) a.is (
+    one-of line (codes "row" ∷ map decimal (a.row.request ∷ a.row.rival)) a.is (
       written (codes "row") refl,
-      numbers-whole (a.row.request ∷ a.row.rival.edges),
+      numbers-whole (a.row.request ∷ a.row.rival),
     )
 next_is_one_line (AtTree part (suc places) (suc left)) line next a =
     one-along line (entry_line a.entry) a.is (one-of (entry_line a.entry) (entry_words a.entry) (entry_line-words a.entry) (entry-whole a.entry))

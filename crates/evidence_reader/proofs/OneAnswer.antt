@@ -1,5 +1,5 @@
--- A text is that of one answer, but for the starts of rivals.
-use Rattle.std.proofs.Common.{◌≡◌, ℕ, List, All, map, codes, Option, refl, sym, ap, subst, ◌∙◌}
+-- A text is that of one answer.
+use Rattle.std.proofs.Common.{◌≡◌, ℕ, List, All, codes, Option, refl, sym, ap, subst, ◌∙◌}
 use Rattle.design_problem.specs.declared.form.Row.{Row}
 use Rattle.design_problem.specs.declared.answer.Verdict.{Verdict}
 use Rattle.design_problem.specs.declared.answer.Costs.{Costs}
@@ -12,7 +12,7 @@ use Rattle.text_lines.proofs.LineLaws.{lines-concat}
 use Rattle.evidence_text.proofs.AnswerOrder.{answer_lines-ordered, ordered, after_proof, after_rows, after_floor}
 use Rattle.answer_lines.proofs.ListParts.{head-is, tail-is}
 use Rattle.answer_lines.proofs.SpacedWords.{spaceless-from}
-use Rattle.evidence_reader.specs.Laws.{without_start, without_starts, OneAnswer}
+use Rattle.evidence_reader.specs.Laws.{OneAnswer}
 use Rattle.evidence_reader.proofs.AnswerLines.{ordered-one}
 use Rattle.evidence_reader.proofs.SameWords.{verdict-same}
 use Rattle.evidence_reader.proofs.SameLines.{costs-same, floor_line-same, rows-same, tree-same}
@@ -27,18 +27,17 @@ answer verdict costs floor rows proof unfinished =
     record { verdict = verdict; costs = costs; floor = floor; rows = rows; proof = proof; unfinished = unfinished }
 
 parts-same : (a b : AnswerParts) → a.verdict ≡ b.verdict → a.costs ≡ b.costs → a.floor ≡ b.floor →
-    map without_start a.rows ≡ map without_start b.rows → a.proof ≡ b.proof → a.unfinished ≡ b.unfinished →
-    without_starts a ≡ without_starts b
+    a.rows ≡ b.rows → a.proof ≡ b.proof → a.unfinished ≡ b.unfinished → a ≡ b
 parts-same a b verdict costs floor rows proof unfinished =
-    ap (λ x. answer x a.costs a.floor (map without_start a.rows) a.proof a.unfinished) verdict
-    ∙ ap (λ x. answer b.verdict x a.floor (map without_start a.rows) a.proof a.unfinished) costs
-    ∙ ap (λ x. answer b.verdict b.costs x (map without_start a.rows) a.proof a.unfinished) floor
+    ap (λ x. answer x a.costs a.floor a.rows a.proof a.unfinished) verdict
+    ∙ ap (λ x. answer b.verdict x a.floor a.rows a.proof a.unfinished) costs
+    ∙ ap (λ x. answer b.verdict b.costs x a.rows a.proof a.unfinished) floor
     ∙ ap (λ x. answer b.verdict b.costs b.floor x a.proof a.unfinished) rows
-    ∙ ap (λ x. answer b.verdict b.costs b.floor (map without_start b.rows) x a.unfinished) proof
-    ∙ ap (answer b.verdict b.costs b.floor (map without_start b.rows) b.proof) unfinished
+    ∙ ap (λ x. answer b.verdict b.costs b.floor b.rows x a.unfinished) proof
+    ∙ ap (answer b.verdict b.costs b.floor b.rows b.proof) unfinished
 
 -- answers with the same lines are one
-lines-tell : (a b : AnswerParts) → ordered a ≡ ordered b → without_starts a ≡ without_starts b
+lines-tell : (a b : AnswerParts) → ordered a ≡ ordered b → a ≡ b
 lines-tell a b e =
     let behind = tail-is _ _ _ _ e in
     let costs = costs-same a.costs b.costs a.floor b.floor (after_floor a) (after_floor b) (tail-is _ _ _ _ behind) in

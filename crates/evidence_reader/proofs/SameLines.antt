@@ -3,10 +3,11 @@ use Rattle.std.proofs.Common.{◌≡◌, ℕ, List, [], ◌∷◌, ◌++◌, All
 use Rattle.std.specs.Cmp.Lexicographic.{pointwise_decides}
 use Rattle.std.proofs.lemmas.Bool.{true≢false}
 use Rattle.std.proofs.lemmas.Bool.Decides.{Decides-eqb}
-use Rattle.std.proofs.lemmas.List.{append_cancel_left, map-id}
+use Rattle.std.proofs.lemmas.List.{append_cancel_left}
 use Rattle.std.proofs.lemmas.List.Elements.{All-nil, All-cons}
 use Rattle.cost_base.specs.Decimal.{decimal}
 use Rattle.cost_base.specs.Lists.{same_bytes}
+use Rattle.cost_base.specs.Words.{HasNoSpace}
 use Rattle.design_problem.specs.declared.form.Row.{Row}
 use Rattle.design_problem.specs.declared.tree.Entry.{Entry}
 use Rattle.design_problem.specs.declared.answer.Costs.{Costs}
@@ -17,10 +18,8 @@ use Rattle.design_problem.specs.Text.{cost_lines, costs_lines, row_line, entry_l
 use Rattle.text_lines.proofs.Printed.{decimal-same}
 use Rattle.answer_lines.specs.Grammar.{router_line}
 use Rattle.evidence_text.specs.Parts.{interface_line, answer_cost_line, floor_line, rows_lines}
-use Rattle.answer_lines.specs.Words.{IsSpaceless}
 use Rattle.answer_lines.proofs.ListParts.{head-is, tail-is}
 use Rattle.answer_lines.proofs.SpacedWords.{spaceless-from, decimal-spaceless}
-use Rattle.evidence_reader.specs.Laws.{without_start}
 use Rattle.evidence_reader.proofs.SameWords.{no_digits, second-same, later-same, floor-same, row-same, entry-same}
 
 -- the first byte of the first line
@@ -140,43 +139,40 @@ pub floor_line-same : (f g : Floor) → floor_line f ≡ floor_line g → f ≡ 
 floor_line-same f g e = floor-same f g (second-same (codes "floor") _ _ e)
 
 -- equally many lines, of which each tells its own
-each-same : {A B : Type 0} (line : A → List ℕ) (key : A → B) → ((x y : A) → line x ≡ line y → key x ≡ key y) →
-    (xs ys : List A) (r s : List (List ℕ)) → length xs ≡ length ys →
-    map line xs ++ r ≡ map line ys ++ s → (map key xs ≡ map key ys) × (r ≡ s)
-each-same line key tells [] [] r s counted e = (refl, e)
-each-same line key tells [] (y ∷ ys) r s counted e = absurd (omega (arith, counted))
-each-same line key tells (x ∷ xs) [] r s counted e = absurd (omega (arith, counted))
-each-same line key tells (x ∷ xs) (y ∷ ys) r s counted e =
+each-same : {A : Type 0} (line : A → List ℕ) → ((x y : A) → line x ≡ line y → x ≡ y) → (xs ys : List A)
+    (r s : List (List ℕ)) → length xs ≡ length ys → map line xs ++ r ≡ map line ys ++ s → (xs ≡ ys) × (r ≡ s)
+each-same line tells [] [] r s counted e = (refl, e)
+each-same line tells [] (y ∷ ys) r s counted e = absurd (omega (arith, counted))
+each-same line tells (x ∷ xs) [] r s counted e = absurd (omega (arith, counted))
+each-same line tells (x ∷ xs) (y ∷ ys) r s counted e =
     let one = tells x y (head-is _ _ _ _ e) in
     let fewer : length xs ≡ length ys = omega (arith, counted) in
-    let rest = each-same line key tells xs ys r s fewer (tail-is _ _ _ _ e) in
-    (ap (λ k. k ∷ map key xs) one ∙ ap (λ l. key y ∷ l) rest.0, rest.1)
+    let rest = each-same line tells xs ys r s fewer (tail-is _ _ _ _ e) in
+    (ap (λ z. z ∷ xs) one ∙ ap (λ l. y ∷ l) rest.0, rest.1)
 
-pub rows-same : (xs ys : List Row) (r s : List (List ℕ)) → rows_lines xs ++ r ≡ rows_lines ys ++ s → (map without_start xs ≡ map without_start ys) × (r ≡ s)
+pub rows-same : (xs ys : List Row) (r s : List (List ℕ)) → rows_lines xs ++ r ≡ rows_lines ys ++ s → (xs ≡ ys) × (r ≡ s)
 rows-same xs ys r s e =
     let counted : length xs ≡ length ys = decimal-same (length xs) (length ys) (second-same (codes "rows") _ _ (head-is _ _ _ _ e)) in
-    each-same row_line without_start row-same xs ys r s counted (tail-is _ _ _ _ e)
+    each-same row_line row-same xs ys r s counted (tail-is _ _ _ _ e)
 
 entries-same : (xs ys : List Entry) (r s : List (List ℕ)) → length xs ≡ length ys → map entry_line xs ++ r ≡ map entry_line ys ++ s → (xs ≡ ys) × (r ≡ s)
-entries-same xs ys r s counted e =
-    let both = each-same entry_line (λ x. x) entry-same xs ys r s counted e in
-    (sym (map-id xs) ∙ both.0 ∙ map-id ys, both.1)
+entries-same xs ys r s counted e = each-same entry_line entry-same xs ys r s counted e
 
 abbrev tree : ℕ → List Entry → Option CapTree
 tree cap entries = Some (record { cap = cap; tree = entries })
 
-no-tree-spaceless : (word : List ℕ) → IsSpaceless word → All IsSpaceless (word ∷ codes "none" ∷ [])
+no-tree-spaceless : (word : List ℕ) → HasNoSpace word → All HasNoSpace (word ∷ codes "none" ∷ [])
 no-tree-spaceless word plain =
-    All-cons IsSpaceless word (codes "none" ∷ []) plain
-    (All-cons IsSpaceless (codes "none") [] (spaceless-from (codes "none") refl) (All-nil IsSpaceless))
+    All-cons HasNoSpace word (codes "none" ∷ []) plain
+    (All-cons HasNoSpace (codes "none") [] (spaceless-from (codes "none") refl) (All-nil HasNoSpace))
 
-tree-spaceless : (word : List ℕ) (t : CapTree) → IsSpaceless word → All IsSpaceless (word ∷ decimal t.cap ∷ decimal (length t.tree) ∷ [])
+tree-spaceless : (word : List ℕ) (t : CapTree) → HasNoSpace word → All HasNoSpace (word ∷ decimal t.cap ∷ decimal (length t.tree) ∷ [])
 tree-spaceless word t plain =
-    All-cons IsSpaceless word (decimal t.cap ∷ decimal (length t.tree) ∷ []) plain
-    (All-cons IsSpaceless (decimal t.cap) (decimal (length t.tree) ∷ []) (decimal-spaceless t.cap)
-    (All-cons IsSpaceless (decimal (length t.tree)) [] (decimal-spaceless (length t.tree)) (All-nil IsSpaceless)))
+    All-cons HasNoSpace word (decimal t.cap ∷ decimal (length t.tree) ∷ []) plain
+    (All-cons HasNoSpace (decimal t.cap) (decimal (length t.tree) ∷ []) (decimal-spaceless t.cap)
+    (All-cons HasNoSpace (decimal (length t.tree)) [] (decimal-spaceless (length t.tree)) (All-nil HasNoSpace)))
 
-pub tree-same : (word : List ℕ) → IsSpaceless word → (t u : Option CapTree) (r s : List (List ℕ)) →
+pub tree-same : (word : List ℕ) → HasNoSpace word → (t u : Option CapTree) (r s : List (List ℕ)) →
     tree_lines word t ++ r ≡ tree_lines word u ++ s → (t ≡ u) × (r ≡ s)
 tree-same word plain None None r s e = (refl, tail-is _ _ _ _ e)
 tree-same word plain None (Some u) r s e =

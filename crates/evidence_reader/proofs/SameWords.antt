@@ -9,6 +9,7 @@ use Rattle.cost_base.specs.Lists.{same_bytes}
 use Rattle.cost_base.specs.declared.Ratio.{Ratio}
 use Rattle.cost_base.specs.declared.StepName.{StepName}
 use Rattle.cost_base.specs.declared.StepName.TheVariants.{Add, Sub, Mul, Div, Lcm, Scale}
+use Rattle.cost_base.specs.Words.{HasNoSpace}
 use Rattle.design_problem.specs.declared.form.Row.{Row}
 use Rattle.design_problem.specs.declared.tree.Side.{Side}
 use Rattle.design_problem.specs.declared.tree.Side.TheVariants.{Low as LowSide, High as HighSide}
@@ -25,14 +26,13 @@ use Rattle.design_problem.specs.Text.{spaced, verdict_words, floor_word, row_lin
 use Rattle.text_lines.specs.Lines.{grow}
 use Rattle.text_lines.specs.Numbers.{split}
 use Rattle.text_lines.proofs.Printed.{decimal-digits, decimal_value-decimal}
-use Rattle.answer_lines.specs.Words.{IsSpaceless, entry_words}
+use Rattle.answer_lines.specs.Words.{entry_words}
 use Rattle.answer_lines.proofs.ListParts.{tail-is, not-both}
 use Rattle.answer_lines.proofs.EntryWords.{entry_line-words}
 use Rattle.answer_lines.proofs.LineEntries.{pieces-entry}
 use Rattle.answer_lines.proofs.LineFronts.{split-front}
 use Rattle.answer_lines.proofs.LineWords.{row-words}
 use Rattle.answer_lines.proofs.SpacedWords.{spaceless-from, decimal-spaceless, split-spaced}
-use Rattle.evidence_reader.specs.Laws.{without_start}
 
 -- a word that isn't all digits is no number's
 pub no_digits : (w : List ℕ) (n : ℕ) → list_all is_digit w ≡ false → w ≡ decimal n → ⊥
@@ -43,7 +43,7 @@ pub second-same : (w a b : List ℕ) → spaced (w ∷ a ∷ []) ≡ spaced (w �
 second-same w a b e = tail-is 32 32 a b (append_cancel_left w (32 ∷ a) (32 ∷ b) e)
 
 -- the same first word, and words without spaces behind it
-pub later-same : (w : List ℕ) (vs us : List (List ℕ)) → All IsSpaceless (w ∷ vs) → All IsSpaceless (w ∷ us) → spaced (w ∷ vs) ≡ spaced (w ∷ us) → vs ≡ us
+pub later-same : (w : List ℕ) (vs us : List (List ℕ)) → All HasNoSpace (w ∷ vs) → All HasNoSpace (w ∷ us) → spaced (w ∷ vs) ≡ spaced (w ∷ us) → vs ≡ us
 later-same w vs us first second e = tail-is w w vs us (sym (split-spaced w vs first) ∙ ap (split 32) e ∙ split-spaced w us second)
 
 abbrev verdict_of : List (List ℕ) → Verdict
@@ -57,18 +57,18 @@ verdict-back (Optimal k) = ap Optimal (decimal_value-decimal k)
 verdict-back Impossible = refl
 verdict-back (Undecided k) = ap Undecided (decimal_value-decimal k)
 
-verdict-spaceless : (verdict : Verdict) → All IsSpaceless (codes "verdict" ∷ verdict_words verdict)
-verdict-spaceless verdict = All-cons IsSpaceless (codes "verdict") (verdict_words verdict) (spaceless-from (codes "verdict") refl) (behind verdict)
+verdict-spaceless : (verdict : Verdict) → All HasNoSpace (codes "verdict" ∷ verdict_words verdict)
+verdict-spaceless verdict = All-cons HasNoSpace (codes "verdict") (verdict_words verdict) (spaceless-from (codes "verdict") refl) (behind verdict)
   where
-    number : (n : ℕ) → All IsSpaceless (decimal n ∷ [])
-    number n = All-cons IsSpaceless (decimal n) [] (decimal-spaceless n) (All-nil IsSpaceless)
+    number : (n : ℕ) → All HasNoSpace (decimal n ∷ [])
+    number n = All-cons HasNoSpace (decimal n) [] (decimal-spaceless n) (All-nil HasNoSpace)
 
-    behind : (verdict : Verdict) → All IsSpaceless (verdict_words verdict)
-    behind (Optimal k) = All-cons IsSpaceless (codes "optimal") (decimal k ∷ []) (spaceless-from (codes "optimal") refl) (number k)
-    behind Impossible = All-cons IsSpaceless (codes "impossible") [] (spaceless-from (codes "impossible") refl) (All-nil IsSpaceless)
+    behind : (verdict : Verdict) → All HasNoSpace (verdict_words verdict)
+    behind (Optimal k) = All-cons HasNoSpace (codes "optimal") (decimal k ∷ []) (spaceless-from (codes "optimal") refl) (number k)
+    behind Impossible = All-cons HasNoSpace (codes "impossible") [] (spaceless-from (codes "impossible") refl) (All-nil HasNoSpace)
     behind (Undecided k) =
-        All-cons IsSpaceless (codes "undecided") (codes "budget" ∷ decimal k ∷ []) (spaceless-from (codes "undecided") refl)
-        (All-cons IsSpaceless (codes "budget") (decimal k ∷ []) (spaceless-from (codes "budget") refl) (number k))
+        All-cons HasNoSpace (codes "undecided") (codes "budget" ∷ decimal k ∷ []) (spaceless-from (codes "undecided") refl)
+        (All-cons HasNoSpace (codes "budget") (decimal k ∷ []) (spaceless-from (codes "budget") refl) (number k))
 
 pub verdict-same : (v w : Verdict) → spaced (codes "verdict" ∷ verdict_words v) ≡ spaced (codes "verdict" ∷ verdict_words w) → v ≡ w
 verdict-same v w e =
@@ -95,15 +95,15 @@ numbers-same : (ns ms : List ℕ) → map decimal ns ≡ map decimal ms → ns �
 numbers-same ns ms e = sym (numbers-back ns) ∙ ap (map decimal_value) e ∙ numbers-back ms
 
 abbrev row_of : List ℕ → Row
-row_of [] = record { request = 0; rival = record { start = 0; edges = [] } }
-row_of (request ∷ edges) = record { request = request; rival = record { start = 0; edges = edges } }
+row_of [] = record { request = 0; rival = [] }
+row_of (request ∷ edges) = record { request = request; rival = edges }
 
--- a row's line tells all but the start of its rival
-pub row-same : (r s : Row) → row_line r ≡ row_line s → without_start r ≡ without_start s
+-- a row's line tells its row
+pub row-same : (r s : Row) → row_line r ≡ row_line s → r ≡ s
 row-same r s e =
-    let words : map decimal (r.request ∷ r.rival.edges) ≡ map decimal (s.request ∷ s.rival.edges) =
+    let words : map decimal (r.request ∷ r.rival) ≡ map decimal (s.request ∷ s.rival) =
     tail-is _ _ _ _ (sym (row-words (row_line r) r refl) ∙ row-words (row_line r) s e) in
-    ap row_of (numbers-same (r.request ∷ r.rival.edges) (s.request ∷ s.rival.edges) words)
+    ap row_of (numbers-same (r.request ∷ r.rival) (s.request ∷ s.rival) words)
 
 abbrev side_of : List ℕ → Side
 side_of w = cond (same_bytes w (codes "low")) LowSide HighSide

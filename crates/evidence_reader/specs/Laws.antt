@@ -1,6 +1,5 @@
 -- Laws of answers' texts.
-use Rattle.std.specs.Prelude.{◌≡◌, ℕ, List, map}
-use Rattle.design_problem.specs.declared.form.Row.{Row}
+use Rattle.std.specs.Prelude.{◌≡◌, ℕ, List}
 use Rattle.design_problem.specs.Problems.{DesignProblem}
 use Rattle.design_problem.specs.Answers.{AnswerParts, IsValid}
 use Rattle.evidence_text.specs.AnswerValues.{IsAnswerValue}
@@ -22,17 +21,9 @@ AnswersAreLawful = (a : AnswerParts) → IsAnswerValue a → LeadOn AtHead (answ
 abbrev pub AnswersAreRead : Type 0
 AnswersAreRead = (a : AnswerParts) (kind : AnswerFault) (line : ℕ) → IsAnswerValue a → IsTextRefused AtHead 0 (text a) kind line → ⊥
 
--- the row with a rival that starts at 0
-abbrev pub without_start : Row → Row
-without_start row = record { request = row.request; rival = record { start = 0; edges = row.rival.edges } }
-
--- the answer with such rows
-abbrev pub without_starts : AnswerParts → AnswerParts
-without_starts a = record { verdict = a.verdict; costs = a.costs; floor = a.floor; rows = map without_start a.rows; proof = a.proof; unfinished = a.unfinished }
-
--- answers with one text are one, but for the starts of their rivals
+-- answers with one text are one
 abbrev pub OneAnswer : Type 0
-OneAnswer = (a b : AnswerParts) → FitsAnswer a → FitsAnswer b → text a ≡ text b → without_starts a ≡ without_starts b
+OneAnswer = (a b : AnswerParts) → FitsAnswer a → FitsAnswer b → text a ≡ text b → a ≡ b
 
 -- the bytes are no valid answer's text
 abbrev pub IsNoValidText : DesignProblem → List ℕ → Type 0

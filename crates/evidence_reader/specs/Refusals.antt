@@ -8,7 +8,7 @@ use Rattle.answer_lines.specs.Lawful.{LeadOn, IsLawful}
 use Rattle.evidence_reader.specs.declared.fault.AnswerFault.{AnswerFault}
 use Rattle.evidence_reader.specs.declared.fault.AnswerFault.TheVariants.{BadAnswerLine, EarlyEnd, AfterEnd as BehindEnd}
 
--- the numbers of the faults
+-- the numbers of the faults of an answer's text
 abbrev pub text_fault_number : AnswerFault → ℕ
 text_fault_number BadAnswerLine = 30
 text_fault_number EarlyEnd = 31

@@ -15,12 +15,12 @@ use Rattle.evidence_reader.specs.declared.stage_sections.CostWords.{CostWords}
 use Rattle.evidence_reader.specs.declared.stage_trees.PartHead.{PartHead}
 use Rattle.evidence_reader.specs.declared.stage_trees.PartHead.TheVariants.{NoTree, TreeHead}
 
--- the line that costs begin with, and the place behind it
+-- the line that the costs of an answer begin with
 abbrev pub costs_head_line : CostsHead → List ℕ
 costs_head_line NoCosts = codes "costs none"
 costs_head_line (Greatest greatest) = costs_line greatest
 
--- the place behind the line that costs begin with
+-- the place behind the line that the costs of an answer begin with
 abbrev pub behind_costs_head : CostsHead → TextPlace
 behind_costs_head NoCosts = AtFloor
 behind_costs_head (Greatest greatest) = AtSections None None
@@ -30,7 +30,7 @@ abbrev pub IsSectionLine : Option (List ℕ) → List ℕ → SectionLine → Ty
 IsSectionLine before line (Router name) = IsOneWord name.now × (before ≢ Some name.now) × (line ≡ router_line name.now)
 IsSectionLine before line (Interface router name) = (before ≡ Some router.now) × IsOneWord name.now × (line ≡ interface_line name.now)
 
--- the place behind such a line
+-- the place behind the line that one more cost begins with: that of a router, or of an interface
 abbrev pub behind_section_line : Option OtherText → SectionLine → TextPlace
 behind_section_line of (Router name) = AtInterface of name.now
 behind_section_line of (Interface router name) = AtCost of router.now
@@ -45,11 +45,11 @@ pub record FitsWords (words : CostWords) : Type 0 where
   pub interface : IsOneWord words.interface.now
   pub cost : 0 < words.cost
 
--- the lines of one more cost, with its router's where that is another one
+-- the lines of one more cost, with that of its router where it is another than the last one
 abbrev pub lines_of_words : Option (List ℕ) → CostWords → List (List ℕ)
 lines_of_words before words = router_lines before words.router.now ++ words_lines words
 
--- the place before a part with a tree, its first line, and the place behind that
+-- the place before a part of an answer that may have a tree
 abbrev pub before_part : TreePart → TextPlace
 before_part Proof = AtRow zero
 before_part Unfinished = AtTree Proof zero zero
@@ -59,7 +59,7 @@ abbrev pub part_head_line : TreePart → PartHead → List ℕ
 part_head_line part NoTree = no_tree_line part
 part_head_line part (TreeHead cap count) = tree_line part cap count
 
--- the place behind that line
+-- the place behind the first line of a part, which is one without a tree or has a tree's cap and count
 abbrev pub behind_part_head : TreePart → PartHead → TextPlace
 behind_part_head part NoTree = AtTree part 0 0
 behind_part_head part (TreeHead cap count) = AtTree part 1 count

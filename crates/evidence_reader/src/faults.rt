@@ -46,7 +46,8 @@ fn fault_kind(rest: &[u8], begins: bool) -> AnswerFault
 ///
 /// `Refused` where something does.
 pub fn nothing_left(text: TextLeft<'_>) -> Result<(), Refusal<AnswerFault>>
-    ensures end { MatchResult result (λ _. text.entry.left.now ≡ []) (StopsReader AfterEnd text.entry) }
+    ensures end { MatchResult result (λ _. text.entry.left.now ≡ [])
+        (StopsReader AfterEnd text.entry) }
     ensures told { IfErr result (λ stop. stop ≢ Refusal.OutOfMemory) }
 {
     if text.left.is_empty() {

@@ -6,7 +6,7 @@ pub fn answers_are_lawful()
     ensures { AnswersAreLawful }
 {}
 
-/// A text is that of one answer, but for the starts of rivals, of which no text tells.
+/// A text is that of one answer.
 pub fn one_answer()
     ensures { OneAnswer }
 {}

@@ -1,5 +1,5 @@
 //! Reading the text of an answer.
-ghost use Rattle.std.specs.Prelude.{◌≡◌, ◌-◌, ◌^◌, ◌<◌, All, IfOk, IfErr, length};
+ghost use Rattle.std.specs.Prelude.{◌≡◌, ◌-◌, ◌^◌, ◌<◌, IfOk, IfErr, length};
 ghost use Rattle.design_problem.specs.Text.{text};
 ghost use Rattle.evidence_reader.specs.Refusals.{IsReaderStop};
 ghost use Rattle.answer_lines.specs.Grammar.{AtHead};
@@ -16,7 +16,7 @@ use design_problem::Answer;
 use evidence_text::TreePart;
 use std::alloc::Global;
 
-/// The answer whose text this is. Its rows' rivals start at 0, since a text says no start.
+/// The answer whose text this is.
 ///
 /// # Errors
 ///
@@ -25,7 +25,6 @@ use std::alloc::Global;
 pub fn read_answer(alloc: Global, bytes: &[u8]) -> Result<Answer, Refusal<AnswerFault>>
     requires { length bytes.now < 2 ^ 32 - 1 }
     ensures read { IfOk result (λ answer. bytes.now ≡ text answer) }
-    ensures starts { IfOk result (λ answer. All (λ row. row.rival.start ≡ 0) answer.rows) }
     ensures stopped { IfErr result (IsReaderStop AtHead 0 bytes.now) }
 {
     let text = TextLeft::new(bytes);

@@ -1,5 +1,5 @@
 //! The stage of the rows.
-ghost use Rattle.std.specs.Prelude.{◌≡◌, ℕ, zero, suc, [], ◌∷◌, All, MatchResult, IfOk, MatchOption, length, map};
+ghost use Rattle.std.specs.Prelude.{◌≡◌, ℕ, zero, suc, [], ◌∷◌, MatchResult, IfOk, MatchOption, length, map};
 ghost use Rattle.design_problem.specs.Text.{row_line};
 ghost use Rattle.answer_lines.specs.Grammar.{AtRows, AtRow};
 ghost use Rattle.evidence_text.specs.Parts.{rows_line, rows_lines};
@@ -15,7 +15,7 @@ use cost_base::{OutOfMemory, Refusal};
 use design_problem::Row;
 use std::alloc::Global;
 
-/// The rows, and the text behind them. Their rivals start at 0.
+/// The rows, and the text behind them.
 ///
 /// # Errors
 ///
@@ -26,7 +26,7 @@ pub(crate) fn read_rows(
     text: TextLeft<'_>,
 ) -> Result<(Vec<Row>, TextLeft<'_>), Refusal<AnswerFault>>
     ensures { MatchResult result (λ r. Goes AtRows text.entry (rows_lines r.0.items) (AtRow zero)
-        r.1 × All (λ row. row.rival.start ≡ 0) r.0.items) (StopsReader AtRows text.entry) }
+        r.1) (StopsReader AtRows text.entry) }
 {
     let (count, rest) = rows_count(text)?;
     each_row(alloc, rest, count)
@@ -50,8 +50,8 @@ fn each_row(
     count: u64,
 ) -> Result<(Vec<Row>, TextLeft<'_>), Refusal<AnswerFault>>
     ensures { MatchResult result (λ r. (length r.0.items ≡ count) ×
-        Goes (AtRow count) text.entry (map row_line r.0.items) (AtRow zero) r.1 ×
-        All (λ row. row.rival.start ≡ 0) r.0.items) (StopsReader (AtRow count) text.entry) }
+        Goes (AtRow count) text.entry (map row_line r.0.items) (AtRow zero) r.1)
+        (StopsReader (AtRow count) text.entry) }
 {
     let mut rows = Vec::new(alloc);
     let mut left = text;
@@ -67,7 +67,7 @@ fn each_row(
 fn row_at(alloc: Global, text: TextLeft<'_>) -> Result<(Row, TextLeft<'_>), Refusal<AnswerFault>>
     ensures { (left : ℕ) →
         MatchResult result (λ r. Goes (AtRow (suc left)) text.entry (row_line r.0 ∷ []) (AtRow left)
-        r.1 × (r.0.rival.start ≡ 0)) (StopsReader (AtRow (suc left)) text.entry) }
+        r.1) (StopsReader (AtRow (suc left)) text.entry) }
 {
     let found = row_next(alloc, text)?;
     match found {
@@ -80,8 +80,7 @@ fn row_at(alloc: Global, text: TextLeft<'_>) -> Result<(Row, TextLeft<'_>), Refu
 fn row_next(alloc: Global, text: TextLeft<'_>) -> Result<Option<(Row, TextLeft<'_>)>, OutOfMemory>
     ensures { IfOk result (λ found. (left : ℕ) → MatchOption found
         (LacksLawful (AtRow (suc left)) text.entry.left.now)
-        (λ r. Goes (AtRow (suc left)) text.entry (row_line r.0 ∷ []) (AtRow left) r.1 ×
-        (r.0.rival.start ≡ 0))) }
+        (λ r. Goes (AtRow (suc left)) text.entry (row_line r.0 ∷ []) (AtRow left) r.1)) }
 {
     let Some((line, rest)) = text.line() else {
         return Ok(None);

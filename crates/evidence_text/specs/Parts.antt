@@ -9,7 +9,7 @@ use Rattle.design_problem.specs.Text.{spaced, verdict_words, floor_word, row_lin
 use Rattle.evidence_text.specs.declared.TreePart.{TreePart}
 use Rattle.evidence_text.specs.declared.TreePart.TheVariants.{Proof, Unfinished}
 
--- the line of the verdict
+-- the line of an answer's verdict
 abbrev pub verdict_line : Verdict → List ℕ
 verdict_line verdict = spaced (codes "verdict" ∷ verdict_words verdict)
 
@@ -17,31 +17,31 @@ verdict_line verdict = spaced (codes "verdict" ∷ verdict_words verdict)
 abbrev pub head_lines : Verdict → List (List ℕ)
 head_lines verdict = codes "ospfcost answer 1" ∷ verdict_line verdict ∷ []
 
--- `costs K`
+-- the line `costs K` of an answer, K being the greatest cost
 abbrev pub costs_line : ℕ → List ℕ
 costs_line greatest = spaced (codes "costs" ∷ decimal greatest ∷ [])
 
--- `interface IF`
+-- the line `interface IF` of an answer's section
 abbrev pub interface_line : List ℕ → List ℕ
 interface_line name = spaced (codes "interface" ∷ name ∷ [])
 
--- ` ip ospf cost N`
+-- the line ` ip ospf cost N` of an answer's section
 abbrev pub answer_cost_line : ℕ → List ℕ
 answer_cost_line cost = spaced (codes " ip" ∷ codes "ospf" ∷ codes "cost" ∷ decimal cost ∷ [])
 
--- what a cost line prints behind its router
+-- the lines that a cost line prints behind the line of its router
 abbrev pub interface_lines : CostLine → List (List ℕ)
 interface_lines line = interface_line line.interface ∷ answer_cost_line line.cost ∷ codes "exit" ∷ []
 
--- the line of the floor
+-- the line of an answer's floor
 abbrev pub floor_line : Floor → List ℕ
 floor_line floor = spaced (codes "floor" ∷ floor_word floor ∷ [])
 
--- `rows N`
+-- the line `rows N`, which counts the rows of a text
 abbrev pub rows_line : ℕ → List ℕ
 rows_line count = spaced (codes "rows" ∷ decimal count ∷ [])
 
--- the line that counts the rows, and the rows
+-- the part of rows in a text: the line that counts them, and a line for each
 abbrev pub rows_lines : List Row → List (List ℕ)
 rows_lines rows = rows_line (length rows) ∷ map row_line rows
 

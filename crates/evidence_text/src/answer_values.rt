@@ -83,7 +83,7 @@ fn keeps_row(row: &Row)
     ensures { BoundsRow row.now }
 {
     keeps_thing(row.request);
-    keeps_edges(row.rival.edges.as_slice());
+    keeps_edges(row.rival.as_slice());
 }
 
 /// Keeps that the number of rows has 64 bits, as a length has.

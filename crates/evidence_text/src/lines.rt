@@ -117,7 +117,7 @@ fn write_row(row: &Row, line: &mut LineBuffer)
 {
     line.start(b"row");
     line.push_number(u128::from(row.request));
-    push_numbers(row.rival.edges.as_slice(), line);
+    push_numbers(row.rival.as_slice(), line);
 }
 
 fn push_numbers(numbers: &[u32], line: &mut LineBuffer)

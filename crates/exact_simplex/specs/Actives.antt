@@ -20,18 +20,19 @@ abbrev pub table_in : Bool → Kernel → Table
 table_in true kernel = stated kernel
 table_in false kernel = kernel.table
 
--- the table that is worked on
+-- the table that an active one works on: that of its kernel, or the one in fractions beside it
 abbrev pub table_of : ActiveTable → Table
 table_of a = table_in a.in_kernel a.kernel
 
--- A table that is worked on is whole; where the kernel works, it is one; and where it doesn't, it can be read back.
+-- The lines that are worked on are the table of the box and the rows at the basis. Where the kernel of whole numbers
+-- works, its numbers are those of such a table; and at all times its lists and leads are fit for going back to it.
 pub record IsActive (a : ActiveTable) : Type 0 where
   pub whole : IsTableau (table_of a)
   pub kernel : a.in_kernel ≡ true → IsKernel a.kernel
   pub parked : IsParked a.kernel
   pub room : HasRoom a.kernel.table
 
--- What contracts see of a tableau: what it holds, and whether the kernel of whole numbers works, not the table in fractions.
+-- What contracts see of a tableau: what it holds, and whether the kernel of whole numbers works, or else fractions do.
 pub record TableauState : Type 0 where
   pub top : ℕ
   pub costs : CostBox
@@ -40,7 +41,7 @@ pub record TableauState : Type 0 where
   pub stage : Stage
   pub in_kernel : Bool
 
--- what a tableau holds, whichever of the two works
+-- what a tableau holds, whether the kernel works or the table in fractions
 abbrev pub held_by : TableauState → Held
 held_by t = record { top = t.top; costs = t.costs; rows = t.rows; basis = t.basis; stage = t.stage }
 
@@ -55,7 +56,7 @@ state_of a stage = record {
   in_kernel = a.in_kernel;
 }
 
--- a whole kernel over the box and the rows that are held, of which the bounds don't cover the pivot that is due
+-- a kernel over the box and the rows that are held, whose bounds don't cover the pivot that is due
 pub record WasHeldUp (h : Held) : Type 0 where
   pub kernel : Kernel
   pub whole : IsKernel kernel
@@ -64,7 +65,7 @@ pub record WasHeldUp (h : Held) : Type 0 where
   pub rows : kernel.table.rows.items ≡ h.rows
   pub held_up : IsHeldUp kernel
 
--- a whole kernel over what is held, of which the bounds don't cover a move as far as that to another box
+-- a kernel over what is held, whose bounds don't cover a move of the bounds as far as to another box
 pub record CouldNotMove (h : Held) (costs : CostBox) : Type 0 where
   pub kernel : Kernel
   pub whole : IsKernel kernel
@@ -76,14 +77,15 @@ pub record MayReturn (t : Table) : Type 0 where
   pub wide : 2 ^ 126 ≤ t.top
   pub covered : MayReadBack t
 
--- a whole table in fractions of what is held, on which the kernel may not work
+-- a table in fractions of what is held, on which the kernel may not work
 pub record CannotReturn (h : Held) : Type 0 where
   pub table : Table
   pub whole : IsTableau table
   pub holds : held_of table h.stage ≡ h
   pub beyond : MayReturn table → ⊥
 
--- What a tableau keeps: until it stops its table is whole; and at all times its basis is one, and there is room.
+-- Until a step stops it, a tableau's lines are the table of its box and rows at its basis; they show what it found. At
+-- all times its basis is one of the box and the rows, and its two work rows are as wide as the lines.
 pub record IsSoundActive (a : ActiveTable) (stage : Stage) : Type 0 where
   pub active : IsGoing stage → IsActive a
   pub shown : IsShown a.kernel.table.basis.items (table_of a).lines.items stage

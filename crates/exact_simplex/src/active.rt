@@ -51,7 +51,13 @@ impl ActiveTable {
         requires ranges { IsBox (length costs.now.low) costs.now }
         requires few { length costs.now.low < 2 ^ 32 }
         ensures held { IfOk result (λ table. held_of table.kernel.table Open ≡
-            record { top = top; costs = costs.now; rows = []; basis = starting costs.now; stage = Open }) }
+            record {
+              top = top;
+              costs = costs.now;
+              rows = [];
+              basis = starting costs.now;
+              stage = Open;
+            }) }
         ensures sound { IfOk result (λ table. IsSoundActive table Open) }
         ensures wide { IfOk result (λ table. 2 ^ 126 ≤ top → table.in_kernel ≡ true) }
     {
@@ -87,11 +93,11 @@ impl ActiveTable {
 
     /// Goes on with the table in fractions, at the same basis.
     fn leave_kernel(&mut self)
-        // The table is whole, and the kernel works.
+        // The lines are the table at the basis, and the kernel works.
         requires active { IsActive self.old }
         requires kernel { self.old.in_kernel ≡ true }
 
-        // The table in fractions is whole, and goes on from here.
+        // The lines in fractions are the table at the basis, and the work goes on with them.
         ensures active { IsActive self.new }
         ensures left { self.new.in_kernel ≡ false }
 
@@ -109,11 +115,11 @@ impl ActiveTable {
 
     /// Goes on in the kernel, where its bounds cover the table in fractions.
     fn return_to_kernel(&mut self)
-        // The table is whole, and works in fractions.
+        // The lines are the table at the basis, and the work is done in fractions.
         requires active { IsActive self.old }
         requires fractions { self.old.in_kernel ≡ false }
 
-        // Whichever of the two works then, the table is whole and has the same lines.
+        // Whichever of the two works then, its lines are the table at the basis, the same as before.
         ensures active { IsActive self.new }
         ensures table { self.new.kernel.table ≡ self.old.kernel.table }
         ensures lines { (table_of self.new).lines.items ≡ self.old.kernel.table.lines.items }
@@ -132,11 +138,11 @@ impl ActiveTable {
     ///
     /// `Wide` where a step of the row's line makes a whole number that passes the top. The row was added nevertheless.
     pub fn put_row(&mut self, row: BlankRow) -> Result<(), Wide>
-        // The table is whole and has a place for the row, which fits the box, with a line of zeros.
+        // The lines are the table at the basis; there is a place for the row, which fits the box, with a line of zeros.
         requires active { IsActive self.old }
         requires row { MayAddRow self.old.kernel row }
 
-        // The row is added in any case, and on Ok the table is whole again.
+        // The row is added in any case, and on Ok the lines are the table at the basis again.
         ensures held { held_of self.new.kernel.table Open ≡ record {
           top = self.old.kernel.table.top;
           costs = self.old.kernel.table.costs;
@@ -173,11 +179,11 @@ impl ActiveTable {
     /// `Wide` where a step makes a whole number that passes the top; it is one at the basis that
     /// is left.
     fn advance(&mut self) -> Result<Option<Solved>, Wide>
-        // The table is whole, and works in fractions.
+        // The lines are the table at the basis, and the work is done in fractions.
         requires active { IsActive self.old }
         requires fractions { self.old.in_kernel ≡ false }
 
-        // On Ok the table is whole again, and it shows the answer or its rank rose.
+        // On Ok the lines are the table at the basis again; it shows the answer, or its rank rose.
         ensures active { OnOk result (IsActive self.new) }
         ensures ahead { IfOk result (λ solved. IsAhead self.old.kernel.table (table_of self.new)
             solved) }
@@ -206,10 +212,10 @@ impl ActiveTable {
     /// `Wide` where a step makes a whole number that passes the top; it is one at the basis that
     /// is left.
     fn work(&mut self) -> Result<Option<Solved>, Wide>
-        // The table is whole, with room for pivots.
+        // The lines are the table at the basis, with room for pivots.
         requires active { IsActive self.old }
 
-        // On Ok it's whole and further on; only a pivot beyond its bounds stops the kernel.
+        // On Ok they are so again, and further on; only a pivot beyond its bounds stops the kernel.
         ensures active { OnOk result (IsActive self.new) }
         ensures left { self.old.in_kernel ≡ true → self.new.in_kernel ≡ false →
             WasHeldUp (held_of self.old.kernel.table Open) }
@@ -244,10 +250,10 @@ impl ActiveTable {
     ///
     /// `Wide` where a step makes a whole number that passes the top; it is one at the basis that is left.
     pub fn settle(&mut self) -> Result<Solved, Wide>
-        // The table is whole, with room for pivots.
+        // The lines are the table at the basis, with room for pivots.
         requires active { IsActive self.old }
 
-        // On Ok the table is whole again, and its lines show the answer.
+        // On Ok the lines are the table at the basis again, and show the answer.
         ensures active { OnOk result (IsActive self.new) }
         ensures shown { IfOk result (λ solved. IsShown self.new.kernel.table.basis.items
             (table_of self.new).lines.items (Ended solved)) }
@@ -332,12 +338,12 @@ impl ActiveTable {
     /// works on where its bounds cover so far a move, and again where they cover the table in fractions afterwards. It
     /// takes no memory.
     pub fn rebase(&mut self, costs: &CostBox)
-        // The table is whole, the new box is one of its variables, and the rows fit it.
+        // The lines are the table at the basis, the new box is one of its variables, and the rows fit it.
         requires active { IsActive self.old }
         requires ranges { IsBox (length self.old.kernel.table.costs.low) costs.now }
         requires fits { All (FitsBox costs.now) self.old.kernel.table.rows.items }
 
-        // It's whole again; the kernel works on over a move that it covers, and else where it may.
+        // The lines are so again; the kernel works on over a move that it covers, and else where it may.
         ensures active { IsActive self.new }
         ensures stays { self.old.in_kernel ≡ true → MayMove self.old.kernel
             (box_distance self.old.kernel.table.costs costs.now) → self.new.in_kernel ≡ true }

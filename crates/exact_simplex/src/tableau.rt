@@ -48,7 +48,13 @@ impl Tableau {
         requires ranges { IsBox (length costs.now.low) costs.now }
         requires few { length costs.now.low < 2 ^ 32 }
         ensures held { IfOk result (λ tableau. held_by tableau ≡
-            record { top = top; costs = costs.now; rows = []; basis = starting costs.now; stage = Stage.Open }) }
+            record {
+              top = top;
+              costs = costs.now;
+              rows = [];
+              basis = starting costs.now;
+              stage = Stage.Open;
+            }) }
         ensures kernel { IfOk result (λ tableau. (tableau.in_kernel ≡ true) ↔ (2 ^ 126 ≤ top)) }
     {
         Ok(Tableau {
@@ -122,7 +128,13 @@ impl Tableau {
         // On Ok the tableau hadn't stopped, and it's open with one row more, at the same basis.
         ensures going { OnOk result (IsGoing self.old.stage) }
         ensures added { OnOk result (held_by self.new ≡
-            record { top = self.old.top; costs = self.old.costs; rows = self.old.rows ++ form.now ∷ []; basis = self.old.basis; stage = Stage.Open }) }
+            record {
+              top = self.old.top;
+              costs = self.old.costs;
+              rows = self.old.rows ++ form.now ∷ [];
+              basis = self.old.basis;
+              stage = Stage.Open;
+            }) }
 
         // On Err it's as before, unless a too wide step stopped it; then it has the row too.
         ensures refused { IfErr result (IsRowRefused (held_by self.old) form.now
@@ -158,7 +170,13 @@ impl Tableau {
 
         // The tableau holds the same box and rows then, and has ended with this answer.
         ensures ended { IfOk result (λ solved. held_by self.new ≡
-            record { top = self.old.top; costs = self.old.costs; rows = self.old.rows; basis = self.new.basis; stage = Ended solved }) }
+            record {
+              top = self.old.top;
+              costs = self.old.costs;
+              rows = self.old.rows;
+              basis = self.new.basis;
+              stage = Ended solved;
+            }) }
 
         // On Err a too wide step at its basis stops it, or it had stopped and is as before.
         ensures stop { IfErr result (λ wide. IsTableauStopped (held_by self.old) self.old.rows
@@ -204,7 +222,7 @@ impl Tableau {
     /// Whole multipliers over the rows held, numbered as they were added, that refute the box: under them the sum of
     /// the rows is negative at every point of it (Ben-Ameur and Gourdin 2003). They are put into `into`. The form that
     /// `solve` found counts once where it is a row, and each row of the basis by the negated entry of that form in its
-    /// column; all times the least number that makes them whole.
+    /// column; all times the least number that makes whole numbers of them.
     ///
     /// # Errors
     ///

@@ -16,8 +16,8 @@ use Rattle.design_problem.specs.OpenPlaces.{Growing, first_place, fresh, grown, 
 use Rattle.cut_advisors.specs.declared.candidate.Candidate.{Candidate}
 use Rattle.form_search.specs.declared.found.Found.{Found}
 use Rattle.form_search.specs.declared.found.Found.TheVariants.{Costs as FoundCosts, Undecided}
-use Rattle.form_search.specs.declared.turn.Next.{Next}
-use Rattle.form_search.specs.declared.turn.Next.TheVariants.{Forms, Costs, Entry as ByEntry}
+use Rattle.form_search.specs.declared.next_entry.Next.{Next}
+use Rattle.form_search.specs.declared.next_entry.Next.TheVariants.{Forms, Costs, Entry as ByEntry}
 use Rattle.form_search.specs.Points.{AreCostsThere, candidates_at}
 use Rattle.form_search.specs.Turns.{IsNextRow, IsNextStep, IsUnsplit, turned}
 use Rattle.form_search.specs.Advised.{AreAdvisorsLeft, AreAskedFor, AreCalledAlong, AreAllTold, AreCalledBySearch, AreReadyFor, IsAskedNext, IsAt, IsPick, IsSearched, IsToldNext, IsToldOf, IsTreeOf}

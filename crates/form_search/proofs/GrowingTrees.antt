@@ -22,8 +22,8 @@ use Rattle.form_search.specs.Points.{IsCostsBox}
 use Rattle.form_search.specs.Finds.{IsSearchTree, IsShort}
 use Rattle.form_search.specs.declared.found.Found.{Found}
 use Rattle.form_search.specs.declared.found.Found.TheVariants.{Undecided}
-use Rattle.form_search.specs.declared.turn.Next.{Next}
-use Rattle.form_search.specs.declared.turn.Next.TheVariants.{Forms, Costs, Entry as ByEntry}
+use Rattle.form_search.specs.declared.next_entry.Next.{Next}
+use Rattle.form_search.specs.declared.next_entry.Next.TheVariants.{Forms, Costs, Entry as ByEntry}
 use Rattle.form_search.specs.Finds.{IsSearchResult}
 use Rattle.form_search.specs.Turns.{IsNextStep, IsNextEntry, turned}
 use Rattle.form_search.proofs.MissingForms.{missing, missing_few}

@@ -7,8 +7,8 @@ use Rattle.design_problem.specs.declared.form.CostBox.{CostBox}
 use Rattle.design_problem.specs.declared.tree.Entry.{Entry}
 use Rattle.design_problem.specs.declared.tree.Entry.TheVariants.{Tighten, Split, Halve, Refute, Undone}
 use Rattle.design_problem.specs.Earnest.{EarnestAt, IsLeastPoint, OpenPlace}
-use Rattle.form_search.specs.declared.turn.Next.{Next}
-use Rattle.form_search.specs.declared.turn.Next.TheVariants.{Forms, Costs, Entry as ByEntry}
+use Rattle.form_search.specs.declared.next_entry.Next.{Next}
+use Rattle.form_search.specs.declared.next_entry.Next.TheVariants.{Forms, Costs, Entry as ByEntry}
 use Rattle.form_search.specs.Sources.{SameFor}
 use Rattle.form_search.specs.Points.{AreCostsThere}
 use Rattle.form_search.specs.Turns.{IsNextStep}

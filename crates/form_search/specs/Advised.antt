@@ -16,8 +16,8 @@ use Rattle.cut_advisors.specs.declared.candidate.Candidate.{Candidate}
 use Rattle.cut_advisors.specs.Choosing.{IsChosen}
 use Rattle.form_search.specs.declared.found.Found.{Found}
 use Rattle.form_search.specs.declared.found.Found.TheVariants.{Costs, Refuted, Undecided}
-use Rattle.form_search.specs.declared.turn.Next.{Next}
-use Rattle.form_search.specs.declared.turn.Next.TheVariants.{Forms, Costs as ByCosts, Entry as ByEntry}
+use Rattle.form_search.specs.declared.next_entry.Next.{Next}
+use Rattle.form_search.specs.declared.next_entry.Next.TheVariants.{Forms, Costs as ByCosts, Entry as ByEntry}
 use Rattle.form_search.specs.Points.{AreCostsThere, candidates_at}
 
 -- The advisors are asked for a Split of the box: their choices are the variables that are fractional at a point of it, each
@@ -66,34 +66,34 @@ IsTreeOf IsHere tree (Refuted entries) = entries ≡ tree.entries
 IsTreeOf IsHere tree (Undecided entries) = entries ≡ tree.entries ++ undones (length tree.places)
 
 -- What a pick does to the advisors: the first one that picks in range answers, and stands as its pick leaves it; those
--- before it, which pick out of range, are gone; the others stay as they are.
+-- before it, which pick out of range, are dropped; the others stay as they are.
 abbrev pub IsPick : {A : Type 0} → (A → A → Type 0) → (A → List ℕ) → (A → List ℕ → List Candidate → ℕ) →
     (A → List ℕ → List Candidate → List ℕ) → List Candidate → ℕ → List A → List A → Type 0
 IsPick IsItself state would left choices position old new =
     IsChosen (λ b. would b (state b) choices) (λ b c. IsItself b c × (state c ≡ left b (state b) choices)) (length choices) old position new
 
--- what the telling of an entry does to them: each is told
+-- what the telling of an entry does to the advisors: each is told, and stands as its rules say
 abbrev pub AreAllTold : {A : Type 0} → (A → A → Type 0) → (A → List ℕ) → (A → List ℕ → Entry → List ℕ) → Entry → List A → List A → Type 0
 AreAllTold IsItself state after entry old new = AllZip (λ b c. IsItself b c × (state c ≡ after b (state b) entry)) old new
 
--- one search called them: along some tree over some box, at points of its boxes
+-- one search called the advisors: along some tree over some box, at points of its boxes
 abbrev pub IsSearched : {A : Type 0} → (A → A → Type 0) → (A → List ℕ) → (A → List ℕ → List Candidate → ℕ) →
     (A → List ℕ → List Candidate → List ℕ) → (A → List ℕ → Entry → List ℕ) → List A → List A → Type 0
 IsSearched IsItself state would left after old new = (box : CostBox) × (tree : Growing)
     × AreCalledBySearch IsPointOf (IsPick IsItself state would left) (AreAllTold IsItself state after) box tree old new
 
--- some searches lead from the one list to the other
+-- the second list is what some searches, one after another, leave of the first list of advisors
 pub data AreAdvisorsLeft {A : Type 0} (Search : List A → List A → Type 0) : List A → List A → Type 0 where
   none : (xs : List A) → AreAdvisorsLeft Search xs xs
   more : (xs ys zs : List A) → AreAdvisorsLeft Search xs ys → Search ys zs → AreAdvisorsLeft Search xs zs
 
 -- The advisors that are left by some searches: the rules of its kind tell what each picks, and how a call leaves it. So one
--- that is gone picked out of range, and each other one was told all entries and asked for each Split that came to it.
+-- that was dropped picked out of range, and each other one was told all entries and asked for each Split that came to it.
 abbrev pub AreCalled : {A V : Type 0} {X : V → Type 0} → ((rules : V) → Ghosts (X rules)) → (A → V) → (A → List ℕ) → List A → List A → Type 0
 AreCalled members rules state =
     AreAdvisorsLeft (IsSearched (λ b c. rules c ≡ rules b) state (λ b. (members (rules b)).would) (λ b. (members (rules b)).left) (λ b. (members (rules b)).after))
 
--- they were called along the tree that a search of the box answers, at the points that it asks for
+-- the advisors were called along the tree that a search of the box answers, at the points that it asks for
 pub record AreAdvised {A V : Type 0} {X : V → Type 0} (members : (rules : V) → Ghosts (X rules)) (rules : A → V) (state : A → List ℕ)
     (IsHere : CostBox → Point → Type 0) (box : CostBox) (result : Result Found OutOfMemory) (old new : List A) : Type 0 where
   pub tree : Growing
@@ -101,7 +101,7 @@ pub record AreAdvised {A V : Type 0} {X : V → Type 0} (members : (rules : V) �
   pub calls : AreCalledBySearch IsHere (IsPick (λ b c. rules c ≡ rules b) state (λ b. (members (rules b)).would) (λ b. (members (rules b)).left))
       (AreAllTold (λ b c. rules c ≡ rules b) state (λ b. (members (rules b)).after)) box tree old new
 
--- before what comes next they were asked for its Split, and for nothing where another entry comes, or none
+-- before what comes next the advisors were asked for its Split, and for nothing where another entry comes, or none
 abbrev pub IsAskedNext : {A : Type 0} → (CostBox → Point → Type 0) → (List Candidate → ℕ → List A → List A → Type 0) → CostBox →
     Result Next OutOfMemory → List A → List A → Type 0
 IsAskedNext IsHere Picks box (Ok Forms) old new = new ≡ old
@@ -109,36 +109,37 @@ IsAskedNext IsHere Picks box (Ok (ByCosts w)) old new = new ≡ old
 IsAskedNext IsHere Picks box (Ok (ByEntry entry)) old new = AreReadyFor IsHere Picks box entry old new
 IsAskedNext IsHere Picks box (Err e) old new = new ≡ old
 
--- the same of advisors by their rules: a pick is by what each would pick, and leaves it as its rules say
+-- before what comes next the advisors were asked for its Split, if one comes: a pick is by what each would pick, and
+-- leaves it as its rules say
 abbrev pub AreAskedNext : {A V : Type 0} {X : V → Type 0} → ((rules : V) → Ghosts (X rules)) → (A → V) → (A → List ℕ) →
     (CostBox → Point → Type 0) → CostBox → Result Next OutOfMemory → List A → List A → Type 0
 AreAskedNext members rules state IsHere box result old new =
     IsAskedNext IsHere (IsPick (λ b c. rules c ≡ rules b) state (λ b. (members (rules b)).would) (λ b. (members (rules b)).left)) box result old new
 
--- the point of the box, and no other
+-- a point that may be asked for: of one box the one point
 abbrev pub IsAt : CostBox → Point → CostBox → Point → Type 0
 IsAt box point b p = (b ≡ box) × (p ≡ point)
 
--- they were asked for a Split at the point, and for nothing where memory was wanting
+-- the advisors were asked for a Split at the point, and for nothing where memory was wanting
 abbrev pub AreAskedAt : {A V : Type 0} {X : V → Type 0} → ((rules : V) → Ghosts (X rules)) → (A → V) → (A → List ℕ) →
     CostBox → Point → Result Entry OutOfMemory → List A → List A → Type 0
 AreAskedAt members rules state box point (Ok entry) old new =
     AreReadyFor (IsAt box point) (IsPick (λ b c. rules c ≡ rules b) state (λ b. (members (rules b)).would) (λ b. (members (rules b)).left)) box entry old new
 AreAskedAt members rules state box point (Err e) old new = new ≡ old
 
--- they were told the entry that comes next, if one does
+-- the advisors were told the entry that comes next, if one does
 abbrev pub IsToldOf : {A : Type 0} → (Entry → List A → List A → Type 0) → Next → List A → List A → Type 0
 IsToldOf Tells Forms old new = new ≡ old
 IsToldOf Tells (ByCosts w) old new = new ≡ old
 IsToldOf Tells (ByEntry entry) old new = Tells entry old new
 
--- they were told the entry by which a search goes on; where it ends, only one for which memory was wanting
+-- the advisors were told the entry by which a search goes on; where it ends, only one for which memory was wanting
 abbrev pub IsToldNext : {A : Type 0} → (Entry → List A → List A → Type 0) → Next → Result (ControlFlow Found Growing) OutOfMemory → List A → List A → Type 0
 IsToldNext Tells next (Ok (Continue tree)) old new = IsToldOf Tells next old new
 IsToldNext Tells next (Ok (Break found)) old new = new ≡ old
 IsToldNext Tells next (Err e) old new = (new ≡ old) ⊎ IsToldOf Tells next old new
 
--- the same of advisors by their rules: each that is told stands as its rules say
+-- the advisors were told the entry by which a search goes on, if one came: each that is told stands as its rules say
 abbrev pub AreToldNext : {A V : Type 0} {X : V → Type 0} → ((rules : V) → Ghosts (X rules)) → (A → V) → (A → List ℕ) →
     Next → Result (ControlFlow Found Growing) OutOfMemory → List A → List A → Type 0
 AreToldNext members rules state next result old new =

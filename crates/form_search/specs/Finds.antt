@@ -22,7 +22,7 @@ HasFewParts n (Halve var value wide) = Unit {0}
 HasFewParts n (Refute parts) = length parts ≤ n + 1
 HasFewParts n Undone = Unit {0}
 
--- what each entry keeps, in n variables: it fits the text of an answer, and names few forms
+-- what each entry of a search's tree keeps, in n variables: it fits the text of an answer, and names few forms
 abbrev pub IsShort : ℕ → Entry → Type 0
 IsShort n entry = FitsEntry entry × HasFewParts n entry
 

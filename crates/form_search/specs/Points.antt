@@ -7,7 +7,7 @@ use Rattle.design_problem.specs.Earnest.{IsLeastPoint}
 use Rattle.form_search.specs.Sources.{scaled}
 use Rattle.cut_advisors.specs.declared.candidate.Candidate.{Candidate}
 
--- every value is whole
+-- every value of the point is a whole number
 abbrev pub IsIntegralPoint : Point → Type 0
 IsIntegralPoint point = All (λ x. x % point.scale ≡ 0) point.values
 
@@ -27,7 +27,7 @@ pub record IsLeastOf (accepted : Point → Type 0) (box : CostBox) (point : Poin
 abbrev pub AreCostsOf : Point → List ℕ → Type 0
 AreCostsOf point w = (scaled w point.scale ≡ point) ⊎ ((IsIntegralPoint point → ⊥) × (w ≡ point.values))
 
--- the costs are those of the point of the box that is asked for
+-- the costs are those that the point gives which is asked for in the box
 pub record AreCostsThere (IsHere : CostBox → Point → Type 0) (box : CostBox) (w : List ℕ) : Type 0 where
   pub point : Point
   pub here : IsHere box point

@@ -21,11 +21,11 @@ pub record IsCostPoint (n : ℕ) (point : Point) : Type 0 where
   pub least : All (λ x. point.scale ≤ x) point.values
   pub most : All (λ x. x ≤ 65535 * point.scale) point.values
 
--- costs, and a scale
+-- costs as a point: each times the scale
 abbrev pub scaled : List ℕ → ℕ → Point
 scaled w scale = record { scale = scale; values = map (λ x. x * scale) w }
 
--- what holds before holds after, and the other way round
+-- what holds of a point before a call holds of it after, and the other way round
 abbrev pub SameFor : {X : Type 0} → (X → Type 0) → (X → Type 0) → Type 0
 SameFor {X} Before After = (x : X) → Before x ↔ After x
 
@@ -43,14 +43,14 @@ pub record Grows (IsTrue : Form → Type 0) (old new : List Form) : Type 0 where
   pub same : new ≡ old ++ more
   pub more_true : All IsTrue more
 
--- one of the new forms is negative at the point, and wasn't in the pool
+-- a form that wasn't in the pool came into it, and is negative at the point
 pub record HasNewRival (point : Point) (old new : List Form) : Type 0 where
   pub form : Form
   pub is_new : Contains new form
   pub not_old : Contains old form → ⊥
   pub negative : value_at form point <ℤ pos 0
 
--- Nothing exactly where the point is accepted; then the pool is as before
+-- what a source answers: nothing came exactly where it accepts the point; else a form that is negative there
 abbrev pub IsSourceAnswer : (Point → Type 0) → Point → List Form → List Form → Asked → Type 0
 IsSourceAnswer accepted point old new Nothing = accepted point × (new ≡ old)
 IsSourceAnswer accepted point old new Added = (accepted point → ⊥) × HasNewRival point old new

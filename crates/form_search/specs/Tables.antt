@@ -36,12 +36,12 @@ abbrev pub IsTableauKept : List Form → Option HeldTableau → Type 0
 IsTableauKept forms None = Unit {0}
 IsTableauKept forms (Some table) = IsHeld table.top table.variables forms table
 
--- the tableau is one over the box, with the first forms of the pool
+-- a tableau that is kept stands over this box, with the first forms of the pool
 pub record IsHeldOver (top : ℕ) (box : CostBox) (forms : List Form) (table : HeldTableau) : Type 0 where
   pub is_held : IsHeld top (length box.low) forms table
   pub costs : table.tableau.costs ≡ box
 
--- the tableau stands over the box, and no step has stopped it
+-- a tableau that is kept stands over this box, with the first forms of the pool, and no step has stopped it
 pub record StandsAt (top : ℕ) (box : CostBox) (forms : List Form) (table : HeldTableau) : Type 0 where
   pub over : IsHeldOver top box forms table
   pub going : IsGoing table.tableau.stage

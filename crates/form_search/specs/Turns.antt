@@ -15,9 +15,9 @@ use Rattle.design_problem.specs.Earnest.{EarnestAt, IsLeastPoint, OpenPlace}
 use Rattle.design_problem.specs.OpenPlaces.{Growing, grown, undones}
 use Rattle.form_search.specs.declared.found.Found.{Found}
 use Rattle.form_search.specs.declared.found.Found.TheVariants.{Costs as FoundCosts, Undecided}
-use Rattle.form_search.specs.declared.turn.Next.{Next}
-use Rattle.form_search.specs.declared.turn.Next.TheVariants.{Forms, Costs, Entry as ByEntry}
-use Rattle.form_search.specs.declared.turn.Desk.{Desk}
+use Rattle.form_search.specs.declared.next_entry.Next.{Next}
+use Rattle.form_search.specs.declared.next_entry.Next.TheVariants.{Forms, Costs, Entry as ByEntry}
+use Rattle.form_search.specs.declared.next_entry.Desk.{Desk}
 use Rattle.form_search.specs.declared.watch.Watch.{Watch}
 use Rattle.cut_advisors.specs.declared.candidate.Candidate.{Candidate}
 use Rattle.form_search.specs.Finds.{IsShort}
@@ -60,7 +60,7 @@ pub record HasNew (old new : List Form) : Type 0 where
   pub is_new : Contains new form
   pub not_old : Contains old form → ⊥
 
--- what may come next at the place: new forms, accepted costs that its box's least accepted point gives, or an entry
+-- what may come next at an open place: new forms, accepted costs that its box's least accepted point gives, or an entry
 abbrev pub IsNextStep : (Point → Type 0) → ℕ → List Form → List Form → OpenPlace → Next → Type 0
 IsNextStep accepted top old new place Forms = HasNew old new
 IsNextStep accepted top old new place (Costs w) = IsInBox place.box w × accepted (at_costs w) × AreCostsThere (IsLeastPoint accepted) place.box w

@@ -16,11 +16,11 @@ ghost use Rattle.form_search.specs.Points.{AreCostsOf, IsCostsBox, IsFractional,
 ghost use Rattle.form_search.specs.Turns.{IsDesk, IsNextStep, IsSplitAt};
 
 use crate::candidates::candidates_of;
+use crate::next_entry::{Desk, Next, halved};
 use crate::one_point::{at_one_point, is_one_point};
 use crate::points::{are_values_accepted, is_whole, value_costs, whole_costs};
 use crate::propagation::propagated;
 use crate::relaxation::{Relaxed, relax};
-use crate::turn::{Desk, Next, halved};
 use crate::watch::Watch;
 use crate::{FormPool, RowSource};
 use area_graph::Point;

@@ -6,6 +6,7 @@
 mod at_box;
 mod candidates;
 mod found;
+mod next_entry;
 mod one_point;
 mod points;
 mod pool;
@@ -14,7 +15,6 @@ mod relaxation;
 mod searching;
 mod source;
 mod table;
-mod turn;
 mod watch;
 
 pub use found::Found;

@@ -5,9 +5,9 @@ ghost use Rattle.form_search.specs.Calls.{AreInStep, Leaves};
 ghost use Rattle.form_search.specs.Points.{IsCostsBox};
 ghost use Rattle.form_search.specs.Turns.{IsNextOfPoint};
 
+use crate::next_entry::Next;
 use crate::points::{low_costs, put_costs};
 use crate::propagation::{first_negative, refute_by};
-use crate::turn::Next;
 use crate::{Asked, FormPool, RowSource};
 use area_graph::Point;
 use cost_base::OutOfMemory;

@@ -13,7 +13,7 @@ ghost use Rattle.form_search.specs.Points.{IsCostsBox};
 ghost use Rattle.form_search.specs.Turns.{IsSoundNext, turned};
 
 use crate::at_box::next_at;
-use crate::turn::{Desk, Next};
+use crate::next_entry::{Desk, Next};
 use crate::{FormPool, Found, RowSource};
 use cost_base::{Listed, OutOfMemory};
 use cut_advisors::{Advisor, tell};
@@ -84,7 +84,7 @@ fn turn(
 /// Searches a box for costs that the source accepts.
 ///
 /// Costs are an accepted whole point of the box. Refuted comes with a closed earnest tree over the box, of at most
-/// `limits.nodes` entries; Spent with an earnest tree that has an Undone and exactly so many. The forms of the trees are
+/// `limits.nodes` entries; Undecided with an earnest tree that has an Undone and exactly so many. The forms of the trees are
 /// those of the pool, in its order. Boxes are worked in preorder: by propagation, by the exact simplex with forms of the
 /// source, and by cuts. The variable of a Split is picked by the advisors, who are told each entry; without one the first
 /// candidate is taken.

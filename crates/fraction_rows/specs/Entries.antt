@@ -81,7 +81,7 @@ pub record IsDivisionTooWide (width top : ℕ) (divisor : Fraction) (olds : List
   pub step : IsQuotientStep (fraction_at olds column) divisor wide
   pub passes : IsPassing top wide
 
--- the columns rise, and none is 0
+-- the columns rise, and no fraction is 0
 abbrev pub AreRising : List (ℕ × Fraction) → Type 0
 AreRising es = (high : ℕ) × Rises 0 high es
 

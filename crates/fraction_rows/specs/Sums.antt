@@ -16,7 +16,7 @@ IsTermSum sum c q wide =
 abbrev pub sum_of_terms : Fraction → List ℤ → List (List Fraction) → ℕ → Fraction
 sum_of_terms start cs lines place = fold plus start (terms cs lines place)
 
--- the steps by which the whole sum is made
+-- the steps by which the sum of some coefficients' terms at a place is made
 pub data IsSumStep (start : Fraction) (cs : List ℤ) (lines : List (List Fraction)) (place : ℕ) (wide : Wide) : Type 0 where
   product : (var : ℕ) → var < length cs →
       wide ≡ record {

@@ -29,6 +29,7 @@ pub fn put_entry(entries: &mut Vec<(u32, Frac)>, column: u32, value: Frac)
     }
     match entries.push((column, value)) {
         Ok(()) => {}
+        // There is room for one more, so the push asks for no memory.
         Err(_) => unreachable!(),
     }
 }

@@ -6,11 +6,11 @@ use Rattle.design_problem.specs.Steps.{corner_denominators}
 use Rattle.fraction_table.specs.declared.table.Table.{Table}
 use Rattle.fraction_table.specs.Pivots.{line_at}
 
--- the constant of x - low for a variable
+-- the constant of the form x - low of a variable in a table
 abbrev pub constant_at : Table → ℕ → Fraction
 constant_at t var = entry (line_at t var) 0
 
--- the denominators of these constants, in order
+-- the denominators of the constants of x - low for each variable of a table, in order
 abbrev pub denominators_of : Table → List ℕ
 denominators_of t = corner_denominators (take (length t.costs.low) t.lines.items)
 

@@ -33,8 +33,8 @@ IsColumnOf basis member (Some column) = (column < length basis) × (slice_index_
 abbrev pub raised_line : ℕ → Fraction → List Fraction → List Fraction
 raised_line column fall line = slice_set line 0 (plus (entry line 0) (times (entry line (suc column)) fall))
 
--- The lines after a bound's form fell: the constant of its own line falls, where it isn't in the basis; else those of all
--- others rise.
+-- The lines after a bound's form fell: the constant of its own line falls, where it isn't in the basis; else those of
+-- all others rise.
 abbrev pub shifted_lines : Option ℕ → ℕ → Fraction → List (List Fraction) → List (List Fraction)
 shifted_lines None own fall lines =
     slice_set lines own (slice_set (slice_index_or lines own []) 0 (minus (entry (slice_index_or lines own []) 0) fall))
@@ -63,14 +63,14 @@ abbrev pub put_at : Option ℕ → Member → List Member → List Member
 put_at None member basis = basis
 put_at (Some column) member basis = slice_set basis column member
 
--- The lines and the basis after a bound moved.
+-- the lines and the basis of a table after a bound moved: its form falls, or the constants of the other lines rise
 pub record IsTableShifted (old new : Table) (own : ℕ) (before after : Member) (fall : ℤ) : Type 0 where
   pub column : Option ℕ
   pub found : IsColumnOf old.basis.items before column
   pub basis : new.basis.items ≡ put_at column after old.basis.items
   pub lines : new.lines.items ≡ shifted_lines column own (whole fall) old.lines.items
 
--- A step of that is too wide.
+-- A step by which a bound moves is too wide.
 pub record IsShiftedWide (old : Table) (own : ℕ) (before : Member) (fall : ℤ) (wide : Wide) : Type 0 where
   pub column : Option ℕ
   pub found : IsColumnOf old.basis.items before column

@@ -14,7 +14,7 @@ use Rattle.fraction_rows.specs.Entries.{IsPassing}
 use Rattle.fraction_rows.specs.TableRows.{IsTableNumber}
 use Rattle.fraction_table.specs.Tableaus.{wide_at}
 
--- fractions of a member, with the row's number where it is a row; a bound has none
+-- fractions of a member, each with the row's number where the member is a row; none where it is a bound
 abbrev pub numbered : Member → List Fraction → List (ℕ × Fraction)
 numbered (Low var bound) qs = []
 numbered (High var bound) qs = []
@@ -34,19 +34,19 @@ fractions_of basis r entries = numbered r (whole (pos 1) ∷ []) ++ columns_numb
 abbrev pub fractions : List (ℕ × Fraction) → List Fraction
 fractions parts = map (λ part. part.1) parts
 
--- the least common multiple of their denominators
+-- the least common multiple of the denominators of multipliers
 abbrev pub common_of : List (ℕ × Fraction) → ℕ
 common_of parts = lcm_of (denominators (fractions parts))
 
--- a multiplier, times a number
+-- a row's number and its multiplier, times a whole number
 abbrev pub whole_part : ℕ → (ℕ × Fraction) → ℕ × ℕ
 whole_part multiple part = (part.0, nat_abs (times part.1 (whole (pos multiple))).numerator)
 
--- the multipliers, made whole
+-- the multipliers of rows as whole numbers: each times the least common multiple of their denominators
 abbrev pub whole_parts : List (ℕ × Fraction) → List (ℕ × ℕ)
 whole_parts parts = map (whole_part (common_of parts)) parts
 
--- multipliers as fractions
+-- multipliers that are whole numbers, as fractions
 abbrev pub wholes : List (ℕ × ℕ) → List Fraction
 wholes parts = map (λ part. whole (pos part.1)) parts
 
@@ -55,7 +55,7 @@ pub data IsTallyStep (ns : List Fraction) (wide : Wide) : Type 0 where
   sum : (k : ℕ) (next : Fraction) → slice_get ns k ≡ Some next → wide ≡ record { step = Add; left = sum_of (take k ns); right = next } → IsTallyStep ns wide
   scale : wide ≡ record { step = Scale; left = sum_of ns; right = two_to_27 } → IsTallyStep ns wide
 
--- the steps by which some fractions are made whole
+-- the steps by which some fractions become whole numbers: times the least common multiple of their denominators
 pub data IsMultiplierStep (qs : List Fraction) (wide : Wide) : Type 0 where
   multiple : (k d : ℕ) → slice_get (denominators qs) k ≡ Some d →
       wide ≡ record { step = Lcm; left = whole (pos (lcm_of (take k (denominators qs)))); right = whole (pos d) } →
@@ -64,7 +64,7 @@ pub data IsMultiplierStep (qs : List Fraction) (wide : Wide) : Type 0 where
       wide ≡ record { step = Mul; left = q; right = whole (pos (lcm_of (denominators qs))) } → IsMultiplierStep qs wide
   tally : IsTallyStep (made_whole qs) wide → IsMultiplierStep qs wide
 
--- a step that is too wide, where one stopped the work
+-- where a step stopped the work, it is one that makes whole numbers of these multipliers, and it is too wide
 abbrev pub IsWideMultiplier : ℕ → List Fraction → SimplexStop → Type 0
 IsWideMultiplier top qs (TooWide wide) = IsMultiplierStep qs wide × IsPassing top wide
 IsWideMultiplier top qs OutOfMemory = Unit {0}
@@ -79,7 +79,7 @@ abbrev pub Different : {X : Type 0} → List (ℕ × X) → Type 0
 Different [] = Unit {0}
 Different (p ∷ ps) = AllByRecursion (λ q. q.0 ≢ p.0) ps × Different ps
 
--- What each multiplier is: that of one of the rows, a number of the table, and positive.
+-- the multiplier of one of the rows: a number of the table, and positive
 pub record IsMultiplier (top count : ℕ) (part : ℕ × Fraction) : Type 0 where
   pub row : part.0 < count
   pub number : IsTableNumber top part.1

@@ -6,7 +6,7 @@ use Rattle.design_problem.specs.Forms.{form_at, terms_of}
 use Rattle.fraction_table.specs.declared.table.Table.{Table}
 use Rattle.fraction_table.specs.Pivots.{line_at}
 
--- how many terms a row's form has: its coefficients that aren't 0
+-- how many terms a row's form has: as many as its coefficients that aren't 0
 abbrev pub terms_in : List Form → ℕ → ℕ
 terms_in rows row = length (terms_of (form_at rows row))
 
@@ -49,10 +49,10 @@ abbrev pub IsShortestFound : ℕ → List Form → (ℕ → ℤ) → Option ℕ 
 IsShortestFound count rows constant None = NoneNegative count constant
 IsShortestFound count rows constant (Some row) = IsShortestNegative count rows constant row
 
--- a number with the sign of the constant of a line's form
+-- the numerator of the constant of a line's form: it has the constant's sign
 abbrev pub sign_at : Table → ℕ → ℤ
 sign_at t line = (entry (line_at t line) 0).numerator
 
--- the pivot form of a table
+-- the line is that of the table's pivot form
 abbrev pub IsPivotLine : Table → ℕ → Type 0
 IsPivotLine t line = IsPivotForm (length t.costs.low) t.rows.items (sign_at t) line

@@ -20,7 +20,7 @@ LeadsNoNegative (pos zero ∷ zs) = LeadsNoNegative zs
 LeadsNoNegative (pos (suc n) ∷ zs) = Unit {0}
 LeadsNoNegative (negsuc n ∷ zs) = ⊥
 
--- the numbers in a column
+-- the numbers that forms have in a column
 abbrev pub numbers_in_column : ℕ → List (List ℤ) → List ℤ
 numbers_in_column place lows = map (λ ts. number_at ts place) lows
 
@@ -36,15 +36,15 @@ IsLeastColumn n lows rs j =
     (k : ℕ) → k < n → k ≢ j → (a : ℕ) → number_at rs (suc j) ≡ pos a → pos 0 <ℤ number_at rs (suc k) →
     LeadsNoNegative (turned_column a (numbers_in_column (suc k) lows) (number_at rs (suc k)) (numbers_in_column (suc j) lows))
 
--- the line of a number
+-- the line of a table that has this number
 abbrev pub line_at : Table → ℕ → List Fraction
 line_at t line = slice_index_or t.lines.items line []
 
--- the member whose form stands in a line
+-- the member of the box and the rows whose form stands in a line
 abbrev pub member_at : Table → ℕ → Member
 member_at t line = slice_index_or (members_of_box t.costs (length t.rows.items)) line (Low 0 0)
 
--- the numbers of that form
+-- the numbers of the form of a line
 abbrev pub numbers_of_line : (t : Table) → IsTableau t → ℕ → List ℤ
 numbers_of_line t w line = numbers_of_form (length t.costs.low) w.unboxed.common t.costs.low w.unboxed.lows
     (member_form (length t.costs.low) t.rows.items (member_at t line))
@@ -72,12 +72,12 @@ IsNotAfterInTable t line first second =
     LeadsNoNegative (turned_column a (numbers_in_column (suc second) w.unboxed.lows)
     (number_at (numbers_of_line t w line) (suc second)) (numbers_in_column (suc first) w.unboxed.lows))
 
--- what a test tells whether the other column comes before
+-- what a test of two columns tells: whether the other column comes before
 abbrev pub IsOrdered : Bool → Table → ℕ → ℕ → ℕ → Type 0
 IsOrdered true t line column other = IsNotAfterInTable t line other column
 IsOrdered false t line column other = IsNotAfterInTable t line column other
 
--- how a line's entry in the other column stands to its multiple of that in the column
+-- how a line's entry in the other column compares with its entry in the column, times a quotient
 abbrev pub entries_order : List Fraction → ℕ → ℕ → Fraction → Ordering
 entries_order fs column other quotient = order (entry fs (suc other)) (times (entry fs (suc column)) quotient)
 
@@ -90,11 +90,11 @@ IsBestBelow t line bound (Some column) =
     × ((k : ℕ) → k < bound → k ≢ column → pos 0 <ℤ (entry (line_at t line) (suc k)).numerator →
     IsNotAfterInTable t line column k)
 
--- no constant is negative
+-- no form of the table has a negative constant
 abbrev pub AreHigh : Table → Type 0
 AreHigh t = All (λ line. pos 0 ≤ℤ (entry line 0).numerator) t.lines.items
 
--- what a step towards the answer leaves: the lines show the answer, or the rank rose
+-- what one step of a simplex leaves: where it found the answer, the lines show it; else the rank rose
 abbrev pub IsAhead : Table → Table → Option Solved → Type 0
 IsAhead old new None = rank old < rank new
 IsAhead old new (Some solved) = IsShown new.basis.items new.lines.items (Ended solved)

@@ -12,11 +12,11 @@ height top a b = (a * (top * top)) / b
 abbrev pub raised_height : ℕ → Fraction → ℕ
 raised_height top q = height top (nat_abs (q.numerator +ℤ pos (top * q.denominator))) q.denominator
 
--- more than any such height
+-- more than the height of any fraction within the top
 abbrev pub past_heights : ℕ → ℕ
 past_heights top = suc ((top + top * top) * (top * top))
 
--- the number whose digits in a base are these
+-- the number whose digits in a base are those of a list
 abbrev pub digits_number : ℕ → List ℕ → ℕ
 digits_number base [] = 0
 digits_number base (x ∷ xs) = x * base ^ length xs + digits_number base xs

@@ -41,37 +41,38 @@ pub record FitsBox (costs : CostBox) (row : Form) : Type 0 where
 abbrev pub starting : CostBox → List Member
 starting costs = map (low_member costs) (numbers_from 0 (length costs.low))
 
--- a tableau that hasn't stopped
+-- no step has stopped the tableau
 abbrev pub IsGoing : Stage → Type 0
 IsGoing Open = Unit {0}
 IsGoing (Ended solved) = Unit {0}
 IsGoing (Stopped wide) = ⊥
 
--- a step at a basis
+-- a step that is too wide, with the basis at which it is due
 abbrev pub wide_at : Wide → List Member → WideAt
 wide_at wide basis = record { step = wide.step; left = ratio_of wide.left; right = ratio_of wide.right; basis = basis }
 
--- The call stopped the tableau: the step is too wide at the basis that it leaves.
+-- A call stopped a tableau: its step is too wide, at the basis that the call leaves.
 pub record CallStops (old : Held) (rows : List Form) (new : Held) (wide : Wide) : Type 0 where
   pub going : IsGoing old.stage
   pub new_is : new ≡ record { top = old.top; costs = old.costs; rows = rows; basis = new.basis; stage = Stopped wide }
   pub too_wide : IsStepTooWide old.top old.costs rows (wide_at wide new.basis)
 
--- Where the tableau had stopped already, it stays as it was and the same step is told again; else the call stopped it.
+-- A call of a tableau told a step that is too wide: where one had stopped the tableau before, it stays as it was and
+-- that step is told again; else the call stopped it.
 abbrev pub IsTableauStopped : Held → List Form → Held → Wide → Type 0
 IsTableauStopped old rows new wide = ((old.stage ≡ Stopped wide) × (new ≡ old)) ⊎ CallStops old rows new wide
 
--- what is left where a row wasn't added
+-- what a call leaves that was to add a row and failed: a stopped tableau, or the one before where memory was wanting
 abbrev pub IsRowRefused : Held → Form → Held → SimplexStop → Type 0
 IsRowRefused old row new (TooWide wide) = IsTableauStopped old (old.rows ++ row ∷ []) new wide × (new.basis ≡ old.basis)
 IsRowRefused old row new OutOfMemory = new ≡ old
 
--- a step at the present basis, where a call that changes nothing needed it
+-- a call that changes nothing failed: it told a step that is too wide at the present basis, or memory was wanting
 abbrev pub IsTableauTold : Held → SimplexStop → Type 0
 IsTableauTold held (TooWide wide) = IsStepTooWide held.top held.costs held.rows (wide_at wide held.basis)
 IsTableauTold held OutOfMemory = Unit {0}
 
--- some rational point of the box meets the rows, or none does
+-- what a tableau found: some rational point of the box meets the rows, or, where a form is refuted, none does
 abbrev pub IsSolved : CostBox → List Form → Solved → Type 0
 IsSolved costs rows Feasible = (point : Point) × (IsPointOf costs point × AreMet rows point)
 IsSolved costs rows (Refuted form) = (point : Point) → IsPointOf costs point → AreMet rows point → ⊥

@@ -19,7 +19,7 @@ use Rattle.fraction_table.specs.declared.stage.Stage.TheVariants.{Open, Ended, S
 use Rattle.fraction_table.specs.declared.stage.Solved.TheVariants.{Feasible, Refuted}
 use Rattle.fraction_table.specs.Tableaus.{FitsBox, Held, IsGoing}
 
--- the sum of the rows' numbers at a place, each times its coefficient
+-- the sum of the rows' numbers at a place, each times the coefficient of its variable
 abbrev pub from_lows : List ℤ → List (List ℤ) → ℕ → ℤ
 from_lows [] rows place = pos 0
 from_lows (c ∷ cs) [] place = pos 0
@@ -30,7 +30,7 @@ abbrev pub number_of_form : ℕ → List ℕ → List (List ℤ) → Form → �
 number_of_form D low rows f zero = (pos D *ℤ value_for_costs f low) +ℤ from_lows f.coefficients rows 0
 number_of_form D low rows f (suc k) = from_lows f.coefficients rows (suc k)
 
--- all numbers of a form
+-- the numbers of a form at the places from 0 to n, by those of x - low for each of n variables
 abbrev pub numbers_of_form : ℕ → ℕ → List ℕ → List (List ℤ) → Form → List ℤ
 numbers_of_form n D low rows f = map (number_of_form D low rows f) (numbers_from 0 (suc n))
 
@@ -61,7 +61,7 @@ members_of_box costs rows =
     map (low_member costs) (numbers_from 0 (length costs.low)) ++ map (high_member costs)
     (numbers_from 0 (length costs.low)) ++ map (λ row. Row row) (numbers_from 0 rows)
 
--- A line of the table: numbers of the table that stand for those of the member's form.
+-- a line of the table: fractions, each a number of the table, that stand for the numbers of a member's form over D
 pub record IsTableLine (top D : ℕ) (costs : CostBox) (rows : List Form) (lows : List (List ℤ)) (member : Member) (line : List Fraction) : Type 0 where
   pub numbers : AreTableNumbers top line
   pub stand : Stand D line (numbers_of_form (length costs.low) D costs.low lows (member_form (length costs.low) rows member))
@@ -86,7 +86,7 @@ pub record IsUnboxed (top : ℕ) (costs : CostBox) (rows : List Form) (basis : L
   pub lead : (k : ℕ) → k < length costs.low → LeadsPositive (map (λ ts. number_at ts (suc k)) lows)
   pub lines : AllZip (IsTableLine top common costs rows lows) (members_of_box costs (length rows)) table
 
--- The table of a box and of rows at a basis: the rows fit the box.
+-- the lines of a box and of rows at a basis, where the ranges aren't empty and the rows fit the box
 pub record IsTableauOf (top : ℕ) (costs : CostBox) (rows : List Form) (basis : List Member) (table : List (List Fraction)) : Type 0 where
   pub box : IsBox (length costs.low) costs
   pub fit : All (FitsBox costs) rows
@@ -105,11 +105,11 @@ IsShown basis table (Ended Feasible) = All (λ line. pos 0 ≤ℤ (entry line 0)
 IsShown basis table (Ended (Refuted form)) = (form < length table) × IsStuck basis (slice_index_or table form [])
 IsShown basis table (Stopped wide) = Unit {0}
 
--- the table of a struct is whole
+-- the lines of a struct are the table of its box and its rows at its basis
 abbrev pub IsTableau : Table → Type 0
 IsTableau t = IsTableauOf t.top t.costs t.rows.items t.basis.items t.lines.items
 
--- what the table of a struct keeps while its bounds move
+-- the lines of a struct are those of its box and its rows at its basis; as while bounds move, ranges may be empty
 abbrev pub IsUnboxedTable : Table → Type 0
 IsUnboxedTable t = IsUnboxed t.top t.costs t.rows.items t.basis.items t.lines.items
 
@@ -119,7 +119,8 @@ pub record HasRoom (t : Table) : Type 0 where
   pub quotients : length t.quotients ≡ suc (length t.costs.low)
   pub scratch : length t.scratch ≡ suc (length t.costs.low)
 
--- What a tableau keeps: until it stops its table is whole; and at all times its basis is one, and there is room.
+-- Until a step stops it, a tableau's lines are the table of its box and rows at its basis; they show what it found. At
+-- all times its basis is one of the box and the rows, and its two work rows are as wide as the lines.
 pub record IsSound (t : Table) (stage : Stage) : Type 0 where
   pub whole : IsGoing stage → IsTableau t
   pub shown : IsShown t.basis.items t.lines.items stage

@@ -227,7 +227,7 @@ impl Table {
     ///
     /// `Wide` where a step of the line makes a whole number that passes `top`. The row was added nevertheless.
     pub fn put_row(&mut self, row: BlankRow) -> Result<(), Wide>
-        // The table is whole, and there is a place for one more row.
+        // The lines are the table at the basis, and there is a place for one more row.
         requires whole { IsTableau self.old }
         requires room { HasRoom self.old }
         requires place { HasPlace self.old }
@@ -236,7 +236,7 @@ impl Table {
         requires fits { FitsBox self.old.costs row.form }
         requires blank { row.line ≡ blank_row (length self.old.costs.low) }
 
-        // The row is added in any case, and on Ok the table is whole again.
+        // The row is added in any case, and on Ok the lines are the table at the basis again.
         ensures holds { HoldsRow self.old row.form self.new }
         ensures whole { OnOk result (IsTableau self.new) }
 

@@ -95,11 +95,11 @@ fn made_parts(
     requires multiple { multiple ≡ pos (common_of parts.now) }
     requires within { nat_abs multiple ≤ top }
 
-    // On Ok the multipliers are whole, and each is within the top.
+    // On Ok the multipliers are whole numbers, and each is within the top.
     ensures exact { IfOk result (λ made. made.items ≡ whole_parts parts.now) }
     ensures within { IfOk result (λ made. All (λ part. part.1 ≤ top) made.items) }
 
-    // On Err a step that makes them whole is too wide, unless it was want of memory.
+    // On Err a step that makes whole numbers of them is too wide, unless it was want of memory.
     ensures wide { IfErr result (IsWideMultiplier top (fractions parts.now)) }
 {
     // For the prover: that `top` has at most 127 bits is known once it is read.

@@ -149,7 +149,7 @@ impl Table {
         requires ranges { IsBox (length self.old.costs.low) costs.now }
         requires fits { All (FitsBox costs.now) self.old.rows.items }
 
-        // The table is whole, with room for pivots.
+        // The lines are the table at the basis, with room for pivots.
         ensures whole { IsTableau self.new }
         ensures room { HasRoom self.new }
 
@@ -167,13 +167,13 @@ impl Table {
     /// Moves the table to another box, bound by bound; where a step of that is too wide, it is started anew. It takes
     /// no memory.
     pub fn rebase(&mut self, costs: &CostBox)
-        // The table is whole, the new box is one of its variables, and the rows fit it.
+        // The lines are the table at the basis, the new box is one of its variables, and the rows fit it.
         requires whole { IsTableau self.old }
         requires room { HasRoom self.old }
         requires ranges { IsBox (length self.old.costs.low) costs.now }
         requires fits { All (FitsBox costs.now) self.old.rows.items }
 
-        // The table is whole again, with room for pivots.
+        // The lines are the table at the basis again, with room for pivots.
         ensures whole { IsTableau self.new }
         ensures room { HasRoom self.new }
 

@@ -92,12 +92,12 @@ impl Table {
     /// Turns the table at the pivot form's line; or tells that the line refutes the box, where no column has a positive
     /// entry in it.
     fn raise(&mut self, line: usize) -> Result<Option<Solved>, Wide>
-        // The table is whole, and the line is that of its pivot form.
+        // The lines are the table at the basis, and the line is that of its pivot form.
         requires whole { IsTableau self.old }
         requires room { HasRoom self.old }
         requires due { IsPivotLine self.old line }
 
-        // On Ok the table is whole again, and it shows the answer or its rank rose.
+        // On Ok the lines are the table at the basis again; it shows the answer, or its rank rose.
         ensures whole { OnOk result (IsTableau self.new) }
         ensures ahead { IfOk result (λ solved. IsAhead self.old self.new solved) }
 
@@ -124,11 +124,11 @@ impl Table {
     ///
     /// `Wide` where the step makes a whole number that passes the top; it is one at the basis that is left.
     pub fn advance(&mut self) -> Result<Option<Solved>, Wide>
-        // The table is whole, with room for pivots.
+        // The lines are the table at the basis, with room for pivots.
         requires whole { IsTableau self.old }
         requires room { HasRoom self.old }
 
-        // On Ok the table is whole again, and it shows the answer or its rank rose.
+        // On Ok the lines are the table at the basis again; it shows the answer, or its rank rose.
         ensures whole { OnOk result (IsTableau self.new) }
         ensures ahead { IfOk result (λ solved. IsAhead self.old self.new solved) }
 

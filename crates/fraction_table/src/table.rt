@@ -58,12 +58,12 @@ impl Table {
     ///
     /// `Wide` where one of these steps makes a whole number that passes `top`. Then the basis is as before.
     pub fn pivot(&mut self, line: usize, column: u32) -> Result<(), Wide>
-        // The table is whole, and the column is the least one for a pivot on the line.
+        // The lines are the table at the basis, and the column is the least one for a pivot on the line.
         requires whole { IsTableau self.old }
         requires room { HasRoom self.old }
         requires pivot { IsLeastPivot self.old line column }
 
-        // On Ok the table is whole again, and its rank rose.
+        // On Ok the lines are the table at the new basis, and its rank rose.
         ensures whole { OnOk result (IsTableau self.new) }
         ensures rises { OnOk result (rank self.old < rank self.new) }
 

@@ -43,6 +43,6 @@ abbrev pub help_text : Option CommandName → List ℕ
 help_text None = all.TEXT.now
 help_text (Some n) = text_on n
 
--- the version of the program, and the checker that proved it
+-- what `version` prints: the version of the program, and the logic of the checker that proved it
 abbrev pub version_text : List ℕ
-version_text = with_ends (codes "ospfcost 1.0" ∷ codes "proved with rattle-kit-13f logic dac8208d650f15bf" ∷ [])
+version_text = with_ends (codes "ospfcost 1.0" ∷ codes "proved with rattle logic dac8208d650f15bf" ∷ [])

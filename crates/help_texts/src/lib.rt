@@ -8,10 +8,11 @@ mod texts;
 
 use command_words::CommandName;
 
-/// The version of the program, and the checker that proved it, as `rt version` names that.
+/// The version of the program, and the logic of the checker that proved it, as `rt version` and the last line of each
+/// check name it.
 const VERSION: &str = "\
 ospfcost 1.0
-proved with rattle-kit-13f logic dac8208d650f15bf
+proved with rattle logic dac8208d650f15bf
 ";
 
 /// The text on one command: what it answers, its words, its statuses, and an example.

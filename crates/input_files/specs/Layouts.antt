@@ -29,7 +29,7 @@ abbrev pub unless_faulty : InputFiles → Database → Option ResolutionFault �
 unless_faulty names d None = Ready tt
 unless_faulty names d (Some fault) = Refused (resolution_refusal names d fault)
 
--- the lines of the request, of which each can be resolved
+-- the lines of the request, each looked up in the database; or the first fault of one
 abbrev pub lines_read : InputFiles → Asked → Database → Reading (Unit {0})
 lines_read names asked d = unless_faulty names d (first_of (line_faults d asked.items))
 

@@ -37,11 +37,11 @@ pub record Input : Type 0 where
   pub database : Database
   pub problem : DesignProblem
 
--- 4 MiB
+-- the greatest length of a request file and of a configuration: 4 MiB
 abbrev pub longest_file : ℕ
 longest_file = 4194304
 
--- 1 GiB
+-- the greatest length of an answer: 1 GiB
 abbrev pub longest_answer : ℕ
 longest_answer = 1073741824
 
@@ -54,7 +54,7 @@ abbrev pub if_asked : List ℕ → List ℕ → Option (FaultyLine RequestFault)
 if_asked name bytes None = Ready (asked_by bytes)
 if_asked name bytes (Some faulty) = Refused (record { number = request_fault_number faulty.fault; file = name; line = faulty.line })
 
--- the request: its file's size, and then its lines
+-- what is read of a request file: its size, and then its lines up to the first fault
 abbrev pub request_read : List ℕ → Reading Asked
 request_read name = file_read longest_file name >>= λ bytes. if_asked name bytes (request_fault bytes)
 
@@ -63,11 +63,11 @@ abbrev pub if_config : List ℕ → List ℕ → Option Fault → Reading Config
 if_config name bytes None = Ready (record { name = name; bytes = bytes })
 if_config name bytes (Some fault) = Refused (record { number = config_fault_number fault.fault; file = name; line = fault.line })
 
--- a configuration: its file's size, and then its lines
+-- what is read of a configuration's file: its size, and then its lines up to the first fault
 abbrev pub config_read : List ℕ → Reading ConfigFile
 config_read name = file_read longest_file name >>= λ bytes. if_config name bytes (config_fault name bytes)
 
--- the configurations in word order
+-- what is read of the files of configurations, in the order of the words that name them
 abbrev pub configs_read : List (List ℕ) → Reading (List ConfigFile)
 configs_read [] = Ready []
 configs_read (name ∷ names) =
@@ -86,7 +86,7 @@ abbrev pub if_faultless : InputFiles → Database → Option FaultyPlace → Rea
 if_faultless names d None = Ready d
 if_faultless names d (Some place) = Refused (record { number = topology_fault_number place.fault; file = file_of names place.config; line = place.line })
 
--- the topology
+-- what the configurations of an area make of it: its database, or the first fault of its topology
 abbrev pub topology_read : InputFiles → ℕ → List Router → Reading Database
 topology_read names area routers = if_faultless names (database_of area routers) (topology_fault area routers)
 

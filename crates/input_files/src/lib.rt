@@ -1,4 +1,5 @@
-//! The files that words name, read in their order: what came of each, the first fault, the problem that they make.
+//! Reading the files that words name, in their order, up to the first fault; and the network and the problem that they
+//! make.
 #![tactic(auto)]
 
 mod layout;

@@ -22,11 +22,12 @@ use wanted_paths::ResolutionFault;
 /// With it goes which interfaces need a cost line where there is no default.
 #[derive(Clone, Copy)]
 pub enum View {
-    /// Those that the request frees. The others need a cost.
+    /// The interfaces that the request frees are free. The others need a cost.
     AsRequested,
-    /// Those that the request frees, beside what they cost at present: every linked interface needs a cost, free or not.
+    /// The interfaces that the request frees are free, beside what they cost at present: every linked interface needs a
+    /// cost, free or not.
     BesidePresent,
-    /// None: every interface stands at its present cost or the default, so each needs one.
+    /// None is free: every interface stands at its present cost or the default, so each needs one.
     AtPresent,
 }
 

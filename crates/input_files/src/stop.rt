@@ -8,7 +8,7 @@ use cost_base::{Fault, OutOfMemory, Refusal};
 /// Why a file is refused whose bytes nobody reads.
 #[derive(Clone, Copy, Debug, PartialEq, Eq)]
 pub enum FileFault {
-    /// It is longer than files of its kind may be.
+    /// The file is longer than files of its kind may be.
     TooLong,
 }
 

@@ -23,7 +23,8 @@ pub struct Lowest {
 impl Line {
     /// The line's number at a column once it has turned at the pivot's, over the denominator times the multiplier.
     fn turned_entry(&self, entering: &Line, pivots: usize, turn: Turn, column: usize) -> i64
-        // Both lines have a number at the column, and the line's is at most 2^30 in size, as those of the entering line are.
+        // Both lines have a number at the column, and the line's is at most 2^30 in size, as those
+        // of the entering line are.
         requires inside { column < length self.now.numbers }
         requires across { column < length entering.now.numbers }
         requires small { nat_abs (number_at self.now.numbers column) ≤ 2 ^ 30 }
@@ -93,7 +94,8 @@ impl Line {
 
     /// Turns the line to what it comes to in lowest terms.
     pub fn turn_to(&mut self, entering: &Line, column: usize, turn: Turn, lowest: Lowest)
-        // The entering line has a positive pivot at the column, and the turn is the one that it makes of the line.
+        // The entering line has a positive pivot at the column, and the turn is the one that it
+        // makes of the line.
         requires pivot { IsAtPivot column entering.now self.old }
         requires turn { turn ≡ turn_at entering.now column self.old }
 
@@ -101,7 +103,8 @@ impl Line {
         requires lowest { IsLowestAfter turn column entering.now self.old lowest }
         requires small { MayTurnTo turn column entering.now self.old lowest }
 
-        // The line has turned, and is small, over the denominator and with the constant that were told.
+        // The line has turned, and is small, over the denominator and with the constant that were
+        // told.
         ensures line { IsLine self.new }
         ensures turned { IsTurnedLine turn column entering.now self.old self.new }
         ensures denominator { self.new.denominator ≡ lowest.denominator }

@@ -71,9 +71,12 @@ fn next_word(first: &[u64], second: &[u64], from: usize, width: usize) -> usize
 
 /// The first column from one on with a mark in either list; how many columns there are, where none has.
 fn next_marked(first: &[u64], second: &[u64], column: usize, width: usize) -> usize
+    // Both lists have a bit for each column, and the column is one of them or that behind them.
     requires first { length first.now ≡ width / 64 + 1 }
     requires second { length second.now ≡ width / 64 + 1 }
     requires column { column ≤ width }
+
+    // No column before the result has a mark in either list.
     ensures within { result ≤ width }
     ensures from { column ≤ result }
     ensures passed { (c : ℕ) → column ≤ c → c < result →

@@ -19,7 +19,7 @@ abbrev pub ProofIsPrinted : DesignProblem → ℕ → ℕ → List Row → Optio
 ProofIsPrinted p top nodes rows None = Unit {0}
 ProofIsPrinted p top nodes rows (Some proof) = IsPrintedTree p top nodes rows proof
 
--- the tree that used up the budget, at the cap
+-- where the verdict is undecided, the tree that used up the budget stands at the verdict's cap
 abbrev pub UnfinishedAt : DesignProblem → ℕ → ℕ → List Row → ℕ → Option CapTree → Type 0
 UnfinishedAt p top nodes rows cap None = ⊥
 UnfinishedAt p top nodes rows cap (Some t) = (t.cap ≡ cap) × IsUndecidedTree p top nodes rows t

@@ -105,19 +105,20 @@ abbrev pub AreSettledCaps : DesignProblem → List CapDecision → AnswerParts �
 AreSettledCaps p [] a = ⊥
 AreSettledCaps p (first ∷ behind) a = (first.cap ≡ greatest_bound p) × AreCapsBehind p first.found behind a
 
--- one search after another called them, one for each of these caps
+-- one search after another called the advisors, one for each of these caps
 abbrev pub AreAskedAtCaps : {A : Type 0} → (A → A → Type 0) → (A → List ℕ) → (A → List ℕ → List Candidate → ℕ) →
     (A → List ℕ → List Candidate → List ℕ) → (A → List ℕ → Entry → List ℕ) → DesignProblem → ℕ → ℕ → List CapDecision → List A → List A → Type 0
 AreAskedAtCaps IsItself state would left after p top nodes =
     AreAskedInTurn (λ d. IsAskedAt IsItself state would left after p top nodes d.cap d.pool d.found)
 
--- a search called them for each of the caps that settle the problem, in order, and the answer tells what was found
+-- a search called the advisors for each of the caps that settle the problem, in order, and the answer tells the result
 abbrev pub IsAskedAnswering : {A : Type 0} → (A → A → Type 0) → (A → List ℕ) → (A → List ℕ → List Candidate → ℕ) →
     (A → List ℕ → List Candidate → List ℕ) → (A → List ℕ → Entry → List ℕ) → DesignProblem → ℕ → ℕ → List A → List A → AnswerParts → Type 0
 IsAskedAnswering IsItself state would left after p top nodes old new a =
     (ds : List CapDecision) × AreSettledCaps p ds a × AreAskedAtCaps IsItself state would left after p top nodes ds old new
 
--- the same of advisors by their rules
+-- searches called the advisors, by their rules, for each of the caps that settle the problem, and the answer tells the
+-- result
 abbrev pub AreAskedAnswering : {A V : Type 0} {X : V → Type 0} → ((rules : V) → Ghosts (X rules)) → (A → V) → (A → List ℕ) →
     DesignProblem → ℕ → ℕ → List A → List A → AnswerParts → Type 0
 AreAskedAnswering members rules state p top nodes =

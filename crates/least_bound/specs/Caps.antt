@@ -62,7 +62,7 @@ known_costs (NoCosts t) = None
 known_costs (Costs w) = Some w
 known_costs (Between w t) = Some w
 
--- its unfinished tree, if there is one
+-- the unfinished tree of the best so far, if there is one
 abbrev pub unfinished_of : Best → Option CapTree
 unfinished_of (NoCosts t) = Some t
 unfinished_of (Costs w) = None

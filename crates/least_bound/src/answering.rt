@@ -130,12 +130,16 @@ fn undecided(
     kept: Option<CapTree>,
     unfinished: CapTree,
 ) -> Result<Answer, OutOfMemory>
+    // The unfinished tree stands at a cap from the greatest lower bound on: without costs at the
+    // greatest upper bound, with costs below their greatest. The kept one is closed below that cap.
     requires pool { IsRowPool problem.now pool }
     requires from_floor { greatest_cost problem.now.low ≤ unfinished.cap }
     requires costs { CostsFound problem.now unfinished.cap (option_copied costs) }
     requires trees { (top : ℕ) × (nodes : ℕ) × (nodes ≤ 10000000) ×
         IsTreeKeptBelow problem.now top nodes pool unfinished.cap kept ×
         IsUndecidedAt problem.now top nodes pool unfinished }
+
+    // The answer is one of `design` within the limits of these trees, and tells what was found.
     ensures answered { (top nodes : ℕ) →
         IsTreeKeptBelow problem.now top nodes pool unfinished.cap kept →
         IsUndecidedAt problem.now top nodes pool unfinished →

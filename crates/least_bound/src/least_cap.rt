@@ -26,9 +26,9 @@ fn narrowed(
     requires pool { IsRowPool problem.now pool }
     requires progress { IsProgress problem.now limits.now.top limits.now.nodes pool progress }
     ensures answered { IfOk result (IsDesignAnswer problem.now limits.now.top limits.now.nodes) }
-    ensures asked { IfOk result (AreAskedOn ⟦<dyn Advisor as Advisor>⟧ (λ b. b.vtable) (λ b. state b)
-        problem.now limits.now.top limits.now.nodes (caps_of progress) advisors.old.items
-        advisors.new.items) }
+    ensures asked { IfOk result (AreAskedOn ⟦<dyn Advisor as Advisor>⟧ (λ b. b.vtable)
+        (λ b. state b) problem.now limits.now.top limits.now.nodes (caps_of progress)
+        advisors.old.items advisors.new.items) }
     ensures advisors { AreCalled ⟦<dyn Advisor as Advisor>⟧ (λ b. b.vtable) (λ b. state b)
         advisors.old.items advisors.new.items }
 {
@@ -60,8 +60,9 @@ pub fn least(
 ) -> Result<Answer, OutOfMemory>
     ensures answered { IfOk result (IsDesignAnswer problem.now limits.now.top limits.now.nodes) }
 
-    // The advisors are asked and told by one search for each cap that is decided: the greatest upper bound first, and
-    // then each that comes next until none is left. The answer tells what these searches found.
+    // The advisors are asked and told by one search for each cap that is decided: the greatest
+    // upper bound first, and then each that comes next until none is left. The answer tells what
+    // these searches found.
     ensures asked { IfOk result (AreAskedAnswering ⟦<dyn Advisor as Advisor>⟧ (λ b. b.vtable)
         (λ b. state b) problem.now limits.now.top limits.now.nodes advisors.old.items
         advisors.new.items) }

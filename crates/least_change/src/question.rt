@@ -49,7 +49,8 @@ impl<'a> Question<'a> {
         }
     }
 
-    /// The question keeps its conditions.
+    /// For the prover alone: keeps that the problem is one on its graph, and that the present costs are costs of its
+    /// variables within their bounds; takes no time and changes nothing.
     pub(crate) fn keeps_conditions(&self)
         ensures problem { IsProblemOnGraph self.now.problem }
         ensures present { ArePresentCosts self.now.problem self.now.present }

@@ -31,7 +31,7 @@ abbrev pub with_form : Option ℕ → Form → List Form → List Form
 with_form None form forms = forms
 with_form (Some k) form forms = take k forms ++ form ∷ drop k forms
 
--- the place is one between such forms
+-- the place of the form of the total, where it has come, is one among the forms of so many rows
 abbrev pub IsPlaceIn : ℕ → Option ℕ → Type 0
 IsPlaceIn count None = Unit {0}
 IsPlaceIn count (Some k) = k ≤ count

@@ -11,7 +11,7 @@ use Rattle.design_problem.specs.Renumbering.{renumbered}
 abbrev pub moved_number : ℕ → ℕ → ℕ → ℕ
 moved_number place others row = if ltb row place then row else (if row == place then others else row - 1)
 
--- the new numbers of all these forms
+-- the new numbers of so many forms, of which the one at a place is moved behind the others
 abbrev pub AreMovedNumbers : ℕ → ℕ → List ℕ → Type 0
 AreMovedNumbers place others numbers = numbers ≡ map (moved_number place others) (numbers_from 0 (others + 1))
 

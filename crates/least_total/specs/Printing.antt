@@ -14,7 +14,7 @@ use Rattle.least_total.specs.declared.rounds.TotalTree.{TotalTree}
 use Rattle.least_total.specs.Totals.{form_of_total}
 use Rattle.least_total.specs.Moving.{moved_entry}
 
--- the form that stands in the pool
+-- the form that a number of the pool has: that of a row, or that of the total
 abbrev pub pool_form : DesignProblem → ℕ → PoolForm → Form
 pool_form p most (OfRow row) = form_of_row p row
 pool_form p most OfTotal = form_of_total p most
@@ -23,7 +23,7 @@ pool_form p most OfTotal = form_of_total p most
 abbrev pub with_total_last : List Row → List PoolForm
 with_total_last rows = map OfRow rows ++ OfTotal ∷ []
 
--- the rows among them
+-- the rows among the forms of a pool: all forms but that of the total
 abbrev pub rows_in : List PoolForm → List Row
 rows_in [] = []
 rows_in (OfRow row ∷ forms) = row ∷ rows_in forms

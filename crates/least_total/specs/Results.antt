@@ -40,7 +40,8 @@ abbrev pub IsPrintedWithin : DesignProblem → ℕ → ℕ → ℕ → ℕ → L
 IsPrintedWithin p top nodes cap most rows tree =
     IsPrintedOver (LeadsWithin p most) (IsFormWithin p most) top nodes (forms_within p most rows) (capped (box_of p) cap) tree
 
--- such a tree that used up the budget: it has an Undone and exactly N entries
+-- a printed tree, in which the form of the total has a bound, that used up the budget: it has an Undone and exactly N
+-- entries
 abbrev pub IsUndecidedTotal : DesignProblem → ℕ → ℕ → ℕ → ℕ → List Row → List Entry → Type 0
 IsUndecidedTotal p top nodes cap most rows tree =
     IsUndecidedOver (LeadsWithin p most) (IsFormWithin p most) top nodes (forms_within p most rows) (capped (box_of p) cap) tree

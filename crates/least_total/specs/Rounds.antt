@@ -30,18 +30,18 @@ pub record IsTotalSought (p : DesignProblem) (top nodes most : ℕ) (box : CostB
   pub placed : ArePlaced p sought.rows.items sought.before
   pub found : IsSearchResult (LeadsWithin p most) top nodes (forms_with_total p most sought.rows.items sought.before) box sought.found
 
--- a tree over the box at a cap, by these forms
+-- a tree over the box at a cap, by the forms of rows and that of the total among them
 pub record IsTreeWithin (p : DesignProblem) (top cap most : ℕ) (t : TotalTree) : Type 0 where
   pub placed : ArePlaced p t.rows.items t.before
   pub tree : IsSearchTree (LeadsWithin p most) top (forms_with_total p most t.rows.items t.before) (capped (box_of p) cap) t.tree
 
--- a closed tree of at most N entries
+-- a closed tree of at most N entries over the box at a cap, by the forms of rows and that of the total
 pub record IsRefutedWithin (p : DesignProblem) (top nodes cap most : ℕ) (t : TotalTree) : Type 0 where
   pub tree : IsTreeWithin p top cap most t
   pub closed : IsClosed t.tree
   pub few : entry_count t.tree ≤ nodes
 
--- a tree with an Undone and exactly N entries
+-- a tree over the box at a cap, by the forms of rows and that of the total, with an Undone and exactly N entries
 pub record IsUndecidedWithin (p : DesignProblem) (top nodes cap most : ℕ) (t : TotalTree) : Type 0 where
   pub tree : IsTreeWithin p top cap most t
   pub undone : Contains t.tree Undone
@@ -51,7 +51,7 @@ pub record IsUndecidedWithin (p : DesignProblem) (top nodes cap most : ℕ) (t :
 abbrev pub IsFitWithin : DesignProblem → ℕ → List ℕ → Type 0
 IsFitWithin p cap w = IsFit p w × (greatest_cost w ≤ cap)
 
--- what a round finds: such costs of a total of at most `most`, or one of these trees
+-- what a round finds: fit costs within the cap of a total of at most `most`, a closed tree, or one that used up the budget
 abbrev pub IsRound : DesignProblem → ℕ → ℕ → ℕ → ℕ → Round → Type 0
 IsRound p top nodes cap most (Costs w) = IsFitWithin p cap w × (total w ≤ most)
 IsRound p top nodes cap most (Refuted t) = IsRefutedWithin p top nodes cap most t
@@ -71,12 +71,12 @@ pub record IsStanding (p : DesignProblem) (top nodes cap : ℕ) (s : Standing) :
   pub ordered : s.least ≤ s.total
   pub kept : IsKeptBelowTotal p top nodes cap s.least s.kept
 
--- a bound between the ends at which the budget was used up, if there is one; without one the ends have met
+-- a bound between the ends at which the budget was used up, if there is one; where there is none, the ends are equal
 abbrev pub EndsAt : DesignProblem → ℕ → ℕ → ℕ → Standing → Option (ℕ × TotalTree) → Type 0
 EndsAt p top nodes cap s None = s.total ≤ s.least
 EndsAt p top nodes cap s (Some (most, t)) = (s.least ≤ most) × (most < s.total) × IsUndecidedWithin p top nodes cap most t
 
--- what the rounds come to
+-- what the rounds come to: costs within the cap, and bounds on the least total that are equal or that the budget left apart
 pub record IsNarrowed (p : DesignProblem) (top nodes cap : ℕ) (n : Narrowed) : Type 0 where
   pub standing : IsStanding p top nodes cap n.standing
   pub ends : EndsAt p top nodes cap n.standing n.spent

@@ -12,7 +12,7 @@ use Rattle.design_problem.specs.Earnest.{IsFormOfRow}
 abbrev pub total : List ℕ → ℕ
 total w = sum w
 
--- best, and no best costs have a smaller total
+-- costs that are best (no fit costs have a smaller greatest cost), and no best costs have a smaller total
 pub record HasLeastTotal (p : DesignProblem) (w : List ℕ) : Type 0 where
   pub best : AreBestCosts p w
   pub least : (other : List ℕ) → AreBestCosts p other → total w ≤ total other
@@ -29,7 +29,7 @@ form_of_total p most = total_form (length p.low) most
 abbrev pub forms_within : DesignProblem → ℕ → List Row → List Form
 forms_within p most rows = forms_of_rows p rows ++ form_of_total p most ∷ []
 
--- accepted: each wanted path leads by the scale, and the form of the total is at least 0
+-- a point is accepted: each wanted path leads there by the scale, and the form of the total is at least 0
 pub record LeadsWithin (p : DesignProblem) (most : ℕ) (point : Point) : Type 0 where
   pub leads : LeadsEach p point
   pub within : pos 0 ≤ℤ value_at (form_of_total p most) point

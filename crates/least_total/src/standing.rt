@@ -40,7 +40,8 @@ impl Standing {
 
     /// The bound of the next round, if one is left: in the middle between the greatest that was refuted and the total.
     pub(crate) fn next_bound(&self) -> Option<u32>
-        // The total is that of at most 1,000 costs of 16 bits, so it is below `FAR` of `area_graph`.
+        // The total is that of at most 1,000 costs of 16 bits, so it is below `FAR` of
+        // `area_graph`.
         requires { self.now.total < 2 ^ 26 }
         ensures within { IfSome result (λ most. (self.now.least ≤ most) × (most < self.now.total)) }
         ensures ended { result ≡ None → self.now.total ≤ self.now.least }

@@ -8,9 +8,8 @@ use Rattle.indexmap.specs.IndexMap.{IndexMap, get}
 use Rattle.lsa_writer.specs.declared.ends.LinkEnd.{LinkEnd}
 use Rattle.live_area.specs.declared.links.LiveLink.{LiveLink}
 use Rattle.live_area.specs.declared.metrics.LinkName.{LinkName}
-use Rattle.live_area.specs.LiveLinks.{is_of_end, metric_at}
-use Rattle.live_area.specs.Differences.{is_end_of}
-use Rattle.live_area.specs.Indexes.{HasLinkMetrics, is_end_named, is_link_named_so, metric_named, name_of_end, name_of_link, metric_noted, same_link}
+use Rattle.live_area.specs.LiveLinks.{is_end_named, is_link_named_so, metric_at, name_of_end, name_of_link, same_link}
+use Rattle.live_area.specs.Indexes.{HasLinkMetrics, metric_named, metric_noted}
 
 -- the metric of a name, with one link more behind
 metric_push : (name : LinkName) (links : List LiveLink) (link : LiveLink) →
@@ -105,13 +104,13 @@ end_put old new ends end has updates name =
 -- the first link of an end's name is the end's link
 pub metric_is : (end : LinkEnd) (links : List LiveLink) → metric_named (name_of_end end) links ≡ metric_at end links
 metric_is end [] = refl
-metric_is end (link ∷ links) = ap (λ (found : Option ℕ). cond (is_of_end end link) (Some link.metric) found) (metric_is end links)
+metric_is end (link ∷ links) = ap (λ (found : Option ℕ). cond (is_link_named_so (name_of_end end) link) (Some link.metric) found) (metric_is end links)
 
 -- what is found is there exactly where an end has the name
 pub found_end : {S : Type 0} (by_name : IndexMap LinkName (Option ℕ) S) (ends : List LinkEnd) (links : List LiveLink) (link : LiveLink) →
-    HasLinkMetrics by_name ends links → is_some (get same_link by_name (name_of_link link)) ≡ list_any (is_end_of link) ends
+    HasLinkMetrics by_name ends links → is_some (get same_link by_name (name_of_link link)) ≡ list_any (is_end_named (name_of_link link)) ends
 found_end by_name ends links link has =
-    ap (λ (found : Option (Option ℕ)). is_some found) (has (name_of_link link)) ∙ by_test (list_any (is_end_of link) ends)
+    ap (λ (found : Option (Option ℕ)). is_some found) (has (name_of_link link)) ∙ by_test (list_any (is_end_named (name_of_link link)) ends)
   where
     by_test : (b : Bool) → is_some (cond b (Some (metric_named (name_of_link link) links)) None) ≡ b
     by_test true = refl

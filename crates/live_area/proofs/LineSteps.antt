@@ -14,9 +14,8 @@ use Rattle.live_area.specs.declared.Difference.{Difference}
 use Rattle.live_area.specs.declared.Difference.TheVariants.{Stranger}
 use Rattle.live_area.specs.declared.links.LiveLink.{LiveLink}
 use Rattle.live_area.specs.declared.interfaces.Compared.{Compared}
-use Rattle.live_area.specs.LiveLinks.{live_links_of, metric_at}
-use Rattle.live_area.specs.Differences.{compared_from, is_end_of, has_address, lines_of_router, lsa_lines, router_of_link, unknown_line, unknown_lines}
-use Rattle.live_area.specs.Indexes.{is_end_named, name_of_end}
+use Rattle.live_area.specs.LiveLinks.{is_end_named, live_links_of, metric_at, name_of_end, name_of_link}
+use Rattle.live_area.specs.Differences.{compared_from, has_address, lines_of_router, lsa_lines, router_of_link, unknown_line, unknown_lines}
 
 -- an end has its own name
 pub own_name : (end : LinkEnd) → is_end_named (name_of_end end) end ≡ true
@@ -64,12 +63,12 @@ unknown_end ends links i lines whole over before =
     ∙ before
 
 -- the line of a link, by whether an end is its own and none before has its data
-pub line_is : (ends : List LinkEnd) (before : List LiveLink) (link : LiveLink) (known first : Bool) → known ≡ list_any (is_end_of link) ends →
+pub line_is : (ends : List LinkEnd) (before : List LiveLink) (link : LiveLink) (known first : Bool) → known ≡ list_any (is_end_named (name_of_link link)) ends →
     first ≡ not (list_any (has_address link.address) before) →
     cond (known && first) None (Some (Difference.Unknown link.router link.address link.metric)) ≡ unknown_line ends before link
 line_is ends before link known first known_is first_is =
     ap (λ b. cond (b && first) None (Some (Difference.Unknown link.router link.address link.metric))) known_is
-    ∙ ap (λ b. cond (list_any (is_end_of link) ends && b) None (Some (Difference.Unknown link.router link.address link.metric))) first_is
+    ∙ ap (λ b. cond (list_any (is_end_named (name_of_link link)) ends && b) None (Some (Difference.Unknown link.router link.address link.metric))) first_is
 
 -- the lines of a router-LSA whose router is known
 pub known_lines : (configs : List Router) (ends : List LinkEnd) (lsa : Lsa) (links : List LiveLink) → is_router_lsa lsa ≡ true →

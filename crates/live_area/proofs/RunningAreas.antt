@@ -24,7 +24,7 @@ use Rattle.lsa_bytes.specs.Databases.{IsLsaDatabase, has_zero_metric, is_zero_li
 use Rattle.lsa_writer.specs.declared.ends.LinkEnd.{LinkEnd}
 use Rattle.lsa_writer.specs.Ends.{end_of, router_id_in}
 use Rattle.live_area.specs.declared.links.LiveLink.{LiveLink}
-use Rattle.live_area.specs.LiveLinks.{is_area_link, live_links_among, live_links_in, live_links_of, is_of_end, metric_at}
+use Rattle.live_area.specs.LiveLinks.{is_area_link, live_links_among, live_links_in, live_links_of, is_link_named_so, metric_at, name_of_end}
 use Rattle.live_area.specs.LiveCosts.{costed_by, costed_from, live_metric, metric_among, with_live_costs}
 
 -- Metrics of links are above 0.
@@ -62,7 +62,7 @@ live_above (lsa ∷ lsas) none =
 metric_above : (end : LinkEnd) (live : List LiveLink) → AllByRecursion (λ (l : LiveLink). 0 < l.metric) live → IfSome (metric_at end live) (λ cost. 0 < cost)
 metric_above end [] all = tt
 metric_above end (link ∷ more) all =
-    elim (cases_Bool (is_of_end end link)) [
+    elim (cases_Bool (is_link_named_so (name_of_end end) link)) [
       | inl here ↦ rw here all.0
       | inr not_here ↦ rw not_here (metric_above end more all.1)
     ]

@@ -14,18 +14,18 @@ use Rattle.live_area.specs.declared.Difference.{Difference}
 use Rattle.live_area.specs.declared.Difference.TheVariants.{Absent, Cost, Missing, Stranger, Unknown, Same}
 use Rattle.live_area.specs.declared.links.LiveLink.{LiveLink}
 use Rattle.live_area.specs.declared.interfaces.Compared.{Compared}
-use Rattle.live_area.specs.LiveLinks.{live_links_of, metric_at}
+use Rattle.live_area.specs.LiveLinks.{is_end_named, live_links_of, metric_at, name_of_link}
 
--- the number of the router of a link
+-- the number of the router of a link; 0 where there is no link
 abbrev pub router_in : Option Linked → ℕ
 router_in None = 0
 router_in (Some link) = link.router
 
--- the same, by the link's number
+-- the number of the router of the link of a number; 0 where there is no link
 abbrev pub router_of_link : List Linked → ℕ → ℕ
 router_of_link links l = router_in (slice_get links l)
 
--- the linked interfaces of these ends, the first of which has this number, with what the router-LSAs say of them
+-- the linked interfaces of these ends, numbered from `l` on, each with its cost and with what the router-LSAs say of it
 abbrev pub compared_from : List Lsa → List LiveLink → List Linked → List ℕ → ℕ → List LinkEnd → List Compared
 compared_from lsas live links costs l [] = []
 compared_from lsas live links costs l (end ∷ more) =
@@ -58,18 +58,14 @@ compared_lines before (interface ∷ more) = option_to_list (link_line before in
 abbrev pub is_as_said : Compared → Bool
 is_as_said interface = option_eq nat_eq interface.metric (Some interface.cost)
 
--- the end has the router ID and the address of a link
-abbrev pub is_end_of : LiveLink → LinkEnd → Bool
-is_end_of link end = end.router == link.router && end.address == link.address
-
--- the link has this data
+-- the link has this address as its data
 abbrev pub has_address : ℕ → LiveLink → Bool
 has_address address link = link.address == address
 
 -- the line of a link behind others of its router-LSA: none where it is that of a linked interface
 abbrev pub unknown_line : List LinkEnd → List LiveLink → LiveLink → Option Difference
 unknown_line ends before link =
-    if list_any (is_end_of link) ends && not (list_any (has_address link.address) before) then None
+    if list_any (is_end_named (name_of_link link)) ends && not (list_any (has_address link.address) before) then None
     else Some (Unknown link.router link.address link.metric)
 
 -- the lines of the links of a router-LSA
@@ -90,7 +86,7 @@ lsa_lines configs ends lsa = if is_router_lsa lsa then lines_of_router configs e
 abbrev pub all_compared : List Router → Database → List ℕ → List Lsa → List Compared
 all_compared configs lsdb costs lsas = compared_from lsas (flat_map live_links_of lsas) lsdb.links costs 0 (link_ends configs lsdb.links)
 
--- all lines: those of the linked interfaces, those of the router-LSAs, and the count
+-- all lines of a comparison: those of the linked interfaces, those of the router-LSAs, and the count
 abbrev pub difference_lines : List Router → Database → List ℕ → List Lsa → List Difference
 difference_lines configs lsdb costs lsas =
     compared_lines None (all_compared configs lsdb costs lsas)

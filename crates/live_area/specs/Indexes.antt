@@ -1,5 +1,5 @@
 -- Links found by the ends of linked interfaces, and routers by their IDs. No public clause cites it.
-use Rattle.std.specs.Prelude.{◌≡◌, ℕ, ◌==◌, ◌&&◌, List, [], ◌∷◌, Bool, Option, Some, None, if◌then◌else◌}
+use Rattle.std.specs.Prelude.{◌≡◌, ℕ, List, [], ◌∷◌, Option, Some, None, if◌then◌else◌}
 use Rattle.std.specs.List.{list_any}
 use Rattle.std.specs.Ordering.{nat_cmp}
 use Rattle.std.specs.BTreeSet.{BTreeSet, contains}
@@ -7,27 +7,8 @@ use Rattle.indexmap.specs.IndexMap.{IndexMap, get}
 use Rattle.lsa_writer.specs.declared.ends.LinkEnd.{LinkEnd}
 use Rattle.live_area.specs.declared.links.LiveLink.{LiveLink}
 use Rattle.live_area.specs.declared.metrics.LinkName.{LinkName}
+use Rattle.live_area.specs.LiveLinks.{is_end_named, is_link_named_so, same_link}
 use Rattle.live_area.specs.Differences.{has_address}
-
--- the names of links are the same
-abbrev pub same_link : LinkName → LinkName → Bool
-same_link name other = name.router == other.router && name.address == other.address
-
--- the name of the link of an end
-abbrev pub name_of_end : LinkEnd → LinkName
-name_of_end end = record { router = end.router; address = end.address }
-
--- the name of a link
-abbrev pub name_of_link : LiveLink → LinkName
-name_of_link link = record { router = link.router; address = link.address }
-
--- the end's link has this name
-abbrev pub is_end_named : LinkName → LinkEnd → Bool
-is_end_named name end = end.router == name.router && end.address == name.address
-
--- the link has this name
-abbrev pub is_link_named_so : LinkName → LiveLink → Bool
-is_link_named_so name link = link.router == name.router && link.address == name.address
 
 -- the metric of the first link of a name
 abbrev pub metric_named : LinkName → List LiveLink → Option ℕ

@@ -9,11 +9,11 @@ use Rattle.lsa_writer.specs.Ends.{end_of, router_id_in}
 use Rattle.live_area.specs.declared.links.LiveLink.{LiveLink}
 use Rattle.live_area.specs.LiveLinks.{live_links_of, metric_at}
 
--- the metric of the link of a linked interface; an interface of a configuration without a router ID has no link
+-- the metric of the link of a linked interface, among these links; none where its configuration has no router ID
 abbrev pub metric_among : List Router → List LiveLink → Linked → Option ℕ
 metric_among configs live link = if is_some (router_id_in (slice_get configs link.router)) then metric_at (end_of configs link) live else None
 
--- the same, of the links of LSAs
+-- the metric of the link of a linked interface, among the links of these LSAs
 abbrev pub live_metric : List Router → List Lsa → Linked → Option ℕ
 live_metric configs lsas link = metric_among configs (flat_map live_links_of lsas) link
 

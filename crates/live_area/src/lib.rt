@@ -1,4 +1,4 @@
-//! The running area beside its configurations: where they differ.
+//! The running area beside its configurations: where they differ, and the area with the metrics of its links as costs.
 #![tactic(auto)]
 
 /// A line of a comparison.

@@ -64,7 +64,7 @@ pub fn live_links(alloc: Global, lsas: &[Lsa]) -> Result<Vec<LiveLink>, OutOfMem
 
 /// Whether a link is one of an interface with this end.
 fn is_of_end(link: &LiveLink, end: LinkEnd) -> bool
-    ensures { result ≡ definition.is_of_end end link.now }
+    ensures { result ≡ definition.is_link_named_so (definition.name_of_end end) link.now }
 {
     link.router == end.router && link.address == end.address
 }

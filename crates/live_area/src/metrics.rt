@@ -5,10 +5,9 @@ ghost use Rattle.indexmap.specs.IndexMap.{get};
 ghost use Rattle.lsa_writer.specs.declared.ends.LinkEnd.{LinkEnd as OneEnd};
 ghost use Rattle.live_area.specs.declared.links.LiveLink.{LiveLink as OneLink};
 ghost use Rattle.live_area.specs.declared.metrics.LinkName.{LinkName as Key};
-ghost use Rattle.live_area.specs.LiveLinks.{metric_at};
-ghost use Rattle.live_area.specs.Differences.{is_end_of};
-ghost use Rattle.live_area.specs.Indexes as definition;
-ghost use Rattle.live_area.specs.Indexes.{HasLinkMetrics, metric_noted, same_link};
+ghost use Rattle.live_area.specs.LiveLinks as definition;
+ghost use Rattle.live_area.specs.LiveLinks.{metric_at, same_link};
+ghost use Rattle.live_area.specs.Indexes.{HasLinkMetrics, metric_noted};
 
 use crate::links::LiveLink;
 use cost_base::OutOfMemory;
@@ -132,7 +131,7 @@ impl EndMetrics {
     /// Whether one of the ends has the router ID and the address of a link.
     pub fn has_end(&self, link: LiveLink) -> bool
         ensures { (ends : List OneEnd) (links : List OneLink) → HasLinkMetrics self.now.by_name ends
-            links → result ≡ list_any (is_end_of link) ends }
+            links → result ≡ list_any (definition.is_end_named (definition.name_of_link link)) ends }
     {
         self.of(name_of_link(link)).is_some()
     }

@@ -4,7 +4,6 @@ ghost use Rattle.std.specs.List.{list_any};
 ghost use Rattle.lsa_writer.specs.declared.ends.LinkEnd.{LinkEnd as OneEnd};
 ghost use Rattle.live_area.specs.declared.links.LiveLink.{LiveLink as OneLink};
 ghost use Rattle.live_area.specs.Indexes.{HasLinkMetrics, HaveAddresses};
-ghost use Rattle.lsa_bytes.specs.Ids.{is_id};
 ghost use Rattle.live_area.specs.Differences as definition;
 
 use crate::Difference;
@@ -13,23 +12,9 @@ use crate::links::{LiveLink, links_of_lsa};
 use crate::metrics::EndMetrics;
 use cost_base::OutOfMemory;
 use interface_model::RouterConfig;
-use lsa_bytes::{Lsa, is_router};
+use lsa_bytes::{Lsa, have_id, is_router};
 use std::alloc::Global;
 use std::collections::BTreeSet;
-
-/// Whether a configuration has a router ID.
-fn has_id(config: &RouterConfig, id: u32) -> bool
-    ensures { result ≡ is_id id config.now.router_id }
-{
-    config.router_id == Some(id)
-}
-
-/// Whether one of the configurations has a router ID.
-fn is_known(configs: &[RouterConfig], id: u32) -> bool
-    ensures { result ≡ list_any (λ config. is_id id config.router_id) configs.now }
-{
-    configs.iter().any(|config| has_id(config, id))
-}
 
 /// The line of a link: none where it is the first of its data that its router-LSA has, and that of a linked interface.
 fn unknown_line(known: bool, first: bool, link: LiveLink) -> Option<Difference>
@@ -91,7 +76,7 @@ fn push_lsa_lines(
     if !is_router(lsa) {
         return Ok(());
     }
-    if !is_known(configs, lsa.router) {
+    if !have_id(configs, lsa.router) {
         return push_line(lines, Some(Difference::Stranger { router: lsa.router }));
     }
     let links = links_of_lsa(alloc, lsa)?;

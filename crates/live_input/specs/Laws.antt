@@ -12,7 +12,7 @@ use Rattle.live_input.specs.LiveReadings.{live_in}
 abbrev pub LsaFilesComeTo : Type 0
 LsaFilesComeTo = (bytes : List ℕ) (outcome : Result (List Lsa) (LsaFault × ℕ)) → ComesTo bytes outcome ↔ (lsas_in bytes ≡ outcome)
 
--- so do live files
+-- read as JSON or LSA by LSA, a live file comes for an area to what its bytes say, and to nothing else
 abbrev pub LiveFilesComeTo : Type 0
 LiveFilesComeTo =
     (area : ℕ) (bytes : List ℕ) (outcome : Result (List Lsa) (LiveFault × ℕ)) → LiveComesTo area bytes outcome ↔ (live_in area bytes ≡ outcome)

@@ -1,4 +1,4 @@
-//! Reading the files that hold a router's database: LSAs as bytes, or a live file.
+//! Reading the files that hold a router's database: a file of LSAs, or a live file.
 #![tactic(auto)]
 
 mod laws;

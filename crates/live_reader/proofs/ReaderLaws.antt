@@ -7,6 +7,7 @@ use Rattle.std.proofs.lemmas.Bool.{false≢true}
 use Rattle.cost_base.specs.declared.refusal.Refusal.{Refusal}
 use Rattle.cost_base.specs.declared.refusal.Refusal.TheVariants.{Refused, OutOfMemory}
 use Rattle.json.specs.Token.{Token}
+use Rattle.json.specs.Word.{is_space}
 use Rattle.json.specs.Lex.{tokens}
 use Rattle.json.specs.Json.{Json, value, if_last, document}
 use Rattle.json.specs.Find.{BeginsWith}
@@ -16,7 +17,7 @@ use Rattle.lsa_bytes.specs.Reading.{AreSmall}
 use Rattle.live_reader.specs.Places.{Stands}
 use Rattle.live_reader.specs.JsonTexts.{value_of_text, is_bad, good_tokens}
 use Rattle.live_reader.specs.JsonLsas.{live_lsas}
-use Rattle.live_reader.specs.LiveFiles.{is_blank_or_end, begins_object, TellsSaid, read_in, lacking_in}
+use Rattle.live_reader.specs.LiveFiles.{begins_object, TellsSaid, read_in, lacking_in}
 use Rattle.live_reader.specs.declared.fault.Lack.{Lack}
 use Rattle.live_reader.specs.Stops.{TellsLack}
 use Rattle.live_reader.proofs.TapeLaws.{value_stands}
@@ -25,11 +26,11 @@ use Rattle.live_reader.proofs.SizeLaws.{live_small, types_of}
 
 -- ---- the first byte
 
-pub blank_first : (bytes : List ℕ) (i : ℕ) → i < length bytes → is_blank_or_end (get_or bytes i 0) ≡ true → begins_object (drop i bytes) ≡ begins_object (drop (i + 1) bytes)
+pub blank_first : (bytes : List ℕ) (i : ℕ) → i < length bytes → is_space (get_or bytes i 0) ≡ true → begins_object (drop i bytes) ≡ begins_object (drop (i + 1) bytes)
 blank_first bytes i within is =
     ap begins_object (drop_more bytes i 0 within) ∙ ap (λ b. cond b (begins_object (drop (i + 1) bytes)) (get_or bytes i 0 == 123)) is
 
-pub other_first : (bytes : List ℕ) (i : ℕ) → i < length bytes → is_blank_or_end (get_or bytes i 0) ≡ false → begins_object (drop i bytes) ≡ (get_or bytes i 0 == 123)
+pub other_first : (bytes : List ℕ) (i : ℕ) → i < length bytes → is_space (get_or bytes i 0) ≡ false → begins_object (drop i bytes) ≡ (get_or bytes i 0 == 123)
 other_first bytes i within is =
     ap begins_object (drop_more bytes i 0 within) ∙ ap (λ b. cond b (begins_object (drop (i + 1) bytes)) (get_or bytes i 0 == 123)) is
 

@@ -9,7 +9,7 @@ use Rattle.live_reader.specs.Places.{Member, member_named}
 abbrev pub text_of_name : List ℕ → List Member → Option (List ℕ)
 text_of_name name members = option_and_then (λ m. as_str m.value) (member_named name members)
 
--- the dotted quad that it is
+-- the dotted quad that the text of the last member of a name is
 abbrev pub quad_named : List ℕ → List Member → Option ℕ
 quad_named name members = option_and_then quad (text_of_name name members)
 
@@ -38,10 +38,10 @@ abbrev pub hex_behind : ℕ → List ℕ → Option ℕ
 hex_behind first [] = Some first
 hex_behind first (c ∷ cs) = option_and_then (λ digit. hex_behind (first * 16 + digit) cs) (hex_digit c)
 
--- a number of so many hexadecimal digits
+-- a number of at least so many and at most so many hexadecimal digits
 abbrev pub hex_within : ℕ → ℕ → List ℕ → Option ℕ
 hex_within least most text = if nat_le least (length text) && nat_le (length text) most then hex_behind 0 text else None
 
--- such a number in the text of the last member of a name
+-- the number of at least so many and at most so many hexadecimal digits that the text of the last member of a name is
 abbrev pub hex_named : List ℕ → ℕ → ℕ → List Member → Option ℕ
 hex_named name least most members = option_and_then (hex_within least most) (text_of_name name members)

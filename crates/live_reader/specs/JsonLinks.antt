@@ -29,7 +29,7 @@ link_with kind members =
     link_made kind (quad_named (far_name kind) members) (quad_named (codes "routerInterfaceAddress") members)
     (number_named (codes "tos0Metric") 65535 members)
 
--- the same, or nothing where links of that type are passed over
+-- the link of a kind that the members of an object say; none where the kind is 0, whose links are passed over
 abbrev pub link_of_kind : ℕ → List Member → Option (Option LsaLink)
 link_of_kind kind members = if kind == 0 then Some None else option_map Some (link_with kind members)
 

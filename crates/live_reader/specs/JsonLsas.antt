@@ -19,7 +19,7 @@ head_made (Some id) (Some router) (Some age) (Some sequence) (Some checksum) =
     Some (record { id = id; router = router; age = age; sequence = sequence; checksum = checksum })
 head_made _ _ _ _ _ = None
 
--- the same, as the members of an object say it
+-- what names an LSA and how new it is, as the members of an object say it; None where some of it is missing
 abbrev pub head_of : List Member → Option Head
 head_of members =
     head_made (quad_named (codes "linkStateId") members) (quad_named (codes "advertisingRouter") members)
@@ -82,12 +82,12 @@ abbrev pub area_lsas_read : ℕ → ℕ → Option (Option Member) → Result (L
 area_lsas_read around place None = Err around
 area_lsas_read around place (Some found) = found_read place found
 
--- the same, of the object of areas
+-- the router-LSAs of an area, by the object of areas with its place
 abbrev pub areas_read : ℕ → ℕ → Option (ℕ × List Member) → Result (List Instance) ℕ
 areas_read area around None = Err around
 areas_read area around (Some areas) = area_lsas_read around areas.0 (area_member area areas.1)
 
--- the same, of the object of router link states
+-- the router-LSAs of an area, by the object of router link states with its place
 abbrev pub states_read : ℕ → Option (ℕ × List Member) → Result (List Instance) ℕ
 states_read area None = Err 0
 states_read area (Some states) = areas_read area states.0 (inner (codes "areas") states.1)

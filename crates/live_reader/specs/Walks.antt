@@ -48,7 +48,7 @@ pub record HaveSeen (all : List Token) (start : ℕ) (members : Members) (next :
   pub whole : members_at start members ≡ seen ++ members_at next rest
   pub holds : Holds seen
 
--- the same of items
+-- of the items that begin at a place those before the next one were seen, and this holds of them
 pub record HaveSeenItems (all : List Token) (start : ℕ) (items : Items) (next : ℕ) (Holds : List Placed → Type 0) : Type 0 where
   pub seen : List Placed
   pub rest : Items

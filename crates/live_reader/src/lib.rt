@@ -1,4 +1,4 @@
-//! The live file: what a router's own database says of its area.
+//! Reading a live file, a router's own database, as JSON or as LSA bytes: what it says of an area, or its first fault.
 #![tactic(auto)]
 
 mod fault;

@@ -63,7 +63,7 @@ fn link_with(tape: &Tape<'_>, place: usize, kind: u8) -> Option<LsaLink>
     })
 }
 
-/// The same, or nothing where links of that type are passed over.
+/// The link of a kind that members say; nothing where links of that kind are passed over.
 fn link_of_kind(tape: &Tape<'_>, place: usize, kind: u8) -> Option<Option<LsaLink>>
     ensures { (ms : SpecMembers) → Stands tape.now place (object ms) →
         result ≡ definition.link_of_kind kind (members_at (place + 1) ms) }

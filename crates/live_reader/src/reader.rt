@@ -14,7 +14,7 @@ ghost use Rattle.live_reader.specs.LiveFiles.{BytesComeTo, JsonComesTo, LiveCome
 
 use crate::fault::{Lack, LiveFault};
 use crate::lsas::live_lsas;
-use crate::text::{line_of_offset, token_line};
+use crate::text::{is_space, line_of_offset, token_line};
 use cost_base::{OutOfMemory, Refusal};
 use json::{Reader, Scratch, Tape, Token};
 use lsa_bytes::{Database, Instance, database_of, read_lsas};
@@ -23,19 +23,12 @@ use std::alloc::Global;
 /// How deep arrays and objects may nest.
 const GREATEST_DEPTH: usize = 64;
 
-/// Whether a byte is a blank or ends a line.
-fn is_blank_or_end(byte: u8) -> bool
-    ensures { result ≡ definition.is_blank_or_end byte }
-{
-    byte == b' ' || byte == b'\t' || byte == b'\n' || byte == b'\r'
-}
-
-/// Whether the first byte other than blanks and line ends is a brace.
+/// Whether the first byte other than blanks of JSON is a brace.
 fn begins_object(bytes: &[u8]) -> bool
     ensures { result ≡ definition.begins_object bytes.now }
 {
     for byte in bytes {
-        if !is_blank_or_end(*byte) {
+        if !is_space(*byte) {
             return *byte == b'{';
         }
     }
@@ -184,7 +177,7 @@ fn read_bytes(alloc: Global, bytes: &[u8]) -> Result<Database, Refusal<LiveFault
 }
 
 /// The LSAs of an area in a router's own database, of each the newest instance (RFC 2328, 13.1); one of age 3600 or more is
-/// gone. Where the first byte other than blanks and line ends is a brace, the file is JSON as FRRouting prints it to `show
+/// gone. Where the first byte other than blanks of JSON is a brace, the file is JSON as FRRouting prints it to `show
 /// ip ospf database router json`, of which the router-LSAs of the area are read; else it is LSAs as bytes.
 ///
 /// # Errors

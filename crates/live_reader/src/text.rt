@@ -16,8 +16,8 @@ pub enum Within {
     Escape,
 }
 
-/// Whether a byte is a blank of JSON.
-fn is_space(byte: u8) -> bool
+/// Whether a byte is a blank of JSON: a space, a tab, LF or CR.
+pub fn is_space(byte: u8) -> bool
     ensures { result ≡ word.is_space byte }
 {
     byte == b' ' || byte == b'\t' || byte == b'\n' || byte == b'\r'

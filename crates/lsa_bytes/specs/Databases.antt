@@ -12,7 +12,7 @@ abbrev pub has_links : Body → Bool
 has_links (Links links) = true
 has_links (Attached routers) = false
 
--- the other LSAs are network-LSAs
+-- the LSA is a router-LSA
 abbrev pub is_router_lsa : Lsa → Bool
 is_router_lsa lsa = has_links lsa.body
 
@@ -20,11 +20,11 @@ is_router_lsa lsa = has_links lsa.body
 abbrev pub is_network_lsa : Lsa → Bool
 is_network_lsa lsa = not (is_router_lsa lsa)
 
--- the router-LSA of an advertising router
+-- the LSA is the router-LSA of this advertising router
 abbrev pub is_router_of : ℕ → Lsa → Bool
 is_router_of router lsa = is_router_lsa lsa && lsa.router == router
 
--- the network-LSA of a link state ID
+-- the LSA is the network-LSA of this link state ID
 abbrev pub is_network_of : ℕ → Lsa → Bool
 is_network_of id lsa = is_network_lsa lsa && lsa.id == id
 
@@ -32,11 +32,11 @@ is_network_of id lsa = is_network_lsa lsa && lsa.id == id
 abbrev pub is_same : Lsa → Lsa → Bool
 is_same lsa other = if is_router_lsa lsa then is_router_of lsa.router other else is_network_of lsa.id other
 
--- links to a router or into a network have a metric above 0
+-- the link leads to a router or into a network, and its metric is 0
 abbrev pub is_zero_link : LsaLink → Bool
 is_zero_link link = (link.kind == 1 || link.kind == 2) && link.metric == 0
 
--- the body is a router-LSA's that has such a link
+-- the body is a router-LSA's that has a link of metric 0 to a router or into a network
 abbrev pub has_zero_metric : Body → Bool
 has_zero_metric (Links links) = list_any is_zero_link links
 has_zero_metric (Attached routers) = false

@@ -9,19 +9,19 @@ use Rattle.lsa_bytes.specs.declared.instances.Stamp.{Stamp}
 use Rattle.lsa_bytes.specs.declared.instances.Instance.{Instance}
 use Rattle.lsa_bytes.specs.Fields.{number_16, number_32}
 
--- Of the header: the age, the type, and the length of the whole LSA.
+-- the LS age, of the header
 abbrev pub age_of : List ℕ → ℕ
 age_of lsa = number_16 lsa 0
 
--- the LS type
+-- the LS type, of the header
 abbrev pub type_of : List ℕ → ℕ
 type_of lsa = slice_index lsa 3
 
--- the length field: the bytes of the whole LSA with its header
+-- the length, of the header: how many bytes the whole LSA has
 abbrev pub length_of : List ℕ → ℕ
 length_of lsa = number_16 lsa 18
 
--- router-LSAs and network-LSAs are read
+-- LSAs of this LS type are read: router-LSAs and network-LSAs
 abbrev pub is_read : ℕ → Bool
 is_read type = type == 1 || type == 2
 
@@ -64,7 +64,7 @@ attached_in lsa =
     if nat_lt size 4 || not (size % 4 == 0) then None
     else Some (map (λ i. number_32 lsa (24 + 4 * i)) (numbers_from 0 (size / 4)))
 
--- the body, where it is of a type that is read and exactly as above
+-- the body of an LSA of this type, where the type is read and the bytes are as the grammar says
 abbrev pub body_at : ℕ → List ℕ → Option Body
 body_at type lsa =
     if type == 1 then option_map Links (links_of_router_lsa lsa)
@@ -79,7 +79,7 @@ body_of lsa = body_at (type_of lsa) lsa
 abbrev pub stamp_of : ℕ → List ℕ → Stamp
 stamp_of place lsa = record { place = place; age = age_of lsa; sequence = number_32 lsa 12; checksum = number_16 lsa 16 }
 
--- an LSA with its link state ID and its advertising router
+-- one instance: the LSA at a place with its header and this body; nothing where there is no body
 abbrev pub with_body : ℕ → List ℕ → Option Body → List Instance
 with_body place lsa None = []
 with_body place lsa (Some body) = record {

@@ -22,8 +22,8 @@ fn has_id(config: &RouterConfig, id: u32) -> bool
     config.router_id == Some(id)
 }
 
-/// Whether one of the configurations has a router ID.
-fn have_id(configs: &[RouterConfig], id: u32) -> bool
+/// Whether one of the configurations has a router ID. Takes no memory.
+pub fn have_id(configs: &[RouterConfig], id: u32) -> bool
     ensures { result ≡ list_any (λ config. is_id id config.router_id) configs.now }
 {
     configs.iter().any(|config| has_id(config, id))

@@ -111,7 +111,7 @@ mod vertices;
 
 pub use fault::LsaFault;
 pub use graphs::graph_of_lsas;
-pub use ids::{IdFault, check_ids};
+pub use ids::{IdFault, check_ids, have_id};
 pub use instances::{Instance, Stamp};
 pub use reader::is_router;
 pub use reading::{comes_to_one, database_of, read_lsas, written_is_read};

@@ -24,7 +24,7 @@ pub record SayGraph (bytes : List ℕ) (g : Area) : Type 0 where
   pub database : IsLsaDatabase lsas
   pub graph : lsa_graph lsas ≡ g
 
--- what the numbers of an end or of a link that was said keep
+-- the router ID and the address of the end of a link have 32 bits
 pub record IsRangedEnd (end : LinkEnd) : Type 0 where
   pub router : end.router < 2 ^ 32
   pub address : end.address < 2 ^ 32

@@ -13,7 +13,7 @@ abbrev pub far_among : List Port → List Port → Port → Kind → Far
 far_among links transit p PointToPoint = ToRouter (router_at links (place_from 0 (is_other p) links))
 far_among links transit p Broadcast = ToSubnet (unwrap_or (place_from 0 (shares_subnet p) transit) 0)
 
--- the link back over a point-to-point subnet, among given linked interfaces
+-- the number of the link back of an interface on a point-to-point subnet, among given linked interfaces
 abbrev pub link_back_among : List Port → Port → Kind → Option ℕ
 link_back_among links p PointToPoint = place_from 0 (is_other p) links
 link_back_among links p Broadcast = None

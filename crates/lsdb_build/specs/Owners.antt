@@ -7,19 +7,19 @@ use Rattle.lsdb_build.specs.declared.owners.Owner.TheVariants.{One, Several}
 use Rattle.lsdb_build.specs.Neighbours.{Port}
 use Rattle.lsdb_build.specs.Tallies.{same_subnet, subnet_of, subnet_of_length}
 
--- what is noted with one router more
+-- what is noted at a prefix with one router more: the router, or that there are several
 abbrev pub joined_owner : Option Owner → ℕ → Owner
 joined_owner None router = One router
 joined_owner (Some (One first)) router = if first == router then One first else Several
 joined_owner (Some Several) router = Several
 
--- whether the router is noted
+-- whether what is noted at a prefix has the router, as its one router or as one of several
 abbrev pub has_router : Option Owner → ℕ → Bool
 has_router None router = false
 has_router (Some (One first)) router = first == router
 has_router (Some Several) router = true
 
--- whether another router may be noted
+-- whether what is noted at a prefix may have a router other than this one
 abbrev pub has_other : Option Owner → ℕ → Bool
 has_other None router = false
 has_other (Some (One first)) router = not (first == router)

@@ -27,23 +27,23 @@ subnet_of p = subnet_of_length p p.interface.length
 abbrev pub same_subnet : Subnet → Subnet → Bool
 same_subnet s t = s.length == t.length && s.address == t.address
 
--- a router on a subnet
+-- the router and the subnet of an interface
 abbrev pub member_of : Port → ℕ × Subnet
 member_of p = (p.router, subnet_of p)
 
--- the same router on the same subnet
+-- the two keys, each of a router and a subnet, have the same router and the same subnet
 abbrev pub same_member : ℕ × Subnet → ℕ × Subnet → Bool
 same_member a b = a.0 == b.0 && same_subnet a.1 b.1
 
--- a subnet with what is true or not of an interface on it
+-- the two keys, each of a yes or no and a subnet, are the same
 abbrev pub same_trait : Bool × Subnet → Bool × Subnet → Bool
 same_trait a b = beq a.0 b.0 && same_subnet a.1 b.1
 
--- whether the interface is broadcast
+-- an interface's subnet, with whether the interface is broadcast
 abbrev pub kind_on : Port → Bool × Subnet
 kind_on p = (is_broadcast p, subnet_of p)
 
--- whether the interface may become the designated router
+-- an interface's subnet, with whether the interface may become its designated router
 abbrev pub rank_on : Port → Bool × Subnet
 rank_on p = (nat_lt 0 p.interface.priority, subnet_of p)
 

@@ -23,36 +23,36 @@ pub record FaultyPlace : Type 0 where
   pub config : ℕ
   pub line : ℕ
 
--- the two network types are the same
+-- the two network kinds are the same
 abbrev pub same_kind : Kind → Kind → Bool
 same_kind PointToPoint PointToPoint = true
 same_kind PointToPoint Broadcast = false
 same_kind Broadcast PointToPoint = false
 same_kind Broadcast Broadcast = true
 
--- Each check asks of an interface, with the interfaces before it.
+-- Each check asks of an interface, with the interfaces before it in the order of their routers.
 
--- an interface before it is of the same router and on the same subnet
+-- an interface before this one is of the same router and on the same subnet
 abbrev pub is_second_of_router : List Port → Port → Bool
 is_second_of_router before p = list_any (λ q. q.router == p.router && shares_subnet q p) before
 
--- an interface before it has the same address
+-- an interface before this one has the same address
 abbrev pub is_second_of_address : List Port → Port → Bool
 is_second_of_address before p = list_any (λ q. q.address == p.address) before
 
--- an interface before it on the same subnet has another network type
+-- an interface before this one on the same subnet has another network kind
 abbrev pub is_mismatch : List Port → Port → Bool
 is_mismatch before p = list_any (λ q. shares_subnet q p && not (same_kind q.interface.kind p.interface.kind)) before
 
--- two interfaces before it are on the same point-to-point subnet
+-- two interfaces before this one are on the same point-to-point subnet
 abbrev pub is_crowding : List Port → Port → Bool
 is_crowding before p = not (is_broadcast p) && nat_le 2 (count_by (λ q. shares_subnet q p) before)
 
--- the subnet of the one contains that of the other, which is at least as long
+-- the first interface's subnet contains that of the second, whose prefix is at least as long
 abbrev pub holds : Port → Port → Bool
 holds p q = nat_le p.interface.length q.interface.length && contains p.address p.interface.length q.address
 
--- an interface before it is of another router and on another subnet, and one of the two subnets contains the other
+-- an interface before this one is of another router and on another subnet, and one of the two subnets contains the other
 abbrev pub is_overlap : List Port → Port → Bool
 is_overlap before p =
     list_any (λ q. not (q.router == p.router) && not (shares_subnet q p) && (holds q p || holds p q)) before
@@ -76,7 +76,7 @@ abbrev pub at_config : TopologyFault → Option ℕ → Option FaultyPlace
 at_config fault None = None
 at_config fault (Some config) = Some (record { fault = fault; config = config; line = 0 })
 
--- the first place past a limit of things
+-- the first place past the limit, where there are more things than that
 abbrev pub past : ℕ → ℕ → Option ℕ
 past limit count = if nat_lt limit count then Some limit else None
 
@@ -127,7 +127,7 @@ abbrev pub far_of : List Port → Port → Kind → Far
 far_of all p PointToPoint = ToRouter (router_at (linked all) (place_from 0 (is_other p) (linked all)))
 far_of all p Broadcast = ToSubnet (unwrap_or (place_from 0 (shares_subnet p) (transit_subnets all)) 0)
 
--- the link back over a point-to-point subnet
+-- the number of the link back of an interface, where it is on a point-to-point subnet
 abbrev pub link_back_of : List Port → Port → Kind → Option ℕ
 link_back_of all p PointToPoint = place_from 0 (is_other p) (linked all)
 link_back_of all p Broadcast = None

@@ -1,3 +1,4 @@
+//! The checks of interfaces and configurations, each against those before it: whether they make a topology.
 ghost use Rattle.std.specs.Prelude.{◌≡◌, ◌<◌, ◌≤◌, ◌++◌, List, [], ◌∷◌, None, length, map, count_by, not, slice_get, IsTrue, MatchResult, IfSome, IfOk, IfErr};
 ghost use Rattle.std.specs.List.{list_any};
 ghost use Rattle.cost_base.specs.Lists.{same_bytes};

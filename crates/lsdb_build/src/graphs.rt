@@ -1,3 +1,4 @@
+//! The graph of an area at given prices of its links.
 ghost use Rattle.std.specs.Prelude.{◌≡◌, ◌+◌, ◌<◌, ◌^◌, ◌++◌, length, map, All, IfOk, OnOk};
 ghost use Rattle.area_graph.specs.declared.Price.TheVariants.{Zero};
 ghost use Rattle.lsdb_build.specs.Graphs.{graph_at, far_vertex, link_edges, subnet_edges, router_of, IsLinkPrice};

@@ -1,3 +1,4 @@
+//! Which interfaces are linked, and the links and transit subnets that they make.
 ghost use Rattle.std.specs.Prelude.{◌≡◌, ◌<◌, ◌≤◌, ◌&&◌, not, List, [], length, map, slice_get, IfOk};
 ghost use Rattle.std.specs.List.{list_any};
 ghost use Rattle.lsdb_build.specs.Neighbours.{Port, is_linked_kind, is_linked, linked, is_broadcast, first_members, shares_subnet, is_other, place_from};

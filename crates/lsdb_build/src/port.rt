@@ -1,3 +1,4 @@
+//! The active interfaces of an area, and the subnets that they stand on.
 ghost use Rattle.std.specs.Prelude.{◌≡◌, ◌+◌, ◌<◌, ◌≤◌, ◌++◌, length, All, IfOk, OnOk, option_to_list};
 ghost use Rattle.interface_model.specs.Records.{IsRouter};
 ghost use Rattle.lsdb_build.specs.Neighbours.{port_of, ports_of, ports, shares_subnet, is_broadcast};
@@ -28,7 +29,7 @@ impl<'a> Model for Port<'a> {
 }
 
 impl<'a> Port<'a> {
-    /// The same interface once more.
+    /// A copy of the interface with its router and address.
     pub fn again(&self) -> Port<'a>
         ensures { result ≡ self.now }
     {

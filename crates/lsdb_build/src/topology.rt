@@ -1,3 +1,4 @@
+//! The database of an area from the configurations of its routers, or the first fault.
 ghost use Rattle.std.specs.Prelude.{◌≡◌, ◌<◌, ◌≤◌, [], ◌∷◌, None, length, map, slice_get, IfOk, IfErr, OnOk, MatchResult};
 ghost use Rattle.lsdb_build.specs.Neighbours.{shares_subnet};
 ghost use Rattle.lsdb_build.specs.Topology.{topology_fault, database_of, places_from, first_some, at_port, at_config, first_where, second_of_name};

@@ -13,13 +13,22 @@ mod searches;
 use area_graph::Graph;
 use std::io;
 
-fn main(rt: HostRuntime) -> io::Result<()> {
-    let alloc = rt.alloc();
-    let mut network: Option<Graph> = None;
-    for line in rt.lines(alloc) {
+/// Writes a line, and behind it what is answered.
+fn play(rt: HostRuntime, network: &mut Option<Graph>, line: &str) -> io::Result<()> {
+    let text = answer::answer(rt.alloc(), network, line)?;
+    println!(rt; "{line}{text}")
+}
+
+/// Plays each line of standard input.
+fn play_all(rt: HostRuntime, network: &mut Option<Graph>) -> io::Result<()> {
+    for line in rt.lines(rt.alloc()) {
         let line = line?;
-        let text = answer::answer(alloc, &mut network, line.as_str())?;
-        println!(rt; "{line}{text}")?;
+        play(rt, network, line.as_str())?;
     }
     Ok(())
+}
+
+fn main(rt: HostRuntime) -> io::Result<()> {
+    let mut network = None;
+    play_all(rt, &mut network)
 }

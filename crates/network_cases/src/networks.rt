@@ -40,14 +40,8 @@ fn vertices(alloc: Global, routers: u32, subnets: u32) -> Result<Vec<Vertex>, Al
     Ok(vertices)
 }
 
-/// The graph of the words `ROUTERS SUBNETS FROM-TO:PRICE ..`; none where these make none.
-pub(crate) fn graph(
-    alloc: Global,
-    words: &mut SplitWhitespace<'_>,
-) -> Result<Option<Graph>, OutOfMemory> {
-    let routers = next_number(words);
-    let subnets = next_number(words);
-    let vertices = vertices(alloc, routers, subnets)?;
+/// The edges of the other words; none where a word is none.
+fn edges(alloc: Global, words: &mut SplitWhitespace<'_>) -> Result<Option<Vec<Edge>>, AllocError> {
     let mut edges = Vec::new(alloc);
     for word in words {
         let Some(edge) = edge(word) else {
@@ -55,6 +49,20 @@ pub(crate) fn graph(
         };
         edges.push(edge)?;
     }
+    Ok(Some(edges))
+}
+
+/// The graph of the words `ROUTERS SUBNETS FROM-TO:PRICE ..`; none where these make none.
+pub(crate) fn graph(
+    alloc: Global,
+    words: &mut SplitWhitespace<'_>,
+) -> Result<Option<Graph>, OutOfMemory> {
+    let routers = next_number(words);
+    let subnets = next_number(words);
+    let Some(edges) = edges(alloc, words)? else {
+        return Ok(None);
+    };
+    let vertices = vertices(alloc, routers, subnets)?;
     if !fits_graph(vertices.as_slice(), edges.as_slice()) {
         return Ok(None);
     }

@@ -4,11 +4,13 @@ ghost use Rattle.area_graph.specs.declared.Path.{Path};
 ghost use Rattle.area_graph.specs.Costs.{cost};
 ghost use Rattle.rival_separation.specs.Outlooks.{FitsOutlook, HasItsPath};
 ghost use Rattle.set_separation.specs.PrefixTrees.{IsGrown};
+ghost use Rattle.set_separation.specs.SeenTrees.{HasTiedTree};
+ghost use Rattle.spf_ties.specs.Distances.{IsRoomFor};
 ghost use Rattle.network_cases.specs.Members.{TiesWith, wanted_of};
 
 use crate::networks::point;
-use area_graph::{Graph, Path, is_path_of, path_cost, point_fits};
-use case_scripts::{list_of, next_number, next_numbers, next_word};
+use area_graph::{Graph, Path, Point, is_path_of, path_cost, point_fits};
+use case_scripts::{list_of, next_number, next_word};
 use cost_base::{Listed, OutOfMemory};
 use design_problem::Request;
 use rival_separation::Outlook;
@@ -27,6 +29,17 @@ fn has(paths: &[Path], edges: &[u32]) -> bool {
     false
 }
 
+/// Adds the path of these edges that starts where the first one does, and tells whether no path before it has them.
+fn add_path(paths: &mut Vec<Path>, first: &Path, edges: Vec<u32>) -> Result<bool, AllocError> {
+    let is_new = first.edges.as_slice() != edges.as_slice()
+        && !has(paths.as_slice(), edges.as_slice());
+    paths.push(Path {
+        start: first.start,
+        edges: Listed::from_items(edges),
+    })?;
+    Ok(is_new)
+}
+
 /// The paths of the other words, with the start of the first one; none where two have the same edges.
 fn other_paths(
     alloc: Global,
@@ -35,14 +48,9 @@ fn other_paths(
 ) -> Result<Option<Vec<Path>>, AllocError> {
     let mut paths = Vec::new(alloc);
     for word in words {
-        let edges = list_of::<u32>(alloc, word)?;
-        if first.edges.as_slice() == edges.as_slice() || has(paths.as_slice(), edges.as_slice()) {
+        if !add_path(&mut paths, first, list_of::<u32>(alloc, word)?)? {
             return Ok(None);
         }
-        paths.push(Path {
-            start: first.start,
-            edges: Listed::from_items(edges),
-        })?;
     }
     Ok(Some(paths))
 }
@@ -108,6 +116,29 @@ fn tree_of(alloc: Global, first: &Path, others: &[Path]) -> Result<PrefixTree, O
     Ok(tree)
 }
 
+/// What a path costs, and whether this is less than `most`.
+fn cost_text(
+    alloc: Global,
+    outlook: &Outlook<'_>,
+    path: &Path,
+    most: u128,
+) -> Result<String, OutOfMemory>
+    requires { FitsOutlook outlook.now }
+{
+    let request = outlook.request;
+    if !is_path_of(
+        outlook.graph,
+        path,
+        request.end,
+        request.excluded.as_slice(),
+    ) {
+        return Ok(String::from_str(alloc, ": no path")?);
+    }
+    let cost = path_cost(outlook.graph, path, outlook.point);
+    let told = if cost < most { "less" } else { "no less" };
+    Ok(format!(in alloc; ": costs {cost}, {told} than {most}")?)
+}
+
 /// What the path that the room keeps costs, and whether this is less than `most`.
 fn kept_text(
     alloc: Global,
@@ -117,22 +148,46 @@ fn kept_text(
 ) -> Result<String, OutOfMemory>
     requires { FitsOutlook outlook.now }
 {
-    let request = outlook.request;
     let path = Path {
-        start: request.path.start,
+        start: outlook.request.path.start,
         edges: Listed::from_slice(alloc, edges)?,
     };
-    if !is_path_of(
-        outlook.graph,
-        &path,
-        request.end,
-        request.excluded.as_slice(),
-    ) {
-        return Ok(String::from_str(alloc, ": no path")?);
+    cost_text(alloc, outlook, &path, most)
+}
+
+/// The cheapest outsider of the paths of a tree, found in a room.
+fn outsider_in(
+    alloc: Global,
+    outlook: &Outlook<'_>,
+    tree: &PrefixTree,
+    room: &mut Room,
+) -> Result<String, OutOfMemory>
+    requires room { IsRoomFor outlook.now.graph.now room.old }
+    requires fits { FitsOutlook outlook.now }
+    requires first { HasItsPath outlook.now }
+    requires tree { HasTiedTree outlook.now tree.now }
+{
+    let places = tree.steps().len() + 1;
+    let mut costs = vec![in alloc; 0; places]?;
+    if !find_outsider(outlook, tree, costs.as_mut_slice(), room) {
+        return Ok(String::from_str(alloc, ": none")?);
     }
-    let cost = path_cost(outlook.graph, &path, outlook.point);
-    let told = if cost < most { "less" } else { "no less" };
-    Ok(format!(in alloc; ": costs {cost}, {told} than {most}")?)
+    let most = path_cost(outlook.graph, &outlook.request.path, outlook.point) + outlook.point.scale;
+    kept_text(alloc, outlook, room.path(), most)
+}
+
+/// The cheapest outsider of the paths of a tree.
+fn outsider_beside(
+    alloc: Global,
+    outlook: &Outlook<'_>,
+    tree: &PrefixTree,
+) -> Result<String, OutOfMemory>
+    requires fits { FitsOutlook outlook.now }
+    requires first { HasItsPath outlook.now }
+    requires tree { HasTiedTree outlook.now tree.now }
+{
+    let mut room = Room::new(alloc, outlook.graph)?;
+    outsider_in(alloc, outlook, tree, &mut room)
 }
 
 /// The cheapest outsider of a request's path and others that tie with it.
@@ -142,19 +197,63 @@ fn outsider_of(alloc: Global, outlook: &Outlook<'_>, others: &[Path]) -> Result<
     requires others { All (TiesWith outlook.now.graph.now outlook.now.point.now
         outlook.now.request.now) others.now }
 {
-    let mut room = Room::new(alloc, outlook.graph)?;
     let tree = tree_of(alloc, &outlook.request.path, others)?;
-    let places = tree.steps().len() + 1;
-    let mut costs = vec![in alloc; 0; places]?;
-    if !find_outsider(outlook, &tree, costs.as_mut_slice(), &mut room) {
-        return Ok(String::from_str(alloc, ": none")?);
-    }
-    let most = path_cost(outlook.graph, &outlook.request.path, outlook.point) + outlook.point.scale;
-    kept_text(alloc, outlook, room.path(), most)
+    outsider_beside(alloc, outlook, &tree)
 }
 
-/// `outsider START END GONE POINT EDGES ..`: the cost of the cheapest simple path that is none of these, which tie, where
-/// some edges are gone; `none` where each costs at least the scale more than they do.
+/// The cheapest outsider of a request's path and others, where they tie.
+fn tied_text(alloc: Global, outlook: &Outlook<'_>, others: &[Path]) -> Result<String, OutOfMemory>
+    requires fits { FitsOutlook outlook.now }
+    requires first { HasItsPath outlook.now }
+{
+    if !all_tie(outlook, others) {
+        return Ok(String::from_str(alloc, ": unfit")?);
+    }
+    outsider_of(alloc, outlook, others)
+}
+
+/// The cheapest outsider of a request's path and those of the other words at a point, where they fit.
+fn outsider_at(
+    alloc: Global,
+    graph: &Graph,
+    request: &Request,
+    point: &Point,
+    words: &mut SplitWhitespace<'_>,
+) -> Result<String, OutOfMemory> {
+    let excluded = request.excluded.as_slice();
+    if !point_fits(graph, point) || !is_path_of(graph, &request.path, request.end, excluded) {
+        return Ok(String::from_str(alloc, ": unfit")?);
+    }
+    let outlook = Outlook {
+        graph,
+        request,
+        point,
+    };
+    match other_paths(alloc, &request.path, words)? {
+        Some(others) => tied_text(alloc, &outlook, others.as_slice()),
+        None => Ok(String::from_str(alloc, ": unfit")?),
+    }
+}
+
+/// The request of a start and an end, of a word of edges and one of excluded edges.
+fn request_of(
+    alloc: Global,
+    start: u32,
+    end: u32,
+    edges: &str,
+    excluded: &str,
+) -> Result<Request, AllocError> {
+    let edges = Listed::from_items(list_of::<u32>(alloc, edges)?);
+    let excluded = Listed::from_items(list_of::<u32>(alloc, excluded)?);
+    Ok(Request {
+        path: Path { start, edges },
+        end,
+        excluded,
+    })
+}
+
+/// `outsider START END EXCLUDED POINT EDGES ..`: the cost of the cheapest simple path that is none of these, which tie,
+/// where some edges are excluded; `none` where each costs at least the scale more than they do.
 pub(crate) fn outsider_text(
     alloc: Global,
     graph: &Graph,
@@ -162,32 +261,9 @@ pub(crate) fn outsider_text(
 ) -> Result<String, OutOfMemory> {
     let start = next_number(words);
     let end = next_number(words);
-    let excluded = Listed::from_items(next_numbers(alloc, words)?);
-    let point = point(alloc, next_word(words))?;
-    let edges = Listed::from_items(next_numbers(alloc, words)?);
-    let path = Path { start, edges };
-    let others = other_paths(alloc, &path, words)?;
-    let request = Request {
-        path,
-        end,
-        excluded,
-    };
-    let Some(others) = others else {
-        return Ok(String::from_str(alloc, ": unfit")?);
-    };
-    let others = others.as_slice();
-    if !point_fits(graph, &point)
-        || !is_path_of(graph, &request.path, end, request.excluded.as_slice())
-    {
-        return Ok(String::from_str(alloc, ": unfit")?);
-    }
-    let outlook = Outlook {
-        graph,
-        request: &request,
-        point: &point,
-    };
-    if !all_tie(&outlook, others) {
-        return Ok(String::from_str(alloc, ": unfit")?);
-    }
-    outsider_of(alloc, &outlook, others)
+    let excluded = next_word(words);
+    let at = next_word(words);
+    let request = request_of(alloc, start, end, next_word(words), excluded)?;
+    let point = point(alloc, at)?;
+    outsider_at(alloc, graph, &request, &point, words)
 }

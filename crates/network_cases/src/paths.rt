@@ -2,11 +2,12 @@
 
 use crate::networks::point;
 use area_graph::{
-    Graph, Path, RequestedPath, avoids, is_only_cheapest, is_path_of, is_simple, path_cost,
+    Graph, Path, Point, RequestedPath, avoids, is_only_cheapest, is_path_of, is_simple, path_cost,
     point_fits,
 };
 use case_scripts::{Written, next_number, next_numbers, next_word};
 use cost_base::{Listed, OutOfMemory};
+use design_problem::Request;
 use std::alloc::{AllocError, Global};
 use std::str::SplitWhitespace;
 
@@ -25,15 +26,19 @@ pub(crate) fn vertex_text(
     format!(in alloc; ": out {out}; in {into}")
 }
 
+/// Whether two graphs have the same vertices and edges.
+fn is_same(copy: &Graph, graph: &Graph) -> bool {
+    copy.vertices() == graph.vertices() && copy.edges() == graph.edges()
+}
+
 /// `copy`: whether a copy of the graph has its vertices and edges.
 pub(crate) fn copy_text(alloc: Global, graph: &Graph) -> Result<String, OutOfMemory> {
-    let copy = graph.copy(alloc)?;
-    let is_same = copy.vertices() == graph.vertices() && copy.edges() == graph.edges();
+    let is_same = is_same(&graph.copy(alloc)?, graph);
     let told = if is_same { ": the same" } else { ": another" };
     Ok(String::from_str(alloc, told)?)
 }
 
-/// `avoids EDGES GONE`: whether none of the edges is gone.
+/// `avoids EDGES EXCLUDED`: whether none of the edges is excluded.
 pub(crate) fn avoids_text(
     alloc: Global,
     words: &mut SplitWhitespace<'_>,
@@ -59,6 +64,24 @@ pub(crate) fn path_and_end(
     Ok((Path { start, edges }, end))
 }
 
+/// Whether a path is simple, and what it costs.
+fn cost_text(
+    alloc: Global,
+    graph: &Graph,
+    path: &Path,
+    end: u32,
+    point: &Point,
+) -> Result<String, AllocError> {
+    if !is_simple(graph, path, end) {
+        return String::from_str(alloc, ": not simple");
+    }
+    if !point_fits(graph, point) {
+        return String::from_str(alloc, ": simple");
+    }
+    let cost = path_cost(graph, path, point);
+    format!(in alloc; ": simple, cost {cost}")
+}
+
 /// `path START END EDGES POINT`: whether a path is simple, and what it costs.
 pub(crate) fn path_text(
     alloc: Global,
@@ -67,35 +90,52 @@ pub(crate) fn path_text(
 ) -> Result<String, AllocError> {
     let (path, end) = path_and_end(alloc, words)?;
     let point = point(alloc, next_word(words))?;
-    if !is_simple(graph, &path, end) {
-        return String::from_str(alloc, ": not simple");
-    }
-    if !point_fits(graph, &point) {
-        return String::from_str(alloc, ": simple");
-    }
-    let cost = path_cost(graph, &path, &point);
-    format!(in alloc; ": simple, cost {cost}")
+    cost_text(alloc, graph, &path, end, &point)
 }
 
-/// `only START END EDGES GONE POINT`: whether a path is only cheapest where some edges are gone.
+/// The request of the words `START END EDGES EXCLUDED`.
+pub(crate) fn next_request(
+    alloc: Global,
+    words: &mut SplitWhitespace<'_>,
+) -> Result<Request, AllocError> {
+    let (path, end) = path_and_end(alloc, words)?;
+    let excluded = Listed::from_items(next_numbers(alloc, words)?);
+    Ok(Request {
+        path,
+        end,
+        excluded,
+    })
+}
+
+/// Whether a request's path is the only cheapest.
+fn only_at(
+    alloc: Global,
+    graph: &Graph,
+    request: &Request,
+    point: &Point,
+) -> Result<String, OutOfMemory> {
+    let requested = RequestedPath {
+        path: &request.path,
+        end: request.end,
+        excluded: request.excluded.as_slice(),
+    };
+    if !point_fits(graph, point)
+        || !is_path_of(graph, requested.path, requested.end, requested.excluded)
+    {
+        return Ok(String::from_str(alloc, ": unfit")?);
+    }
+    let is_only = is_only_cheapest(alloc, graph, point, &requested)?;
+    let told = if is_only { ": yes" } else { ": no" };
+    Ok(String::from_str(alloc, told)?)
+}
+
+/// `only START END EDGES EXCLUDED POINT`: whether a path is the only cheapest where some edges are excluded.
 pub(crate) fn only_text(
     alloc: Global,
     graph: &Graph,
     words: &mut SplitWhitespace<'_>,
 ) -> Result<String, OutOfMemory> {
-    let (path, end) = path_and_end(alloc, words)?;
-    let excluded = next_numbers(alloc, words)?;
-    let excluded = excluded.as_slice();
+    let request = next_request(alloc, words)?;
     let point = point(alloc, next_word(words))?;
-    if !point_fits(graph, &point) || !is_path_of(graph, &path, end, excluded) {
-        return Ok(String::from_str(alloc, ": unfit")?);
-    }
-    let requested = RequestedPath {
-        path: &path,
-        end,
-        excluded,
-    };
-    let is_only = is_only_cheapest(alloc, graph, &point, &requested)?;
-    let told = if is_only { ": yes" } else { ": no" };
-    Ok(String::from_str(alloc, told)?)
+    only_at(alloc, graph, &request, &point)
 }

@@ -26,12 +26,19 @@ fn add_costs(alloc: Global, text: &mut String, graph: &Graph, room: &Room) -> Re
     Ok(())
 }
 
+/// The distance of each vertex.
+fn costs_text(alloc: Global, graph: &Graph, room: &Room) -> Result<String, OutOfMemory>
+    requires { IsRoomFor graph.now room.now }
+{
+    let mut text = String::from_str(alloc, ": costs")?;
+    add_costs(alloc, &mut text, graph, room)?;
+    Ok(text)
+}
+
 /// `room`: the distances before any search.
 pub(crate) fn new_room_text(alloc: Global, graph: &Graph) -> Result<String, OutOfMemory> {
     let room = Room::new(alloc, graph)?;
-    let mut text = String::from_str(alloc, ": costs")?;
-    add_costs(alloc, &mut text, graph, &room)?;
-    Ok(text)
+    costs_text(alloc, graph, &room)
 }
 
 /// The edges that are tight.
@@ -54,6 +61,36 @@ fn tight_edges(
     Ok(tight)
 }
 
+/// Adds numbers behind a word.
+fn add_numbers(
+    alloc: Global,
+    text: &mut String,
+    before: &str,
+    numbers: &[u32],
+) -> Result<(), AllocError> {
+    let numbers = Written(numbers);
+    text.push_str(format!(in alloc; "{before} {numbers}")?.as_str())
+}
+
+/// The next hops of a vertex.
+fn hops(
+    alloc: Global,
+    graph: &Graph,
+    point: &Point,
+    room: &Room,
+    vertex: u32,
+) -> Result<Vec<u32>, AllocError>
+    requires room { IsRoomFor graph.now room.now }
+    requires fits { FitsPoint graph.now point.now }
+    requires vertex { vertex < length graph.now.vertices }
+{
+    let mut hops = Vec::new(alloc);
+    for hop in room.next_hops(graph, point, vertex) {
+        hops.push(hop)?;
+    }
+    Ok(hops)
+}
+
 /// Adds the next hops of each vertex.
 fn add_hops(
     alloc: Global,
@@ -67,17 +104,14 @@ fn add_hops(
 {
     graph.keeps_conditions();
     for vertex in 0..graph.vertices().len() {
-        let mut hops = Vec::new(alloc);
-        for hop in room.next_hops(graph, point, vertex as u32) {
-            hops.push(hop)?;
-        }
-        text.push_str(format!(in alloc; " {}", Written(hops.as_slice()))?.as_str())?;
+        let hops = hops(alloc, graph, point, room, vertex as u32)?;
+        add_numbers(alloc, text, "", hops.as_slice())?;
     }
     Ok(())
 }
 
-/// What is searched for at each point: the least costs to these targets where some edges are gone, all of them or those below
-/// a limit.
+/// What is searched for at each point: the least costs to these targets where some edges are excluded, all of them or
+/// those below a limit.
 #[derive(Drop)]
 struct Wanted {
     targets: Vec<u32>,
@@ -115,6 +149,39 @@ fn find(room: &mut Room, search: &Search<'_>, target: u32)
     }
 }
 
+/// Adds the edges that are tight.
+fn add_tight(
+    alloc: Global,
+    text: &mut String,
+    graph: &Graph,
+    point: &Point,
+    room: &Room,
+) -> Result<(), AllocError>
+    requires room { IsRoomFor graph.now room.now }
+    requires fits { FitsPoint graph.now point.now }
+{
+    let tight = tight_edges(alloc, graph, point, room)?;
+    add_numbers(alloc, text, "; tight", tight.as_slice())
+}
+
+/// Adds what is found for a vertex.
+fn add_found(
+    alloc: Global,
+    text: &mut String,
+    search: &Search<'_>,
+    room: &Room,
+    target: u32,
+) -> Result<(), AllocError>
+    requires room { IsRoomFor search.now.graph.now room.now }
+    requires fits { FitsPoint search.now.graph.now search.now.point.now }
+{
+    text.push_str(format!(in alloc; "\n  to {target}: costs")?.as_str())?;
+    add_costs(alloc, text, search.graph, room)?;
+    add_tight(alloc, text, search.graph, search.point, room)?;
+    text.push_str("; hops")?;
+    add_hops(alloc, text, search.graph, search.point, room)
+}
+
 /// Searches for the least costs to a vertex, and adds what is found.
 fn add_search(
     alloc: Global,
@@ -127,17 +194,11 @@ fn add_search(
     requires fits { FitsPoint search.now.graph.now search.now.point.now }
     ensures { IsRoomFor search.now.graph.now room.new }
 {
-    let graph = search.graph;
-    let point = search.point;
-    if graph.vertices().len() <= target as usize {
+    if search.graph.vertices().len() <= target as usize {
         return text.push_str("\n  no vertex");
     }
     find(room, search, target);
-    text.push_str(format!(in alloc; "\n  to {target}: costs")?.as_str())?;
-    add_costs(alloc, text, graph, room)?;
-    let tight = tight_edges(alloc, graph, point, room)?;
-    text.push_str(format!(in alloc; "; tight {}; hops", Written(tight.as_slice()))?.as_str())?;
-    add_hops(alloc, text, graph, point, room)
+    add_found(alloc, text, search, room, target)
 }
 
 /// Searches for the least costs to each target, in one room.
@@ -157,6 +218,47 @@ fn add_searches(
     Ok(())
 }
 
+/// Adds what is found at the point of a word.
+fn add_point(
+    alloc: Global,
+    text: &mut String,
+    graph: &Graph,
+    wanted: &Wanted,
+    room: &mut Room,
+    word: &str,
+) -> Result<(), AllocError>
+    requires { IsRoomFor graph.now room.old }
+    ensures { IsRoomFor graph.now room.new }
+{
+    let point = point(alloc, word)?;
+    if !point_fits(graph, &point) {
+        return Ok(());
+    }
+    let search = Search {
+        graph,
+        point: &point,
+        wanted,
+    };
+    add_searches(alloc, text, &search, room)
+}
+
+/// What is found at the points of these words in one room.
+fn searches_in(
+    alloc: Global,
+    graph: &Graph,
+    wanted: &Wanted,
+    room: &mut Room,
+    words: &mut SplitWhitespace<'_>,
+) -> Result<String, OutOfMemory>
+    requires { IsRoomFor graph.now room.old }
+{
+    let mut text = String::new(alloc);
+    for word in words {
+        add_point(alloc, &mut text, graph, wanted, room, word)?;
+    }
+    Ok(text)
+}
+
 /// What is found at the points of these words. One room serves at all of them.
 fn searches_text(
     alloc: Global,
@@ -165,47 +267,40 @@ fn searches_text(
     words: &mut SplitWhitespace<'_>,
 ) -> Result<String, OutOfMemory> {
     let mut room = Room::new(alloc, graph)?;
-    let mut text = String::new(alloc);
-    for word in words {
-        let point = point(alloc, word)?;
-        if point_fits(graph, &point) {
-            let search = Search {
-                graph,
-                point: &point,
-                wanted,
-            };
-            add_searches(alloc, &mut text, &search, &mut room)?;
-        }
-    }
-    Ok(text)
+    searches_in(alloc, graph, wanted, &mut room, words)
 }
 
-/// `search TARGETS GONE POINT ..`: the least costs to each target where some edges are gone, the edges that are tight, and
-/// the next hops of each vertex.
+/// What the words `TARGETS EXCLUDED` want, within a limit.
+fn next_wanted(
+    alloc: Global,
+    words: &mut SplitWhitespace<'_>,
+    limit: Option<u128>,
+) -> Result<Wanted, AllocError> {
+    Ok(Wanted {
+        targets: next_numbers(alloc, words)?,
+        excluded: next_numbers(alloc, words)?,
+        limit,
+    })
+}
+
+/// `search TARGETS EXCLUDED POINT ..`: the least costs to each target where some edges are excluded, the edges that are
+/// tight, and the next hops of each vertex.
 pub(crate) fn search_text(
     alloc: Global,
     graph: &Graph,
     words: &mut SplitWhitespace<'_>,
 ) -> Result<String, OutOfMemory> {
-    let wanted = Wanted {
-        targets: next_numbers(alloc, words)?,
-        excluded: next_numbers(alloc, words)?,
-        limit: None,
-    };
+    let wanted = next_wanted(alloc, words, None)?;
     searches_text(alloc, graph, &wanted, words)
 }
 
-/// `within LIMIT TARGETS GONE POINT ..`: the same of the least costs that are below a limit.
+/// `within LIMIT TARGETS EXCLUDED POINT ..`: the same of the least costs that are below a limit.
 pub(crate) fn within_text(
     alloc: Global,
     graph: &Graph,
     words: &mut SplitWhitespace<'_>,
 ) -> Result<String, OutOfMemory> {
     let limit = next_word(words).parse::<u128>().unwrap_or(0);
-    let wanted = Wanted {
-        targets: next_numbers(alloc, words)?,
-        excluded: next_numbers(alloc, words)?,
-        limit: Some(limit),
-    };
+    let wanted = next_wanted(alloc, words, Some(limit))?;
     searches_text(alloc, graph, &wanted, words)
 }

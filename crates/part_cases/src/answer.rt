@@ -11,6 +11,42 @@ use crate::texts::text_text;
 use std::alloc::AllocError;
 use std::rt::Files;
 
+/// What is answered to a line that asks of shelves or sinks. Any other line is a comment.
+fn outside_text(
+    rt: &(impl Files + AllocGlobal),
+    first: &str,
+    rest: &str,
+) -> Result<String, AllocError> {
+    let alloc = rt.alloc();
+    match first {
+        "memory-shelf" => memory_shelf_text(alloc, rest),
+        "sure-shelf" => sure_shelf_text(alloc, rest),
+        "file" => file_text(rt, rest),
+        "memory-sink" => memory_sink_text(alloc, rest),
+        "sure-sink" => sure_sink_text(alloc, rest),
+        "out-sink" => out_sink_text(alloc, rest),
+        _ => String::from_str(alloc, ""),
+    }
+}
+
+/// What is answered to a line that asks of numbers, commands, made cases or advisors, shelves or sinks.
+fn part_text(
+    rt: &(impl Files + AllocGlobal),
+    first: &str,
+    rest: &str,
+) -> Result<String, AllocError> {
+    let alloc = rt.alloc();
+    match first {
+        "at" => fraction_text(alloc, rest),
+        "over" => over_text(alloc, rest),
+        "cut" => cut_text(alloc, rest),
+        "job" => job_text(alloc, rest),
+        "made" => made_text(alloc, rest),
+        "choose" => choose_text(alloc, rest),
+        _ => outside_text(rt, first, rest),
+    }
+}
+
 /// What is answered to a line, to stand behind it. A line that begins with no word of a table is a comment.
 pub(crate) fn answer(rt: &(impl Files + AllocGlobal), line: &str) -> Result<String, AllocError> {
     let alloc = rt.alloc();
@@ -20,18 +56,6 @@ pub(crate) fn answer(rt: &(impl Files + AllocGlobal), line: &str) -> Result<Stri
         "number" | "quad" | "prefix" | "area" | "printed" | "digits" => {
             number_text(alloc, first, rest)
         }
-        "at" => fraction_text(alloc, rest),
-        "over" => over_text(alloc, rest),
-        "cut" => cut_text(alloc, rest),
-        "job" => job_text(alloc, rest),
-        "made" => made_text(alloc, rest),
-        "choose" => choose_text(alloc, rest),
-        "memory-shelf" => memory_shelf_text(alloc, rest),
-        "sure-shelf" => sure_shelf_text(alloc, rest),
-        "file" => file_text(rt, rest),
-        "memory-sink" => memory_sink_text(alloc, rest),
-        "sure-sink" => sure_sink_text(alloc, rest),
-        "out-sink" => out_sink_text(alloc, rest),
-        _ => String::from_str(alloc, ""),
+        _ => part_text(rt, first, rest),
     }
 }

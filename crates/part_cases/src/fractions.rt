@@ -82,24 +82,47 @@ fn scale_text(alloc: Global, value: i128, top: Top) -> Result<String, AllocError
 fn whole_text(alloc: Global, value: i64) -> Result<String, AllocError> {
     let whole = Frac::whole(value);
     let negated = whole.negated().numerator();
-    let mut text = format!(in alloc; ": {}/{}", whole.numerator(), whole.denominator())?;
-    text.push_str(format!(in alloc; ", negated {negated}")?.as_str())?;
-    if whole.is_positive() {
-        text.push_str(", positive")?;
-    }
-    if whole.is_negative() {
-        text.push_str(", negative")?;
-    }
+    let positive = if whole.is_positive() {
+        ", positive"
+    } else {
+        ""
+    };
+    let negative = if whole.is_negative() {
+        ", negative"
+    } else {
+        ""
+    };
+    let numerator = whole.numerator();
+    let denominator = whole.denominator();
     if whole.is_zero() {
-        text.push_str(", zero")?;
-        return Ok(text);
+        return format!(in alloc;
+            ": {numerator}/{denominator}, negated {negated}{positive}{negative}, zero"
+        );
     }
     let inverted = whole.inverted();
     format!(in alloc;
-        "{text}, inverted {}/{}",
+        ": {numerator}/{denominator}, negated {negated}{positive}{negative}, inverted {}/{}",
         inverted.numerator(),
         inverted.denominator()
     )
+}
+
+/// What a step makes of the words behind it, within a width.
+fn step_of_words(
+    alloc: Global,
+    step: &str,
+    words: &mut SplitWhitespace<'_>,
+    top: Top,
+) -> Result<String, AllocError> {
+    match step {
+        "lcm" => {
+            let left = whole(words);
+            lcm_text(alloc, left, whole(words), top)
+        }
+        "scale" => scale_text(alloc, whole(words), top),
+        "whole" => whole_text(alloc, next_word(words).parse::<i64>().unwrap_or(0)),
+        _ => fractions_text(alloc, step, words, top),
+    }
 }
 
 /// What is answered to a line `at BITS STEP ..`: what a step makes of fractions or whole numbers within a width.
@@ -115,12 +138,6 @@ pub(crate) fn fraction_text(alloc: Global, rest: &str) -> Result<String, AllocEr
             let nodes = next_number(&mut words);
             format!(in alloc; ": {}", Limits::new(u64::from(nodes), top).is_some())
         }
-        "lcm" => {
-            let left = whole(&mut words);
-            lcm_text(alloc, left, whole(&mut words), top)
-        }
-        "scale" => scale_text(alloc, whole(&mut words), top),
-        "whole" => whole_text(alloc, next_word(&mut words).parse::<i64>().unwrap_or(0)),
-        step => fractions_text(alloc, step, &mut words, top),
+        step => step_of_words(alloc, step, &mut words, top),
     }
 }

@@ -1,7 +1,7 @@
 //! Lines of a script that ask of numbers.
 
+use crate::sinks::failing_sink;
 use case_scripts::bytes_of;
-use cost_base::MemorySink;
 use std::alloc::{AllocError, Global};
 use text_lines::{area, number, number_bytes, prefix, printed_number, put_number, quad};
 
@@ -9,11 +9,7 @@ use text_lines::{area, number, number_bytes, prefix, printed_number, put_number,
 fn digits_text(alloc: Global, value: u128) -> Result<String, AllocError> {
     let mut room = [0; 40];
     let length = number_bytes(value, &mut room);
-    let mut failing = Vec::new(alloc);
-    failing.push((1u64, 0usize))?;
-    let Ok(mut sink) = MemorySink::new(alloc, 64, failing) else {
-        return Err(AllocError);
-    };
+    let mut sink = failing_sink(alloc, 64, 1, 0)?;
     let put = put_number(value, &mut sink).is_ok();
     let digits = room[..length].escape_ascii();
     format!(in alloc; ": {digits}, put {put} {}", sink.got().escape_ascii())

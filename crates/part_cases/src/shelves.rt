@@ -6,17 +6,18 @@ use std::alloc::{AllocError, Global};
 use std::rt::Files;
 use std::str::SplitWhitespace;
 
+/// A file of a name.
+fn file_of(alloc: Global, name: &str, text: &str) -> Result<(Name, Name), OutOfMemory> {
+    let name = Name::from_bytes(alloc, name.as_bytes())?;
+    Ok((name, Name::from_bytes(alloc, text.as_bytes())?))
+}
+
 /// Two files of one name and one of another.
 fn three_files(alloc: Global) -> Result<Vec<(Name, Name)>, OutOfMemory> {
     let mut files = Vec::new(alloc);
-    for (file, text) in [
-        ("A.conf", "hostname A\n"),
-        ("A.conf", "hostname B\n"),
-        ("C.conf", "C"),
-    ] {
-        let name = Name::from_bytes(alloc, file.as_bytes())?;
-        files.push((name, Name::from_bytes(alloc, text.as_bytes())?))?;
-    }
+    files.push(file_of(alloc, "A.conf", "hostname A\n")?)?;
+    files.push(file_of(alloc, "A.conf", "hostname B\n")?)?;
+    files.push(file_of(alloc, "C.conf", "C")?)?;
     Ok(files)
 }
 
@@ -42,13 +43,19 @@ fn takes_text<S: Shelf>(
     Ok(text)
 }
 
+/// The numbers of the calls that fail.
+fn failing_calls(alloc: Global, calls: &[u32]) -> Result<Vec<u64>, AllocError> {
+    let mut failing = Vec::new(alloc);
+    for call in calls {
+        failing.push(u64::from(*call))?;
+    }
+    Ok(failing)
+}
+
 /// `memory-shelf FAILING NAME:MOST ..`: takes files from memory, where the calls of some numbers fail.
 pub(crate) fn memory_shelf_text(alloc: Global, rest: &str) -> Result<String, AllocError> {
     let mut words = rest.split_whitespace();
-    let mut failing = Vec::new(alloc);
-    for call in next_numbers(alloc, &mut words)?.as_slice() {
-        failing.push(u64::from(*call))?;
-    }
+    let failing = failing_calls(alloc, next_numbers(alloc, &mut words)?.as_slice())?;
     let Ok(files) = three_files(alloc) else {
         return Err(AllocError);
     };

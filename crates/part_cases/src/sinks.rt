@@ -23,17 +23,28 @@ fn puts_text<K: Sink>(
     Ok(text)
 }
 
+/// A sink of so many bytes, whose call of a number fails and keeps some bytes.
+pub(crate) fn failing_sink(
+    alloc: Global,
+    room: usize,
+    call: u64,
+    kept: usize,
+) -> Result<MemorySink, AllocError> {
+    let mut failing = Vec::new(alloc);
+    failing.push((call, kept))?;
+    match MemorySink::new(alloc, room, failing) {
+        Ok(sink) => Ok(sink),
+        Err(_) => Err(AllocError),
+    }
+}
+
 /// `memory-sink ROOM CALL KEPT PIECE ..`: a sink of so many bytes, whose call of a number fails and keeps some bytes.
 pub(crate) fn memory_sink_text(alloc: Global, rest: &str) -> Result<String, AllocError> {
     let mut words = rest.split_whitespace();
     let room = next_number(&mut words) as usize;
     let call = u64::from(next_number(&mut words));
     let kept = next_number(&mut words) as usize;
-    let mut failing = Vec::new(alloc);
-    failing.push((call, kept))?;
-    let Ok(mut sink) = MemorySink::new(alloc, room, failing) else {
-        return Err(AllocError);
-    };
+    let mut sink = failing_sink(alloc, room, call, kept)?;
     let told = puts_text(alloc, &mut sink, &mut words)?;
     format!(in alloc; "{told}, got `{}`", sink.got().escape_ascii())
 }

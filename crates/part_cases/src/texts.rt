@@ -3,25 +3,31 @@
 use case_scripts::bytes_of;
 use std::alloc::{AllocError, Global};
 use text_lines::{
-    Lines, Words, cut, ends_line, first_word, is_comment_word, is_separator, kind_of,
-    starts_with_blank, word_at, word_count,
+    Line, Lines, LongLine, Words, cut, ends_line, first_word, is_comment_word, is_separator,
+    kind_of, starts_with_blank, word_at, word_count,
 };
 
-/// A line that was read, or that is too long.
+/// A line that was read.
+fn line_text(alloc: Global, line: &Line<'_>) -> Result<String, AllocError> {
+    let indented = if line.indented { " indented" } else { "" };
+    let text = line.text.escape_ascii();
+    format!(in alloc; "\n  {}{indented} `{text}`", line.number)
+}
+
+/// What is told of a line that was read, or that is too long.
+fn next_text(alloc: Global, next: Result<Line<'_>, LongLine>) -> Result<String, AllocError> {
+    match next {
+        Ok(line) => line_text(alloc, &line),
+        Err(long) => format!(in alloc; "\n  {} too long", long.number),
+    }
+}
+
+/// Adds the next line, and tells whether there is one.
 fn add_next(alloc: Global, text: &mut String, lines: &mut Lines) -> Result<bool, AllocError> {
-    let shown = match lines.next_line() {
-        None => return Ok(false),
-        Some(Ok(line)) => {
-            let indented = if line.indented { " indented" } else { "" };
-            format!(in alloc;
-                "\n  {}{indented} `{}`",
-                line.number,
-                line.text.escape_ascii()
-            )?
-        }
-        Some(Err(long)) => format!(in alloc; "\n  {} too long", long.number)?,
+    let Some(next) = lines.next_line() else {
+        return Ok(false);
     };
-    text.push_str(shown.as_str())?;
+    text.push_str(next_text(alloc, next)?.as_str())?;
     text.push_str(if lines.ended() {
         ""
     } else {
@@ -49,18 +55,29 @@ fn lines_text(alloc: Global, most: usize, bytes: &[u8]) -> Result<String, AllocE
     )
 }
 
+/// Adds a word behind what it is.
+fn add_word(alloc: Global, text: &mut String, what: &str, word: &[u8]) -> Result<(), AllocError> {
+    text.push_str(format!(in alloc; "{what} `{}`", word.escape_ascii())?.as_str())
+}
+
+/// Adds the words of a line, one after another, the first and the third.
+fn add_words(alloc: Global, text: &mut String, line: &[u8]) -> Result<(), AllocError> {
+    for word in Words::new(line) {
+        add_word(alloc, text, "", word)?;
+    }
+    if let Some((first, _)) = first_word(line) {
+        add_word(alloc, text, ", first", first)?;
+    }
+    match word_at(line, 2) {
+        Some(third) => add_word(alloc, text, ", third", third),
+        None => Ok(()),
+    }
+}
+
 /// `words TEXT`: the words of a line, one after another, by their count, the first and the third.
 fn words_text(alloc: Global, line: &[u8]) -> Result<String, AllocError> {
     let mut text = format!(in alloc; ": {} words", word_count(line))?;
-    for word in Words::new(line) {
-        text.push_str(format!(in alloc; " `{}`", word.escape_ascii())?.as_str())?;
-    }
-    if let Some((first, _)) = first_word(line) {
-        text.push_str(format!(in alloc; ", first `{}`", first.escape_ascii())?.as_str())?;
-    }
-    if let Some(third) = word_at(line, 2) {
-        text.push_str(format!(in alloc; ", third `{}`", third.escape_ascii())?.as_str())?;
-    }
+    add_words(alloc, &mut text, line)?;
     Ok(text)
 }
 

@@ -2,7 +2,7 @@
 use Rattle.std.proofs.Common.{◌≡◌, refl, sym, subst, List}
 use Rattle.cost_base.specs.Histories.{Taken}
 use Rattle.design_problem.specs.Problems.{DesignProblem}
-use Rattle.command_words.specs.Jobs.{Bounds}
+use Rattle.command_words.specs.Jobs.{SearchLimits}
 use Rattle.input_files.specs.declared.problem.View.TheVariants.{AsRequested}
 use Rattle.input_files.specs.Inputs.{InputFiles}
 use Rattle.input_files.specs.Readings.{Gave}
@@ -18,7 +18,7 @@ use Rattle.conflict_core.specs.Conflicts.{IsConflictFound}
 use Rattle.path_commands.specs.Conflicts.{MayConflict, TellsConflict, conflict_text, conflict_status}
 
 -- what was found may be written
-found_may : (limits : Bounds) (d : Input) (conflict : Conflict) →
+found_may : (limits : SearchLimits) (d : Input) (conflict : Conflict) →
     IsConflictFound d.problem limits.top limits.nodes conflict →
     MayConflict limits d (conflict_status conflict) (conflict_text d.problem conflict)
 found_may limits d (Fits w) found = record { conflict = Fits w; found = found; status = refl; spelled = refl }
@@ -26,7 +26,7 @@ found_may limits d (Core members rows tree without) found = record { conflict = 
 found_may limits d (Undecided members rows tree) found = record { conflict = Undecided members rows tree; found = found; status = refl; spelled = refl }
 
 -- the report of what was found of the problem that was read, and for which the advisors were asked
-pub conflict_found : (Given : List Taken → Type 0) (limits : Bounds) (names : InputFiles) (p : DesignProblem)
+pub conflict_found : (Given : List Taken → Type 0) (limits : SearchLimits) (names : InputFiles) (p : DesignProblem)
     (conflict : Conflict) (report : Report) (asks : Input → Conflict → Type 0) →
     Gave Given (λ came. IsReadAndMade (outcome AsRequested names) came IsProblemOf p) →
     IsConflictFound p limits.top limits.nodes conflict →

@@ -1,4 +1,4 @@
--- What is left of an area of which edges are gone.
+-- What is left of an area of which edges are excluded.
 use Rattle.std.proofs.Common.{◌≡◌, ℕ, ◌+◌, sym, ◌∙◌, ap, List, [], ◌∷◌, ◌++◌, arith, Bool, cond}
 use Rattle.std.specs.List.{filter}
 use Rattle.std.proofs.lemmas.List.Elements.{filter-append}
@@ -18,7 +18,7 @@ avoids_both : (xs ys es : List ℕ) → Avoids xs es → Avoids ys es → Avoids
 avoids_both xs ys [] first second = tt
 avoids_both xs ys (e ∷ es) first second = (lacks_both xs ys e first.0 second.0, avoids_both xs ys es first.1 second.1)
 
--- a path of which no edge is gone is one of what is left
+-- a path of which no edge is excluded is one of what is left
 pub path_left : (g : Area) (gone : List ℕ) (r : Request) → IsPathOf g (request_ends r) r.path.edges → Avoids gone r.path.edges →
     IsPathOf g (request_ends (left_without gone r)) r.path.edges
 path_left g gone r is avoids = record { simple = is.simple; kept = avoids_both r.excluded gone r.path.edges is.kept avoids }

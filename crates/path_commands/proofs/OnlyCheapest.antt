@@ -1,4 +1,4 @@
--- At whole costs a path is only cheapest where no rival costs less than it and one more.
+-- At whole costs a path is the only cheapest where no rival costs less than it and one more.
 use Rattle.std.proofs.Common.{◌≡◌, ℕ, refl, List, arith, Bool, true, false, IsTrue}
 use Rattle.std.specs.Prelude.{◌↔◌, MatchBool, not}
 use Rattle.std.proofs.lemmas.Bool.{false≢true}

@@ -12,7 +12,7 @@ use Rattle.set_reader.specs.declared.fault.SetFault.{SetFault}
 use Rattle.set_reader.specs.FaultNumbers.{set_fault_number}
 use Rattle.set_reader.specs.Reading.{AreSaid, TellsReading, set_fault}
 use Rattle.set_reader.specs.SpreadSets.{AreSetsOf}
-use Rattle.command_words.specs.Jobs.{Bounds}
+use Rattle.command_words.specs.Jobs.{SearchLimits}
 use Rattle.input_files.specs.declared.problem.View.TheVariants.{AsRequested}
 use Rattle.input_files.specs.declared.stop.Stop.TheVariants.{OutOfMemory as NoMemory}
 use Rattle.input_files.specs.Inputs.{InputFiles}
@@ -78,7 +78,7 @@ sets_stop file d p bytes (stops.Refused fault line) is tells =
 sets_stop file d p bytes stops.OutOfMemory is tells = tt
 
 -- what was found may be written
-found_may : (limits : Bounds) (sharing : Sharing) (sets : List (List ℕ)) (spread : Spread) → IsReadyInput sharing.input →
+found_may : (limits : SearchLimits) (sharing : Sharing) (sets : List (List ℕ)) (spread : Spread) → IsReadyInput sharing.input →
     greatest_bound sharing.input.problem ≤ 65535 → AreSetsIn sets sharing → IsSpreadFound sharing.input.problem sets limits.top limits.nodes spread →
     MaySpread limits sharing (spread_status spread) (spread_text sharing.input.problem spread)
 found_may limits sharing sets spread ready small said found = by_spread spread found (spread_back limits sharing.input sets spread ready small found)
@@ -93,7 +93,7 @@ found_may limits sharing sets spread ready small said found = by_spread spread f
         record { sets = sets; said = said; spread = Undecided rows tree; found = holds; status = refl; spelled = refl; back = back }
 
 -- the report of what was found of the sets that were read
-pub spread_found : (Given : List Taken → Type 0) (limits : Bounds) (file : List ℕ) (d : Input) (p : DesignProblem)
+pub spread_found : (Given : List Taken → Type 0) (limits : SearchLimits) (file : List ℕ) (d : Input) (p : DesignProblem)
     (sets : List (List ℕ)) (spread : Spread) (report : Report) → IsProblemRead p d → greatest_bound p ≤ 65535 →
     Gave Given (λ came. IsReadAndMade (sets_read file d) came (AreSetsFor d) sets) →
     IsSpreadFound p sets limits.top limits.nodes spread → Reports (spread_status spread) (spread_text p spread) report →

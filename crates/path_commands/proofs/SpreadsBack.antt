@@ -14,7 +14,7 @@ use Rattle.design_problem.specs.Problems.{DesignProblem}
 use Rattle.design_problem.specs.Rows.{box_of, greatest_cost}
 use Rattle.design_problem.specs.Text.{cost_lines, spaced, tree_lines}
 use Rattle.text_lines.specs.Lines.{with_ends}
-use Rattle.command_words.specs.Jobs.{Bounds}
+use Rattle.command_words.specs.Jobs.{SearchLimits}
 use Rattle.input_files.specs.Outcomes.{Input}
 use Rattle.input_files.proofs.ReadyInputs.{IsReadyInput}
 use Rattle.present_costs.specs.AtCosts.{graph_with}
@@ -108,7 +108,7 @@ shared_back d sets text w back shares = λ k none k_in.
     subst (λ (g : Area). Shares (record d.problem { graph = g }) (at_costs []) set) (sym back.graph) (shares_with w d.problem set (shares k none k_in))
 
 -- the costs that are printed with what was found are read back from its text
-pub spread_back : (limits : Bounds) (d : Input) (sets : List (List ℕ)) (spread : Spread) → IsReadyInput d → greatest_bound d.problem ≤ 65535 →
+pub spread_back : (limits : SearchLimits) (d : Input) (sets : List (List ℕ)) (spread : Spread) → IsReadyInput d → greatest_bound d.problem ≤ 65535 →
     IsSpreadFound d.problem sets limits.top limits.nodes spread → IfSome (shared_costs spread) (IsSpreadBack d sets (spread_text d.problem spread))
 spread_back limits d sets (Fit w) ready small found =
     let back = fit_back d w ready small found.within in

@@ -21,7 +21,7 @@ StandsAs g r mine least Only = IsOnlyCheapest g (at_costs []) (request_ends r) r
 StandsAs g r mine least Tied = (IsOnlyCheapest g (at_costs []) (request_ends r) r.path.edges → ⊥) × (mine ≡ least)
 StandsAs g r mine least Beaten = least < mine
 
--- how a path of this cost stands, by whether it is the only cheapest
+-- how a wanted path of this cost stands against this least cost, by whether it is the only cheapest
 abbrev pub standing_by : ℕ → ℕ → Bool → Standing
 standing_by mine least true = Only
 standing_by mine least false = if mine == least then Tied else Beaten
@@ -32,18 +32,18 @@ pub record IsAudited (g : Area) (r : Request) (path : AuditedPath) : Type 0 wher
   pub least_is : IsLeastOfPaths g (at_costs []) (request_ends r) path.least
   pub stands : StandsAs g r path.cost path.least path.standing
 
--- the word for how a path stands
+-- the word of an audit's line for how a path stands
 abbrev pub standing_word : Standing → List ℕ
 standing_word Only = codes "only"
 standing_word Tied = codes "tied"
 standing_word Beaten = codes "beaten"
 
--- `path I cost C least L WORD`
+-- the line of an audit for a wanted path: `path I cost C least L WORD`
 abbrev pub audit_line : ℕ → AuditedPath → List ℕ
 audit_line i path =
     line_of_words (codes "path" ∷ decimal i ∷ codes "cost" ∷ decimal path.cost ∷ codes "least" ∷ decimal path.least ∷ standing_word path.standing ∷ [])
 
--- a line for each path, from number i on
+-- the lines of an audit, one for each wanted path, from number i on
 abbrev pub audit_lines : ℕ → List AuditedPath → List ℕ
 audit_lines i [] = []
 audit_lines i (path ∷ paths) = audit_line i path ++ audit_lines (i + 1) paths
@@ -54,7 +54,7 @@ pub record IsAudit (p : DesignProblem) (bytes : List ℕ) : Type 0 where
   pub audited : AllZip (IsAudited p.graph) p.paths paths
   pub spelled : bytes ≡ audit_lines 0 paths
 
--- `audit`, of the problem in which every interface stands at its present cost
+-- what `audit` may write of the problem in which every interface stands at its present cost
 abbrev pub MayAudit : Input → Status → List ℕ → Type 0
 MayAudit d Done bytes = IsAudit d.problem bytes
 MayAudit d status bytes = ⊥

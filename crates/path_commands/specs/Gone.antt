@@ -4,7 +4,7 @@ use Rattle.area_graph.specs.declared.Edge.{Edge}
 use Rattle.lsdb_build.specs.declared.Far.{Far}
 use Rattle.lsdb_build.specs.declared.Far.TheVariants.{Router, Subnet}
 
--- the edge is the link back, where there is one
+-- whether the edge of this number is the link back, where there is one
 abbrev pub is_link_back : Option ℕ → ℕ → Bool
 is_link_back None e = false
 is_link_back (Some m) e = e == m

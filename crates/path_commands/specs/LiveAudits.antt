@@ -42,7 +42,7 @@ abbrev pub running_read : InputFiles → LaidOut → List Lsa → Reading Runnin
 running_read names laid lsas =
     problem_read AtPresent names laid.asked (running_database laid lsas) >>= λ p. Ready (record { laid = laid; lsas = lsas; problem = p })
 
--- what the files of a network say but for its costs, then the live file, and then the costs
+-- what the files of `audit --live` say: those of a network but for its costs, then the live file, then the costs
 abbrev pub live_audit_read : InputFiles → List ℕ → Reading Running
 live_audit_read names live = layout_read names >>= λ laid. live_read live laid.asked.area >>= λ lsas. running_read names laid lsas
 
@@ -50,33 +50,33 @@ live_audit_read names live = layout_read names >>= λ laid. live_read live laid.
 abbrev pub edges_of_links : Database → Area → List ℕ → List ℕ
 edges_of_links d g links = filter (λ e. list_any (λ l. link_takes d g l (slice_get d.links l) e) links) (numbers_from 0 (length g.edges))
 
--- the edges that are gone with the linked interfaces that have no link
+-- the excluded edges of a running area: those of the linked interfaces that have no link there
 abbrev pub gone_edges : Running → List ℕ
 gone_edges now =
     let d = running_database now.laid now.lsas in
     edges_of_links d now.problem.graph (missing_links (routers_of now.laid.files) now.lsas now.laid.database.links)
 
--- a request in what is left without some edges
+-- a request that excludes these edges too
 abbrev pub left_without : List ℕ → Request → Request
 left_without gone r = record r { excluded = r.excluded ++ gone }
 
--- what is found of a wanted path: it is audited in what is left, or an edge of it is gone, and then its request's least cost
--- in what is left is told
+-- what is found of a wanted path where these edges are excluded: it is audited in what is left; or it has one of them,
+-- and its request's least cost in what is left is told
 abbrev pub IsFoundLive : Area → List ℕ → Request → LivePath → Type 0
 IsFoundLive g gone r (Stands path) = Avoids gone r.path.edges × IsAudited g (left_without gone r) path
 IsFoundLive g gone r (Gone least) = (Avoids gone r.path.edges → ⊥) × IsLeastCost g (at_costs []) (request_ends (left_without gone r)) least
 
--- `least L`, or `unreachable`
+-- the words `least L` for the least cost that is left, or `unreachable` where no path is left
 abbrev pub left_words : Option ℕ → List (List ℕ)
 left_words (Some least) = codes "least" ∷ decimal least ∷ []
 left_words None = codes "unreachable" ∷ []
 
--- the line of an audit; or `path I gone least L`, or `path I gone unreachable`
+-- the line of a wanted path in a running area: that of an audit, or `path I gone least L`, or `path I gone unreachable`
 abbrev pub live_line : ℕ → LivePath → List ℕ
 live_line i (Stands path) = audit_line i path
 live_line i (Gone least) = line_of_words (codes "path" ∷ decimal i ∷ codes "gone" ∷ left_words least)
 
--- a line for each path, from number i on
+-- the lines of an audit of a running area, one for each wanted path, from number i on
 abbrev pub live_lines : ℕ → List LivePath → List ℕ
 live_lines i [] = []
 live_lines i (path ∷ paths) = live_line i path ++ live_lines (i + 1) paths
@@ -87,7 +87,7 @@ pub record IsLiveAudit (now : Running) (bytes : List ℕ) : Type 0 where
   pub found : AllZip (IsFoundLive now.problem.graph (gone_edges now)) now.problem.paths paths
   pub spelled : bytes ≡ live_lines 0 paths
 
--- `audit --live`
+-- what `audit --live` may write of a running area
 abbrev pub MayAuditLive : Running → Status → List ℕ → Type 0
 MayAuditLive now Done bytes = IsLiveAudit now bytes
 MayAuditLive now status bytes = ⊥

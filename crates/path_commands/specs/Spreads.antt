@@ -14,25 +14,25 @@ use Rattle.spread_sets.specs.declared.spread.Spread.{Spread}
 use Rattle.spread_sets.specs.declared.spread.Spread.TheVariants.{Fit, Impossible, Undecided}
 use Rattle.spread_sets.specs.Answers.{IsSpreadFound, set_row_line}
 use Rattle.spread_sets.specs.Spreads.{SharesEach, all_sets}
-use Rattle.command_words.specs.Jobs.{Bounds}
+use Rattle.command_words.specs.Jobs.{SearchLimits}
 use Rattle.input_files.specs.Outcomes.{Input}
 use Rattle.read_back_laws.specs.ReadBack.{graph_back, IsReadBack}
 use Rattle.printed_parts.specs.SharedParts.{at_ceiling}
 use Rattle.printed_rows.specs.PrintedCosts.{named_costs}
 use Rattle.path_commands.specs.SetFiles.{AreSetsIn, Sharing}
 
--- `rows N`, and for each row `row SET EDGE ..` or `same SET I J`
+-- the part of rows in the text of `spread`: `rows N`, and for each row `row SET EDGE ..` or `same SET I J`
 abbrev pub set_rows_lines : List SetRow → List (List ℕ)
 set_rows_lines rows = rows_line (length rows) ∷ map set_row_line rows
 
--- the lines up to the rows: the verdict, costs where there are some, and the rows
+-- the lines of the text of `spread` up to its trees: the head, the verdict, costs where there are some, and the rows
 abbrev pub front_lines : List ℕ → Option Costs → List SetRow → List (List ℕ)
 front_lines verdict costs rows =
     (codes "ospfcost spread answer 1" ∷ verdict ∷ [])
     ++ costs_lines costs
     ++ set_rows_lines rows
 
--- a text of all its parts, of which those that aren't there say so, as in an answer
+-- the lines of the text of `spread`: each of its parts, of which those that aren't there say so, as in an answer
 abbrev pub spread_lines : List ℕ → Option Costs → List SetRow → Option CapTree → Option CapTree → List (List ℕ)
 spread_lines verdict costs rows proof unfinished =
     front_lines verdict costs rows
@@ -40,23 +40,23 @@ spread_lines verdict costs rows proof unfinished =
     ++ tree_lines (codes "open") unfinished
     ++ (codes "end" ∷ [])
 
--- the lines of what was found; trees stand at the greatest upper bound
+-- the lines of the text of `spread` on what was found; trees stand at the greatest upper bound
 abbrev pub spread_found_lines : DesignProblem → Spread → List (List ℕ)
 spread_found_lines p (Fit w) = spread_lines (codes "verdict fit") (Some (named_costs p w)) [] None None
 spread_found_lines p (Impossible rows tree) = spread_lines (codes "verdict impossible") None rows.items (Some (at_ceiling p tree)) None
 spread_found_lines p (Undecided rows tree) = spread_lines (codes "verdict undecided") None rows.items None (Some (at_ceiling p tree))
 
--- the text of `spread`
+-- the text of `spread` on what was found
 abbrev pub spread_text : DesignProblem → Spread → List ℕ
 spread_text p spread = with_ends (spread_found_lines p spread)
 
--- the status of a run that prints what was found
+-- the status of a run of `spread` that prints what was found
 abbrev pub spread_status : Spread → Status
 spread_status (Fit w) = status.Done
 spread_status (Impossible rows tree) = status.Impossible
 spread_status (Undecided rows tree) = status.Undecided
 
--- the costs that are printed with what was found, where there are some
+-- the costs that `spread` prints with what was found, where there are some
 abbrev pub shared_costs : Spread → Option (List ℕ)
 shared_costs (Fit w) = Some w
 shared_costs (Impossible rows tree) = None
@@ -77,7 +77,7 @@ pub record IsSpreadBack (d : Input) (sets : List (List ℕ)) (text w : List ℕ)
 
 -- The bytes are the text of what was found for the sets that the file says, which has this status; printed costs are read
 -- back.
-pub record ShowsSpread (limits : Bounds) (sharing : Sharing) (aim : Status) (bytes : List ℕ) : Type 0 where
+pub record ShowsSpread (limits : SearchLimits) (sharing : Sharing) (aim : Status) (bytes : List ℕ) : Type 0 where
   pub sets : List (List ℕ)
   pub said : AreSetsIn sets sharing
   pub spread : Spread
@@ -86,8 +86,8 @@ pub record ShowsSpread (limits : Bounds) (sharing : Sharing) (aim : Status) (byt
   pub spelled : bytes ≡ spread_text sharing.input.problem spread
   pub back : IfSome (shared_costs spread) (IsSpreadBack sharing.input sets bytes)
 
--- `spread`: spread-fit costs; or that there are none; or that the budget was used up
-abbrev pub MaySpread : Bounds → Sharing → Status → List ℕ → Type 0
+-- what `spread` may write: spread-fit costs; or that there are none; or that the budget was used up
+abbrev pub MaySpread : SearchLimits → Sharing → Status → List ℕ → Type 0
 MaySpread limits sharing status.Done bytes = ShowsSpread limits sharing status.Done bytes
 MaySpread limits sharing status.Impossible bytes = ShowsSpread limits sharing status.Impossible bytes
 MaySpread limits sharing status.Undecided bytes = ShowsSpread limits sharing status.Undecided bytes

@@ -26,16 +26,16 @@ use spf_ties::Room;
 use std::alloc::Global;
 use text_lines::{push_bytes, push_number};
 
-/// What is found of a wanted path in an area of which edges are gone.
+/// What is found of a wanted path in an area of which edges are excluded.
 #[derive(Clone, Copy, Debug, PartialEq, Eq)]
 pub(crate) enum LivePath {
-    /// No edge of it is gone: how it stands in what is left.
+    /// No edge of it is excluded: how it stands in what is left.
     Stands(AuditedPath),
-    /// An edge of it is gone: the least cost of its request in what is left, if it has a path there.
+    /// An edge of it is excluded: the least cost of its request in what is left, if it has a path there.
     Gone(Option<u128>),
 }
 
-/// Whether none of the edges is gone.
+/// Whether none of the edges is excluded.
 fn is_left(gone: &Removal<'_>, edges: &[u32]) -> bool
     ensures { IsTrue result ↔ Avoids gone.now edges.now }
 {
@@ -47,7 +47,7 @@ fn is_left(gone: &Removal<'_>, edges: &[u32]) -> bool
     true
 }
 
-/// A request in what is left without some edges.
+/// A request that excludes these edges too.
 fn left_without(
     alloc: Global,
     gone: &Removal<'_>,
@@ -85,7 +85,7 @@ fn least_left(graph: &Graph, request: &Request, point: &Point, room: &mut Room) 
     room.distance(request.path.start)
 }
 
-/// What is found of a wanted path where edges are gone.
+/// What is found of a wanted path where edges are excluded.
 fn found_live(
     alloc: Global,
     graph: &Graph,
@@ -111,7 +111,7 @@ fn found_live(
     }
 }
 
-/// What is found of the wanted paths of a problem without variables where edges are gone.
+/// What is found of the wanted paths of a problem without variables where edges are excluded.
 fn audit_left(
     alloc: Global,
     problem: &Problem,
@@ -152,7 +152,7 @@ fn audit_running(
     audit_left(alloc, problem, &gone)
 }
 
-/// The line of a path, by its number, of which an edge is gone.
+/// The line of a path, by its number, of which an edge is excluded.
 fn gone_line(alloc: Global, number: usize, least: Option<u128>) -> Result<Vec<u8>, OutOfMemory>
     ensures { IfOk result (λ line. line.items ≡ live_line number (LivePath.Gone least)) }
 {
@@ -222,9 +222,9 @@ fn report_of_running<'a>(
     Ok(Report::made(Status::Done, text))
 }
 
-/// The report of an audit of an area as it runs: of the files of words, and then of the live file, which says the metrics of
-/// the links that stand in place of present costs. A linked interface without a link is gone, with its link in both directions.
-/// There is a line for each wanted path.
+/// The report of an audit of an area as it runs: of the files of words, and then of the live file, which says the
+/// metrics of the links that stand in place of present costs. The edges of a linked interface without a link are
+/// excluded, in both directions. There is a line for each wanted path.
 ///
 /// # Errors
 ///

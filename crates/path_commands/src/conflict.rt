@@ -1,6 +1,6 @@
 //! `conflict`: a least conflict among the requests of the files of words.
 ghost use Rattle.std.specs.Prelude.{◌≡◌, ◌⊎◌, ℕ, ◌≤◌, List, IfErr, IfOk};
-ghost use Rattle.command_words.specs.Jobs.{bounds};
+ghost use Rattle.command_words.specs.Jobs.{limits_seen};
 ghost use Rattle.input_files.specs.Readings.{Gave};
 ghost use Rattle.input_files.specs.Outcomes.{outcome};
 ghost use Rattle.input_files.specs.Stops.{IsReadAs, files_named};
@@ -63,7 +63,7 @@ pub fn conflict_report<'a, S: Shelf>(
     requires itself { limits.now ≡ limits.now }
     ensures read { Gave (S.gave shelf.old shelf.new) (λ came. IsReadAs
         (outcome View.AsRequested (files_named words.entry)) came
-        (λ report d. MayConflict (bounds limits.now) d report.status (bytes_in report.text) ×
+        (λ report d. MayConflict (limits_seen limits.now) d report.status (bytes_in report.text) ×
         TellsConflict d.problem (AreAskedFinding ⟦<dyn Advisor as Advisor>⟧ (λ b. b.vtable)
         (λ b. state b) d.problem limits.now.top limits.now.nodes advisors.old.items
         advisors.new.items) (bytes_in report.text)) result) }

@@ -1,6 +1,6 @@
 //! `spread`: traffic over exactly the wanted paths, in the sets that a file says.
 ghost use Rattle.std.specs.Prelude.{◌≡◌, ℕ, List, IfOk};
-ghost use Rattle.command_words.specs.Jobs.{bounds};
+ghost use Rattle.command_words.specs.Jobs.{limits_seen};
 ghost use Rattle.input_files.specs.Readings.{Gave};
 ghost use Rattle.input_files.specs.Stops.{IsReadAs, files_named};
 ghost use Rattle.report_writer.specs.Reports.{Reports, bytes_in};
@@ -56,7 +56,7 @@ pub fn spread_report<'a, S: Shelf>(
 ) -> Result<Report, Stop<'a>>
     ensures { Gave (S.gave shelf.old shelf.new) (λ came. IsReadAs
         (spread_read (files_named words.entry) sets.now) came
-        (λ report sharing. MaySpread (bounds limits.now) sharing report.status
+        (λ report sharing. MaySpread (limits_seen limits.now) sharing report.status
         (bytes_in report.text)) result) }
 {
     let problem = read_problem(alloc, View::AsRequested, words, shelf)?;

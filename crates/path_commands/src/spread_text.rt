@@ -51,7 +51,7 @@ fn set_row_line(alloc: Global, row: &SetRow) -> Result<Vec<u8>, OutOfMemory>
     ensures { IfOk result (λ line. line.items ≡ set_row_line row.now) }
 {
     match row {
-        SetRow::Rival(set, rival) => rival_line(alloc, *set, rival.edges.as_slice()),
+        SetRow::Rival(set, rival) => rival_line(alloc, *set, rival.as_slice()),
         SetRow::Same(set, first, other) => same_line(alloc, *set, *first, *other),
     }
 }

@@ -20,7 +20,7 @@ use Rattle.lsdb_build.specs.Graphs.{Database, IsAreaDatabase, IsDatabaseLink, gr
 use Rattle.lsdb_build.proofs.Pairs.{all_at}
 use Rattle.design_problem.specs.declared.problem.VarName.{VarName}
 use Rattle.design_problem.specs.declared.problem.Request.{Request}
-use Rattle.design_problem.specs.Problems.{IsProblem, TakesAway, request_ends}
+use Rattle.design_problem.specs.Problems.{IsProblem, MayBeExcluded, request_ends}
 use Rattle.request_reader.specs.declared.Part.{Part}
 use Rattle.request_reader.specs.declared.Directive.{Directive}
 use Rattle.request_reader.specs.declared.Directive.TheVariants.{FreeAll, Free, Fix, Path, SymmetricAll, Symmetric}
@@ -213,7 +213,7 @@ avoids_taken d g parts (e ∷ es) none within =
 -- what a wanted path gives
 record IsGood (g : Area) (request : Request) : Type 0 where
   path : IsPathOf g (request_ends request) request.path.edges
-  excluded : TakesAway g request.excluded
+  excluded : MayBeExcluded g request.excluded
 
 path_good : (d : Database) (prices : List Price) (line : ℕ) (route : Route) (parts : List Part) → IsAreaDatabase d →
     length prices ≡ length d.links → directive_faults d line (Path route parts) ≡ [] →
@@ -326,7 +326,7 @@ whole_is_problem a d asked base lines ends few =
     let vars = names_from a d 0 d.links in
     record {
       paths = All-weaker (IsGood g) (λ r. IsPathOf g (request_ends r) r.path.edges) (λ r is. is.path) requests good;
-      excluded = All-weaker (IsGood g) (λ r. TakesAway g r.excluded) (λ r is. is.excluded) requests good;
+      excluded = All-weaker (IsGood g) (λ r. MayBeExcluded g r.excluded) (λ r is. is.excluded) requests good;
       low_count = low_count ∙ sym high_count;
       var_count = omega (arith, low_count);
       ordered = λ k within. ordered_at k (omega (arith, low_count));

@@ -47,12 +47,12 @@ ties_different a d SymmetricAll = list_any (ends_differ a d) d.links
 ties_different a d (Symmetric router interface) = ends_differ_at a d (slice_get d.links (link_number d router interface))
 ties_different a d _ = false
 
--- the `symmetric` lines that tie links with different ranges
+-- the faults of the `symmetric` lines that tie links with different ranges
 abbrev pub ends_faults : Asked → Database → List Item → List ResolutionFault
 ends_faults a d [] = []
 ends_faults a d (item ∷ items) = fault_unless (not (ties_different a d item.what)) (EndsDiffer item.line) ++ ends_faults a d items
 
--- more than 1,000 variables
+-- the fault of requests that make more than 1,000 variables
 abbrev pub variable_faults : Asked → Database → List ResolutionFault
 variable_faults a d = fault_unless (nat_le (length (owners a d)) 1000) TooManyVariables
 
@@ -65,13 +65,13 @@ lacks_cost a link AsItIs = is_missing link.cost a.default_cost
     is_missing None None = true
     is_missing _ _ = false
 
--- the fixed links without a cost, from number l on
+-- the faults of the fixed links without a cost, from number l on
 abbrev pub cost_faults : Asked → Database → ℕ → List Linked → List ResolutionFault
 cost_faults a d l [] = []
 cost_faults a d l (link ∷ links) =
     (if lacks_cost a link (range_of a d link) then NoCost l ∷ [] else []) ++ cost_faults a d (l + 1) links
 
--- after all lines: different ends, then too many variables, then links without a cost
+-- the faults after all lines: different ends, then too many variables, then links without a cost
 abbrev pub whole_faults : Asked → Database → List ResolutionFault
 whole_faults a d = ends_faults a d a.items ++ variable_faults a d ++ cost_faults a d 0 d.links
 
@@ -96,7 +96,7 @@ says_freedom _ = false
 abbrev pub present_asked : Asked → Asked
 present_asked a = record a { items = filter (λ item. not (says_freedom item.what)) a.items }
 
--- each line is looked up as before, and then each link needs a cost
+-- the first fault of the present network: names and paths are looked up line by line, and then each link needs a cost
 abbrev pub present_fault : Asked → Database → Option ResolutionFault
 present_fault a d = first_of (line_faults d a.items ++ cost_faults (present_asked a) d 0 d.links)
 

@@ -1,6 +1,7 @@
 //! The prices and the names of links, and the problem that is made of them.
 ghost use Rattle.std.specs.Prelude.{◌≡◌, ◌<◌, ◌≤◌, ◌^◌, ◌++◌, ◌∷◌, [], Some, nat_lt, if◌then◌else◌, length, slice_get, slice_index_or, IfOk, OnOk};
 ghost use Rattle.std.specs.List.{filter_map};
+ghost use Rattle.lsdb_build.specs.Graphs.{graph_at};
 ghost use Rattle.path_requests.specs.Meaning.{range_of, is_free, owners, variable_of, present_cost, price_of, prices_from, names_from, problem_of};
 ghost use Rattle.wanted_paths.specs.Paths.{request_of};
 ghost use Rattle.wanted_paths.specs.LineFaults.{line_faults};
@@ -10,7 +11,7 @@ ghost use Rattle.wanted_paths.specs.Paths.{outline};
 use crate::choices::Choices;
 use crate::ranges::Range;
 use crate::variables::{high_bounds, is_free, low_bounds, owner};
-use area_graph::Price;
+use area_graph::{Graph, Price};
 use cost_base::{Listed, Name, OutOfMemory};
 use design_problem::{Problem, Request, VarName};
 use lsdb_build::Linked;
@@ -100,7 +101,9 @@ impl<'a> Numbering<'a> {
         made: &mut Vec<VarName>,
     ) -> Result<(), OutOfMemory>
         requires { slice_get self.now.choices.now.database.links number ≡ Some link.now }
-        ensures { OnOk result (made.new.items ≡ made.old.items ++ (if is_free (range_of self.now.choices.now.asked self.now.choices.now.database link.now) then
+        ensures { OnOk result (made.new.items ≡ made.old.items ++
+            (if is_free (range_of self.now.choices.now.asked self.now.choices.now.database
+            link.now) then
             record {
               router = slice_index_or self.now.choices.now.database.routers link.now.router [];
               interface = link.now.interface;
@@ -125,6 +128,21 @@ impl<'a> Numbering<'a> {
             self.push_name(alloc, i as u32, link, &mut made)?;
         }
         Ok(made)
+    }
+
+    /// The graph of the area at the prices of its links.
+    fn priced_graph(&self, alloc: Global) -> Result<Graph, OutOfMemory>
+        requires { cost_faults self.now.choices.now.asked self.now.choices.now.database 0
+            self.now.choices.now.database.links ≡ [] }
+        ensures { IfOk result (λ graph. graph ≡ graph_at self.now.choices.now.database
+            (prices_from self.now.choices.now.asked self.now.choices.now.database 0
+            self.now.choices.now.database.links)) }
+    {
+        // For the prover: what the types of requests and of an area keep is known once their parts are read.
+        let _requests = self.choices.requests();
+        let _links = self.choices.links();
+        let prices = self.prices(alloc)?;
+        self.choices.names().graph(alloc, prices.as_slice())
     }
 }
 
@@ -153,8 +171,7 @@ pub fn assemble(
     let _requests = choices.requests();
     let _links = choices.links();
     let numbering = Numbering { choices, own };
-    let prices = numbering.prices(alloc)?;
-    let graph = choices.names().graph(alloc, prices.as_slice())?;
+    let graph = numbering.priced_graph(alloc)?;
     let vars = numbering.var_names(alloc)?;
     let low = low_bounds(alloc, choices, own)?;
     let high = high_bounds(alloc, choices, own)?;

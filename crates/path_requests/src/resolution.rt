@@ -90,8 +90,53 @@ fn resolve_whole(
     resolve_choices(alloc, &choices, paths)
 }
 
+/// The paths of requests, whose lines have no fault; the first fault of a line.
+fn resolve_paths(
+    alloc: Global,
+    names: &Names,
+    requests: &RequestFile,
+) -> Result<Vec<Request>, Refusal<ResolutionFault, ()>>
+    ensures made { IfOk result (λ made. (line_faults names.now requests.now.items ≡ []) ×
+        (made.items ≡ filter_map (λ item. request_of names.now (outline names.now) item.what)
+        requests.now.items)) }
+    ensures refused { IfErr result
+        (TellsResolution (first_of (line_faults names.now requests.now.items))) }
+{
+    let outline = names.outline(alloc)?;
+    resolve_lines(alloc, names, &outline, items(requests))
+}
+
+/// `resolve` with the names of the area.
+fn resolve_named(
+    alloc: Global,
+    names: &Names,
+    requests: &RequestFile,
+) -> Result<Problem, Refusal<ResolutionFault, ()>>
+    ensures made { IfOk result (λ p. (resolution_fault requests.now names.now ≡ None) ×
+        (p ≡ problem_of requests.now names.now)) }
+    ensures refused { IfErr result (TellsResolution (resolution_fault requests.now names.now)) }
+{
+    let paths = resolve_paths(alloc, names, requests)?;
+    resolve_whole(alloc, names, requests, paths)
+}
+
+/// `resolve_present` with the names of the area.
+fn present_named(
+    alloc: Global,
+    names: &Names,
+    requests: &RequestFile,
+) -> Result<Problem, Refusal<ResolutionFault, ()>>
+    ensures made { IfOk result (λ p. (present_fault requests.now names.now ≡ None) ×
+        (p ≡ present_problem_of requests.now names.now)) }
+    ensures refused { IfErr result (TellsResolution (present_fault requests.now names.now)) }
+{
+    let paths = resolve_paths(alloc, names, requests)?;
+    check_present(names, requests)?;
+    Ok(assemble_present(alloc, names, requests, paths)?)
+}
+
 /// The problem that requests make of an area's routers and links: free interfaces have variables, and each wanted
-/// path is one of the area's graph (RFC 2328, 16.1), with the edges that its line takes away.
+/// path is one of the area's graph (RFC 2328, 16.1), with the edges that its line excludes.
 ///
 /// # Errors
 ///
@@ -109,9 +154,7 @@ pub fn resolve(
     ensures refused { IfErr result (TellsResolution (resolution_fault requests.now lsdb.now)) }
 {
     let names = Names::new(alloc, lsdb)?;
-    let outline = names.outline(alloc)?;
-    let paths = resolve_lines(alloc, &names, &outline, items(requests))?;
-    resolve_whole(alloc, &names, requests, paths)
+    resolve_named(alloc, &names, requests)
 }
 
 /// The problem in which every interface is fixed at its present cost, or at the default, whatever the requests free:
@@ -131,8 +174,5 @@ pub fn resolve_present(
     ensures refused { IfErr result (TellsResolution (present_fault requests.now lsdb.now)) }
 {
     let names = Names::new(alloc, lsdb)?;
-    let outline = names.outline(alloc)?;
-    let paths = resolve_lines(alloc, &names, &outline, items(requests))?;
-    check_present(&names, requests)?;
-    Ok(assemble_present(alloc, &names, requests, paths)?)
+    present_named(alloc, &names, requests)
 }

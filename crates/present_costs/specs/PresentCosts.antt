@@ -16,7 +16,7 @@ abbrev pub faults_beside_present : Asked → Database → List ResolutionFault
 faults_beside_present a d =
     line_faults d a.items ++ ends_faults a d a.items ++ variable_faults a d ++ cost_faults (present_asked a) d 0 d.links
 
--- the first of them
+-- the first fault of requests beside present costs
 abbrev pub fault_beside_present : Asked → Database → Option ResolutionFault
 fault_beside_present a d = first_of (faults_beside_present a d)
 
@@ -26,6 +26,10 @@ costs_of_variable a d k l [] = []
 costs_of_variable a d k l (link ∷ links) =
     (if is_free (range_of a d link) && variable_of a d l == k then present_cost a link ∷ [] else [])
     ++ costs_of_variable a d k (l + 1) links
+
+-- the present cost of each link, in order: its own, else the default
+abbrev pub present_of_links : Asked → Database → List ℕ
+present_of_links a d = map (present_cost a) d.links
 
 -- the cost that all of some costs are, where there is one
 abbrev pub common_cost : List ℕ → Option ℕ

@@ -7,4 +7,4 @@ mod variables;
 
 pub use beside::resolve_beside_present;
 pub use links::{costs_of_links, priced_by_links};
-pub use variables::present_of_variables;
+pub use variables::{present_of_variables, price_of_link};

@@ -41,8 +41,8 @@ fn noted_with(noted: Noted, cost: u16) -> Noted
     }
 }
 
-/// The price of the link of a number.
-fn price_of_link(graph: &Graph, number: u32) -> Price
+/// The price of the link of a number, in the graph of a database. Takes no memory.
+pub fn price_of_link(graph: &Graph, number: u32) -> Price
     ensures { result ≡ (edge_at graph.now number).price }
 {
     match graph.edges().get(number as usize) {

@@ -94,21 +94,21 @@ words_short request es few small count =
     let words = spaced-le (codes "row" ∷ decimal request ∷ map decimal es) in
     omega (arith, thing_digits request few, edges_room es small)
 
-route : (p : DesignProblem) (row : Row) → IsRow p row → IsRouteOf p.graph (slice_get p.paths row.request) row.rival.edges
+route : (p : DesignProblem) (row : Row) → IsRow p row → IsRouteOf p.graph (slice_get p.paths row.request) row.rival
 route p row is_row = go (slice_get p.paths row.request) is_row
   where
-    go : (r : Option Request) → IsRivalOf p.graph r row.rival.edges → IsRouteOf p.graph r row.rival.edges
+    go : (r : Option Request) → IsRivalOf p.graph r row.rival → IsRouteOf p.graph r row.rival
     go None rival = absurd rival
     go (Some r) rival = rival.0
 
 row_short : (p : DesignProblem) (row : Row) → IsProblem p → FitsGraph p.graph → IsRow p row → IsTextLine (row_line row)
 row_short p row kept graph is_row =
-    let found = request_of_route p.graph p.paths row.request no_request row.rival.edges (route p row is_row) in
+    let found = request_of_route p.graph p.paths row.request no_request row.rival (route p row is_row) in
     let ends = request_ends (get_or p.paths row.request no_request) in
-    let known = path-known p.graph ends row.rival.edges found.path in
-    words_short row.request row.rival.edges (omega (arith, found.within, kept.path_count)) (λ k d k_in. let below =
+    let known = path-known p.graph ends row.rival found.path in
+    words_short row.request row.rival (omega (arith, found.within, kept.path_count)) (λ k d k_in. let below =
     known k d k_in in omega (arith, graph.edge_count))
-    (path_edges-le p.graph ends row.rival.edges graph found.path)
+    (path_edges-le p.graph ends row.rival graph found.path)
 
 -- the lines of a problem's rows
 pub rows_short : (p : DesignProblem) (rows : List Row) → IsProblem p → FitsGraph p.graph → All (IsRow p) rows → All (λ row. IsTextLine (row_line row)) rows

@@ -33,7 +33,7 @@ is_row_named entries row = list_any (names row) entries
 abbrev pub is_row_named_in : List (List Entry) → ℕ → Bool
 is_row_named_in trees row = list_any (λ tree. is_row_named tree row) trees
 
--- the property holds of each row that is named
+-- a property holds of the row that a member of a basis is, where it is a row
 abbrev pub EachMember : (ℕ → Type 0) → Member → Type 0
 EachMember P (ByLow var value) = Unit {0}
 EachMember P (ByHigh var value) = Unit {0}
@@ -47,7 +47,7 @@ EachNamed P (Halve var value wide) = All (EachMember P) wide.basis
 EachNamed P (Refute parts) = All (λ part. P part.0) parts
 EachNamed P Undone = Unit {0}
 
--- the rows that are named stand below a count
+-- the row that a member of a basis is, where it is a row, stands below a count
 abbrev pub MemberBelow : ℕ → Member → Type 0
 MemberBelow n member = EachMember (λ row. row < n) member
 
@@ -60,7 +60,7 @@ abbrev pub TreeNamesBelow : ℕ → Option CapTree → Type 0
 TreeNamesBelow n None = Unit {0}
 TreeNamesBelow n (Some t) = All (NamesBelow n) t.tree
 
--- a row below a count that passes the test
+-- a row stands below a count and passes a test
 abbrev pub IsKnown : (ℕ → Bool) → ℕ → ℕ → Type 0
 IsKnown named n row = (row < n) × (named row ≡ true)
 
@@ -77,7 +77,7 @@ abbrev pub TreeNamesKnown : (ℕ → Bool) → ℕ → Option CapTree → Type 0
 TreeNamesKnown named n None = Unit {0}
 TreeNamesKnown named n (Some t) = All (NamesKnown named n) t.tree
 
--- the entries of a tree, if there is one
+-- the entries of a tree at a cap; none where there is no tree
 abbrev pub entries_in : Option CapTree → List Entry
 entries_in None = []
 entries_in (Some t) = t.tree

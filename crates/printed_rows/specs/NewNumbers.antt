@@ -11,17 +11,17 @@ use Rattle.printed_rows.specs.NamedRows.{entries_in, is_row_named, is_row_named_
 abbrev pub is_marked : List Bool → ℕ → Bool
 is_marked marks row = slice_index_or marks row false
 
--- the old marks, and besides those of the rows that pass the test
+-- marks of rows to which those of the rows that pass a test were added
 pub record AreMarked (test : ℕ → Bool) (old new : List Bool) : Type 0 where
   pub counted : length new ≡ length old
   pub marked : (row : ℕ) → is_marked new row ≡ (is_marked old row || test row)
 
--- the rows that pass the test, in their order, where the first row has this number
+-- the rows that pass a test, in their order, where the first row has this number
 abbrev pub kept_from : {R : Type 0} → (ℕ → Bool) → ℕ → List R → List R
 kept_from named first [] = []
 kept_from named first (row ∷ rows) = if named first then row ∷ kept_from named (suc first) rows else kept_from named (suc first) rows
 
--- the rows that pass the test, in their order
+-- the rows that pass a test, in their order
 abbrev pub kept_rows : {R : Type 0} → (ℕ → Bool) → List R → List R
 kept_rows named rows = kept_from named 0 rows
 
@@ -50,18 +50,18 @@ KeepsOrder number (Halve var value wide) = Unit {0}
 KeepsOrder number (Refute parts) = PartsKeepOrder number parts
 KeepsOrder number Undone = Unit {0}
 
--- the entries with the new numbers of the rows that are kept
+-- the entries of a tree with the new numbers of the rows that pass the test
 abbrev pub with_new_numbers : (ℕ → Bool) → List Entry → List Entry
 with_new_numbers named entries = map (renumbered (new_number named)) entries
 
--- the tree at the same cap with these numbers, if there is one
+-- a tree at a cap, if there is one, with its rows' new numbers at the same cap
 abbrev pub HasNumbers : (ℕ → ℕ) → Option CapTree → Option CapTree → Type 0
 HasNumbers number None None = Unit {0}
 HasNumbers number (Some t) (Some u) = (u.cap ≡ t.cap) × (u.tree ≡ map (renumbered number) t.tree)
 HasNumbers number None (Some u) = ⊥
 HasNumbers number (Some t) None = ⊥
 
--- the rows that pass the test, in their order, fewer than 2^64
+-- the rows that pass a test, in their order, where they are fewer than 2^64
 pub record AreKept {R : Type 0} (named : ℕ → Bool) (old rows : List R) : Type 0 where
   pub same : rows ≡ kept_rows named old
   pub few : length rows < 2 ^ 64

@@ -129,8 +129,8 @@ pub rows_lack : (rows : List Row) → all_lack_end (map row_line rows) ≡ true
 rows_lack [] = refl
 rows_lack (row ∷ rows) =
     all_cons (row_line row) (map row_line rows)
-    (spaced_lacks (codes "row" ∷ decimal row.request ∷ map decimal row.rival.edges)
-    (decimals_lack (row.request ∷ row.rival.edges))) (rows_lack rows)
+    (spaced_lacks (codes "row" ∷ decimal row.request ∷ map decimal row.rival)
+    (decimals_lack (row.request ∷ row.rival))) (rows_lack rows)
 
 pub tree_lacks : (word : List ℕ) (tree : Option CapTree) → lacks_end word ≡ true → all_lack_end (tree_lines word tree) ≡ true
 tree_lacks word None lacks = all_cons (spaced (word ∷ codes "none" ∷ [])) []

@@ -25,6 +25,6 @@ SectionsReadBack view =
     EndsAs (outcome view names) came (Says d) → HasSections chosen d text w → StandElse chosen d.asked d.database w →
     All (IsPrintable w) (names_in chosen d) → IsReadBackFor d (names_in chosen d) text w
 
--- as requested, and beside the present costs
+-- printed sections are read back in problems as requested, and in those that are beside the present costs
 abbrev pub CostsReadBack : Type 0
 CostsReadBack = SectionsReadBack AsRequested × SectionsReadBack BesidePresent

@@ -19,16 +19,16 @@ use Rattle.path_requests.specs.Meaning.{present_cost, range_of, is_free, variabl
 use Rattle.present_costs.specs.AtCosts.{graph_with}
 use Rattle.input_files.specs.Outcomes.{Input, ConfigFile}
 
--- `router NAME`
+-- whether a line opens the section of a router: `router NAME`
 abbrev pub opens_section : List ℕ → List ℕ → Bool
 opens_section name line = length (words line) == 2 && begin_with (codes "router" ∷ name ∷ []) (words line)
 
--- a `router`, a `floor` or a `rows` line
+-- whether a line ends a section: it is a `router`, a `floor` or a `rows` line
 abbrev pub ends_section : List ℕ → Bool
 ends_section line =
     begin_with (codes "router" ∷ []) (words line) || begin_with (codes "floor" ∷ []) (words line) || begin_with (codes "rows" ∷ []) (words line)
 
--- the lines up to the next such line
+-- the lines up to the next one that ends a section
 abbrev pub until_end : List (List ℕ) → List (List ℕ)
 until_end [] = []
 until_end (line ∷ more) = if ends_section line then [] else line ∷ until_end more
@@ -38,11 +38,11 @@ abbrev pub section : List ℕ → List (List ℕ) → List (List ℕ)
 section name [] = []
 section name (line ∷ more) = if opens_section name line then until_end more else section name more
 
--- a configuration, an LF where its last line lacks one, and its section of the text
+-- a configuration with the router's section of a text behind it, and an LF before that where the last line lacks one
 abbrev pub bytes_back : List ℕ → ConfigFile → List ℕ
 bytes_back text file = ended file.bytes ++ with_ends (section (config_of file.name file.bytes).name (lines text))
 
--- the router that it says
+-- the router that a configuration says with its section of a text behind it
 abbrev pub router_read_back : List ℕ → ConfigFile → Router
 router_read_back text file = config_of file.name (bytes_back text file)
 
@@ -59,7 +59,7 @@ abbrev pub graph_back : Input → List ℕ → Area
 graph_back d text =
     graph_at (database_back d text) (map (λ link. Fixed (present_cost d.asked link)) (database_back d text).links)
 
--- the cost of the last variable of this name, or the one of before
+-- the cost of the last variable that names an interface of a router; the given one where no variable does
 abbrev pub cost_named : List ℕ → List VarName → List ℕ → List ℕ → Option ℕ → Option ℕ
 cost_named w [] router interface before = before
 cost_named w (name ∷ names) router interface before =
@@ -78,7 +78,7 @@ router_with w names r = record r { interfaces = map (interface_with w names r.na
 abbrev pub is_chosen : (ℕ → Linked → Bool) → Asked → Database → ℕ → Linked → Bool
 is_chosen chosen a d l link = is_free (range_of a d link) && chosen l link
 
--- the free interfaces that are chosen, from link l on: all, or those whose costs change
+-- the names of the free interfaces that are chosen, from link l on
 abbrev pub names_where : (ℕ → Linked → Bool) → Asked → Database → ℕ → List Linked → List VarName
 names_where chosen a d l [] = []
 names_where chosen a d l (link ∷ links) =
@@ -90,21 +90,21 @@ names_where chosen a d l (link ∷ links) =
     } ∷ [] else [])
     ++ names_where chosen a d (l + 1) links
 
--- the interfaces and costs of a router's lines
+-- the interfaces and costs of those of some cost lines that are a router's
 abbrev pub pairs_of : List ℕ → List CostLine → List (List ℕ × ℕ)
 pairs_of router [] = []
 pairs_of router (line ∷ lines) =
     if same_bytes router line.router then (line.interface, line.cost) ∷ pairs_of router lines else pairs_of router lines
 
--- the free interfaces of the input that are chosen
+-- the names of the free interfaces of an input that are chosen
 abbrev pub names_in : (ℕ → Linked → Bool) → Input → List VarName
 names_in chosen d = names_where chosen d.asked d.database 0 d.database.links
 
--- the cost of a variable is one of an interface
+-- the cost of a named variable is one that an interface may have: from 1 to 65,535
 abbrev pub IsPrintable : List ℕ → VarName → Type 0
 IsPrintable w name = (1 ≤ slice_index w name.var) × (slice_index w name.var ≤ 65535)
 
--- every other free interface has the cost of its variable at present
+-- every free interface that isn't chosen has the cost of its variable at present
 abbrev pub StandElse : (ℕ → Linked → Bool) → Asked → Database → List ℕ → Type 0
 StandElse chosen a d w =
     (l : ℕ) (link : Linked) → slice_get d.links l ≡ Some link → is_free (range_of a d link) ≡ true → chosen l link ≡ false →
@@ -119,6 +119,6 @@ pub record IsReadBackFor (d : Input) (names : List VarName) (text w : List ℕ) 
   pub faultless : topology_fault d.asked.area (routers_back text d.files) ≡ None
   pub graph : graph_back d text ≡ graph_with w d.problem.graph
 
--- the costs of all free interfaces are read back
+-- the costs of all free interfaces are read back from the configurations with their sections of a text
 abbrev pub IsReadBack : Input → List ℕ → List ℕ → Type 0
 IsReadBack d text w = IsReadBackFor d d.problem.vars text w

@@ -8,7 +8,8 @@ use Rattle.cost_base.specs.Words.{ends_a_word, is_blank}
 use Rattle.text_lines.proofs.WordLaws.{decimal-word}
 use Rattle.text_lines.specs.Numbers.{split}
 use Rattle.text_lines.proofs.Pieces.{parts_at}
-use Rattle.refusal_sentences.specs.Sentences.{HasNoSpace, told_line}
+use Rattle.cost_base.specs.Words.{HasNoSpace}
+use Rattle.refusal_sentences.specs.Sentences.{told_line}
 
 -- the first piece of a text with a space
 split-front : (word rest : List ℕ) → HasNoSpace word → split 32 (word ++ 32 ∷ rest) ≡ word ∷ split 32 rest

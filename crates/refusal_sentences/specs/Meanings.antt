@@ -123,7 +123,7 @@ pub record Meant : Type 0 where
   pub place : Place
   pub says : List ℕ
 
--- a meaning, as it is read
+-- what a number means, as a value of the code tells it
 abbrev pub meant_in : Meaning → Meant
 meant_in meaning = record { place = meaning.place; says = meaning.says.now }
 

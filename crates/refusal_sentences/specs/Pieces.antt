@@ -2,7 +2,7 @@
 use Rattle.std.specs.Prelude.{◌≡◌, ◌⊎◌, ℕ, List, [], true, false}
 use Rattle.refusal_sentences.specs.declared.first_piece.FirstPiece.{FirstPiece}
 
--- what is kept
+-- the bytes that a sink of the first piece keeps
 abbrev pub kept : {K : Type 0} → FirstPiece K → List ℕ
 kept sink = sink.first.items
 

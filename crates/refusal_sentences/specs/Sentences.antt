@@ -1,5 +1,5 @@
 -- The line of a refusal, and what it means in a sentence.
-use Rattle.std.specs.Prelude.{◌≡◌, ℕ, List, [], ◌∷◌, ◌++◌, ◌==◌, if◌then◌else◌, false, All, Option, None, Some, IsSomeAnd, codes}
+use Rattle.std.specs.Prelude.{◌≡◌, ℕ, List, [], ◌∷◌, ◌++◌, if◌then◌else◌, Option, None, Some, IsSomeAnd, codes}
 use denote.Ref.{Bor}
 use Rattle.std.specs.List.{concat, join_with_byte}
 use Rattle.std.specs.Option.{option_map, option_copied}
@@ -16,11 +16,7 @@ told_line number (Some file) place =
     join_with_byte 32 (codes "refused" ∷ decimal number ∷ file ∷ decimal place ∷ []) ++ 10 ∷ []
 told_line number None place = join_with_byte 32 (codes "rejected" ∷ decimal number ∷ decimal place ∷ []) ++ 10 ∷ []
 
--- bytes among which there is no space
-abbrev pub HasNoSpace : List ℕ → Type 0
-HasNoSpace bytes = All (λ c. (c == 32) ≡ false) bytes
-
--- these two texts were found
+-- a text was cut in two, and these are the two parts
 abbrev pub IsCutIn : List ℕ → List ℕ → Option (Bor (List ℕ) × Bor (List ℕ)) → Type 0
 IsCutIn one other found = IsSomeAnd found (λ pair. (pair.0.now ≡ one) × (pair.1.now ≡ other))
 
@@ -41,7 +37,7 @@ word_before Row place = Some (codes "row")
 word_before TreeLine place = Some (codes "tree line")
 word_before Nothing place = None
 
--- `FILE, line 12: it means this`, without the parts that there aren't
+-- the sentence on a refusal, `FILE, line 12: it means this`, without the parts that there aren't
 abbrev pub sentence : Option (List ℕ) → Option (List ℕ) → List ℕ → List ℕ → List ℕ
 sentence (Some file) (Some word) place says =
     concat (file ∷ codes ", " ∷ word ∷ codes " " ∷ place ∷ codes ": " ∷ says ∷ [])
@@ -49,7 +45,7 @@ sentence (Some file) None place says = concat (file ∷ codes ": " ∷ says ∷ 
 sentence None (Some word) place says = concat (word ∷ codes " " ∷ place ∷ codes ": " ∷ says ∷ [])
 sentence None None place says = says
 
--- what a number means in a file, where one is named, and at the place whose number is printed so
+-- the sentence on a refusal by its number, the file that it names, and the printed number of its place
 abbrev pub sentence_by : ℕ → Option (List ℕ) → List ℕ → Option (List ℕ)
 sentence_by number file place =
     option_map (λ meant. sentence file (word_before meant.place place) place meant.says) (meant_by number)

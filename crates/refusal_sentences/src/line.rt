@@ -2,7 +2,8 @@
 
 ghost use Rattle.std.specs.Prelude.{◌≡◌, ◌<◌, ◌∷◌, ◌++◌, [], ℕ, List, IsSomeAnd, Option, None, Some};
 ghost use Rattle.cost_base.specs.Decimal.{decimal};
-ghost use Rattle.refusal_sentences.specs.Sentences.{HasNoSpace, IsParted, IsCutIn, told_line};
+ghost use Rattle.cost_base.specs.Words.{HasNoSpace};
+ghost use Rattle.refusal_sentences.specs.Sentences.{IsParted, IsCutIn, told_line};
 
 use memchr::memrchr;
 use text_lines::{cut, printed_number};

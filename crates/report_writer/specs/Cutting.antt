@@ -8,7 +8,7 @@ use Rattle.report_writer.specs.declared.report.Pieces.TheVariants as kind
 use Rattle.report_writer.specs.declared.report.Text.{Text}
 use Rattle.report_writer.specs.declared.report.Text.TheVariants.{Made, Fixed, Lsas}
 
--- the place behind the first LF, or the end where there is none
+-- the place behind the first LF of a text, from the LF's place and the text's length; the end where there is no LF
 abbrev pub end_of_first_line : Option ℕ → ℕ → ℕ
 end_of_first_line None all = all
 end_of_first_line (Some place) all = place + 1
@@ -21,7 +21,7 @@ line_size text = end_of_first_line (position (λ byte. byte == 10) text) (length
 abbrev pub lsa_size : List ℕ → ℕ
 lsa_size bytes = min (max 20 (256 * slice_index bytes 18 + slice_index bytes 19)) (length bytes)
 
--- how long the first piece of such a text is
+-- how long the first piece of a text of lines, or of LSAs, is
 abbrev pub piece_size : Pieces → List ℕ → ℕ
 piece_size kind.Lines = line_size
 piece_size kind.Lsas = lsa_size
@@ -49,7 +49,7 @@ pub record ArePutOf {K : Type 0} (handed : K → K → List ℕ → Type 0) (bef
   pub given : AreHanded handed before pieces now
   pub cut : AreCutOff size pieces text left
 
--- it was handed some pieces of a text, and of the next one it took a prefix
+-- the sink was handed some pieces of a text one after another, and of the next one a prefix
 pub record IsCutShort {K : Type 0} (handed : K → K → List ℕ → Type 0) (before now : K) (size : List ℕ → ℕ)
     (text : List ℕ) : Type 0 where
   pub left : List ℕ
@@ -58,7 +58,7 @@ pub record IsCutShort {K : Type 0} (handed : K → K → List ℕ → Type 0) (b
   pub length : ℕ
   pub part : handed middle now (take length (take (size left) left))
 
--- a text was handed over whole, or cut short by a fault
+-- a text was handed over whole, piece by piece, or was cut short by a fault
 abbrev pub IsPutInPieces : {K T E : Type 0} → (K → K → List ℕ → Type 0) → K → K → (List ℕ → ℕ) → List ℕ → Result T E → Type 0
 IsPutInPieces handed before now size text (Ok x) = ArePutOf handed before now size text []
 IsPutInPieces handed before now size text (Err e) = IsCutShort handed before now size text

@@ -13,13 +13,13 @@ use Rattle.report_writer.specs.declared.report.Text.{Text}
 use Rattle.report_writer.specs.declared.report.Text.TheVariants.{Made, Fixed, Lsas}
 use Rattle.report_writer.specs.Texts.{refused_line, read_fault_line}
 
--- the bytes of a text
+-- the bytes of a report's text
 abbrev pub bytes_in : Text → List ℕ
 bytes_in (Made bytes) = bytes.items
 bytes_in (Fixed text) = text.now
 bytes_in (Lsas bytes) = bytes.items
 
--- a report of this status and text
+-- the report has this status and this text
 pub record Reports (aim : Status) (bytes : List ℕ) (report : Report) : Type 0 where
   pub status : report.status ≡ aim
   pub text : bytes_in report.text ≡ bytes
@@ -30,7 +30,7 @@ ReportsStop (Refused number file line) made = IfOk made (Reports status.InputRef
 ReportsStop (ReadFault file) made = IfOk made (Reports status.ReadFault (read_fault_line file.now))
 ReportsStop NoMemory made = IfOk made (λ report. ⊥)
 
--- a command's report, or that of what stopped it
+-- the report of a command: its own, or that of what stopped it
 abbrev pub ReportsAny : Result Report Stop → Result Report OutOfMemory → Type 0
 ReportsAny (Ok report) made = made ≡ Ok report
 ReportsAny (Err stop) made = ReportsStop stop made

@@ -6,7 +6,7 @@ use cost_base::OutOfMemory;
 use std::alloc::Global;
 use text_lines::{push_bytes, push_number};
 
-/// The line `refused NUMBER FILE LINE`.
+/// The line `refused NUMBER FILE PLACE`.
 pub(crate) fn refused_line_of(
     alloc: Global,
     number: u8,

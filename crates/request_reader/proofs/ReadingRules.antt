@@ -14,7 +14,7 @@ use Rattle.cost_base.specs.Lists.{same_bytes}
 use Rattle.text_lines.specs.Lines.{starts_comment}
 use Rattle.text_lines.specs.Numbers.{number, area}
 use Rattle.request_reader.specs.Routes.{route_of}
-use Rattle.request_reader.specs.ReadingLines.{off, header_line, area_line_by, area_line, default_cost_read, default_cost_line, bound, bounds_of, bounds_said, free_all, free_one, is_router_word, free_line, fix_line, symmetric_line, to_without, behind_without, taken_away, path_said, path_line, request_statement_by, request_statement_of}
+use Rattle.request_reader.specs.ReadingLines.{off, header_line, area_line_by, area_line, default_cost_read, default_cost_line, bound, bounds_of, bounds_said, free_all, free_one, is_router_word, free_line, fix_line, symmetric_line, to_without, behind_without, excluded_parts, path_said, path_line, request_statement_by, request_statement_of}
 use Rattle.request_reader.specs.ReadingSteps.{KeepsRules}
 
 -- bounds from 1 on that don't cross
@@ -100,7 +100,7 @@ header_keeps (a ∷ b ∷ c ∷ more) = tt
 
 path_keeps : (ws : List (List ℕ)) → KeepsRules (path_line ws)
 path_keeps [] = tt
-path_keeps (word ∷ words) = said_keeps (route_of (word ∷ to_without words)) (taken_away (behind_without words))
+path_keeps (word ∷ words) = said_keeps (route_of (word ∷ to_without words)) (excluded_parts (behind_without words))
   where
     said_keeps : (route : Option Route) (parts : Option (List Part)) → KeepsRules (path_said route parts)
     said_keeps None parts = tt

@@ -10,13 +10,13 @@ pub record Asked : Type 0 where
   pub default_cost : Option ℕ
   pub items : List Item
 
--- the bounds of a `free` line: 1 ≤ LO ≤ HI
+-- the bounds of a directive, where it is a `free` line: 1 ≤ LO ≤ HI
 abbrev pub HasGoodBounds : Directive → Type 0
 HasGoodBounds (FreeAll lo hi) = (1 ≤ lo) × (lo ≤ hi)
 HasGoodBounds (Free router interface lo hi) = (1 ≤ lo) × (lo ≤ hi)
 HasGoodBounds _ = Unit {0}
 
--- whether it is a wanted path
+-- whether a directive is a wanted path
 abbrev pub is_path_directive : Directive → Bool
 is_path_directive (Path hops without) = true
 is_path_directive _ = false

@@ -14,11 +14,11 @@ use Rattle.request_reader.specs.declared.reading.statement.Statement.TheVariants
 use Rattle.request_reader.specs.Asked.{Asked, is_path, is_path_directive}
 use Rattle.request_reader.specs.ReadingLines.{request_statement_of}
 
--- what a line says
+-- what a line of a request file says
 abbrev pub said_by_request_line : List ℕ → Statement
 said_by_request_line line = request_statement_of (words line)
 
--- the line is neither blank nor a comment
+-- a line that says this is neither blank nor a comment
 abbrev pub speaks : Statement → Bool
 speaks Passed = false
 speaks _ = true
@@ -43,7 +43,7 @@ abbrev pub items_from : ℕ → List (List ℕ) → List Item
 items_from n [] = []
 items_from n (line ∷ more) = item_in n (said_by_request_line line) ++ items_from (n + 1) more
 
--- what some lines say together
+-- what some lines say together: whether one speaks, the first area, the first default cost, and what they ask for
 pub record Told : Type 0 where
   pub spoken : Bool
   pub area : Option ℕ

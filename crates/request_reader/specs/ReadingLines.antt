@@ -102,7 +102,7 @@ abbrev pub behind_without : List (List ℕ) → Option (List (List ℕ))
 behind_without [] = None
 behind_without (word ∷ words) = if is_without word then Some words else behind_without words
 
--- an interface as a part to be taken away
+-- an interface as a part to be excluded
 abbrev pub part_of_hop : Option (List ℕ × List ℕ) → Option Part
 part_of_hop None = None
 part_of_hop (Some hop) = Some (Interface hop.0 hop.1)
@@ -115,13 +115,13 @@ part_of word = if is_router_word word then Some (Router word) else part_of_hop (
 abbrev pub parts_by_words : List (List ℕ) → Option (List Part)
 parts_by_words words = all_said part_of words
 
--- what a path takes away: nothing without the word `without`, and at least one part behind it
-abbrev pub taken_away : Option (List (List ℕ)) → Option (List Part)
-taken_away None = Some []
-taken_away (Some []) = None
-taken_away (Some (word ∷ words)) = parts_by_words (word ∷ words)
+-- what a path excludes: nothing without the word `without`, and at least one part behind it
+abbrev pub excluded_parts : Option (List (List ℕ)) → Option (List Part)
+excluded_parts None = Some []
+excluded_parts (Some []) = None
+excluded_parts (Some (word ∷ words)) = parts_by_words (word ∷ words)
 
--- a `path` line, by its route and the parts that it takes away
+-- a `path` line, by its route and the parts that it excludes
 abbrev pub path_said : Option Route → Option (List Part) → Statement
 path_said (Some route) (Some parts) = Ask (Path route parts)
 path_said _ _ = off
@@ -129,7 +129,7 @@ path_said _ _ = off
 -- `path R:IF R:IF .. R` or `path R:IF R:IF .. R without W ..`; the word `without` is looked for from the line's third word on
 abbrev pub path_line : List (List ℕ) → Statement
 path_line [] = off
-path_line (word ∷ words) = path_said (route_of (word ∷ to_without words)) (taken_away (behind_without words))
+path_line (word ∷ words) = path_said (route_of (word ∷ to_without words)) (excluded_parts (behind_without words))
 
 -- what the words behind the first one say
 abbrev pub request_statement_by : List ℕ → List (List ℕ) → Statement

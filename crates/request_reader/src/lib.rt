@@ -33,7 +33,7 @@ pub enum Directive {
     Path(Hops, Listed<Part>),
     /// The two ends of each point-to-point link have one cost where both are free.
     SymmetricAll,
-    /// The same for the link of an interface: its router, and its name.
+    /// The two ends of the link of an interface have one cost where both are free: its router, and its name.
     Symmetric(Name, Name),
 }
 

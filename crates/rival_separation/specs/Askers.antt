@@ -22,7 +22,7 @@ pub record IsAskerFor (g : Area) (requests : List Request) (asker : Asking) : Ty
   pub known : All (λ k. k < length requests) asker.order
   pub each : (k : ℕ) → k < length requests → Contains asker.order k
 
--- the path of each request is a simple path of it
+-- the path of each request is a simple path between its ends without its excluded edges
 abbrev pub ArePathsOf : Area → List Request → Type 0
 ArePathsOf g requests = All (λ r. IsPathOf g (request_ends r) r.path.edges) requests
 
@@ -53,12 +53,12 @@ abbrev pub CanCompareWith : Survey → Request → Findings → Type 0
 CanCompareWith s r room =
     HasDistancesTo s.graph.now s.point.now (request_ends r) (lead_at s.graph.now s.point.now r) room
 
--- the room has the distances to the end of a request without the edges that it takes away, those below a limit
+-- the room has the distances to the end of a request without its excluded edges, those below a limit
 pub record IsShared (s : Survey) (room : Findings) (shared : Shared) : Type 0 where
   pub known : shared.request < length s.requests.now
   pub found : HasDistancesBelow s.graph.now s.point.now (request_ends (request_at s.requests.now shared.request)) shared.limit room
 
--- nothing is known of what the room has, or such distances
+-- the room has the distances to the end of a request, those below a limit, or nothing is known of what it has
 abbrev pub MayShare : Survey → Findings → Option Shared → Type 0
 MayShare s room None = Unit {0}
 MayShare s room (Some shared) = IsShared s room shared

@@ -7,14 +7,15 @@ use Rattle.area_graph.specs.Costs.{cost, price_at}
 use Rattle.spf_ties.specs.Distances.{Findings, distance_at}
 use Rattle.rival_separation.specs.declared.deviation.Deviation.{Deviation}
 
--- the edge isn't gone, from its end on some path costs least, and with that path it costs so much
+-- the edge isn't excluded, from its end on some path costs least, and with that path it costs so much
 pub record IsOnward (g : Area) (p : Point) (excluded : List ℕ) (room : Findings) (e total : ℕ) : Type 0 where
   pub rest : ℕ
   pub left : Lacks excluded e
   pub distance : distance_at room (edge_at g e).to ≡ Some rest
   pub sums : total ≡ price_at p (edge_at g e).price + rest
 
--- at the vertex of its place the path may be left by an edge that isn't gone, and from its end on some path costs least
+-- at the vertex of a deviation's place the path may be left by an edge that isn't excluded, and from the edge's end on
+-- some path costs least
 pub record Offers (g : Area) (p : Point) (excluded : List ℕ) (room : Findings) (path : List ℕ) (place e total : ℕ) : Type 0 where
   pub rest : ℕ
   pub within : place < length path

@@ -7,7 +7,7 @@ use Rattle.area_graph.specs.Costs.{cost}
 use Rattle.area_graph.specs.Distances.{AreEdgeMarks}
 use Rattle.spf_ties.specs.Distances.{AreTight, Findings, IsLeastBelow, IsRoomFor, distance_at, is_tight}
 
--- another simple path of the request
+-- a rival of a wanted path between two ends: another simple path there without the excluded edges
 pub record IsRivalBetween (g : Area) (ends : Ends) (wanted es : List ℕ) : Type 0 where
   pub path : IsPathOf g ends es
   pub other : es ≢ wanted
@@ -18,7 +18,7 @@ pub record IsCheapestRival (g : Area) (p : Point) (ends : Ends) (wanted es : Lis
   pub cheap : cost g p es < cost g p wanted + p.scale
   pub none_less : (others : List ℕ) → IsRivalBetween g ends wanted others → cost g p es ≤ cost g p others
 
--- what a room tells after the distances to the end of a request without the edges that it takes away, those below a limit
+-- what a room tells after the distances to the end of a request without its excluded edges, those below a limit
 pub record HasDistancesBelow (g : Area) (p : Point) (ends : Ends) (limit : ℕ) (room : Findings) : Type 0 where
   pub room_for : IsRoomFor g room
   pub marks : AreEdgeMarks ends.excluded room.marks
@@ -26,13 +26,13 @@ pub record HasDistancesBelow (g : Area) (p : Point) (ends : Ends) (limit : ℕ) 
   pub tight : (v : ℕ) (path : List ℕ) → IsPathOf g (record { start = v; end = ends.end; excluded = ends.excluded }) path →
       cost g p path < limit → (distance_at room v ≡ Some (cost g p path)) ↔ AreTight g p room path
 
--- the room has such distances, with a limit of at least so much
+-- the room has the distances to the end of a request without its excluded edges, those below a limit of at least so much
 pub record HasDistancesTo (g : Area) (p : Point) (ends : Ends) (enough : ℕ) (room : Findings) : Type 0 where
   pub limit : ℕ
   pub above : enough ≤ limit
   pub found : HasDistancesBelow g p ends limit room
 
--- a tight edge out of a vertex that isn't taken away
+-- a tight edge out of a vertex that isn't excluded
 pub record IsNextEdge (g : Area) (p : Point) (room : Findings) (v e : ℕ) : Type 0 where
   pub known : e < length g.edges
   pub from : (edge_at g e).from ≡ v

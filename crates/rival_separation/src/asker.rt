@@ -32,7 +32,7 @@ struct Shared {
     limit: u128,
 }
 
-/// What asks for the rivals of several requests at one point, again and again. Requests with one end that take away the
+/// What asks for the rivals of several requests at one point, again and again. Requests with one end that exclude the
 /// same edges share their distances. Contracts see its room, and the order in which it looks at the requests.
 #[derive(Drop)]
 pub struct Asker {
@@ -48,7 +48,7 @@ impl Model for Asker {
     ghost view = { λ a. record { room = a.room; order = a.order.items } };
 }
 
-/// What requests that share distances have in common: their end, and how many edges they take away and the first of them.
+/// What requests that share distances have in common: their end, and how many edges they exclude and the first of these.
 fn target_of(requests: &[Request], number: u32) -> (u32, usize, Option<u32>) {
     match requests.get(number as usize) {
         Some(request) => {
@@ -82,7 +82,7 @@ fn request_of(requests: &[Request], number: u32) -> &Request
     &requests[number as usize]
 }
 
-/// Whether distances found for one request serve another: they have one end, and take away the same edges.
+/// Whether distances found for one request serve another: they have one end, and exclude the same edges.
 fn share(first: &Request, other: &Request) -> bool
     ensures end { IsTrue result → first.now.end ≡ other.now.end }
     ensures excluded { IsTrue result → first.now.excluded ≡ other.now.excluded }
@@ -309,7 +309,7 @@ impl Asker {
     }
 
     /// The cheapest rival of each request, in the requests' order: None where every rival costs at least the path and the
-    /// scale at the point. The distances to an end are looked for once, and serve each request with that end that takes away
+    /// scale at the point. The distances to an end are looked for once, and serve each request with that end that excludes
     /// the same edges; its rival is laid out while they are there.
     ///
     /// # Errors

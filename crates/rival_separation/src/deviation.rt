@@ -22,7 +22,7 @@ pub struct Deviation {
 }
 
 /// What the cheapest walk costs that begins with an edge and goes on to the end of the request; None where the edge is
-/// taken away, or where no path leads on from it. The room has the distances to that end.
+/// excluded, or where no path leads on from it. The room has the distances to that end.
 pub fn onward(outlook: &Outlook<'_>, room: &Room, number: u32) -> Option<u128>
     requires fits { FitsOutlook outlook.now }
     requires found { HasDistances outlook.now room.now }
@@ -45,7 +45,7 @@ pub fn onward(outlook: &Outlook<'_>, room: &Room, number: u32) -> Option<u128>
 }
 
 /// What the cheapest walk costs that leaves the path at a place by an edge; None where the edge is the path's own or is
-/// taken away, or where no path leads on from it. `before` is what the path costs up to the place.
+/// excluded, or where no path leads on from it. `before` is what the path costs up to the place.
 fn offer(
     outlook: &Outlook<'_>,
     room: &Room,

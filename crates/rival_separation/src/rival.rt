@@ -28,7 +28,7 @@ pub enum Rival<'a> {
     Cheaper(&'a [u32]),
 }
 
-/// Whether an edge is tight and wasn't taken away.
+/// Whether an edge is tight and isn't excluded.
 fn leads_on(graph: &Graph, point: &Point, room: &Room, number: u32) -> bool
     requires room { IsRoomFor graph.now room.now }
     requires fits { FitsPoint graph.now point.now }
@@ -39,7 +39,7 @@ fn leads_on(graph: &Graph, point: &Point, room: &Room, number: u32) -> bool
     room.leaves(number) && room.tight(graph, point, number)
 }
 
-/// The least-numbered tight edge out of a vertex that wasn't taken away.
+/// The least-numbered tight edge out of a vertex that isn't excluded.
 fn next_edge(graph: &Graph, point: &Point, room: &Room, vertex: u32) -> Option<u32>
     requires room { IsRoomFor graph.now room.now }
     requires fits { FitsPoint graph.now point.now }
@@ -67,7 +67,7 @@ pub fn put_front(room: &mut Room, edges: &[u32])
     }
 }
 
-/// Goes from a vertex along the least-numbered tight edges that weren't taken away, to the end of the request, and puts
+/// Goes from a vertex along the least-numbered tight edges that aren't excluded, to the end of the request, and puts
 /// each behind the path that the room keeps: a path of least cost. The room has the distances to that end.
 fn follow(outlook: &Outlook<'_>, start: u32, room: &mut Room)
     // The room has the distances to the request's end, and some path leads there from the start.
@@ -127,7 +127,7 @@ pub(crate) fn least_lead(outlook: &Outlook<'_>) -> u128
     path_cost(outlook.graph, &outlook.request.path, outlook.point) + outlook.point.scale
 }
 
-/// Looks for the distances to the end of a request without the edges that it takes away, where they are below a limit.
+/// Looks for the distances to the end of a request without its excluded edges, where they are below a limit.
 pub fn find_distances(outlook: &Outlook<'_>, limit: u128, room: &mut Room)
     requires room { IsRoomFor outlook.now.graph.now room.old }
     requires fits { FitsOutlook outlook.now }
@@ -168,8 +168,8 @@ pub(crate) fn cheap_deviation(outlook: &Outlook<'_>, room: &Room) -> Option<Devi
 /// Looks for the cheapest rival of a request's path at a point, and tells whether one costs less than the path and the
 /// scale. Then the path that the room keeps is such a rival, and no rival costs less. Places at which it leaves the
 /// request's path are tried from the path's start, edges out of a vertex in rising order without those that the request
-/// takes away, and the first of least cost is kept; from there on it follows the least-numbered tight edges that aren't
-/// taken away. Takes no memory, and time in proportion to the path's length times the edges out of its vertices, besides
+/// excludes, and the first of least cost is kept; from there on it follows the least-numbered tight edges that aren't
+/// excluded. Takes no memory, and time in proportion to the path's length times the edges out of its vertices, besides
 /// that of the distances, which are found only below what the path and the scale cost.
 pub fn find_rival(graph: &Graph, request: &Request, point: &Point, room: &mut Room) -> bool
     requires room { IsRoomFor graph.now room.old }
@@ -190,7 +190,7 @@ pub fn find_rival(graph: &Graph, request: &Request, point: &Point, room: &mut Ro
 }
 
 /// Looks for the cheapest rival of a request's path as `find_rival` does, by the distances that the room has: those to the
-/// request's end without the edges that it takes away, which are below what the path and the scale cost. It finds the same
+/// request's end without its excluded edges, which are below what the path and the scale cost. It finds the same
 /// rival, and the room has the same distances afterwards.
 pub fn find_rival_at_hand(outlook: &Outlook<'_>, room: &mut Room) -> bool
     // The room has the distances up to what the request's path is compared with.

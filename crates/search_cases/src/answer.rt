@@ -1,13 +1,15 @@
 //! What a tableau answers to a line of a script.
-ghost use Rattle.std.specs.Prelude.{◌≡◌};
+ghost use Rattle.std.specs.Prelude.{◌≡◌, ◌^◌, ◌<◌, length, IfOk};
+ghost use Rattle.design_problem.specs.Boxes.{IsBox};
 ghost use Rattle.fraction_table.specs.declared.stage.Solved.TheVariants.{Feasible, Refuted};
 ghost use Rattle.fraction_table.specs.declared.stage.Stage.TheVariants.{Ended};
 
 use crate::command::{Command, read_command};
-use crate::scene::Scene;
+use crate::scene::{Scene, scene_of};
 use crate::search::search_text;
+use crate::words::{Members, Multipliers, Values};
 use area_graph::Point;
-use case_scripts::{Named, Part, Step};
+use case_scripts::Step;
 use cost_base::Listed;
 use design_problem::{CostBox, Form, Parts};
 use exact_simplex::Tableau;
@@ -17,18 +19,27 @@ use wide_fraction::Top;
 
 /// The members of the basis.
 fn basis(alloc: Global, tableau: &Tableau) -> Result<String, AllocError> {
-    let Ok(members) = tableau.basis(alloc) else {
-        return Err(AllocError);
-    };
-    let mut text = String::from_str(alloc, ":")?;
-    for member in members.as_slice() {
-        let named = format!(in alloc; "{}", Named(*member))?;
-        text.push_str(named.as_str())?;
+    match tableau.basis(alloc) {
+        Ok(members) => format!(in alloc; ":{}", Members(members.as_slice())),
+        Err(_) => Err(AllocError),
     }
-    Ok(text)
 }
 
-/// Another tableau in place of the one at hand.
+/// A tableau over this box in place of the one at hand.
+fn begin(
+    alloc: Global,
+    scene: &mut Option<Scene>,
+    costs: &CostBox,
+    top: Top,
+) -> Result<String, AllocError>
+    requires ranges { IsBox (length costs.now.low) costs.now }
+    requires few { length costs.now.low < 2 ^ 32 }
+{
+    *scene = Some(scene_of(alloc, costs, top)?);
+    String::from_str(alloc, ": started")
+}
+
+/// Another tableau in place of the one at hand, where there is one of this width and over these ranges.
 fn start(
     alloc: Global,
     scene: &mut Option<Scene>,
@@ -41,11 +52,7 @@ fn start(
     if !is_box(costs) {
         return String::from_str(alloc, ": no box");
     }
-    let Ok(started) = Tableau::start(alloc, costs, top) else {
-        return Err(AllocError);
-    };
-    *scene = Some(Scene::new(alloc, started, top, costs)?);
-    String::from_str(alloc, ": started")
+    begin(alloc, scene, costs, top)
 }
 
 /// One more row, where it fits.
@@ -71,28 +78,61 @@ fn change(alloc: Global, tableau: &mut Tableau, costs: &CostBox) -> Result<Strin
     }
 }
 
+/// A point with a place for each variable.
+fn origin(alloc: Global, tableau: &Tableau) -> Result<Point, AllocError>
+    ensures { IfOk result (λ point. length point.values ≡ length tableau.now.costs.low) }
+{
+    match tableau.basis(alloc) {
+        Ok(members) => Ok(Point {
+            scale: 1,
+            values: Listed::from_items(vec![in alloc; 0u128; members.len()]?),
+        }),
+        Err(_) => Err(AllocError),
+    }
+}
+
+/// The least point, which comes into `point`.
+fn point_text(alloc: Global, tableau: &Tableau, point: &mut Point) -> Result<String, AllocError>
+    requires solved { tableau.now.stage ≡ Ended Feasible }
+    requires places { length point.old.values ≡ length tableau.now.costs.low }
+{
+    match tableau.point(point) {
+        Ok(()) => format!(in alloc;
+            ": feasible, least point {}over {}",
+            Values(point.values.as_slice()),
+            point.scale
+        ),
+        Err(wide) => format!(in alloc; ": feasible, {}", Step(wide)),
+    }
+}
+
 /// The least point of a tableau that was found feasible.
 fn least(alloc: Global, tableau: &Tableau) -> Result<String, AllocError>
     requires { tableau.now.stage ≡ Ended Feasible }
 {
-    let Ok(members) = tableau.basis(alloc) else {
-        return Err(AllocError);
-    };
-    let mut point = Point {
-        scale: 1,
-        values: Listed::from_items(vec![in alloc; 0u128; members.len()]?),
-    };
-    if let Err(wide) = tableau.point(&mut point) {
-        return format!(in alloc; ": feasible, {}", Step(wide));
+    let mut point = origin(alloc, tableau)?;
+    point_text(alloc, tableau, &mut point)
+}
+
+/// The multipliers, which come into `parts`.
+fn parts_text(
+    alloc: Global,
+    tableau: &Tableau,
+    form: u64,
+    parts: &mut Parts,
+) -> Result<String, AllocError>
+    requires { tableau.now.stage ≡ Ended (Refuted form) }
+{
+    match tableau.multipliers(alloc, form, parts) {
+        Err(SimplexStop::OutOfMemory) => Err(AllocError),
+        Err(SimplexStop::TooWide(wide)) => {
+            format!(in alloc; ": refuted at form {form}, {}", Step(wide))
+        }
+        Ok(()) => format!(in alloc;
+            ": refuted at form {form}, multipliers{}",
+            Multipliers(parts.as_slice())
+        ),
     }
-    let mut text = String::from_str(alloc, ": feasible, least point ")?;
-    for value in point.values.as_slice() {
-        let written = format!(in alloc; "{value} ")?;
-        text.push_str(written.as_str())?;
-    }
-    let scale = format!(in alloc; "over {}", point.scale)?;
-    text.push_str(scale.as_str())?;
-    Ok(text)
 }
 
 /// The multipliers of a tableau that was found refuted at a form.
@@ -100,20 +140,7 @@ fn multipliers(alloc: Global, tableau: &Tableau, form: u64) -> Result<String, Al
     requires { tableau.now.stage ≡ Ended (Refuted form) }
 {
     let mut parts = Parts::from_items(Vec::new(alloc));
-    match tableau.multipliers(alloc, form, &mut parts) {
-        Err(SimplexStop::OutOfMemory) => Err(AllocError),
-        Err(SimplexStop::TooWide(wide)) => {
-            format!(in alloc; ": refuted at form {form}, {}", Step(wide))
-        }
-        Ok(()) => {
-            let mut text = format!(in alloc; ": refuted at form {form}, multipliers")?;
-            for (row, multiplier) in parts.as_slice() {
-                let part = format!(in alloc; "{}", Part(*row, *multiplier))?;
-                text.push_str(part.as_str())?;
-            }
-            Ok(text)
-        }
-    }
+    parts_text(alloc, tableau, form, &mut parts)
 }
 
 /// What solving answers.
@@ -125,6 +152,31 @@ fn solve(alloc: Global, tableau: &mut Tableau) -> Result<String, AllocError> {
     }
 }
 
+/// What the scene at hand answers to what a line asks for.
+fn answer_to(
+    alloc: Global,
+    scene: &mut Option<Scene>,
+    asked: &Command,
+) -> Result<String, AllocError> {
+    if let Command::Start(bits, costs) = asked {
+        return start(alloc, scene, *bits, costs);
+    }
+    let Some(scene) = scene else {
+        return String::from_str(alloc, "");
+    };
+    match asked {
+        Command::Row(form) => {
+            scene.learn(alloc, form)?;
+            add(alloc, &mut scene.tableau, form)
+        }
+        Command::Move(costs) => change(alloc, &mut scene.tableau, costs),
+        Command::Solve => solve(alloc, &mut scene.tableau),
+        Command::Basis => basis(alloc, &scene.tableau),
+        Command::Search(nodes, picks) => search_text(alloc, scene, *nodes, picks),
+        _ => String::from_str(alloc, ""),
+    }
+}
+
 /// What the scene at hand answers to a line, to stand behind the line.
 pub(crate) fn answer(
     alloc: Global,
@@ -132,21 +184,5 @@ pub(crate) fn answer(
     line: &str,
 ) -> Result<String, AllocError> {
     let asked = read_command(alloc, line)?;
-    if let Command::Start(bits, costs) = asked {
-        return start(alloc, scene, bits, &costs);
-    }
-    let Some(scene) = scene else {
-        return String::from_str(alloc, "");
-    };
-    match asked {
-        Command::Row(form) => {
-            scene.learn(alloc, &form)?;
-            add(alloc, &mut scene.tableau, &form)
-        }
-        Command::Move(costs) => change(alloc, &mut scene.tableau, &costs),
-        Command::Solve => solve(alloc, &mut scene.tableau),
-        Command::Basis => basis(alloc, &scene.tableau),
-        Command::Search(nodes, picks) => search_text(alloc, scene, nodes, &picks),
-        _ => String::from_str(alloc, ""),
-    }
+    answer_to(alloc, scene, &asked)
 }

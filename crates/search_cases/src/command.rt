@@ -78,27 +78,22 @@ pub(crate) fn read_command(alloc: Global, line: &str) -> Result<Command, AllocEr
     let Some(first) = words.next() else {
         return Ok(Command::Comment);
     };
-    if first == "box" {
-        let bits = u32::try_from(number(&mut words)).unwrap_or(0);
-        return Ok(Command::Start(bits, ranges(alloc, &mut words)?));
+    match first {
+        "box" => {
+            let bits = u32::try_from(number(&mut words)).unwrap_or(0);
+            Ok(Command::Start(bits, ranges(alloc, &mut words)?))
+        }
+        "row" => {
+            let constant = number(&mut words);
+            row(alloc, constant, numbers(alloc, &mut words)?.as_slice())
+        }
+        "move" => Ok(Command::Move(ranges(alloc, &mut words)?)),
+        "solve" => Ok(Command::Solve),
+        "basis" => Ok(Command::Basis),
+        "search" => {
+            let nodes = u64::try_from(number(&mut words)).unwrap_or(0);
+            Ok(Command::Search(nodes, numbers(alloc, &mut words)?))
+        }
+        _ => Ok(Command::Comment),
     }
-    if first == "row" {
-        let constant = number(&mut words);
-        let coefficients = numbers(alloc, &mut words)?;
-        return row(alloc, constant, coefficients.as_slice());
-    }
-    if first == "move" {
-        return Ok(Command::Move(ranges(alloc, &mut words)?));
-    }
-    if first == "solve" {
-        return Ok(Command::Solve);
-    }
-    if first == "basis" {
-        return Ok(Command::Basis);
-    }
-    if first == "search" {
-        let nodes = u64::try_from(number(&mut words)).unwrap_or(0);
-        return Ok(Command::Search(nodes, numbers(alloc, &mut words)?));
-    }
-    Ok(Command::Comment)
 }

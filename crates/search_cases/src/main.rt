@@ -8,17 +8,27 @@ mod command;
 mod scene;
 mod search;
 mod source;
+mod words;
 
 use crate::scene::Scene;
 use std::io;
 
-fn main(rt: HostRuntime) -> io::Result<()> {
-    let alloc = rt.alloc();
-    let mut scene: Option<Scene> = None;
-    for line in rt.lines(alloc) {
+/// Writes a line, and behind it what is answered.
+fn play(rt: HostRuntime, scene: &mut Option<Scene>, line: &str) -> io::Result<()> {
+    let text = answer::answer(rt.alloc(), scene, line)?;
+    println!(rt; "{line}{text}")
+}
+
+/// Plays each line of standard input.
+fn play_all(rt: HostRuntime, scene: &mut Option<Scene>) -> io::Result<()> {
+    for line in rt.lines(rt.alloc()) {
         let line = line?;
-        let text = answer::answer(alloc, &mut scene, line.as_str())?;
-        println!(rt; "{line}{text}")?;
+        play(rt, scene, line.as_str())?;
     }
     Ok(())
+}
+
+fn main(rt: HostRuntime) -> io::Result<()> {
+    let mut scene: Option<Scene> = None;
+    play_all(rt, &mut scene)
 }

@@ -1,4 +1,6 @@
 //! What a script has come to: a tableau, and a box with its rows to be searched.
+ghost use Rattle.std.specs.Prelude.{◌^◌, ◌<◌, length};
+ghost use Rattle.design_problem.specs.Boxes.{IsBox};
 
 use crate::source::FormList;
 use cost_base::Listed;
@@ -23,26 +25,36 @@ fn copied(alloc: Global, bounds: &[u16]) -> Result<Listed<u16>, AllocError> {
     Ok(Listed::from_items(bounds.to_vec(alloc)?))
 }
 
+/// The same box.
+fn copy_of(alloc: Global, costs: &CostBox) -> Result<CostBox, AllocError> {
+    let low = copied(alloc, costs.low.as_slice())?;
+    let high = copied(alloc, costs.high.as_slice())?;
+    Ok(CostBox { low, high })
+}
+
+/// A scene with a tableau over the box, and no row.
+pub(crate) fn scene_of(alloc: Global, costs: &CostBox, top: Top) -> Result<Scene, AllocError>
+    requires ranges { IsBox (length costs.now.low) costs.now }
+    requires few { length costs.now.low < 2 ^ 32 }
+{
+    let copy = copy_of(alloc, costs)?;
+    match Tableau::start(alloc, costs, top) {
+        Ok(tableau) => Ok(Scene::new(alloc, tableau, top, copy)),
+        Err(_) => Err(AllocError),
+    }
+}
+
 impl Scene {
     /// A tableau over the box, and the box without rows.
-    pub(crate) fn new(
-        alloc: Global,
-        tableau: Tableau,
-        top: Top,
-        costs: &CostBox,
-    ) -> Result<Scene, AllocError> {
-        let low = costs.low.as_slice();
-        let variables = u32::try_from(low.len()).unwrap_or(0);
-        Ok(Scene {
+    fn new(alloc: Global, tableau: Tableau, top: Top, costs: CostBox) -> Scene {
+        let variables = u32::try_from(costs.low.as_slice().len()).unwrap_or(0);
+        Scene {
             tableau,
             top,
-            costs: CostBox {
-                low: copied(alloc, low)?,
-                high: copied(alloc, costs.high.as_slice())?,
-            },
+            costs,
             rows: FormList::new(alloc, variables),
             is_searched: true,
-        })
+        }
     }
 
     /// Takes a row into the source.

@@ -1,12 +1,13 @@
 //! What a search of the box answers.
-ghost use Rattle.std.specs.Prelude.{◌≤◌, All, IsTrue};
+ghost use Rattle.std.specs.Prelude.{◌≡◌, ◌≤◌, [], All, IsTrue};
 ghost use Rattle.design_problem.specs.Boxes.{IsBox};
 
 use crate::advisors::advisor_of;
 use crate::scene::Scene;
-use case_scripts::Line;
+use crate::source::FormList;
+use crate::words::{Costs, Entries, Forms};
 use cut_advisors::Advisor;
-use design_problem::{CostBox, Tree};
+use design_problem::CostBox;
 use form_search::{FormPool, Found, RowSource, search};
 use fraction_table::is_box;
 use std::alloc::{AllocError, Global};
@@ -23,43 +24,69 @@ fn is_searchable(costs: &CostBox, variables: u32) -> bool
     low.iter().all(|bound| *bound >= 1)
 }
 
-/// The entries of a tree and the forms that the search knows, each on a line of its own.
-fn tree_text(
-    alloc: Global,
-    word: &str,
-    tree: &Tree,
-    pool: &FormPool,
-) -> Result<String, AllocError> {
-    let mut text = format!(in alloc; ": {word}")?;
-    for entry in tree.as_slice() {
-        let line = format!(in alloc; "\n  {}", Line(entry))?;
-        text.push_str(line.as_str())?;
-    }
-    for form in pool.as_slice() {
-        let constant = format!(in alloc; "\n  form {}", form.constant())?;
-        text.push_str(constant.as_str())?;
-        for term in form.terms() {
-            let product = format!(in alloc; " {}*x{}", term.coefficient, term.var)?;
-            text.push_str(product.as_str())?;
+/// What was found.
+fn found_text(alloc: Global, found: &Found, pool: &FormPool) -> Result<String, AllocError> {
+    let (word, tree) = match found {
+        Found::Costs(costs) => {
+            return format!(in alloc; ": costs{}", Costs(costs.as_slice()));
         }
-    }
-    Ok(text)
+        Found::Refuted(tree) => ("refuted", tree),
+        Found::Undecided(tree) => ("spent", tree),
+    };
+    format!(in alloc;
+        ": {word}{}{}",
+        Entries(tree.as_slice()),
+        Forms(pool.as_slice())
+    )
 }
 
-/// What was found, and how many advisors are left.
-fn found_text(alloc: Global, found: &Found, pool: &FormPool) -> Result<String, AllocError> {
-    match found {
-        Found::Costs(costs) => {
-            let mut text = String::from_str(alloc, ": costs")?;
-            for cost in costs.as_slice() {
-                let written = format!(in alloc; " {cost}")?;
-                text.push_str(written.as_str())?;
-            }
-            Ok(text)
-        }
-        Found::Refuted(tree) => tree_text(alloc, "refuted", tree, pool),
-        Found::Undecided(tree) => tree_text(alloc, "spent", tree, pool),
+/// What was found, and how many advisors are left where some were given.
+fn left_text(
+    alloc: Global,
+    found: &Found,
+    pool: &FormPool,
+    given: usize,
+    left: usize,
+) -> Result<String, AllocError> {
+    if given == 0 {
+        return found_text(alloc, found, pool);
     }
+    let text = found_text(alloc, found, pool)?;
+    format!(in alloc; "{text}\n  advisors left {left}")
+}
+
+/// What a search with this pool and these advisors answers.
+fn searched_in(
+    rows: &mut FormList,
+    costs: &CostBox,
+    limits: &Limits,
+    pool: &mut FormPool,
+    advisors: &mut Vec<Box<dyn Advisor>>,
+) -> Result<String, AllocError>
+    requires pool { pool.old ≡ [] }
+    requires ranges { IsBox rows.old.variables costs.now }
+    requires lows { All (λ low. 1 ≤ low) costs.now.low }
+{
+    let given = advisors.len();
+    match search(rows, costs, limits, pool, advisors) {
+        Ok(found) => left_text(pool.alloc(), &found, pool, given, advisors.len()),
+        Err(_) => Err(AllocError),
+    }
+}
+
+/// What a search with these advisors answers.
+fn searched(
+    alloc: Global,
+    rows: &mut FormList,
+    costs: &CostBox,
+    limits: &Limits,
+    advisors: &mut Vec<Box<dyn Advisor>>,
+) -> Result<String, AllocError>
+    requires ranges { IsBox rows.old.variables costs.now }
+    requires lows { All (λ low. 1 ≤ low) costs.now.low }
+{
+    let mut pool = FormPool::new(alloc);
+    searched_in(rows, costs, limits, &mut pool, advisors)
 }
 
 /// What a search of the box for costs at which each row is at least 0 answers.
@@ -75,24 +102,9 @@ pub(crate) fn search_text(
     if !scene.is_searched || !is_searchable(&scene.costs, scene.rows.variables()) {
         return String::from_str(alloc, ": not searched");
     }
-    let mut pool = FormPool::new(alloc);
     let mut advisors: Vec<Box<dyn Advisor>> = Vec::new(alloc);
     for number in picks {
         advisors.push(Box::new(alloc, advisor_of(*number))?)?;
     }
-    let found = search(
-        &mut scene.rows,
-        &scene.costs,
-        &limits,
-        &mut pool,
-        &mut advisors,
-    );
-    let Ok(found) = found else {
-        return Err(AllocError);
-    };
-    let text = found_text(alloc, &found, &pool)?;
-    if picks.is_empty() {
-        return Ok(text);
-    }
-    format!(in alloc; "{text}\n  advisors left {}", advisors.len())
+    searched(alloc, &mut scene.rows, &scene.costs, &limits, &mut advisors)
 }

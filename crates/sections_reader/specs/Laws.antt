@@ -34,12 +34,12 @@ SaidCostsFit =
 abbrev pub AnswersSayTheirCosts : Type 0
 AnswersSayTheirCosts = (a : AnswerParts) → IsAnswerValue a → SaysCosts (text a) (lines_of_costs a.costs)
 
--- cost lines have costs of 16 bits
+-- the cost lines, where there are some, have costs of 16 bits
 abbrev pub AreBounded : Option (List CostLine) → Type 0
 AreBounded None = Unit {0}
 AreBounded (Some costs) = All (λ line. IsCost line.cost) costs
 
--- another text that is written so, with any lines behind its sections up to its last `end`, says these costs
+-- a text of `total`, `spread` or `change` with cost lines, and any lines behind these up to its `end`, says their costs
 abbrev pub OtherTextsSayTheirCosts : Type 0
 OtherTextsSayTheirCosts =
     (of : OtherText) (verdict : List ℕ) (number : ℕ) (costs : Option (List CostLine)) (behind : List ℕ) (unread : List (List ℕ)) →

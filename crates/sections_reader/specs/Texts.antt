@@ -41,7 +41,7 @@ pub record IsSaidByAnswer (bytes : List ℕ) (costs : Option (List CostLine)) : 
   pub value : IsAnswerValue answer
   pub costs_are : costs ≡ lines_of_costs answer.costs
 
--- the lines before the costs: the head and the verdict, and in `total`'s text the head of the answer inside
+-- the lines of another text before its costs: the head and the verdict, and in `total`'s text the head of the answer
 abbrev pub top_lines : OtherText → List ℕ → List (List ℕ)
 top_lines Total verdict = other_head Total ∷ answer_head ∷ verdict ∷ []
 top_lines text verdict = other_head text ∷ verdict ∷ []
@@ -51,7 +51,7 @@ abbrev pub other_costs_lines : OtherText → ℕ → Option (List CostLine) → 
 other_costs_lines text number None = no_costs_line text ∷ []
 other_costs_lines text number (Some costs) = (costs_front text ++ decimal number) ∷ cost_lines None costs
 
--- cost lines can be printed
+-- the cost lines, where there are some, can be printed
 abbrev pub FitLines : Option (List CostLine) → Type 0
 FitLines None = Unit {0}
 FitLines (Some costs) = All FitsCostLine costs

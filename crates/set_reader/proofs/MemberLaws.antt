@@ -16,7 +16,7 @@ use Rattle.cost_base.proofs.ListLemmas.{list_any-map}
 use Rattle.area_graph.specs.Distances.{AreEdgeMarks}
 use Rattle.design_problem.specs.declared.problem.Request.{Request}
 use Rattle.design_problem.specs.Problems.{request_at}
-use Rattle.set_reader.specs.Reading.{stands_in, has_other_ends, has_edges_of, takes_away, is_wrong_behind, is_wrong_from, is_wrong_set, IsInOrder}
+use Rattle.set_reader.specs.Reading.{stands_in, has_other_ends, has_edges_of, excludes_edges, is_wrong_behind, is_wrong_from, is_wrong_set, IsInOrder}
 use Rattle.set_reader.specs.ReadingSteps.{is_out_of_place}
 
 -- A list lacks a number exactly where the number doesn't stand in it.
@@ -74,7 +74,7 @@ pub out_is_wrong : (requests : List Request) (taken : List Bool) (earlier member
     is_wrong_behind requests earlier members n ≡ true
 out_is_wrong requests taken earlier members n count are out =
     any_out (not (ltb n (length requests))) (stands_in n earlier) (stands_in n members) (has_other_ends requests members (request_at requests n))
-    (list_any (has_edges_of requests (request_at requests n)) members) (takes_away (request_at requests n)) (get_or taken n true)
+    (list_any (has_edges_of requests (request_at requests n)) members) (excludes_edges (request_at requests n)) (get_or taken n true)
     (λ known. mark_tells earlier taken n are (omega (arith, ltb-true n (length requests) (not-false (ltb n (length requests)) known), count))) out
 
 -- the members' edges, tested as a list
@@ -90,7 +90,7 @@ pub seen_is_wrong : (requests : List Request) (earlier members : List ℕ) (edge
     is_wrong_behind requests earlier members n ≡ true
 seen_is_wrong requests earlier members edges n are seen =
     any_edges (not (ltb n (length requests)) || stands_in n earlier || stands_in n members || has_other_ends requests members (request_at requests n))
-    (list_any (has_edges_of requests (request_at requests n)) members) (takes_away (request_at requests n))
+    (list_any (has_edges_of requests (request_at requests n)) members) (excludes_edges (request_at requests n))
     (sym (edges_seen requests members edges n are) ∙ seen)
 
 -- a number that stands among the members has the edges of one
@@ -143,7 +143,7 @@ pub members_more : (requests : List Request) (taken : List Bool) (numbers : List
     MembersTo requests taken numbers (i + 1) (members ++ n ∷ []) (edges ++ edges_at requests n ∷ [])
 members_more requests taken numbers i n members edges to count within is inside unseen =
     let test = ltb n (length requests) in
-    let parts = or_parts (not test) (get_or taken n true || takes_away (request_at requests n)
+    let parts = or_parts (not test) (get_or taken n true || excludes_edges (request_at requests n)
     || has_other_ends requests members (request_at requests n)) inside in
     let below : n < length requests = ltb-true n (length requests) (not-false test parts.0) in
     let no_edges : list_any (has_edges_of requests (request_at requests n)) members ≡ false = sym (edges_seen requests members edges n to.edges_are) ∙ unseen in
@@ -159,7 +159,7 @@ members_more requests taken numbers i n members edges to count within is inside 
           next_left requests taken numbers i n members edges earlier to within is marks
           ∙ ap (λ (b : Bool). b || is_wrong_from requests earlier (members ++ n ∷ []) (drop (i + 1) numbers))
           (none_out (not test) (stands_in n earlier) (stands_in n members) (has_other_ends requests members (request_at requests n))
-          (list_any (has_edges_of requests (request_at requests n)) members) (takes_away (request_at requests n)) (get_or taken n true)
+          (list_any (has_edges_of requests (request_at requests n)) members) (excludes_edges (request_at requests n)) (get_or taken n true)
           (λ known. mark_tells earlier taken n marks (omega (arith, below, count))) inside apart no_edges);
     }
 

@@ -17,7 +17,7 @@ use Rattle.area_graph.proofs.ExcludedMarks.{no_marks}
 use Rattle.design_problem.specs.declared.problem.Request.{Request}
 use Rattle.design_problem.specs.Problems.{DesignProblem, request_at, request_ends}
 use Rattle.set_reader.specs.SpreadSets.{IsSetOf}
-use Rattle.set_reader.specs.Reading.{stands_in, same_ends, has_other_ends, has_edges_of, takes_away, is_wrong_behind, is_wrong_from, is_wrong_set, IsInOrder}
+use Rattle.set_reader.specs.Reading.{stands_in, same_ends, has_other_ends, has_edges_of, excludes_edges, is_wrong_behind, is_wrong_from, is_wrong_set, IsInOrder}
 use Rattle.set_reader.specs.ReadingSteps.{KeepsSets}
 use Rattle.set_reader.proofs.MemberLaws.{edges_at}
 
@@ -54,7 +54,7 @@ right_push requests earlier members n right lawful =
     let here = stands_in n members in
     let other = has_other_ends requests members request in
     let seen = list_any (has_edges_of requests request) members in
-    let last = or_parts (outside || before || here || other || seen) (takes_away request) lawful in
+    let last = or_parts (outside || before || here || other || seen) (excludes_edges request) lawful in
     let fifth = or_parts (outside || before || here || other) seen last.0 in
     let fourth = or_parts (outside || before || here) other fifth.0 in
     let third = or_parts (outside || before) here fourth.0 in
@@ -184,7 +184,7 @@ same_wrong requests xs ys members [] same = refl
 same_wrong requests xs ys members (n ∷ more) same =
     ap (λ (b : Bool). (not (ltb n (length requests)) || b || stands_in n members
     || has_other_ends requests members (request_at requests n)
-    || list_any (has_edges_of requests (request_at requests n)) members || takes_away (request_at requests n))
+    || list_any (has_edges_of requests (request_at requests n)) members || excludes_edges (request_at requests n))
     || is_wrong_from requests xs (members ++ n ∷ []) more) (same n)
     ∙ ap (λ (b : Bool). is_wrong_behind requests ys members n || b) (same_wrong requests xs ys (members ++ n ∷ []) more same)
 

@@ -15,7 +15,7 @@ use Rattle.set_reader.specs.declared.reading.statement.Statement.{Statement}
 use Rattle.set_reader.specs.declared.reading.statement.Statement.TheVariants.{Passed, Header, Numbers, Off}
 use Rattle.set_reader.specs.SetLines.{said_by_set_line, set_line_speaks, numbers_of_set}
 
--- the number is among these
+-- the number is one of these
 abbrev pub stands_in : ℕ → List ℕ → Bool
 stands_in i numbers = list_any (nat_eq i) numbers
 
@@ -32,13 +32,13 @@ has_other_ends requests (first ∷ more) request = not (same_ends (request_at re
 abbrev pub has_edges_of : List Request → Request → ℕ → Bool
 has_edges_of requests request member = same_bytes request.path.edges (request_at requests member).path.edges
 
--- the request takes edges away
-abbrev pub takes_away : Request → Bool
-takes_away request = nat_lt 0 (length request.excluded)
+-- the request excludes edges
+abbrev pub excludes_edges : Request → Bool
+excludes_edges request = nat_lt 0 (length request.excluded)
 
 -- A number may not stand behind these members of its set and these earlier numbers: it is no path's, or it stands there
--- already; or its path has other ends than the first member's, or the same edges as a member's; or its request takes an edge
--- away.
+-- already; or its path has other ends than the first member's, or the same edges as a member's; or its request
+-- excludes an edge.
 abbrev pub is_wrong_behind : List Request → List ℕ → List ℕ → ℕ → Bool
 is_wrong_behind requests earlier members i =
     not (nat_lt i (length requests))
@@ -46,7 +46,7 @@ is_wrong_behind requests earlier members i =
     || stands_in i members
     || has_other_ends requests members (request_at requests i)
     || list_any (has_edges_of requests (request_at requests i)) members
-    || takes_away (request_at requests i)
+    || excludes_edges (request_at requests i)
 
 -- one of the numbers behind these members may not stand there
 abbrev pub is_wrong_from : List Request → List ℕ → List ℕ → List ℕ → Bool

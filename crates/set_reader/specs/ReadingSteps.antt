@@ -8,7 +8,7 @@ use Rattle.set_reader.specs.declared.reading.statement.Statement.{Statement}
 use Rattle.set_reader.specs.declared.reading.statement.Statement.TheVariants.{Numbers}
 use Rattle.set_reader.specs.SetLines.{set_line_speaks, numbers_of_set}
 use Rattle.set_reader.specs.SpreadSets.{AreSetsOf}
-use Rattle.set_reader.specs.Reading.{SetsTold, IsInOrder, takes_away, has_other_ends}
+use Rattle.set_reader.specs.Reading.{SetsTold, IsInOrder, excludes_edges, has_other_ends}
 
 -- what was read so far: whether a line spoke, and the sets, in rising order each
 pub record SoFar : Type 0 where
@@ -42,9 +42,9 @@ pub record TakesLine (before : SoFar) (said : Statement) (after : SoFar) : Type 
   pub spoken : after.spoken ≡ (before.spoken || set_line_speaks said)
   pub sets : AddsSet (numbers_of_set said) before.sets after.sets
 
--- A number may not stand behind these members, whatever their edges: it is no path's, it is marked, its request takes an edge
--- away, or its path has other ends than the first member's.
+-- A number may not stand behind these members, whatever their edges: it is no path's, it is marked, its request
+-- excludes an edge, or its path has other ends than the first member's.
 abbrev pub is_out_of_place : List Request → List Bool → List ℕ → ℕ → Bool
 is_out_of_place requests taken members i =
     not (nat_lt i (length requests))
-    || (slice_index_or taken i true || takes_away (request_at requests i) || has_other_ends requests members (request_at requests i))
+    || (slice_index_or taken i true || excludes_edges (request_at requests i) || has_other_ends requests members (request_at requests i))

@@ -37,11 +37,11 @@ abbrev pub set_statement_of : List (List ℕ) → Statement
 set_statement_of [] = Passed
 set_statement_of (word ∷ words) = if starts_comment word then Passed else set_statement_by word words
 
--- what a line says
+-- what a line of a file of sets says
 abbrev pub said_by_set_line : List ℕ → Statement
 said_by_set_line line = set_statement_of (words line)
 
--- the line is neither blank nor a comment
+-- a line that says this is neither blank nor a comment
 abbrev pub set_line_speaks : Statement → Bool
 set_line_speaks Passed = false
 set_line_speaks _ = true

@@ -4,7 +4,7 @@ use Rattle.std.specs.List.Sorted.{IsStrictlyIncreasing}
 use Rattle.design_problem.specs.Problems.{DesignProblem, request_ends, request_at}
 
 -- The numbers of one set's requests, in rising order: at least two, each of a wanted path. The paths lead between the
--- same ends, no two of them have the same edges, and no request takes an edge away.
+-- same ends, no two of them have the same edges, and no request excludes an edge.
 pub record IsSetOf (p : DesignProblem) (set : List ℕ) : Type 0 where
   pub several : 2 ≤ length set
   pub rising : IsStrictlyIncreasing set

@@ -9,7 +9,7 @@ pub enum SetFault {
     /// The line is no `set` line, or there is no header.
     BadSetLine,
     /// A number is no path's or stands in a set already, a member has other ends than the first or the edges of an
-    /// earlier one, or a member's request takes an edge away.
+    /// earlier one, or a member's request excludes an edge.
     WrongSet,
 }
 

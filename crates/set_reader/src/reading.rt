@@ -29,9 +29,9 @@ const LONGEST_LINE: usize = 65_536;
 /// # Errors
 ///
 /// `Refused` with the first faulty line: `BadSetLine` where the line is no such line or too long, or not the header where
-/// that has to stand; `WrongSet` where a number is no path's or stands in this set or an earlier one already, where a member
-/// has other ends than the first or the edges of an earlier one, or where its request takes an edge away. A missing header
-/// is refused as `BadSetLine` behind the last line. `OutOfMemory` where there is no memory.
+/// that has to stand; `WrongSet` where a number is no path's or stands in this set or an earlier one already, where a
+/// member has other ends than the first or the edges of an earlier one, or where its request excludes an edge. A
+/// missing header is refused as `BadSetLine` behind the last line. `OutOfMemory` where there is no memory.
 pub fn read_sets(alloc: Global, bytes: &[u8], problem: &Problem) -> Result<Sets, Refusal<SetFault>>
     requires few { length bytes.now < 2 ^ 32 - 1 }
     ensures made { IfOk result (λ sets. (set_fault problem.now bytes.now ≡ None) ×

@@ -15,7 +15,7 @@ use Rattle.set_separation.specs.PrefixTrees.{IsPrefixTree}
 abbrev pub HasPrefixTree : Outlook → List Step → Type 0
 HasPrefixTree o steps = (wanted : List (List ℕ)) × IsPrefixTree o.graph.now (request_ends o.request.now) wanted steps
 
--- the tree is that of the prefixes of these paths, which cost what the request's path costs
+-- the tree is that of the prefixes of given paths, each of which costs what the request's path costs
 abbrev pub IsTiedHere : Outlook → List (List ℕ) → List Step → Type 0
 IsTiedHere o wanted steps =
     IsTiedTree o.graph.now o.point.now (request_ends o.request.now) (cost o.graph.now o.point.now o.request.now.path.edges)
@@ -25,7 +25,7 @@ IsTiedHere o wanted steps =
 abbrev pub HasTiedTree : Outlook → List Step → Type 0
 HasTiedTree o steps = (wanted : List (List ℕ)) × IsTiedHere o wanted steps
 
--- the costs are those of the tree's places
+-- the costs are those of the prefixes at the tree's places
 abbrev pub IsCosted : Outlook → CostedTree → Type 0
 IsCosted o costed =
     ArePlaceCosts o.graph.now o.point.now costed.tree.now (length costed.tree.now) costed.costs.now
@@ -35,11 +35,11 @@ abbrev pub DepartsHere : Outlook → Findings → CostedTree → ℕ → ℕ →
 DepartsHere o room costed =
     Departs o.graph.now o.point.now (request_ends o.request.now) room costed.tree.now costed.costs.now
 
--- the cheapest outsider, where it costs less than the request's path and the scale
+-- the cheapest outsider of a request's wanted paths, which costs less than the request's path and the scale
 abbrev pub IsCheapestOutsiderHere : Outlook → List (List ℕ) → List ℕ → Type 0
 IsCheapestOutsiderHere o wanted es =
     IsCheapestOutsider o.graph.now o.point.now (request_ends o.request.now) wanted (lead_in o) es
 
--- each outsider costs at least what the request's path and the scale do
+-- each outsider of a request's wanted paths costs at least what the request's path and the scale do
 abbrev pub AreOutsidersDear : Outlook → List (List ℕ) → Type 0
 AreOutsidersDear o wanted = CostAtLeast o.graph.now o.point.now (request_ends o.request.now) wanted (lead_in o)

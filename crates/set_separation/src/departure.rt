@@ -53,7 +53,7 @@ fn vertex_of(outlook: &Outlook<'_>, tree: &PrefixTree, place: usize) -> u32
 }
 
 /// What the cheapest walk costs that leaves the tree at a place by an edge; None where the edge leads to another place or
-/// is taken away, or where no path leads on from it.
+/// is excluded, or where no path leads on from it.
 fn departure(
     outlook: &Outlook<'_>,
     room: &Room,

@@ -24,12 +24,12 @@ abbrev pub IsLeastBelow : Area → Point → Ends → ℕ → Option ℕ → Typ
 IsLeastBelow g p ends limit (Some least) = IsLeastOfPaths g p ends least × (least < limit)
 IsLeastBelow g p ends limit None = (path : List ℕ) → IsPathOf g ends path → limit ≤ cost g p path
 
--- from a vertex to the target, without the edges that are taken away
+-- the ends of a simple path from a vertex to the target, without the excluded edges
 abbrev pub ends_to : Aim → ℕ → Ends
 ends_to aim v = record { start = v; end = aim.target; excluded = aim.excluded.now }
 
--- what a room tells: each vertex's least cost to the target of the last call, a mark for each edge that the call took
--- away, and the edges of a path
+-- what a room tells: each vertex's least cost to the target of the last call, a mark for each edge that the call
+-- excluded, and the edges of a path
 pub record Findings : Type 0 where
   pub costs : List (Option ℕ)
   pub marks : List Bool
@@ -54,7 +54,7 @@ adds_up None price to = false
 adds_up (Some from) price None = false
 adds_up (Some from) price (Some to) = from == price + to
 
--- both ends have distances, and the first is the edge's price and the second
+-- an edge is tight: both its ends have distances, and that of its start is its price and that of its end together
 abbrev pub is_tight : Area → Point → Findings → ℕ → Bool
 is_tight g p room e = adds_up (distance_at room (edge_at g e).from) (price_at p (edge_at g e).price) (distance_at room (edge_at g e).to)
 

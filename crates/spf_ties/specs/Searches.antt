@@ -18,7 +18,7 @@ pub record AreSearchNumbers (g : Area) (p : Point) (d : List ℕ) (settled : Lis
   pub marks : length settled ≡ length g.vertices
   pub bounded : All (λ x. x ≤ far p) d
 
--- the vertex is settled: its least cost is known
+-- the vertex is settled in a search: its least cost is known
 abbrev pub is_settled : List Bool → ℕ → Bool
 is_settled settled v = slice_index_or settled v false
 
@@ -53,7 +53,7 @@ pub record Underway (g : Area) (p : Point) (excluded : List ℕ) (t limit least 
   pub closed : (e : ℕ) → e < length g.edges → Lacks excluded e → is_settled settled (edge_at g e).to ≡ true → Lacks todo e →
       slice_index d (edge_at g e).from ≤ through p (edge_at g e) d
 
--- a search for least costs in a subgraph stands so
+-- where a search for least costs in a subgraph below a limit stands that settled a vertex at `least` last
 abbrev pub UnderwayIn : Subgraph → ℕ → ℕ → ℕ → List ℕ → List ℕ → List Bool → List Entry → Type 0
 UnderwayIn s t limit least todo d settled waiting =
     Underway s.graph.now s.point.now s.removal.now t limit least todo d settled waiting
@@ -78,12 +78,13 @@ abbrev pub HasPlaces : Subgraph → Front → Type 0
 HasPlaces s front =
     length front.waiting.entries + open_edges s.graph.now front.settled.items ≤ front.waiting.places
 
--- one entry more at most, and no place less
+-- what a step of a search does to what waits: one entry more at most, and no place less
 pub record GrowsByOne (old new : Waiting) : Type 0 where
   pub places : old.places ≤ new.places
   pub one : length new.entries ≤ length old.entries + 1
 
--- no place less, and not more entries with the edges that may still make one
+-- what a step of a search leaves of what waits: no place less, and no more entries together with the edges that may still
+-- make one
 pub record NeedsNoMore (s : Subgraph) (old new : Front) : Type 0 where
   pub places : old.waiting.places ≤ new.waiting.places
   pub fewer : length new.waiting.entries + open_edges s.graph.now new.settled.items ≤

@@ -55,7 +55,11 @@ impl Room {
     /// `OutOfMemory` where the room got no memory.
     pub fn new(alloc: Global, graph: &Graph) -> Result<Room, OutOfMemory>
         ensures { IfOk result (λ room. room ≡
-            record { costs = replicate (length graph.now.vertices) None; marks = replicate (length graph.now.edges) false; path = [] }) }
+            record {
+              costs = replicate (length graph.now.vertices) None;
+              marks = replicate (length graph.now.edges) false;
+              path = [];
+            }) }
     {
         graph.keeps_conditions();
         let waiting = Heap::with_places(alloc, graph.edges().len() + 1)?;
@@ -86,7 +90,7 @@ impl Room {
         requires fits { FitsPoint graph.now point.now }
         requires target { target < length graph.now.vertices }
 
-        // The room is still one for the graph, and no edge is marked as taken away.
+        // The room is still one for the graph, and no edge is marked as excluded.
         ensures room { IsRoomFor graph.now self.new }
         ensures marks { AreEdgeMarks [] self.new.marks }
 
@@ -109,7 +113,7 @@ impl Room {
         requires fits { FitsPoint graph.now point.now }
         requires target { target < length graph.now.vertices }
 
-        // The room is still one for the graph, and the edges that are taken away are marked.
+        // The room is still one for the graph, and the excluded edges are marked.
         ensures room { IsRoomFor graph.now self.new }
         ensures marks { AreEdgeMarks excluded.now self.new.marks }
 
@@ -130,7 +134,7 @@ impl Room {
         self.distances_within(graph, point, &aim);
     }
 
-    /// Finds each vertex's least cost of a simple path to the target that has none of the edges that are taken away, where
+    /// Finds each vertex's least cost of a simple path to the target that has none of the excluded edges, where
     /// that is below the limit. Among the paths that cost less than it one has least cost exactly where each of its edges is
     /// tight. It takes time in proportion to the edges near the target, times the logarithm of their number; at scales from
     /// 2^37 on it goes over all edges, again and again until no number falls.
@@ -140,7 +144,7 @@ impl Room {
         requires fits { FitsPoint graph.now point.now }
         requires target { aim.now.target < length graph.now.vertices }
 
-        // The room is still one for the graph, and the edges that are taken away are marked.
+        // The room is still one for the graph, and the excluded edges are marked.
         ensures room { IsRoomFor graph.now self.new }
         ensures marks { AreEdgeMarks aim.now.excluded.now self.new.marks }
 
@@ -191,7 +195,7 @@ impl Room {
     }
 
     /// Whether an edge is tight: both its ends have distances, and the first is the edge's price plus the second. It
-    /// asks only for price and distances, also of an edge that was taken away.
+    /// asks only for price and distances, also of an excluded edge.
     pub fn tight(&self, graph: &Graph, point: &Point, edge: u32) -> bool
         requires room { IsRoomFor graph.now self.now }
         requires fits { FitsPoint graph.now point.now }

@@ -129,7 +129,7 @@ fn take_in(subgraph: &Subgraph<'_>, entry: Entry, front: &mut Front)
     }
 }
 
-/// Finds for each vertex the least cost of a path to the target without the edges that are gone, where that is below a
+/// Finds for each vertex the least cost of a path to the target without the excluded edges, where that is below a
 /// limit; elsewhere the limit stays. It looks at the edges into the vertices that are within the limit alone, and takes time
 /// in proportion to their number, times its logarithm.
 pub(crate) fn find(subgraph: &Subgraph<'_>, target: u32, limit: u64, front: &mut Front)

@@ -6,7 +6,6 @@ use Rattle.std.proofs.lemmas.List.{map-append}
 use Rattle.std.proofs.lemmas.List.Elements.{All-contains, All-from_get_or, All-push, All-weaker}
 use Rattle.std.proofs.lemmas.List.Quantifiers.{all_pairs_push}
 use Rattle.area_graph.specs.declared.Point.{Point}
-use Rattle.area_graph.specs.declared.Path.{Path}
 use Rattle.design_problem.specs.Forms.{Form, AreMet}
 use Rattle.design_problem.specs.Problems.{DesignProblem}
 use Rattle.form_search.specs.Sources.{IsSourceAnswer, SameSource}
@@ -95,11 +94,11 @@ pub too_cheap_not : (p : DesignProblem) (point : Point) (set es : List ℕ) → 
 too_cheap_not p point set es cheap shares = (let more = shares.dearer es cheap.rival in let less = cheap.cheap in absurd (omega arith))
 
 row_added : (point : Point) (count : ℕ) (p : DesignProblem) (sets : List (List ℕ)) (old_rows : List SetRow)
-    (old_forms : List Form) (rows : List SetRow) (forms : List Form) (asked : Asked) (rival : Path) →
+    (old_forms : List Form) (rows : List SetRow) (forms : List Form) (asked : Asked) (rival : List ℕ) →
     AreSetsAsked point count (record { problem = p; sets = sets; rows = old_rows }) old_forms
     (record { problem = p; sets = sets; rows = rows }) forms asked →
     AreMet old_forms point → length point.values ≡ length p.low → IsProblemOnGraph p → AreMemberSets p sets →
-    count < length sets → IsOutsiderTooCheap p point (set_at sets count) rival.edges →
+    count < length sets → IsOutsiderTooCheap p point (set_at sets count) rival →
     AreSetsAsked point (count + 1) (record { problem = p; sets = sets; rows = old_rows }) old_forms
     (record { problem = p; sets = sets; rows = rows ++ Rival (name_of_set (set_at sets count)) rival ∷ [] })
     (forms ++ form_of_set_row p (Rival (name_of_set (set_at sets count)) rival) ∷ []) Added
@@ -108,7 +107,7 @@ row_added point count p sets old_rows old_forms rows forms asked rival are met l
     let set = set_at sets count in
     let row : SetRow = Rival (name_of_set set) rival in
     let has = listed_at sets count [] inside in
-    let negative = between_negative p point (edges_of p (name_of_set set)) rival.edges kept.problem length_is cheap.cheap in
+    let negative = between_negative p point (edges_of p (name_of_set set)) rival kept.problem length_is cheap.cheap in
     let is_row : IsSetRow p sets row = (set, record { listed = has; first = refl }, cheap.rival) in
     record {
       problem = refl;
@@ -122,7 +121,7 @@ row_added point count p sets old_rows old_forms rows forms asked rival are met l
           (All-weaker (IsPassed old point count) (IsPassed old point (count + 1)) (passed_more old point count) rows are.passed)
           (inl (count, omega arith, refl));
       answer = (
-        λ each. too_cheap_not p point set rival.edges cheap (All-contains (Shares p point) sets set each has),
+        λ each. too_cheap_not p point set rival cheap (All-contains (Shares p point) sets set each has),
         new_rival point old_forms forms (form_of_set_row p row) met negative,
       );
     }
@@ -142,7 +141,7 @@ one_added point count old old_forms now forms new new_forms asked are met length
   where
     by_names : (q : DesignProblem) (others : List (List ℕ)) → q ≡ old.problem → others ≡ old.sets →
         AreSetsAsked point count old old_forms (record { problem = q; sets = others; rows = now.rows }) forms asked →
-        IsProblemOnGraph q → AreMemberSets q others → IsOutsiderTooCheap q point (set_at others count) one.rival.edges →
+        IsProblemOnGraph q → AreMemberSets q others → IsOutsiderTooCheap q point (set_at others count) one.rival →
         AreSetsAsked point (count + 1) old old_forms
         (record {
           problem = q;
@@ -153,7 +152,7 @@ one_added point count old old_forms now forms new new_forms asked are met length
     by_names q others same_problem same_sets =
         subst (λ (r : DesignProblem). AreSetsAsked point count old old_forms
         (record { problem = r; sets = others; rows = now.rows }) forms asked → IsProblemOnGraph r → AreMemberSets r others →
-        IsOutsiderTooCheap r point (set_at others count) one.rival.edges →
+        IsOutsiderTooCheap r point (set_at others count) one.rival →
         AreSetsAsked point (count + 1) old old_forms
         (record {
           problem = r;
@@ -165,7 +164,7 @@ one_added point count old old_forms now forms new new_forms asked are met length
         (subst (λ (ss : List (List ℕ)).
         AreSetsAsked point count old old_forms (record { problem = old.problem; sets = ss; rows = now.rows }) forms
         asked → IsProblemOnGraph old.problem → AreMemberSets old.problem ss →
-        IsOutsiderTooCheap old.problem point (set_at ss count) one.rival.edges →
+        IsOutsiderTooCheap old.problem point (set_at ss count) one.rival →
         AreSetsAsked point (count + 1) old old_forms
         (record {
           problem = old.problem;

@@ -9,7 +9,6 @@ use Rattle.std.proofs.lemmas.List.Kept.{AllPairs-cons, AllPairs-filter, AllPairs
 use Rattle.cost_base.specs.Lists.{numbers_from}
 use Rattle.cost_base.proofs.ListLemmas.{all_kept, get_or-numbers_from, length-numbers_from}
 use Rattle.area_graph.specs.declared.Point.{Point}
-use Rattle.area_graph.specs.declared.Path.{Path}
 use Rattle.design_problem.specs.Forms.{value_at}
 use Rattle.design_problem.specs.Problems.{DesignProblem}
 use Rattle.design_problem.specs.Rows.{form_between}
@@ -118,7 +117,7 @@ not_below : (z : ℤ) → pos 0 ≤ℤ z → z <ℤ pos 0 → ⊥
 not_below z above below = omega (arith, ints, above, below)
 
 -- a rival that is too cheap differs from each row that was passed
-pub passed_differs : (s : KnownSets) (point : Point) (count : ℕ) (row : SetRow) (rival : Path) →
+pub passed_differs : (s : KnownSets) (point : Point) (count : ℕ) (row : SetRow) (rival : List ℕ) →
     AreDistinctSets s.sets → count < length s.sets →
     value_at (form_of_set_row s.problem (Rival (name_of_set (set_at s.sets count)) rival)) point <ℤ pos 0 →
     IsPassed s point count row → SetRowsDiffer row (Rival (name_of_set (set_at s.sets count)) rival)
@@ -129,9 +128,9 @@ passed_differs s point count (Rival name other) rival distinct inside negative (
     λ same edges.
     let p = s.problem in
     let value_of : ℕ → List ℕ → ℤ = λ k es. value_at (form_between p.graph (length p.low) (edges_of p k) es) point in
-    let one : value_of name other.edges ≡ value_of (name_of_set (set_at s.sets count)) rival.edges =
-    ap (λ (k : ℕ). value_of k other.edges) same ∙ ap (value_of (name_of_set (set_at s.sets count))) edges in
-    not_below (value_of (name_of_set (set_at s.sets count)) rival.edges) (subst (λ (z : ℤ). pos 0 ≤ℤ z) one met) negative
+    let one : value_of name other ≡ value_of (name_of_set (set_at s.sets count)) rival =
+    ap (λ (k : ℕ). value_of k other) same ∙ ap (value_of (name_of_set (set_at s.sets count))) edges in
+    not_below (value_of (name_of_set (set_at s.sets count)) rival) (subst (λ (z : ℤ). pos 0 ≤ℤ z) one met) negative
 
 pub passed_more : (s : KnownSets) (point : Point) (count : ℕ) (row : SetRow) → IsPassed s point count row → IsPassed s point (count + 1) row
 passed_more s point count row (inl earlier) = inl (earlier.0, (let before = earlier.1 in omega arith), earlier.2)

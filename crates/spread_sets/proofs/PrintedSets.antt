@@ -78,7 +78,7 @@ set_row_short : (p : DesignProblem) (sets : List (List ℕ)) (row : SetRow) → 
 set_row_short p sets (Rival name rival) kept are is =
     let set_is = All-contains (IsMemberSet p) sets is.0 are is.1.listed in
     let row : Row = record { request = name; rival = rival } in
-    let is_row : IsRow p row = subst (λ (k : ℕ). IsRivalOf p.graph (slice_get p.paths k) rival.edges) is.1.first (rival_row p is.0 rival.edges set_is is.2) in
+    let is_row : IsRow p row = subst (λ (k : ℕ). IsRivalOf p.graph (slice_get p.paths k) rival) is.1.first (rival_row p is.0 rival set_is is.2) in
     rows_short p (row ∷ []) kept.problem kept.graph (All-cons (IsRow p) row [] is_row (All-nil (IsRow p))) 0 row (omega arith)
 set_row_short p sets (Same name i j) kept are is =
     let set = is.0 in

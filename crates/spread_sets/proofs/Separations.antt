@@ -107,11 +107,11 @@ cheap_route p point set es name is cheap same =
     (route_is p.graph p.paths (name_of_set set) es (first_known p set is) cheap.rival.path)
 
 -- the form of a row of a request is that of a rival of its path
-pub row_form : (p : DesignProblem) (row : Row) → IsRouteOf p.graph (slice_get p.paths row.request) row.rival.edges →
+pub row_form : (p : DesignProblem) (row : Row) → IsRouteOf p.graph (slice_get p.paths row.request) row.rival →
     form_of_row p row ≡ form_of_set_row p (Rival row.request row.rival)
 row_form p row route =
-    ap (λ (es : List ℕ). form_between p.graph (length p.low) es row.rival.edges)
-    (ap path_edges (request_of_route p.graph p.paths row.request no_request row.rival.edges route).is_there)
+    ap (λ (es : List ℕ). form_between p.graph (length p.low) es row.rival)
+    (ap path_edges (request_of_route p.graph p.paths row.request no_request row.rival route).is_there)
 
 pub ready_all : (p : DesignProblem) (places count : ℕ) (sets : List MemberSet) → count ≡ places → All (HasTree p) sets →
     All (λ (set : MemberSet). length set.tree + 1 ≤ places) sets → All (HasTreeWithin p count) sets
@@ -132,12 +132,12 @@ room_new g h room same is =
 -- what is known of the row that is made of a rival of a set
 pub record IsRivalRow (p : DesignProblem) (point : Point) (set : List ℕ) (row : Row) : Type 0 where
   pub name : row.request ≡ name_of_set set
-  pub cheap : IsOutsiderTooCheap p point set row.rival.edges
-  pub route : IsRouteOf p.graph (slice_get p.paths row.request) row.rival.edges
+  pub cheap : IsOutsiderTooCheap p point set row.rival
+  pub route : IsRouteOf p.graph (slice_get p.paths row.request) row.rival
 
 -- the row of a rival that was found for a set
 pub found_row : (p : DesignProblem) (point : Point) (set es : List ℕ) (row : Row) → IsMemberSet p set →
-    IsOutsiderTooCheap p point set es → row.request ≡ name_of_set set → row.rival.edges ≡ es → IsRivalRow p point set row
+    IsOutsiderTooCheap p point set es → row.request ≡ name_of_set set → row.rival ≡ es → IsRivalRow p point set row
 found_row p point set es row is cheap name edges =
     let rival = subst (IsOutsiderTooCheap p point set) (sym edges) cheap in
-    record { name = name; cheap = rival; route = cheap_route p point set row.rival.edges row.request is rival name }
+    record { name = name; cheap = rival; route = cheap_route p point set row.rival row.request is rival name }

@@ -48,7 +48,7 @@ set_shares p sets w set kept count meets has =
       dearer = λ es outsider.
           dearer (cost_of es) (cost_of (edges_of p first))
           (subst (λ (z : ℤ). pos 0 ≤ℤ z) (between_at p w (edges_of p first) es kept count)
-          (meets (Rival first (record { start = 0; edges = es })) (set, named, outsider)));
+          (meets (Rival first es) (set, named, outsider)));
     }
 
 pub spread_is_met : SpreadMeansMet

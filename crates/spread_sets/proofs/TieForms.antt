@@ -62,7 +62,7 @@ form_one_more p first second =
     (one_back (pos (fixed_cost p.graph second)) (pos (fixed_cost p.graph first)))
 
 pub tie_is : (p : DesignProblem) (row : Row) (first second : ℕ) (form more : Form) → row.request ≡ first →
-    row.rival.edges ≡ edges_of p second → IsRouteOf p.graph (slice_get p.paths first) (edges_of p second) →
+    row.rival ≡ edges_of p second → IsRouteOf p.graph (slice_get p.paths first) (edges_of p second) →
     form ≡ form_of_row p row → more ≡ record form { constant = form.constant +ℤ pos 1 } →
     more ≡ form_of_tie p.graph (length p.low) (edges_of p first) (edges_of p second)
 tie_is p row first second form more is_first is_second route is_form is_more =
@@ -70,7 +70,7 @@ tie_is p row first second form more is_first is_second route is_form is_more =
     let wanted : path_edges (slice_get p.paths row.request) ≡ edges_of p first =
     ap (λ (k : ℕ). path_edges (slice_get p.paths k)) is_first ∙ ap path_edges found.is_there in
     let between : form ≡ form_between p.graph (length p.low) (edges_of p first) (edges_of p second) =
-    is_form ∙ ap (λ (es : List ℕ). form_between p.graph (length p.low) es row.rival.edges) wanted
+    is_form ∙ ap (λ (es : List ℕ). form_between p.graph (length p.low) es row.rival) wanted
     ∙ ap (λ (es : List ℕ). form_between p.graph (length p.low) (edges_of p first) es) is_second in
     is_more ∙ ap (λ (f : Form). let g : Form = record f { constant = f.constant +ℤ pos 1 } in g) between
     ∙ form_one_more p (edges_of p first) (edges_of p second)

@@ -15,7 +15,7 @@ use Rattle.spread_sets.specs.declared.spread.Spread.{Spread}
 use Rattle.spread_sets.specs.declared.spread.Spread.TheVariants.{Fit, Impossible, Undecided}
 use Rattle.spread_sets.specs.Spreads.{IsFormOfSetRow, IsSetRow, IsSpreadFit, SetRowsDiffer, SharesEach, all_sets, forms_of_set_rows}
 
--- how a row is printed
+-- the line of a row as it is printed
 abbrev pub set_row_line : SetRow → List ℕ
 set_row_line (Rival name rival) = row_line (record { request = name; rival = rival })
 set_row_line (Same name i j) = spaced (codes "same" ∷ decimal name ∷ decimal i ∷ decimal j ∷ [])
@@ -41,7 +41,7 @@ pub record IsUndecidedOfSets (p : DesignProblem) (sets : List (List ℕ)) (top n
   pub spent : IsUndecidedOver (SharesEach p sets) (IsFormOfSetRow p sets) top nodes (forms_of_set_rows p rows) (whole_box p) tree
   pub fits : FitText set_row_line (greatest_bound p) rows tree
 
--- what is found of sets: spread-fit costs; a closed tree, and there are none; or a tree of spent budget
+-- what is found of sets: spread-fit costs; a closed tree, and there are none; or a tree that used up the budget
 abbrev pub IsFoundOf : DesignProblem → List (List ℕ) → ℕ → ℕ → Spread → Type 0
 IsFoundOf p sets top nodes (Fit w) = IsSpreadFit p sets w
 IsFoundOf p sets top nodes (Impossible rows tree) = IsTreeOfSets p sets top nodes rows.items tree × IsClosed tree × HasNoSpread p sets

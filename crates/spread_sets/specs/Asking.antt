@@ -2,7 +2,6 @@
 -- public clause cites it.
 use Rattle.std.specs.Prelude.{◌≡◌, ◌⊎◌, ℕ, ◌<◌, pos, ◌≤ℤ◌, List, [], ◌∷◌, ◌++◌, All, Bool, true, false, Contains, Option, None, Some, length, slice_index_or}
 use Rattle.area_graph.specs.declared.Point.{Point}
-use Rattle.area_graph.specs.declared.Path.{Path}
 use Rattle.design_problem.specs.Forms.{Form, value_at}
 use Rattle.design_problem.specs.Problems.{DesignProblem}
 use Rattle.form_search.specs.Sources.{Grows, HasNewRival, IsSourceAnswer}
@@ -16,7 +15,7 @@ use Rattle.spread_sets.specs.Spreads.{Shares, SharesEach, name_of_set, form_of_s
 use Rattle.spread_sets.specs.MemberSets.{AreMemberSets}
 use Rattle.spread_sets.specs.Sources.{IsPoolOfSets, IsOutsiderTooCheap, IsTrueOfSets, KnownSets, set_at}
 
--- both are members of the set at the place
+-- two paths are members of the set at the place
 pub record IsPairIn (sets : List (List ℕ)) (pair : MemberPair) : Type 0 where
   pub place : pair.place < length sets
   pub first : Contains (set_at sets pair.place) pair.first
@@ -27,7 +26,7 @@ abbrev pub IsSetAnswer : DesignProblem → Point → List ℕ → Option (List �
 IsSetAnswer p point set None = Shares p point set
 IsSetAnswer p point set (Some es) = IsOutsiderTooCheap p point set es
 
--- such an outsider of each set, or None
+-- of each set an outsider that is too cheap, or None where its members share
 pub record AreSetAnswers (p : DesignProblem) (point : Point) (sets : List (List ℕ)) (outsiders : List (Option (List ℕ))) : Type 0 where
   pub count : length outsiders ≡ length sets
   pub each : (k : ℕ) → k < length sets → IsSetAnswer p point (set_at sets k) (slice_index_or outsiders k None)
@@ -42,12 +41,12 @@ pub record NoSetRow (point : Point) (place : ℕ) (old : KnownSets) (old_forms :
 pub record OneSetRow (point : Point) (place : ℕ) (old : KnownSets) (old_forms : List Form) (new : KnownSets) (new_forms : List Form) : Type 0 where
   pub kept : IsProblemOnGraph old.problem
   pub are : AreMemberSets old.problem old.sets
-  pub rival : Path
-  pub cheap : IsOutsiderTooCheap old.problem point (set_at old.sets place) rival.edges
+  pub rival : List ℕ
+  pub cheap : IsOutsiderTooCheap old.problem point (set_at old.sets place) rival
   pub rows : new ≡ record old { rows = old.rows ++ Rival (name_of_set (set_at old.sets place)) rival ∷ [] }
   pub forms : new_forms ≡ old_forms ++ form_of_set_row old.problem (Rival (name_of_set (set_at old.sets place)) rival) ∷ []
 
--- the answer on one set
+-- a set was asked: its members share and nothing came, or a rival that is too cheap came as a row
 abbrev pub IsSetAsked : Point → ℕ → KnownSets → List Form → KnownSets → List Form → Bool → Type 0
 IsSetAsked point place old old_forms new new_forms true = OneSetRow point place old old_forms new new_forms
 IsSetAsked point place old old_forms new new_forms false = NoSetRow point place old old_forms new new_forms
@@ -57,7 +56,7 @@ abbrev pub AnswersSetsBelow : KnownSets → Point → ℕ → List Form → List
 AnswersSetsBelow old point count old_forms new_forms Nothing = (new_forms ≡ old_forms) × ((k : ℕ) → k < count → Shares old.problem point (set_at old.sets k))
 AnswersSetsBelow old point count old_forms new_forms Added = (SharesEach old.problem old.sets point → ⊥) × HasNewRival point old_forms new_forms
 
--- the row is of one of the first sets, or its form is at least 0 at the point
+-- a row that came while sets were asked: it is of one of the first sets, or its form is at least 0 at the point
 abbrev pub IsPassed : KnownSets → Point → ℕ → SetRow → Type 0
 IsPassed s point count row =
     ((k : ℕ) × (k < count) × (name_of row ≡ name_of_set (set_at s.sets k))) ⊎ (pos 0 ≤ℤ value_at (form_of_set_row s.problem row) point)
@@ -73,7 +72,7 @@ pub record AreSetsAsked (point : Point) (count : ℕ) (old : KnownSets) (old_for
   pub passed : All (IsPassed old point count) new.rows
   pub answer : AnswersSetsBelow old point count old_forms new_forms asked
 
--- all sets were asked
+-- all sets were asked: rows and forms are in step, true forms came, and nothing came only where each set shares
 pub record AreAllSetsAsked (point : Point) (old : KnownSets) (old_forms : List Form) (new : KnownSets) (new_forms : List Form) (asked : Asked) : Type 0 where
   pub in_step : IsPoolOfSets new new_forms
   pub answer : IsSourceAnswer (SharesEach old.problem old.sets) point old_forms new_forms asked

@@ -50,20 +50,20 @@ IsSpreadFoundSettled (Undecided rows tree) = ⊥
 
 -- The budget can't be used up: no earnest tree over the box at the greatest upper bound, by the sets of these lines and the
 -- paths in no line, has an undone entry and exactly as many entries as the budget.
-abbrev pub CannotSpendOnSpread : DesignProblem → List (List ℕ) → ℕ → ℕ → Type 0
-CannotSpendOnSpread p lines top nodes =
+abbrev pub CannotBeUndecidedOnSpread : DesignProblem → List (List ℕ) → ℕ → ℕ → Type 0
+CannotBeUndecidedOnSpread p lines top nodes =
     (rows : List SetRow) (tree : List Entry) → All (IsSetRow p (all_sets p lines)) rows →
     IsEarnestOver (SharesEach p (all_sets p lines)) (IsFormOfSetRow p (all_sets p lines)) top (forms_of_set_rows p rows) (whole_box p) tree →
     Contains tree Undone → entry_count tree ≡ nodes → ⊥
 
--- where it can't, the sets are settled
+-- where the budget can't be used up, what is found is spread-fit costs, or that there are none
 abbrev pub SpreadSettlesUnspent : Type 0
 SpreadSettlesUnspent =
-    (p : DesignProblem) (lines : List (List ℕ)) (top nodes : ℕ) (found : Spread) → CannotSpendOnSpread p lines top nodes →
+    (p : DesignProblem) (lines : List (List ℕ)) (top nodes : ℕ) (found : Spread) → CannotBeUndecidedOnSpread p lines top nodes →
     IsSpreadFound p lines top nodes found → IsSpreadFoundSettled found
 
 -- a budget of twice as many entries as the box at the greatest upper bound has points, less one, can't be used up
 abbrev pub SpreadUnspentIfLarge : Type 0
 SpreadUnspentIfLarge =
     (p : DesignProblem) (lines : List (List ℕ)) (top nodes : ℕ) → IsProblem p → 2 * points (whole_box p) ≤ nodes + 1 →
-    CannotSpendOnSpread p lines top nodes
+    CannotBeUndecidedOnSpread p lines top nodes

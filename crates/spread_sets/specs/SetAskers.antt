@@ -45,13 +45,13 @@ abbrev pub CanCompareSet : SetSurvey → List ℕ → Findings → Type 0
 CanCompareSet s set room =
     HasDistancesTo s.problem.now.graph s.point.now (ends_in s.problem.now set) (dearer_from s.problem.now s.point.now set) room
 
--- the room has the distances to the end of a set's request without the edges that it takes away, those below a limit
+-- the room has the distances to the end of a set's request without its excluded edges, those below a limit
 pub record ReachesSet (s : SetSurvey) (room : Findings) (reach : Reach) : Type 0 where
   pub known : reach.set < length s.sets.now
   pub found : HasDistancesBelow s.problem.now.graph s.point.now (ends_in s.problem.now (member_set_at s.sets.now reach.set).members)
       reach.limit room
 
--- nothing is known of what the room has, or such distances
+-- the room has the distances to the end of a set's request, those below a limit, or nothing is known of what it has
 abbrev pub MayReach : SetSurvey → Findings → Option Reach → Type 0
 MayReach s room None = Unit {0}
 MayReach s room (Some reach) = ReachesSet s room reach
@@ -67,7 +67,7 @@ abbrev pub IsOutsiderIfAny : DesignProblem → Point → List ℕ → Option (Li
 IsOutsiderIfAny p point set None = OutsidersAreDearer p point set
 IsOutsiderIfAny p point set (Some es) = IsOutsiderTooCheap p point set es
 
--- such an outsider of each set, or None
+-- of each set an outsider that is too cheap, or None where every outsider is dearer
 pub record AreOutsidersIfAny (p : DesignProblem) (point : Point) (sets : List MemberSet) (outsiders : List (Option (List ℕ))) : Type 0 where
   pub count : length outsiders ≡ length sets
   pub each : (k : ℕ) → k < length sets → IsOutsiderIfAny p point (member_set_at sets k).members (slice_index_or outsiders k None)

@@ -161,8 +161,8 @@ tie_holds p sets set i j kept are has has_i has_j =
 row_holds : (p : DesignProblem) (sets : List (List ℕ)) (row : SetRow) → IsProblemOnGraph p → AreMemberSets p sets →
     IsSetRow p sets row → IsTrueForm (length p.low) (SharesEach p sets) (form_of_set_row p row)
 row_holds p sets (Rival name rival) kept are is =
-    subst (λ (k : ℕ). IsTrueForm (length p.low) (SharesEach p sets) (form_between p.graph (length p.low) (edges_of p k) rival.edges)) is.1.first
-    (rival_holds p sets is.0 rival.edges kept are is.1.listed is.2)
+    subst (λ (k : ℕ). IsTrueForm (length p.low) (SharesEach p sets) (form_between p.graph (length p.low) (edges_of p k) rival)) is.1.first
+    (rival_holds p sets is.0 rival kept are is.1.listed is.2)
 row_holds p sets (Same name i j) kept are is = tie_holds p sets is.0 i j kept are is.1.listed is.2 is.3
 
 -- a true form is small, and at least 0 at each point where each set shares
@@ -175,8 +175,8 @@ pub set_row_met : (p : DesignProblem) (sets : List (List ℕ)) (row : SetRow) (p
     length point.values ≡ length p.low → IsSetRow p sets row → SharesEach p sets point →
     pos 0 ≤ℤ value_at (form_of_set_row p row) point
 set_row_met p sets (Rival name rival) point kept count is each =
-    subst (λ (k : ℕ). pos 0 ≤ℤ value_at (form_between p.graph (length p.low) (edges_of p k) rival.edges) point) is.1.first
-    (rival_met p sets is.0 rival.edges point kept count is.1.listed is.2 each)
+    subst (λ (k : ℕ). pos 0 ≤ℤ value_at (form_between p.graph (length p.low) (edges_of p k) rival) point) is.1.first
+    (rival_met p sets is.0 rival point kept count is.1.listed is.2 each)
 set_row_met p sets (Same name i j) point kept count is each = tie_met p sets is.0 i j point kept count is.1.listed is.2 is.3 each
 
 -- Every true form stands in the list of the candidates.
@@ -204,8 +204,8 @@ row_listed p sets (Rival name rival) kept are is =
     subst (λ (k : ℕ). k < length p.paths) is.1.first
     (member_known p set (name_of_set set) is_set (first_listed set is_set.some)) in
     Contains-append_left (forms_of_pairs p between p.paths)
-    (forms_of_pairs p (form_of_tie p.graph (length p.low)) p.paths) (between (edges_of p name) rival.edges)
-    (pair_listed p between p.paths name rival.edges known (path_listed p (ends_in p set) rival.edges kept.graph is.2.path))
+    (forms_of_pairs p (form_of_tie p.graph (length p.low)) p.paths) (between (edges_of p name) rival)
+    (pair_listed p between p.paths name rival known (path_listed p (ends_in p set) rival kept.graph is.2.path))
 row_listed p sets (Same name i j) kept are is =
     let set = is.0 in
     let is_set = All-contains (IsMemberSet p) sets set are is.1.listed in

@@ -39,7 +39,7 @@ edges_of p path = (request_at p.paths path).path.edges
 abbrev pub paths_of : DesignProblem → List ℕ → List (List ℕ)
 paths_of p set = map (edges_of p) set
 
--- the ends between which the members lead, and the edges that their request takes away
+-- the ends between which the members lead, and the excluded edges of their request
 abbrev pub ends_in : DesignProblem → List ℕ → Ends
 ends_in p set = request_ends (request_at p.paths (name_of_set set))
 
@@ -66,14 +66,14 @@ pub record IsSpreadFit (p : DesignProblem) (sets : List (List ℕ)) (w : List �
   pub within : IsInBox (box_of p) w
   pub shares : SharesEach p sets (at_costs w)
 
--- one of the sets has this name
+-- the set of the problem that is named by this number, that of its first member
 pub record IsNamed (sets : List (List ℕ)) (name : ℕ) (set : List ℕ) : Type 0 where
   pub listed : Contains sets set
   pub first : name_of_set set ≡ name
 
 -- a row: a rival of a set is a simple path of the request that is no member, and two members of a set are kept at one cost
 abbrev pub IsSetRow : DesignProblem → List (List ℕ) → SetRow → Type 0
-IsSetRow p sets (Rival name rival) = (set : List ℕ) × IsNamed sets name set × IsOutsider p.graph (ends_in p set) (paths_of p set) rival.edges
+IsSetRow p sets (Rival name rival) = (set : List ℕ) × IsNamed sets name set × IsOutsider p.graph (ends_in p set) (paths_of p set) rival
 IsSetRow p sets (Same name i j) = (set : List ℕ) × IsNamed sets name set × Contains set i × Contains set j
 
 -- cost(second) - cost(first), in n variables
@@ -86,7 +86,7 @@ form_of_tie g n first second =
 
 -- the form of a row: cost(rival) - cost(first member) - 1, or cost(J) - cost(I)
 abbrev pub form_of_set_row : DesignProblem → SetRow → Form
-form_of_set_row p (Rival name rival) = form_between p.graph (length p.low) (edges_of p name) rival.edges
+form_of_set_row p (Rival name rival) = form_between p.graph (length p.low) (edges_of p name) rival
 form_of_set_row p (Same name i j) = form_of_tie p.graph (length p.low) (edges_of p i) (edges_of p j)
 
 -- the forms of rows of sets, in their order
@@ -106,7 +106,7 @@ name_of (Same name i j) = name
 
 -- the rows differ in their sets, in their rivals' edges, or in their two members
 abbrev pub SetRowsDiffer : SetRow → SetRow → Type 0
-SetRowsDiffer (Rival a rival) (Rival b other) = a ≡ b → rival.edges ≡ other.edges → ⊥
+SetRowsDiffer (Rival a rival) (Rival b other) = a ≡ b → rival ≡ other → ⊥
 SetRowsDiffer (Same a i j) (Same b k l) = a ≡ b → i ≡ k → j ≡ l → ⊥
 SetRowsDiffer (Rival a rival) (Same b i j) = Unit {0}
 SetRowsDiffer (Same a i j) (Rival b rival) = Unit {0}

@@ -6,15 +6,8 @@ ghost use Rattle.spread_sets.specs.Spreads.{edges_of, form_of_tie};
 use crate::member_sets::request_of;
 use cost_base::OutOfMemory;
 use cost_branching::row_of;
-use design_problem::{Form, Problem, Term, form_of};
+use design_problem::{Form, Problem, copied_terms, form_of};
 use std::alloc::Global;
-
-/// The same terms.
-fn copied(alloc: Global, terms: &[Term]) -> Result<Vec<Term>, OutOfMemory>
-    ensures { IfOk result (λ copy. copy.items ≡ terms.now) }
-{
-    Ok(terms.to_vec(alloc)?)
-}
 
 /// The form with 1 more.
 fn with_one_more(alloc: Global, form: &Form) -> Result<Form, OutOfMemory>
@@ -22,7 +15,7 @@ fn with_one_more(alloc: Global, form: &Form) -> Result<Form, OutOfMemory>
     ensures { IfOk result
         (λ more. more ≡ record form.now { constant = form.now.constant +ℤ pos 1 }) }
 {
-    let terms = copied(alloc, form.terms())?;
+    let terms = copied_terms(alloc, form.terms())?;
     Ok(Form::from_terms(form.variables(), form.constant() + 1, terms))
 }
 

@@ -35,7 +35,7 @@ struct Reach {
     limit: u128,
 }
 
-/// What asks for the outsiders of sets at one point, again and again. Sets whose requests have one end and take away the
+/// What asks for the outsiders of sets at one point, again and again. Sets whose requests have one end and exclude the
 /// same edges share their distances. Contracts see its room, for how many places of a tree it has room, and the order in
 /// which it looks at the sets.
 #[derive(Drop)]
@@ -54,8 +54,8 @@ impl Model for SetAsker {
     ghost view = { λ a. record { room = a.room; places = length a.costs.items; order = a.order.items } };
 }
 
-/// What sets that share distances have in common: the end of their requests, and how many edges these take away and the
-/// first of them.
+/// What sets that share distances have in common: the end of their requests, and how many edges these exclude and the
+/// first of these.
 fn end_of(problem: &Problem, sets: &[MemberSet], number: usize) -> (u32, usize, Option<u32>) {
     let first = match sets.get(number) {
         Some(set) => first_of(set.members.as_slice()),
@@ -99,7 +99,7 @@ fn request_in<'a>(problem: &'a Problem, set: &MemberSet) -> &'a Request
     request_of(problem, first_of(set.members.as_slice()))
 }
 
-/// Whether distances found for one set serve another: their requests have one end, and take away the same edges.
+/// Whether distances found for one set serve another: their requests have one end, and exclude the same edges.
 fn have_one_end(problem: &Problem, first: &MemberSet, other: &MemberSet) -> bool
     requires first { IsMemberSet problem.now first.now.members }
     requires other { IsMemberSet problem.now other.now.members }
@@ -367,7 +367,7 @@ impl SetAsker {
 
     /// Whether the members of each set tie, and every other path is dearer by the scale. It ends at the first set of which
     /// that doesn't hold, in the order. The distances to an end are looked for once, and serve each set with that end whose
-    /// request takes away the same edges.
+    /// request excludes the same edges.
     pub(crate) fn each_shares(
         &mut self,
         problem: &Problem,

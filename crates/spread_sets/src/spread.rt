@@ -1,13 +1,13 @@
 //! What is found of the sets of a problem.
-use area_graph::Path;
+use cost_base::Listed;
 use design_problem::{CostList, Tree};
 
 /// A row of a set, which is named by the least number in it.
 #[derive(Drop)]
 pub enum SetRow {
     /// A rival of a set: a simple path of the request that is no member. Its form is cost(rival) - cost(first member) - 1.
-    /// The rival's edges are taken from the start of the request's path; its own `start` plays no part.
-    Rival(u32, Path),
+    /// The rival is its edges, in their order; they start where the request's path starts.
+    Rival(u32, Listed<u32>),
     /// Two members of a set, I and J. Its form is cost(J) - cost(I).
     Same(u32, u32, u32),
 }

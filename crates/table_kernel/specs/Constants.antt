@@ -26,7 +26,7 @@ pub record IsShortConstant (common : ℤ) (line : Line) : Type 0 where
   pub divides : nat_abs line.denominator ∣ nat_abs common
   pub limit : nat_abs line.constant * share_of (nat_abs common) line ≤ 2 ^ 44
 
--- that of high - x, by the one of x - low
+-- the constant of high - x of a variable, by that of x - low
 abbrev pub high_constant : ℕ → ℕ → ℤ → ℤ → ℤ
 high_constant low high common constant = (common *ℤ (pos high -ℤ pos low)) -ℤ constant
 
@@ -41,7 +41,7 @@ AreConstants costs rows D lows constants =
     number_at constants place ≡ number_of_form D costs.low lows
     (member_form (length costs.low) rows (slice_index_or (members_of_box costs (length rows)) place (Low 0 0))) 0
 
--- the constants are those of the kernel's forms
+-- a kernel's constants are those of its forms over its common denominator
 pub record AreConstantsPut (k : Kernel) (constants : List ℤ) : Type 0 where
   pub count : length constants ≡ length k.constants.items
   pub each : AreConstants k.table.costs k.table.rows.items (nat_abs k.common) (lows_of k) constants
@@ -70,7 +70,7 @@ pub record AreByFirst (k : Kernel) (constants : List ℤ) : Type 0 where
 abbrev pub AreFirstSmall : Kernel → List ℤ → Type 0
 AreFirstSmall k constants = (v : ℕ) → v < width_of k → nat_abs (number_at constants v) ≤ 2 ^ 44
 
--- the constants of x - low are small, and the others are what they make of them
+-- a kernel's constants of x - low are at most 2^44, and those of its other forms are what they make of them
 pub record AreMadeByFirst (k : Kernel) (constants : List ℤ) : Type 0 where
   pub small : AreFirstSmall k constants
   pub others : AreByFirst k constants

@@ -24,7 +24,7 @@ width_of k = length k.table.costs.low
 abbrev pub lows_of : Kernel → List (List ℤ)
 lows_of k = map (scaled_line (nat_abs k.common)) k.lows.items
 
--- the lines of all forms, in fractions
+-- the lines of all forms of a kernel, in fractions
 abbrev pub kernel_lines : Kernel → List (List Fraction)
 kernel_lines k = fraction_lines (nat_abs k.common) k.table.costs k.table.rows.items (lows_of k)
 

@@ -13,7 +13,7 @@ use Rattle.table_kernel.specs.declared.kernel.Kernel.{Kernel}
 use Rattle.table_kernel.specs.Numbers.{number_at_column, share_of}
 use Rattle.table_kernel.specs.Kernels.{lows_of, width_of}
 
--- the kernels differ in their room alone
+-- the kernels hold the same numbers: they differ in the room that work needs alone
 pub record KeepsNumbers (old new : Kernel) : Type 0 where
   pub table : new.table ≡ old.table
   pub common : new.common ≡ old.common

@@ -9,7 +9,7 @@ use Rattle.integer_pivots.specs.Lines.{no_line, step_of}
 use Rattle.table_kernel.specs.declared.kernel.Kernel.{Kernel}
 use Rattle.table_kernel.specs.Numbers.{share_of}
 
--- the line with another constant
+-- a line of a kernel with another constant
 abbrev pub with_constant : Line → ℤ → Line
 with_constant line constant = record { denominator = line.denominator; constant = constant; numbers = line.numbers; reach = line.reach }
 
@@ -33,7 +33,7 @@ abbrev pub lines_after_high : List Line → Option ℕ → ℤ → List Line
 lines_after_high lines None fall = lines
 lines_after_high lines (Some column) fall = map (raised_kernel_line column fall) lines
 
--- what a bound that moves leaves, but for the box, the basis and the constants of lines
+-- a kernel after a bound moved: but for its box, its basis and the constants of its lines it is as before
 pub record KeepsInMove (old new : Kernel) : Type 0 where
   pub top : new.table.top ≡ old.table.top
   pub rows : new.table.rows ≡ old.table.rows
@@ -67,7 +67,7 @@ box_distance old new = distance_of old.low new.low + distance_of old.high new.hi
 abbrev pub LineMayMove : ℕ → ℕ → Line → Type 0
 LineMayMove common far line = (nat_abs line.constant + far * step_of line) * share_of common line ≤ 2 ^ 44
 
--- all constants of x - low stay within their limit where the bounds move this far
+-- all of a kernel's constants of x - low stay within their limit where its bounds move this far in all
 abbrev pub MayMove : Kernel → ℕ → Type 0
 MayMove k far = (var : ℕ) → var < length k.lows.items → LineMayMove (nat_abs k.common) far (slice_index_or k.lows.items var no_line)
 

@@ -33,7 +33,7 @@ pub record IsReadFrom (row : List Fraction) (line : Line) : Type 0 where
   pub constant : line.constant ≡ over_denominator (nat_abs line.denominator) (entry row 0)
   pub numbers : (c : ℕ) → c < length line.numbers → number_at line.numbers c ≡ over_denominator (nat_abs line.denominator) (entry row (suc c))
 
--- over this denominator a row of fractions is within the bounds of a line
+-- over this denominator a row of fractions is within a kernel's bounds for a line
 pub record FitsOver (D : ℕ) (row : List Fraction) : Type 0 where
   pub positive : 0 < D
   pub small : D ≤ 2 ^ 30

@@ -16,7 +16,7 @@ row_constant_of common low constants f = (common *ℤ value_for_costs f low) +�
 abbrev pub IsCovered : Form → Type 0
 IsCovered f = weight_of f ≤ 2 ^ 16
 
--- the kernels hold the same numbers
+-- the kernels have the same numbers: of lines, constants and uses, over the same common denominator
 pub record HoldsNumbers (old new : Kernel) : Type 0 where
   pub common : new.common ≡ old.common
   pub lows : new.lows ≡ old.lows

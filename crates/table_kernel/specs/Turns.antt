@@ -15,7 +15,7 @@ use Rattle.table_kernel.specs.Kernels.{IsKernel, width_of}
 use Rattle.table_kernel.specs.Lines.{IsBestColumn, IsEntering, IsLineTooLarge, IsPivotPlace}
 use Rattle.table_kernel.specs.Numbers.{share_of}
 
--- the line of x - low for a variable
+-- a kernel's line of x - low for a variable
 abbrev pub line_of : Kernel → ℕ → Line
 line_of k var = slice_index_or k.lows.items var no_line
 
@@ -70,14 +70,14 @@ pub record IsPivotIn (k : Kernel) (place column : ℕ) : Type 0 where
   pub entering : IsEntering k place
   pub best : IsBestColumn k (Some column)
 
--- the pivot at a place's line and its best column isn't covered
+-- the kernel's bounds don't cover a pivot at a place: its turn at the best column of the place's line passes them
 pub record IsRefusedAt (k : Kernel) (place : ℕ) : Type 0 where
   pub column : ℕ
   pub entering : IsEntering k place
   pub best : IsBestColumn k (Some column)
   pub refused : MayTurn k column → ⊥
 
--- the pivot that is due, at the pivot form, isn't covered: its line isn't, or the turn isn't
+-- the kernel's bounds don't cover the pivot that is due: the line of the pivot form is too large, or a number of the turn
 pub record IsHeldUp (k : Kernel) : Type 0 where
   pub place : ℕ
   pub due : IsPivotPlace k place
@@ -123,7 +123,7 @@ pub record IsLineReady (k : Kernel) (column var : ℕ) : Type 0 where
   pub held : var < length k.turns.items
   pub turn : held_turn k var ≡ turn_of_line k column var
 
--- what a turn of lines leaves as it is
+-- a kernel of which some lines have turned: but for its lines of x - low it is as before
 pub record KeepsAllButLows (old new : Kernel) : Type 0 where
   pub table : new.table ≡ old.table
   pub common : new.common ≡ old.common

@@ -103,7 +103,7 @@ impl Kernel {
     ///
     /// `Wide` where a step of the row's line makes a whole number that passes the top. The row was added nevertheless.
     pub fn park_row(&mut self, row: BlankRow) -> Result<(), Wide>
-        // The kernel is parked, its table is whole, and there's a place for the row.
+        // The kernel is parked, its table's lines are those at the basis, and there's a place for the row.
         requires parked { IsParked self.old }
         requires whole { IsTableau self.old.table }
         requires row { MayAddRow self.old row }
@@ -112,7 +112,7 @@ impl Kernel {
         ensures holds { HoldsRow self.old.table row.form self.new.table }
         ensures room { HasRoom self.new.table }
 
-        // On Ok the table is whole again, and the kernel's lists have grown with it.
+        // On Ok the table's lines are those at the basis, and the kernel's lists have grown with it.
         ensures whole { OnOk result (IsTableau self.new.table) }
         ensures parked { OnOk result (IsParked self.new) }
 

@@ -79,7 +79,8 @@ impl Kernel {
 
     /// Turns all lines of x - low at a column to what they come to in lowest terms.
     fn turn_lines_to_lowest(&mut self, column: usize, common: i64)
-        // The lines' turns are put, and all that the lines come to is within the bounds over this common denominator.
+        // The lines' turns are put, and all that the lines come to is within the bounds over this
+        // common denominator.
         requires ready { IsReadyToTurn self.old column }
         requires common { IsLowestCommon self.old column common }
         requires fits { FitsLowest self.old column (nat_abs common) }

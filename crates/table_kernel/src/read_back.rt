@@ -81,7 +81,7 @@ fn read_numbers(
     row: &TableRow,
     denominator: i64,
 ) -> Result<(), OutOfRange>
-    // The row has a fraction for each number, behind its constant, all whole over the denominator.
+    // The row has a fraction for each number, behind its constant; each denominator goes into this one.
     requires row { length row.now ≡ suc (length numbers.old) }
     requires few { length numbers.old < 2 ^ 32 }
     requires denominator { (pos 0 <ℤ denominator) × (denominator ≤ℤ pos (2 ^ 30)) }
@@ -220,7 +220,7 @@ impl Kernel {
     ///
     /// `OutOfRange` where the kernel's bounds don't cover the table.
     pub fn read_back(&mut self) -> Result<(), OutOfRange>
-        // The kernel is parked; its table is whole, with a top that suffices for a kernel.
+        // The kernel is parked; its table's lines are those at the basis, with a top that suffices for a kernel.
         requires parked { IsParked self.old }
         requires whole { IsTableau self.old.table }
         requires top { 2 ^ 126 ≤ self.old.table.top }

@@ -26,6 +26,7 @@ pub fn fraction_over(number: i128, common: i64, top: Top) -> Frac
 {
     match Frac::new(number, i128::from(common), top) {
         Some(fraction) => fraction,
+        // The number and the denominator are within `top`, so they are in lowest terms, too.
         None => unreachable!(),
     }
 }
@@ -94,7 +95,7 @@ impl Kernel {
         requires kernel { IsKernel self.old }
         ensures lines { self.new.table.lines.items ≡ kernel_lines self.old }
 
-        // The table is whole, with room for pivots, so it can go on in fractions.
+        // The lines are the table at the basis, with room for pivots, so it can go on in fractions.
         ensures whole { IsTableau self.new.table }
         ensures room { HasRoom self.new.table }
 

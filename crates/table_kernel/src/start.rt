@@ -42,8 +42,12 @@ fn bound_constants(alloc: Global, costs: &CostBox) -> Result<Vec<i64>, OutOfMemo
 ///
 /// `OutOfMemory`.
 pub fn starting_kernel(alloc: Global, costs: &CostBox, top: Top) -> Result<Kernel, OutOfMemory>
+    // The box has a range for each variable, and 32 bits number them.
     requires ranges { IsBox (length costs.now.low) costs.now }
     requires few { length costs.now.low < 2 ^ 32 }
+
+    // It holds an open table without rows at the basis of the forms x - low. Its constants are
+    // within the kernel's bounds, and all its numbers where the table's greatest number is wide.
     ensures held { IfOk result (λ kernel. held_of kernel.table Open ≡
         record {
           top = top;

@@ -184,7 +184,8 @@ impl Kernel {
         requires touched { AreNonZeros self.old.entering.numbers (width_of self.old)
             self.old.left.items }
 
-        // No number passes the bounds on the way, and the common denominator is that after the turn.
+        // No number passes the bounds on the way, and the common denominator is that after the
+        // turn.
         requires small { StaysSmallThroughout self.old column }
         requires common { (pos 0 <ℤ common) × (nat_abs common ≡ next_common self.old column) ×
             (common ≤ℤ pos (2 ^ 30)) }

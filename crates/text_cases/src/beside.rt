@@ -1,7 +1,10 @@
 //! The present costs of the variables that requests make of a network, as they are written.
+ghost use Rattle.std.specs.Prelude.{◌≡◌};
+ghost use Rattle.path_requests.specs.Meaning.{problem_of};
 
 use crate::requests::requests_of;
 use cost_base::Refusal;
+use design_problem::Problem;
 use lsdb_build::Lsdb;
 use present_costs::{present_of_variables, resolve_beside_present};
 use request_reader::RequestFile;
@@ -25,13 +28,25 @@ impl<'a> fmt::Display for Costs<'a> {
     }
 }
 
+/// What is told of the present costs of a problem's variables.
+fn costs_text(
+    alloc: Global,
+    requests: &RequestFile,
+    network: &Lsdb,
+    problem: &Problem,
+) -> Result<String, AllocError>
+    requires { problem.now ≡ problem_of requests.now network.now }
+{
+    match present_of_variables(alloc, requests, network, problem) {
+        Ok(costs) => format!(in alloc; ": present{}", Costs(costs.as_slice())),
+        Err(_) => Err(AllocError),
+    }
+}
+
 /// What is told of the present costs, or of the first fault of requests.
 fn told(alloc: Global, requests: &RequestFile, network: &Lsdb) -> Result<String, AllocError> {
     match resolve_beside_present(alloc, requests, network) {
-        Ok(problem) => match present_of_variables(alloc, requests, network, &problem) {
-            Ok(costs) => format!(in alloc; ": present{}", Costs(costs.as_slice())),
-            Err(_) => Err(AllocError),
-        },
+        Ok(problem) => costs_text(alloc, requests, network, &problem),
         Err(stop) => stopped(alloc, stop),
     }
 }

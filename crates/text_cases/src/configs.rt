@@ -64,15 +64,26 @@ fn write_rest<W: fmt::Write>(interface: &Interface, f: &mut fmt::Formatter<W>) -
     Ok(())
 }
 
-/// The router's name and ID, and its interfaces.
-fn router_text(alloc: Global, config: &RouterConfig) -> Result<String, AllocError> {
-    let mut text = format!(in alloc; ": {}", config.name.as_bytes().escape_ascii())?;
-    if let Some(id) = config.router_id {
-        text.push_str(format!(in alloc; ", id {}", Quad(id))?.as_str())?;
-    }
+/// Adds a router's interfaces.
+fn add_interfaces(
+    alloc: Global,
+    text: &mut String,
+    config: &RouterConfig,
+) -> Result<(), AllocError> {
     for interface in config.interfaces.as_slice() {
         text.push_str(format!(in alloc; "; {}", Shown(interface))?.as_str())?;
     }
+    Ok(())
+}
+
+/// The router's name and ID, and its interfaces.
+fn router_text(alloc: Global, config: &RouterConfig) -> Result<String, AllocError> {
+    let name = config.name.as_bytes().escape_ascii();
+    let mut text = match config.router_id {
+        Some(id) => format!(in alloc; ": {name}, id {}", Quad(id))?,
+        None => format!(in alloc; ": {name}")?,
+    };
+    add_interfaces(alloc, &mut text, config)?;
     Ok(text)
 }
 

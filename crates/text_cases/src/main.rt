@@ -15,13 +15,22 @@ mod requests;
 use crate::answer::{Desk, answer};
 use std::io;
 
-fn main(rt: HostRuntime) -> io::Result<()> {
-    let alloc = rt.alloc();
-    let mut desk = Desk::new(alloc);
-    for line in rt.lines(alloc) {
+/// Writes a line, and behind it what is answered.
+fn play(rt: HostRuntime, desk: &mut Desk, line: &str) -> io::Result<()> {
+    let text = answer(rt.alloc(), desk, line)?;
+    println!(rt; "{line}{text}")
+}
+
+/// Plays each line of standard input.
+fn play_all(rt: HostRuntime, desk: &mut Desk) -> io::Result<()> {
+    for line in rt.lines(rt.alloc()) {
         let line = line?;
-        let text = answer(alloc, &mut desk, line.as_str())?;
-        println!(rt; "{line}{text}")?;
+        play(rt, desk, line.as_str())?;
     }
     Ok(())
+}
+
+fn main(rt: HostRuntime) -> io::Result<()> {
+    let mut desk = Desk::new(rt.alloc());
+    play_all(rt, &mut desk)
 }

@@ -2,9 +2,41 @@
 
 use crate::configs::config_of;
 use case_scripts::{Texts, Written};
+use interface_model::RouterConfig;
 use lsdb_build::{Linked, Lsdb, build};
 use std::alloc::{AllocError, Global};
 use std::fmt;
+
+/// Adds the configuration of a name, or gives what is told of its first fault.
+fn add_config(
+    alloc: Global,
+    configs: &mut Vec<RouterConfig>,
+    name: &str,
+    bytes: &[u8],
+) -> Result<Option<String>, AllocError> {
+    match config_of(alloc, name, bytes) {
+        Ok(config) => {
+            configs.push(config)?;
+            Ok(None)
+        }
+        Err(stop) => Ok(Some(format!(in alloc; ": {name}: {stop:?}")?)),
+    }
+}
+
+/// Takes the network of configurations, or tells its first fault.
+fn take_network(
+    alloc: Global,
+    network: &mut Option<Lsdb>,
+    configs: &[RouterConfig],
+) -> Result<String, AllocError> {
+    match build(alloc, configs, 0) {
+        Ok(lsdb) => {
+            *network = Some(lsdb);
+            String::from_str(alloc, "")
+        }
+        Err(stop) => format!(in alloc; ": {stop:?}"),
+    }
+}
 
 /// `network NAME ..`: the network in area 0 of the configurations of these names, or its first fault. The network is at
 /// hand from then on.
@@ -16,18 +48,12 @@ pub(crate) fn network_text(
 ) -> Result<String, AllocError> {
     let mut configs = Vec::new(alloc);
     for name in names.split_whitespace() {
-        match config_of(alloc, name, texts.named(name).unwrap_or(&[])) {
-            Ok(config) => configs.push(config)?,
-            Err(stop) => return format!(in alloc; ": {name}: {stop:?}"),
+        let bytes = texts.named(name).unwrap_or(&[]);
+        if let Some(fault) = add_config(alloc, &mut configs, name, bytes)? {
+            return Ok(fault);
         }
     }
-    match build(alloc, configs.as_slice(), 0) {
-        Ok(lsdb) => {
-            *network = Some(lsdb);
-            String::from_str(alloc, "")
-        }
-        Err(stop) => format!(in alloc; ": {stop:?}"),
-    }
+    take_network(alloc, network, configs.as_slice())
 }
 
 /// A linked interface, as it is written.
@@ -53,20 +79,30 @@ impl<'a> fmt::Display for Shown<'a> {
     }
 }
 
+/// Adds the links of a network.
+fn add_links(alloc: Global, text: &mut String, network: &Lsdb) -> Result<(), AllocError> {
+    for link in network.links.as_slice() {
+        text.push_str(format!(in alloc; "\n  {}", Shown(link))?.as_str())?;
+    }
+    Ok(())
+}
+
+/// Adds the transit subnets of a network.
+fn add_subnets(alloc: Global, text: &mut String, network: &Lsdb) -> Result<(), AllocError> {
+    for members in network.subnets.as_slice() {
+        let members = Written(members.as_slice());
+        text.push_str(format!(in alloc; "\n  subnet of links {members}")?.as_str())?;
+    }
+    Ok(())
+}
+
 /// `links`: the routers, links and transit subnets of the network at hand.
 pub(crate) fn links_text(alloc: Global, network: &Option<Lsdb>) -> Result<String, AllocError> {
     let Some(network) = network else {
         return String::from_str(alloc, ": no network");
     };
     let mut text = format!(in alloc; ": {} routers", network.routers.as_slice().len())?;
-    for link in network.links.as_slice() {
-        text.push_str(format!(in alloc; "\n  {}", Shown(link))?.as_str())?;
-    }
-    for members in network.subnets.as_slice() {
-        text.push_str(format!(in alloc;
-            "\n  subnet of links {}",
-            Written(members.as_slice())
-        )?.as_str())?;
-    }
+    add_links(alloc, &mut text, network)?;
+    add_subnets(alloc, &mut text, network)?;
     Ok(text)
 }

@@ -7,6 +7,7 @@ use cost_base::Refusal;
 use design_problem::{Problem, Request};
 use lsdb_build::Lsdb;
 use path_requests::{resolve, resolve_present};
+use request_reader::RequestFile;
 use std::alloc::{AllocError, Global};
 use std::fmt;
 use wanted_paths::ResolutionFault;
@@ -45,21 +46,36 @@ fn path_text(alloc: Global, wanted: &Request) -> Result<String, AllocError> {
     )
 }
 
-/// A problem: the variables of its free interfaces, their bounds, the edges of its graph, and its paths.
-fn problem_shown(alloc: Global, problem: &Problem) -> Result<String, AllocError> {
+/// The variables of a problem's free interfaces, and their bounds.
+fn variables_text(alloc: Global, problem: &Problem) -> Result<String, AllocError> {
     let low = Written(problem.low.as_slice());
     let high = Written(problem.high.as_slice());
     let variables = variables(alloc, problem)?;
-    let mut text = format!(in alloc;
-        ": low {low}; high {high}; variables {}\n ",
-        Written(variables.as_slice())
-    )?;
+    let variables = Written(variables.as_slice());
+    format!(in alloc; ": low {low}; high {high}; variables {variables}\n ")
+}
+
+/// Adds the edges of a problem's graph.
+fn add_edges(alloc: Global, text: &mut String, problem: &Problem) -> Result<(), AllocError> {
     for edge in problem.graph.edges() {
         text.push_str(format!(in alloc; "{}", Shown(edge))?.as_str())?;
     }
+    Ok(())
+}
+
+/// Adds the paths of a problem.
+fn add_paths(alloc: Global, text: &mut String, problem: &Problem) -> Result<(), AllocError> {
     for wanted in problem.paths.as_slice() {
         text.push_str(path_text(alloc, wanted)?.as_str())?;
     }
+    Ok(())
+}
+
+/// A problem: the variables of its free interfaces, their bounds, the edges of its graph, and its paths.
+fn problem_shown(alloc: Global, problem: &Problem) -> Result<String, AllocError> {
+    let mut text = variables_text(alloc, problem)?;
+    add_edges(alloc, &mut text, problem)?;
+    add_paths(alloc, &mut text, problem)?;
     Ok(text)
 }
 
@@ -74,6 +90,24 @@ fn told(
     }
 }
 
+/// The problem that requests make of a network.
+fn resolved_text(
+    alloc: Global,
+    requests: &RequestFile,
+    network: &Lsdb,
+) -> Result<String, AllocError> {
+    told(alloc, resolve(alloc, requests, network))
+}
+
+/// The problem that requests make of a network at its present costs.
+fn resolved_present_text(
+    alloc: Global,
+    requests: &RequestFile,
+    network: &Lsdb,
+) -> Result<String, AllocError> {
+    told(alloc, resolve_present(alloc, requests, network))
+}
+
 /// `problem MORE`: the problem that the last text makes of the network at hand.
 pub(crate) fn problem_text(
     alloc: Global,
@@ -81,7 +115,7 @@ pub(crate) fn problem_text(
     network: &Lsdb,
 ) -> Result<String, AllocError> {
     match requests_of(alloc, bytes) {
-        Ok(requests) => told(alloc, resolve(alloc, &requests, network)),
+        Ok(requests) => resolved_text(alloc, &requests, network),
         Err(stop) => format!(in alloc; ": {stop:?}"),
     }
 }
@@ -93,7 +127,7 @@ pub(crate) fn present_text(
     network: &Lsdb,
 ) -> Result<String, AllocError> {
     match requests_of(alloc, bytes) {
-        Ok(requests) => told(alloc, resolve_present(alloc, &requests, network)),
+        Ok(requests) => resolved_present_text(alloc, &requests, network),
         Err(stop) => format!(in alloc; ": {stop:?}"),
     }
 }

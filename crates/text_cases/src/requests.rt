@@ -79,18 +79,29 @@ pub(crate) fn requests_of(
     read_requests(alloc, bytes)
 }
 
-/// `request MORE`: what the last text asks for as a request file, or its first fault.
-pub(crate) fn request_text(alloc: Global, bytes: &[u8]) -> Result<String, AllocError> {
-    let requests = match requests_of(alloc, bytes) {
-        Ok(requests) => requests,
-        Err(stop) => return format!(in alloc; ": {stop:?}"),
-    };
-    let mut text = format!(in alloc; ": area {}", requests.area)?;
-    if let Some(cost) = requests.default_cost {
-        text.push_str(format!(in alloc; ", default cost {cost}")?.as_str())?;
-    }
+/// Adds the lines of a request file.
+fn add_items(alloc: Global, text: &mut String, requests: &RequestFile) -> Result<(), AllocError> {
     for item in requests.items.as_slice() {
         text.push_str(format!(in alloc; "\n  {}", Shown(item))?.as_str())?;
     }
+    Ok(())
+}
+
+/// What a request file asks for.
+fn requests_text(alloc: Global, requests: &RequestFile) -> Result<String, AllocError> {
+    let area = requests.area;
+    let mut text = match requests.default_cost {
+        Some(cost) => format!(in alloc; ": area {area}, default cost {cost}")?,
+        None => format!(in alloc; ": area {area}")?,
+    };
+    add_items(alloc, &mut text, requests)?;
     Ok(text)
+}
+
+/// `request MORE`: what the last text asks for as a request file, or its first fault.
+pub(crate) fn request_text(alloc: Global, bytes: &[u8]) -> Result<String, AllocError> {
+    match requests_of(alloc, bytes) {
+        Ok(requests) => requests_text(alloc, &requests),
+        Err(stop) => format!(in alloc; ": {stop:?}"),
+    }
 }

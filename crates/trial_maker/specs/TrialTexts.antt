@@ -1,4 +1,4 @@
--- Cases with a number of blocks, each with two sides: their routers, configurations and requests.
+-- Trials with a number of blocks, each with two sides: their routers, configurations and requests.
 use Rattle.std.specs.Prelude.{ℕ, zero, suc, ◌+◌, ◌*◌, ◌/◌, ◌%◌, ◌==◌, List, [], ◌∷◌, ◌++◌, codes, Bool, if◌then◌else◌}
 use Rattle.cost_base.specs.Decimal.{decimal}
 use Rattle.trial_maker.specs.declared.TrialTexts.{TrialTexts}

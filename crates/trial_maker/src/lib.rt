@@ -1,4 +1,4 @@
-//! Cases for trials, made from a number: networks of blocks with two sides, and wanted paths that take one side of each block.
+//! Trials, made from a number: networks of blocks with two sides, and wanted paths that take one side of each block.
 #![tactic(auto)]
 
 ghost use Rattle.std.specs.Prelude.{◌≡◌, ◌≤◌, ◌<◌, ◌^◌, IfOk};
@@ -22,7 +22,7 @@ pub struct TrialTexts {
     pub request: Name,
 }
 
-/// The case with so many blocks, 1 to 125, whose sides are chosen by numbers from `start` on, which is below 2^31.
+/// The trial with so many blocks, 1 to 125, whose sides are chosen by numbers from `start` on, which is below 2^31.
 ///
 /// It has `3 * blocks + 1` routers, `8 * blocks` interfaces and `blocks + 1` requests.
 ///
@@ -33,7 +33,7 @@ pub fn make_trial(alloc: Global, blocks: u32, start: u32) -> Result<TrialTexts, 
     requires some { 1 ≤ blocks }
     requires most { blocks ≤ 125 }
     requires start { start < 2 ^ 31 }
-    ensures { IfOk result (λ case. case ≡ made_trial blocks start) }
+    ensures { IfOk result (λ trial. trial ≡ made_trial blocks start) }
 {
     let names = configs::file_names(alloc, blocks)?;
     let texts = configs::config_texts(alloc, blocks)?;

@@ -23,11 +23,11 @@ fault_unless well fault = if well then [] else fault ∷ []
 
 -- The faults of words.
 
--- no configuration has the router's name
+-- the fault of the name of a router, where no configuration has it
 abbrev pub router_faults : Database → ℕ → List ℕ → List ResolutionFault
 router_faults d line router = fault_unless (knows_router d router) (UnknownRouter line)
 
--- no configuration has the router's name, or the router has no linked interface of that name
+-- the fault of an interface: no configuration has its router's name, or that router has no linked interface of its name
 abbrev pub interface_faults : Database → ℕ → List ℕ → List ℕ → List ResolutionFault
 interface_faults d line router interface = router_faults d line router ++ fault_unless (knows_link d router interface) (UnknownInterface line)
 
@@ -52,7 +52,7 @@ parts_faults d line (part ∷ parts) = part_faults d line part ++ parts_faults d
 abbrev pub leads_on : Database → List ℕ × List ℕ → List ℕ → Bool
 leads_on d hop next = leads_to_router d (router_number d next) (slice_get d.links (link_number d hop.0 hop.1))
 
--- the hops that don't lead to the router of the next word, counted from `number` on
+-- the faults of the hops that don't lead to the router of the next word, counted from `number` on
 abbrev pub broken_faults : Database → ℕ → ℕ → List (List ℕ × List ℕ) → List ℕ → List ResolutionFault
 broken_faults d line number [] last = []
 broken_faults d line number (hop ∷ hops) last =
@@ -63,24 +63,24 @@ abbrev pub is_router_part : List ℕ → Part → Bool
 is_router_part name (Router router) = same_bytes router name
 is_router_part name (Interface router interface) = false
 
--- the path's start is taken away, or an edge of the path
+-- the path's start is excluded, or an edge of the path
 abbrev pub is_path_excluded : Database → Route → List Part → Bool
 is_path_excluded d route parts =
     list_any (is_router_part (next_name route.hops route.last)) parts
     || list_any (λ e. list_any (takes d (outline d) e) parts) (route_edges d (outline d) route.hops route.last)
 
--- the words of a path one by one, then its hops one by one, then a router or a transit subnet that comes twice
+-- the faults of a path: of its words one by one, of its hops one by one, and then that a router or a subnet comes twice
 abbrev pub walk_faults : Database → ℕ → Route → List ResolutionFault
 walk_faults d line route =
     hop_faults d line route.hops route.last
     ++ broken_faults d line 1 route.hops route.last
     ++ fault_unless (is_loop_free d (outline d) route) (LoopPath line)
 
--- the words after `without` one by one, then what they take away of the path
+-- the faults of the words after `without`, one by one, and then that they exclude an edge or the start of the path
 abbrev pub without_faults : Database → ℕ → Route → List Part → List ResolutionFault
 without_faults d line route parts = parts_faults d line parts ++ fault_unless (not (is_path_excluded d route parts)) (PathExcluded line)
 
--- the faults of a `path` line: of the path, then of what is taken away
+-- the faults of a `path` line: of the path, then of what is excluded
 abbrev pub path_faults : Database → ℕ → Route → List Part → List ResolutionFault
 path_faults d line route parts = walk_faults d line route ++ without_faults d line route parts
 

@@ -1,4 +1,4 @@
--- What the words of a wanted path mean in a database: routers, links, edges, and what is taken away.
+-- What the words of a wanted path mean in a database: routers, links, edges, and what is excluded.
 use Rattle.std.specs.Prelude.{ℕ, ◌+◌, List, [], ◌∷◌, ◌++◌, ◌==◌, ◌&&◌, ◌||◌, Bool, false, Option, Some, None, map, filter, length, slice_get, slice_index_or, unwrap_or}
 use Rattle.std.specs.List.{list_any}
 use Rattle.cost_base.specs.Lists.{numbers_from, first_of, same_bytes}
@@ -19,7 +19,7 @@ abbrev pub is_link_named : Database → List ℕ → List ℕ → Linked → Boo
 is_link_named d router interface link =
     same_bytes (slice_index_or d.routers link.router []) router && same_bytes link.interface interface
 
--- the number of the router of a name, and of the link of an interface
+-- the number of the router of a name
 abbrev pub router_number : Database → List ℕ → ℕ
 router_number d name = unwrap_or (first_of (filter (λ r. same_bytes (slice_index_or d.routers r []) name) (numbers_from 0 (length d.routers)))) 0
 
@@ -59,7 +59,7 @@ route_edges d g (hop ∷ hops) last =
     let l = link_number d hop.0 hop.1 in
     hop_edges d g l (slice_get d.links l) (router_number d (next_name hops last)) ++ route_edges d g hops last
 
--- a part takes an edge away: those of a router, or those of an interface's link in both directions
+-- a link, where there is one, excludes the edge: its own, its link back's, or the one from its transit subnet back
 abbrev pub link_takes : Database → Area → ℕ → Option Linked → ℕ → Bool
 link_takes d g l None e = false
 link_takes d g l (Some link) e = e == l || link_back_takes link.link_back || far_takes link.to
@@ -72,18 +72,18 @@ link_takes d g l (Some link) e = e == l || link_back_takes link.link_back || far
     far_takes (ToRouter r) = false
     far_takes (ToSubnet s) = (edge_at g e).from == length d.routers + s && (edge_at g e).to == link.router
 
--- a part takes the edge away: its router is at one of its ends, or its interface's link has the edge
+-- a part excludes the edge: its router is at one of the edge's ends, or the link of its interface excludes the edge
 abbrev pub takes : Database → Area → ℕ → Part → Bool
 takes d g e (Router name) = (edge_at g e).from == router_number d name || (edge_at g e).to == router_number d name
 takes d g e (Interface router interface) =
     let l = link_number d router interface in
     link_takes d g l (slice_get d.links l) e
 
--- the numbers of the edges that the parts take away, in rising order
+-- the numbers of the edges that the parts exclude, in rising order
 abbrev pub excluded_edges : Database → Area → List Part → List ℕ
 excluded_edges d g parts = filter (λ e. list_any (takes d g e) parts) (numbers_from 0 (length g.edges))
 
--- the request of a `path` line: the edges between its ends, and the edges that are taken away
+-- the request of a `path` line: the edges between its ends, and its excluded edges
 abbrev pub request_of : Database → Area → Directive → Option Request
 request_of d g (Path route without) =
     Some (record {

@@ -1,4 +1,4 @@
--- The edges that parts take away, as a list in which one may come twice.
+-- The edges that parts exclude, as a list in which one may come twice.
 use Rattle.std.specs.Prelude.{ℕ, ◌+◌, List, [], ◌∷◌, ◌++◌, ◌==◌, Option, Some, None, filter, length, slice_get, option_to_list}
 use Rattle.area_graph.specs.Area.{Area, edge_at, edges_out, edges_in}
 use Rattle.lsdb_build.specs.declared.Far.{Far}
@@ -9,28 +9,28 @@ use Rattle.request_reader.specs.declared.Part.{Part}
 use Rattle.request_reader.specs.declared.Part.TheVariants.{Router, Interface}
 use Rattle.wanted_paths.specs.Paths.{link_number, router_number}
 
--- the edge from a transit subnet to the router
+-- the edge to the router from what a link of it leads to, where that is a transit subnet
 abbrev pub taken_from : Database → Area → ℕ → Far → List ℕ
 taken_from d g router (ToRouter r) = []
 taken_from d g router (ToSubnet s) = filter (λ e. (edge_at g e).to == router) (edges_out g (length d.routers + s))
 
--- the edge of the link, that of its other end, and that out of its subnet
+-- the edges that a link excludes: its own, that of its link back, and that out of its transit subnet
 abbrev pub taken_by_link : Database → Area → ℕ → Linked → List ℕ
 taken_by_link d g l link = l ∷ option_to_list link.link_back ++ taken_from d g link.router link.to
 
--- the edges that a link takes away, where there is one
+-- the edges that a link excludes, and none where there is no link
 abbrev pub taken_at : Database → Area → ℕ → Option Linked → List ℕ
 taken_at d g l None = []
 taken_at d g l (Some link) = taken_by_link d g l link
 
--- the edges that one part takes away
+-- the edges that one part excludes
 abbrev pub taken_by : Database → Area → Part → List ℕ
 taken_by d g (Router name) = edges_out g (router_number d name) ++ edges_in g (router_number d name)
 taken_by d g (Interface router interface) =
     let l = link_number d router interface in
     taken_at d g l (slice_get d.links l)
 
--- the edges that the parts take away, part by part
+-- the edges that the parts exclude, part by part
 abbrev pub taken_by_all : Database → Area → List Part → List ℕ
 taken_by_all d g [] = []
 taken_by_all d g (part ∷ parts) = taken_by d g part ++ taken_by_all d g parts

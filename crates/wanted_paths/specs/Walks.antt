@@ -6,7 +6,7 @@ use Rattle.request_reader.specs.WrittenRoutes.{Route}
 use Rattle.wanted_paths.specs.Paths.{next_name, router_number, route_edges}
 use Rattle.wanted_paths.specs.Paths.{outline}
 
--- from the first router over the edges of the hops to the last router
+-- the walk of a route: from its first router over the edges of its hops to its last router
 pub record IsWalk (d : Database) (route : Route) (walk : Walk) : Type 0 where
   pub start : walk.path.start ≡ router_number d (next_name route.hops route.last)
   pub edges : walk.path.edges ≡ route_edges d (outline d) route.hops route.last

@@ -17,7 +17,7 @@ pub enum ResolutionFault {
     BrokenPath { line: u32, hop: u32 },
     /// A router or a transit subnet comes twice.
     LoopPath { line: u32 },
-    /// An edge of the path, or its start, is taken away.
+    /// An edge of the path, or its start, is excluded.
     PathExcluded { line: u32 },
     /// A symmetric link has one free and one fixed end, or two free ends with different bounds.
     EndsDiffer { line: u32 },

@@ -105,7 +105,7 @@ fn push_router(graph: &Graph, vertex: u32, taken: &mut Vec<u32>) -> Result<(), O
     Ok(())
 }
 
-/// Appends the edges that a part takes away; the line's fault where a word of it is unknown.
+/// Appends the edges that a part excludes; the line's fault where a word of it is unknown.
 fn push_part(
     names: &Names,
     graph: &Graph,
@@ -133,7 +133,7 @@ fn push_part(
     Ok(())
 }
 
-/// The edges that parts take away, each maybe several times; the line's fault at the first unknown word.
+/// The edges that parts exclude, each maybe several times; the line's fault at the first unknown word.
 pub fn taken_by(
     alloc: Global,
     names: &Names,

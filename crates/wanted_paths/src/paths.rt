@@ -19,7 +19,7 @@ use request_reader::{Hops, Part};
 use std::alloc::Global;
 use std::marker::Model;
 
-/// Whether the start of a walk is taken away, or one of its edges is marked.
+/// Whether the start of a walk is excluded, or one of its edges is marked.
 fn is_excluded(route: &Hops, walk: &Walk, parts: &[Part], marks: &[bool]) -> bool
     ensures { result ≡ (list_any (is_router_part (next_name route.now.hops route.now.last))
         parts.now || list_any (λ e. slice_index_or marks.now e false) walk.now.path.edges) }

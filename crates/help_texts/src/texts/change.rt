@@ -19,7 +19,7 @@ status
   0  the fewest changes were found: verdict fewest K
   1  no costs within the bounds will do: verdict impossible, with evidence
   2  the budget was used up: verdict undecided, maybe with costs that fit
-  3  a file, the topology or the request is at fault: refused NUMBER FILE LINE
+  3  a file, the topology or the request is at fault: refused NUMBER FILE PLACE
   4  a file can't be read   5  the output failed   6  no memory   7  words
 
 example

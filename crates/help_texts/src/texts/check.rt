@@ -16,7 +16,7 @@ words
 
 status
   0  the answer is valid: accepted optimal K, or accepted impossible
-  3  a file, the topology or the request is at fault: refused NUMBER FILE LINE
+  3  a file, the topology or the request is at fault: refused NUMBER FILE PLACE
   4  a file can't be read   5  the output failed   6  no memory   7  words
   8  the answer isn't valid: rejected NUMBER PLACE, the first fault
 

@@ -18,7 +18,7 @@ status
      with evidence, and for each `without I` and costs that fit the others; or
      verdict none: all paths can stand together, with costs that do it
   2  the budget was used up: verdict undecided
-  3  a file, the topology or the request is at fault: refused NUMBER FILE LINE
+  3  a file, the topology or the request is at fault: refused NUMBER FILE PLACE
   4  a file can't be read   5  the output failed   6  no memory   7  words
 
 example

@@ -20,7 +20,7 @@ status
   0  best costs were found: verdict optimal K, K being the greatest cost
   1  no costs within the bounds will do: verdict impossible
   2  the budget was used up: verdict undecided budget CAP, and what is certain
-  3  a file, the topology or the request is at fault: refused NUMBER FILE LINE
+  3  a file, the topology or the request is at fault: refused NUMBER FILE PLACE
   4  a file can't be read   5  the output failed   6  no memory   7  words
 
 example

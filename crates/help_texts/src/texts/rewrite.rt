@@ -16,7 +16,7 @@ words
 
 status
   0  the configuration was written
-  3  the configuration is at fault, or a file is too long: refused NUMBER FILE LINE
+  3  the configuration is at fault, or a file is too long: refused NUMBER FILE PLACE
   4  a file can't be read   5  the output failed   6  no memory   7  words
   8  the text is off its form, has no costs, or names an interface that has no
      head in the configuration: rejected NUMBER PLACE

@@ -20,7 +20,7 @@ status
   0  verdict fit, and costs
   1  no costs within the bounds will do: verdict impossible, with evidence
   2  the budget was used up: verdict undecided
-  3  a file, the topology or the request is at fault: refused NUMBER FILE LINE
+  3  a file, the topology or the request is at fault: refused NUMBER FILE PLACE
   4  a file can't be read   5  the output failed   6  no memory   7  words
 
 example

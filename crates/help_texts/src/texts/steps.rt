@@ -22,7 +22,7 @@ status
   1  verdict none: no order holds these paths; the most that can be done, and
      what each next step would lose
   2  the budget was used up: verdict undecided
-  3  a file, the topology or the request is at fault: refused NUMBER FILE LINE
+  3  a file, the topology or the request is at fault: refused NUMBER FILE PLACE
   4  a file can't be read   5  the output failed   6  no memory   7  words
   8  the text is off its form, or doesn't fit the network: rejected NUMBER PLACE
 

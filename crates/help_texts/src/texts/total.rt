@@ -19,7 +19,7 @@ status
   1  no costs within the bounds will do: what `design` prints then
   2  the budget was used up: what `design` prints then, or the total that was
      found and below which bound nothing is decided
-  3  a file, the topology or the request is at fault: refused NUMBER FILE LINE
+  3  a file, the topology or the request is at fault: refused NUMBER FILE PLACE
   4  a file can't be read   5  the output failed   6  no memory   7  words
 
 example

@@ -4,8 +4,8 @@
 pub(crate) const TEXT: &str = "\
 usage: ospfcost version
 
-Prints two lines: the version of the program, and which checker proved it, as
-that names itself.
+Prints two lines: the version of the program, and the logic in which it was
+proved, as each check names that at its end.
 
 words
   none

@@ -3,7 +3,7 @@ ghost use Rattle.std.specs.Prelude.{◌≡◌, ◌∷◌, ◌++◌, [], None, So
 ghost use Rattle.text_lines.specs.Lines.{words};
 ghost use Rattle.request_reader.specs.Routes.{route_of, hop_of};
 ghost use Rattle.request_reader.specs.ReadingLines as definition;
-ghost use Rattle.request_reader.specs.ReadingLines.{to_without, behind_without, taken_away, parts_by_words};
+ghost use Rattle.request_reader.specs.ReadingLines.{to_without, behind_without, excluded_parts, parts_by_words};
 
 use crate::reading::statement::Statement;
 use crate::{Directive, Hops, Part, RequestFault};
@@ -11,7 +11,7 @@ use cost_base::{Listed, Name, OutOfMemory};
 use std::alloc::Global;
 use text_lines::{cut, first_word};
 
-/// The word before what a path takes away.
+/// The word before what a path excludes.
 const WITHOUT: &[u8] = b"without";
 
 /// `path R:IF R:IF .. R`, maybe with `without W ..` behind it, without the first word.
@@ -24,7 +24,7 @@ pub(crate) fn path_line(alloc: Global, rest: &[u8]) -> Result<Statement, OutOfMe
     let Some(hops) = read_route(alloc, first, more)? else {
         return Ok(Statement::Refused(RequestFault::BadRequestLine));
     };
-    let Some(without) = read_taken_away(alloc, more)? else {
+    let Some(without) = read_excluded_parts(alloc, more)? else {
         return Ok(Statement::Refused(RequestFault::BadRequestLine));
     };
     Ok(Statement::Ask(Directive::Path(hops, without)))
@@ -112,10 +112,10 @@ fn behind_without(text: &[u8]) -> Option<&[u8]>
     None
 }
 
-/// What a path takes away: nothing without the word `without`, and else at least one part behind it.
+/// What a path excludes: nothing without the word `without`, and else at least one part behind it.
 /// None exactly where none stands there or one has no such form.
-fn read_taken_away(alloc: Global, text: &[u8]) -> Result<Option<Listed<Part>>, OutOfMemory>
-    ensures { IfOk result (λ parts. parts ≡ taken_away (behind_without (words text.now))) }
+fn read_excluded_parts(alloc: Global, text: &[u8]) -> Result<Option<Listed<Part>>, OutOfMemory>
+    ensures { IfOk result (λ parts. parts ≡ excluded_parts (behind_without (words text.now))) }
 {
     let Some(rest) = behind_without(text) else {
         return Ok(Some(Listed::from_items(Vec::new(alloc))));

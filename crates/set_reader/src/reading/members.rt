@@ -6,7 +6,7 @@ ghost use Rattle.cost_base.specs.Lists.{same_bytes};
 ghost use Rattle.area_graph.specs.Distances.{AreEdgeMarks};
 ghost use Rattle.design_problem.specs.Problems.{request_at};
 ghost use Rattle.text_lines.specs.LineFaults.{fault_in_line};
-ghost use Rattle.set_reader.specs.Reading.{same_ends, has_other_ends, takes_away, is_wrong_set, wrong_if, IsInOrder, TellsReading};
+ghost use Rattle.set_reader.specs.Reading.{same_ends, has_other_ends, excludes_edges, is_wrong_set, wrong_if, IsInOrder, TellsReading};
 ghost use Rattle.set_reader.specs.ReadingSteps.{is_out_of_place};
 
 use crate::SetFault;
@@ -23,9 +23,9 @@ fn same_ends(first: &Request, other: &Request) -> bool
     first.path.start == other.path.start && first.end == other.end
 }
 
-/// Whether a request takes an edge away.
-fn takes_away(request: &Request) -> bool
-    ensures { result ≡ takes_away request.now }
+/// Whether a request excludes an edge.
+fn excludes_edges(request: &Request) -> bool
+    ensures { result ≡ excludes_edges request.now }
 {
     !request.excluded.as_slice().is_empty()
 }
@@ -41,8 +41,8 @@ fn has_other_ends(requests: &[Request], members: &[u32], request: &Request) -> b
     }
 }
 
-/// The request of a number, if it may stand in a set with these members: there is such a request, no set has it, it takes
-/// nothing away, and its path has the ends of the first member's. `taken` marks the requests of earlier sets.
+/// The request of a number, if it may stand in a set with these members: there is such a request, no set has it, it
+/// excludes nothing, and its path has the ends of the first member's. `taken` marks the requests of earlier sets.
 fn find_member<'a>(
     requests: &'a [Request],
     taken: &[bool],
@@ -58,7 +58,7 @@ fn find_member<'a>(
 {
     let place = number as usize;
     let request = requests.get(place)?;
-    if taken[place] || takes_away(request) || has_other_ends(requests, members, request) {
+    if taken[place] || excludes_edges(request) || has_other_ends(requests, members, request) {
         None
     } else {
         Some(request)

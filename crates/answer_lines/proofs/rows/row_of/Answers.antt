@@ -1,4 +1,4 @@
-use Rattle.std.proofs.Common.{◌≡◌, ◌∷◌, ◌∙◌, map, codes, sym, ap, subst, refl, arith, ◌<◌, ◌^◌, All}
+use Rattle.std.proofs.Common.{◌≡◌, ◌∷◌, ◌∙◌, map, codes, sym, ap, subst, arith, ◌<◌, ◌^◌, All}
 use Rattle.design_problem.specs.Bounds.{IsThing}
 use Rattle.cost_base.specs.Decimal.{decimal}
 use Rattle.answer_lines.specs.Words.{words_left}
@@ -10,17 +10,17 @@ use Rattle.answer_lines.proofs.rows.row_of.Goals as goal
 pub returns-in_default-number : goal.returns-in_default-number
 returns-in_default-number c =
     λ row bounds e.
-    let at_request : words_left c.in-Some.numbers ≡ map decimal (row.request ∷ row.rival.edges) =
+    let at_request : words_left c.in-Some.numbers ≡ map decimal (row.request ∷ row.rival) =
     rest-is (words_left c.new.result) _ _ _ _ c.in-Some.ensures (c.new.ensures ∙ row-words c.args.line.now row e) in
-    c.in_default-number.ensures row.request (map decimal row.rival.edges) (omega (arith, bounds.0)) at_request
+    c.in_default-number.ensures row.request (map decimal row.rival) (omega (arith, bounds.0)) at_request
 
 pub returns-in_default-2 : goal.returns-in_default-2
 returns-in_default-2 c =
     λ row bounds e.
-    let at_request : words_left c.in-Some.numbers ≡ map decimal (row.request ∷ row.rival.edges) =
+    let at_request : words_left c.in-Some.numbers ≡ map decimal (row.request ∷ row.rival) =
     rest-is (words_left c.new.result) _ _ _ _ c.in-Some.ensures (c.new.ensures ∙ row-words c.args.line.now row e) in
     let none = rw c.in_default-2.is at c.in_ok-edges.ensures in
-    none row.rival.edges bounds.1 (rest-is (words_left c.in-Some.numbers) _ _ _ _ c.in-Some-number.ensures.1 at_request)
+    none row.rival bounds.1 (rest-is (words_left c.in-Some.numbers) _ _ _ _ c.in-Some-number.ensures.1 at_request)
 
 pub returns : goal.returns
 returns c =
@@ -33,5 +33,4 @@ returns c =
           (map decimal (c.in-Some-number.request ∷ c.from_items.result)) c.in-Some.ensures
           (more-is (words_left c.in-Some.numbers) (decimal c.in-Some-number.request) (words_left c.in-Some-number.edges)
           (map decimal c.from_items.result) c.in-Some-number.ensures.1 edges_are)),
-      refl,
     )

@@ -1,35 +1,20 @@
--- The present costs of the variables, what is found of their changes, and its report.
-use Rattle.std.proofs.Common.{◌∙◌, subst, List, ℕ, Option}
-use Rattle.std.proofs.lemmas.Result.{IfOk-weaker}
-use Rattle.command_words.specs.Jobs.{bounds}
-use Rattle.report_writer.specs.Reports.{Reports}
-use Rattle.least_change.specs.Changes.{IsChangeFound}
-use Rattle.change_commands.specs.Changes.{IsReportIn, change_status, change_text}
-use Rattle.change_commands.proofs.PresentCosts.{asked_present}
+-- The present costs of the variables, and the report of their changes.
+use Rattle.std.proofs.Common.{◌∙◌, refl}
+use Rattle.std.proofs.lemmas.Result.{err_from_is_err_and}
 use Rattle.change_commands.proofs.change.report_of_network.Goals as goal
 
-pub find_change-requires : goal.find_change-requires
-find_change-requires c =
-    let network = c.args.network.now in
-    asked_present network.requests network.lsdb network.problem c.as_slice-present.result.now c.requires
-    (c.as_slice-present.ensures.value ∙ c.in_ok-costs.ensures)
+pub returns-in_err-costs-clause-wanting : goal.returns-in_err-costs-clause-wanting
+returns-in_err-costs-clause-wanting c =
+    let e = err_from_is_err_and c.from_residual.result c.from_residual.ensures.1 in
+    rw (e.1, e.2) refl
 
-pub report_of_change-requires-clause-present : goal.report_of_change-requires-clause-present
-report_of_change-requires-clause-present c = c.as_slice-present.ensures.value ∙ c.in_ok-costs.ensures
+pub report_of_present-requires-clause-present : goal.report_of_present-requires-clause-present
+report_of_present-requires-clause-present c = c.as_slice.ensures.value ∙ c.in_ok-costs.ensures
 
-pub report_of_change-requires-clause-found : goal.report_of_change-requires-clause-found
-report_of_change-requires-clause-found c =
-    let limits = c.args.limits.now in
-    (limits.top, limits.nodes, limits.budget_end, c.in_ok-change.ensures)
+pub returns-in_err-report_of_present-clause-wanting : goal.returns-in_err-report_of_present-clause-wanting
+returns-in_err-report_of_present-clause-wanting c =
+    let e = err_from_is_err_and c.from_residual-in_err-report_of_present.result c.from_residual-in_err-report_of_present.ensures.1 in
+    rw (e.1, e.2) refl
 
-pub returns : goal.returns
-returns c =
-    let network = c.args.network.now in
-    let limits = c.args.limits.now in
-    let change = c.in_ok-change.change in
-    let found = subst (λ (present : List (Option ℕ)). IsChangeFound (record { problem = network.problem; present = present; top = limits.top; nodes = limits.nodes }) change)
-    (c.as_slice-present.ensures.value ∙ c.in_ok-costs.ensures) c.in_ok-change.ensures in
-    IfOk-weaker c.report_of_change.result (Reports (change_status change) (change_text network.requests network.lsdb network.problem change))
-    (IsReportIn (bounds limits) network.requests network.lsdb network.problem)
-    (λ report reports. record { change = change; found = found; reports = reports; ceiling = c.keeps_ceiling.ensures })
-    c.report_of_change.ensures
+pub returns-clause-made : goal.returns-clause-made
+returns-clause-made c = c.in_ok-report_of_present.ensures

@@ -7,8 +7,8 @@ pub invariant_of-result : goal.invariant_of-result
 invariant_of-result c =
     let present = c.args.present.items in
     let wanted = c.args.wanted.items in
-    let moved : c.as_slice-5.result.now ≡ moved_links present wanted = c.as_slice-5.ensures.value ∙ c.in_ok-moved.ensures
-    ∙ ap (λ (p : List ℕ). moved_links p c.as_slice-4.result.now) c.as_slice-3.ensures.value
+    let moved : moved_links c.as_slice-3.result.now c.as_slice-4.result.now ≡ moved_links present wanted =
+    ap (λ (p : List ℕ). moved_links p c.as_slice-4.result.now) c.as_slice-3.ensures.value
     ∙ ap (moved_links present) c.as_slice-4.ensures.value in
     moves_kept c.args.by c.args.names.now present wanted c.from_items.result c.from_items-2.result c.from_items-3.result
     c.from_items.ensures c.from_items-2.ensures

@@ -4,7 +4,7 @@ use Rattle.std.proofs.lemmas.Result.{IfOk-weaker}
 use Rattle.form_search.proofs.AdvisorLaws.{left_alike, left_then}
 use Rattle.conflict_core.specs.declared.shrinking.Shrunk.{Shrunk}
 use Rattle.conflict_core.specs.declared.shrinking.Tried.{Tried}
-use Rattle.conflict_core.specs.declared.shrinking.Tried.TheVariants.{On, Stuck}
+use Rattle.conflict_core.specs.declared.shrinking.Tried.TheVariants.{On, Undecided}
 use Rattle.cost_branching.proofs.Advising.{turns_then}
 use Rattle.conflict_core.specs.Deciding.{IsMemberTried}
 use Rattle.conflict_core.proofs.Asking.{asked_since, before_then, called_of_sets, tried_as}
@@ -53,31 +53,31 @@ loop-shrunk-preserved g c =
       );
     }
 
-pub returns-in-Stuck-clause-found : goal.returns-in-Stuck-clause-found
-returns-in-Stuck-clause-found g c =
+pub returns-in-Undecided-clause-found : goal.returns-in-Undecided-clause-found
+returns-in-Undecided-clause-found g c =
     let p = c.args.problem.now in
     let limits = c.args.limits.now in
-    let turned : IsMemberTried p limits.top limits.nodes c.loop-shrunk.shrunk (Stuck c.in-Stuck.set) =
-    subst (λ (t : Tried). IsMemberTried p limits.top limits.nodes c.loop-shrunk.shrunk t) c.in-Stuck.is
+    let turned : IsMemberTried p limits.top limits.nodes c.loop-shrunk.shrunk (Undecided c.in-Undecided.set) =
+    subst (λ (t : Tried). IsMemberTried p limits.top limits.nodes c.loop-shrunk.shrunk t) c.in-Undecided.is
     c.in_ok-next.ensures.turned in
     c.undecided.ensures.found limits.top limits.nodes turned.0
 
-pub returns-in-Stuck-clause-advisors : goal.returns-in-Stuck-clause-advisors
-returns-in-Stuck-clause-advisors g c =
+pub returns-in-Undecided-clause-advisors : goal.returns-in-Undecided-clause-advisors
+returns-in-Undecided-clause-advisors g c =
     left_then _ _ _ _ (called_of_sets _ _ _ _ _ c.args.problem.now c.args.limits.now.top c.args.limits.now.nodes c.loop-shrunk.invariant.asked.0 _ _ c.loop-shrunk.invariant.asked.2) c.leave_out.ensures.advisors
 
 pub returns-clause-advisors : goal.returns-clause-advisors
 returns-clause-advisors g c =
     left_then _ _ _ _ (called_of_sets _ _ _ _ _ c.args.problem.now c.args.limits.now.top c.args.limits.now.nodes c.loop-shrunk.invariant.asked.0 _ _ c.loop-shrunk.invariant.asked.2) c.finish.ensures.advisors
 
-pub returns-in-Stuck-clause-asked : goal.returns-in-Stuck-clause-asked
-returns-in-Stuck-clause-asked g c =
+pub returns-in-Undecided-clause-asked : goal.returns-in-Undecided-clause-asked
+returns-in-Undecided-clause-asked g c =
     let p = c.args.problem.now in
     let limits = c.args.limits.now in
     let told = c.in_ok-members.field-0 in
     let begun : Shrunk = record { members = told.members; rows = told.rows; without = c.new.result } in
     let was = c.loop-shrunk.invariant.asked in
-    let last = tried_as _ c.loop-shrunk.shrunk _ (Stuck c.in-Stuck.set) _ _ c.in-Stuck.is c.in_ok-next.ensures.asked in
+    let last = tried_as _ c.loop-shrunk.shrunk _ (Undecided c.in-Undecided.set) _ _ c.in-Undecided.is c.in_ok-next.ensures.asked in
     IfOk-weaker c.undecided.result _ _
     (λ end spent. asked_since _ p limits.top limits.nodes c.args.conflict told begun c.loop-shrunk.shrunk was.0 _ _ _ end
     (c.in_ok-members.ensures limits.top limits.nodes c.requires.conflict.tree) refl refl c.new.ensures.items was.1 was.2 (last.0, last.1 end spent, last.2))

@@ -11,7 +11,7 @@ returns-in_ok-push_row-in-Some-clause-one c = λ point are.
       row = c.in_ok-row-in-Some.row;
       request_is = c.in_ok-row-in-Some.ensures.request;
       cheap = too_cheap_as c.args.problem.now point c.args.request c.in_ok-row-in-Some.row.request
-          c.as_slice.result.now c.in_ok-row-in-Some.row.rival.edges c.in_ok-row-in-Some.ensures.request
+          c.as_slice.result.now c.in_ok-row-in-Some.row.rival c.in_ok-row-in-Some.ensures.request
           c.in_ok-row-in-Some.ensures.edges
           (told_cheap c.args.problem.now point c.args.request c.args.rivals.now c.told_of.result.now c.as_slice.result.now are c.requires.request
           c.told_of.ensures (c.in-Some.is ∙ ap (λ (es : List ℕ). Some es) (sym c.as_slice.ensures)));

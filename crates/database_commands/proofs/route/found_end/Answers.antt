@@ -1,51 +1,19 @@
-use Rattle.std.proofs.Common.{◌∙◌, ◌<◌, List, [], sym, ap, subst, length}
-use Rattle.area_graph.specs.Area.{Area}
-use Rattle.area_graph.specs.Costs.{FitsPoint, at_costs}
-use Rattle.lsa_bytes.specs.declared.Lsa.{Lsa}
+use Rattle.std.proofs.Common.{◌∙◌, refl, sym}
 use Rattle.lsa_bytes.specs.AreaGraphs.{lsa_graph}
-use Rattle.lsa_bytes.proofs.GraphFits.{database_few}
 use Rattle.database_commands.specs.Routes.{vertex_ids, vertex_of_router}
-use Rattle.database_commands.proofs.Routes.{point_fits, vertex_within, found_between, found_own}
+use Rattle.database_commands.proofs.Routes.{found_between, found_own}
 use Rattle.database_commands.proofs.route.found_end.Goals as goal
-
-pub vertex_of-start-requires : goal.vertex_of-start-requires
-vertex_of-start-requires c = rw c.as_slice-lsas.ensures.items (database_few c.args.database.now c.as_slice-lsas.ensures.kept)
-
-pub vertex_of-end-requires : goal.vertex_of-end-requires
-vertex_of-end-requires c = rw c.as_slice-lsas.ensures.items (database_few c.args.database.now c.as_slice-lsas.ensures.kept)
-
-pub route_end-requires-clause-fits : goal.route_end-requires-clause-fits
-route_end-requires-clause-fits c = subst (λ (g : Area). FitsPoint g (at_costs [])) (sym c.in_ok-graph.ensures) (point_fits c.args.database.now)
-
-pub route_end-requires-clause-start : goal.route_end-requires-clause-start
-route_end-requires-clause-start c =
-    subst (λ (g : Area). c.vertex_of-start.result < length g.vertices) (sym c.in_ok-graph.ensures)
-    (subst (λ v. v < length (lsa_graph c.args.database.now).vertices)
-    (sym (c.vertex_of-start.ensures
-    ∙ ap (λ (ls : List Lsa). vertex_of_router ls c.args.from) c.as_slice-lsas.ensures.items))
-    (vertex_within c.args.database.now c.args.from c.requires.from))
-
-pub route_end-requires-clause-end : goal.route_end-requires-clause-end
-route_end-requires-clause-end c =
-    subst (λ (g : Area). c.vertex_of-end.result < length g.vertices) (sym c.in_ok-graph.ensures)
-    (subst (λ v. v < length (lsa_graph c.args.database.now).vertices)
-    (sym (c.vertex_of-end.ensures ∙ ap (λ (ls : List Lsa). vertex_of_router ls c.args.to) c.as_slice-lsas.ensures.items))
-    (vertex_within c.args.database.now c.args.to c.requires.to))
 
 pub returns-then-is_same : goal.returns-then-is_same
 returns-then-is_same c =
     let lsas = c.args.database.now in
-    found_own lsas c.in_ok-graph.graph c.deref.result.now c.args.from c.args.to c.vertex_of-start.result
-    c.vertex_of-end.result c.in_ok-words.words.items c.in_ok-own.own.items c.in_ok-graph.ensures
-    (c.vertex_of-end.ensures ∙ ap (λ (ls : List Lsa). vertex_of_router ls c.args.to) c.as_slice-lsas.ensures.items)
-    (sym c.is_same.ensures ∙ c.if-is_same.true) c.in_ok-own.ensures c.in_ok-words.ensures
+    found_own lsas (lsa_graph lsas) (vertex_ids lsas) c.args.from c.args.to (vertex_of_router lsas c.args.from)
+    (vertex_of_router lsas c.args.to) c.in_ok-words.words.items c.in_ok-own.own.items refl refl (sym c.is_same.ensures ∙ c.if-is_same.true)
+    c.in_ok-own.ensures c.in_ok-words.ensures
 
 pub returns : goal.returns
 returns c =
     let lsas = c.args.database.now in
-    found_between lsas c.in_ok-graph.graph c.deref.result.now c.args.from c.args.to c.vertex_of-start.result
-    c.vertex_of-end.result c.in_ok-words.words.items c.in_ok-graph.ensures
-    (c.deref.ensures.value ∙ c.in_ok-ids.ensures ∙ ap vertex_ids c.as_slice-lsas.ensures.items)
-    (c.vertex_of-start.ensures ∙ ap (λ (ls : List Lsa). vertex_of_router ls c.args.from) c.as_slice-lsas.ensures.items)
-    (c.vertex_of-end.ensures ∙ ap (λ (ls : List Lsa). vertex_of_router ls c.args.to) c.as_slice-lsas.ensures.items)
-    (sym c.is_same.ensures ∙ c.if-is_same.false) c.in_ok-words.ensures
+    found_between lsas (lsa_graph lsas) (vertex_ids lsas) c.args.from c.args.to (vertex_of_router lsas c.args.from)
+    (vertex_of_router lsas c.args.to) c.in_ok-words.words.items refl refl refl refl (sym c.is_same.ensures ∙ c.if-is_same.false)
+    c.in_ok-words.ensures

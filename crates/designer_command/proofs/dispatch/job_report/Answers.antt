@@ -2,7 +2,7 @@
 use Rattle.std.proofs.Common.{refl, ap, [], option_map, string_bytes}
 use Rattle.form_search.proofs.AdvisorLaws.{left_alike}
 use Rattle.text_lines.specs.Arguments.{texts}
-use Rattle.command_words.specs.Jobs.{bounds}
+use Rattle.command_words.specs.Jobs.{limits_seen}
 use Rattle.command_words.specs.Jobs as read
 use Rattle.input_files.specs.declared.problem.View.TheVariants.{BesidePresent}
 use Rattle.input_files.specs.Outcomes.{outcome}
@@ -26,7 +26,7 @@ use Rattle.designer_command.proofs.dispatch.job_report.Goals as goal
 pub returns-in-Design-clause-made : goal.returns-in-Design-clause-made
 returns-in-Design-clause-made g c =
     let given = g.S.Shelf.gave c.args.shelf.now c.design_report.new.shelf in
-    let limits = bounds c.in-Design.search.limits in
+    let limits = limits_seen c.in-Design.search.limits in
     search_made given _ c.args.job.now
     (read.Design (record { request = c.deref.result.now; limits = limits; configs = texts c.deref-in-Design.result.now }))
     (MayDesign limits) _ _ c.design_report.result (files_named c.files-words.result)
@@ -76,7 +76,7 @@ returns-in-Trial-clause-made g c =
 pub returns-in-Conflict-clause-made : goal.returns-in-Conflict-clause-made
 returns-in-Conflict-clause-made g c =
     let given = g.S.Shelf.gave c.args.shelf.now c.conflict_report.new.shelf in
-    let limits = bounds c.in-Conflict.search.limits in
+    let limits = limits_seen c.in-Conflict.search.limits in
     search_made given _ c.args.job.now
     (read.Conflict (record { request = c.deref-in-Conflict.result.now; limits = limits; configs = texts c.deref-in-Conflict-2.result.now }))
     (MayConflict limits) _ _ c.conflict_report.result (files_named c.files-words-in-Conflict.result)
@@ -87,7 +87,7 @@ returns-in-Conflict-clause-made g c =
 pub returns-in-Spread-clause-made : goal.returns-in-Spread-clause-made
 returns-in-Spread-clause-made g c =
     let given = g.S.Shelf.gave c.args.shelf.now c.spread_report.new.shelf in
-    let limits = bounds c.in-Spread.search.limits in
+    let limits = limits_seen c.in-Spread.search.limits in
     job_made given _ c.args.job.now
     (read.Spread (record { request = c.deref-in-Spread.result.now; limits = limits; configs = texts c.deref-in-Spread-2.result.now })
     c.deref-in-Spread-3.result.now)
@@ -104,7 +104,7 @@ returns-in-Spread-clause-advisors g c = left_alike _ _ _ refl
 pub returns-in-Total-clause-made : goal.returns-in-Total-clause-made
 returns-in-Total-clause-made g c =
     let given = g.S.Shelf.gave c.args.shelf.now c.total_report.new.shelf in
-    let limits = bounds c.in-Total.search.limits in
+    let limits = limits_seen c.in-Total.search.limits in
     search_made given _ c.args.job.now
     (read.Total (record { request = c.deref-in-Total.result.now; limits = limits; configs = texts c.deref-in-Total-2.result.now }))
     (MayTotal limits) _ _ c.total_report.result (files_named c.files-words-in-Total.result)
@@ -115,7 +115,7 @@ returns-in-Total-clause-made g c =
 pub returns-in-Change-clause-made : goal.returns-in-Change-clause-made
 returns-in-Change-clause-made g c =
     let given = g.S.Shelf.gave c.args.shelf.now c.change_report.new.shelf in
-    let limits = bounds c.in-Change.search.limits in
+    let limits = limits_seen c.in-Change.search.limits in
     job_made given _ c.args.job.now
     (read.Change (record { request = c.deref-in-Change.result.now; limits = limits; configs = texts c.deref-in-Change-2.result.now }))
     c.change_report.result (rw (c.in-Change.is, c.deref-in-Change.ensures, c.deref-in-Change-2.ensures.value) refl) (λ came bytes. refl)

@@ -14,7 +14,7 @@ use Rattle.evidence_checker.proofs.AnswerLaws.{valid_of, refuses, stops_costs, s
 use Rattle.evidence_checker.proofs.StopLaws.{err_tells}
 use Rattle.evidence_checker.proofs.checker.check.Goals as goal
 
--- the first test that is met is one of the costs or the floor
+-- the first test that fails is one of the costs or the floor
 costs_stop : (c : goal.After-from_residual-in_err-check_claim) → StopsBy (tests c.args.problem.now c.args.answer.now) c.in_err-check_claim.field-0.0
 costs_stop c =
     let p = c.args.problem.now in
@@ -34,7 +34,7 @@ returns-in_err-check_claim-clause-invalid c =
     err_tells c.from_residual-in_err-check_claim.result s
     (RefusesInvalid p a) c.from_residual-in_err-check_claim.ensures.1 (refuses p a s c.keeps_conditions.ensures (costs_stop c))
 
--- the first test that is met is one of the rows or of the proof
+-- the first test that fails is one of the rows or of the proof
 evidence_stop : (c : goal.After-from_residual-in_err-check_evidence) → StopsBy (tests c.args.problem.now c.args.answer.now) c.in_err-check_evidence.field-0.0
 evidence_stop c =
     let p = c.args.problem.now in

@@ -6,7 +6,7 @@ use Rattle.evidence_commands.proofs.check.judge.Goals as goal
 pub returns-in-Ok : goal.returns-in-Ok
 returns-in-Ok c =
     c.judge_answer.ensures c.args.bytes.now
-    (record { spelled = c.in-Ok.ensures.read; value = c.keeps_answer.ensures; starts = c.in-Ok.ensures.starts })
+    (record { spelled = c.in-Ok.ensures.read; value = c.keeps_answer.ensures })
 
 pub returns-in_ok-rejection_of_text-in-Err : goal.returns-in_ok-rejection_of_text-in-Err
 returns-in_ok-rejection_of_text-in-Err c =

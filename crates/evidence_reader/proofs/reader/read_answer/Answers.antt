@@ -1,4 +1,4 @@
-use Rattle.std.proofs.Common.{◌≡◌, List, [], All, sym, subst}
+use Rattle.std.proofs.Common.{List, [], sym, subst}
 use Rattle.std.proofs.lemmas.Result.{err_from_is_err_and}
 use Rattle.design_problem.specs.declared.form.Row.{Row}
 use Rattle.design_problem.specs.Answers.{AnswerParts}
@@ -38,7 +38,7 @@ returns-in_err-proof-clause-stopped c =
     let p = err_from_is_err_and c.from_residual-in_err-proof.result c.from_residual-in_err-proof.ensures.1 in
     rw (p.1, p.2)
     (stop_at_start c.new-text.result.read c.new-text.result.left.now c.args.bytes.now _ c.new-text.ensures.read c.new-text.ensures.left
-    (stop-then _ c.in_ok-verdict.ensures (stop-then _ c.in_ok-priced.ensures.1 (stop-then _ c.in_ok-rows.ensures.0 c.in_err-proof.ensures))))
+    (stop-then _ c.in_ok-verdict.ensures (stop-then _ c.in_ok-priced.ensures.1 (stop-then _ c.in_ok-rows.ensures c.in_err-proof.ensures))))
 
 pub returns-in_err-unfinished-clause-stopped : goal.returns-in_err-unfinished-clause-stopped
 returns-in_err-unfinished-clause-stopped c =
@@ -47,7 +47,7 @@ returns-in_err-unfinished-clause-stopped c =
     (stop_at_start c.new-text.result.read c.new-text.result.left.now c.args.bytes.now _ c.new-text.ensures.read c.new-text.ensures.left
     (stop-then _ c.in_ok-verdict.ensures
     (stop-then _ c.in_ok-priced.ensures.1
-    (stop-then _ c.in_ok-rows.ensures.0 (stop-then _ c.in_ok-proof.ensures.1 c.in_err-unfinished.ensures)))))
+    (stop-then _ c.in_ok-rows.ensures (stop-then _ c.in_ok-proof.ensures.1 c.in_err-unfinished.ensures)))))
 
 pub returns-in_err-read_end-clause-stopped : goal.returns-in_err-read_end-clause-stopped
 returns-in_err-read_end-clause-stopped c =
@@ -56,7 +56,7 @@ returns-in_err-read_end-clause-stopped c =
     (stop_at_start c.new-text.result.read c.new-text.result.left.now c.args.bytes.now _ c.new-text.ensures.read c.new-text.ensures.left
     (stop-then _ c.in_ok-verdict.ensures
     (stop-then _ c.in_ok-priced.ensures.1
-    (stop-then _ c.in_ok-rows.ensures.0
+    (stop-then _ c.in_ok-rows.ensures
     (stop-then _ c.in_ok-proof.ensures.1
     (stop-then _ c.in_ok-unfinished.ensures.1 c.in_err-read_end.ensures))))))
 
@@ -79,7 +79,7 @@ all_read : (c : After-from_items) →
 all_read c =
     let rows =
     subst (λ (l : List Row). Goes AtRows c.in_ok-priced.behind_costs (rows_lines l) (AtRow 0) c.in_ok-rows.behind_rows)
-    (sym c.from_items.ensures) c.in_ok-rows.ensures.0 in
+    (sym c.from_items.ensures) c.in_ok-rows.ensures in
     parts_read (answer_of c) c.in_ok-verdict.ensures c.in_ok-priced.ensures.1 rows c.in_ok-proof.ensures.1
     c.in_ok-unfinished.ensures.1 c.in_ok-read_end.ensures.1
 
@@ -87,9 +87,6 @@ pub returns-clause-read : goal.returns-clause-read
 returns-clause-read c =
     let done = (goal.at.returns-clause-read c).After-from_items in
     text_read (answer_of done) c.new-text.result.read c.new-text.result.left.now c.args.bytes.now c.new-text.ensures.left (all_read done)
-
-pub returns-clause-starts : goal.returns-clause-starts
-returns-clause-starts c = subst (λ (l : List Row). All (λ row. row.rival.start ≡ 0) l) (sym c.from_items.ensures) c.in_ok-rows.ensures.1
 
 pub invariant_of-result : goal.invariant_of-result
 invariant_of-result c =

@@ -1,8 +1,5 @@
-use Rattle.std.proofs.Common.{◌≡◌, ◌+◌, ◌-◌, List, [], All, ap, sym, subst, length, length-append, ◌∷◌, arith}
+use Rattle.std.proofs.Common.{◌+◌, ◌-◌, [], ap, length, length-append, ◌∷◌, arith}
 use Rattle.std.proofs.lemmas.Result.{err_from_is_err_and}
-use Rattle.design_problem.specs.declared.form.Row.{Row}
-use Rattle.std.proofs.lemmas.List.Elements.{All-nil}
-use Rattle.answer_lines.proofs.NumberWords.{All-more}
 use Rattle.evidence_reader.proofs.CountedLines.{rows_begin, row_more, row_stop, rows_done}
 use Rattle.evidence_reader.proofs.stage_rows.each_row.Goals as goal
 
@@ -10,7 +7,6 @@ pub loop-init : goal.loop-init
 loop-init c = record {
   count_is = ap length c.new-rows.ensures.items;
   goes = rows_begin c.args.count c.args.text.read c.args.text.left.now c.new-rows.result.items c.new-rows.ensures.items;
-  starts = subst (λ (l : List Row). All (λ row. row.rival.start ≡ 0) l) (sym c.new-rows.ensures.items) (All-nil (λ row. row.rival.start ≡ 0));
 }
 
 pub loop-preserved : goal.loop-preserved
@@ -22,9 +18,7 @@ loop-preserved c =
     let read = c.in_ok-row.ensures (c.args.count - (i + 1)) in
     record {
       count_is = omega (arith, ap length grown, length-append rows (row ∷ []), c.loop.invariant.count_is);
-      goes = row_more c.args.count i rows c.push.new.self.items row c.loop-test.true grown c.loop.invariant.goes read.0;
-      starts = subst (λ (l : List Row). All (λ r. r.rival.start ≡ 0) l) (sym grown)
-          (All-more (λ (r : Row). r.rival.start ≡ 0) rows row c.loop.invariant.starts read.1);
+      goes = row_more c.args.count i rows c.push.new.self.items row c.loop-test.true grown c.loop.invariant.goes read;
     }
 
 pub returns-in_err-row : goal.returns-in_err-row
@@ -37,5 +31,4 @@ pub returns : goal.returns
 returns c = (
   omega (arith, c.loop.invariant.count_is),
   rows_done c.args.count c.loop.counter c.loop.rows.items c.loop-test.false c.loop.invariant.goes,
-  c.loop.invariant.starts,
 )

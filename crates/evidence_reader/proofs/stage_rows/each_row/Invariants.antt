@@ -1,4 +1,4 @@
-use Rattle.std.proofs.Common.{◌≡◌, ◌-◌, All, length, map}
+use Rattle.std.proofs.Common.{◌≡◌, ◌-◌, length, map}
 use Rattle.design_problem.specs.Text.{row_line}
 use Rattle.answer_lines.specs.Grammar.{AtRow}
 use Rattle.answer_lines.specs.Going.{Goes}
@@ -8,5 +8,4 @@ abbrev pub invariant-loop : goal.invariant-loop
 invariant-loop l = record {
   count_is : length l.rows.items ≡ l.counter;
   goes : Goes (AtRow l.count) l.text (map row_line l.rows.items) (AtRow (l.count - l.counter)) l.left;
-  starts : All (λ row. row.rival.start ≡ 0) l.rows.items;
 }

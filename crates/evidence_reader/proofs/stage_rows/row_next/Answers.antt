@@ -15,9 +15,7 @@ returns-in_default-2 c =
 pub returns : goal.returns
 returns c =
     let found = rw c.in-Some-2.is at c.in_ok-row.ensures in
-    λ left. (
-      read-one (AtRow (suc left)) (AtRow left) c.args.text.read c.in-Some.rest.read c.args.text.left.now _
-          c.in-Some.rest.left.now (rw found.1 at c.in-Some.ensures.0)
-          (record { row = c.in-Some-2.row; bounds = found.0; is = refl; leads = refl }) c.in-Some.ensures.1,
-      found.2,
-    )
+    λ left.
+    read-one (AtRow (suc left)) (AtRow left) c.args.text.read c.in-Some.rest.read c.args.text.left.now _
+    c.in-Some.rest.left.now (rw found.1 at c.in-Some.ensures.0)
+    (record { row = c.in-Some-2.row; bounds = found.0; is = refl; leads = refl }) c.in-Some.ensures.1

@@ -15,8 +15,8 @@ push_numbers-requires c =
     let row = c.args.row.now in
     let first = begun c.start.new.self c.push_number.new.self c.from.result row.request c.start.ensures c.from.ensures c.push_number.ensures in
     let same : row_line row ≡ with_words c.push_number.new.self (map decimal c.as_slice.result.now) =
-    spaced-with (codes "row") (decimal row.request ∷ map decimal row.rival.edges)
-    ∙ ap (λ (l : List ℕ). with_words l (map decimal row.rival.edges)) (sym first)
+    spaced-with (codes "row") (decimal row.request ∷ map decimal row.rival)
+    ∙ ap (λ (l : List ℕ). with_words l (map decimal row.rival)) (sym first)
     ∙ ap (λ (edges : List ℕ). with_words c.push_number.new.self (map decimal edges)) (sym c.as_slice.ensures)
     in subst (λ (l : List ℕ). length l ≤ 65536) same c.requires
 
@@ -26,5 +26,5 @@ returns c =
     let first = begun c.start.new.self c.push_number.new.self c.from.result row.request c.start.ensures c.from.ensures c.push_number.ensures in
     c.push_numbers.ensures
     ∙ ap (λ (edges : List ℕ). with_words c.push_number.new.self (map decimal edges)) c.as_slice.ensures
-    ∙ ap (λ (l : List ℕ). with_words l (map decimal row.rival.edges)) first
-    ∙ sym (spaced-with (codes "row") (decimal row.request ∷ map decimal row.rival.edges))
+    ∙ ap (λ (l : List ℕ). with_words l (map decimal row.rival)) first
+    ∙ sym (spaced-with (codes "row") (decimal row.request ∷ map decimal row.rival))

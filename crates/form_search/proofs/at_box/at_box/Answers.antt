@@ -3,7 +3,7 @@ use Rattle.std.proofs.lemmas.Result.{IfOk-weaker, err_from_is_err_and}
 use Rattle.design_problem.specs.declared.tree.Side.{Side}
 use Rattle.design_problem.specs.Forms.{Form}
 use Rattle.design_problem.specs.Earnest.{IsLeastPoint}
-use Rattle.form_search.specs.declared.turn.Next.{Next}
+use Rattle.form_search.specs.declared.next_entry.Next.{Next}
 use Rattle.form_search.specs.Turns.{IsNextStep}
 use Rattle.form_search.proofs.AdvisorLaws.{asked_next_there, halve_ready}
 use Rattle.form_search.proofs.OtherSources.{least_same, next_same, swapped}

@@ -3,7 +3,7 @@ use Rattle.area_graph.specs.declared.Point.{Point}
 use Rattle.area_graph.specs.Costs.{at_costs}
 use Rattle.design_problem.specs.Forms.{AreMet}
 use Rattle.form_search.specs.declared.source.Asked.{Asked}
-use Rattle.form_search.specs.declared.turn.Next.TheVariants.{Costs}
+use Rattle.form_search.specs.declared.next_entry.Next.TheVariants.{Costs}
 use Rattle.form_search.specs.Sources.{IsSourceAnswer}
 use Rattle.form_search.specs.Turns.{IsNextOfPoint}
 use Rattle.form_search.proofs.CostPoints.{one_costs, one_inside, one_least, one_met}

@@ -1,7 +1,7 @@
 use Rattle.std.proofs.Common.{get_or, ◌∙◌}
 use Rattle.std.proofs.lemmas.List.Folds.{list_any_at}
 use Rattle.lsa_writer.specs.Ends.{no_end}
-use Rattle.live_area.specs.Indexes.{is_end_named, name_of_end}
+use Rattle.live_area.specs.LiveLinks.{is_end_named, name_of_end}
 use Rattle.live_area.proofs.LineSteps.{compared_step, own_name}
 use Rattle.live_area.proofs.interfaces.compare_interfaces.Goals as goal
 

@@ -1,4 +1,4 @@
--- Without a cheaper rival, and only then, the path is only cheapest.
+-- Without a cheaper rival, and only then, the path is the only cheapest.
 use Rattle.design_problem.specs.Problems.{request_ends}
 use Rattle.path_commands.proofs.OnlyCheapest.{only_by_rival}
 use Rattle.path_commands.proofs.audit.is_only.Goals as goal

@@ -1,4 +1,4 @@
--- A path of which no edge is gone is audited in what is left.
+-- A path of which no edge is excluded is audited in what is left.
 use Rattle.std.proofs.Common.{sym, subst, ℕ, List}
 use Rattle.area_graph.specs.Paths.{Avoids, IsPathOf}
 use Rattle.design_problem.specs.declared.problem.Request.{Request}

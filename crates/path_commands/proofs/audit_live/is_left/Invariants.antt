@@ -1,4 +1,4 @@
--- none of the edges is gone exactly where none is of those that are left
+-- none of the edges is excluded exactly where none is of those that are left
 use Rattle.std.proofs.Common.{◌↔◌, drop}
 use Rattle.area_graph.specs.Paths.{Avoids}
 use Rattle.path_commands.proofs.audit_live.is_left.Given as goal

@@ -1,6 +1,6 @@
 -- What is found of the problem that was read is told.
 use Rattle.std.proofs.Common.{refl, inl, inr}
-use Rattle.command_words.specs.Jobs.{bounds}
+use Rattle.command_words.specs.Jobs.{limits_seen}
 use Rattle.std.proofs.lemmas.Result.{err_from_is_err_and}
 use Rattle.input_files.specs.Stops.{files_named}
 use Rattle.input_files.proofs.Stops.{gave_wanting}
@@ -28,7 +28,7 @@ returns-in_err-report_of_conflict-clause-read g c =
 
 pub returns-clause-read : goal.returns-clause-read
 returns-clause-read g c =
-    conflict_found (g.S.Shelf.gave c.args.shelf.now c.read_problem.new.shelf) (bounds c.args.limits.now)
+    conflict_found (g.S.Shelf.gave c.args.shelf.now c.read_problem.new.shelf) (limits_seen c.args.limits.now)
     (files_named c.args.words) c.in_ok-problem.problem c.in_ok-conflict.conflict c.in_ok-report_of_conflict.field-0 _
     c.in_ok-problem.ensures.read
     c.in_ok-conflict.ensures.found c.in_ok-report_of_conflict.ensures (λ d same. rw same c.in_ok-conflict.ensures.asked)

@@ -1,7 +1,7 @@
 -- The problem was read, then the sets, and what was found of them is told.
 use Rattle.std.proofs.Common.{Ok, Err}
 use Rattle.std.proofs.lemmas.Result.{err_from_is_err_and}
-use Rattle.command_words.specs.Jobs.{bounds}
+use Rattle.command_words.specs.Jobs.{limits_seen}
 use Rattle.input_files.specs.declared.problem.View.TheVariants.{AsRequested}
 use Rattle.input_files.specs.Outcomes.{outcome}
 use Rattle.input_files.specs.Stops.{files_named}
@@ -28,7 +28,7 @@ returns-in_err-sets g c =
     let a = c.args.shelf.now in
     let b = c.read_problem.new.shelf in
     let d = c.read_sets_file.new.shelf in
-    let limits = bounds c.args.limits.now in
+    let limits = limits_seen c.args.limits.now in
     let e = err_from_is_err_and c.from_residual-in_err-sets.result c.from_residual-in_err-sets.ensures.1 in
     rw (e.1, e.2) (gave_then (g.S.Shelf.gave a b) (g.S.Shelf.gave b d) (g.S.Shelf.gave a d)
     (outcome AsRequested (files_named c.args.words)) (λ x. sets_read file x)
@@ -68,7 +68,7 @@ returns g c =
     let a = c.args.shelf.now in
     let b = c.read_problem.new.shelf in
     let d = c.read_sets_file.new.shelf in
-    let limits = bounds c.args.limits.now in
+    let limits = limits_seen c.args.limits.now in
     let names = files_named c.args.words in
     let p = c.in_ok-problem.problem in
     let report = c.in_ok-report_of_spread.field-0 in

@@ -1,10 +1,19 @@
-use Rattle.std.proofs.Common.{◌∙◌, ap, sym, ◌++◌, ℕ, List, ◌+◌, ◌-◌, length, append_assoc, arith}
+use Rattle.std.proofs.Common.{◌∙◌, ap, sym, ◌++◌, ◌<◌, ℕ, List, ◌+◌, ◌-◌, length, get_or, append_assoc, arith}
 use Rattle.std.specs.Prelude.{filter}
 use Rattle.cost_base.specs.Lists.{numbers_from}
 use Rattle.lsdb_build.proofs.GraphLaws.{numbers_step}
 use Rattle.path_requests.specs.Meaning.{own}
 use Rattle.wanted_paths.proofs.TakenEdges.{filter_head}
+use Rattle.lsdb_build.specs.declared.Linked.{Linked}
+use Rattle.path_requests.proofs.LinkSteps.{link_there}
 use Rattle.path_requests.proofs.variables.own_links.Goals as goal
+
+pub push_own-requires : goal.push_own-requires
+push_own-requires c =
+    let links = c.args.choices.now.database.links in
+    let within : c.loop-i.i < length links = omega (arith, c.loop-i-test.true, ap length c.links-link-items.ensures.value) in
+    link_there links c.loop-i.i c.link-item.result within
+    (c.link-item.is ∙ ap (λ (ls : List Linked). get_or ls c.loop-i.i c.link-item.result) c.links-link-items.ensures.value)
 
 pub loop-i-preserved : goal.loop-i-preserved
 loop-i-preserved c =

@@ -1,6 +1,7 @@
 use Rattle.std.proofs.Common.{◌≡◌, ℕ, List, [], ◌∷◌, ◌++◌, MatchOption, IfSome, Option, Some, None, Bor}
 use Rattle.text_lines.specs.Numbers.{split}
-use Rattle.refusal_sentences.specs.Sentences.{HasNoSpace, IsCutIn}
+use Rattle.cost_base.specs.Words.{HasNoSpace}
+use Rattle.refusal_sentences.specs.Sentences.{IsCutIn}
 use Rattle.refusal_sentences.proofs.Cuts.{first_same, one_piece}
 use Rattle.refusal_sentences.proofs.line.cut_at_first_space.Goals as goal
 

@@ -10,7 +10,7 @@ pub returns : goal.returns
 returns c =
     let p = c.args.problem.now in
     let form = c.in_ok-form.form in
-    let second : c.in_ok-row.row.rival.edges ≡ edges_of p c.args.second = search rules in
+    let second : c.in_ok-row.row.rival ≡ edges_of p c.args.second = search rules in
     IfOk-weaker c.with_one_more.result (λ (more : Form). more ≡ record form { constant = form.constant +ℤ pos 1 })
     (λ (more : Form). more ≡ form_of_tie p.graph (length p.low) (edges_of p c.args.first)
     (edges_of p c.args.second))

@@ -1,7 +1,8 @@
 use Rattle.std.proofs.Common.{ap, sym, ◌∙◌, cond, ℕ, Option, Some}
 use Rattle.indexmap.specs.IndexMap.{get}
 use Rattle.live_area.specs.declared.metrics.LinkName.{LinkName}
-use Rattle.live_area.specs.Indexes.{metric_noted, same_link}
+use Rattle.live_area.specs.LiveLinks.{same_link}
+use Rattle.live_area.specs.Indexes.{metric_noted}
 use Rattle.live_area.proofs.IndexLaws.{metric_put, nothing_put}
 use Rattle.live_area.proofs.metrics.EndMetrics.add.Goals as goal
 

@@ -1,0 +1,30 @@
+-- The graph by links is the one that is looked at.
+use Rattle.std.proofs.Common.{◌≤◌, List, sym, subst, length, All, IfOk}
+use Rattle.area_graph.specs.declared.Edge.{Edge}
+use Rattle.area_graph.specs.Area.{Area}
+use Rattle.area_graph.specs.Costs.{IsPriced}
+use Rattle.design_problem.specs.declared.problem.Request.{Request}
+use Rattle.rival_separation.specs.Askers.{ArePathsOf}
+use Rattle.present_costs.specs.AtCosts.{graph_by_links}
+use Rattle.change_steps.specs.Outcomes.{AreStepsFound}
+use Rattle.change_commands.proofs.steps.steps_of_moves.Goals as goal
+
+pub find_steps-requires-clause-priced : goal.find_steps-requires-clause-priced
+find_steps-requires-clause-priced c =
+    subst (λ (graph : Area). All (λ (edge : Edge). IsPriced (length c.args.moves.now.present) edge.price) graph.edges) (sym c.in_ok-graph.ensures)
+    c.requires.priced
+
+pub find_steps-requires-clause-paths : goal.find_steps-requires-clause-paths
+find_steps-requires-clause-paths c =
+    subst (λ (graph : Area). ArePathsOf graph c.paths_of.result.now) (sym c.in_ok-graph.ensures)
+    (subst (λ (paths : List Request). ArePathsOf (graph_by_links c.args.network.now.lsdb) paths) (sym c.paths_of.ensures) c.requires.paths)
+
+pub find_steps-requires-clause-few : goal.find_steps-requires-clause-few
+find_steps-requires-clause-few c = subst (λ (paths : List Request). length paths ≤ 10000) (sym c.paths_of.ensures) c.requires.few
+
+pub returns : goal.returns
+returns c =
+    subst (λ (graph : Area). IfOk c.find_steps.result (AreStepsFound
+    (record { graph = graph; paths = c.args.network.now.problem.paths; moves = c.args.moves.now }) c.args.nodes)) c.in_ok-graph.ensures
+    (subst (λ (paths : List Request). IfOk c.find_steps.result (AreStepsFound
+    (record { graph = c.in_ok-graph.graph; paths = paths; moves = c.args.moves.now }) c.args.nodes)) c.paths_of.ensures c.find_steps.ensures)

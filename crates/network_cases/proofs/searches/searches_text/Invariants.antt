@@ -1,5 +1,0 @@
-use Rattle.spf_ties.specs.Distances.{IsRoomFor}
-use Rattle.network_cases.proofs.searches.searches_text.Given as goal
-
-abbrev pub invariant-loop-word : goal.invariant-loop-word
-invariant-loop-word l = IsRoomFor l.graph l.room
