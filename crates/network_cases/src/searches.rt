@@ -218,28 +218,28 @@ fn add_searches(
     Ok(())
 }
 
-/// Adds what is found at the point of a word.
-fn add_point(
+/// What is found at the point of a word; nothing where the point doesn't fit the graph.
+fn point_text(
     alloc: Global,
-    text: &mut String,
     graph: &Graph,
     wanted: &Wanted,
     room: &mut Room,
     word: &str,
-) -> Result<(), AllocError>
+) -> Result<String, AllocError>
     requires { IsRoomFor graph.now room.old }
     ensures { IsRoomFor graph.now room.new }
 {
+    let mut text = String::new(alloc);
     let point = point(alloc, word)?;
-    if !point_fits(graph, &point) {
-        return Ok(());
+    if point_fits(graph, &point) {
+        let search = Search {
+            graph,
+            point: &point,
+            wanted,
+        };
+        add_searches(alloc, &mut text, &search, room)?;
     }
-    let search = Search {
-        graph,
-        point: &point,
-        wanted,
-    };
-    add_searches(alloc, text, &search, room)
+    Ok(text)
 }
 
 /// What is found at the points of these words in one room.
@@ -254,7 +254,7 @@ fn searches_in(
 {
     let mut text = String::new(alloc);
     for word in words {
-        add_point(alloc, &mut text, graph, wanted, room, word)?;
+        text.push_str(point_text(alloc, graph, wanted, room, word)?.as_str())?;
     }
     Ok(text)
 }
