@@ -24,7 +24,7 @@ use Rattle.report_writer.specs.declared.report.Report.{Report}
 use Rattle.report_writer.specs.Reports.{Reports, bytes_in}
 use Rattle.report_writer.proofs.ReportLaws.{may_report}
 use Rattle.path_commands.specs.declared.audit_live.LivePath.{LivePath}
-use Rattle.path_commands.specs.LiveAudits.{Running, IsFoundLive, MayAuditLive, edges_of_links, live_lines, running_database, running_read}
+use Rattle.path_commands.specs.LiveAudits.{Running, IsFoundLive, MayAuditLive, ReportsLive, edges_of_links, live_lines, running_database, running_read}
 
 -- The rest of a reading behind each step.
 
@@ -58,7 +58,7 @@ running_parts layout laid configs lsas area is are costs missing = record {
 }
 
 -- what stops the problem stops all
-pub problem_stops : (names : InputFiles) (laid : LaidOut) (lsas : List Lsa) (asked : Asked) (d : Database) (missing : List ℕ)
+problem_stops : (names : InputFiles) (laid : LaidOut) (lsas : List Lsa) (asked : Asked) (d : Database) (missing : List ℕ)
     (stop : Stop) → AreRunningParts laid lsas asked d missing → StopsAs (problem_read AtPresent names asked d) [] stop →
     StopsAs (running_read names laid lsas) [] stop
 problem_stops names laid lsas asked d missing stop are h =
@@ -67,7 +67,7 @@ problem_stops names laid lsas asked d missing stop are h =
     (subst (λ (e : Database). StopsAs (problem_read AtPresent names asked e) [] stop) are.same_base h))
 
 -- the report of what was found of the problem
-pub running_reported : (names : InputFiles) (laid : LaidOut) (lsas : List Lsa) (asked : Asked) (d : Database) (missing : List ℕ)
+running_reported : (names : InputFiles) (laid : LaidOut) (lsas : List Lsa) (asked : Asked) (d : Database) (missing : List ℕ)
     (p : DesignProblem) (found : List LivePath) (bytes : List ℕ) (report : Report) → AreRunningParts laid lsas asked d missing →
     IsReadAndMade (problem_read AtPresent names asked d) [] (λ made read. made ≡ read) p →
     AllZip (IsFoundLive p.graph (edges_of_links d p.graph missing)) p.paths found → bytes ≡ live_lines 0 found →
@@ -92,6 +92,16 @@ running_reported names laid lsas asked d missing p found bytes report are made a
         (subst (λ (e : Database). AllZip (IsFoundLive p.graph (edges_of_links e p.graph
         (missing_links (routers_of laid.files) lsas laid.database.links))) p.paths found) are.same_base
         (subst (λ (ms : List ℕ). AllZip (IsFoundLive p.graph (edges_of_links d p.graph ms)) p.paths found) are.same_missing all))
+
+-- what the report of the problem came to
+pub running_ended : (names : InputFiles) (laid : LaidOut) (lsas : List Lsa) (asked : Asked) (d : Database) (missing : List ℕ)
+    (result : Result Report Stop) → AreRunningParts laid lsas asked d missing →
+    IsReadAs (problem_read AtPresent names asked d) [] (ReportsLive d missing) result →
+    IsReadAs (running_read names laid lsas) [] MayReport result
+running_ended names laid lsas asked d missing (Ok report) are h =
+    running_reported names laid lsas asked d missing h.said h.fits.paths (live_lines 0 h.fits.paths) report are
+    (record { said = h.said; ends = h.ends; fits = refl }) h.fits.found refl h.fits.reports
+running_ended names laid lsas asked d missing (Err stop) are h = problem_stops names laid lsas asked d missing stop are h
 
 -- The live file behind the others.
 

@@ -13,6 +13,8 @@ use Rattle.path_commands.specs.declared.audit.Standing.{Standing}
 use Rattle.path_commands.specs.declared.audit.Standing.TheVariants.{Only, Tied, Beaten}
 use Rattle.path_commands.specs.declared.audit.AuditedPath.{AuditedPath}
 use Rattle.input_files.specs.Outcomes.{Input}
+use Rattle.report_writer.specs.declared.report.Report.{Report}
+use Rattle.report_writer.specs.Reports.{Reports}
 use Rattle.report_writer.specs.Texts.{line_of_words}
 
 -- how a wanted path of this cost stands among the simple paths of its request, of which none costs less than `least`
@@ -58,3 +60,9 @@ pub record IsAudit (p : DesignProblem) (bytes : List ℕ) : Type 0 where
 abbrev pub MayAudit : Input → Status → List ℕ → Type 0
 MayAudit d Done bytes = IsAudit d.problem bytes
 MayAudit d status bytes = ⊥
+
+-- the report of an audit of a problem without variables
+pub record ReportsAudit (report : Report) (p : DesignProblem) : Type 0 where
+  pub paths : List AuditedPath
+  pub audited : AllZip (IsAudited p.graph) p.paths paths
+  pub reports : Reports Done (audit_lines 0 paths) report

@@ -21,6 +21,8 @@ use Rattle.input_files.specs.Inputs.{InputFiles}
 use Rattle.input_files.specs.Layouts.{LaidOut, layout_read}
 use Rattle.input_files.specs.Outcomes.{problem_read, routers_of}
 use Rattle.input_files.specs.Readings.{Reading, Ready, ◌>>=◌}
+use Rattle.report_writer.specs.declared.report.Report.{Report}
+use Rattle.report_writer.specs.Reports.{Reports}
 use Rattle.report_writer.specs.Texts.{line_of_words}
 use Rattle.path_commands.specs.declared.audit_live.LivePath.{LivePath}
 use Rattle.path_commands.specs.declared.audit_live.LivePath.TheVariants.{Stands, Gone}
@@ -91,3 +93,9 @@ pub record IsLiveAudit (now : Running) (bytes : List ℕ) : Type 0 where
 abbrev pub MayAuditLive : Running → Status → List ℕ → Type 0
 MayAuditLive now Done bytes = IsLiveAudit now bytes
 MayAuditLive now status bytes = ⊥
+
+-- the report of what is found of the wanted paths of a problem in an area where linked interfaces have no link
+pub record ReportsLive (d : Database) (missing : List ℕ) (report : Report) (p : DesignProblem) : Type 0 where
+  pub paths : List LivePath
+  pub found : AllZip (IsFoundLive p.graph (edges_of_links d p.graph missing)) p.paths paths
+  pub reports : Reports Done (live_lines 0 paths) report

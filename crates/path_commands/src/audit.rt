@@ -8,7 +8,7 @@ ghost use Rattle.design_problem.specs.Problems.{request_ends};
 ghost use Rattle.input_files.specs.Readings.{Gave};
 ghost use Rattle.input_files.specs.Outcomes.{outcome};
 ghost use Rattle.input_files.specs.Stops.{IsReadAs, files_named};
-ghost use Rattle.path_commands.specs.Audits.{IsAudited, audit_line, audit_lines, standing_by, standing_word, MayAudit};
+ghost use Rattle.path_commands.specs.Audits.{IsAudited, MayAudit, ReportsAudit, audit_line, audit_lines, standing_by, standing_word};
 ghost use Rattle.report_writer.specs.Reports.{bytes_in};
 
 use area_graph::{Graph, Point, path_cost};
@@ -178,6 +178,16 @@ fn audit_text(alloc: Global, paths: &[AuditedPath]) -> Result<Vec<u8>, OutOfMemo
     Ok(text)
 }
 
+/// The report of an audit of a problem without variables.
+fn report_of_audit(alloc: Global, problem: &Problem) -> Result<Report, OutOfMemory>
+    requires { problem.now.low ≡ [] }
+    ensures { IfOk result (λ report. ReportsAudit report problem.now) }
+{
+    let found = audit(alloc, problem)?;
+    let text = audit_text(alloc, &found)?;
+    Ok(Report::made(Status::Done, text))
+}
+
 /// The report of an audit of the files of words: a line for each wanted path.
 ///
 /// # Errors
@@ -193,7 +203,5 @@ pub fn audit_report<'a, S: Shelf>(
         (λ report d. MayAudit d report.status (bytes_in report.text)) result) }
 {
     let problem = read_problem(alloc, View::AtPresent, words, shelf)?;
-    let found = audit(alloc, &problem)?;
-    let text = audit_text(alloc, &found)?;
-    Ok(Report::made(Status::Done, text))
+    Ok(report_of_audit(alloc, &problem)?)
 }

@@ -6,9 +6,10 @@ ghost use Rattle.area_graph.specs.Paths.{Avoids, IsPathOf};
 ghost use Rattle.spf_ties.specs.Distances.{IsLeastCost, IsRoomFor};
 ghost use Rattle.design_problem.specs.Problems.{request_ends};
 ghost use Rattle.input_files.specs.Layouts.{IsLayoutOf, LaidOut};
+ghost use Rattle.input_files.specs.Outcomes.{problem_read};
 ghost use Rattle.input_files.specs.Readings.{Gave};
 ghost use Rattle.input_files.specs.Stops.{IsReadAs, files_named};
-ghost use Rattle.path_commands.specs.LiveAudits.{IsFoundLive, MayAuditLive, edges_of_links, left_without, live_audit_read, live_line, live_lines, running_read};
+ghost use Rattle.path_commands.specs.LiveAudits.{IsFoundLive, MayAuditLive, ReportsLive, edges_of_links, left_without, live_audit_read, live_line, live_lines, running_read};
 ghost use Rattle.report_writer.specs.Reports.{bytes_in};
 
 use crate::audit::{AuditedPath, audited, line_of};
@@ -16,7 +17,7 @@ use crate::gone::edges_of_links;
 use area_graph::{Graph, Path, Point, Removal, mark_excluded};
 use cost_base::{Listed, OutOfMemory, Shelf, Status};
 use design_problem::{Problem, Request};
-use input_files::{FileWords, Layout, Stop, read_layout, resolution_at_present};
+use input_files::{FileWords, Layout, Stop, View, read_layout, resolution_at_present};
 use live_area::{RunningArea, running_area};
 use live_input::read_live_file;
 use lsa_bytes::Database;
@@ -199,6 +200,35 @@ fn area_of(requests: &RequestFile) -> u32
     requests.area
 }
 
+/// The report of what is found of the wanted paths of a problem at the costs at which an area runs.
+fn report_of_left(
+    alloc: Global,
+    problem: &Problem,
+    running: &RunningArea,
+) -> Result<Report, OutOfMemory>
+    requires { problem.now.low ≡ [] }
+    ensures { IfOk result (λ report. ReportsLive running.now.lsdb running.now.missing.items report
+        problem.now) }
+{
+    let found = audit_running(alloc, problem, running)?;
+    let text = live_text(alloc, &found)?;
+    Ok(Report::made(Status::Done, text))
+}
+
+/// The report of an audit of requests at the costs at which an area runs.
+fn report_at<'a>(
+    alloc: Global,
+    requests: &RequestFile,
+    running: &RunningArea,
+    words: FileWords<'a>,
+) -> Result<Report, Stop<'a>>
+    ensures { IsReadAs (problem_read View.AtPresent (files_named words.entry) requests.now
+        running.now.lsdb) [] (ReportsLive running.now.lsdb running.now.missing.items) result }
+{
+    let problem = resolution_at_present(alloc, requests, &running.lsdb, words)?;
+    Ok(report_of_left(alloc, &problem, running)?)
+}
+
 /// The report of an audit of the area of a layout at the costs of a running area.
 fn report_of_running<'a>(
     alloc: Global,
@@ -216,10 +246,7 @@ fn report_of_running<'a>(
         lsdb,
     } = layout;
     let running = running_area(alloc, &configs, lsdb, live)?;
-    let problem = resolution_at_present(alloc, &requests, &running.lsdb, words)?;
-    let found = audit_running(alloc, &problem, &running)?;
-    let text = live_text(alloc, &found)?;
-    Ok(Report::made(Status::Done, text))
+    report_at(alloc, &requests, &running, words)
 }
 
 /// The report of an audit of an area as it runs: of the files of words, and then of the live file, which says the
