@@ -2,10 +2,12 @@
 ghost use Rattle.std.specs.Prelude.{◌≤◌, All, IfOk, length};
 ghost use Rattle.area_graph.specs.Costs.{IsPriced};
 ghost use Rattle.rival_separation.specs.Askers.{ArePathsOf};
-ghost use Rattle.change_steps.specs.Outcomes.{AreStepsFound};
+ghost use Rattle.spf_ties.specs.Distances.{IsRoomFor};
+ghost use Rattle.change_steps.specs.Outcomes.{AreStepsFound, IsOutcome};
+ghost use Rattle.change_steps.specs.Walks.{IsBegun};
 
 use crate::ending::outcome_of;
-use crate::found::Steps;
+use crate::found::{Outcome, Steps};
 use crate::moves::Moves;
 use crate::plan::Plan;
 use crate::scene::Scene;
@@ -15,6 +17,29 @@ use cost_base::OutOfMemory;
 use design_problem::Request;
 use spf_ties::Room;
 use std::alloc::Global;
+
+/// What a search comes to that begins at the state of the first steps.
+fn outcome_in(
+    alloc: Global,
+    plan: &Plan,
+    walk: &mut Walk,
+    nodes: u32,
+) -> Result<Outcome, OutOfMemory>
+    requires { IsBegun plan.now walk.old }
+    ensures { IfOk result (IsOutcome plan.now.rollout plan.now.held nodes) }
+{
+    let end = walk.search(alloc, plan, nodes)?;
+    outcome_of(alloc, plan, walk, end)
+}
+
+/// What the search for an order of a plan's steps comes to, in this room for distances.
+fn outcome_by(alloc: Global, plan: &Plan, room: Room, nodes: u32) -> Result<Outcome, OutOfMemory>
+    requires { IsRoomFor plan.now.rollout.graph room }
+    ensures { IfOk result (IsOutcome plan.now.rollout plan.now.held nodes) }
+{
+    let mut walk = Walk::begin(alloc, plan, room)?;
+    outcome_in(alloc, plan, &mut walk, nodes)
+}
 
 /// An order of all steps in which each held path stays the only cheapest of its request: one that is so both at present
 /// and after all steps, and is so after each step of the order. A state is a set of steps that are done. States are
@@ -42,9 +67,7 @@ pub fn find_steps(
     let scene = Scene::new(graph, paths, moves);
     let mut room = Room::new(alloc, graph)?;
     let plan = Plan::new(alloc, scene, &mut room)?;
-    let mut walk = Walk::begin(alloc, &plan, room)?;
-    let end = walk.search(alloc, &plan, nodes)?;
-    let outcome = outcome_of(alloc, &plan, &mut walk, end)?;
+    let outcome = outcome_by(alloc, &plan, room, nodes)?;
     Ok(Steps {
         held: plan.into_held(),
         outcome,
