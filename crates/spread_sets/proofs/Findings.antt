@@ -1,6 +1,7 @@
 -- What a search over sets comes to, and what is answered.
-use Rattle.std.proofs.Common.{◌≡◌, ℕ, ◌≤◌, refl, sym, ◌∙◌, ap, subst, get_or, List, length}
-use Rattle.std.specs.Prelude.{All, AllPairs}
+use Rattle.std.proofs.Common.{◌≡◌, ℕ, ◌≤◌, refl, sym, ◌∙◌, ap, subst, get_or, List, length, Result, Ok, Err}
+use Rattle.std.specs.Prelude.{All, AllPairs, IfOk, OnOk}
+use Rattle.cost_base.specs.declared.OutOfMemory.{OutOfMemory}
 use Rattle.std.proofs.lemmas.List.Elements.{All-map}
 use Rattle.design_problem.specs.declared.form.CostBox.{CostBox}
 use Rattle.design_problem.specs.Forms.{Form}
@@ -17,7 +18,7 @@ use Rattle.spread_sets.specs.declared.finding.Sought.{Sought}
 use Rattle.spread_sets.specs.declared.member_sets.MemberSet.{MemberSet}
 use Rattle.spread_sets.specs.Spreads.{IsSetRow, SetRowsDiffer, SharesEach, all_sets, form_of_set_row, forms_of_set_rows}
 use Rattle.spread_sets.specs.MemberSets.{AreDistinctSets, AreMemberSets, HasTree, IsMemberSet, sets_in}
-use Rattle.spread_sets.specs.Sources.{IsPoolOfSets, IsSpreadSought, IsTrueOfSets, KnownSets}
+use Rattle.spread_sets.specs.Sources.{IsFoundInStep, IsPoolOfSets, IsSpreadSought, IsTrueOfSets, KnownSets}
 use Rattle.spread_sets.proofs.MadeSets.{sets_below}
 use Rattle.spread_sets.proofs.SetLaws.{all_sets_are}
 
@@ -46,6 +47,13 @@ pub found_as : (p q : DesignProblem) (sets others : List (List ℕ)) (top nodes 
 found_as p q sets others top nodes pool box found same_problem same_sets is =
     subst (λ (r : DesignProblem). IsSearchResult (SharesEach r sets) top nodes pool box found) same_problem
     (subst (λ (ss : List (List ℕ)). IsSearchResult (SharesEach q ss) top nodes pool box found) same_sets is)
+
+-- what a search found is by the forms of the pool
+pub found_in_step : (p : DesignProblem) (sets : List (List ℕ)) (top nodes : ℕ) (box : CostBox) (source : KnownSets) (pool : List Form)
+    (result : Result Found OutOfMemory) → OnOk result (IsPoolOfSets source pool) →
+    IfOk result (IsSearchResult (SharesEach p sets) top nodes pool box) → IfOk result (IsFoundInStep p sets top nodes box source)
+found_in_step p sets top nodes box source pool (Ok found) lists is = record { forms = pool; lists = lists; result = is }
+found_in_step p sets top nodes box source pool (Err e) lists is = tt
 
 pub sought_is : (p : DesignProblem) (sets : List (List ℕ)) (top nodes : ℕ) (box : CostBox) (source : KnownSets)
     (pool : List Form) (sought : Sought) → source.problem ≡ p → source.sets ≡ sets → IsPoolOfSets source pool →

@@ -8,6 +8,7 @@ use Rattle.design_problem.specs.declared.problem.Request.{Request}
 use Rattle.design_problem.specs.Problems.{DesignProblem}
 use Rattle.design_problem.specs.Rows.{form_between}
 use Rattle.form_search.specs.Finds.{IsSearchResult}
+use Rattle.form_search.specs.declared.found.Found.{Found}
 use Rattle.cost_branching.specs.Candidates.{edge_lists}
 use Rattle.cost_branching.specs.Rivals.{IsProblemOnGraph}
 use Rattle.set_separation.specs.Outsiders.{CostAtLeast, IsOutsider}
@@ -84,6 +85,12 @@ pub record IsSpreadSought (p : DesignProblem) (sets : List (List ℕ)) (top node
   pub true_rows : All (IsSetRow p sets) sought.rows.items
   pub once : AreDistinctSets sets → AllPairs SetRowsDiffer sought.rows.items
   pub found : IsSearchResult (SharesEach p sets) top nodes (forms_of_set_rows p sought.rows.items) box sought.found
+
+-- what a search over a box found, by the forms of the rows that are known then
+pub record IsFoundInStep (p : DesignProblem) (sets : List (List ℕ)) (top nodes : ℕ) (box : CostBox) (source : KnownSets) (found : Found) : Type 0 where
+  pub forms : List Form
+  pub lists : IsPoolOfSets source forms
+  pub result : IsSearchResult (SharesEach p sets) top nodes forms box found
 
 -- The rows of the set at a place were put up to those of its members before a number: with the rows of the members from that
 -- one on they are all the rows of the set.

@@ -1,11 +1,14 @@
 //! Costs that spread traffic over sets of wanted paths.
-ghost use Rattle.std.specs.Prelude.{◌≡◌, ℕ, ◌≤◌, List, length, All, IfOk};
+ghost use Rattle.std.specs.Prelude.{◌≡◌, ℕ, ◌≤◌, List, [], length, All, IfOk, OnOk};
 ghost use Rattle.design_problem.specs.Answers.{greatest_bound, whole_box};
 ghost use Rattle.design_problem.specs.Boxes.{IsBox};
+ghost use Rattle.cost_branching.specs.Rivals.{IsProblemOnGraph};
+ghost use Rattle.form_search.specs.Finds.{IsSearchResult};
 ghost use Rattle.set_reader.specs.SpreadSets.{AreSetsOf};
 ghost use Rattle.spread_sets.specs.Answers.{IsFoundOf, IsSpreadFound};
 ghost use Rattle.spread_sets.specs.MemberSets.{AreDistinctSets, AreMemberSets, HasTree, sets_in};
-ghost use Rattle.spread_sets.specs.Sources.{IsSpreadSought};
+ghost use Rattle.spread_sets.specs.Spreads.{SharesEach};
+ghost use Rattle.spread_sets.specs.Sources.{IsFoundInStep, IsPoolOfSets, IsSpreadSought};
 
 use crate::member_sets::{MemberSet, all_sets, with_trees};
 use crate::source::{Begun, Spreads};
@@ -27,8 +30,57 @@ pub(crate) struct Sought {
     pub(crate) found: Found,
 }
 
-/// Searches a box for costs at which the members of each set tie and every other path is dearer. No advisor is asked:
-/// the first candidate for a split is taken.
+/// Searches a box for costs at which the members of each set tie and every other path is dearer, with an empty pool. No
+/// advisor is asked: the first candidate for a split is taken.
+fn search_in<B: Begun>(
+    source: &mut Spreads<'_, B>,
+    costs: &CostBox,
+    limits: &Limits,
+    pool: &mut FormPool,
+) -> Result<Found, OutOfMemory>
+    // No row is known of the sets, which are the problem's, and no form of one.
+    requires rows { source.old.rows ≡ [] }
+    requires forms { pool.old ≡ [] }
+    requires kept { IsProblemOnGraph source.old.problem }
+    requires sets { AreMemberSets source.old.problem source.old.sets }
+
+    // The box has a range for each variable, of costs from 1 on.
+    requires ranges { IsBox (length source.old.problem.low) costs.now }
+    requires lows { All (λ low. 1 ≤ low) costs.now.low }
+
+    // What is found holds by the forms of rows of the sets.
+    ensures lists { OnOk result (IsPoolOfSets source.new pool.new) }
+    ensures found { IfOk result (IsSearchResult (SharesEach source.old.problem source.old.sets)
+        limits.now.top limits.now.nodes pool.new costs.now) }
+{
+    let alloc = pool.alloc();
+    source.begin(alloc, pool)?;
+    search(source, costs, limits, pool, &mut Vec::new(alloc))
+}
+
+/// Searches a box as `search_in` does, with a pool of its own.
+fn search_box<B: Begun>(
+    alloc: Global,
+    source: &mut Spreads<'_, B>,
+    costs: &CostBox,
+    limits: &Limits,
+) -> Result<Found, OutOfMemory>
+    // No row is known of the sets, which are the problem's.
+    requires rows { source.old.rows ≡ [] }
+    requires kept { IsProblemOnGraph source.old.problem }
+    requires sets { AreMemberSets source.old.problem source.old.sets }
+
+    // The box has a range for each variable, of costs from 1 on.
+    requires ranges { IsBox (length source.old.problem.low) costs.now }
+    requires lows { All (λ low. 1 ≤ low) costs.now.low }
+    ensures { IfOk result (IsFoundInStep source.old.problem source.old.sets limits.now.top
+        limits.now.nodes costs.now source.new) }
+{
+    let mut pool = FormPool::new(alloc);
+    search_in(source, costs, limits, &mut pool)
+}
+
+/// Searches a box for costs that spread traffic over the sets of a problem.
 fn search_sets<B: Begun>(
     alloc: Global,
     problem: &Problem,
@@ -51,10 +103,7 @@ fn search_sets<B: Begun>(
 {
     keeps_conditions(problem);
     let mut source = Spreads::<B>::new(alloc, problem, sets)?;
-    let mut pool = FormPool::new(alloc);
-    source.begin(alloc, &mut pool)?;
-    let mut advisors = Vec::new(alloc);
-    let found = search(&mut source, costs, limits, &mut pool, &mut advisors)?;
+    let found = search_box(alloc, &mut source, costs, limits)?;
     Ok(Sought {
         rows: source.into_rows(),
         found,
