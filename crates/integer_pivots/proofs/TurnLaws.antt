@@ -16,7 +16,7 @@ use Rattle.integer_pivots.specs.declared.turn.Turn.{Turn}
 use Rattle.integer_pivots.specs.Numbers.{AllWithin, greatest_of}
 use Rattle.integer_pivots.specs.Turns.{turn_by, turned_number}
 use Rattle.integer_pivots.proofs.Quotients.{common_positive, quotient_one, quotient_size, quotient_times}
-use Rattle.integer_pivots.proofs.Sizes.{difference_small, positive_size, product_read, product_small, read, read_known, read_number, size_of, test_natural}
+use Rattle.integer_pivots.proofs.Sizes.{difference_small, positive_size, product_read, product_small, read, read_known, read_number, size_of, small_read, test_natural}
 
 -- the turn where the pivot is 1, and where the number is 0
 pub turn_by_one : (n p : ℤ) → p ≡ pos 1 → record { multiplier = pos 1; factor = n } ≡ turn_by n p
@@ -106,6 +106,31 @@ sizes_natural (pos y) (pos z) y_high z_high = refl
 sizes_natural (negsuc y) z y_high z_high = absurd (omega (arith, ints, y_high))
 sizes_natural (pos y) (negsuc z) y_high z_high = absurd (omega (arith, ints, z_high))
 
+-- such a product is at most 2^60
+pub product_fits : (x y : ℤ) → nat_abs x ≤ 2 ^ 30 → nat_abs y ≤ 2 ^ 30 → nat_abs (read (read x *ℤ read y)) ≤ 2 ^ 60
+product_fits x y x_small y_small =
+    let size = product_small (2 ^ 30) (2 ^ 30) x y x_small y_small in
+    omega (arith, size, ap nat_abs (product_read x y x_small y_small))
+
+-- and 64 bits hold it
+pub product_of_read : (x y : ℤ) → nat_abs x ≤ 2 ^ 30 → nat_abs y ≤ 2 ^ 30 → FitsSigned w64 (read x *ℤ read y)
+product_of_read x y x_small y_small =
+    let size = product_small (2 ^ 30) (2 ^ 30) x y x_small y_small in
+    fits_signed_from_abs w64 (read x *ℤ read y)
+    (subst (λ (z : ℤ). nat_abs z < 2 ^ 63)
+    (sym (ap₂ (λ (p q : ℤ). p *ℤ q) (read_number x (omega (arith, x_small))) (read_number y (omega (arith, y_small)))))
+    (omega (arith, size)))
+
+-- with the other sign, too
+negated : (z : ℤ) → nat_abs z ≤ 2 ^ 60 → FitsSigned w64 (neg_ℤ z)
+negated z small = fits_signed_from_abs w64 (neg_ℤ z) (omega (arith, ints, small))
+
+pub negated_number : (z : ℤ) → nat_abs z ≤ 2 ^ 30 → FitsSigned w64 (neg_ℤ (read z))
+negated_number z small = negated (read z) (let read_small = small_read z small in omega (arith, read_small))
+
+pub negated_fits : (x y : ℤ) → nat_abs x ≤ 2 ^ 30 → nat_abs y ≤ 2 ^ 30 → FitsSigned w64 (neg_ℤ (read (read x *ℤ read y)))
+negated_fits x y x_small y_small = negated (read (read x *ℤ read y)) (product_fits x y x_small y_small)
+
 -- two products, as `keeps` makes them
 pub record AreKept (m most f e a : ℤ) : Type 0 where
   pub multiplier : (pos 0 <ℤ m) × (m ≤ℤ pos (2 ^ 30))
@@ -129,6 +154,9 @@ module _ (m most f e a : ℤ) (k : AreKept m most f e a) where
 
   a_small : nat_abs a ≤ 2 ^ 30
   a_small = subst (λ (z : ℤ). nat_abs z ≤ 2 ^ 30) (sym a_is) k.factor
+
+  pub kept_product : FitsSigned w64 (read a *ℤ read e)
+  kept_product = product_of_read a e a_small e_small
 
   m_high : pos 0 ≤ℤ m
   m_high = let h = k.multiplier.0 in omega (arith, ints, h)
@@ -158,27 +186,6 @@ module _ (m most f e a : ℤ) (k : AreKept m most f e a) where
 product_abs : (x y a : ℤ) → nat_abs x ≤ 2 ^ 30 → nat_abs y ≤ 2 ^ 30 → a ≡ pos (nat_abs (read (read x *ℤ read y))) → a ≡ pos (nat_abs x * nat_abs y)
 product_abs x y a x_small y_small is =
     is ∙ ap (λ (z : ℤ). pos (nat_abs z)) (product_read x y x_small y_small) ∙ ap pos (unsigned_abs-mul x y)
-
--- such a product is at most 2^60
-pub product_fits : (x y : ℤ) → nat_abs x ≤ 2 ^ 30 → nat_abs y ≤ 2 ^ 30 → nat_abs (read (read x *ℤ read y)) ≤ 2 ^ 60
-product_fits x y x_small y_small =
-    let size = product_small (2 ^ 30) (2 ^ 30) x y x_small y_small in
-    omega (arith, size, ap nat_abs (product_read x y x_small y_small))
-
--- and 64 bits hold it, and what it is with the other sign
-pub product_of_read : (x y : ℤ) → nat_abs x ≤ 2 ^ 30 → nat_abs y ≤ 2 ^ 30 → FitsSigned w64 (read x *ℤ read y)
-product_of_read x y x_small y_small =
-    let size = product_small (2 ^ 30) (2 ^ 30) x y x_small y_small in
-    fits_signed_from_abs w64 (read x *ℤ read y)
-    (subst (λ (z : ℤ). nat_abs z < 2 ^ 63)
-    (sym (ap₂ (λ (p q : ℤ). p *ℤ q) (read_number x (omega (arith, x_small))) (read_number y (omega (arith, y_small)))))
-    (omega (arith, size)))
-
-pub negated_fits : (x y : ℤ) → nat_abs x ≤ 2 ^ 30 → nat_abs y ≤ 2 ^ 30 → FitsSigned w64 (neg_ℤ (read (read x *ℤ read y)))
-negated_fits x y x_small y_small = negated (read (read x *ℤ read y)) (product_fits x y x_small y_small)
-  where
-    negated : (z : ℤ) → nat_abs z ≤ 2 ^ 60 → FitsSigned w64 (neg_ℤ z)
-    negated z small = fits_signed_from_abs w64 (neg_ℤ z) (omega (arith, ints, small))
 
 -- two products, as `most_after` makes them
 pub record AreMeasured (m most f e a b : ℤ) : Type 0 where

@@ -78,6 +78,15 @@ pub turned_read : (t : Turn) (n e : ℤ) → nat_abs t.multiplier * nat_abs n + 
 turned_read t n e small =
     ap₂ (λ (x y : ℤ). x -ℤ y) (scaled_read t.multiplier n (omega (arith, small))) (scaled_read t.factor e (omega (arith, small)))
 
+-- and it stays as small as it is read
+pub small_as_read : (t : Turn) (n e : ℤ) → nat_abs t.multiplier * nat_abs n + nat_abs t.factor * nat_abs e ≤ 2 ^ 30 →
+    nat_abs t.multiplier * nat_abs (read n) + nat_abs t.factor * nat_abs (read e) ≤ 2 ^ 30
+small_as_read t n e small =
+    omega (arith, small, same t.multiplier n (omega (arith, small)), same t.factor e (omega (arith, small)))
+  where
+    same : (k z : ℤ) → nat_abs k * nat_abs z ≤ 2 ^ 30 → nat_abs k * nat_abs (read z) ≡ nat_abs k * nat_abs z
+    same k z less = sym (unsigned_abs-mul k (read z)) ∙ ap nat_abs (scaled_read k z less) ∙ unsigned_abs-mul k z
+
 -- what goes so often into a number isn't more often in it than the number's size
 pub multiplied_small : (o k new old : ℤ) → (k *ℤ new) ≡ old → 0 < nat_abs new → nat_abs o * nat_abs old ≤ 2 ^ 30 → nat_abs o * nat_abs k ≤ 2 ^ 30
 multiplied_small o k new old is some small =
