@@ -57,6 +57,19 @@ read_level m f g n p m_fits f_fits n_fits p_fits m_is f_is =
     ∙ level m f g n p (m_is ∙ to_z-of_z w64 p p_fits) (f_is ∙ to_z-of_z w64 n n_fits)
     ∙ ap (λ (z : ℤ). z *ℤ p) (sym (read_known f f_fits))
 
+-- what is computed is the turn
+pub turn_read : (m f g n p : ℤ) → mag m < 2 ^ 63 → mag f < 2 ^ 63 → mag g < 2 ^ 63 → FitsSigned w64 n → FitsSigned w64 p →
+    g ≡ pos (gcd (nat_abs (read n)) (nat_abs (read p))) → m ≡ exact_quotient (read p) (nat_abs (read g)) →
+    f ≡ exact_quotient (read n) (nat_abs (read g)) → record { multiplier = read m; factor = read f } ≡ turn_by n p
+turn_read m f g n p m_fits f_fits g_fits n_fits p_fits g_is m_is f_is =
+    let n_read : read n ≡ n = to_z-of_z w64 n n_fits in
+    let p_read : read p ≡ p = to_z-of_z w64 p p_fits in
+    let common : read g ≡ pos (gcd (nat_abs n) (nat_abs p)) =
+    read_known g g_fits ∙ g_is ∙ ap₂ (λ (y z : ℤ). pos (gcd (nat_abs y) (nat_abs z))) n_read p_read in
+    ap₂ (λ (y z : ℤ). record { multiplier = y; factor = z })
+    (read_known m m_fits ∙ m_is ∙ ap₂ (λ (y z : ℤ). exact_quotient y (nat_abs z)) p_read common)
+    (read_known f f_fits ∙ f_is ∙ ap₂ (λ (y z : ℤ). exact_quotient y (nat_abs z)) n_read common)
+
 -- the multiplier is positive, and neither is greater than what it is made of
 pub turn_positive : (n p : ℤ) → pos 0 <ℤ p → pos 0 <ℤ (turn_by n p).multiplier
 turn_positive n (pos k) positive =

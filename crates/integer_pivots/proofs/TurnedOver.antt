@@ -114,6 +114,17 @@ put_numbers column number olds mids news old new k q inside counted first others
           get_or-set_other mids column c q (pos 0) (λ same. omega (arith, c_from, same)) ∙ others c (omega (arith, c_from));
     }
 
+-- or the next one alone, where the divisor goes into it
+pub put_alone : (column : ℕ) (number : ℤ) (olds news : List ℤ) (part q : ℤ) → column < length olds →
+    news ≡ slice_set olds column q → (q *ℤ part) ≡ number → ArePutOver column number olds part news part
+put_alone column number olds news part q inside written q_is =
+    subst (λ (zs : List ℤ). ArePutOver column number olds part zs part) (sym written) record {
+      count = length-set olds column q;
+      before = λ c c_in. ap (λ (z : ℤ). z *ℤ part) (get_or-set_other olds column c q (pos 0) (λ same. omega (arith, c_in, same)));
+      own = ap (λ (z : ℤ). z *ℤ part) (get_or-set_same olds column q (pos 0) inside) ∙ q_is;
+      behind = λ c c_from. get_or-set_other olds column c q (pos 0) (λ same. omega (arith, c_from, same));
+    }
+
 -- the numbers before a column have turned, and stand over what they have in common with a divisor
 pub record AreTurnedFirst (turn : Turn) (olds line : List ℤ) (first : Divisor) (i : ℕ) (news : List ℤ) (part : Divisor) : Type 0 where
   pub reciprocal : IsReciprocal part

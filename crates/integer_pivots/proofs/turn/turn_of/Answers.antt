@@ -6,7 +6,7 @@ use Rattle.std.proofs.lemmas.Int.{to_z-of_z}
 use Rattle.whole_numbers.proofs.Divisors.{gcd_is}
 use Rattle.integer_pivots.proofs.Sizes.{read, read_known}
 use Rattle.integer_pivots.proofs.Quotients.{bits_of}
-use Rattle.integer_pivots.proofs.TurnLaws.{read_level, turn_by_none, turn_by_one}
+use Rattle.integer_pivots.proofs.TurnLaws.{read_level, turn_by_none, turn_by_one, turn_read}
 use Rattle.integer_pivots.proofs.turn.turn_of.Goals as goal
 use Rattle.integer_pivots.proofs.turn.turn_of.Goals.{then-pivot-eq1-via-then-pivot-eq1, then-pivot-eq1-via-else-pivot-eq1+then-number-eq0}
 
@@ -30,6 +30,12 @@ over-requires-2-clause-whole c =
     subst (λ (z : ℤ). nat_abs z ∣ nat_abs (read c.args.number))
     (sym (read_known c.common_with-common.result c.common_with-common.type_inv ∙ c.common_with-common.ensures.value))
     (gcd_is (nat_abs (read c.args.number)) (nat_abs (read c.args.pivot))).0
+
+pub returns-clause-turn : goal.returns-clause-turn
+returns-clause-turn c =
+    turn_read c.over.result c.over-2.result c.common_with-common.result c.args.number c.args.pivot
+    c.over.type_inv c.over-2.type_inv c.common_with-common.type_inv c.ranges.number c.ranges.pivot
+    c.common_with-common.ensures.value c.over.ensures.value c.over-2.ensures.value
 
 pub returns-clause-level : goal.returns-clause-level
 returns-clause-level c =
