@@ -80,6 +80,16 @@ turn_positive n (negsuc k) positive = absurd (omega (arith, ints, positive))
 pub turn_small : (n p : ℤ) → (nat_abs (turn_by n p).multiplier ≤ nat_abs p) × (nat_abs (turn_by n p).factor ≤ nat_abs n)
 turn_small n p = (quotient_size p (gcd (nat_abs n) (nat_abs p)), quotient_size n (gcd (nat_abs n) (nat_abs p)))
 
+-- so whatever is the turn is within these
+pub turn_ranges : (t : Turn) (n p : ℤ) → t ≡ turn_by n p → pos 0 <ℤ p →
+    ((pos 0 <ℤ t.multiplier) × (t.multiplier ≤ℤ p)) × (nat_abs t.factor ≤ nat_abs n)
+turn_ranges t n p is positive =
+    subst (λ (u : Turn). ((pos 0 <ℤ u.multiplier) × (u.multiplier ≤ℤ p)) × (nat_abs u.factor ≤ nat_abs n)) (sym is)
+    ((turn_positive n p positive, below (turn_by n p).multiplier (turn_small n p).0 (turn_positive n p positive)), (turn_small n p).1)
+  where
+    below : (m : ℤ) → nat_abs m ≤ nat_abs p → pos 0 <ℤ m → m ≤ℤ p
+    below m less high = omega (arith, ints, less, high, positive)
+
 -- what is computed as the least common multiple
 pub common_multiple_is : (f s g q : ℤ) → pos 0 <ℤ f → pos 0 <ℤ s → FitsSigned w64 f → FitsSigned w64 s → mag g < 2 ^ 63 →
     g ≡ pos (gcd (nat_abs (read f)) (nat_abs (read s))) → q ≡ exact_quotient (read f) (nat_abs (read g)) →
