@@ -73,6 +73,12 @@ times_positive (pos a) (pos b) a_is b_is =
 times_positive (pos a) (negsuc b) a_is b_is = absurd (omega (arith, ints, b_is))
 times_positive (negsuc a) b a_is b_is = absurd (omega (arith, ints, a_is))
 
+-- the size of a product of positive numbers of at most 2^30, as 64 bits hold it
+pub positive_product_size : (d m : ℤ) → (pos 0 <ℤ d) × (d ≤ℤ pos (2 ^ 30)) → (pos 0 <ℤ m) × (m ≤ℤ pos (2 ^ 30)) →
+    nat_abs (read (read d *ℤ read m)) ≡ nat_abs d * nat_abs m
+positive_product_size d m d_is m_is =
+    ap nat_abs (product_read d m (size_most d (2 ^ 30) d_is.0 d_is.1) (size_most m (2 ^ 30) m_is.0 m_is.1)) ∙ unsigned_abs-mul d m
+
 -- a product of positive numbers of at most 2^30, as 64 bits hold it
 pub positive_product_read : (d m : ℤ) → (pos 0 <ℤ d) × (d ≤ℤ pos (2 ^ 30)) → (pos 0 <ℤ m) × (m ≤ℤ pos (2 ^ 30)) →
     (pos 0 <ℤ read (read d *ℤ read m)) × (read (read d *ℤ read m) ≤ℤ pos (2 ^ 60))

@@ -54,6 +54,10 @@ product_read a b a_small b_small =
     ∙ ap (λ y. read (a *ℤ y)) (read_number b (omega (arith, b_small)))
     ∙ read_number (a *ℤ b) (omega (arith, product_small (2 ^ 30) (2 ^ 30) a b a_small b_small))
 
+-- a number of at most 2^30 in size is so as it is read
+pub small_read : (z : ℤ) → nat_abs z ≤ 2 ^ 30 → nat_abs (read z) ≤ 2 ^ 30
+small_read z small = omega (arith, small, ap nat_abs (read_number z (omega (arith, small))))
+
 pub size_of : (z : ℤ) (n : ℕ) → (pos 0 ≤ℤ z) × (z ≤ℤ pos n) → nat_abs z ≤ n
 size_of z n within = omega (arith, ints, within.0, within.1)
 

@@ -16,7 +16,7 @@ use Rattle.integer_pivots.specs.declared.turn.Turn.{Turn}
 use Rattle.integer_pivots.specs.Numbers.{AllWithin, greatest_of}
 use Rattle.integer_pivots.specs.Turns.{turn_by, turned_number}
 use Rattle.integer_pivots.proofs.Quotients.{common_positive, quotient_one, quotient_size, quotient_times}
-use Rattle.integer_pivots.proofs.Sizes.{difference_small, positive_size, product_read, product_small, read, read_known, read_number, size_of, test_natural}
+use Rattle.integer_pivots.proofs.Sizes.{difference_small, positive_size, product_read, product_small, read, read_known, read_number, size_of, small_read, test_natural}
 
 -- the turn where the pivot is 1, and where the number is 0
 pub turn_by_one : (n p : ℤ) → p ≡ pos 1 → record { multiplier = pos 1; factor = n } ≡ turn_by n p
@@ -57,6 +57,19 @@ read_level m f g n p m_fits f_fits n_fits p_fits m_is f_is =
     ∙ level m f g n p (m_is ∙ to_z-of_z w64 p p_fits) (f_is ∙ to_z-of_z w64 n n_fits)
     ∙ ap (λ (z : ℤ). z *ℤ p) (sym (read_known f f_fits))
 
+-- what is computed is the turn
+pub turn_read : (m f g n p : ℤ) → mag m < 2 ^ 63 → mag f < 2 ^ 63 → mag g < 2 ^ 63 → FitsSigned w64 n → FitsSigned w64 p →
+    g ≡ pos (gcd (nat_abs (read n)) (nat_abs (read p))) → m ≡ exact_quotient (read p) (nat_abs (read g)) →
+    f ≡ exact_quotient (read n) (nat_abs (read g)) → record { multiplier = read m; factor = read f } ≡ turn_by n p
+turn_read m f g n p m_fits f_fits g_fits n_fits p_fits g_is m_is f_is =
+    let n_read : read n ≡ n = to_z-of_z w64 n n_fits in
+    let p_read : read p ≡ p = to_z-of_z w64 p p_fits in
+    let common : read g ≡ pos (gcd (nat_abs n) (nat_abs p)) =
+    read_known g g_fits ∙ g_is ∙ ap₂ (λ (y z : ℤ). pos (gcd (nat_abs y) (nat_abs z))) n_read p_read in
+    ap₂ (λ (y z : ℤ). record { multiplier = y; factor = z })
+    (read_known m m_fits ∙ m_is ∙ ap₂ (λ (y z : ℤ). exact_quotient y (nat_abs z)) p_read common)
+    (read_known f f_fits ∙ f_is ∙ ap₂ (λ (y z : ℤ). exact_quotient y (nat_abs z)) n_read common)
+
 -- the multiplier is positive, and neither is greater than what it is made of
 pub turn_positive : (n p : ℤ) → pos 0 <ℤ p → pos 0 <ℤ (turn_by n p).multiplier
 turn_positive n (pos k) positive =
@@ -66,6 +79,16 @@ turn_positive n (negsuc k) positive = absurd (omega (arith, ints, positive))
 
 pub turn_small : (n p : ℤ) → (nat_abs (turn_by n p).multiplier ≤ nat_abs p) × (nat_abs (turn_by n p).factor ≤ nat_abs n)
 turn_small n p = (quotient_size p (gcd (nat_abs n) (nat_abs p)), quotient_size n (gcd (nat_abs n) (nat_abs p)))
+
+-- so whatever is the turn is within these
+pub turn_ranges : (t : Turn) (n p : ℤ) → t ≡ turn_by n p → pos 0 <ℤ p →
+    ((pos 0 <ℤ t.multiplier) × (t.multiplier ≤ℤ p)) × (nat_abs t.factor ≤ nat_abs n)
+turn_ranges t n p is positive =
+    subst (λ (u : Turn). ((pos 0 <ℤ u.multiplier) × (u.multiplier ≤ℤ p)) × (nat_abs u.factor ≤ nat_abs n)) (sym is)
+    ((turn_positive n p positive, below (turn_by n p).multiplier (turn_small n p).0 (turn_positive n p positive)), (turn_small n p).1)
+  where
+    below : (m : ℤ) → nat_abs m ≤ nat_abs p → pos 0 <ℤ m → m ≤ℤ p
+    below m less high = omega (arith, ints, less, high, positive)
 
 -- what is computed as the least common multiple
 pub common_multiple_is : (f s g q : ℤ) → pos 0 <ℤ f → pos 0 <ℤ s → FitsSigned w64 f → FitsSigned w64 s → mag g < 2 ^ 63 →
@@ -106,6 +129,31 @@ sizes_natural (pos y) (pos z) y_high z_high = refl
 sizes_natural (negsuc y) z y_high z_high = absurd (omega (arith, ints, y_high))
 sizes_natural (pos y) (negsuc z) y_high z_high = absurd (omega (arith, ints, z_high))
 
+-- such a product is at most 2^60
+pub product_fits : (x y : ℤ) → nat_abs x ≤ 2 ^ 30 → nat_abs y ≤ 2 ^ 30 → nat_abs (read (read x *ℤ read y)) ≤ 2 ^ 60
+product_fits x y x_small y_small =
+    let size = product_small (2 ^ 30) (2 ^ 30) x y x_small y_small in
+    omega (arith, size, ap nat_abs (product_read x y x_small y_small))
+
+-- and 64 bits hold it
+pub product_of_read : (x y : ℤ) → nat_abs x ≤ 2 ^ 30 → nat_abs y ≤ 2 ^ 30 → FitsSigned w64 (read x *ℤ read y)
+product_of_read x y x_small y_small =
+    let size = product_small (2 ^ 30) (2 ^ 30) x y x_small y_small in
+    fits_signed_from_abs w64 (read x *ℤ read y)
+    (subst (λ (z : ℤ). nat_abs z < 2 ^ 63)
+    (sym (ap₂ (λ (p q : ℤ). p *ℤ q) (read_number x (omega (arith, x_small))) (read_number y (omega (arith, y_small)))))
+    (omega (arith, size)))
+
+-- with the other sign, too
+negated : (z : ℤ) → nat_abs z ≤ 2 ^ 60 → FitsSigned w64 (neg_ℤ z)
+negated z small = fits_signed_from_abs w64 (neg_ℤ z) (omega (arith, ints, small))
+
+pub negated_number : (z : ℤ) → nat_abs z ≤ 2 ^ 30 → FitsSigned w64 (neg_ℤ (read z))
+negated_number z small = negated (read z) (let read_small = small_read z small in omega (arith, read_small))
+
+pub negated_fits : (x y : ℤ) → nat_abs x ≤ 2 ^ 30 → nat_abs y ≤ 2 ^ 30 → FitsSigned w64 (neg_ℤ (read (read x *ℤ read y)))
+negated_fits x y x_small y_small = negated (read (read x *ℤ read y)) (product_fits x y x_small y_small)
+
 -- two products, as `keeps` makes them
 pub record AreKept (m most f e a : ℤ) : Type 0 where
   pub multiplier : (pos 0 <ℤ m) × (m ≤ℤ pos (2 ^ 30))
@@ -129,6 +177,9 @@ module _ (m most f e a : ℤ) (k : AreKept m most f e a) where
 
   a_small : nat_abs a ≤ 2 ^ 30
   a_small = subst (λ (z : ℤ). nat_abs z ≤ 2 ^ 30) (sym a_is) k.factor
+
+  pub kept_product : FitsSigned w64 (read a *ℤ read e)
+  kept_product = product_of_read a e a_small e_small
 
   m_high : pos 0 ≤ℤ m
   m_high = let h = k.multiplier.0 in omega (arith, ints, h)
@@ -158,27 +209,6 @@ module _ (m most f e a : ℤ) (k : AreKept m most f e a) where
 product_abs : (x y a : ℤ) → nat_abs x ≤ 2 ^ 30 → nat_abs y ≤ 2 ^ 30 → a ≡ pos (nat_abs (read (read x *ℤ read y))) → a ≡ pos (nat_abs x * nat_abs y)
 product_abs x y a x_small y_small is =
     is ∙ ap (λ (z : ℤ). pos (nat_abs z)) (product_read x y x_small y_small) ∙ ap pos (unsigned_abs-mul x y)
-
--- such a product is at most 2^60
-pub product_fits : (x y : ℤ) → nat_abs x ≤ 2 ^ 30 → nat_abs y ≤ 2 ^ 30 → nat_abs (read (read x *ℤ read y)) ≤ 2 ^ 60
-product_fits x y x_small y_small =
-    let size = product_small (2 ^ 30) (2 ^ 30) x y x_small y_small in
-    omega (arith, size, ap nat_abs (product_read x y x_small y_small))
-
--- and 64 bits hold it, and what it is with the other sign
-pub product_of_read : (x y : ℤ) → nat_abs x ≤ 2 ^ 30 → nat_abs y ≤ 2 ^ 30 → FitsSigned w64 (read x *ℤ read y)
-product_of_read x y x_small y_small =
-    let size = product_small (2 ^ 30) (2 ^ 30) x y x_small y_small in
-    fits_signed_from_abs w64 (read x *ℤ read y)
-    (subst (λ (z : ℤ). nat_abs z < 2 ^ 63)
-    (sym (ap₂ (λ (p q : ℤ). p *ℤ q) (read_number x (omega (arith, x_small))) (read_number y (omega (arith, y_small)))))
-    (omega (arith, size)))
-
-pub negated_fits : (x y : ℤ) → nat_abs x ≤ 2 ^ 30 → nat_abs y ≤ 2 ^ 30 → FitsSigned w64 (neg_ℤ (read (read x *ℤ read y)))
-negated_fits x y x_small y_small = negated (read (read x *ℤ read y)) (product_fits x y x_small y_small)
-  where
-    negated : (z : ℤ) → nat_abs z ≤ 2 ^ 60 → FitsSigned w64 (neg_ℤ z)
-    negated z small = fits_signed_from_abs w64 (neg_ℤ z) (omega (arith, ints, small))
 
 -- two products, as `most_after` makes them
 pub record AreMeasured (m most f e a b : ℤ) : Type 0 where

@@ -78,6 +78,15 @@ pub turned_read : (t : Turn) (n e : ℤ) → nat_abs t.multiplier * nat_abs n + 
 turned_read t n e small =
     ap₂ (λ (x y : ℤ). x -ℤ y) (scaled_read t.multiplier n (omega (arith, small))) (scaled_read t.factor e (omega (arith, small)))
 
+-- and it stays as small as it is read
+pub small_as_read : (t : Turn) (n e : ℤ) → nat_abs t.multiplier * nat_abs n + nat_abs t.factor * nat_abs e ≤ 2 ^ 30 →
+    nat_abs t.multiplier * nat_abs (read n) + nat_abs t.factor * nat_abs (read e) ≤ 2 ^ 30
+small_as_read t n e small =
+    omega (arith, small, same t.multiplier n (omega (arith, small)), same t.factor e (omega (arith, small)))
+  where
+    same : (k z : ℤ) → nat_abs k * nat_abs z ≤ 2 ^ 30 → nat_abs k * nat_abs (read z) ≡ nat_abs k * nat_abs z
+    same k z less = sym (unsigned_abs-mul k (read z)) ∙ ap nat_abs (scaled_read k z less) ∙ unsigned_abs-mul k z
+
 -- what goes so often into a number isn't more often in it than the number's size
 pub multiplied_small : (o k new old : ℤ) → (k *ℤ new) ≡ old → 0 < nat_abs new → nat_abs o * nat_abs old ≤ 2 ^ 30 → nat_abs o * nat_abs k ≤ 2 ^ 30
 multiplied_small o k new old is some small =
@@ -103,6 +112,17 @@ put_numbers column number olds mids news old new k q inside counted first others
       own = ap (λ (z : ℤ). z *ℤ new) (get_or-set_same mids column q (pos 0) (omega (arith, inside, counted))) ∙ q_is;
       behind = λ c c_from.
           get_or-set_other mids column c q (pos 0) (λ same. omega (arith, c_from, same)) ∙ others c (omega (arith, c_from));
+    }
+
+-- or the next one alone, where the divisor goes into it
+pub put_alone : (column : ℕ) (number : ℤ) (olds news : List ℤ) (part q : ℤ) → column < length olds →
+    news ≡ slice_set olds column q → (q *ℤ part) ≡ number → ArePutOver column number olds part news part
+put_alone column number olds news part q inside written q_is =
+    subst (λ (zs : List ℤ). ArePutOver column number olds part zs part) (sym written) record {
+      count = length-set olds column q;
+      before = λ c c_in. ap (λ (z : ℤ). z *ℤ part) (get_or-set_other olds column c q (pos 0) (λ same. omega (arith, c_in, same)));
+      own = ap (λ (z : ℤ). z *ℤ part) (get_or-set_same olds column q (pos 0) inside) ∙ q_is;
+      behind = λ c c_from. get_or-set_other olds column c q (pos 0) (λ same. omega (arith, c_from, same));
     }
 
 -- the numbers before a column have turned, and stand over what they have in common with a divisor

@@ -13,7 +13,7 @@ use Rattle.integer_pivots.specs.declared.line.Line.{Line}
 use Rattle.integer_pivots.specs.declared.turn.Turn.{Turn}
 use Rattle.integer_pivots.specs.Numbers.{AllWithin, greatest_of}
 use Rattle.integer_pivots.specs.Turns.{IsTurning, turned_number}
-use Rattle.integer_pivots.proofs.Sizes.{number_within, positive_size, product_read, read, read_known, read_number, size_of}
+use Rattle.integer_pivots.proofs.Sizes.{number_within, positive_size, product_read, read, read_known, read_number, size_of, small_read}
 use Rattle.integer_pivots.proofs.TurnLaws.{greatest_within, product_of_read, turn_positive, turn_small, wide, wide_number}
 use Rattle.integer_pivots.proofs.TurnedLines.{begins_turning, factor_high, over_fits, over_read, positive_bits, scaled, turned_within}
 use Rattle.integer_pivots.proofs.line.Line.turn.Goals as goal
@@ -43,6 +43,31 @@ denominator_is : (c : Start) → read (read c.args.self.now.denominator *ℤ rea
 denominator_is c =
     product_read c.args.self.now.denominator c.args.turn.multiplier
     (positive_size c.args.self.now.denominator (2 ^ 30) (c.requires.pivot.turning.positive, c.requires.pivot.turning.denominator)) (sizes c).0
+
+pub most_after-most-requires-clause-multiplier : goal.most_after-most-requires-clause-multiplier
+most_after-most-requires-clause-multiplier c = (sizes (goal.at.most_after-most-requires-clause-multiplier c).Start).0
+
+pub most_after-most-requires-clause-factor : goal.most_after-most-requires-clause-factor
+most_after-most-requires-clause-factor c = (sizes (goal.at.most_after-most-requires-clause-factor c).Start).1
+
+pub most_after-most-requires-clause-most : goal.most_after-most-requires-clause-most
+most_after-most-requires-clause-most c =
+    small_read c.args.self.now.reach (reach_small (goal.at.most_after-most-requires-clause-most c).Start).0
+
+pub most_after-most-requires-clause-entering : goal.most_after-most-requires-clause-entering
+most_after-most-requires-clause-entering c =
+    small_read c.args.entering.now.reach (reach_small (goal.at.most_after-most-requires-clause-entering c).Start).1
+
+pub most_after-most-requires-clause-denominator : goal.most_after-most-requires-clause-denominator
+most_after-most-requires-clause-denominator c =
+    small_read c.args.entering.now.denominator
+    (positive_size c.args.entering.now.denominator (2 ^ 30) (c.requires.pivot.across.positive, c.requires.pivot.across.denominator))
+
+pub constant_after-requires-clause-multiplier : goal.constant_after-requires-clause-multiplier
+constant_after-requires-clause-multiplier c = (sizes (goal.at.constant_after-requires-clause-multiplier c).Start).0
+
+pub constant_after-requires-clause-factor : goal.constant_after-requires-clause-factor
+constant_after-requires-clause-factor c = (sizes (goal.at.constant_after-requires-clause-factor c).Start).1
 
 -- numbers are within a reach as it is read
 as_read : (reach : ℤ) (zs : List ℤ) → nat_abs reach ≤ 2 ^ 30 → AllWithin (nat_abs reach) zs → AllWithin (nat_abs (read reach)) zs
@@ -88,6 +113,9 @@ pub turn_numbers-part-requires-clause-turning : goal.turn_numbers-part-requires-
 turn_numbers-part-requires-clause-turning c =
     let p = goal.at.turn_numbers-part-requires-clause-turning c in
     turning p.After-constant_after (multiplier_positive p.Start) (denominator_is p.Start)
+
+pub turn_numbers-part-requires-clause-touched : goal.turn_numbers-part-requires-clause-touched
+turn_numbers-part-requires-clause-touched c = c.requires.touched
 
 -- the greatest size after the turn, over what went out
 over_is : (c : After-turn_numbers-part) → read (quot_z (read c.most_after-most.result) (read c.turn_numbers-part.result))

@@ -17,6 +17,15 @@ measured c = record {
   second = c.abs-2.ensures.value;
 }
 
+pub overflow_mul-self : goal.overflow_mul-self
+overflow_mul-self c = product_of_read c.args.self.multiplier c.args.most c.requires.multiplier c.requires.most
+
+pub abs-requires : goal.abs-requires
+abs-requires c = negated_fits c.args.self.multiplier c.args.most c.requires.multiplier c.requires.most
+
+pub overflow_mul-self-2 : goal.overflow_mul-self-2
+overflow_mul-self-2 c = product_of_read c.args.self.factor c.args.entering c.requires.factor c.requires.entering
+
 pub abs-requires-2 : goal.abs-requires-2
 abs-requires-2 c = negated_fits c.args.self.factor c.args.entering c.requires.factor c.requires.entering
 
@@ -38,6 +47,10 @@ pub greater_size-requires-clause-number : goal.greater_size-requires-clause-numb
 greater_size-requires-clause-number c =
     let small = product_fits c.args.self.factor c.args.denominator c.requires.factor c.requires.denominator in
     omega (arith, small)
+
+pub returns-clause-from_zero : goal.returns-clause-from_zero
+returns-clause-from_zero c =
+    subst (λ (z : ℤ). pos 0 ≤ℤ z) (sym (read_known c.greater_size.result c.greater_size.type_inv)) c.greater_size.ensures.from_zero
 
 pub returns-clause-numbers : goal.returns-clause-numbers
 returns-clause-numbers c =
