@@ -6,3 +6,4 @@ pub mod MissingForms
 pub mod Relaxing
 pub mod SourceLaws
 pub mod OtherSources
+pub mod HeldForms
