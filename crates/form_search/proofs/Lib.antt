@@ -7,3 +7,5 @@ pub mod Relaxing
 pub mod SourceLaws
 pub mod OtherSources
 pub mod HeldForms
+pub mod Quotients
+pub mod CandidateLaws

@@ -33,11 +33,11 @@ pub returns-in_err-table-clause-places : goal.returns-in_err-table-clause-places
 returns-in_err-table-clause-places g c = refl
 
 pub returns-in_err-table-clause-left : goal.returns-in_err-table-clause-left
-returns-in_err-table-clause-left g c = 
+returns-in_err-table-clause-left g c =
     leaves_failed g.S.RowSource c.args.source.now c.args.pool.now c.take_tableau.new.self c.from_residual.result c.from_residual.ensures.0 c.take_tableau.ensures.forms
 
 pub relax_with-requires-clause-in_step : goal.relax_with-requires-clause-in_step
-relax_with-requires-clause-in_step g c = 
+relax_with-requires-clause-in_step g c =
     subst (λ (forms : List Form). AreInStep g.S.RowSource c.args.source.now forms) (sym c.take_tableau.ensures.forms) c.requires.in_step
 
 pub relax_with-requires-clause-ranges : goal.relax_with-requires-clause-ranges
@@ -50,7 +50,7 @@ pub relax_with-requires-clause-places : goal.relax_with-requires-clause-places
 relax_with-requires-clause-places g c = c.requires.places
 
 pub relax_with-requires-clause-stands : goal.relax_with-requires-clause-stands
-relax_with-requires-clause-stands g c = 
+relax_with-requires-clause-stands g c =
     let table = c.in_ok-table.table in
     let costs = c.args.costs.now in
     let pool = c.args.pool.now in
@@ -58,7 +58,7 @@ relax_with-requires-clause-stands g c =
     (stands_own c.args.top costs pool table (c.in_ok-table.ensures pool c.take_tableau.ensures.kept))
 
 pub returns-clause-relaxed : goal.returns-clause-relaxed
-returns-clause-relaxed g c = 
+returns-clause-relaxed g c =
     let new = c.relax_with.new in
     let stands = c.in_ok-table.ensures c.args.pool.now c.take_tableau.ensures.kept in
     subst (λ (top : ℕ). IfOk c.relax_with.result (IsRelaxation (g.S.RowSource.accepted c.args.source.now) top c.args.costs.now new.pool new.point))
@@ -68,6 +68,6 @@ pub returns-clause-places : goal.returns-clause-places
 returns-clause-places g c = c.relax_with.ensures.places
 
 pub returns-clause-left : goal.returns-clause-left
-returns-clause-left g c = 
+returns-clause-left g c =
     subst (λ (forms : List Form). Leaves g.S.RowSource (OnOk c.relax_with.result) c.args.source.now c.relax_with.new.source forms c.relax_with.new.pool)
     c.take_tableau.ensures.forms c.relax_with.ensures.left

@@ -24,14 +24,14 @@ returns-in-Point-clause-round g c =
     stands (c.ask_least.ensures.relaxed top) c.ask_least.ensures.more
 
 pub least-requires-clause-stands : goal.least-requires-clause-stands
-least-requires-clause-stands g c = 
+least-requires-clause-stands g c =
     let top = c.args.table.now.tableau.top in
     let table = c.args.table.now in
     subst (λ (forms : List Form). StandsAt top table.tableau.costs forms table) (sym c.as_slice.ensures)
     (subst (λ (box : CostBox). StandsAt top box c.args.pool.now table) (sym c.requires.stands.over.costs) c.requires.stands)
 
 pub least-requires-clause-fits : goal.least-requires-clause-fits
-least-requires-clause-fits g c = 
+least-requires-clause-fits g c =
     let source = c.args.source.now in
     let costs = c.args.costs.now in
     let pool = c.args.pool.now in
@@ -41,12 +41,12 @@ least-requires-clause-fits g c =
     (λ k d k_in. g.met.S.RowSource.true_forms_hold source _ (c.requires.in_step.true_forms k d k_in))))
 
 pub least-requires-clause-some : goal.least-requires-clause-some
-least-requires-clause-some g c = 
+least-requires-clause-some g c =
     subst (λ (box : CostBox). 0 < length box.low) (sym c.requires.stands.over.costs)
     (subst (λ (n : ℕ). 0 < n) (sym c.requires.ranges.is_box.low_count) c.requires.some)
 
 pub least-requires-clause-places : goal.least-requires-clause-places
-least-requires-clause-places g c = 
+least-requires-clause-places g c =
     c.requires.places ∙ sym c.requires.ranges.is_box.low_count ∙ ap (λ (box : CostBox). length box.low) (sym c.requires.stands.over.costs)
 
 pub returns-in_err-least-clause-round : goal.returns-in_err-least-clause-round
@@ -65,12 +65,12 @@ pub ask_least-requires-clause-ranges : goal.ask_least-requires-clause-ranges
 ask_least-requires-clause-ranges g c = c.requires.ranges
 
 pub ask_least-requires-clause-least : goal.ask_least-requires-clause-least
-ask_least-requires-clause-least g c = 
+ask_least-requires-clause-least g c =
     (told_at c.args.table.now.tableau.top c.args.costs.now c.args.pool.now c.args.table.now c.as_slice.result.now c.least.new.point
     c.in_ok-least.field-0 AtPoint c.requires.stands c.as_slice.ensures c.in-Point.is c.in_ok-least.ensures.told).0
 
 pub ask_least-requires-clause-small : goal.ask_least-requires-clause-small
-ask_least-requires-clause-small g c = 
+ask_least-requires-clause-small g c =
     (told_at c.args.table.now.tableau.top c.args.costs.now c.args.pool.now c.args.table.now c.as_slice.result.now c.least.new.point
     c.in_ok-least.field-0 AtPoint c.requires.stands c.as_slice.ensures c.in-Point.is c.in_ok-least.ensures.told).1
 

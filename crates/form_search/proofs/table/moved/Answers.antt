@@ -11,7 +11,7 @@ pub moved_there-requires-clause-few : goal.moved_there-requires-clause-few
 moved_there-requires-clause-few c = c.requires.few
 
 pub moved_there-requires-clause-fits : goal.moved_there-requires-clause-fits
-moved_there-requires-clause-fits c = 
+moved_there-requires-clause-fits c =
     let forms = c.requires.fits.0 in
     (forms, subst (λ (kept : Option HeldTableau). IsTableauKept forms kept) c.in-Some.is c.requires.fits.1, c.requires.fits.2)
 

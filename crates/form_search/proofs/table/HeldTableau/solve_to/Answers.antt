@@ -30,12 +30,12 @@ pub solve_held-requires-clause-places : goal.solve_held-requires-clause-places
 solve_held-requires-clause-places c = c.requires.places ∙ ap (λ (b : CostBox). length b.low) (sym c.add_rows.ensures.held.costs)
 
 pub returns-clause-told : goal.returns-clause-told
-returns-clause-told c = 
+returns-clause-told c =
     told_all c.args.self.now.tableau.top c.args.self.now.tableau.costs c.args.forms.now c.add_rows.new.self c.solve_held.new.point
     c.solve_held.result c.in_ok-add_rows.ensures.stands c.in_ok-add_rows.ensures.all c.solve_held.ensures.told
 
 pub returns-clause-stands : goal.returns-clause-stands
-returns-clause-stands c = 
+returns-clause-stands c =
     on_ok_weaker c.solve_held.result
     (λ going. record {
       over = kept_over c.args.self.now.tableau.top c.args.self.now.tableau.costs c.args.forms.now c.add_rows.new.self c.solve_held.new.self
@@ -45,7 +45,7 @@ returns-clause-stands c =
     c.solve_held.ensures.going
 
 pub returns-clause-held : goal.returns-clause-held
-returns-clause-held c = 
+returns-clause-held c =
     kept_over c.args.self.now.tableau.top c.args.self.now.tableau.costs c.args.forms.now c.add_rows.new.self c.solve_held.new.self
     c.in_ok-add_rows.ensures.stands c.solve_held.ensures.kept
 
@@ -53,6 +53,6 @@ pub returns-clause-places : goal.returns-clause-places
 returns-clause-places c = c.solve_held.ensures.places
 
 pub returns-clause-wide : goal.returns-clause-wide
-returns-clause-wide c = 
+returns-clause-wide c =
     step_all c.args.self.now.tableau.top c.args.self.now.tableau.costs c.args.forms.now c.add_rows.new.self c.solve_held.new.self.tableau
     c.solve_held.result c.in_ok-add_rows.ensures.stands c.in_ok-add_rows.ensures.all c.solve_held.ensures.wide
