@@ -143,9 +143,16 @@ fn relax_with<S: RowSource>(
     // Only true forms came to the pool, and unless memory is wanting the source is in step with it.
     ensures left { Leaves S.RowSource (OnOk result) source.old source.new pool.old pool.new }
 {
-    let relaxed = relax_by(source, pool, costs, &mut table, point)?;
-    pool.keep_tableau(table);
-    Ok(relaxed)
+    match relax_by(source, pool, costs, &mut table, point) {
+        Ok(relaxed) => {
+            pool.keep_tableau(table);
+            Ok(relaxed)
+        }
+        Err(error) => {
+            drop(table);
+            Err(error)
+        }
+    }
 }
 
 /// Relaxes a box: moves the tableau that is kept with the pool there or starts one, and asks the source at the least point

@@ -70,6 +70,7 @@ fn moved_there(
     if table.moves_to(costs, top) {
         return Ok(table);
     }
+    drop(table);
     started(alloc, costs, top)
 }
 

@@ -1,5 +1,4 @@
 use Rattle.std.proofs.Common.{sym, subst, List, length}
-use Rattle.std.proofs.lemmas.Result.{err_from_is_err_and}
 use Rattle.design_problem.specs.Forms.{Form}
 use Rattle.form_search.specs.Calls.{Leaves}
 use Rattle.form_search.specs.Tables.{IsRelaxation}
@@ -21,31 +20,29 @@ relax_by-requires-clause-stands g c = c.requires.stands
 pub relax_by-requires-clause-places : goal.relax_by-requires-clause-places
 relax_by-requires-clause-places g c = c.requires.places
 
-pub returns-in_err-relaxed-clause-relaxed : goal.returns-in_err-relaxed-clause-relaxed
-returns-in_err-relaxed-clause-relaxed g c = let p = err_from_is_err_and c.from_residual.result c.from_residual.ensures.1 in rw p.1 tt
+pub returns-in-Err-clause-relaxed : goal.returns-in-Err-clause-relaxed
+returns-in-Err-clause-relaxed g c = tt
 
-pub returns-in_err-relaxed-clause-places : goal.returns-in_err-relaxed-clause-places
-returns-in_err-relaxed-clause-places g c = c.relax_by.ensures.places
+pub returns-in-Err-clause-places : goal.returns-in-Err-clause-places
+returns-in-Err-clause-places g c = c.relax_by.ensures.places
 
-pub returns-in_err-relaxed-clause-left : goal.returns-in_err-relaxed-clause-left
-returns-in_err-relaxed-clause-left g c =
-    let p = err_from_is_err_and c.from_residual.result c.from_residual.ensures.1 in
-    rw p.1 (record { grows = c.relax_by.ensures.left.grows; same = c.relax_by.ensures.left.same; lists = tt })
+pub returns-in-Err-clause-left : goal.returns-in-Err-clause-left
+returns-in-Err-clause-left g c = record { grows = c.relax_by.ensures.left.grows; same = c.relax_by.ensures.left.same; lists = tt }
 
 pub keep_tableau-requires : goal.keep_tableau-requires
 keep_tableau-requires g c =
     let new = c.relax_by.new in
-    held_own c.args.table.tableau.top (length c.args.costs.now.low) new.pool new.table c.in_ok-relaxed.ensures.relaxed.is_held
+    held_own c.args.table.tableau.top (length c.args.costs.now.low) new.pool new.table c.in-Ok.ensures.relaxed.is_held
 
-pub returns-clause-relaxed : goal.returns-clause-relaxed
-returns-clause-relaxed g c =
+pub returns-in-Ok-clause-relaxed : goal.returns-in-Ok-clause-relaxed
+returns-in-Ok-clause-relaxed g c =
     subst (λ (forms : List Form). IsRelaxation (g.S.RowSource.accepted c.args.source.now) c.args.table.tableau.top c.args.costs.now forms
-    c.relax_by.new.point c.in_ok-relaxed.relaxed) (sym c.keep_tableau.ensures) c.in_ok-relaxed.ensures.relaxed.relaxation
+    c.relax_by.new.point c.in-Ok.relaxed) (sym c.keep_tableau.ensures) c.in-Ok.ensures.relaxed.relaxation
 
-pub returns-clause-places : goal.returns-clause-places
-returns-clause-places g c = c.relax_by.ensures.places
+pub returns-in-Ok-clause-places : goal.returns-in-Ok-clause-places
+returns-in-Ok-clause-places g c = c.relax_by.ensures.places
 
-pub returns-clause-left : goal.returns-clause-left
-returns-clause-left g c =
+pub returns-in-Ok-clause-left : goal.returns-in-Ok-clause-left
+returns-in-Ok-clause-left g c =
     subst (λ (forms : List Form). Leaves g.S.RowSource (λ P. P) c.args.source.now c.relax_by.new.source c.args.pool.now forms)
-    (sym c.keep_tableau.ensures) c.in_ok-relaxed.ensures.left
+    (sym c.keep_tableau.ensures) c.in-Ok.ensures.left
