@@ -4,6 +4,7 @@ use Rattle.std.specs.Prelude.{ℤ, pos, negsuc, ◌+ℤ◌, ◌*ℤ◌, ◌<ℤ�
 use Rattle.std.proofs.Math.Nat.{mul-le-mul_left}
 use Rattle.std.proofs.lemmas.Int.{ints}
 use Rattle.std.proofs.lemmas.Bool.{cases_lt}
+use Rattle.std.proofs.lemmas.List.{length-map}
 use lib.IntN.{+ℤ_idr}
 use Rattle.area_graph.specs.declared.Point.{Point}
 use Rattle.area_graph.specs.Costs.{at_costs}
@@ -15,7 +16,7 @@ use Rattle.design_problem.specs.Trees.{CutsAt}
 use Rattle.design_problem.specs.Earnest.{IsLeastPoint, LexLess, SplitsFraction}
 use Rattle.design_problem.proofs.AtCosts.{value_at_costs}
 use Rattle.cut_advisors.specs.declared.candidate.Candidate.{Candidate}
-use Rattle.form_search.specs.Sources.{IsCostPoint}
+use Rattle.form_search.specs.Sources.{IsCostPoint, scaled}
 use Rattle.form_search.specs.Points.{AreCostsOf, IsCostsBox, IsFractional}
 
 low_first : (n : ℕ) (box : CostBox) → IsCostsBox n box → (k : ℕ) → k < n → 1 ≤ slice_index box.low k
@@ -33,7 +34,7 @@ scaled_most high x scale few below =
     let more : scale * high ≤ scale * 65535 = mul-le-mul_left scale few in
     omega arith
 
-each_at : (P : ℕ → Type 0) (xs : List ℕ) → ((k : ℕ) → k < length xs → P (slice_index xs k)) → All P xs
+pub each_at : (P : ℕ → Type 0) (xs : List ℕ) → ((k : ℕ) → k < length xs → P (slice_index xs k)) → All P xs
 each_at P [] each k d k_in = absurd (omega arith)
 each_at P (x ∷ xs) each zero d k_in = each 0 (omega arith)
 each_at P (x ∷ xs) each (suc k) d k_in = each_at P xs (λ i i_in. each (suc i) (omega arith)) k d (omega arith)
@@ -53,6 +54,13 @@ cost_point n box point kept inside small =
           (λ k k_in. scaled_most (slice_index box.high k) (slice_index point.values k) point.scale
           (high_last n box kept k (omega arith)) (inside.below k k_in));
     }
+
+-- each of its values is small
+pub value_most : (n : ℕ) (box : CostBox) (point : Point) (k : ℕ) → IsCostsBox n box → IsPointOf box point → k < length point.values →
+    slice_index point.values k ≤ 65535 * point.scale
+value_most n box point k kept inside k_in =
+    scaled_most (slice_index box.high k) (slice_index point.values k) point.scale
+    (high_last n box kept k (omega (arith, k_in, inside.low_count, kept.is_box.low_count))) (inside.below k k_in)
 
 -- the low corner of a box as costs
 pub low_values : (n : ℕ) (box : CostBox) → IsCostsBox n box → All (λ x. (1 ≤ x) × (x ≤ 65535)) box.low
@@ -99,6 +107,63 @@ inside_most n box w kept inside = each_at (λ x. x ≤ 65535) w (λ k k_in.
     let below = inside.below k k_in in
     let most = high_last n box kept k (omega (arith, inside.low_count, kept.is_box.low_count)) in
     omega arith)
+
+-- whole costs whose point lies in a box lie in it
+scaled_at : (w : List ℕ) (scale k : ℕ) → slice_index (map (λ x. x * scale) w) k ≡ slice_index w k * scale
+scaled_at [] scale k = omega arith
+scaled_at (x ∷ w) scale zero = refl
+scaled_at (x ∷ w) scale (suc k) = scaled_at w scale k
+
+unscaled : (a b scale : ℕ) → 0 < scale → a * scale ≤ b * scale → a ≤ b
+unscaled a b scale some less =
+    elim (cases_lt b a) [
+      | inl before ↦
+          let more : scale * (b + 1) ≤ scale * a = mul-le-mul_left scale (let e : b + 1 ≤ a = omega arith in e) in
+          absurd (omega (arith, some, less))
+      | inr not ↦ omega (arith, not)
+    ]
+
+pub scaled_inside : (box : CostBox) (point : Point) (w : List ℕ) → IsPointOf box point → scaled w point.scale ≡ point → IsInBox box w
+scaled_inside box point w inside same =
+    let there : IsPointOf box (scaled w point.scale) = subst (IsPointOf box) (sym same) inside in
+    let count : length (map (λ x. x * point.scale) w) ≡ length w = length-map w (λ x. x * point.scale) in
+    record {
+      low_count = there.low_count ∙ count;
+      high_count = there.high_count ∙ count;
+      above = λ k k_in. unscaled (slice_index box.low k) (slice_index w k) point.scale inside.scale
+          (subst (λ (x : ℕ). slice_index box.low k * point.scale ≤ x) (scaled_at w point.scale k) (there.above k (omega (arith, k_in, count))));
+      below = λ k k_in. unscaled (slice_index w k) (slice_index box.high k) point.scale inside.scale
+          (subst (λ (x : ℕ). x ≤ slice_index box.high k * point.scale) (scaled_at w point.scale k) (there.below k (omega (arith, k_in, count))));
+    }
+
+-- a point of a box of costs whose values themselves are at most the upper bounds: they lie in the box
+pub values_inside : (n : ℕ) (box : CostBox) (point : Point) → IsPointOf box point →
+    ((k : ℕ) → k < length box.high → slice_index point.values k ≤ slice_index box.high k) → IsInBox box point.values
+values_inside n box point inside within = record {
+  low_count = inside.low_count;
+  high_count = inside.high_count;
+  above = λ k k_in. unscaled_low (slice_index box.low k) point.scale (slice_index point.values k) inside.scale (inside.above k k_in);
+  below = λ k k_in. within k (omega (arith, k_in, inside.high_count));
+}
+  where
+    unscaled_low : (a scale x : ℕ) → 0 < scale → a * scale ≤ x → a ≤ x
+    unscaled_low a scale x some less = let more : a * 1 ≤ a * scale = mul-le-mul_left a some in omega arith
+
+-- and they are a point of costs
+pub values_point : (n : ℕ) (box : CostBox) (w : List ℕ) → IsCostsBox n box → IsInBox box w → IsCostPoint n (record { scale = 1; values = w })
+values_point n box w kept inside = record {
+  count = sym inside.low_count ∙ kept.is_box.low_count;
+  scale = omega arith;
+  scale_below = omega arith;
+  least = each_at (λ x. 1 ≤ x) w (λ k k_in.
+      let low = low_first n box kept k (omega (arith, k_in, inside.low_count, kept.is_box.low_count)) in
+      let above = inside.above k k_in in
+      omega (arith, low, above));
+  most = each_at (λ x. x ≤ 65535 * 1) w (λ k k_in.
+      let high = high_last n box kept k (omega (arith, k_in, inside.low_count, kept.is_box.low_count)) in
+      let below = inside.below k k_in in
+      omega (arith, high, below));
+}
 
 -- at a box of one point the greatest value is the value there
 one_term : (c : ℤ) (x : ℕ) → upper_term c x x ≡ (c *ℤ pos x)

@@ -6,3 +6,6 @@ pub mod MissingForms
 pub mod Relaxing
 pub mod SourceLaws
 pub mod OtherSources
+pub mod HeldForms
+pub mod Quotients
+pub mod CandidateLaws

@@ -1,6 +1,7 @@
 -- One call of a source after another: what they leave of the source, and of the pool.
-use Rattle.std.proofs.Common.{ℕ, refl, sym, ◌∙◌, ap, subst, List, [], ◌++◌, append_assoc, append-nil}
-use Rattle.std.specs.Prelude.{All}
+use Rattle.std.proofs.Common.{◌≡◌, ℕ, refl, sym, ◌∙◌, ap, subst, List, [], ◌++◌, append_assoc, append-nil, Ok}
+use Rattle.std.specs.Prelude.{All, Result, Err, IsErr, OnOk}
+use Rattle.std.proofs.lemmas.Bool.{false≢true}
 use Rattle.std.proofs.lemmas.List.Elements.{All-append, All-nil}
 use Rattle.area_graph.specs.declared.Point.{Point}
 use Rattle.design_problem.specs.Forms.{Form}
@@ -61,6 +62,16 @@ module _ {Source : Type 0} (members : Ghosts Source) where
     grows = grows_none (members.true_form source) forms;
     same = same_alike members.count members.accepted members.true_form members.candidates source;
     lists = lists;
+  }
+
+  -- work that failed before a source was asked
+  pub leaves_failed : {T E : Type 0} (source : Source) (old new : List Form) (result : Result T E) →
+      IsErr result → new ≡ old → Leaves members (OnOk result) source source old new
+  leaves_failed source old new (Ok x) failed same = absurd (false≢true failed)
+  leaves_failed source old new (Err e) failed same = record {
+    grows = subst (λ (fs : List Form). Grows (members.true_form source) old fs) (sym same) (grows_none (members.true_form source) old);
+    same = same_alike members.count members.accepted members.true_form members.candidates source;
+    lists = tt;
   }
 
   -- some work, and then some more

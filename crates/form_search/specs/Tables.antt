@@ -46,6 +46,19 @@ pub record StandsAt (top : ℕ) (box : CostBox) (forms : List Form) (table : Hel
   pub over : IsHeldOver top box forms table
   pub going : IsGoing table.tableau.stage
 
+-- a tableau stays over its box, with the forms that it holds
+pub record KeepsRows (old new : TableauState) : Type 0 where
+  pub top : new.top ≡ old.top
+  pub costs : new.costs ≡ old.costs
+  pub rows : new.rows ≡ old.rows
+
+-- so does one that is kept, with what it was started for
+pub record KeepsForms (old new : HeldTableau) : Type 0 where
+  pub tableau : KeepsRows old.tableau new.tableau
+  pub held : new.held ≡ old.held
+  pub noted_top : new.top ≡ old.top
+  pub noted_width : new.variables ≡ old.variables
+
 -- a step that is too wide, as it is printed
 pub record IsPrintedWide (top : ℕ) (box : CostBox) (forms : List Form) (wide : WideAt) : Type 0 where
   pub too_wide : IsStepTooWide top box forms wide

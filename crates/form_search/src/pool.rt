@@ -67,7 +67,7 @@ impl FormPool {
     pub fn truncate(&mut self, count: usize)
         ensures { self.new ≡ take count self.old }
     {
-        self.table = None;
+        drop(self.table.take());
         self.forms.truncate(count);
     }
 
@@ -84,7 +84,7 @@ impl FormPool {
         requires { IsHeld table.top table.variables self.old table }
         ensures { self.new ≡ self.old }
     {
-        self.table = Some(table);
+        drop(self.table.replace(table));
     }
 
     /// The forms, in order.

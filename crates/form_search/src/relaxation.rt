@@ -118,6 +118,43 @@ fn relax_by<S: RowSource>(
     }
 }
 
+/// Rounds until no new form comes, with a tableau that is kept with the pool then.
+fn relax_with<S: RowSource>(
+    source: &mut S,
+    pool: &mut FormPool,
+    costs: &CostBox,
+    mut table: HeldTableau,
+    point: &mut Point,
+) -> Result<Relaxed, OutOfMemory>
+    // The source is in step with the pool, and the box of costs has a variable at least.
+    requires in_step { AreInStep S.RowSource source.old pool.old }
+    requires ranges { IsCostsBox (S.count source.old) costs.now }
+    requires some { 0 < S.count source.old }
+
+    // The tableau stands over the box with the pool's first forms, and no step has stopped it.
+    requires stands { StandsAt table.tableau.top costs.now pool.old table }
+    requires places { length point.old.values ≡ S.count source.old }
+
+    // There is a least accepted point, or multipliers refute the box, or a step is too wide.
+    ensures relaxed { IfOk result (IsRelaxation (S.accepted source.old) table.tableau.top costs.now
+        pool.new point.new) }
+    ensures places { length point.new.values ≡ length point.old.values }
+
+    // Only true forms came to the pool, and unless memory is wanting the source is in step with it.
+    ensures left { Leaves S.RowSource (OnOk result) source.old source.new pool.old pool.new }
+{
+    match relax_by(source, pool, costs, &mut table, point) {
+        Ok(relaxed) => {
+            pool.keep_tableau(table);
+            Ok(relaxed)
+        }
+        Err(error) => {
+            drop(table);
+            Err(error)
+        }
+    }
+}
+
 /// Relaxes a box: moves the tableau that is kept with the pool there or starts one, and asks the source at the least point
 /// that meets the pool's forms, until that point is accepted or there is none. The tableau is kept with the pool.
 pub(crate) fn relax<S: RowSource>(
@@ -141,8 +178,6 @@ pub(crate) fn relax<S: RowSource>(
     // Only true forms came to the pool, and unless memory is wanting the source is in step with it.
     ensures left { Leaves S.RowSource (OnOk result) source.old source.new pool.old pool.new }
 {
-    let mut table = moved(pool.alloc(), pool.take_tableau(), costs, top)?;
-    let relaxed = relax_by(source, pool, costs, &mut table, point)?;
-    pool.keep_tableau(table);
-    Ok(relaxed)
+    let table = moved(pool.alloc(), pool.take_tableau(), costs, top)?;
+    relax_with(source, pool, costs, table, point)
 }

@@ -1,11 +1,14 @@
 //! The tableau that is kept from box to box, and with the pool from search to search.
 ghost use Rattle.std.specs.Prelude.{◌≡◌, ℕ, ◌^◌, ◌<◌, List, ◌↔◌, length, All, IfErr, IfOk, IsTrue, OnErr, OnOk};
+ghost use Rattle.area_graph.specs.declared.Point.{Point};
 ghost use Rattle.design_problem.specs.Forms.{Form};
 ghost use Rattle.design_problem.specs.Boxes.{IsBox};
 ghost use Rattle.design_problem.specs.Steps.{IsStepTooWide, ratio_of};
 ghost use Rattle.design_problem.specs.Text.{IsPrintedRatio};
+ghost use Rattle.fraction_table.specs.declared.stage.Solved.TheVariants.{Feasible, Refuted};
+ghost use Rattle.fraction_table.specs.declared.stage.Stage.TheVariants.{Ended};
 ghost use Rattle.fraction_table.specs.Tableaus.{FitsBox, IsGoing, wide_at};
-ghost use Rattle.form_search.specs.Tables.{IsHeldOver, IsTableauKept, IsPrintedWide, IsStepTold, IsLeastTold, StandsAt};
+ghost use Rattle.form_search.specs.Tables.{IsHeld, IsHeldOver, IsTableauKept, KeepsForms, IsPrintedWide, IsStepTold, IsLeastTold, StandsAt};
 
 use area_graph::Point;
 use cost_base::{Listed, OutOfMemory, Ratio};
@@ -49,8 +52,29 @@ fn started(alloc: Global, costs: &CostBox, top: Top) -> Result<HeldTableau, OutO
     })
 }
 
-/// The tableau over the box: the kept one moved there, with the forms that it holds; a new one where none is kept, or the
-/// kept one is another top's or of another number of variables, or it had stopped.
+/// The tableau over the box: the kept one moved there, with the forms that it holds; a new one where it is another top's or
+/// of another number of variables, or it had stopped.
+fn moved_there(
+    alloc: Global,
+    mut table: HeldTableau,
+    costs: &CostBox,
+    top: Top,
+) -> Result<HeldTableau, OutOfMemory>
+    requires ranges { IsBox (length costs.now.low) costs.now }
+    requires few { length costs.now.low < 2 ^ 32 }
+    requires fits { (forms : List Form) × IsHeld table.top table.variables forms table ×
+        All (FitsBox costs.now) forms }
+    ensures { (forms : List Form) → IsHeld table.top table.variables forms table →
+        IfOk result (StandsAt top costs.now forms) }
+{
+    if table.moves_to(costs, top) {
+        return Ok(table);
+    }
+    drop(table);
+    started(alloc, costs, top)
+}
+
+/// The tableau over the box: the kept one moved there where that can be, and else a new one.
 pub(crate) fn moved(
     alloc: Global,
     kept: Option<HeldTableau>,
@@ -63,14 +87,10 @@ pub(crate) fn moved(
     ensures { (forms : List Form) → IsTableauKept forms kept →
         IfOk result (StandsAt top costs.now forms) }
 {
-    if let Some(mut table) = kept {
-        if table.is_for(costs.low.as_slice().len(), top) {
-            if table.tableau.rebase(costs).is_ok() {
-                return Ok(table);
-            }
-        }
+    match kept {
+        Some(table) => moved_there(alloc, table, costs, top),
+        None => started(alloc, costs, top),
     }
-    started(alloc, costs, top)
 }
 
 /// The fraction as it is printed.
@@ -90,6 +110,18 @@ impl HeldTableau {
         ensures { IsTrue result ↔ ((self.now.variables ≡ variables) × (self.now.top ≡ top)) }
     {
         self.variables == variables && self.top.size() == top.size()
+    }
+
+    /// Moves it to the box, with the forms that it holds. It can't where it was started for another top or another number of
+    /// variables, or had stopped.
+    fn moves_to(&mut self, costs: &CostBox, top: Top) -> bool
+        requires ranges { IsBox (length costs.now.low) costs.now }
+        requires fits { (forms : List Form) × IsHeld self.old.top self.old.variables forms self.old ×
+            All (FitsBox costs.now) forms }
+        ensures { (forms : List Form) → IsHeld self.old.top self.old.variables forms self.old →
+            IsTrue result → StandsAt top costs.now forms self.new }
+    {
+        self.is_for(costs.low.as_slice().len(), top) && self.tableau.rebase(costs).is_ok()
     }
 
     /// Adds the forms of the pool that it doesn't hold yet, in order.
@@ -112,6 +144,55 @@ impl HeldTableau {
             self.held = row + 1;
         }
         Ok(())
+    }
+
+    /// Puts the least point in place, which the tableau has found to be.
+    fn point_to(&self, point: &mut Point) -> Result<Least, SimplexStop>
+        requires solved { self.now.tableau.stage ≡ Ended Feasible }
+        requires places { length point.old.values ≡ length self.now.tableau.costs.low }
+        ensures told { IfOk result (IsLeastTold self.now.tableau.top self.now.tableau.costs
+            self.now.tableau.rows point.new) }
+        ensures places { length point.new.values ≡ length point.old.values }
+        ensures wide { IfErr result (IsStepTold self.now.tableau.costs self.now.tableau.rows
+            self.now.tableau) }
+    {
+        self.tableau.point(point)?;
+        Ok(Least::Point)
+    }
+
+    /// The multipliers of the form that the tableau has refuted.
+    fn parts_of(&self, alloc: Global, form: u64) -> Result<Least, SimplexStop>
+        requires { self.now.tableau.stage ≡ Ended (Refuted form) }
+        ensures told { (point : Point) → IfOk result (IsLeastTold self.now.tableau.top
+            self.now.tableau.costs self.now.tableau.rows point) }
+        ensures wide { IfErr result (IsStepTold self.now.tableau.costs self.now.tableau.rows
+            self.now.tableau) }
+    {
+        let mut parts = Parts::from_items(Vec::new(alloc));
+        self.tableau.multipliers(alloc, form, &mut parts)?;
+        Ok(Least::Refuted(parts))
+    }
+
+    /// Solves, and puts the least point in place.
+    fn solve_held(&mut self, alloc: Global, point: &mut Point) -> Result<Least, SimplexStop>
+        requires going { IsGoing self.old.tableau.stage }
+        requires places { length point.old.values ≡ length self.old.tableau.costs.low }
+
+        // What it tells holds of the box and the forms that are held.
+        ensures told { IfOk result (IsLeastTold self.old.tableau.top self.old.tableau.costs
+            self.old.tableau.rows point.new) }
+        ensures places { length point.new.values ≡ length point.old.values }
+
+        // The tableau holds these forms as before; a step that stops it is too wide at its basis.
+        ensures kept { KeepsForms self.old self.new }
+        ensures going { OnOk result (IsGoing self.new.tableau.stage) }
+        ensures wide { IfErr result (IsStepTold self.old.tableau.costs self.old.tableau.rows
+            self.new.tableau) }
+    {
+        match self.tableau.solve()? {
+            Solved::Feasible => self.point_to(point),
+            Solved::Refuted(form) => self.parts_of(alloc, form),
+        }
     }
 
     /// Adds the forms, solves, and puts the least point in place.
@@ -138,17 +219,7 @@ impl HeldTableau {
         ensures wide { IfErr result (IsStepTold self.old.tableau.costs forms.now self.new.tableau) }
     {
         self.add_rows(alloc, forms)?;
-        match self.tableau.solve()? {
-            Solved::Feasible => {
-                self.tableau.point(point)?;
-                Ok(Least::Point)
-            }
-            Solved::Refuted(form) => {
-                let mut parts = Parts::from_items(Vec::new(alloc));
-                self.tableau.multipliers(alloc, form, &mut parts)?;
-                Ok(Least::Refuted(parts))
-            }
-        }
+        self.solve_held(alloc, point)
     }
 
     /// The step that was too wide, with the basis at which it was taken.

@@ -1,17 +1,28 @@
-use Rattle.std.proofs.Common.{sym, subst, List}
-use Rattle.std.specs.Prelude.{All, Option}
-use Rattle.design_problem.specs.Forms.{Form}
-use Rattle.fraction_table.specs.Tableaus.{FitsBox}
+use Rattle.std.proofs.Common.{subst}
+use Rattle.std.specs.Prelude.{Option}
 use Rattle.form_search.specs.declared.table.HeldTableau.{HeldTableau}
-use Rattle.form_search.specs.Tables.{IsHeld, IsTableauKept}
-use Rattle.form_search.proofs.NextEntries.{all_take}
+use Rattle.form_search.specs.Tables.{IsTableauKept}
 use Rattle.form_search.proofs.table.moved.Goals as goal
 
-pub rebase-requires-clause-fits : goal.rebase-requires-clause-fits
-rebase-requires-clause-fits c =
-    let costs = c.args.costs.now in
+pub moved_there-requires-clause-ranges : goal.moved_there-requires-clause-ranges
+moved_there-requires-clause-ranges c = c.requires.ranges
+
+pub moved_there-requires-clause-few : goal.moved_there-requires-clause-few
+moved_there-requires-clause-few c = c.requires.few
+
+pub moved_there-requires-clause-fits : goal.moved_there-requires-clause-fits
+moved_there-requires-clause-fits c =
     let forms = c.requires.fits.0 in
-    let table = c.in-Some.table in
-    let kept : IsHeld table.top table.variables forms table =
-    subst (λ (o : Option HeldTableau). IsTableauKept forms o) c.in-Some.is c.requires.fits.1 in
-    subst (λ (rows : List Form). All (FitsBox costs) rows) (sym kept.rows) (all_take (FitsBox costs) kept.taken forms c.requires.fits.2)
+    (forms, subst (λ (kept : Option HeldTableau). IsTableauKept forms kept) c.in-Some.is c.requires.fits.1, c.requires.fits.2)
+
+pub started-requires-clause-ranges : goal.started-requires-clause-ranges
+started-requires-clause-ranges c = c.requires.ranges
+
+pub started-requires-clause-few : goal.started-requires-clause-few
+started-requires-clause-few c = c.requires.few
+
+pub returns-in-Some : goal.returns-in-Some
+returns-in-Some c forms kept = c.moved_there.ensures forms (subst (λ (o : Option HeldTableau). IsTableauKept forms o) c.in-Some.is kept)
+
+pub returns-in-None : goal.returns-in-None
+returns-in-None c forms kept = c.started.ensures forms
