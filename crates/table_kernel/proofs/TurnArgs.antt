@@ -7,7 +7,7 @@ use Rattle.whole_numbers.specs.Lists.{number_at}
 use Rattle.integer_pivots.specs.declared.line.Line.{Line}
 use Rattle.integer_pivots.specs.declared.turn.Turn.{Turn}
 use Rattle.integer_pivots.specs.declared.lowest.Lowest.{Lowest}
-use Rattle.integer_pivots.specs.Turns.{AreSmallAfter, IsAtPivot, IsLowestAfter, MayLineTurn, denominator_after, turn_at}
+use Rattle.integer_pivots.specs.Turns.{IsAtPivot, IsLowestAfter, MayLineTurn, denominator_after, turn_at}
 use Rattle.integer_pivots.specs.Lines.{IsLine, no_line}
 use Rattle.integer_pivots.proofs.Sizes.{read, read_number, size_most}
 use Rattle.integer_pivots.proofs.TurnLaws.{turn_positive, turn_small}
@@ -123,3 +123,9 @@ pub lowest_is : (k : Kernel) (column v : ℕ) (line : Line) (turn : Turn) (lowes
 lowest_is k column v line turn lowest is turn_is told =
     subst (λ (t : Turn). IsLowestAfter t column k.entering (line_of k v) lowest) turn_is
     (subst (λ (l : Line). IsLowestAfter turn column k.entering l lowest) is told)
+
+pub lowest_there : (k : Kernel) (column v : ℕ) (line : Line) (turn : Turn) (lowest : Lowest) → line ≡ line_of k v → turn ≡ turn_of_line k column v →
+    IsLowestOf k column v lowest → IsLowestAfter turn column k.entering line lowest
+lowest_there k column v line turn lowest is turn_is told =
+    subst (λ (t : Turn). IsLowestAfter t column k.entering line lowest) (sym turn_is)
+    (subst (λ (l : Line). IsLowestAfter (turn_of_line k column v) column k.entering l lowest) (sym is) told)
