@@ -76,3 +76,6 @@ returns-then-bound-high-clause-kernel c = c.requires.kernel
 
 pub shift_high-requires-clause-kernel : goal.shift_high-requires-clause-kernel
 shift_high-requires-clause-kernel c = c.requires.kernel
+
+pub returns-then-bound-high-clause-keeps : goal.returns-then-bound-high-clause-keeps
+returns-then-bound-high-clause-keeps c = record { top = refl; rows = refl; width = refl; common = refl; lows = refl }

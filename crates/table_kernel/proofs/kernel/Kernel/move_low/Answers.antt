@@ -76,3 +76,6 @@ returns-then-bound-low-clause-kernel c = c.requires.kernel
 
 pub shift_low-requires-clause-kernel : goal.shift_low-requires-clause-kernel
 shift_low-requires-clause-kernel c = c.requires.kernel
+
+pub returns-then-bound-low-clause-keeps : goal.returns-then-bound-low-clause-keeps
+returns-then-bound-low-clause-keeps c = record { top = refl; rows = refl; width = refl; common = refl; lows = refl }
