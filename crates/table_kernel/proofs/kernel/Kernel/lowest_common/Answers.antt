@@ -1,5 +1,5 @@
 -- The least common denominator of one line more.
-use Rattle.std.proofs.Common.{◌<◌, ◌≤◌, ◌^◌, sym, subst, length, arith, w64, to_z}
+use Rattle.std.proofs.Common.{◌<◌, ◌^◌, sym, subst, length, arith, w64, to_z}
 use Rattle.std.specs.Prelude.{ℤ, pos, ◌<ℤ◌, ◌≤ℤ◌}
 use Rattle.std.proofs.lemmas.Int.{ints}
 use Rattle.integer_pivots.proofs.FailedTests.{failed}

@@ -1,11 +1,10 @@
 -- One more constant stays within its limit, or doesn't.
-use Rattle.std.proofs.Common.{◌≡◌, ℕ, List, ◌+◌, ◌^◌, ◌<◌, ◌≤◌, ◌↔◌, ◌∙◌, ap, refl, sym, subst, length, arith, FitsSigned, w64}
+use Rattle.std.proofs.Common.{◌≡◌, ℕ, List, ◌^◌, ◌<◌, ◌≤◌, ◌↔◌, ◌∙◌, ap, refl, sym, subst, length, arith, FitsSigned, w64}
 use Rattle.std.specs.Prelude.{ℤ, pos, ◌+ℤ◌, ◌≤ℤ◌, nat_abs, IsTrue}
 use Rattle.std.proofs.lemmas.Int.{ints}
 use Rattle.integer_pivots.proofs.FailedTests.{failed, never}
 use Rattle.integer_pivots.proofs.Sizes.{read}
 use Rattle.integer_pivots.proofs.WrittenPlaces.{all_more}
-use Rattle.table_kernel.specs.Kernels.{width_of}
 use Rattle.table_kernel.specs.Moves.{LineMayMove, MayMove, box_distance, distance_of}
 use Rattle.table_kernel.specs.Turns.{line_of}
 use Rattle.table_kernel.proofs.MoveReads.{distances_read}

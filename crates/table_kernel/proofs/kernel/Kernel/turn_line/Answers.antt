@@ -1,5 +1,5 @@
 -- The line has turned, or has no number at the column and stays.
-use Rattle.std.proofs.Common.{ℕ, refl, sym, subst, length}
+use Rattle.std.proofs.Common.{ℕ, refl, sym, subst}
 use Rattle.integer_pivots.specs.Turns.{AreNonZeros}
 use Rattle.table_kernel.specs.Kernels.{width_of}
 use Rattle.table_kernel.proofs.TurnArgs.{at_pivot, line_read, may_read, no_factor, some_factor, turn_is_at}
