@@ -3,6 +3,7 @@ use Prim.Native.Nat.{◌∣◌}
 use native.Mathlib.Nat.{div-mul_cancel, mul-one}
 use Rattle.std.proofs.Common.{◌≡◌, ℕ, zero, suc, ◌+◌, ◌*◌, ◌/◌, ◌^◌, ◌<◌, ◌≤◌, refl, sym, ◌∙◌, ap, subst, List, [], ◌∷◌, drop, length, arith}
 use Rattle.std.specs.Prelude.{ℤ, pos, ◌<ℤ◌, ◌≤ℤ◌, nat_abs, slice_index_or, All, Option, None, MatchOption}
+use Rattle.std.proofs.lemmas.List.{at_drop_all}
 use Rattle.std.proofs.lemmas.List.Elements.{All-drop, All-tail}
 use Rattle.std.proofs.lemmas.Nat.Gcd.{dvd_refl, dvd_trans, le_of_dvd, same_from_IsGcd}
 use Rattle.whole_numbers.specs.Fractions.{gcd, lcm}
@@ -135,6 +136,20 @@ next_read entering column lines i first last common new i_in left divides is =
       subst (λ (z : ℤ). first ∣ nat_abs z) (sym same)
           (subst (λ (n : ℕ). first ∣ n) (sym is.1) (dvd_trans first divides (left_divides_lcm (nat_abs common) b))),
     )
+
+-- a common multiple by what it is made of
+pub multiple_of : (o : Option ℤ) (a b C B : ℕ) → a ≡ C → b ≡ B →
+    MatchOption o (2 ^ 30 < lcm a b) (λ (new : ℤ). (pos 0 <ℤ new) × (nat_abs new ≡ lcm a b) × (new ≤ℤ pos (2 ^ 30))) →
+    MatchOption o (2 ^ 30 < lcm C B) (λ (new : ℤ). (pos 0 <ℤ new) × (nat_abs new ≡ lcm C B) × (new ≤ℤ pos (2 ^ 30)))
+multiple_of o a b C B a_is b_is told =
+    subst (λ (n : ℕ). MatchOption o (2 ^ 30 < lcm C n) (λ (new : ℤ). (pos 0 <ℤ new) × (nat_abs new ≡ lcm C n) × (new ≤ℤ pos (2 ^ 30)))) b_is
+    (subst (λ (n : ℕ). MatchOption o (2 ^ 30 < lcm n b) (λ (new : ℤ). (pos 0 <ℤ new) × (nat_abs new ≡ lcm n b) × (new ≤ℤ pos (2 ^ 30)))) a_is told)
+
+-- once no line is left it is the common multiple itself
+pub none_left : (entering : Line) (column : ℕ) (lines : List Line) (i common last : ℕ) → length lines ≤ i →
+    common_after entering column (drop i lines) common ≡ last → common ≡ last
+none_left entering column lines i common last past left =
+    sym (at_drop_all (λ (ls : List Line). common_after entering column ls common) lines i past) ∙ left
 
 -- an answer that is none
 pub match_none : {X Fact : Type 0} (o : Option X) (P : X → Type 0) → o ≡ None → Fact → MatchOption o Fact P

@@ -36,7 +36,8 @@ pub mod LowestRows
 pub mod FirstConstants
 pub mod FollowedTurns
 pub mod RowWeights
-pub mod ConstantSums
+pub mod ConstantReads
+mod ConstantSums
 pub mod Places
 pub mod UnboxedBases
 pub mod MovedBases

@@ -47,6 +47,9 @@ share_size z high low = size_of z (2 ^ 30) (omega (arith, ints, high), low)
 pub read_share : (z : ℤ) → pos 1 ≤ℤ z → z ≤ℤ pos (2 ^ 30) → read z ≡ z
 read_share z high low = read_number z (omega (arith, share_size z high low))
 
+pub share_range : (z : ℤ) → pos 1 ≤ℤ z → z ≤ℤ pos (2 ^ 30) → (pos 0 <ℤ read z) × (read z ≤ℤ pos (2 ^ 30))
+share_range z high low = subst (λ (y : ℤ). (pos 0 <ℤ y) × (y ≤ℤ pos (2 ^ 30))) (sym (read_share z high low)) (omega (arith, ints, high), low)
+
 -- a variable's line, as code reads it
 pub record IsLineRead (k : Kernel) (v : ℕ) (line : Line) : Type 0 where
   pub is : line ≡ line_of k v

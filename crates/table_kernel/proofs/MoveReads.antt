@@ -1,7 +1,7 @@
 -- The constants of lines that move, as code reads them.
-use Rattle.std.proofs.Common.{◌≡◌, ◌^◌, ◌<◌, ◌≤◌, ◌∙◌, ap, subst, sym, arith, w64, FitsSigned}
-use Rattle.std.specs.Prelude.{ℤ, ◌+ℤ◌, ◌-ℤ◌, ◌*ℤ◌, nat_abs}
-use Rattle.std.proofs.lemmas.Int.{fits_signed_from_abs}
+use Rattle.std.proofs.Common.{◌≡◌, ℕ, ◌+◌, ◌^◌, ◌<◌, ◌≤◌, ◌∙◌, ap, subst, sym, arith, w64, FitsSigned}
+use Rattle.std.specs.Prelude.{ℤ, pos, ◌+ℤ◌, ◌-ℤ◌, ◌*ℤ◌, ◌≤ℤ◌, nat_abs}
+use Rattle.std.proofs.lemmas.Int.{fits_signed_from_abs, ints}
 use Rattle.integer_pivots.proofs.Sizes.{difference_small, product_small, read, read_number, sum_small}
 
 -- the product of two numbers that 64 bits hold
@@ -46,3 +46,17 @@ lowered_read denominator fall constant denominator_small fall_small constant_sma
       whole_fits = subst (FitsSigned w64) (sym rest) (fits_signed_from_abs w64 (constant -ℤ (denominator *ℤ fall)) (omega (arith, small)));
       value = ap read rest ∙ read_number (constant -ℤ (denominator *ℤ fall)) (omega (arith, small));
     }
+
+-- how far the bounds move, as code adds it
+pub distances_read : (x y : ℤ) (m n : ℕ) → x ≡ pos m → y ≡ pos n → x ≤ℤ pos (2 ^ 60) → y ≤ℤ pos (2 ^ 60) →
+    FitsSigned w64 (read x +ℤ read y) × (read (read x +ℤ read y) ≡ pos (m + n)) × (m + n ≤ 2 ^ 61)
+distances_read x y m n x_is y_is x_small y_small =
+    let m_small : m ≤ 2 ^ 60 = omega (arith, ints, x_is, x_small) in
+    let n_small : n ≤ 2 ^ 60 = omega (arith, ints, y_is, y_small) in
+    let first : read x ≡ pos m = ap read x_is ∙ read_number (pos m) (omega (arith, m_small)) in
+    let second : read y ≡ pos n = ap read y_is ∙ read_number (pos n) (omega (arith, n_small)) in
+    let both : (read x +ℤ read y) ≡ pos (m + n) = omega (arith, ints, first, second) in (
+      subst (FitsSigned w64) (sym both) (fits_signed_from_abs w64 (pos (m + n)) (omega (arith, m_small, n_small))),
+      ap read both ∙ read_number (pos (m + n)) (omega (arith, m_small, n_small)),
+      omega (arith, m_small, n_small),
+    )

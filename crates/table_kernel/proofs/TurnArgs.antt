@@ -1,18 +1,19 @@
 -- What the turn of a line is given, as it is read.
-use Rattle.std.proofs.Common.{◌≡◌, ℕ, ◌*◌, ◌^◌, ◌<◌, ◌≤◌, sym, ◌∙◌, ap, length, arith, FitsSigned, w64, to_z, of_z}
+use Rattle.std.proofs.Common.{◌≡◌, ℕ, ◌*◌, ◌^◌, ◌<◌, ◌≤◌, sym, ◌∙◌, ap, subst, length, arith, FitsSigned, w64, to_z, of_z}
 use Rattle.std.specs.Prelude.{ℤ, pos, nat_abs, ◌<ℤ◌, ◌≤ℤ◌, slice_index_or}
 use Rattle.std.proofs.lemmas.Int.{ints, to_z-of_z}
 use Rattle.std.proofs.lemmas.List.{get_or_default}
 use Rattle.whole_numbers.specs.Lists.{number_at}
 use Rattle.integer_pivots.specs.declared.line.Line.{Line}
 use Rattle.integer_pivots.specs.declared.turn.Turn.{Turn}
-use Rattle.integer_pivots.specs.Turns.{denominator_after}
+use Rattle.integer_pivots.specs.declared.lowest.Lowest.{Lowest}
+use Rattle.integer_pivots.specs.Turns.{IsAtPivot, IsLowestAfter, MayLineTurn, denominator_after, turn_at}
 use Rattle.integer_pivots.specs.Lines.{no_line}
 use Rattle.integer_pivots.proofs.Sizes.{read, read_number, size_most}
 use Rattle.integer_pivots.proofs.TurnLaws.{turn_positive, turn_small}
 use Rattle.integer_pivots.proofs.LineReads.{number_small}
 use Rattle.table_kernel.specs.declared.kernel.Kernel.{Kernel}
-use Rattle.table_kernel.specs.Turns.{IsLineReady, IsReadyToTurn, line_of, no_turn, turn_of_line}
+use Rattle.table_kernel.specs.Turns.{IsLineReady, IsLowestOf, IsReadyToTurn, line_of, no_turn, turn_of_line}
 
 -- each line of a kernel is ready where all numbers are
 pub line_ready : (k : Kernel) (column v : ℕ) → IsReadyToTurn k column → v < length k.lows.items → IsLineReady k column v
@@ -82,3 +83,49 @@ after_read k column v line turn r line_is turn_is small =
     ∙ ap (λ (z : ℤ). nat_abs z * nat_abs (read turn.multiplier)) (read_number (line_of k v).denominator (omega (arith, d_small)))
     ∙ ap (λ (z : ℤ). nat_abs (line_of k v).denominator * nat_abs z) (read_number turn.multiplier (omega (arith, m_small)))
     ∙ ap (λ (t : Turn). nat_abs (line_of k v).denominator * nat_abs t.multiplier) turn_is
+
+-- a number from 1 to 2^30 is so as it is read
+pub range_read : (z : ℤ) → (pos 0 <ℤ z) × (z ≤ℤ pos (2 ^ 30)) → (pos 0 <ℤ read z) × (read z ≤ℤ pos (2 ^ 30))
+range_read z within =
+    subst (λ (y : ℤ). (pos 0 <ℤ y) × (y ≤ℤ pos (2 ^ 30))) (sym (read_number z (omega (arith, size_most z (2 ^ 30) within.0 within.1)))) within
+
+-- and so is the denominator of a line that is ready
+pub denominator_range : (k : Kernel) (column v : ℕ) (line : Line) → IsLineReady k column v → line ≡ line_of k v →
+    (pos 0 <ℤ read line.denominator) × (read line.denominator ≤ℤ pos (2 ^ 30))
+denominator_range k column v line r is =
+    subst (λ (l : Line). (pos 0 <ℤ read l.denominator) × (read l.denominator ≤ℤ pos (2 ^ 30))) (sym is)
+    (range_read (line_of k v).denominator (r.line.positive, r.line.denominator))
+
+-- a line that is ready is at its pivot
+pub at_pivot : (k : Kernel) (column v : ℕ) (line : Line) → IsLineReady k column v → line ≡ line_of k v → IsAtPivot column k.entering line
+at_pivot k column v line r is =
+    subst (IsAtPivot column k.entering) (sym is) record {
+      turning = r.line;
+      across = r.entering;
+      long = r.count ∙ sym r.long;
+      inside = omega (arith, r.inside, r.count);
+      pivot = r.pivot;
+    }
+
+-- its turn is that of the line, as it is read
+pub turn_is_at : (k : Kernel) (column v : ℕ) (line : Line) (turn : Turn) → line ≡ line_of k v → turn ≡ turn_of_line k column v → turn ≡ turn_at k.entering column line
+turn_is_at k column v line turn is turn_is = turn_is ∙ ap (turn_at k.entering column) (sym is)
+
+-- what holds of both as they are read
+pub may_read : (k : Kernel) (column v : ℕ) (line : Line) (turn : Turn) → line ≡ line_of k v → turn ≡ turn_of_line k column v →
+    MayLineTurn (turn_of_line k column v) (line_of k v) k.entering → MayLineTurn turn line k.entering
+may_read k column v line turn is turn_is may =
+    subst (λ (t : Turn). MayLineTurn t line k.entering) (sym turn_is)
+    (subst (λ (l : Line). MayLineTurn (turn_of_line k column v) l k.entering) (sym is) may)
+
+pub lowest_is : (k : Kernel) (column v : ℕ) (line : Line) (turn : Turn) (lowest : Lowest) → line ≡ line_of k v → turn ≡ turn_of_line k column v →
+    IsLowestAfter turn column k.entering line lowest → IsLowestOf k column v lowest
+lowest_is k column v line turn lowest is turn_is told =
+    subst (λ (t : Turn). IsLowestAfter t column k.entering (line_of k v) lowest) turn_is
+    (subst (λ (l : Line). IsLowestAfter turn column k.entering l lowest) is told)
+
+pub lowest_there : (k : Kernel) (column v : ℕ) (line : Line) (turn : Turn) (lowest : Lowest) → line ≡ line_of k v → turn ≡ turn_of_line k column v →
+    IsLowestOf k column v lowest → IsLowestAfter turn column k.entering line lowest
+lowest_there k column v line turn lowest is turn_is told =
+    subst (λ (t : Turn). IsLowestAfter t column k.entering line lowest) (sym turn_is)
+    (subst (λ (l : Line). IsLowestAfter (turn_of_line k column v) column k.entering l lowest) (sym is) told)

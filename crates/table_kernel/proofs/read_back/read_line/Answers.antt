@@ -1,7 +1,7 @@
 -- The line of a row over its least common denominator, where it is within the bounds.
 use Prim.Native.Nat.{◌∣◌}
-use Rattle.std.proofs.Common.{sym, subst, length, arith}
-use Rattle.std.specs.Prelude.{nat_abs}
+use Rattle.std.proofs.Common.{List, ◌≡◌, suc, sym, subst, length, arith}
+use Rattle.std.specs.Prelude.{ℤ, nat_abs}
 use Rattle.whole_numbers.specs.Fractions.{Fraction}
 use Rattle.integer_pivots.proofs.Sizes.{read}
 use Rattle.table_kernel.specs.ReadBack.{IsLeastDenominator}
@@ -45,3 +45,29 @@ returns-clause-read c =
     c.constant.result (least (goal.at.returns-clause-read c).In-Some) (omega (arith, c.requires.row, c.read_numbers.ensures.count))
     c.constant.ensures c.in-Some-number_over.ensures
     (λ k k_in. c.in_ok-read_numbers.ensures.read k (omega (arith, k_in, c.read_numbers.ensures.count)))
+
+pub denominator_of-requires : goal.denominator_of-requires
+denominator_of-requires c =
+    record { width = subst (λ (zs : List ℤ). length c.args.row.now ≡ suc (length zs)) (sym c.as_slice.ensures) c.requires.row }
+
+pub number_over-requires-clause-denominator : goal.number_over-requires-clause-denominator
+number_over-requires-clause-denominator c =
+    let is = least (goal.at.number_over-requires-clause-denominator c).In-Some in
+    (is.positive, is.small)
+
+pub read_numbers-requires-clause-row : goal.read_numbers-requires-clause-row
+read_numbers-requires-clause-row c = c.requires.row
+
+pub read_numbers-requires-clause-few : goal.read_numbers-requires-clause-few
+read_numbers-requires-clause-few c = c.requires.few
+
+pub read_numbers-requires-clause-denominator : goal.read_numbers-requires-clause-denominator
+read_numbers-requires-clause-denominator c =
+    let is = least (goal.at.read_numbers-requires-clause-denominator c).In-Some in
+    (is.positive, is.small)
+
+pub returns-clause-count : goal.returns-clause-count
+returns-clause-count c = c.read_numbers.ensures.count
+
+pub returns-in_err-read_numbers-clause-count : goal.returns-in_err-read_numbers-clause-count
+returns-in_err-read_numbers-clause-count c = c.read_numbers.ensures.count

@@ -4,7 +4,8 @@ use Rattle.table_kernel.specs.Turns.{next_common}
 use Rattle.std.proofs.lemmas.Nat.Gcd.{dvd_trans}
 use Rattle.whole_numbers.proofs.Sizes.{size_positive}
 use Rattle.integer_pivots.specs.Lines.{no_line}
-use Rattle.table_kernel.proofs.CommonSteps.{first_read, match_none, next_read, too_large}
+use Rattle.table_kernel.proofs.CommonSteps.{first_read, match_none, next_read, none_left, too_large}
+use Rattle.table_kernel.proofs.TurnArgs.{line_ready}
 use Rattle.table_kernel.proofs.TurnedRows.{afters_some}
 use Rattle.table_kernel.proofs.kernel.Kernel.common_after.Goals as goal
 
@@ -13,6 +14,14 @@ loop-var-init c =
     let k = c.args.self.now in
     let is = first_read k.entering c.args.column k.lows.items k.common c.requires.ready.common in
     record { left = is.0; range = is.1; divides = is.2 }
+
+pub common_with-requires-clause-ready : goal.common_with-requires-clause-ready
+common_with-requires-clause-ready c =
+    let k = c.args.self.now in
+    line_ready k c.args.column c.loop-var.var c.requires.ready (omega (arith, c.loop-var-test.true, c.len-var-end.ensures, k.lows.ok.0))
+
+pub common_with-requires-clause-common : goal.common_with-requires-clause-common
+common_with-requires-clause-common c = c.loop-var.invariant.range
 
 pub common_with-requires-clause-divides : goal.common_with-requires-clause-divides
 common_with-requires-clause-divides c =
@@ -36,3 +45,13 @@ loop-var-preserved c =
     let is = next_read k.entering c.args.column k.lows.items c.loop-var.var (nat_abs k.common) (next_common k c.args.column) (to_z w64 c.loop-var.common-bits) c.in_ok-common.common v_in c.loop-var.invariant.left
     c.loop-var.invariant.divides c.in_ok-common.ensures in
     record { left = is.0; range = is.1; divides = is.2 }
+
+pub returns : goal.returns
+returns c =
+    let k = c.args.self.now in
+    let v = c.loop-var.invariant in (
+      v.range.0,
+      none_left k.entering c.args.column k.lows.items c.loop-var.var (nat_abs (to_z w64 c.loop-var.common-bits)) (next_common k c.args.column)
+          (omega (arith, c.loop-var-test.false, c.len-var-end.ensures, k.lows.ok.0)) v.left,
+      v.range.1,
+    )

@@ -2,16 +2,48 @@
 use Prim.Native.Nat.{◌∣◌}
 use Rattle.std.proofs.Common.{rules, FitsSigned, ap, refl, sym, subst, ◌∙◌, ◌/◌, ◌^◌, ◌≡◌, ◌≤◌, ℕ, nat_abs, ℤ, w64, to_z, of_z}
 use Rattle.std.specs.Int.{w128}
+use Rattle.std.specs.Prelude.{pos, ◌<ℤ◌}
 use Rattle.std.proofs.lemmas.Int.{to_z-of_z}
 use Rattle.integer_pivots.specs.declared.line.Line.{Line}
 use Rattle.integer_pivots.specs.declared.turn.Turn.{Turn}
 use Rattle.integer_pivots.specs.Turns.{denominator_after, turned_number}
-use Rattle.integer_pivots.proofs.Sizes.{read}
+use Rattle.integer_pivots.proofs.Sizes.{read, read_known, size_most}
 use Rattle.table_kernel.specs.Turns.{line_of}
 use Rattle.table_kernel.proofs.StayingWithin.{constant_told, same_constant}
-use Rattle.table_kernel.proofs.Lines.{read_common}
-use Rattle.table_kernel.proofs.TurnArgs.{after_read, line_read, no_factor, same_bits}
+use Rattle.table_kernel.proofs.Lines.{read_common, share_range}
+use Rattle.table_kernel.proofs.TurnArgs.{after_read, denominator_range, line_read, no_factor, range_read, same_bits}
 use Rattle.table_kernel.proofs.kernel.Kernel.constant_stays_small.Goals as goal
+
+pub turn_at-turn-requires : goal.turn_at-turn-requires
+turn_at-turn-requires c = record { ready = c.requires.ready }
+
+pub denominator_times-denominator-requires-clause-denominator : goal.denominator_times-denominator-requires-clause-denominator
+denominator_times-denominator-requires-clause-denominator c =
+    let k = c.args.self.now in
+    let r = c.requires.ready in
+    denominator_range k c.args.column c.args.var c.index.result.now r (line_read k c.args.var c.index.result.now r.among c.index.ensures)
+
+pub denominator_times-denominator-requires-clause-multiplier : goal.denominator_times-denominator-requires-clause-multiplier
+denominator_times-denominator-requires-clause-multiplier c = range_read c.turn_at-turn.result.multiplier c.turn_at-turn.ensures.multiplier
+
+pub constant_after-requires-clause-multiplier : goal.constant_after-requires-clause-multiplier
+constant_after-requires-clause-multiplier c =
+    let small = c.turn_at-turn.ensures.multiplier in
+    size_most c.turn_at-turn.result.multiplier (2 ^ 30) small.0 small.1
+
+pub constant_after-requires-clause-factor : goal.constant_after-requires-clause-factor
+constant_after-requires-clause-factor c = c.turn_at-turn.ensures.factor
+
+pub share_in-requires-clause-common : goal.share_in-requires-clause-common
+share_in-requires-clause-common c = range_read c.args.common c.requires.common
+
+pub share_in-requires-clause-denominator : goal.share_in-requires-clause-denominator
+share_in-requires-clause-denominator c =
+    subst (λ (z : ℤ). pos 0 <ℤ z) (sym (read_known c.denominator_times-denominator.result c.denominator_times-denominator.type_inv))
+    c.denominator_times-denominator.ensures.range.0
+
+pub stays_within-requires : goal.stays_within-requires
+stays_within-requires c = record { share = share_range c.share_in.result c.share_in.ensures.positive c.share_in.ensures.size }
 
 pub share_in-requires-clause-divides : goal.share_in-requires-clause-divides
 share_in-requires-clause-divides c =

@@ -1,5 +1,5 @@
 -- A variable's two constants are put, and those of the rows that use it follow.
-use Rattle.std.proofs.Common.{◌≡◌, ℕ, ◌^◌, ◌+◌, ◌*◌, ◌<◌, ◌≤◌, ◌∙◌, ◌++◌, List, arith, ap, length, take, drop, subst, sym, w64, to_z, of_z}
+use Rattle.std.proofs.Common.{refl, ◌≡◌, ℕ, ◌^◌, ◌+◌, ◌*◌, ◌<◌, ◌≤◌, ◌∙◌, ◌++◌, List, arith, ap, length, take, drop, subst, sym, w64, to_z, of_z}
 use Rattle.std.specs.Prelude.{ℤ, ◌+ℤ◌, ◌-ℤ◌, ◌*ℤ◌, nat_abs, All, slice_index}
 use Rattle.std.proofs.lemmas.Int.{fits_signed_from_abs}
 use Rattle.whole_numbers.specs.Lists.{number_at}
@@ -12,6 +12,7 @@ use Rattle.integer_pivots.proofs.WrittenPlaces.{written}
 use Rattle.table_kernel.specs.Constants.{AreByFirst, IsShortConstant, constant_of_line, high_constant, line_constant}
 use Rattle.table_kernel.specs.Kernels.{width_of}
 use Rattle.table_kernel.proofs.FollowedConstants.{AreFollowed, AreTwoPut, IsChange, are_followed, change_of, common_read, constants_many, followed_by_first, followed_small, line_read, puts_long, puts_read, rows_stay, uses_fit, uses_known, uses_read}
+use Rattle.table_kernel.proofs.TurnArgs.{range_read}
 use Rattle.table_kernel.proofs.kernel.Kernel.follow.Goals.{After-index-3}
 use Rattle.table_kernel.proofs.kernel.Kernel.follow.Goals as goal
 
@@ -171,3 +172,28 @@ returns-clause-small c =
     let a = (goal.at.returns-clause-small c).After-index-3 in
     subst (AllWithin (2 ^ 62)) (sym (news_are a c.put_uses.new.sums _ c.put_uses.auto.sums (sym c.as_mut_slice.ensures.value)))
     (small_is a c.put_uses.new.sums c.put_uses.auto.sums c.put_uses.ensures.before c.put_uses.ensures.rows)
+
+pub constant_over-constant-requires-clause-common : goal.constant_over-constant-requires-clause-common
+constant_over-constant-requires-clause-common c =
+    let b = c.requires.kernel.bounded in
+    range_read c.args.self.now.common (b.positive, b.common)
+
+pub bounds-as_slice-var : goal.bounds-as_slice-var
+bounds-as_slice-var c = omega (arith, c.requires.var, ap length c.as_slice.ensures)
+
+pub bounds-as_slice-var-2 : goal.bounds-as_slice-var-2
+bounds-as_slice-var-2 c = omega (arith, c.requires.var, c.requires.kernel.high, ap length c.as_slice-2.ensures)
+
+pub constant_of_high-requires-clause-common : goal.constant_of_high-requires-clause-common
+constant_of_high-requires-clause-common c =
+    let b = c.requires.kernel.bounded in
+    range_read c.args.self.now.common (b.positive, b.common)
+
+pub constant_of_high-requires-clause-constant : goal.constant_of_high-requires-clause-constant
+constant_of_high-requires-clause-constant c =
+    let size = c.constant_over-constant.ensures.size in
+    subst (λ (z : ℤ). nat_abs z ≤ 2 ^ 44) (sym (read_number c.constant_over-constant.result (omega (arith, size)))) size
+
+pub returns-clause-keeps : goal.returns-clause-keeps
+returns-clause-keeps c =
+    record { table = refl; common = refl; lows = refl; leads = refl; uses = refl; turns = refl; left = refl; entering = refl }

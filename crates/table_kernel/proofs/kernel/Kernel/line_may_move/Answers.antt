@@ -10,6 +10,7 @@ use Rattle.integer_pivots.specs.Lines.{no_line, step_of}
 use Rattle.integer_pivots.proofs.Sizes.{read, read_number}
 use Rattle.table_kernel.specs.Numbers.{share_of}
 use Rattle.table_kernel.specs.Turns.{line_of}
+use Rattle.table_kernel.proofs.AtBasis.{kernel_moves}
 use Rattle.table_kernel.proofs.Shares.{constants_short}
 use Rattle.table_kernel.proofs.kernel.Kernel.line_may_move.Goals.{After-share}
 use Rattle.table_kernel.proofs.kernel.Kernel.line_may_move.Goals as goal
@@ -70,3 +71,9 @@ returns c =
       λ holds. subst (λ (n : ℕ). n ≤ 2 ^ 44) (whole_is a) (leb-true _ (2 ^ 44) holds),
       λ may. le-leb _ (2 ^ 44) (subst (λ (n : ℕ). n ≤ 2 ^ 44) (sym (whole_is a)) may),
     )
+
+pub share-requires-clause-kernel : goal.share-requires-clause-kernel
+share-requires-clause-kernel c = kernel_moves c.args.self.now c.requires.kernel
+
+pub share-requires-clause-var : goal.share-requires-clause-var
+share-requires-clause-var c = c.requires.var

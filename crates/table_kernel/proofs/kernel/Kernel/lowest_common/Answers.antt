@@ -1,5 +1,7 @@
 -- The least common denominator of one line more.
-use Rattle.std.proofs.Common.{◌<◌, length, arith, w64, to_z}
+use Rattle.std.proofs.Common.{◌<◌, ◌^◌, sym, subst, length, arith, w64, to_z}
+use Rattle.std.specs.Prelude.{ℤ, pos, ◌<ℤ◌, ◌≤ℤ◌}
+use Rattle.std.proofs.lemmas.Int.{ints}
 use Rattle.integer_pivots.proofs.FailedTests.{failed}
 use Rattle.integer_pivots.proofs.Sizes.{read}
 use Rattle.table_kernel.proofs.CommonSteps.{match_none}
@@ -45,3 +47,21 @@ returns c =
     let k = c.args.self.now in
     lowest_common_is k c.args.column c.loop-var.var (to_z w64 c.loop-var.common-bits)
     (omega (arith, c.loop-var-test.false, c.len-var-end.ensures, k.lows.ok.0)) c.loop-var.invariant
+
+pub lowest_of-lowest-requires : goal.lowest_of-lowest-requires
+lowest_of-lowest-requires c =
+    let k = c.args.self.now in
+    record { ready = line_ready k c.args.column c.loop-var.var c.requires.ready (omega (arith, c.loop-var-test.true, c.len-var-end.ensures, k.lows.ok.0)) }
+
+pub is_small_at-requires-clause-lowest : goal.is_small_at-requires-clause-lowest
+is_small_at-requires-clause-lowest c = c.lowest_of-lowest.ensures.lowest
+
+pub common_multiple-requires-clause-first : goal.common_multiple-requires-clause-first
+common_multiple-requires-clause-first c = c.loop-var.invariant.range
+
+pub common_multiple-requires-clause-second : goal.common_multiple-requires-clause-second
+common_multiple-requires-clause-second c =
+    let lowest = c.lowest_of-lowest.result in
+    let size = c.lowest_of-lowest.ensures.size in
+    let positive = c.lowest_of-lowest.ensures.lowest.positive in
+    subst (λ (z : ℤ). (pos 0 <ℤ z) × (z ≤ℤ pos (2 ^ 60))) (sym (denominator_read lowest size)) (positive, omega (arith, ints, size, positive))

@@ -2,13 +2,14 @@
 use Rattle.std.specs.Int.{w128}
 use Rattle.std.proofs.Common.{rules, ◌≡◌, ℕ, ◌/◌, ◌<◌, ◌≤◌, ◌↔◌, ◌∙◌, ap, refl, sym, subst, length, arith, to_z, of_z}
 use Prim.Native.Nat.{◌∣◌}
-use Rattle.std.specs.Prelude.{ℤ, nat_abs, IsTrue}
+use Rattle.std.specs.Prelude.{ℤ, pos, ◌<ℤ◌, nat_abs, IsTrue}
 use Rattle.integer_pivots.proofs.FailedTests.{failed, never}
 use Rattle.integer_pivots.proofs.Sizes.{read}
 use Rattle.integer_pivots.proofs.WrittenPlaces.{all_more}
 use Rattle.table_kernel.specs.Turns.{FitsLowest}
-use Rattle.table_kernel.proofs.Lines.{read_common, read_share}
+use Rattle.table_kernel.proofs.Lines.{read_common, read_share, share_range}
 use Rattle.table_kernel.proofs.LowestRows.{FitsLowestAt, denominator_read, lowest_told}
+use Rattle.table_kernel.proofs.TurnArgs.{line_ready, range_read}
 use Rattle.table_kernel.proofs.kernel.Kernel.lowest_constants_fit.Goals.{After-stays_within}
 use Rattle.table_kernel.proofs.kernel.Kernel.lowest_constants_fit.Goals as goal
 
@@ -59,3 +60,22 @@ returns c =
       λ holds v v_in. subst (λ (z : ℤ). FitsLowestAt k c.args.column (nat_abs z) v) common (c.loop-var.invariant v (omega (arith, past, v_in))),
       λ fits. refl,
     )
+
+pub loop-var-init : goal.loop-var-init
+loop-var-init c v v_in = absurd (omega (arith, v_in))
+
+pub lowest_of-lowest-requires : goal.lowest_of-lowest-requires
+lowest_of-lowest-requires c =
+    let k = c.args.self.now in
+    record { ready = line_ready k c.args.column c.loop-var.var c.requires.ready (omega (arith, c.loop-var-test.true, c.len-var-end.ensures, k.lows.ok.0)) }
+
+pub share_in-requires-clause-common : goal.share_in-requires-clause-common
+share_in-requires-clause-common c = range_read c.args.common (c.requires.common.positive, c.requires.common.small)
+
+pub share_in-requires-clause-denominator : goal.share_in-requires-clause-denominator
+share_in-requires-clause-denominator c =
+    subst (λ (z : ℤ). pos 0 <ℤ z) (sym (denominator_read c.lowest_of-lowest.result c.lowest_of-lowest.ensures.size))
+    c.lowest_of-lowest.ensures.lowest.positive
+
+pub stays_within-requires : goal.stays_within-requires
+stays_within-requires c = record { share = share_range c.share_in.result c.share_in.ensures.positive c.share_in.ensures.size }

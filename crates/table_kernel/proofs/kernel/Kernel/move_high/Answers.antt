@@ -1,5 +1,5 @@
 -- An upper bound moves.
-use Rattle.std.proofs.Common.{rules, ◌≡◌, ◌∙◌, ◌<◌, ◌^◌, ap, subst, arith, w16, Fits}
+use Rattle.std.proofs.Common.{rules, refl, ◌≡◌, ◌∙◌, ◌<◌, ◌^◌, ap, subst, arith, w16, Fits}
 use Rattle.std.specs.Prelude.{ℤ, ℕ, nat_abs, pos, ◌-ℤ◌, slice_index}
 use Rattle.design_problem.specs.declared.tree.Member.TheVariants.{High}
 use Rattle.design_problem.specs.Boxes.{with_high}
@@ -70,3 +70,12 @@ returns-clause-room c more may =
     let a = (goal.at.returns-clause-room c).After-set in
     moved_room c.args.self.now c.shift_high.new.self _ more c.shift_high.ensures.keeps.common
     (high_shift_moved c.args.self.now c.shift_high.new.self c.requires.kernel c.args.var c.args.bound c.requires.var (shift a)) may
+
+pub returns-then-bound-high-clause-kernel : goal.returns-then-bound-high-clause-kernel
+returns-then-bound-high-clause-kernel c = c.requires.kernel
+
+pub shift_high-requires-clause-kernel : goal.shift_high-requires-clause-kernel
+shift_high-requires-clause-kernel c = c.requires.kernel
+
+pub returns-then-bound-high-clause-keeps : goal.returns-then-bound-high-clause-keeps
+returns-then-bound-high-clause-keeps c = record { top = refl; rows = refl; width = refl; common = refl; lows = refl }

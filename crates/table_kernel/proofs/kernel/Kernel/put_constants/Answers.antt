@@ -8,14 +8,15 @@ use Rattle.design_problem.specs.Forms.{no_form, value_for_costs}
 use Rattle.fraction_table.proofs.Pivots.{members_long}
 use Rattle.integer_pivots.specs.declared.line.Line.{Line}
 use Rattle.integer_pivots.specs.Lines.{no_line}
-use Rattle.integer_pivots.specs.Numbers.{product_sum}
+use Rattle.integer_pivots.specs.Numbers.{AllWithin, product_sum}
 use Rattle.integer_pivots.proofs.Sizes.{number_within, read_number}
 use Rattle.integer_pivots.proofs.WrittenPlaces.{written}
-use Rattle.table_kernel.specs.Constants.{AreConstantsPut, IsShortConstant, line_constant}
+use Rattle.table_kernel.specs.Constants.{AreConstantsPut, AreCoveredRows, IsShortConstant, line_constant}
 use Rattle.table_kernel.specs.Kernels.{width_of}
 use Rattle.table_kernel.proofs.Columns.{common_small, constants_long, constants_within, low_constant_at, low_constants}
 use Rattle.table_kernel.proofs.ConstantSums.{sums_alike}
 use Rattle.table_kernel.proofs.Places.{constants_are}
+use Rattle.table_kernel.proofs.TurnArgs.{range_read}
 use Rattle.table_kernel.proofs.kernel.Kernel.put_constants.Goals.{After-as_slice-2}
 use Rattle.table_kernel.proofs.kernel.Kernel.put_constants.Goals as goal
 
@@ -120,3 +121,34 @@ returns-clause-constants c =
           (λ i i_in. low_is a i (omega (arith, i_in, few))))));
     } in
     subst (AreConstantsPut k) (sym (ap (λ (ys : List ℤ). take k.constants.len (new ++ drop (length new) ys)) first ∙ all_is)) is
+
+pub put_bound_constants-requires-clause-common : goal.put_bound_constants-requires-clause-common
+put_bound_constants-requires-clause-common c =
+    let b = c.requires.bounded in
+    range_read c.args.self.now.common (b.positive, b.common)
+
+pub put_row_constants-requires-clause-rows : goal.put_row_constants-requires-clause-rows
+put_row_constants-requires-clause-rows c =
+    subst (AreCoveredRows c.args.self.now.table.costs) (sym c.as_slice-2.ensures.value) (record { fit = c.requires.fit; light = c.requires.bounded.rows })
+
+pub put_row_constants-requires-clause-common : goal.put_row_constants-requires-clause-common
+put_row_constants-requires-clause-common c =
+    let b = c.requires.bounded in
+    range_read c.args.self.now.common (b.positive, b.common)
+
+pub returns-clause-small : goal.returns-clause-small
+returns-clause-small c =
+    let k = c.args.self.now in
+    let a = (goal.at.returns-clause-small c).After-as_slice-2 in
+    let bound = c.put_bound_constants.ensures in
+    let long = bound.count ∙ ap length c.as_mut_slice.ensures.value in
+    let first = written k.constants.len c.put_bound_constants.new.constants k.constants.items long k.constants.ok.0 in
+    let all_is = written k.constants.len c.put_row_constants.new.constants c.put_bound_constants.new.constants
+    (c.put_row_constants.ensures.count ∙ first_long a ∙ sym long) (k.constants.ok.0 ∙ sym long) in
+    subst (AllWithin (2 ^ 62)) (sym (ap (λ (ys : List ℤ). take k.constants.len (c.put_row_constants.new.constants ++ drop (length c.put_row_constants.new.constants) ys)) first ∙ all_is))
+    (c.put_row_constants.ensures.small
+    (subst (AllWithin (2 ^ 62)) (sym (first_is a)) (bound.small (subst (AllWithin (2 ^ 62)) (sym c.as_mut_slice.ensures.value) c.requires.bounded.constants))))
+
+pub returns-clause-keeps : goal.returns-clause-keeps
+returns-clause-keeps c =
+    record { table = refl; common = refl; lows = refl; leads = refl; uses = refl; turns = refl; left = refl; entering = refl }

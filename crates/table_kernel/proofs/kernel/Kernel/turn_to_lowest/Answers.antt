@@ -1,5 +1,5 @@
 -- The lines have turned, then the leads and the constants.
-use Rattle.std.proofs.Common.{◌≡◌, ap, subst, sym, length, ◌∙◌}
+use Rattle.std.proofs.Common.{refl, ◌≡◌, ap, subst, sym, length, ◌∙◌}
 use Rattle.std.specs.Prelude.{All}
 use Rattle.std.specs.Vec.{with_items}
 use Rattle.integer_pivots.specs.declared.line.Line.{Line}
@@ -73,3 +73,24 @@ returns-clause-turned c =
     let p = c.put_constants.ensures in
     has_turned c.args.self.now h c.args.column (with_items h.leads c.turn_leads.new.leads) (read c.in-Some.common) (turned_at at)
     c.put_constants.new.self leads.0 leads.1 p.keeps p.constants p.small
+
+pub lowest_common-requires : goal.lowest_common-requires
+lowest_common-requires c = record { ready = c.requires.ready }
+
+pub returns-in_default-clause-same : goal.returns-in_default-clause-same
+returns-in_default-clause-same c = refl
+
+pub returns-in_default-clause-refused : goal.returns-in_default-clause-refused
+returns-in_default-clause-refused c = c.in_default.ensures
+
+pub lowest_constants_fit-requires-clause-ready : goal.lowest_constants_fit-requires-clause-ready
+lowest_constants_fit-requires-clause-ready c = c.requires.ready
+
+pub returns-then-not-lowest_constants_fit-clause-same : goal.returns-then-not-lowest_constants_fit-clause-same
+returns-then-not-lowest_constants_fit-clause-same c = refl
+
+pub turn_lines_to_lowest-requires-clause-ready : goal.turn_lines_to_lowest-requires-clause-ready
+turn_lines_to_lowest-requires-clause-ready c = c.requires.ready
+
+pub turn_lines_to_lowest-requires-clause-fits : goal.turn_lines_to_lowest-requires-clause-fits
+turn_lines_to_lowest-requires-clause-fits c = c.lowest_constants_fit.ensures.0 c.if-not-lowest_constants_fit.false
