@@ -168,12 +168,7 @@ fn mark_step(
 }
 
 /// Marks the vertices that edges of steps between leave, and tells whether there are such steps.
-fn mark_between(
-    marks: &mut Vec<bool>,
-    graph: &Graph,
-    kinds: &[Kind],
-    edges: &[Listed<u32>],
-) -> bool
+fn mark_between(marks: &mut Vec<bool>, graph: &Graph, kinds: &[Kind], edges: &[Listed<u32>]) -> bool
     ensures { length marks.new.items ≡ length marks.old.items }
 {
     let mut has_between = false;
@@ -295,7 +290,25 @@ impl Reach {
     {
         let edges = edges_of_steps(alloc, scene)?;
         let asked = mark_asked(alloc, scene, held, kinds, &edges)?;
-        let least = least_to_each(alloc, scene, &asked, room)?;
+        Reach::beside(alloc, scene, edges, &asked, room)
+    }
+
+    /// These edges of each step, and what paths to the marked vertices cost at least.
+    fn beside(
+        alloc: Global,
+        scene: &Scene,
+        edges: Vec<Listed<u32>>,
+        asked: &[bool],
+        room: &mut Room,
+    ) -> Result<Reach, OutOfMemory>
+        requires room { IsRoomFor scene.now.graph room.old }
+        requires edges { edges.items ≡ map (edges_of_step scene.now)
+            (numbers_from 0 (step_count scene.now)) }
+        requires asked { length asked.now ≡ length scene.now.graph.vertices }
+        ensures room { IsRoomFor scene.now.graph room.new }
+        ensures reach { IfOk result (IsReach scene.now) }
+    {
+        let least = least_to_each(alloc, scene, asked, room)?;
         Ok(Reach {
             edges: Listed::from_items(edges),
             least: Listed::from_items(least),
