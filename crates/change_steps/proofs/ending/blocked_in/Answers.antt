@@ -1,11 +1,10 @@
-use Rattle.std.proofs.Common.{◌≡◌, ◌<◌, ◌∙◌, ◌&&◌, ℕ, All, List, Bool, Vec, Global, ap, arith, length, map, refl, set, subst, sym, true}
+use Rattle.std.proofs.Common.{◌≡◌, ◌∙◌, ◌&&◌, ℕ, All, List, Bool, Vec, Global, ap, arith, length, map, refl, set, subst, sym, true}
 use Rattle.std.specs.Prelude.{not}
 use Rattle.std.proofs.lemmas.List.Elements.{All-push}
 use Rattle.spf_ties.specs.Distances.{Findings, IsRoomFor}
 use Rattle.change_steps.specs.declared.found.Blocked.{Blocked}
 use Rattle.change_steps.specs.declared.state.State.{State}
 use Rattle.change_steps.specs.Kinds.{comes_between, kind_of_step}
-use Rattle.change_steps.specs.Rollouts.{step_count}
 use Rattle.change_steps.specs.States.{MayFollow, is_done_in}
 use Rattle.change_steps.specs.Outcomes.{IsBarrier}
 use Rattle.change_steps.specs.Search.{IsStateOf}

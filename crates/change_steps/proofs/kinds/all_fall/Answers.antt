@@ -1,4 +1,4 @@
-use Rattle.std.proofs.Common.{◌∙◌, ℕ, List, ap, refl, sym, take_all}
+use Rattle.std.proofs.Common.{◌∙◌, ap, refl, sym, take_all}
 use Rattle.std.specs.Prelude.{not}
 use Rattle.std.specs.List.{list_all}
 use Rattle.change_steps.specs.Kinds.{falls_off_held, rises}

@@ -1,4 +1,4 @@
-use Rattle.std.proofs.Common.{◌∙◌, ℕ, List, ap, refl, sym, take_all}
+use Rattle.std.proofs.Common.{◌∙◌, ap, refl, sym, take_all}
 use Rattle.std.specs.List.{list_all}
 use Rattle.change_steps.specs.Kinds.{rises, rises_off_held}
 use Rattle.change_steps.proofs.MarkedLaws.{not_off, not_risen, risen_more}

@@ -1,5 +1,4 @@
-use Rattle.std.proofs.Common.{◌<◌, ◌∙◌, ℕ, List, [], Vec, Global, ap, arith, filter, length, subst, sym}
-use Rattle.cost_base.specs.Lists.{numbers_from}
+use Rattle.std.proofs.Common.{◌<◌, ◌∙◌, ℕ, List, [], Vec, Global, ap, arith, length, subst, sym}
 use Rattle.area_graph.specs.declared.Edge.{Edge}
 use Rattle.area_graph.specs.Area.{Area, edge_at}
 use Rattle.change_steps.specs.Rollouts.{lines_of_step}
