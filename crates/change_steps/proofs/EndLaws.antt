@@ -3,7 +3,7 @@ use Rattle.std.proofs.Common.{◌≡◌, ℕ, ◌+◌, ◌<◌, ◌^◌, refl, s
 use Rattle.std.specs.Prelude.{Contains, not}
 use Rattle.std.proofs.lemmas.Bool.{both_ways, cases_Bool, or_cases, or_left, false≢true}
 use Rattle.std.proofs.lemmas.List.{get_or_default, length_push, map_push}
-use Rattle.std.proofs.lemmas.List.Elements.{All-push, Contains-get_or}
+use Rattle.std.proofs.lemmas.List.Elements.{All-nil, All-push, Contains-get_or}
 use Rattle.std.proofs.lemmas.List.Folds.{list_any-append}
 use Rattle.cost_base.specs.Lists.{numbers_from}
 use Rattle.cost_base.proofs.ListLemmas.{filter-numbers_from-agree, none_twice_push}
@@ -113,6 +113,34 @@ pub unblocked_step : (marks : List Bool) (p : HeldRollout) (blocked : List Block
     map (λ (x : Blocked). x.step) blocked ≡ filter (λ k. comes_between (kind_of_step p.rollout p.held k) && not (is_done_in marks k)) (numbers_from 0 n) →
     map (λ (x : Blocked). x.step) blocked ≡ filter (λ k. comes_between (kind_of_step p.rollout p.held k) && not (is_done_in marks k)) (numbers_from 0 (n + 1))
 unblocked_step marks p blocked n test so_far = so_far ∙ sym (passing_no (λ k. comes_between (kind_of_step p.rollout p.held k) && not (is_done_in marks k)) n test)
+
+-- none of the first 0 is blocked
+pub none_blocked : (p : HeldRollout) (marks : List Bool) (blocked : List Blocked) → blocked ≡ [] →
+    map (λ (x : Blocked). x.step) blocked ≡ filter (λ k. comes_between (kind_of_step p.rollout p.held k) && not (is_done_in marks k)) (numbers_from 0 0)
+none_blocked p marks blocked none = ap (map (λ (x : Blocked). x.step)) none
+
+pub none_barred : (p : HeldRollout) (tested : List (List Bool)) (marks : List Bool) (blocked : List Blocked) → blocked ≡ [] →
+    All (λ b. IsBarrier p.rollout p.held tested (set marks b.step true) b.by) blocked
+none_barred p tested marks blocked none =
+    subst (λ (xs : List Blocked). All (λ b. IsBarrier p.rollout p.held tested (set marks b.step true) b.by) xs) (sym none)
+    (All-nil (λ b. IsBarrier p.rollout p.held tested (set marks b.step true) b.by))
+
+-- the first ones are all
+pub all_blocked : (p : HeldRollout) (tested : List (List Bool)) (marks : List Bool) (blocked : List Blocked) (n : ℕ) → n ≡ step_count p.rollout →
+    map (λ (x : Blocked). x.step) blocked ≡ filter (λ k. comes_between (kind_of_step p.rollout p.held k) && not (is_done_in marks k)) (numbers_from 0 n) →
+    All (λ b. IsBarrier p.rollout p.held tested (set marks b.step true) b.by) blocked → AreBlockedIn p tested marks blocked
+all_blocked p tested marks blocked n all steps each = record {
+  steps = steps ∙ ap (λ (k : ℕ). filter (λ i. comes_between (kind_of_step p.rollout p.held i) && not (is_done_in marks i)) (numbers_from 0 k)) all;
+  each = each;
+}
+
+-- what is known of each step that may follow, at the same marks
+pub blocks_here : (p : HeldRollout) (tested : List (List Bool)) (marks was : List Bool) (step : ℕ) → marks ≡ was →
+    ((k : ℕ) → MayFollow p.rollout p.held was k → Contains tested (set was k true) → IsSafe p.rollout p.held (is_done_in (set was k true)) → ⊥) →
+    MayFollow p.rollout p.held marks step → Contains tested (set marks step true) → IsSafe p.rollout p.held (is_done_in (set marks step true)) → ⊥
+blocks_here p tested marks was step same known =
+    subst (λ (m : List Bool). MayFollow p.rollout p.held m step → Contains tested (set m step true) → IsSafe p.rollout p.held (is_done_in (set m step true)) → ⊥)
+    (sym same) (known step)
 
 -- Outcomes.
 

@@ -1,15 +1,15 @@
 -- The held paths of the first requests.
-use Rattle.std.proofs.Common.{◌≡◌, ℕ, ◌+◌, ◌<◌, sym, ◌∙◌, List, [], ◌∷◌, ◌++◌, All, Bool, ap, length, inl, inr, arith, subst}
+use Rattle.std.proofs.Common.{◌≡◌, ℕ, ◌+◌, ◌<◌, sym, ◌∙◌, List, [], ◌∷◌, ◌++◌, All, Bool, false, true, ap, length, inl, inr, arith, subst}
 use Rattle.std.specs.Prelude.{Contains}
 use Rattle.std.specs.List.Sorted.{IsStrictlyIncreasing}
-use Rattle.std.proofs.lemmas.Bool.{cases_lt}
+use Rattle.std.proofs.lemmas.Bool.{both_ways, cases_lt}
 use Rattle.std.proofs.lemmas.List.{get_or_append_left, get_or_at, length_push}
-use Rattle.std.proofs.lemmas.List.Elements.{All-push, All-weaker, Contains-append_left, Contains-push}
+use Rattle.std.proofs.lemmas.List.Elements.{All-nil, All-push, All-weaker, Contains-append_left, Contains-push}
 use Rattle.change_steps.specs.Rollouts.{Rollout}
 use Rattle.change_steps.specs.States.{is_done_in, marks_of}
 use Rattle.change_steps.proofs.StateCosts.{only_agree}
 use Rattle.change_steps.proofs.MarkLaws.{marks_at}
-use Rattle.change_steps.specs.Orders.{IsOnlyIn, all_done, none_done}
+use Rattle.change_steps.specs.Orders.{AreHeld, IsOnlyIn, all_done, none_done}
 
 -- held, of the first n requests
 pub record AreHeldBelow (r : Rollout) (n : ℕ) (held : List ℕ) : Type 0 where
@@ -18,6 +18,26 @@ pub record AreHeldBelow (r : Rollout) (n : ℕ) (held : List ℕ) : Type 0 where
   pub present : All (IsOnlyIn r none_done) held
   pub wanted : All (IsOnlyIn r all_done) held
   pub each : (k : ℕ) → k < n → IsOnlyIn r none_done k → IsOnlyIn r all_done k → Contains held k
+
+-- none of the first 0
+pub held_none : (r : Rollout) (held : List ℕ) → held ≡ [] → AreHeldBelow r 0 held
+held_none r held none = subst (AreHeldBelow r 0) (sym none) (record {
+  rising = λ k within. absurd (omega (arith, within));
+  known = All-nil (λ k. k < 0);
+  present = All-nil (IsOnlyIn r none_done);
+  wanted = All-nil (IsOnlyIn r all_done);
+  each = λ k within. absurd (omega (arith, within));
+})
+
+-- the first ones are all
+pub held_all : (r : Rollout) (held : List ℕ) (n : ℕ) → n ≡ length r.paths → AreHeldBelow r n held → AreHeld r held
+held_all r held n all are = record {
+  rising = are.rising;
+  known = subst (λ (m : ℕ). All (λ k. k < m) held) all are.known;
+  present = are.present;
+  wanted = are.wanted;
+  each = λ k within. are.each k (omega (arith, all, within));
+}
 
 rising_push : (xs : List ℕ) (n : ℕ) → IsStrictlyIncreasing xs → All (λ k. k < n) xs → IsStrictlyIncreasing (xs ++ n ∷ [])
 rising_push xs n rising below = λ k within. elim (cases_lt (k + 1) (length xs)) [
@@ -72,3 +92,19 @@ only_from_marks r f marks k same only =
 pub only_to_marks : (r : Rollout) (f : ℕ → Bool) (marks : List Bool) (k : ℕ) → marks ≡ marks_of r f → IsOnlyIn r f k → IsOnlyIn r (is_done_in marks) k
 only_to_marks r f marks k same only =
     only_agree r f (is_done_in marks) k (λ i within. sym (ap (λ (ms : List Bool). is_done_in ms i) same ∙ marks_at r f i within)) only
+
+-- one more by the marks of both states
+pub held_both : (r : Rollout) (n : ℕ) (held new : List ℕ) (present wanted : List Bool) → AreHeldBelow r n held → present ≡ marks_of r none_done →
+    wanted ≡ marks_of r all_done → IsOnlyIn r (is_done_in present) n × IsOnlyIn r (is_done_in wanted) n → new ≡ held ++ n ∷ [] → AreHeldBelow r (n + 1) new
+held_both r n held new present wanted are none all both is =
+    subst (λ (xs : List ℕ). AreHeldBelow r (n + 1) xs) (sym is)
+    (held_more r n held are (only_from_marks r none_done present n none both.0) (only_from_marks r all_done wanted n all both.1))
+
+-- one more that isn't by them
+pub held_not_both : (r : Rollout) (n : ℕ) (held new : List ℕ) (present wanted : List Bool) (both : Bool) → AreHeldBelow r n held →
+    present ≡ marks_of r none_done → wanted ≡ marks_of r all_done → both ≡ false →
+    (IsOnlyIn r (is_done_in present) n × IsOnlyIn r (is_done_in wanted) n → both ≡ true) → new ≡ held → AreHeldBelow r (n + 1) new
+held_not_both r n held new present wanted both are none all not told is =
+    subst (λ (xs : List ℕ). AreHeldBelow r (n + 1) xs) (sym is)
+    (held_less r n held are (λ first second. both_ways both not
+    (told (only_to_marks r none_done present n none first, only_to_marks r all_done wanted n all second))))

@@ -4,7 +4,8 @@ use Rattle.std.specs.Prelude.{not}
 use Rattle.std.proofs.Math.Bool.{or_assoc}
 use Rattle.std.proofs.lemmas.Bool.{and_from, and_parts, both_ways, cases_lt, not_from_false, not-true, false≢true}
 use Rattle.std.proofs.lemmas.List.{drop_more, take-append-drop}
-use Rattle.std.proofs.lemmas.List.Folds.{list_any_at, list_any_more}
+use Rattle.std.proofs.lemmas.List.Folds.{list_all_at, list_all_more, list_any_at, list_any_more}
+use Rattle.std.specs.List.{list_all}
 use Rattle.area_graph.specs.Area.{Area, edge_at}
 use Rattle.area_graph.specs.Paths.{IsPathOf}
 use Rattle.area_graph.proofs.Visits.{joined_known}
@@ -14,7 +15,7 @@ use Rattle.change_steps.specs.declared.kinds.Kind.{Kind}
 use Rattle.change_steps.specs.declared.kinds.Kind.TheVariants.{First, Between, Last}
 use Rattle.change_steps.specs.Rollouts.{IsRollout, Rollout, step_count}
 use Rattle.change_steps.specs.Orders.{IsOnlyIn}
-use Rattle.change_steps.specs.Kinds.{comes_between, goes_over, kind_of_step, lies_on_held}
+use Rattle.change_steps.specs.Kinds.{comes_between, falls_off_held, goes_over, kind_of_step, lies_on_held, rises, rises_off_held}
 use Rattle.change_steps.specs.States.{MayFollow, is_done_in}
 use Rattle.change_steps.specs.Outcomes.{IsFirstLost}
 use Rattle.change_steps.specs.Search.{AreHeldMarks}
@@ -77,6 +78,55 @@ held_more_marked r held edges i marks new g within are graph edges_are count tol
       ∙ ap (λ (es : List ℕ). lies_on_held r (take i held) v || goes_over r.graph es v) edges_are
       ∙ sym (lies_more r held i v within);
 }
+
+-- Lines off held paths, one after another.
+
+all_more : (p : ℕ → Bool) (xs : List ℕ) (i : ℕ) → i < length xs → list_all p (take i xs) ≡ true → p (get_or xs i 0) ≡ true → list_all p (take (i + 1) xs) ≡ true
+all_more p xs i within so_far here = list_all_more p xs i 0 within ∙ and_from (list_all p (take i xs)) (p (get_or xs i 0)) so_far here
+
+off_held : (r : Rollout) (held : List ℕ) (marks : List Bool) (v : ℕ) → AreHeldMarks r held marks → v < length r.moves.present → get_or marks v false ≡ false →
+    not (lies_on_held r held v) ≡ true
+off_held r held marks v are known left = not_from_false (lies_on_held r held v) (sym (are.told v known) ∙ left)
+
+pub risen_more : (r : Rollout) (held : List ℕ) (marks : List Bool) (lines : List ℕ) (i : ℕ) → i < length lines → get_or lines i 0 < length r.moves.present →
+    AreHeldMarks r held marks → rises r.moves (get_or lines i 0) ≡ true → get_or marks (get_or lines i 0) false ≡ false →
+    list_all (rises_off_held r held) (take i lines) ≡ true → list_all (rises_off_held r held) (take (i + 1) lines) ≡ true
+risen_more r held marks lines i within known are rise left so_far =
+    all_more (rises_off_held r held) lines i within so_far
+    (and_from (rises r.moves (get_or lines i 0)) (not (lies_on_held r held (get_or lines i 0))) rise (off_held r held marks (get_or lines i 0) are known left))
+
+pub fallen_more : (r : Rollout) (held : List ℕ) (marks : List Bool) (lines : List ℕ) (i : ℕ) → i < length lines → get_or lines i 0 < length r.moves.present →
+    AreHeldMarks r held marks → rises r.moves (get_or lines i 0) ≡ false → get_or marks (get_or lines i 0) false ≡ false →
+    list_all (falls_off_held r held) (take i lines) ≡ true → list_all (falls_off_held r held) (take (i + 1) lines) ≡ true
+fallen_more r held marks lines i within known are fall left so_far =
+    all_more (falls_off_held r held) lines i within so_far
+    (and_from (not (rises r.moves (get_or lines i 0))) (not (lies_on_held r held (get_or lines i 0))) (not_from_false (rises r.moves (get_or lines i 0)) fall)
+    (off_held r held marks (get_or lines i 0) are known left))
+
+-- a line of another kind, and one that is on a held path
+and_no : (a b : Bool) → b ≡ false → (a && b) ≡ false
+and_no true b is = is
+and_no false b is = refl
+
+fails_at : (p : ℕ → Bool) (xs : List ℕ) (i : ℕ) → i < length xs → p (get_or xs i 0) ≡ false → false ≡ list_all p xs
+fails_at p xs i within here = sym (list_all_at p xs i 0 within here)
+
+pub not_risen : (r : Rollout) (held lines : List ℕ) (i : ℕ) → i < length lines → rises r.moves (get_or lines i 0) ≡ false →
+    false ≡ list_all (rises_off_held r held) lines
+not_risen r held lines i within fall =
+    fails_at (rises_off_held r held) lines i within (ap (λ (b : Bool). b && not (lies_on_held r held (get_or lines i 0))) fall)
+
+pub not_fallen : (r : Rollout) (held lines : List ℕ) (i : ℕ) → i < length lines → rises r.moves (get_or lines i 0) ≡ true →
+    false ≡ list_all (falls_off_held r held) lines
+not_fallen r held lines i within rise =
+    fails_at (falls_off_held r held) lines i within (ap (λ (b : Bool). not b && not (lies_on_held r held (get_or lines i 0))) rise)
+
+pub not_off : (r : Rollout) (held : List ℕ) (marks : List Bool) (lines : List ℕ) (i : ℕ) (test : ℕ → Bool) → i < length lines →
+    get_or lines i 0 < length r.moves.present → AreHeldMarks r held marks → get_or marks (get_or lines i 0) false ≡ true →
+    false ≡ list_all (λ v. test v && not (lies_on_held r held v)) lines
+not_off r held marks lines i test within known are marked =
+    fails_at (λ v. test v && not (lies_on_held r held v)) lines i within
+    (and_no (test (get_or lines i 0)) (not (lies_on_held r held (get_or lines i 0))) (ap not (sym (are.told (get_or lines i 0) known) ∙ marked)))
 
 -- Steps that may follow.
 

@@ -1,6 +1,8 @@
 -- States step by step: their marks and their costs.
-use Rattle.std.proofs.Common.{◌≡◌, ◌≢◌, ℕ, ◌+◌, ◌<◌, ◌≤◌, sym, ◌∙◌, ap, subst, List, [], All, length, get_or, set, take, inl, inr, arith, Bool, true, false, cond, ltb, lt-ltb, le-ltb, get_or-set_other}
-use Rattle.std.proofs.lemmas.Bool.{both_ways, cases_Bool, cases_lt, cond-false, cond-true, false_from_ne_true}
+use Rattle.std.proofs.Common.{◌≡◌, ◌≢◌, ℕ, ◌+◌, ◌<◌, ◌≤◌, sym, ◌∙◌, ap, subst, List, [], All, length, get_or, set, take, inl, inr, arith, Bool, true, false, ◌||◌, ◌==◌, cond, eq-eqb, ltb, ne_eqb, length-set, lt-ltb, le-ltb, get_or-set_other}
+use Rattle.std.proofs.Math.Bool.{or-false}
+use Rattle.std.proofs.lemmas.Bool.{both_ways, cases_Bool, cases_eq, cases_lt, cond-false, cond-true, false_from_ne_true, or_right}
+use Rattle.std.proofs.lemmas.List.Folds.{list_any_more}
 use Rattle.std.proofs.lemmas.List.{ext_get_or, get_or-set_same, take_more}
 use Rattle.cost_base.specs.Lists.{Has}
 use Rattle.area_graph.specs.declared.Point.{Point}
@@ -26,6 +28,35 @@ point_is scale values costs one same = ap (λ (n : ℕ). let p : Point = record 
 pub point_fits : (r : Rollout) (g : Area) (marks : List Bool) (p : Point) → IsRollout r → g ≡ r.graph → p ≡ at_costs (costs_in r.moves (is_done_in marks)) → FitsPoint g p
 point_fits r g marks p is graph same =
     subst (λ (h : Area). FitsPoint h p) (sym graph) (subst (λ (q : Point). FitsPoint r.graph q) (sym same) (state_fits r (is_done_in marks) is))
+
+-- Costs are put line by line.
+
+-- the variables of the first lines have these costs, and the others are as they were
+pub record ArePut (olds lines costs : List ℕ) (i : ℕ) (news : List ℕ) : Type 0 where
+  pub count : length news ≡ length olds
+  pub put : (v : ℕ) → get_or news v 0 ≡ cond (is_one_of (take i lines) v) (get_or costs v 0) (get_or olds v 0)
+
+pub put_more : (olds mids news lines costs : List ℕ) (i : ℕ) → i < length lines → get_or lines i 0 < length mids → ArePut olds lines costs i mids →
+    news ≡ set mids (get_or lines i 0) (get_or costs (get_or lines i 0) 0) → ArePut olds lines costs (i + 1) news
+put_more olds mids news lines costs i within known are is = record {
+  count = ap length is ∙ length-set mids (get_or lines i 0) (get_or costs (get_or lines i 0) 0) ∙ are.count;
+  put = λ v. ap (λ (xs : List ℕ). get_or xs v 0) is ∙ elim (cases_eq v (get_or lines i 0)) [
+    | inl same ↦
+        ap (λ (k : ℕ). get_or (set mids (get_or lines i 0) (get_or costs (get_or lines i 0) 0)) k 0) same
+        ∙ get_or-set_same mids (get_or lines i 0) (get_or costs (get_or lines i 0) 0) 0 known
+        ∙ ap (λ (k : ℕ). get_or costs k 0) (sym same)
+        ∙ sym (cond-true (is_one_of (take (i + 1) lines) v) (get_or costs v 0) (get_or olds v 0)
+        (more v ∙ or_right (is_one_of (take i lines) v) (get_or lines i 0 == v) (eq-eqb (get_or lines i 0) v (sym same))))
+    | inr other ↦
+        get_or-set_other mids (get_or lines i 0) v (get_or costs (get_or lines i 0) 0) 0 other ∙ are.put v
+        ∙ ap (λ (b : Bool). cond b (get_or costs v 0) (get_or olds v 0)) (sym (more v
+        ∙ ap (λ (b : Bool). is_one_of (take i lines) v || b) (ne_eqb (get_or lines i 0) v (λ same. other (sym same)))
+        ∙ or-false (is_one_of (take i lines) v)))
+  ];
+}
+  where
+    more : (v : ℕ) → is_one_of (take (i + 1) lines) v ≡ (is_one_of (take i lines) v || (get_or lines i 0 == v))
+    more v = list_any_more (λ y. y == v) lines i 0 within
 
 -- At present.
 

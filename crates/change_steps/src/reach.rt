@@ -1,5 +1,5 @@
 //! What rivals cost at least that go over the links of a step.
-ghost use Rattle.std.specs.Prelude.{◌≡◌, ◌<◌, ◌≤◌, ◌^◌, ℕ, [], All, IfOk, IsTrue, Some, length, map, slice_index_or};
+ghost use Rattle.std.specs.Prelude.{◌≡◌, ◌++◌, ◌∷◌, ◌<◌, ◌≤◌, ◌^◌, ℕ, [], All, IfOk, IsTrue, OnOk, Some, length, map, slice_index_or};
 ghost use Rattle.cost_base.specs.Lists.{numbers_from};
 ghost use Rattle.area_graph.specs.Costs.{FitsPoint, IsPriced, at_costs};
 ghost use Rattle.spf_ties.specs.Distances.{IsRoomFor};
@@ -149,6 +149,35 @@ fn is_between(kinds: &[Kind], step: usize) -> bool {
     }
 }
 
+/// Marks the vertices that the edges of a step leave, if it comes between the first and the last ones, and tells whether
+/// it does.
+fn mark_step(
+    marks: &mut Vec<bool>,
+    graph: &Graph,
+    kinds: &[Kind],
+    step: usize,
+    edges: &[u32],
+) -> bool
+    ensures { length marks.new.items ≡ length marks.old.items }
+{
+    if !is_between(kinds, step) {
+        return false;
+    }
+    mark_starts(marks, graph, edges);
+    true
+}
+
+/// Marks the vertices that edges of steps between leave, and tells whether there are such steps.
+fn mark_between(marks: &mut Vec<bool>, graph: &Graph, kinds: &[Kind], edges: &[Listed<u32>]) -> bool
+    ensures { length marks.new.items ≡ length marks.old.items }
+{
+    let mut has_between = false;
+    for step in 0..edges.len() {
+        has_between |= mark_step(marks, graph, kinds, step, edges[step].as_slice());
+    }
+    has_between
+}
+
 /// A mark for each vertex that an edge of a step between leaves, or at which a held path ends.
 fn mark_asked(
     alloc: Global,
@@ -162,17 +191,25 @@ fn mark_asked(
 {
     let graph = scene.graph();
     let mut asked = no_marks(alloc, graph.vertices().len())?;
-    let mut has_between = false;
-    for (step, list) in edges.iter().enumerate() {
-        if is_between(kinds, step) {
-            has_between = true;
-            mark_starts(&mut asked, graph, list.as_slice());
-        }
-    }
-    if has_between {
+    if mark_between(&mut asked, graph, kinds, edges) {
         mark_ends(&mut asked, scene, held);
     }
     Ok(asked)
+}
+
+/// Puts the edges whose costs a step changes behind those of others.
+fn put_edges(
+    edges: &mut Vec<Listed<u32>>,
+    alloc: Global,
+    scene: &Scene,
+    step: usize,
+) -> Result<(), OutOfMemory>
+    requires { step < step_count scene.now }
+    ensures { OnOk result (edges.new.items ≡ edges.old.items ++ edges_of_step scene.now step ∷ []) }
+{
+    let list = edges_of_step(alloc, scene, step)?;
+    edges.push(Listed::from_items(list))?;
+    Ok(())
 }
 
 /// The edges whose costs each step changes.
@@ -182,8 +219,7 @@ fn edges_of_steps(alloc: Global, scene: &Scene) -> Result<Vec<Listed<u32>>, OutO
 {
     let mut edges = Vec::new(alloc);
     for step in 0..scene.step_count() {
-        let list = edges_of_step(alloc, scene, step)?;
-        edges.push(Listed::from_items(list))?;
+        put_edges(&mut edges, alloc, scene, step)?;
     }
     Ok(edges)
 }
@@ -254,7 +290,25 @@ impl Reach {
     {
         let edges = edges_of_steps(alloc, scene)?;
         let asked = mark_asked(alloc, scene, held, kinds, &edges)?;
-        let least = least_to_each(alloc, scene, &asked, room)?;
+        Reach::beside(alloc, scene, edges, &asked, room)
+    }
+
+    /// These edges of each step, and what paths to the marked vertices cost at least.
+    fn beside(
+        alloc: Global,
+        scene: &Scene,
+        edges: Vec<Listed<u32>>,
+        asked: &[bool],
+        room: &mut Room,
+    ) -> Result<Reach, OutOfMemory>
+        requires room { IsRoomFor scene.now.graph room.old }
+        requires edges { edges.items ≡ map (edges_of_step scene.now)
+            (numbers_from 0 (step_count scene.now)) }
+        requires asked { length asked.now ≡ length scene.now.graph.vertices }
+        ensures room { IsRoomFor scene.now.graph room.new }
+        ensures reach { IfOk result (IsReach scene.now) }
+    {
+        let least = least_to_each(alloc, scene, asked, room)?;
         Ok(Reach {
             edges: Listed::from_items(edges),
             least: Listed::from_items(least),

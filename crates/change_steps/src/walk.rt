@@ -2,8 +2,9 @@
 ghost use Rattle.std.specs.Prelude.{◌≡◌, ◌++◌, ◌∷◌, ◌↔◌, ◌+◌, ◌<◌, ◌≤◌, ℕ, [], Contains, IfOk, IsTrue, MatchBool, MatchOption, OnOk, false, length, max, slice_set, true, ⊤};
 ghost use Rattle.spf_ties.specs.Distances.{IsRoomFor};
 ghost use Rattle.change_steps.specs.Rollouts.{step_count};
-ghost use Rattle.change_steps.specs.Orders.{IsSafe};
-ghost use Rattle.change_steps.specs.States.{MayFollow, is_done_in};
+ghost use Rattle.change_steps.specs.Orders.{IsSafe, is_one_of};
+ghost use Rattle.change_steps.specs.Kinds.{first_steps};
+ghost use Rattle.change_steps.specs.States.{MayFollow, is_done_in, marks_of};
 ghost use Rattle.change_steps.specs.Search.{AllLack, IsNewStep, IsStateOf, longer_of};
 ghost use Rattle.change_steps.specs.Walks.{IsBegun, IsEnded, IsWalkTurned, IsUnderWay, IsSearchWalk, position_of};
 
@@ -56,6 +57,17 @@ fn is_new(tested: &Tested, marks: &mut Vec<bool>, step: usize) -> bool
     new
 }
 
+/// The state of the first steps.
+fn first_state(alloc: Global, plan: &Plan) -> Result<State, OutOfMemory>
+    ensures state { IfOk result (IsStateOf plan.now.rollout) }
+    ensures done { IfOk result (λ state. state.done.items ≡ marks_of plan.now.rollout
+        (is_one_of (first_steps plan.now.rollout plan.now.held))) }
+{
+    let mut first = Vec::new(alloc);
+    plan.put_steps(&mut first, Kind::First)?;
+    State::after(alloc, plan.scene(), &first)
+}
+
 impl Walk {
     /// A search that stands at the state of the first steps, which counts as tested.
     pub fn begin(alloc: Global, plan: &Plan, room: Room) -> Result<Walk, OutOfMemory>
@@ -63,9 +75,7 @@ impl Walk {
         ensures { IfOk result (IsBegun plan.now) }
     {
         plan.keeps_conditions();
-        let mut first = Vec::new(alloc);
-        plan.put_steps(&mut first, Kind::First)?;
-        let state = State::after(alloc, plan.scene(), &first)?;
+        let state = first_state(alloc, plan)?;
         let mut tested = Tested::new(alloc);
         tested.add(alloc, &state.done)?;
         Ok(Walk {

@@ -1,4 +1,4 @@
-use Rattle.std.proofs.Common.{◌∙◌, ℕ, List, [], Vec, Global, ap, sym}
+use Rattle.std.proofs.Common.{◌<◌, ◌∙◌, ℕ, List, [], Vec, Global, ap, arith, length, subst, sym}
 use Rattle.area_graph.specs.declared.Edge.{Edge}
 use Rattle.area_graph.specs.Area.{Area, edge_at}
 use Rattle.change_steps.specs.Rollouts.{lines_of_step}
@@ -6,6 +6,14 @@ use Rattle.change_steps.specs.Reaches.{has_price}
 use Rattle.change_steps.proofs.PlanLaws.{kept_push, kept_same}
 use Rattle.change_steps.proofs.reach.edges_of_step.Goals as goal
 use Rattle.change_steps.proofs.reach.edges_of_step.Goals.{then-has_price+in_ok-push, else-has_price}
+
+pub loop-number-init : goal.loop-number-init
+loop-number-init c = c.new-edges.ensures.items
+
+pub edge_of-requires : goal.edge_of-requires
+edge_of-requires c =
+    subst (λ (g : Area). c.loop-number.number < length g.edges) (sym c.graph.ensures)
+    (let below = c.loop-number-test.true in let count = c.edge_count-number-end.ensures in omega (arith, below, count))
 
 pub loop-number-preserved : goal.loop-number-preserved
 loop-number-preserved c =

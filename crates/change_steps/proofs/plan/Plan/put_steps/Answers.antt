@@ -1,8 +1,15 @@
-use Rattle.std.proofs.Common.{◌∙◌, ℕ, Vec, Global, ap, sym}
+use Rattle.std.proofs.Common.{◌∙◌, ◌++◌, ℕ, Vec, Global, ap, append-nil, arith, filter, sym}
+use Rattle.cost_base.specs.Lists.{numbers_from}
 use Rattle.change_steps.specs.Kinds.{has_kind, kind_of_step}
 use Rattle.change_steps.proofs.PlanLaws.{kept_push, kept_same}
 use Rattle.change_steps.proofs.plan.Plan.put_steps.Goals as goal
 use Rattle.change_steps.proofs.plan.Plan.put_steps.Goals.{then-is_kind+in_ok-push, else-is_kind}
+
+pub loop-step-init : goal.loop-step-init
+loop-step-init c = sym (append-nil c.args.steps.now.items)
+
+pub kind-requires : goal.kind-requires
+kind-requires c = let below = c.loop-step-test.true in let count = c.step_count-step-end.ensures in omega (arith, below, count)
 
 pub loop-step-preserved : goal.loop-step-preserved
 loop-step-preserved c = elim c.if-is_kind.branch [
@@ -15,3 +22,9 @@ loop-step-preserved c = elim c.if-is_kind.branch [
       c.loop-step.step (ap (has_kind c.args.kind) (sym c.kind.ensures) ∙ sym c.is_kind.ensures ∙ w.if-is_kind.false) c.loop-step.invariant
       (ap (λ (v : Vec ℕ Global). v.items) w.steps-is)
 ]
+
+pub returns : goal.returns
+returns c =
+    c.loop-step.invariant
+    ∙ ap (λ (n : ℕ). c.args.steps.now.items ++ filter (λ k. has_kind c.args.kind (kind_of_step c.args.self.now.rollout c.args.self.now.held k)) (numbers_from 0 n))
+    (let past = c.loop-step-test.false in let most = c.loop-step.auto.step-end in let count = c.step_count-step-end.ensures in omega (arith, past, most, count))

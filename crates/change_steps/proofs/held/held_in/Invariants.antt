@@ -1,6 +1,6 @@
 use Rattle.spf_ties.specs.Distances.{IsRoomFor}
 use Rattle.change_steps.proofs.HeldLaws.{AreHeldBelow}
-use Rattle.change_steps.proofs.held.find_held.Given as goal
+use Rattle.change_steps.proofs.held.held_in.Given as goal
 
 abbrev pub invariant-loop-number : goal.invariant-loop-number
 invariant-loop-number l = record {
