@@ -103,21 +103,25 @@ read_is file_name bytes p nets d name f parts found gathered named same_name = r
   named = named ∙ ap (λ (n : List ℕ). name_from n (option_map head_heard p.hostname)) same_name;
 }
 
+-- the router of these lines and drafts, where no fault is found
 pub config_as : (file_name bytes : List ℕ) (p : Parts) (nets : List NetworkLine) (d : Drafts) (name : List ℕ × ℕ) →
-    IsRead file_name bytes p nets d name → (three : List SaidLine) (id : Option ℕ) (is : List Interface) →
-    id ≡ id_after None (map said_of three) → three ≡ p.said.items → is ≡ map (finished nets) d.drafts.items →
+    IsRead file_name bytes p nets d name → (three : List SaidLine) → three ≡ p.said.items →
     found_among p nets d name ≡ None →
-    IsConfig file_name bytes (record { name = name.0; router_id = id; interfaces = is })
-config_as file_name bytes p nets d name read three id is id_is same_three is_is none =
-    subst (IsConfig file_name bytes) same (config_is file_name bytes p nets d name read none)
-  where
-    same : ◌≡◌ {A = Router} (record {
+    IsConfig file_name bytes (record {
       name = name.0;
-      router_id = id_after None (map said_of p.said.items);
+      router_id = id_after None (map said_of three);
       interfaces = map (finished nets) d.drafts.items;
     })
-        (record { name = name.0; router_id = id; interfaces = is })
-    same =
-        ap (λ (o : Option ℕ). record { name = name.0; router_id = o; interfaces = map (finished nets) d.drafts.items })
-        (sym (id_is ∙ ap (λ (ls : List SaidLine). id_after None (map said_of ls)) same_three))
-        ∙ ap (λ (xs : List Interface). record { name = name.0; router_id = id; interfaces = xs }) (sym is_is)
+config_as file_name bytes p nets d name read three same_three none =
+    subst (λ (ls : List SaidLine). IsConfig file_name bytes (record {
+      name = name.0;
+      router_id = id_after None (map said_of ls);
+      interfaces = map (finished nets) d.drafts.items;
+    })) (sym same_three) (config_is file_name bytes p nets d name read none)
+
+-- routers of the same parts
+pub same_router : (name : List ℕ) (id other_id : Option ℕ) (is others : List Interface) → id ≡ other_id → is ≡ others →
+    ◌≡◌ {A = Router} (record { name = name; router_id = id; interfaces = is }) (record { name = name; router_id = other_id; interfaces = others })
+same_router name id other_id is others id_is is_is =
+    ap (λ (o : Option ℕ). record { name = name; router_id = o; interfaces = is }) id_is
+    ∙ ap (λ (xs : List Interface). record { name = name; router_id = other_id; interfaces = xs }) is_is

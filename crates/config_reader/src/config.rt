@@ -3,7 +3,7 @@ ghost use Rattle.std.specs.Prelude.{◌≡◌, ◌-◌, ◌^◌, ◌<◌, ℕ, N
 ghost use Rattle.std.specs.Option.{option_map};
 ghost use Rattle.interface_model.specs.Records.{IsRouter};
 ghost use Rattle.config_reader.specs.Configs.{config_of};
-ghost use Rattle.config_reader.specs.FaultList.{config_fault, TellsConfigFault};
+ghost use Rattle.config_reader.specs.FaultList.{Fault, config_fault, TellsConfigFault};
 ghost use Rattle.config_reader.specs.Heards.{said_of, head_heard, fault_heard};
 ghost use Rattle.config_reader.specs.Drafting as drafting;
 ghost use Rattle.config_reader.specs.Gathered.{IsGathered};
@@ -15,8 +15,8 @@ use crate::ConfigFault;
 use crate::drafts::{Drafts, finish};
 use crate::faults::{area_twice, earliest, name_fault, router_id, router_name, second_address};
 use crate::networks::Networks;
-use crate::reader::{LineFault, NamedHead, Parts, read_parts};
-use cost_base::{Listed, Name, OutOfMemory, Refusal};
+use crate::reader::{LineFault, NamedHead, Parts, SaidLine, read_parts};
+use cost_base::{Listed, Name, Refusal};
 use interface_model::{Interface, RouterConfig};
 use std::alloc::Global;
 
@@ -45,17 +45,18 @@ fn assemble(
     name: &[u8],
     router_id: Option<u32>,
     interfaces: Vec<Interface>,
-) -> Result<RouterConfig, OutOfMemory>
+) -> Result<RouterConfig, Refusal<ConfigFault>>
     requires { IsRouter (record {
       name = name.now;
       router_id = router_id;
       interfaces = interfaces.items;
     }) }
-    ensures { IfOk result (λ r. r ≡ record {
+    ensures made { IfOk result (λ r. r ≡ record {
       name = name.now;
       router_id = router_id;
       interfaces = interfaces.items;
     }) }
+    ensures refused { IfErr result (λ r. (fault : Option Fault) → TellsConfigFault fault r) }
 {
     let name = Name::from_bytes(alloc, name)?;
     Ok(RouterConfig {
@@ -63,6 +64,32 @@ fn assemble(
         router_id,
         interfaces: Listed::from_items(interfaces),
     })
+}
+
+/// The router of drafts that have no fault.
+fn made(
+    alloc: Global,
+    name: &[u8],
+    said: &[SaidLine<'_>],
+    networks: &Networks,
+    drafts: Drafts<'_>,
+) -> Result<RouterConfig, Refusal<ConfigFault>>
+    requires { IsRouter (record {
+      name = name.now;
+      router_id = drafting.id_after None (map said_of said.now);
+      interfaces = map (drafting.finished networks.now) drafts.drafts.items;
+    }) }
+    ensures made { IfOk result (λ r. r ≡ record {
+      name = name.now;
+      router_id = drafting.id_after None (map said_of said.now);
+      interfaces = map (drafting.finished networks.now) drafts.entry.drafts.items;
+    }) }
+    ensures refused { IfErr result (λ r. (fault : Option Fault) → TellsConfigFault fault r) }
+{
+    let Drafts { names, drafts } = drafts;
+    drop(names);
+    let interfaces = finish(alloc, drafts, networks)?;
+    assemble(alloc, name, router_id(said), interfaces)
 }
 
 /// The router that is made of what was gathered, or its first fault.
@@ -85,13 +112,13 @@ fn checked<'a>(
 {
     let name = router_name(parts.hostname, file_name.as_bytes());
     if let Some(fault) = first_fault(parts, networks, &drafts, name) {
+        drop(drafts);
         return Err(Refusal::Refused {
             fault: fault.fault,
             place: fault.line,
         });
     }
-    let interfaces = finish(alloc, drafts.drafts, networks)?;
-    Ok(assemble(alloc, name.name, router_id(&parts.said), interfaces)?)
+    made(alloc, name.name, &parts.said, networks, drafts)
 }
 
 /// The router of whose configuration these parts were kept, or its first fault.

@@ -32,7 +32,7 @@ pub(crate) struct NamedHead<'a> {
 }
 
 /// A fault and its line.
-#[derive(Clone, Copy, Debug, PartialEq, Eq)]
+#[derive(Clone, Copy)]
 pub(crate) struct LineFault {
     pub line: u32,
     pub fault: ConfigFault,

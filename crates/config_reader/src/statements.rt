@@ -12,7 +12,7 @@ use interface_model::Kind;
 use text_lines::{area, first_word, number, prefix, quad, word_at, word_count};
 
 /// An address with its prefix length.
-#[derive(Clone, Copy, Debug, PartialEq, Eq)]
+#[derive(Clone, Copy)]
 pub(crate) struct AddressPrefix {
     pub address: u32,
     pub length: u8,
