@@ -258,18 +258,18 @@ fn see<'a>(seen: &mut IndexSet<&'a [u8]>, name: &'a Name) -> Result<bool, OutOfM
     Ok(seen.insert(name.as_bytes())?)
 }
 
-/// Refuses the first configuration of which an earlier one has the name.
-pub fn refuse_second_name(
-    alloc: Global,
-    configs: &[RouterConfig],
+/// Refuses the first configuration of which an earlier one has the name, and adds the names of those before.
+fn refuse_seen_name<'a>(
+    seen: &mut IndexSet<&'a [u8]>,
+    configs: &'a [RouterConfig],
 ) -> Result<(), Refusal<TopologyFault, ConfigLine>>
-    requires { length configs.now ≤ 1000 }
+    requires few { length configs.now ≤ 1000 }
+    requires none { seen.old.keys ≡ [] }
     ensures { let fault = at_config NameTwice (second_of_name [] 0 configs.now) in
         MatchResult result (λ _. fault ≡ None) (Tells fault) }
 {
-    let mut seen = IndexSet::new(alloc);
     for (i, config) in configs.iter().enumerate() {
-        if !see(&mut seen, &config.name)? {
+        if !see(seen, &config.name)? {
             return Err(Refusal::Refused {
                 fault: TopologyFault::NameTwice,
                 place: ConfigLine {
@@ -280,4 +280,17 @@ pub fn refuse_second_name(
         }
     }
     Ok(())
+}
+
+/// Refuses the first configuration of which an earlier one has the name.
+pub fn refuse_second_name(
+    alloc: Global,
+    configs: &[RouterConfig],
+) -> Result<(), Refusal<TopologyFault, ConfigLine>>
+    requires { length configs.now ≤ 1000 }
+    ensures { let fault = at_config NameTwice (second_of_name [] 0 configs.now) in
+        MatchResult result (λ _. fault ≡ None) (Tells fault) }
+{
+    let mut seen = IndexSet::new(alloc);
+    refuse_seen_name(&mut seen, configs)
 }

@@ -58,20 +58,33 @@ fn is_first_member(seen: &Tally<Subnet>, port: &Port) -> bool
     is_broadcast(port) && members == 0
 }
 
+/// The first members of the transit subnets among linked interfaces, in order, each counted on its subnet.
+fn first_ports<'a>(
+    alloc: Global,
+    seen: &mut Tally<Subnet>,
+    links: &[Port<'a>],
+) -> Result<Vec<Port<'a>>, OutOfMemory>
+    requires few { length links.now ≤ 4000 }
+    requires none { IsTally same_subnet seen.old.counts [] }
+    ensures { IfOk result (λ found. found.items ≡ first_members [] links.now) }
+{
+    let mut found = Vec::new(alloc);
+    for port in links {
+        if is_first_member(seen, port) && found.push(port.again()).is_err() {
+            return Err(OutOfMemory);
+        }
+        seen.add(subnet_of(port))?;
+    }
+    Ok(found)
+}
+
 /// The first members of the transit subnets among linked interfaces, in order.
 pub fn transit_ports<'a>(alloc: Global, links: &[Port<'a>]) -> Result<Vec<Port<'a>>, OutOfMemory>
     requires { length links.now ≤ 4000 }
     ensures { IfOk result (λ found. found.items ≡ first_members [] links.now) }
 {
     let mut seen = Tally::new(alloc);
-    let mut found = Vec::new(alloc);
-    for port in links {
-        if is_first_member(&seen, port) && found.push(port.again()).is_err() {
-            return Err(OutOfMemory);
-        }
-        seen.add(subnet_of(port))?;
-    }
-    Ok(found)
+    first_ports(alloc, &mut seen, links)
 }
 
 /// Whether another interface stands on the same subnet.
@@ -159,8 +172,8 @@ fn link_of(
     port: &Port,
 ) -> Result<Linked, OutOfMemory>
     requires { ArePlaces places.now.by_subnet links.now }
-    ensures { (transit : List Port) → ArePlaces firsts.now.by_subnet transit →
-        IfOk result (λ link. link ≡ link_among links.now transit port.now) }
+    ensures { IfOk result (λ link. (transit : List Port) → ArePlaces firsts.now.by_subnet transit →
+        link ≡ link_among links.now transit port.now) }
 {
     let (to, link_back) = far_and_link_back(links, places, firsts, port);
     let interface = port.interface;
@@ -172,6 +185,24 @@ fn link_of(
         to,
         link_back,
     })
+}
+
+/// The links of the linked interfaces, in order, by their places and those of the first members of transit subnets.
+fn links_by(
+    alloc: Global,
+    links: &[Port],
+    places: &Places,
+    firsts: &Places,
+) -> Result<Vec<Linked>, OutOfMemory>
+    requires { ArePlaces places.now.by_subnet links.now }
+    ensures { IfOk result (λ made. (transit : List Port) → ArePlaces firsts.now.by_subnet transit →
+        made.items ≡ map (link_among links.now transit) links.now) }
+{
+    let mut made = Vec::new(alloc);
+    for port in links {
+        made.push(link_of(alloc, links, places, firsts, port)?)?;
+    }
+    Ok(made)
 }
 
 /// The links of the linked interfaces, in order, by the places of these interfaces.
@@ -186,12 +217,7 @@ pub fn links_of(
     ensures { IfOk result (λ made. made.items ≡ map (link_among links.now transit.now) links.now) }
 {
     let firsts = places_of(alloc, transit)?;
-    let mut made = Vec::new(alloc);
-    for port in links {
-        let link = link_of(alloc, links, places, &firsts, port)?;
-        made.push(link)?;
-    }
-    Ok(made)
+    links_by(alloc, links, places, &firsts)
 }
 
 /// The places of the linked interfaces on one subnet, in order.

@@ -88,6 +88,25 @@ fn may_overlap(seen: &Owners, enclosing: &Owners, port: &Port) -> bool
     is_inside(seen, port) || enclosing.has_other(port.router, subnet_of(port))
 }
 
+/// Refuses the first interface of which an earlier one, of another router, has an overlapping subnet, and notes those before.
+fn refuse_among(
+    seen: &mut Owners,
+    enclosing: &mut Owners,
+    ports: &[Port],
+) -> Result<(), Refusal<TopologyFault, ConfigLine>>
+    ensures { let fault = at_port OverlapPrefix (first_where is_overlap [] ports.now) in
+        MatchResult result (λ _. fault ≡ None) (Tells fault) }
+{
+    for (i, port) in ports.iter().enumerate() {
+        if may_overlap(seen, enclosing, port) && is_overlap(&ports[..i], port) {
+            return Err(refusal_at(TopologyFault::OverlapPrefix, port));
+        }
+        seen.note(port.router, subnet_of(port))?;
+        note_prefixes(enclosing, port)?;
+    }
+    Ok(())
+}
+
 /// Refuses the first interface of which an earlier one, of another router, has an overlapping subnet.
 ///
 /// The interfaces before are compared one by one only at an interface whose subnet lies in or round an earlier one of another
@@ -102,12 +121,5 @@ pub fn refuse_overlap(
 {
     let mut seen = Owners::new(alloc);
     let mut enclosing = Owners::new(alloc);
-    for (i, port) in ports.iter().enumerate() {
-        if may_overlap(&seen, &enclosing, port) && is_overlap(&ports[..i], port) {
-            return Err(refusal_at(TopologyFault::OverlapPrefix, port));
-        }
-        seen.note(port.router, subnet_of(port))?;
-        note_prefixes(&mut enclosing, port)?;
-    }
-    Ok(())
+    refuse_among(&mut seen, &mut enclosing, ports)
 }

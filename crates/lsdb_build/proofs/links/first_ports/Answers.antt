@@ -3,13 +3,13 @@ use Rattle.lsdb_build.specs.Neighbours.{first_members}
 use Rattle.lsdb_build.specs.Tallies.{same_subnet, subnet_of}
 use Rattle.lsdb_build.proofs.FirstPlaces.{first_members-more}
 use Rattle.lsdb_build.proofs.Tallies.{tally_on, tally_few}
-use Rattle.lsdb_build.proofs.links.transit_ports.Goals as goal
-use Rattle.lsdb_build.proofs.links.transit_ports.Goals.{else-is_first_member-via-then-is_first_member+else-is_err, else-is_first_member-via-else-is_first_member}
+use Rattle.lsdb_build.proofs.links.first_ports.Goals as goal
+use Rattle.lsdb_build.proofs.links.first_ports.Goals.{else-is_first_member-via-then-is_first_member+else-is_err, else-is_first_member-via-else-is_first_member}
 
 pub add-requires : goal.add-requires
 add-requires c = record {
   few = tally_few same_subnet subnet_of c.loop-port.seen.counts c.args.links.now
-      c.loop-port.port-index c.loop-port.invariant.seen c.requires c.subnet_of.result;
+      c.loop-port.port-index c.loop-port.invariant.seen c.requires.few c.subnet_of.result;
 }
 
 pub loop-port-preserved : goal.loop-port-preserved

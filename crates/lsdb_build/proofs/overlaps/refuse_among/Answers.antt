@@ -7,9 +7,9 @@ use Rattle.lsdb_build.specs.Tallies.{subnet_of, subnet_of_length}
 use Rattle.lsdb_build.specs.Owners.{IsOwnerNoted, HasSubnet, HasPrefixes}
 use Rattle.lsdb_build.specs.Topology.{is_overlap, at_port}
 use Rattle.lsdb_build.proofs.FirstPlaces.{left_on, first_met, none_met, list_any-reverse, reverse_more}
-use Rattle.lsdb_build.proofs.overlaps.refuse_overlap.Goals as goal
+use Rattle.lsdb_build.proofs.overlaps.refuse_among.Goals as goal
 use Rattle.lsdb_build.specs.declared.fault.TopologyFault.TheVariants.{OverlapPrefix}
-use Rattle.lsdb_build.proofs.overlaps.refuse_overlap.Goals.{else-may_overlap-via-then-may_overlap+else-is_overlap, else-may_overlap-via-else-may_overlap}
+use Rattle.lsdb_build.proofs.overlaps.refuse_among.Goals.{else-may_overlap-via-then-may_overlap+else-is_overlap, else-may_overlap-via-else-may_overlap}
 
 pub loop-i-preserved : goal.loop-i-preserved
 loop-i-preserved c =

@@ -1,7 +1,7 @@
 use Rattle.std.proofs.Common.{◌≡◌, ◌++◌, [], take, drop, reverse, map}
 use Rattle.lsdb_build.specs.Neighbours.{first_members}
 use Rattle.lsdb_build.specs.Tallies.{IsTally, same_subnet, subnet_of}
-use Rattle.lsdb_build.proofs.links.transit_ports.Given as goal
+use Rattle.lsdb_build.proofs.links.first_ports.Given as goal
 
 abbrev pub invariant-loop-port : goal.invariant-loop-port
 invariant-loop-port l = record {

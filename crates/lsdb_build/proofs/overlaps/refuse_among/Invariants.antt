@@ -2,7 +2,7 @@ use Rattle.std.proofs.Common.{take, reverse, All}
 use Rattle.lsdb_build.specs.Topology.{is_overlap}
 use Rattle.lsdb_build.specs.Owners.{HasSubnet, HasPrefixes}
 use Rattle.lsdb_build.proofs.FirstPlaces.{IsLeft}
-use Rattle.lsdb_build.proofs.overlaps.refuse_overlap.Given as goal
+use Rattle.lsdb_build.proofs.overlaps.refuse_among.Given as goal
 
 abbrev pub invariant-loop-i : goal.invariant-loop-i
 invariant-loop-i l = record {

@@ -6,7 +6,7 @@ use Rattle.interface_model.specs.Records.{Router}
 use Rattle.lsdb_build.specs.Topology.{second_of_name, at_config}
 use Rattle.lsdb_build.proofs.FirstPlaces.{names_of, names_seen, name_test}
 use Rattle.lsdb_build.specs.declared.fault.TopologyFault.TheVariants.{NameTwice}
-use Rattle.lsdb_build.proofs.checks.refuse_second_name.Goals as goal
+use Rattle.lsdb_build.proofs.checks.refuse_seen_name.Goals as goal
 
 abbrev now : Bor (List ℕ) → List ℕ
 now n = n.now
