@@ -5,3 +5,5 @@ pub mod TakenEdges
 pub mod ExcludedLaws
 pub mod Withouts
 pub mod Outline
+pub mod LoopSteps
+pub mod LinkReads

@@ -1,0 +1,23 @@
+use Rattle.std.proofs.Common.{◌+◌, refl, drop}
+use Rattle.wanted_paths.specs.LineFaults.{part_faults, parts_faults}
+use Rattle.wanted_paths.specs.Taken.{taken_by, taken_by_all}
+use Rattle.wanted_paths.proofs.LoopSteps.{no_fault, added}
+use Rattle.wanted_paths.proofs.parts.taken_by.Goals as goal
+
+pub loop-part-preserved : goal.loop-part-preserved
+loop-part-preserved c =
+    let d = c.args.names.now in
+    let g = c.args.graph.now in
+    let line = c.args.line in
+    let parts = c.args.parts.now in
+    let i = c.loop-part.part-index in
+    let part = c.part-item.result in
+    let within = c.loop-part-test.true in
+    let is = c.part-item.is in record {
+      faults =
+          no_fault (parts_faults d line) parts i part (part_faults d line part) (parts_faults d line parts) (parts_faults d line (drop (i + 1) parts)) within is refl
+          c.in_ok-push_part.ensures.made c.loop-part.invariant.faults;
+      taken =
+          added (taken_by_all d g) parts i part c.loop-part.taken.items (taken_by d g part) c.push_part.new.taken.items (taken_by_all d g parts)
+          (taken_by_all d g (drop (i + 1) parts)) within is refl c.in_ok-push_part.ensures.taken c.loop-part.invariant.taken;
+    }
