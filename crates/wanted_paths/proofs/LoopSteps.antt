@@ -1,6 +1,6 @@
 -- A loop over a list, one item further: what is left of the faults, and what is made.
-use Rattle.std.proofs.Common.{◌≡◌, ◌∙◌, ℕ, ◌+◌, ◌-◌, ◌<◌, ◌++◌, ap, sym, refl, subst, Bool, true, false, List, [], ◌∷◌, length, get_or, drop, take, map, append_assoc}
-use Rattle.std.proofs.lemmas.List.{at_drop_more, map-append, take_more, take_rest}
+use Rattle.std.proofs.Common.{◌≡◌, ◌∙◌, ℕ, ◌+◌, ◌-◌, ◌<◌, ◌≤◌, ◌++◌, ap, sym, refl, subst, Bool, true, false, List, [], ◌∷◌, length, get_or, drop, take, map, append_assoc}
+use Rattle.std.proofs.lemmas.List.{append-nil, at_drop_more, at_drop_all, map-append, take_more, take_rest}
 use Rattle.std.specs.Prelude.{Option, Some, None, option_to_list, slice_get, if◌then◌else◌}
 use Rattle.std.specs.List.{filter_map, cons_option}
 use Rattle.cost_base.specs.Lists.{first_of}
@@ -107,3 +107,19 @@ pub hop_known : (d : Database) (line : ℕ) (router interface first second : Lis
     interface_faults d line first second ≡ [] → interface_faults d line router interface ≡ []
 hop_known d line router interface first second one two none =
     sym (ap (λ (name : List ℕ). interface_faults d line name second) one ∙ ap (interface_faults d line router) two) ∙ none
+
+-- where the loop has ended, there was no fault at all
+pub none_at_all : {X A : Type 0} → (F : List X → List A) (xs : List X) (i : ℕ) → F [] ≡ [] → length xs ≤ i → F (drop i xs) ≡ F xs → F xs ≡ []
+none_at_all {X} {A} F xs i none done left = sym left ∙ at_drop_all F xs i done ∙ none
+
+-- and all is made
+pub all_made : {X A : Type 0} → (F : List X → List A) (xs : List X) (i : ℕ) (made : List A) → F [] ≡ [] → length xs ≤ i → made ++ F (drop i xs) ≡ F xs → made ≡ F xs
+all_made {X} {A} F xs i made none done so_far =
+    sym (append-nil made) ∙ ap (λ (ys : List A). made ++ ys) (sym (at_drop_all F xs i done ∙ none)) ∙ so_far
+
+-- two lists were added one after the other
+pub two_added : (before between now one two first second : List ℕ) → now ≡ between ++ two → between ≡ before ++ one → one ≡ first → two ≡ second →
+    now ≡ before ++ (first ++ second)
+two_added before between now one two first second is was one_is two_is =
+    is ∙ ap (λ (ys : List ℕ). ys ++ two) was ∙ append_assoc before one two ∙ ap (λ (ys : List ℕ). before ++ (ys ++ two)) one_is
+    ∙ ap (λ (ys : List ℕ). before ++ (first ++ ys)) two_is

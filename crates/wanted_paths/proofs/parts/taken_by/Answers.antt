@@ -1,7 +1,7 @@
 use Rattle.std.proofs.Common.{◌+◌, refl, drop}
 use Rattle.wanted_paths.specs.LineFaults.{part_faults, parts_faults}
 use Rattle.wanted_paths.specs.Taken.{taken_by, taken_by_all}
-use Rattle.wanted_paths.proofs.LoopSteps.{no_fault, added}
+use Rattle.wanted_paths.proofs.LoopSteps.{no_fault, added, none_at_all, all_made}
 use Rattle.wanted_paths.proofs.parts.taken_by.Goals as goal
 
 pub loop-part-preserved : goal.loop-part-preserved
@@ -21,3 +21,12 @@ loop-part-preserved c =
           added (taken_by_all d g) parts i part c.loop-part.taken.items (taken_by d g part) c.push_part.new.taken.items (taken_by_all d g parts)
           (taken_by_all d g (drop (i + 1) parts)) within is refl c.in_ok-push_part.ensures.taken c.loop-part.invariant.taken;
     }
+
+pub returns-clause-made : goal.returns-clause-made
+returns-clause-made c =
+    let d = c.args.names.now in
+    let parts = c.args.parts.now in
+    let i = c.loop-part.part-index in (
+      none_at_all (parts_faults d c.args.line) parts i refl c.loop-part-test.false c.loop-part.invariant.faults,
+      all_made (taken_by_all d c.args.graph.now) parts i c.loop-part.taken.items refl c.loop-part-test.false c.loop-part.invariant.taken,
+    )
