@@ -87,6 +87,7 @@ fn made(
     ensures refused { IfErr result (λ r. (fault : Option Fault) → TellsConfigFault fault r) }
 {
     let Drafts { names, drafts } = drafts;
+    // For the prover alone: a call drops them, so that their parts' drops aren't written out at each exit.
     drop(names);
     let interfaces = finish(alloc, drafts, networks)?;
     assemble(alloc, name, router_id(said), interfaces)
@@ -112,6 +113,7 @@ fn checked<'a>(
 {
     let name = router_name(parts.hostname, file_name.as_bytes());
     if let Some(fault) = first_fault(parts, networks, &drafts, name) {
+        // For the prover alone: a call drops them, so that their parts' drops aren't written out at each exit.
         drop(drafts);
         return Err(Refusal::Refused {
             fault: fault.fault,

@@ -67,6 +67,7 @@ impl FormPool {
     pub fn truncate(&mut self, count: usize)
         ensures { self.new ≡ take count self.old }
     {
+        // For the prover alone: a call drops the tableau, so that its parts' drops aren't written out at each exit.
         drop(self.table.take());
         self.forms.truncate(count);
     }
@@ -84,6 +85,7 @@ impl FormPool {
         requires { IsHeld table.top table.variables self.old table }
         ensures { self.new ≡ self.old }
     {
+        // For the prover alone: a call drops the tableau, so that its parts' drops aren't written out at each exit.
         drop(self.table.replace(table));
     }
 

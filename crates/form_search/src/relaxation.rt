@@ -149,6 +149,7 @@ fn relax_with<S: RowSource>(
             Ok(relaxed)
         }
         Err(error) => {
+            // For the prover alone: a call drops the tableau, so that its parts' drops aren't written out at each exit.
             drop(table);
             Err(error)
         }

@@ -70,6 +70,7 @@ fn moved_there(
     if table.moves_to(costs, top) {
         return Ok(table);
     }
+    // For the prover alone: a call drops the tableau, so that its parts' drops aren't written out at each exit.
     drop(table);
     started(alloc, costs, top)
 }
