@@ -1,6 +1,7 @@
 //! What is answered to a line of a script.
 
 use crate::advisors::choose_text;
+use crate::covers::cover_text;
 use crate::fractions::fraction_text;
 use crate::jobs::{job_text, made_text};
 use crate::numbers::number_text;
@@ -29,7 +30,7 @@ fn outside_text(
     }
 }
 
-/// What is answered to a line that asks of numbers, commands, made cases or advisors, shelves or sinks.
+/// What is answered to a line that asks of numbers, covers, commands, made cases or advisors, shelves or sinks.
 fn part_text(
     rt: &(impl Files + AllocGlobal),
     first: &str,
@@ -40,6 +41,7 @@ fn part_text(
         "at" => fraction_text(alloc, rest),
         "over" => over_text(alloc, rest),
         "cut" => cut_text(alloc, rest),
+        "cover" => cover_text(alloc, rest),
         "job" => job_text(alloc, rest),
         "made" => made_text(alloc, rest),
         "choose" => choose_text(alloc, rest),
