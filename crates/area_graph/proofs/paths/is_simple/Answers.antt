@@ -7,3 +7,6 @@ pub has_none_twice-requires : goal.has_none_twice-requires
 has_none_twice-requires c =
     let joins : Joins c.args.graph.now c.args.path.now.start c.as_slice-edges.result.now c.args.end = search rules in
     joined_known c.args.graph.now c.args.path.now.start c.as_slice-edges.result.now c.args.end joins
+
+pub returns-then-path-vertices : goal.returns-then-path-vertices
+returns-then-path-vertices c = search rules

@@ -1,5 +1,5 @@
 -- The row is crossed with the quotients, and gets its new entry at the pivot's column.
-use Rattle.std.proofs.Common.{◌≡◌, Err, suc, ◌∙◌, ap, sym, subst, List}
+use Rattle.std.proofs.Common.{rules, ◌≡◌, Err, suc, ◌∙◌, ap, sym, subst, List}
 use Rattle.std.specs.Prelude.{IsTrue}
 use Rattle.std.proofs.lemmas.Bool.{false≢true}
 use Rattle.std.proofs.lemmas.Result.{err_from_is_err_and}
@@ -75,3 +75,6 @@ returns-clause-numbers c =
     c.in_ok-entered.ensures.within in
     subst (AreTableNumbers c.args.top) (sym (c.swap.ensures.x_after ∙ c.replace.ensures))
     (written_numbers c.args.top c.cross.new.into (suc c.args.pivot.now.column) c.in_ok-entered.entered c.in_ok-cross.ensures.numbers entered_is)
+
+pub returns-then-is_zero-clause-turned : goal.returns-then-is_zero-clause-turned
+returns-then-is_zero-clause-turned c = search rules

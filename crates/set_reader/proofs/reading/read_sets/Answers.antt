@@ -1,3 +1,4 @@
+use Rattle.std.proofs.Common.{rules}
 use Rattle.std.proofs.lemmas.Result.{err_from_is_err_and}
 use Rattle.set_reader.proofs.FileLaws.{read_more, read_refused}
 use Rattle.set_reader.proofs.reading.read_sets.Goals as goal
@@ -17,3 +18,6 @@ returns-in_err-read_line-in-Ok-clause-refused c =
     c.in-Ok.line c.in_err-read_line-in-Ok.field-0.0 c.loop-line.invariant
     (rw c.in-Ok.is at c.in-Some.ensures.line)
     c.in_err-read_line-in-Ok.ensures.refused)
+
+pub returns-in-Err-clause-refused : goal.returns-in-Err-clause-refused
+returns-in-Err-clause-refused c = search rules

@@ -1,4 +1,4 @@
-use Rattle.std.proofs.Common.{arith, length}
+use Rattle.std.proofs.Common.{rules, arith, length}
 use Rattle.design_problem.specs.Problems.{request_ends}
 use Rattle.set_separation.proofs.DepartureLemmas.{place_below}
 use Rattle.set_separation.proofs.departure.departure.Goals as goal
@@ -15,3 +15,6 @@ overflow_add-result c =
 
 pub returns-in-None : goal.returns-in-None
 returns-in-None c = λ total departs. c.in-None.ensures.onward departs.rest departs.onward
+
+pub returns-in-Some : goal.returns-in-Some
+returns-in-Some c = search rules
