@@ -135,3 +135,18 @@ second_next box lows highs popped more var value was low highs_are lows_are e ol
     λ i. record { low = sym lows_are i; high = sym highs_are i } in
     ap (λ (bs : List CostBox). with_low first var (value + 1) ∷ bs) (sym (low_pushed first popped more var (value + 1) low e old))
     ∙ ap (λ (b : CostBox). b ∷ waiting b (reverse more)) same
+
+-- an end that is put back: the boxes that wait stay the same
+pub low_popped : (box : CostBox) (lows : List ℕ) (popped changes : List Change) (change : Change) (var was : ℕ) →
+    changes ≡ popped ++ change ∷ [] → change ≡ Low var was → lows ≡ slice_set box.low var was →
+    waiting (record { low = lows; high = box.high }) (reverse popped) ≡ waiting box (reverse changes)
+low_popped box lows popped changes change var was e is written =
+    ap (λ (ls : List ℕ). waiting (record { low = ls; high = box.high }) (reverse popped)) written
+    ∙ sym (waiting_pushed box popped changes change e ∙ ap (λ (c : Change). waiting box (c ∷ reverse popped)) is)
+
+pub high_popped : (box : CostBox) (highs : List ℕ) (popped changes : List Change) (change : Change) (var was : ℕ) →
+    changes ≡ popped ++ change ∷ [] → change ≡ High var was → highs ≡ slice_set box.high var was →
+    waiting (record { low = box.low; high = highs }) (reverse popped) ≡ waiting box (reverse changes)
+high_popped box highs popped changes change var was e is written =
+    ap (λ (hs : List ℕ). waiting (record { low = box.low; high = hs }) (reverse popped)) written
+    ∙ sym (waiting_pushed box popped changes change e ∙ ap (λ (c : Change). waiting box (c ∷ reverse popped)) is)

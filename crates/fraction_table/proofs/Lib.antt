@@ -23,6 +23,7 @@ pub mod MultiplierRows
 pub mod MultiplierSteps
 pub mod WholeParts
 pub mod Refuting
+pub mod CornerTerms
 pub mod RowLines
 pub mod RowFills
 pub mod RowAdds

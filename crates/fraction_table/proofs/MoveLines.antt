@@ -1,18 +1,23 @@
 -- Lines whose constants are put anew.
 use Rattle.std.proofs.Common.{◌≡◌, ℕ, suc, ◌*◌, ◌<◌, refl, sym, ◌∙◌, ap, subst, List, [], ◌∷◌, length, arith}
-use Rattle.std.specs.Prelude.{pos, ◌*ℤ◌, Option, None, Some, IfSome, slice_index_or, slice_set}
-use Rattle.std.proofs.lemmas.List.{length-set}
+use Rattle.std.specs.Prelude.{pos, ◌*ℤ◌, Option, None, Some, IfSome, IfErr, OnOk, Result, map, slice_index_or, slice_set}
+use Rattle.std.proofs.Common.{Ok, Err}
+use Rattle.std.proofs.lemmas.List.{get_or_default, length-set}
+use Rattle.std.proofs.lemmas.Result.{on_ok_weaker}
 use lib.IntN.{+ℤ_idr}
-use Rattle.whole_numbers.specs.Fractions.{Fraction, IsLowest, StandsFor, plus, times}
+use Rattle.cost_base.specs.declared.StepName.TheVariants.{Sub}
+use Rattle.whole_numbers.specs.Fractions.{Fraction, IsLowest, StandsFor, minus, plus, times}
 use Rattle.whole_numbers.proofs.Sums.{lowest_unique}
 use Rattle.whole_numbers.proofs.FractionLaws.{product_positive, reduced_lowest}
 use Rattle.whole_numbers.proofs.Multiples.{plus_stands_over}
 use Rattle.wide_fraction.specs.Widths.{IsWithin}
+use Rattle.wide_fraction.specs.declared.steps.Wide.{Wide}
 use Rattle.design_problem.specs.Basis.{entry}
 use Rattle.fraction_rows.specs.TableRows.{AreTableNumbers, IsTableNumber, nothing}
+use Rattle.fraction_rows.specs.Entries.{IsPassing}
 use Rattle.fraction_rows.specs.Turns.{AreTableRows}
 use Rattle.design_problem.specs.declared.tree.Member.{Member}
-use Rattle.fraction_table.specs.Moves.{IsColumnOf, put_at, raised_line}
+use Rattle.fraction_table.specs.Moves.{IsColumnOf, ShiftsWide, put_at, raised_line, shifted_lines}
 use Rattle.fraction_rows.proofs.ZeroFractions.{lowest_zero, nothing_number, nothing_times, times_lowest}
 use Rattle.fraction_rows.proofs.RowLaws.{number_at, rows_at, rows_set, written_numbers}
 
@@ -82,6 +87,41 @@ zeroed top count lines own d now value rows own_in value_is now_is =
     none_put : (line : List Fraction) → AreTableNumbers top line → AreTableNumbers top (slice_set line 0 nothing)
     none_put [] numbers = tt
     none_put (q ∷ line) numbers = (nothing_number top q numbers.0, numbers.1)
+
+-- the form's own constant falls
+pub lowered_shift : {T E : Type 0} (r : Result T E) (column : Option ℕ) (own : ℕ) (fall : Fraction) (lines : List (List Fraction))
+    (d now : List Fraction) → column ≡ None → own < length lines →
+    OnOk r (now ≡ slice_set (slice_index_or lines own d) 0 (minus (entry (slice_index_or lines own d) 0) fall)) →
+    OnOk r (slice_set lines own now ≡ shifted_lines column own fall lines)
+lowered_shift r column own fall lines d now none own_in lowered =
+    on_ok_weaker r (λ now_is.
+    ap (λ (line : List Fraction). slice_set lines own line) now_is
+    ∙ ap (λ (line : List Fraction). slice_set lines own (slice_set line 0 (minus (entry line 0) fall))) (get_or_default lines own d [] own_in)
+    ∙ ap (λ (o : Option ℕ). shifted_lines o own fall lines) (sym none)) lowered
+
+-- the difference that is too wide
+abbrev difference : Fraction → Fraction → Wide
+difference constant fall = record { step = Sub; left = constant; right = fall }
+
+pub lowered_wide : {T : Type 0} (r : Result T Wide) (top : ℕ) (column : Option ℕ) (own : ℕ) (fall : Fraction)
+    (lines : List (List Fraction)) (d : List Fraction) → column ≡ None → own < length lines →
+    IfErr r (λ wide. wide ≡ record { step = Sub; left = entry (slice_index_or lines own d) 0; right = fall }) →
+    IfErr r (λ wide. IsPassing top wide) → IfErr r (λ wide. ShiftsWide top column own fall lines wide)
+lowered_wide (Ok x) top column own fall lines d none own_in named passes = tt
+lowered_wide (Err wide) top column own fall lines d none own_in named passes =
+    let same = ap (λ (line : List Fraction). difference (entry line 0) fall) (get_or_default lines own d [] own_in) in
+    subst (λ (o : Option ℕ). ShiftsWide top o own fall lines wide) (sym none) (named ∙ same, passes)
+
+-- the other constants rise, and the own one is 0
+pub raised_shift : (column : Option ℕ) (k own : ℕ) (fall value : Fraction) (lines raised : List (List Fraction))
+    (d now : List Fraction) → column ≡ Some k → own < length raised → raised ≡ map (raised_line k fall) lines → value ≡ nothing →
+    now ≡ slice_set (slice_index_or raised own d) 0 value → slice_set raised own now ≡ shifted_lines column own fall lines
+raised_shift column k own fall value lines raised d now column_is own_in raised_is value_is now_is =
+    ap (λ (line : List Fraction). slice_set raised own line) (now_is
+    ∙ ap (λ (q : Fraction). slice_set (slice_index_or raised own d) 0 q) value_is
+    ∙ ap (λ (line : List Fraction). slice_set line 0 nothing) (get_or_default raised own d [] own_in))
+    ∙ ap (λ (ls : List (List Fraction)). slice_set ls own (slice_set (slice_index_or ls own []) 0 nothing)) raised_is
+    ∙ ap (λ (o : Option ℕ). shifted_lines o own fall lines) (sym column_is)
 
 -- the column of a member is one of the basis
 pub column_there : (basis : List Member) (member : Member) (column : Option ℕ) → IsColumnOf basis member column → IfSome column (λ k. k < length basis)

@@ -1,6 +1,6 @@
 -- Words that are cut at a byte, and the words of a route, one after another.
 use Rattle.std.specs.Prelude.{◌==◌, MatchOption, IfSome, is_none, is_some, not}
-use Rattle.std.proofs.Common.{◌≡◌, ◌≢◌, ℕ, refl, sym, ◌∙◌, ap, List, [], ◌∷◌, ◌++◌, length, Bool, true, false, cond, eqb, Option, Some, None, append_assoc, append-nil, eq-eqb, arith}
+use Rattle.std.proofs.Common.{◌≡◌, ◌≢◌, ◌<◌, ℕ, refl, sym, ◌∙◌, ap, List, [], ◌∷◌, ◌++◌, length, Bool, true, false, cond, eqb, Option, Some, None, append_assoc, append-nil, eq-eqb, arith}
 use Rattle.std.proofs.lemmas.Bool.{eqb-true}
 use Rattle.text_lines.specs.Lines.{grow}
 use Rattle.text_lines.specs.Numbers.{split}
@@ -123,6 +123,10 @@ pub route_off : (all : List (List ℕ)) (word next : List ℕ) (left rest : List
 route_off all word next left rest hops to is off =
     sym (to.same ∙ ap (λ (ws : List (List ℕ)). with_hops hops (route_of (word ∷ ws))) is
     ∙ ap (λ (o : Option (List ℕ × List ℕ)). with_hops hops (with_hop o (route_of (next ∷ rest)))) (sym off))
+
+-- the words behind the next one are fewer
+pub rest_shorter : (next : List ℕ) (left rest : List (List ℕ)) → left ≡ next ∷ rest → length rest < length left
+rest_shorter next left rest is = omega (arith, ap length is)
 
 -- the last word has no `:`
 pub route_done : (all : List (List ℕ)) (word last : List ℕ) (left : List (List ℕ)) (hops : List (List ℕ × List ℕ))

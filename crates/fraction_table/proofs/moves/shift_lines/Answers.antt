@@ -1,7 +1,9 @@
 -- The lines stay numbers of the table.
-use Rattle.std.proofs.Common.{◌∙◌, arith}
+use Rattle.std.proofs.Common.{ℕ, ◌∙◌, Option, subst, sym, arith}
+use Rattle.std.proofs.lemmas.Result.{err_from_is_err_and}
+use Rattle.fraction_table.specs.Moves.{ShiftsWide}
 use Rattle.fraction_rows.proofs.RowLaws.{rows_at, rows_set}
-use Rattle.fraction_table.proofs.MoveLines.{zeroed}
+use Rattle.fraction_table.proofs.MoveLines.{lowered_shift, lowered_wide, raised_shift, zeroed}
 use Rattle.fraction_table.proofs.moves.shift_lines.Goals as goal
 
 pub lower_constant-requires-clause-some : goal.lower_constant-requires-clause-some
@@ -25,3 +27,31 @@ returns-in_ok-raise_constants-in-Some-clause-numbers c count rows =
     let raised = c.raise_constants.ensures.numbers count rows in
     zeroed c.args.top count c.raise_constants.new.lines c.args.own c.index-lines-own-in-Some.result c.set_constant.new.self c.whole.result raised
     (omega (arith, c.raise_constants.ensures.count, c.requires.own)) c.whole.ensures c.set_constant.ensures
+
+pub returns-in-None-clause-shifted : goal.returns-in-None-clause-shifted
+returns-in-None-clause-shifted c =
+    lowered_shift c.lower_constant.result c.args.column c.args.own c.args.fall c.args.lines.now c.index-lines-own.result
+    c.lower_constant.new.line c.in-None.is c.requires.own c.lower_constant.ensures.lowered
+
+pub returns-in-None-clause-wide : goal.returns-in-None-clause-wide
+returns-in-None-clause-wide c =
+    lowered_wide c.lower_constant.result c.args.top c.args.column c.args.own c.args.fall c.args.lines.now
+    c.index-lines-own.result c.in-None.is c.requires.own c.lower_constant.ensures.named c.lower_constant.ensures.passes
+
+pub returns-in_ok-raise_constants-in-Some-clause-shifted : goal.returns-in_ok-raise_constants-in-Some-clause-shifted
+returns-in_ok-raise_constants-in-Some-clause-shifted c =
+    raised_shift c.args.column c.in-Some.column c.args.own c.args.fall c.whole.result c.args.lines.now c.raise_constants.new.lines
+    c.index-lines-own-in-Some.result c.set_constant.new.self c.in-Some.is
+    (omega (arith, c.raise_constants.ensures.count, c.requires.own)) c.in_ok-raise_constants-in-Some.ensures.raised
+    c.whole.ensures c.set_constant.ensures
+
+pub returns-in_err-raise_constants-in-Some-clause-wide : goal.returns-in_err-raise_constants-in-Some-clause-wide
+returns-in_err-raise_constants-in-Some-clause-wide c =
+    let p = err_from_is_err_and c.from_residual.result c.from_residual.ensures.1 in
+    let wide = c.in_err-raise_constants-in-Some.field-0.0 in
+    rw (p.1, p.2)
+    (subst (λ (o : Option ℕ). ShiftsWide c.args.top o c.args.own c.args.fall c.args.lines.now wide) (sym c.in-Some.is)
+    c.in_err-raise_constants-in-Some.ensures.wide)
+
+pub returns-in_err-raise_constants-in-Some-clause-numbers : goal.returns-in_err-raise_constants-in-Some-clause-numbers
+returns-in_err-raise_constants-in-Some-clause-numbers c = c.raise_constants.ensures.numbers
