@@ -1,6 +1,7 @@
 pub mod Choices
 pub mod Sizes
 pub mod SumLaws
+pub mod Greatest
 pub mod PartLaws
 pub mod LineLaws
 pub mod WalkLaws

@@ -54,6 +54,31 @@ negative_is (negsuc c) r l h negative fits e low size =
     ∙ ap (λ (z : ℤ). negsuc c *ℤ z) (to_z-of_z w128 (pos l) small) in
     ap (λ (z : ℤ). to_z w128 (of_z w128 z)) product ∙ to_z-of_z w128 (negsuc c *ℤ pos l) (negative_size c l low size)
 
+-- the term of another coefficient, as it is computed
+pub positive_is : (c r : ℤ) (l h : ℕ) → (c <ℤ pos 0 → ⊥) → SFits w128 c → r ≡ pos h → h ≤ 65535 →
+    nat_abs c * 65535 < 2 ^ 127 → (to_z w128 (of_z w128 c) *ℤ to_z w128 (of_z w128 r)) ≡ upper_term c l h
+positive_is (negsuc c) r l h other fits e high size = absurd (other (omega (arith, ints)))
+positive_is (pos c) r l h other fits e high size =
+    let small : SFits w128 (pos h) = fits_size (pos h) (omega (arith, ints)) in
+    ap (λ (z : ℤ). z *ℤ to_z w128 (of_z w128 r)) (to_z-of_z w128 (pos c) fits)
+    ∙ ap (λ (z : ℤ). pos c *ℤ to_z w128 (of_z w128 z)) e
+    ∙ ap (λ (z : ℤ). pos c *ℤ z) (to_z-of_z w128 (pos h) small)
+
+-- a term fits, with the product that it is
+pub term_fits : (c : ℤ) (l h : ℕ) → l ≤ 65535 → h ≤ 65535 → nat_abs c * 65535 < 2 ^ 127 → SFits w128 (upper_term c l h)
+term_fits c l h low high size = fits_size (upper_term c l h) (omega (arith, upper_size c l h low high, size))
+
+pub positive_fits : (c r : ℤ) (l h : ℕ) → (c <ℤ pos 0 → ⊥) → SFits w128 c → r ≡ pos h → l ≤ 65535 → h ≤ 65535 →
+    nat_abs c * 65535 < 2 ^ 127 → SFits w128 (to_z w128 (of_z w128 c) *ℤ to_z w128 (of_z w128 r))
+positive_fits c r l h other fits e low high size =
+    subst (λ (z : ℤ). SFits w128 z) (sym (positive_is c r l h other fits e high size)) (term_fits c l h low high size)
+
+-- and the term as it is read
+pub positive_read : (c r : ℤ) (l h : ℕ) → (c <ℤ pos 0 → ⊥) → SFits w128 c → r ≡ pos h → l ≤ 65535 → h ≤ 65535 →
+    nat_abs c * 65535 < 2 ^ 127 → to_z w128 (of_z w128 (to_z w128 (of_z w128 c) *ℤ to_z w128 (of_z w128 r))) ≡ upper_term c l h
+positive_read c r l h other fits e low high size =
+    ap (λ (z : ℤ). to_z w128 (of_z w128 z)) (positive_is c r l h other fits e high size) ∙ to_z-of_z w128 (upper_term c l h) (term_fits c l h low high size)
+
 -- whether a number that was computed is negative
 below_zero : (z : ℤ) → IsTrue (lt_z z (pos 0)) → z <ℤ pos 0
 below_zero z h = grind (arith, ints)

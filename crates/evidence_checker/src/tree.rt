@@ -61,6 +61,35 @@ fn fault_at(
     line_fault(forms, costs, sums, entry)
 }
 
+/// Whether the lines of a tree are sound over the one open box, and close it: they are tested in order. The sums are room
+/// for a number for each variable.
+fn check_lines(
+    forms: &[Form],
+    boxes: &mut OpenBoxes,
+    sums: &mut Vec<i128>,
+    entries: &[Entry],
+) -> Result<(), Refusal<CheckFault, u64>>
+    requires alone { boxes.old.behind ≡ [] }
+    requires sums { length sums.old.items ≡ length boxes.old.present.low }
+    requires forms { All (IsSmallForm (length boxes.old.present.low)) forms.now }
+    requires whole { IsSingleTree entries.now }
+    ensures sound { IfOk result (λ _. IsSoundTree forms.now boxes.old.present entries.now ×
+        IsClosed entries.now) }
+    ensures first { IfErr result
+        (StopsBy (AtFirstLine forms.now (boxes.old.present ∷ []) 0 entries.now ∷ [])) }
+{
+    for (line, entry) in entries.iter().enumerate() {
+        if let Some(fault) = fault_at(forms, boxes.present(), sums, entry) {
+            let place = line as u64;
+            return Err(Refusal::Refused { fault, place });
+        }
+        if !go_on(boxes, entry)? {
+            return Ok(());
+        }
+    }
+    Ok(())
+}
+
 /// Whether a tree is closed and sound over a box: its lines are tested in order with one box and a stack of the ends
 /// that were changed, so it recurses on no depth and copies no box.
 pub(crate) fn check_tree(
@@ -78,16 +107,7 @@ pub(crate) fn check_tree(
 {
     let mut sums = room_for_sums(alloc, costs.low.as_slice().len())?;
     let mut boxes = OpenBoxes::new(alloc, costs);
-    for (line, entry) in entries.iter().enumerate() {
-        if let Some(fault) = fault_at(forms, boxes.present(), &mut sums, entry) {
-            let place = line as u64;
-            return Err(Refusal::Refused { fault, place });
-        }
-        if !go_on(&mut boxes, entry)? {
-            return Ok(());
-        }
-    }
-    Ok(())
+    check_lines(forms, &mut boxes, &mut sums, entries)
 }
 
 /// Whether a tree is closed and sound over the box at its cap.

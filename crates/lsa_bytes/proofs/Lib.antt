@@ -12,3 +12,4 @@ pub mod Spots
 pub mod GraphFits
 pub mod RoundTrip
 pub mod EdgeSteps
+pub mod LoopSteps

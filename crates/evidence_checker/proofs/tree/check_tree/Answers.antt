@@ -1,97 +1,31 @@
-use Rattle.std.proofs.Common.{◌≡◌, ℕ, ◌+◌, sym, ◌∙◌, ap, subst, List, ◌∷◌, [], length, drop, get_or, inl, refl, arith}
-use Rattle.std.specs.Prelude.{false}
-use Rattle.std.proofs.lemmas.List.Elements.{All-cons, All-nil}
-use Rattle.cost_base.specs.Order.{FirstOf}
+use Rattle.std.proofs.Common.{◌∙◌, refl, sym, ap, subst, length}
+use Rattle.std.specs.Prelude.{IfOk, All}
 use Rattle.design_problem.specs.Forms.{IsSmallForm}
 use Rattle.design_problem.specs.Stack.{OpenBoxes}
-use Rattle.design_problem.specs.declared.form.CostBox.{CostBox}
-use Rattle.design_problem.specs.declared.tree.Entry.{Entry}
-use Rattle.design_problem.specs.Trees.{SoundAt, is_undone}
-use Rattle.evidence_checker.specs.Numbers.{check_fault_number}
-use Rattle.evidence_checker.specs.Tests.{line_tests}
-use Rattle.evidence_checker.proofs.Choices.{when_true, when_false}
-use Rattle.evidence_checker.proofs.WalkLaws.{HaveEnds, Walks, line_read, next_have_ends, walk_begins, walk_ends, walk_goes_on, walk_stops}
-use Rattle.evidence_checker.proofs.tree.check_tree.Goals.{After-index-entries-line}
+use Rattle.design_problem.specs.Trees.{IsSoundTree, IsClosed}
+use Rattle.evidence_checker.proofs.WalkLaws.{stop_moved}
 use Rattle.evidence_checker.proofs.tree.check_tree.Goals as goal
 
-pub loop-line-init : goal.loop-line-init
-loop-line-init c =
-    let costs = c.args.costs in
-    record {
-      walks = subst (λ (b : OpenBoxes). Walks c.args.forms.now (costs ∷ []) c.args.entries.now b.present b.behind 0
-          c.args.entries.now) (sym c.new-boxes.ensures)
-          (walk_begins c.args.forms.now costs c.args.entries.now c.requires.whole);
-      ends = subst (λ (b : OpenBoxes). HaveEnds (length costs.low) (b.present ∷ b.behind)) (sym c.new-boxes.ensures)
-          (All-cons (λ (b : CostBox). length b.low ≡ length costs.low) costs [] refl
-          (All-nil (λ (b : CostBox). length b.low ≡ length costs.low)));
-      sums = c.in_ok-sums.ensures ∙ ap length c.as_slice.ensures;
-    }
+pub check_lines-requires-clause-alone : goal.check_lines-requires-clause-alone
+check_lines-requires-clause-alone c = ap (λ (b : OpenBoxes). b.behind) c.new-boxes.ensures
 
--- the present box has a lower end for each of n variables
-first_ends : (n : ℕ) (box : CostBox) (boxes : List CostBox) → HaveEnds n (box ∷ boxes) → length box.low ≡ n
-first_ends n box boxes have = have 0 box (omega arith)
+pub check_lines-requires-clause-sums : goal.check_lines-requires-clause-sums
+check_lines-requires-clause-sums c =
+    c.in_ok-sums.ensures ∙ ap length c.as_slice.ensures ∙ sym (ap (λ (b : OpenBoxes). length b.present.low) c.new-boxes.ensures)
 
-pub fault_at-requires-clause-low : goal.fault_at-requires-clause-low
-fault_at-requires-clause-low c =
-    c.loop-line.invariant.sums ∙ sym (ap (λ (b : CostBox). length b.low) c.present.ensures.present
-    ∙ first_ends (length c.args.costs.low) c.loop-line.boxes.present c.loop-line.boxes.behind
-    c.loop-line.invariant.ends)
+pub check_lines-requires-clause-forms : goal.check_lines-requires-clause-forms
+check_lines-requires-clause-forms c =
+    subst (λ (b : OpenBoxes). All (IsSmallForm (length b.present.low)) c.args.forms.now) (sym c.new-boxes.ensures) c.requires.forms
 
-pub fault_at-requires-clause-high : goal.fault_at-requires-clause-high
-fault_at-requires-clause-high c =
-    fault_at-requires-clause-low c ∙ c.present.ensures.counts
+pub check_lines-requires-clause-whole : goal.check_lines-requires-clause-whole
+check_lines-requires-clause-whole c = c.requires.whole
 
-pub fault_at-requires-clause-forms : goal.fault_at-requires-clause-forms
-fault_at-requires-clause-forms c k d k_in =
-    subst (λ (m : ℕ). IsSmallForm m (get_or c.args.forms.now k d)) (sym c.loop-line.invariant.sums) (c.requires.forms k d k_in)
+pub returns-clause-sound : goal.returns-clause-sound
+returns-clause-sound c =
+    subst (λ (b : OpenBoxes). IfOk c.check_lines.result (λ _. IsSoundTree c.args.forms.now b.present c.args.entries.now × IsClosed c.args.entries.now))
+    c.new-boxes.ensures c.check_lines.ensures.sound
 
-pub go_on-requires : goal.go_on-requires
-go_on-requires c = (
-  c.args.forms.now,
-  subst (λ (box : CostBox). SoundAt c.args.forms.now box c.index-entries-line.result)
-      c.present.ensures.present c.in_default.ensures.first.0,
-)
-
--- what is left of the walk, with the line that was read before those after it
-walks_here : (c : After-index-entries-line) →
-    Walks c.args.forms.now (c.args.costs ∷ []) c.args.entries.now c.loop-line.boxes.present c.loop-line.boxes.behind
-    c.loop-line.line (c.index-entries-line.result ∷ drop (c.loop-line.line + 1) c.args.entries.now)
-walks_here c =
-    subst (λ (es : List Entry). Walks c.args.forms.now (c.args.costs ∷ []) c.args.entries.now c.loop-line.boxes.present
-    c.loop-line.boxes.behind c.loop-line.line es)
-    (line_read c.args.entries.now c.loop-line.line c.index-entries-line.result c.loop-line-test.true c.index-entries-line.is) c.loop-line.invariant.walks
-
-pub returns-in-Some-clause-first : goal.returns-in-Some-clause-first
-returns-in-Some-clause-first c =
-    let forms = c.args.forms.now in
-    let boxes = c.loop-line.boxes in
-    let entry = c.index-entries-line.result in
-    let walks = walks_here (goal.at.returns-in-Some-clause-first c).After-index-entries-line in
-    inl (walk_stops forms (c.args.costs ∷ []) c.args.entries.now boxes.present boxes.behind c.loop-line.line entry _ (check_fault_number c.in-Some.fault) walks
-    (subst (λ (box : CostBox). FirstOf (line_tests forms box entry) (check_fault_number c.in-Some.fault)) c.present.ensures.present c.in-Some.ensures.first))
-
-pub returns-then-not-branch-clause-sound : goal.returns-then-not-branch-clause-sound
-returns-then-not-branch-clause-sound c =
-    let forms = c.args.forms.now in
-    let boxes = c.loop-line.boxes in
-    let entry = c.index-entries-line.result in
-    let walks = walks_here (goal.at.returns-then-not-branch-clause-sound c).After-index-entries-line in
-    let here = subst (λ (box : CostBox). SoundAt forms box entry × (is_undone entry ≡ false)) c.present.ensures.present c.in_default.ensures.first in
-    walk_ends forms (c.args.costs ∷ []) c.args.entries.now boxes.present boxes.behind c.loop-line.line entry _ walks here.0 here.1
-    (when_false _ _ c.in_ok-go_on.field-0 c.if-not-branch.true c.in_ok-go_on.ensures)
-
-pub loop-line-preserved : goal.loop-line-preserved
-loop-line-preserved c =
-    let forms = c.args.forms.now in
-    let boxes = c.loop-line.boxes in
-    let entry = c.index-entries-line.result in
-    let walks = walks_here (goal.at.loop-line-preserved c).After-index-entries-line in
-    let here = subst (λ (box : CostBox). SoundAt forms box entry × (is_undone entry ≡ false)) c.present.ensures.present c.in_default.ensures.first in
-    let next = when_true _ _ c.in_ok-go_on.field-0 c.if-not-branch.false c.in_ok-go_on.ensures in
-    record {
-      walks = walk_goes_on forms (c.args.costs ∷ []) c.args.entries.now boxes.present boxes.behind c.loop-line.line
-          entry _ c.go_on.new.boxes.present c.go_on.new.boxes.behind walks here.0 here.1 next;
-      ends = next_have_ends (length c.args.costs.low) boxes.present boxes.behind entry c.go_on.new.boxes.present
-          c.go_on.new.boxes.behind c.loop-line.invariant.ends next;
-      sums = c.in_default.ensures.sums ∙ c.loop-line.invariant.sums;
-    }
+pub returns-clause-first : goal.returns-clause-first
+returns-clause-first c =
+    stop_moved c.check_lines.result c.args.forms.now c.new-boxes.result.present c.args.costs c.args.entries.now c.args.entries.now
+    (ap (λ (b : OpenBoxes). b.present) c.new-boxes.ensures) refl c.check_lines.ensures.first

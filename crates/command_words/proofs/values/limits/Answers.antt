@@ -1,0 +1,5 @@
+use Rattle.std.proofs.Common.{rules}
+use Rattle.command_words.proofs.values.limits.Goals as goal
+
+pub returns : goal.returns
+returns c = search rules
