@@ -108,7 +108,10 @@ fn report_of_present(
 {
     keeps_ceiling(&network.problem);
     let change = find_change(alloc, &network.problem, present, limits)?;
-    report_of_change(alloc, network, present, &change)
+    let report = report_of_change(alloc, network, present, &change);
+    // For the prover alone: a call drops the change, so that its parts' drops aren't written out at each exit.
+    drop(change);
+    report
 }
 
 /// The report of the changes of a network's present costs.
@@ -143,5 +146,8 @@ pub fn change_report<'a, S: Shelf>(
         (λ report d. MayChange (limits_seen limits.now) d report.status (bytes_in report.text)) result) }
 {
     let network = read_network(alloc, View::BesidePresent, words, shelf)?;
-    report_of_network(alloc, &network, limits)
+    let report = report_of_network(alloc, &network, limits);
+    // For the prover alone: a call drops the network, so that its parts' drops aren't written out at each exit.
+    drop(network);
+    report
 }

@@ -109,7 +109,10 @@ fn steps_of_moves(
         }) nodes) }
 {
     let graph = priced_by_links(alloc, &network.lsdb)?;
-    find_steps(alloc, &graph, paths_of(&network.problem), moves, nodes)
+    let steps = find_steps(alloc, &graph, paths_of(&network.problem), moves, nodes);
+    // For the prover alone: a call drops the graph, so that its parts' drops aren't written out at each exit.
+    drop(graph);
+    steps
 }
 
 /// The report of what was found of the steps of moves.
@@ -147,7 +150,10 @@ fn report_of_moves(
         })) }
 {
     let steps = steps_of_moves(alloc, network, moves, words.nodes)?;
-    report_of_steps(alloc, words.by, names, moves, &steps)
+    let report = report_of_steps(alloc, words.by, names, moves, &steps);
+    // For the prover alone: a call drops the steps, so that their parts' drops aren't written out at each exit.
+    drop(steps);
+    report
 }
 
 /// The report of the steps from the present costs to these wanted ones.
@@ -173,7 +179,10 @@ fn report_of_wanted(
     network.problem.keeps_conditions();
     let alloc = *present.allocator();
     let moves = moves_to(alloc, words.by, names, present, wanted)?;
-    report_of_moves(alloc, network, names, &moves, words)
+    let report = report_of_moves(alloc, network, names, &moves, words);
+    // For the prover alone: a call drops the moves, so that their parts' drops aren't written out at each exit.
+    drop(moves);
+    report
 }
 
 /// The report of the steps to the costs of lines, with the names of the area.
@@ -218,7 +227,10 @@ fn report_of_lines(
         report.status (bytes_in report.text)) }
 {
     let names = Names::new(alloc, &network.lsdb)?;
-    report_by_names(alloc, network, &names, lines, words)
+    let report = report_by_names(alloc, network, &names, lines, words);
+    // For the prover alone: a call drops the names, so that their parts' drops aren't written out at each exit.
+    drop(names);
+    report
 }
 
 /// The report of the steps to the costs of a text, where it has costs.
@@ -302,5 +314,8 @@ pub fn steps_report<'a, S: Shelf>(
         (bytes_in report.text)) result) }
 {
     let network = read_network(alloc, View::AtPresent, files, shelf)?;
-    report_by_file(alloc, &network, words, shelf)
+    let report = report_by_file(alloc, &network, words, shelf);
+    // For the prover alone: a call drops the network, so that its parts' drops aren't written out at each exit.
+    drop(network);
+    report
 }

@@ -114,5 +114,8 @@ pub fn compare_report<'a, S: Shelf>(
         (λ report said. MayCompare said report.status (bytes_in report.text)) result) }
 {
     let network = read_identified(alloc, words, shelf)?;
-    compare_live(alloc, &network, live, shelf)
+    let report = compare_live(alloc, &network, live, shelf);
+    // For the prover alone: a call drops the network, so that its parts' drops aren't written out at each exit.
+    drop(network);
+    report
 }

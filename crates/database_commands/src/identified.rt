@@ -53,6 +53,12 @@ pub fn read_identified<'a, S: Shelf>(
         result) }
 {
     let network = read_network(alloc, View::AtPresent, words, shelf)?;
-    check_router_ids(&network.configs, words)?;
-    Ok(network)
+    match check_router_ids(&network.configs, words) {
+        Ok(()) => Ok(network),
+        Err(stop) => {
+            // For the prover alone: a call drops the network, so that its parts' drops aren't written out at each exit.
+            drop(network);
+            Err(stop)
+        }
+    }
 }

@@ -56,5 +56,8 @@ pub fn lsas_report<'a, S: Shelf>(
         MayLsas d report.status (bytes_in report.text)) result) }
 {
     let network = read_identified(alloc, words, shelf)?;
-    report_of(alloc, &network)
+    let report = report_of(alloc, &network);
+    // For the prover alone: a call drops the network, so that its parts' drops aren't written out at each exit.
+    drop(network);
+    report
 }

@@ -1,5 +1,5 @@
 -- What `spread` reports of the problem and the sets that were read.
-use Rattle.std.proofs.Common.{◌≡◌, ℕ, ◌≤◌, refl, sym, ◌∙◌, ap, subst, List, [], ◌++◌, Err}
+use Rattle.std.proofs.Common.{◌≡◌, ℕ, ◌≤◌, refl, sym, ◌∙◌, ap, subst, List, []}
 use Rattle.std.specs.Prelude.{IfSome, Option, None}
 use Rattle.std.specs.Borrow.{Bor}
 use Rattle.cost_base.specs.Histories.{Taken}
@@ -14,12 +14,10 @@ use Rattle.set_reader.specs.Reading.{AreSaid, TellsReading, set_fault}
 use Rattle.set_reader.specs.SpreadSets.{AreSetsOf}
 use Rattle.command_words.specs.Jobs.{SearchLimits}
 use Rattle.input_files.specs.declared.problem.View.TheVariants.{AsRequested}
-use Rattle.input_files.specs.declared.stop.Stop.TheVariants.{OutOfMemory as NoMemory}
 use Rattle.input_files.specs.Inputs.{InputFiles}
 use Rattle.input_files.specs.Outcomes.{Input, outcome}
 use Rattle.input_files.proofs.Problems.{IsProblemOf}
-use Rattle.input_files.proofs.ReadyInputs.{IsReadyInput, ready_is}
-use Rattle.input_files.proofs.Stops.{gave_then, gave_wanting}
+use Rattle.input_files.proofs.ReadyInputs.{IsReadyInput}
 use Rattle.input_files.specs.Readings.{EndsAs, Faulty, Gave, Says}
 use Rattle.input_files.specs.Stops.{IsReadAndMade, StopsAs, refusal_in, refusal_stop}
 use Rattle.report_writer.specs.declared.report.Report.{Report}
@@ -27,8 +25,9 @@ use Rattle.report_writer.specs.Reports.{Reports, bytes_in}
 use Rattle.spread_sets.specs.declared.spread.Spread.{Spread}
 use Rattle.spread_sets.specs.declared.spread.Spread.TheVariants.{Fit, Impossible, Undecided}
 use Rattle.spread_sets.specs.Answers.{IsSpreadFound}
-use Rattle.path_commands.specs.SetFiles.{AreSetsIn, Sharing, if_sets, sets_read, spread_read}
+use Rattle.path_commands.specs.SetFiles.{AreSetsIn, Sharing, if_sets, sets_read}
 use Rattle.path_commands.specs.Spreads.{IsSpreadBack, MaySpread, shared_costs, spread_text, spread_status}
+use Rattle.path_commands.specs.SpreadsMade.{IsProblemAsked}
 use Rattle.path_commands.proofs.SpreadsBack.{spread_back}
 use Rattle.report_writer.proofs.ReportLaws.{may_report}
 
@@ -37,16 +36,16 @@ abbrev pub IsProblemRead : DesignProblem → Input → Type 0
 IsProblemRead p d = (d.problem ≡ p) × IsReadyInput d
 
 -- the problem that was made is that of what was read
-pub problem_ready : (Given : List Taken → Type 0) (names : InputFiles) (p : DesignProblem) →
+pub problem_asked : (Given : List Taken → Type 0) (names : InputFiles) (p : DesignProblem) →
     Gave Given (λ came. IsReadAndMade (outcome AsRequested names) came IsProblemOf p) →
-    Gave Given (λ came. IsReadAndMade (outcome AsRequested names) came IsProblemRead p)
-problem_ready Given names p read = record {
+    Gave Given (λ came. IsReadAndMade (outcome AsRequested names) came (IsProblemAsked names) p)
+problem_asked Given names p read = record {
   came = read.came;
   given = read.given;
   so = record {
     said = read.so.said;
     ends = read.so.ends;
-    fits = (read.so.fits.0, ready_is names read.so.said read.came read.so.ends);
+    fits = record { came = read.came; ends = read.so.ends; same = read.so.fits.0 };
   };
 }
 
@@ -118,14 +117,3 @@ spread_found Given limits file d p sets spread report of small read found r =
             reports (found_may limits sharing sets spread ready ceiling read.so.fits.1 of_said);
       };
     }
-
--- both files were read, and then memory was wanting
-pub spread_wanting : (First Later Both : List Taken → Type 0) (names : InputFiles) (file : List ℕ) (p : DesignProblem) (sets : List (List ℕ)) →
-    ((xs ys : List Taken) → First xs → Later ys → Both (xs ++ ys)) →
-    Gave First (λ came. IsReadAndMade (outcome AsRequested names) came IsProblemOf p) →
-    ((d : Input) → d.problem ≡ p → Gave Later (λ came. IsReadAndMade (sets_read file d) came (AreSetsFor d) sets)) →
-    Gave Both (λ came. StopsAs (spread_read names file) came NoMemory)
-spread_wanting First Later Both names file p sets more a b =
-    gave_then First Later Both (outcome AsRequested names) (λ d. sets_read file d) IsProblemOf
-    (λ (u : Unit {0}) (sharing : Sharing). Unit {0}) p (Err NoMemory) more a
-    (λ d is. gave_wanting Later (sets_read file d) (AreSetsFor d) sets (b d is.0))

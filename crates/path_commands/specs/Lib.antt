@@ -4,3 +4,4 @@ pub mod Gone
 pub mod LiveAudits
 pub mod SetFiles
 pub mod Spreads
+pub mod SpreadsMade

@@ -115,9 +115,14 @@ pub(crate) fn audited(
     }
 }
 
-/// What is found of the wanted paths of a problem without variables.
-fn audit(alloc: Global, problem: &Problem) -> Result<Vec<AuditedPath>, OutOfMemory>
-    requires { problem.now.low ≡ [] }
+/// What is found of the wanted paths of a problem without variables, in a room for its graph.
+fn audit_in(
+    alloc: Global,
+    problem: &Problem,
+    room: &mut Room,
+) -> Result<Vec<AuditedPath>, OutOfMemory>
+    requires low { problem.now.low ≡ [] }
+    requires room { IsRoomFor problem.now.graph room.old }
     ensures { IfOk result (λ found. AllZip (IsAudited problem.now.graph) problem.now.paths
         found.items) }
 {
@@ -125,13 +130,25 @@ fn audit(alloc: Global, problem: &Problem) -> Result<Vec<AuditedPath>, OutOfMemo
         scale: 1,
         values: Listed::from_items(Vec::new(alloc)),
     };
-    let mut room = Room::new(alloc, &problem.graph)?;
     let mut found = Vec::new(alloc);
     for request in problem.paths.as_slice() {
-        let path = audited(&problem.graph, request, &point, &mut room);
+        let path = audited(&problem.graph, request, &point, room);
         found.push(path)?;
     }
     Ok(found)
+}
+
+/// What is found of the wanted paths of a problem without variables.
+fn audit(alloc: Global, problem: &Problem) -> Result<Vec<AuditedPath>, OutOfMemory>
+    requires { problem.now.low ≡ [] }
+    ensures { IfOk result (λ found. AllZip (IsAudited problem.now.graph) problem.now.paths
+        found.items) }
+{
+    let mut room = Room::new(alloc, &problem.graph)?;
+    let found = audit_in(alloc, problem, &mut room);
+    // For the prover alone: a call drops the room, so that its parts' drops aren't written out at each exit.
+    drop(room);
+    found
 }
 
 /// The word of a standing.
@@ -203,5 +220,8 @@ pub fn audit_report<'a, S: Shelf>(
         (λ report d. MayAudit d report.status (bytes_in report.text)) result) }
 {
     let problem = read_problem(alloc, View::AtPresent, words, shelf)?;
-    Ok(report_of_audit(alloc, &problem)?)
+    let report = report_of_audit(alloc, &problem);
+    // For the prover alone: a call drops the problem, so that its parts' drops aren't written out at each exit.
+    drop(problem);
+    Ok(report?)
 }

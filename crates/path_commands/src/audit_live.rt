@@ -112,6 +112,25 @@ fn found_live(
     }
 }
 
+/// What is found of the wanted paths of a problem without variables where edges are excluded, in a room for its graph.
+fn audit_left_in(
+    alloc: Global,
+    problem: &Problem,
+    gone: &Removal<'_>,
+    room: &mut Room,
+) -> Result<Vec<LivePath>, OutOfMemory>
+    requires low { problem.now.low ≡ [] }
+    requires room { IsRoomFor problem.now.graph room.old }
+    ensures { IfOk result (λ found. AllZip (IsFoundLive problem.now.graph gone.now)
+        problem.now.paths found.items) }
+{
+    let mut found = Vec::new(alloc);
+    for request in problem.paths.as_slice() {
+        found.push(found_live(alloc, &problem.graph, gone, request, room)?)?;
+    }
+    Ok(found)
+}
+
 /// What is found of the wanted paths of a problem without variables where edges are excluded.
 fn audit_left(
     alloc: Global,
@@ -123,11 +142,10 @@ fn audit_left(
         problem.now.paths found.items) }
 {
     let mut room = Room::new(alloc, &problem.graph)?;
-    let mut found = Vec::new(alloc);
-    for request in problem.paths.as_slice() {
-        found.push(found_live(alloc, &problem.graph, gone, request, &mut room)?)?;
-    }
-    Ok(found)
+    let found = audit_left_in(alloc, problem, gone, &mut room);
+    // For the prover alone: a call drops the room, so that its parts' drops aren't written out at each exit.
+    drop(room);
+    found
 }
 
 /// What is found of the wanted paths of a problem at the costs at which an area runs.
@@ -226,7 +244,10 @@ fn report_at<'a>(
         running.now.lsdb) [] (ReportsLive running.now.lsdb running.now.missing.items) result }
 {
     let problem = resolution_at_present(alloc, requests, &running.lsdb, words)?;
-    Ok(report_of_left(alloc, &problem, running)?)
+    let report = report_of_left(alloc, &problem, running);
+    // For the prover alone: a call drops the problem, so that its parts' drops aren't written out at each exit.
+    drop(problem);
+    Ok(report?)
 }
 
 /// The report of an audit of the area of a layout at the costs of a running area.
@@ -246,7 +267,10 @@ fn report_of_running<'a>(
         lsdb,
     } = layout;
     let running = running_area(alloc, &configs, lsdb, live)?;
-    report_at(alloc, &requests, &running, words)
+    let report = report_at(alloc, &requests, &running, words);
+    // For the prover alone: a call drops the area, so that its parts' drops aren't written out at each exit.
+    drop(running);
+    report
 }
 
 /// The report of an audit of an area as it runs: of the files of words, and then of the live file, which says the
@@ -268,6 +292,12 @@ pub fn audit_live_report<'a, S: Shelf>(
         (λ report said. MayAuditLive said report.status (bytes_in report.text)) result) }
 {
     let layout = read_layout(alloc, words, shelf)?;
-    let lsas = read_live_file(alloc, shelf, live, area_of(&layout.requests))?;
-    report_of_running(alloc, layout, &lsas, words)
+    match read_live_file(alloc, shelf, live, area_of(&layout.requests)) {
+        Ok(lsas) => report_of_running(alloc, layout, &lsas, words),
+        Err(stop) => {
+            // For the prover alone: a call drops the layout, so that its parts' drops aren't written out at each exit.
+            drop(layout);
+            Err(stop)
+        }
+    }
 }

@@ -76,5 +76,8 @@ pub fn conflict_report<'a, S: Shelf>(
 {
     let problem = read_problem(alloc, View::AsRequested, words, shelf)?;
     let conflict = find_conflict(alloc, &problem, limits, advisors)?;
-    Ok(report_of_conflict(alloc, &problem, conflict)?)
+    let report = report_of_conflict(alloc, &problem, conflict);
+    // For the prover alone: a call drops the problem, so that its parts' drops aren't written out at each exit.
+    drop(problem);
+    Ok(report?)
 }

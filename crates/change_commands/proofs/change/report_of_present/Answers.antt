@@ -13,8 +13,8 @@ find_change-requires c =
     let network = c.args.network.now in
     asked_present network.requests network.lsdb network.problem c.args.present.now c.requires.built c.requires.present
 
-pub report_of_change-requires-clause-found : goal.report_of_change-requires-clause-found
-report_of_change-requires-clause-found c =
+pub report_of_change-report-requires-clause-found : goal.report_of_change-report-requires-clause-found
+report_of_change-report-requires-clause-found c =
     let limits = c.args.limits.now in
     (limits.top, limits.nodes, limits.budget_end, c.in_ok-change.ensures)
 
@@ -25,7 +25,7 @@ returns c =
     let change = c.in_ok-change.change in
     let found = subst (λ (present : List (Option ℕ)). IsChangeFound (record { problem = network.problem; present = present; top = limits.top; nodes = limits.nodes }) change)
     c.requires.present c.in_ok-change.ensures in
-    IfOk-weaker c.report_of_change.result (Reports (change_status change) (change_text network.requests network.lsdb network.problem change))
+    IfOk-weaker c.report_of_change-report.result (Reports (change_status change) (change_text network.requests network.lsdb network.problem change))
     (IsReportIn (limits_seen limits) network.requests network.lsdb network.problem)
     (λ report reports. record { change = change; found = found; reports = reports; ceiling = c.keeps_ceiling.ensures })
-    c.report_of_change.ensures
+    c.report_of_change-report.ensures

@@ -17,18 +17,18 @@ moves_to-requires-clause-present c =
 pub moves_to-requires-clause-above : goal.moves_to-requires-clause-above
 moves_to-requires-clause-above c = subst (λ (cs : List ℕ). All (λ cost. 0 < cost) cs) (sym c.requires.present) c.requires.network.above
 
-pub report_of_moves-requires-clause-priced : goal.report_of_moves-requires-clause-priced
-report_of_moves-requires-clause-priced c =
+pub report_of_moves-report-requires-clause-priced : goal.report_of_moves-report-requires-clause-priced
+report_of_moves-report-requires-clause-priced c =
     priced_links c.args.network.now.lsdb (length c.in_ok-moves.moves.present)
     (ap (λ (m : CostMoves). length m.present) c.in_ok-moves.ensures ∙ ap length c.requires.present
     ∙ length-map c.args.network.now.lsdb.links (present_cost c.args.network.now.requests))
 
-pub report_of_moves-requires-clause-paths : goal.report_of_moves-requires-clause-paths
-report_of_moves-requires-clause-paths c = paths_by_links c.args.network.now c.requires.network c.keeps_conditions.ensures
+pub report_of_moves-report-requires-clause-paths : goal.report_of_moves-report-requires-clause-paths
+report_of_moves-report-requires-clause-paths c = paths_by_links c.args.network.now c.requires.network c.keeps_conditions.ensures
 
 pub returns : goal.returns
 returns c =
     let network = c.args.network.now in
-    subst (λ (m : CostMoves). IfOk c.report_of_moves.result (ReportsSteps c.args.words.nodes c.args.words.by c.args.names.now
+    subst (λ (m : CostMoves). IfOk c.report_of_moves-report.result (ReportsSteps c.args.words.nodes c.args.words.by c.args.names.now
     (record { graph = graph_by_links network.lsdb; paths = network.problem.paths; moves = m })))
-    c.in_ok-moves.ensures c.report_of_moves.ensures
+    c.in_ok-moves.ensures c.report_of_moves-report.ensures

@@ -18,8 +18,8 @@ returns-in_err-network g c =
     rw (p.1, p.2) (gave_stop (g.S.Shelf.gave c.args.shelf.now c.read_network.new.shelf)
     (outcome AtPresent (files_named c.args.files)) (plan_with c.args.words.answer.now) _ c.in_err-network.ensures.read)
 
-pub report_by_file-requires : goal.report_by_file-requires
-report_by_file-requires g c =
+pub report_by_file-report-requires : goal.report_by_file-report-requires
+report_by_file-report-requires g c =
     let read = c.in_ok-network.ensures.read.so in
     at_present_costs (files_named c.args.files) c.in_ok-network.network read.said read.fits
 
@@ -27,9 +27,9 @@ pub returns : goal.returns
 returns g c =
     let a = c.args.shelf.now in
     let b = c.read_network.new.shelf in
-    let d = c.report_by_file.new.shelf in
+    let d = c.report_by_file-report.new.shelf in
     let names = files_named c.args.files in
     gave_then (g.S.Shelf.gave a b) (g.S.Shelf.gave b d) (g.S.Shelf.gave a d) (outcome AtPresent names) (plan_with c.args.words.answer.now)
     (IsNetworkOf AtPresent names) (λ (report : Report) plan. MaySteps c.args.words.nodes c.args.words.by plan report.status (bytes_in report.text))
-    c.in_ok-network.network c.report_by_file.result (g.met.S.Shelf.gave_more a b d) c.in_ok-network.ensures.read
-    (λ x is. c.report_by_file.ensures names x is)
+    c.in_ok-network.network c.report_by_file-report.result (g.met.S.Shelf.gave_more a b d) c.in_ok-network.ensures.read
+    (λ x is. c.report_by_file-report.ensures names x is)

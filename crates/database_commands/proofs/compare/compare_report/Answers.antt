@@ -20,9 +20,9 @@ pub returns : goal.returns
 returns g c =
     let a = c.args.shelf.now in
     let b = c.read_identified.new.shelf in
-    let d = c.compare_live.new.shelf in
+    let d = c.compare_live-report.new.shelf in
     let names = files_named c.args.words in
     gave_then (g.S.Shelf.gave a b) (g.S.Shelf.gave b d) (g.S.Shelf.gave a d) (identified_read names) (live_then c.args.live.now)
     (IsIdentified names) (λ (report : Report) said. MayCompare said report.status (bytes_in report.text)) c.in_ok-network.network
-    c.compare_live.result (g.met.S.Shelf.gave_more a b d) c.in_ok-network.ensures
-    (λ x fits. c.compare_live.ensures names x fits.network_is)
+    c.compare_live-report.result (g.met.S.Shelf.gave_more a b d) c.in_ok-network.ensures
+    (λ x fits. c.compare_live-report.ensures names x fits.network_is)

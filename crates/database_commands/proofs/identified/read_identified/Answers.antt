@@ -25,19 +25,18 @@ check_router_ids-requires g c =
     let read = c.in_ok-network.ensures.read.so in
     omega (arith, ap length c.deref.ensures.value, few_configs (files_named c.args.words) c.in_ok-network.network read.said read.fits)
 
-pub returns-in_err-check_router_ids : goal.returns-in_err-check_router_ids
-returns-in_err-check_router_ids g c =
+pub returns-in-Err : goal.returns-in-Err
+returns-in-Err g c =
     let names = files_named c.args.words in
-    let p = err_from_is_err_and c.from_residual-in_err-check_router_ids.result c.from_residual-in_err-check_router_ids.ensures.1 in
-    rw (p.1, p.2) (gave_made (g.S.Shelf.gave c.args.shelf.now c.read_network.new.shelf) (outcome AtPresent names)
+    gave_made (g.S.Shelf.gave c.args.shelf.now c.read_network.new.shelf) (outcome AtPresent names)
     (λ d. if_identified names d (first_id_fault [] 0 (routers_of d.files)))
     (IsNetworkOf AtPresent names) (λ (n : Network) d. IsIdentified names n d) c.in_ok-network.network
-    (Err c.in_err-check_router_ids.field-0.0) c.in_ok-network.ensures.read
+    (Err c.in-Err.stop) c.in_ok-network.ensures.read
     (λ d is. ids_refused names d c.deref.result.now _ (sym is.configs ∙ sym c.deref.ensures.value)
-    (c.in_err-check_router_ids.ensures d (sym is.configs ∙ sym c.deref.ensures.value))))
+    (c.in-Err.ensures d (sym is.configs ∙ sym c.deref.ensures.value)))
 
-pub returns : goal.returns
-returns g c =
+pub returns-in-Ok : goal.returns-in-Ok
+returns-in-Ok g c =
     let names = files_named c.args.words in
     gave_made (g.S.Shelf.gave c.args.shelf.now c.read_network.new.shelf) (outcome AtPresent names)
     (λ d. if_identified names d (first_id_fault [] 0 (routers_of d.files)))
@@ -45,5 +44,5 @@ returns g c =
     (Ok c.in_ok-network.network) c.in_ok-network.ensures.read
     (λ d is.
     (let same = sym is.configs ∙ sym c.deref.ensures.value in
-    identified names d c.deref.result.now c.in_ok-network.network c.in_ok-check_router_ids.field-0 same is
-    (c.in_ok-check_router_ids.ensures d same)))
+    identified names d c.deref.result.now c.in_ok-network.network c.in-Ok.field-0 same is
+    (c.in-Ok.ensures d same)))

@@ -16,25 +16,24 @@ returns-in_err-layout g c =
     rw (p.1, p.2) (gave_stop (g.S.Shelf.gave c.args.shelf.now c.read_layout.new.shelf) (layout_read (files_named c.args.words))
     (after_layout (files_named c.args.words) c.args.live.now) _ c.in_err-layout.ensures)
 
-pub returns-in_err-lsas : goal.returns-in_err-lsas
-returns-in_err-lsas g c =
+pub returns-in-Err : goal.returns-in-Err
+returns-in-Err g c =
     let a = c.args.shelf.now in
     let b = c.read_layout.new.shelf in
     let d = c.read_live_file.new.shelf in
-    let p = err_from_is_err_and c.from_residual-in_err-lsas.result c.from_residual-in_err-lsas.ensures.1 in
-    rw (p.1, p.2) (live_stops (g.S.Shelf.gave a b) (g.S.Shelf.gave b d) (g.S.Shelf.gave a d) (files_named c.args.words) c.args.live.now
+    live_stops (g.S.Shelf.gave a b) (g.S.Shelf.gave b d) (g.S.Shelf.gave a d) (files_named c.args.words) c.args.live.now
     c.in_ok-layout.layout _ (g.met.S.Shelf.gave_more a b d) c.in_ok-layout.ensures
-    (subst (λ (area : ℕ). Gave (g.S.Shelf.gave b d) (λ came. StopsAs (live_read c.args.live.now area) came c.in_err-lsas.field-0.0))
-    c.area_of.ensures c.in_err-lsas.ensures))
+    (subst (λ (area : ℕ). Gave (g.S.Shelf.gave b d) (λ came. StopsAs (live_read c.args.live.now area) came c.in-Err.stop))
+    c.area_of.ensures c.in-Err.ensures)
 
-pub returns : goal.returns
-returns g c =
+pub returns-in-Ok : goal.returns-in-Ok
+returns-in-Ok g c =
     let a = c.args.shelf.now in
     let b = c.read_layout.new.shelf in
     let d = c.read_live_file.new.shelf in
     live_made (g.S.Shelf.gave a b) (g.S.Shelf.gave b d) (g.S.Shelf.gave a d) (files_named c.args.words) c.args.live.now
-    c.in_ok-layout.layout c.in_ok-lsas.lsas c.report_of_running.result (g.met.S.Shelf.gave_more a b d) c.in_ok-layout.ensures
+    c.in_ok-layout.layout c.in-Ok.lsas c.report_of_running.result (g.met.S.Shelf.gave_more a b d) c.in_ok-layout.ensures
     (subst (λ (area : ℕ). Gave (g.S.Shelf.gave b d)
-    (λ came. IsReadAndMade (live_read c.args.live.now area) came (λ (made : List Lsa) lsas. made ≡ lsas) c.in_ok-lsas.lsas))
-    c.area_of.ensures c.in_ok-lsas.ensures)
+    (λ came. IsReadAndMade (live_read c.args.live.now area) came (λ (made : List Lsa) lsas. made ≡ lsas) c.in-Ok.lsas))
+    c.area_of.ensures c.in-Ok.ensures)
     c.report_of_running.ensures

@@ -16,5 +16,5 @@ returns c =
     record {
       said = read.said;
       ends = read.ends;
-      fits = subst (ReportsLive area.lsdb area.missing.items c.in_ok-report_of_left.field-0) read.fits c.in_ok-report_of_left.ensures;
+      fits = subst (ReportsLive area.lsdb area.missing.items c.in_ok-report.field-0) read.fits c.in_ok-report.ensures;
     }

@@ -3,7 +3,7 @@ use Rattle.std.proofs.Common.{take}
 use Rattle.std.specs.List.{AllZip}
 use Rattle.spf_ties.specs.Distances.{IsRoomFor}
 use Rattle.path_commands.specs.LiveAudits.{IsFoundLive}
-use Rattle.path_commands.proofs.audit_live.audit_left.Given as goal
+use Rattle.path_commands.proofs.audit_live.audit_left_in.Given as goal
 
 abbrev pub invariant-loop-request : goal.invariant-loop-request
 invariant-loop-request l = record {

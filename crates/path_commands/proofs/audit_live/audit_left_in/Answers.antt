@@ -4,7 +4,7 @@ use Rattle.spf_ties.specs.Distances.{IsRoomFor}
 use Rattle.design_problem.specs.Problems.{DesignProblem}
 use Rattle.path_commands.specs.LiveAudits.{IsFoundLive}
 use Rattle.path_commands.proofs.Audits.{found_push}
-use Rattle.path_commands.proofs.audit_live.audit_left.Goals as goal
+use Rattle.path_commands.proofs.audit_live.audit_left_in.Goals as goal
 
 pub loop-request-preserved : goal.loop-request-preserved
 loop-request-preserved c =

@@ -3,7 +3,7 @@ use Rattle.std.proofs.Common.{take}
 use Rattle.std.specs.List.{AllZip}
 use Rattle.spf_ties.specs.Distances.{IsRoomFor}
 use Rattle.path_commands.specs.Audits.{IsAudited}
-use Rattle.path_commands.proofs.audit.audit.Given as goal
+use Rattle.path_commands.proofs.audit.audit_in.Given as goal
 
 abbrev pub invariant-loop-request : goal.invariant-loop-request
 invariant-loop-request l = record {
