@@ -1,10 +1,10 @@
 //! What is answered to a line of a script.
 
-use crate::networks::graph;
+use crate::networks::{graph, said};
 use crate::outsiders::outsider_text;
 use crate::paths::{avoids_text, copy_text, only_text, path_text, vertex_text};
 use crate::rivals::rival_text;
-use crate::searches::{new_room_text, search_text, within_text};
+use crate::searches::{new_room_text, search_text};
 use area_graph::Graph;
 use case_scripts::next_word;
 use cost_base::OutOfMemory;
@@ -27,9 +27,8 @@ fn asked(
         "only" => only_text(alloc, graph, words),
         "rival" => rival_text(alloc, graph, words),
         "outsider" => outsider_text(alloc, graph, words),
-        "search" => search_text(alloc, graph, words),
-        "within" => within_text(alloc, graph, words),
-        _ => Ok(String::from_str(alloc, "")?),
+        "search" | "within" => search_text(alloc, graph, first, words),
+        _ => said(alloc, ""),
     }
 }
 
@@ -44,7 +43,7 @@ fn start(
         Some(_) => "",
         None => ": no graph",
     };
-    Ok(String::from_str(alloc, told)?)
+    said(alloc, told)
 }
 
 /// What is answered to a line, to stand behind it: `graph` takes another graph, and the other words ask of the one at hand.
@@ -58,7 +57,7 @@ pub(crate) fn answer(
     let text = match network {
         _ if first == "graph" => start(alloc, network, &mut words),
         Some(graph) => asked(alloc, graph, first, &mut words),
-        None => Ok(String::new(alloc)),
+        None => said(alloc, ""),
     };
     text.map_err(|_| AllocError)
 }

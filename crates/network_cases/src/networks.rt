@@ -6,6 +6,11 @@ use cost_base::{Listed, OutOfMemory};
 use std::alloc::{AllocError, Global};
 use std::str::SplitWhitespace;
 
+/// A text of these letters.
+pub(crate) fn said(alloc: Global, text: &str) -> Result<String, OutOfMemory> {
+    Ok(String::from_str(alloc, text)?)
+}
+
 /// The price that a word says: `xN` is variable N, `0` nothing, and any other number a cost.
 fn price(word: &str) -> Option<Price> {
     if word == "0" {

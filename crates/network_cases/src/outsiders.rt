@@ -8,7 +8,7 @@ ghost use Rattle.set_separation.specs.SeenTrees.{HasTiedTree};
 ghost use Rattle.spf_ties.specs.Distances.{IsRoomFor};
 ghost use Rattle.network_cases.specs.Members.{TiesWith, wanted_of};
 
-use crate::networks::point;
+use crate::networks::{point, said};
 use area_graph::{Graph, Path, Point, is_path_of, path_cost, point_fits};
 use case_scripts::{list_of, next_number, next_word};
 use cost_base::{Listed, OutOfMemory};
@@ -132,7 +132,7 @@ fn cost_text(
         request.end,
         request.excluded.as_slice(),
     ) {
-        return Ok(String::from_str(alloc, ": no path")?);
+        return said(alloc, ": no path");
     }
     let cost = path_cost(outlook.graph, path, outlook.point);
     let told = if cost < most { "less" } else { "no less" };
@@ -170,7 +170,7 @@ fn outsider_in(
     let places = tree.steps().len() + 1;
     let mut costs = vec![in alloc; 0; places]?;
     if !find_outsider(outlook, tree, costs.as_mut_slice(), room) {
-        return Ok(String::from_str(alloc, ": none")?);
+        return said(alloc, ": none");
     }
     let most = path_cost(outlook.graph, &outlook.request.path, outlook.point) + outlook.point.scale;
     kept_text(alloc, outlook, room.path(), most)
@@ -207,7 +207,7 @@ fn tied_text(alloc: Global, outlook: &Outlook<'_>, others: &[Path]) -> Result<St
     requires first { HasItsPath outlook.now }
 {
     if !all_tie(outlook, others) {
-        return Ok(String::from_str(alloc, ": unfit")?);
+        return said(alloc, ": unfit");
     }
     outsider_of(alloc, outlook, others)
 }
@@ -222,7 +222,7 @@ fn outsider_at(
 ) -> Result<String, OutOfMemory> {
     let excluded = request.excluded.as_slice();
     if !point_fits(graph, point) || !is_path_of(graph, &request.path, request.end, excluded) {
-        return Ok(String::from_str(alloc, ": unfit")?);
+        return said(alloc, ": unfit");
     }
     let outlook = Outlook {
         graph,
@@ -231,7 +231,7 @@ fn outsider_at(
     };
     match other_paths(alloc, &request.path, words)? {
         Some(others) => tied_text(alloc, &outlook, others.as_slice()),
-        None => Ok(String::from_str(alloc, ": unfit")?),
+        None => said(alloc, ": unfit"),
     }
 }
 

@@ -1,6 +1,6 @@
 //! Lines of a script that ask of paths.
 
-use crate::networks::point;
+use crate::networks::{point, said};
 use area_graph::{
     Graph, Path, Point, RequestedPath, avoids, is_only_cheapest, is_path_of, is_simple, path_cost,
     point_fits,
@@ -26,16 +26,12 @@ pub(crate) fn vertex_text(
     format!(in alloc; ": out {out}; in {into}")
 }
 
-/// Whether two graphs have the same vertices and edges.
-fn is_same(copy: &Graph, graph: &Graph) -> bool {
-    copy.vertices() == graph.vertices() && copy.edges() == graph.edges()
-}
-
 /// `copy`: whether a copy of the graph has its vertices and edges.
 pub(crate) fn copy_text(alloc: Global, graph: &Graph) -> Result<String, OutOfMemory> {
-    let is_same = is_same(&graph.copy(alloc)?, graph);
+    let copy = graph.copy(alloc)?;
+    let is_same = copy.vertices() == graph.vertices() && copy.edges() == graph.edges();
     let told = if is_same { ": the same" } else { ": another" };
-    Ok(String::from_str(alloc, told)?)
+    said(alloc, told)
 }
 
 /// `avoids EDGES EXCLUDED`: whether none of the edges is excluded.
@@ -122,11 +118,11 @@ fn only_at(
     if !point_fits(graph, point)
         || !is_path_of(graph, requested.path, requested.end, requested.excluded)
     {
-        return Ok(String::from_str(alloc, ": unfit")?);
+        return said(alloc, ": unfit");
     }
     let is_only = is_only_cheapest(alloc, graph, point, &requested)?;
     let told = if is_only { ": yes" } else { ": no" };
-    Ok(String::from_str(alloc, told)?)
+    said(alloc, told)
 }
 
 /// `only START END EDGES EXCLUDED POINT`: whether a path is the only cheapest where some edges are excluded.

@@ -4,7 +4,7 @@ ghost use Rattle.area_graph.specs.Paths.{IsPathOf};
 ghost use Rattle.design_problem.specs.Problems.{request_ends};
 ghost use Rattle.spf_ties.specs.Distances.{IsRoomFor};
 
-use crate::networks::point;
+use crate::networks::{point, said};
 use crate::paths::next_request;
 use area_graph::{Graph, Point, is_path_of, point_fits};
 use case_scripts::{Written, next_word};
@@ -27,10 +27,10 @@ fn rival_in(
     requires fits { FitsPoint graph.now point.now }
     requires path { IsPathOf graph.now (request_ends request.now) request.now.path.edges }
 {
-    Ok(match cheapest_rival(graph, request, point, room) {
-        Rival::Free => String::from_str(alloc, ": free")?,
-        Rival::Cheaper(edges) => format!(in alloc; ": cheaper {}", Written(edges))?,
-    })
+    match cheapest_rival(graph, request, point, room) {
+        Rival::Free => said(alloc, ": free"),
+        Rival::Cheaper(edges) => Ok(format!(in alloc; ": cheaper {}", Written(edges))?),
+    }
 }
 
 /// The cheapest rival of a request's path, where it is one.
@@ -42,7 +42,7 @@ fn rival_of(
 ) -> Result<String, OutOfMemory> {
     let excluded = request.excluded.as_slice();
     if !point_fits(graph, point) || !is_path_of(graph, &request.path, request.end, excluded) {
-        return Ok(String::from_str(alloc, ": unfit")?);
+        return said(alloc, ": unfit");
     }
     let mut room = Room::new(alloc, graph)?;
     rival_in(alloc, graph, point, request, &mut room)

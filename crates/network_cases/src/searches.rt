@@ -13,13 +13,13 @@ use std::alloc::{AllocError, Global};
 use std::str::SplitWhitespace;
 
 /// Adds the distance of each vertex.
-fn add_costs(alloc: Global, text: &mut String, graph: &Graph, room: &Room) -> Result<(), AllocError>
+fn add_costs(text: &mut String, graph: &Graph, room: &Room) -> Result<(), AllocError>
     requires { IsRoomFor graph.now room.now }
 {
     graph.keeps_conditions();
     for vertex in 0..graph.vertices().len() {
         match room.distance(vertex as u32) {
-            Some(cost) => text.push_str(format!(in alloc; " {cost}")?.as_str())?,
+            Some(cost) => write!(text, " {cost}")?,
             None => text.push_str(" none")?,
         }
     }
@@ -31,7 +31,7 @@ fn costs_text(alloc: Global, graph: &Graph, room: &Room) -> Result<String, OutOf
     requires { IsRoomFor graph.now room.now }
 {
     let mut text = String::from_str(alloc, ": costs")?;
-    add_costs(alloc, &mut text, graph, room)?;
+    add_costs(&mut text, graph, room)?;
     Ok(text)
 }
 
@@ -59,17 +59,6 @@ fn tight_edges(
         }
     }
     Ok(tight)
-}
-
-/// Adds numbers behind a word.
-fn add_numbers(
-    alloc: Global,
-    text: &mut String,
-    before: &str,
-    numbers: &[u32],
-) -> Result<(), AllocError> {
-    let numbers = Written(numbers);
-    text.push_str(format!(in alloc; "{before} {numbers}")?.as_str())
 }
 
 /// The next hops of a vertex.
@@ -105,7 +94,7 @@ fn add_hops(
     graph.keeps_conditions();
     for vertex in 0..graph.vertices().len() {
         let hops = hops(alloc, graph, point, room, vertex as u32)?;
-        add_numbers(alloc, text, "", hops.as_slice())?;
+        write!(text, " {}", Written(hops.as_slice()))?;
     }
     Ok(())
 }
@@ -161,7 +150,7 @@ fn add_tight(
     requires fits { FitsPoint graph.now point.now }
 {
     let tight = tight_edges(alloc, graph, point, room)?;
-    add_numbers(alloc, text, "; tight", tight.as_slice())
+    write!(text, "; tight {}", Written(tight.as_slice()))
 }
 
 /// Adds what is found for a vertex.
@@ -175,8 +164,8 @@ fn add_found(
     requires room { IsRoomFor search.now.graph.now room.now }
     requires fits { FitsPoint search.now.graph.now search.now.point.now }
 {
-    text.push_str(format!(in alloc; "\n  to {target}: costs")?.as_str())?;
-    add_costs(alloc, text, search.graph, room)?;
+    write!(text, "\n  to {target}: costs")?;
+    add_costs(text, search.graph, room)?;
     add_tight(alloc, text, search.graph, search.point, room)?;
     text.push_str("; hops")?;
     add_hops(alloc, text, search.graph, search.point, room)
@@ -229,8 +218,8 @@ fn point_text(
     requires { IsRoomFor graph.now room.old }
     ensures { IsRoomFor graph.now room.new }
 {
-    let mut text = String::new(alloc);
     let point = point(alloc, word)?;
+    let mut text = String::new(alloc);
     if point_fits(graph, &point) {
         let search = Search {
             graph,
@@ -284,23 +273,18 @@ fn next_wanted(
 }
 
 /// `search TARGETS EXCLUDED POINT ..`: the least costs to each target where some edges are excluded, the edges that are
-/// tight, and the next hops of each vertex.
+/// tight, and the next hops of each vertex. `within LIMIT TARGETS EXCLUDED POINT ..`: the same of the least costs that are
+/// below a limit.
 pub(crate) fn search_text(
     alloc: Global,
     graph: &Graph,
+    first: &str,
     words: &mut SplitWhitespace<'_>,
 ) -> Result<String, OutOfMemory> {
-    let wanted = next_wanted(alloc, words, None)?;
-    searches_text(alloc, graph, &wanted, words)
-}
-
-/// `within LIMIT TARGETS EXCLUDED POINT ..`: the same of the least costs that are below a limit.
-pub(crate) fn within_text(
-    alloc: Global,
-    graph: &Graph,
-    words: &mut SplitWhitespace<'_>,
-) -> Result<String, OutOfMemory> {
-    let limit = next_word(words).parse::<u128>().unwrap_or(0);
-    let wanted = next_wanted(alloc, words, Some(limit))?;
+    let limit = match first {
+        "within" => Some(next_word(words).parse::<u128>().unwrap_or(0)),
+        _ => None,
+    };
+    let wanted = next_wanted(alloc, words, limit)?;
     searches_text(alloc, graph, &wanted, words)
 }

@@ -71,6 +71,21 @@ fn candidate(var: u32, low: u16, high: u16) -> Candidate {
     }
 }
 
+/// What advisors choose in so many calls, over the ranges 1 to 4, 1 to 9 and 2 to 10.
+fn chosen_text(
+    alloc: Global,
+    calls: u32,
+    advisors: &mut Vec<Box<dyn Advisor>>,
+) -> Result<String, AllocError> {
+    let choices = [candidate(0, 1, 4), candidate(3, 1, 9), candidate(4, 2, 10)];
+    let mut text = String::from_str(alloc, ":")?;
+    for _ in 0..calls {
+        let picked = choose(advisors, &choices);
+        write!(text, " {picked} of {} left", advisors.len())?;
+    }
+    Ok(text)
+}
+
 /// `choose TOLD CALLS ADVISOR ..`: tells advisors so many entries, and asks them so often over the ranges 1 to 4, 1 to 9 and
 /// 2 to 10. An advisor is `widest`, `smallest`, `turns` or a number that it adds to what it was told.
 pub(crate) fn choose_text(alloc: Global, rest: &str) -> Result<String, AllocError> {
@@ -92,11 +107,5 @@ pub(crate) fn choose_text(alloc: Global, rest: &str) -> Result<String, AllocErro
     for _ in 0..told {
         tell(&mut advisors, &Entry::Undone);
     }
-    let choices = [candidate(0, 1, 4), candidate(3, 1, 9), candidate(4, 2, 10)];
-    let mut text = String::from_str(alloc, ":")?;
-    for _ in 0..calls {
-        let picked = choose(&mut advisors, &choices);
-        text.push_str(format!(in alloc; " {picked} of {} left", advisors.len())?.as_str())?;
-    }
-    Ok(text)
+    chosen_text(alloc, calls, &mut advisors)
 }

@@ -4,6 +4,7 @@ use case_scripts::next_number;
 use command_words::read_words;
 use cost_base::Name;
 use std::alloc::{AllocError, Global};
+use std::fmt;
 use trial_maker::{TrialTexts, make_trial};
 
 /// The words of a text.
@@ -29,12 +30,30 @@ pub(crate) fn job_text(alloc: Global, rest: &str) -> Result<String, AllocError> 
     words_text(alloc, words.as_slice())
 }
 
-/// Adds the lines of a text.
-fn add_lines(alloc: Global, text: &mut String, bytes: &Name) -> Result<(), AllocError> {
-    for line in bytes.as_bytes().split_inclusive(|byte| *byte == b'\n') {
-        text.push_str(format!(in alloc; "\n  `{}`", line.escape_ascii())?.as_str())?;
+/// The lines of a text, each on a line of its own.
+#[derive(Drop)]
+struct TextLines<'a>(&'a Name);
+
+impl<'a> fmt::Display for TextLines<'a> {
+    fn fmt<W: fmt::Write>(&self, f: &mut fmt::Formatter<W>) -> fmt::Result {
+        for line in self.0.as_bytes().split_inclusive(|byte| *byte == b'\n') {
+            write!(f, "\n  `{}`", line.escape_ascii())?;
+        }
+        Ok(())
     }
-    Ok(())
+}
+
+/// Names, with a blank before each.
+#[derive(Drop)]
+struct Names<'a>(&'a [Name]);
+
+impl<'a> fmt::Display for Names<'a> {
+    fn fmt<W: fmt::Write>(&self, f: &mut fmt::Formatter<W>) -> fmt::Result {
+        for name in self.0 {
+            write!(f, " {}", name.as_bytes().escape_ascii())?;
+        }
+        Ok(())
+    }
 }
 
 /// `made BLOCKS START PLACE`: the names of the files of a made trial, the file at a place among them, and the request.
@@ -52,21 +71,12 @@ pub(crate) fn made_text(alloc: Global, rest: &str) -> Result<String, AllocError>
     case_text(alloc, &case, place)
 }
 
-/// Adds names.
-fn add_names(alloc: Global, text: &mut String, names: &[Name]) -> Result<(), AllocError> {
-    for name in names {
-        text.push_str(format!(in alloc; " {}", name.as_bytes().escape_ascii())?.as_str())?;
-    }
-    Ok(())
-}
-
 /// The names of a made case's files, the file at a place among them, and the request.
 fn case_text(alloc: Global, case: &TrialTexts, place: u32) -> Result<String, AllocError> {
-    let mut text = String::from_str(alloc, ":")?;
-    add_names(alloc, &mut text, case.names.as_slice())?;
-    if let Some(config) = case.configs.as_slice().get(place as usize) {
-        add_lines(alloc, &mut text, config)?;
+    let names = Names(case.names.as_slice());
+    let request = TextLines(&case.request);
+    match case.configs.as_slice().get(place as usize) {
+        Some(config) => format!(in alloc; ":{names}{}{request}", TextLines(config)),
+        None => format!(in alloc; ":{names}{request}"),
     }
-    add_lines(alloc, &mut text, &case.request)?;
-    Ok(text)
 }

@@ -6,6 +6,7 @@ use case_scripts::{Written, list_of, next_number, next_word};
 use cost_base::Listed;
 use design_problem::{CostBox, Form, OpenBoxes, greatest_over};
 use std::alloc::{AllocError, Global};
+use std::fmt;
 use std::str::SplitWhitespace;
 
 /// The box of the words `LOW,LOW.. HIGH,HIGH..`.
@@ -27,14 +28,18 @@ fn are_small(coefficients: &[i64]) -> bool
         .all(|coefficient| coefficient.unsigned_abs() <= 1 << 26)
 }
 
-/// The terms of a form.
-fn terms_text(alloc: Global, form: &Form) -> Result<String, AllocError> {
-    let mut text = format!(in alloc; ": {}", form.constant())?;
-    for term in form.terms() {
-        let product = format!(in alloc; " {}*x{}", term.coefficient, term.var)?;
-        text.push_str(product.as_str())?;
+/// The constant and the terms of a form.
+#[derive(Drop)]
+struct Terms<'a>(&'a Form);
+
+impl<'a> fmt::Display for Terms<'a> {
+    fn fmt<W: fmt::Write>(&self, f: &mut fmt::Formatter<W>) -> fmt::Result {
+        write!(f, "{}", self.0.constant())?;
+        for term in self.0.terms() {
+            write!(f, " {}*x{}", term.coefficient, term.var)?;
+        }
+        Ok(())
     }
-    Ok(text)
 }
 
 /// What a form answers over a box.
@@ -43,12 +48,15 @@ fn form_text(alloc: Global, form: &Form, costs: &CostBox) -> Result<String, Allo
     requires high { length form.now.coefficients ≡ length costs.now.high }
     requires sizes { All (λ c. nat_abs c ≤ 2 ^ 26) form.now.coefficients }
 {
-    let terms = terms_text(alloc, form)?;
+    let terms = Terms(form);
     let greatest = greatest_over(form, costs);
     if greatest < 0 {
-        return format!(in alloc; "{terms}; greatest {greatest}");
+        return format!(in alloc; ": {terms}; greatest {greatest}");
     }
-    format!(in alloc; "{terms}; greatest {greatest}; {:?}", tighten(form, costs))
+    format!(in alloc;
+        ": {terms}; greatest {greatest}; {:?}",
+        tighten(form, costs)
+    )
 }
 
 /// What the form of these numbers answers over a box.

@@ -1,23 +1,36 @@
 //! Lines of a script that take files from shelves.
 
-use case_scripts::next_numbers;
+use case_scripts::{list_of, next_word};
 use cost_base::{FileShelf, MemoryShelf, Name, OutOfMemory, Shelf, SureShelf};
 use std::alloc::{AllocError, Global};
 use std::rt::Files;
 use std::str::SplitWhitespace;
 
-/// A file of a name.
-fn file_of(alloc: Global, name: &str, text: &str) -> Result<(Name, Name), OutOfMemory> {
+/// The names and texts of the files that a shelf has: two files of one name and one of another.
+const FILES: [(&str, &str); 3] = [
+    ("A.conf", "hostname A\n"),
+    ("A.conf", "hostname B\n"),
+    ("C.conf", "C"),
+];
+
+/// Adds a file of a name.
+fn add_file(
+    alloc: Global,
+    files: &mut Vec<(Name, Name)>,
+    name: &str,
+    text: &str,
+) -> Result<(), OutOfMemory> {
     let name = Name::from_bytes(alloc, name.as_bytes())?;
-    Ok((name, Name::from_bytes(alloc, text.as_bytes())?))
+    let text = Name::from_bytes(alloc, text.as_bytes())?;
+    Ok(files.push((name, text))?)
 }
 
-/// Two files of one name and one of another.
+/// The files that a shelf has.
 fn three_files(alloc: Global) -> Result<Vec<(Name, Name)>, OutOfMemory> {
     let mut files = Vec::new(alloc);
-    files.push(file_of(alloc, "A.conf", "hostname A\n")?)?;
-    files.push(file_of(alloc, "A.conf", "hostname B\n")?)?;
-    files.push(file_of(alloc, "C.conf", "C")?)?;
+    for (name, text) in &FILES {
+        add_file(alloc, &mut files, name, text)?;
+    }
     Ok(files)
 }
 
@@ -43,24 +56,24 @@ fn takes_text<S: Shelf>(
     Ok(text)
 }
 
-/// The numbers of the calls that fail.
-fn failing_calls(alloc: Global, calls: &[u32]) -> Result<Vec<u64>, AllocError> {
-    let mut failing = Vec::new(alloc);
-    for call in calls {
-        failing.push(u64::from(*call))?;
-    }
-    Ok(failing)
+/// Takes files from memory, where the calls of these numbers fail.
+fn failing_text(
+    alloc: Global,
+    failing: Vec<u64>,
+    words: &mut SplitWhitespace<'_>,
+) -> Result<String, AllocError> {
+    let Ok(files) = three_files(alloc) else {
+        return Err(AllocError);
+    };
+    let mut shelf = MemoryShelf::new(files, failing);
+    takes_text(alloc, &mut shelf, words)
 }
 
 /// `memory-shelf FAILING NAME:MOST ..`: takes files from memory, where the calls of some numbers fail.
 pub(crate) fn memory_shelf_text(alloc: Global, rest: &str) -> Result<String, AllocError> {
     let mut words = rest.split_whitespace();
-    let failing = failing_calls(alloc, next_numbers(alloc, &mut words)?.as_slice())?;
-    let Ok(files) = three_files(alloc) else {
-        return Err(AllocError);
-    };
-    let mut shelf = MemoryShelf::new(files, failing);
-    takes_text(alloc, &mut shelf, &mut words)
+    let failing = list_of::<u64>(alloc, next_word(&mut words))?;
+    failing_text(alloc, failing, &mut words)
 }
 
 /// `sure-shelf NAME:MOST ..`: takes files from a shelf that never fails.

@@ -2,6 +2,7 @@
 
 use case_scripts::bytes_of;
 use std::alloc::{AllocError, Global};
+use std::fmt;
 use text_lines::{
     Line, Lines, LongLine, Words, cut, ends_line, first_word, is_comment_word, is_separator,
     kind_of, starts_with_blank, word_at, word_count,
@@ -55,30 +56,46 @@ fn lines_text(alloc: Global, most: usize, bytes: &[u8]) -> Result<String, AllocE
     )
 }
 
-/// Adds a word behind what it is.
-fn add_word(alloc: Global, text: &mut String, what: &str, word: &[u8]) -> Result<(), AllocError> {
-    text.push_str(format!(in alloc; "{what} `{}`", word.escape_ascii())?.as_str())
+/// The words of a line, one after another.
+#[derive(Drop)]
+struct WordsOf<'a>(&'a [u8]);
+
+impl<'a> fmt::Display for WordsOf<'a> {
+    fn fmt<W: fmt::Write>(&self, f: &mut fmt::Formatter<W>) -> fmt::Result {
+        for word in Words::new(self.0) {
+            write!(f, " `{}`", word.escape_ascii())?;
+        }
+        Ok(())
+    }
 }
 
-/// Adds the words of a line, one after another, the first and the third.
-fn add_words(alloc: Global, text: &mut String, line: &[u8]) -> Result<(), AllocError> {
-    for word in Words::new(line) {
-        add_word(alloc, text, "", word)?;
-    }
-    if let Some((first, _)) = first_word(line) {
-        add_word(alloc, text, ", first", first)?;
-    }
-    match word_at(line, 2) {
-        Some(third) => add_word(alloc, text, ", third", third),
-        None => Ok(()),
+/// A word behind what it is; nothing where there is none.
+#[derive(Drop)]
+struct Called<'a>(&'a str, Option<&'a [u8]>);
+
+impl<'a> fmt::Display for Called<'a> {
+    fn fmt<W: fmt::Write>(&self, f: &mut fmt::Formatter<W>) -> fmt::Result {
+        match self.1 {
+            Some(word) => write!(f, ", {} `{}`", self.0, word.escape_ascii()),
+            None => Ok(()),
+        }
     }
 }
 
 /// `words TEXT`: the words of a line, one after another, by their count, the first and the third.
 fn words_text(alloc: Global, line: &[u8]) -> Result<String, AllocError> {
-    let mut text = format!(in alloc; ": {} words", word_count(line))?;
-    add_words(alloc, &mut text, line)?;
-    Ok(text)
+    let words = WordsOf(line);
+    let first = Called("first", word_of(first_word(line)));
+    let third = Called("third", word_at(line, 2));
+    format!(in alloc; ": {} words{words}{first}{third}", word_count(line))
+}
+
+/// The word that a line begins with.
+fn word_of<'a>(first: Option<(&'a [u8], &'a [u8])>) -> Option<&'a [u8]> {
+    match first {
+        Some((word, _)) => Some(word),
+        None => None,
+    }
 }
 
 /// `behind TEXT`: what stands before the first `:` and behind it.
@@ -91,20 +108,18 @@ fn behind_text(alloc: Global, bytes: &[u8]) -> Result<String, AllocError> {
     }
 }
 
+/// A text where something holds, or none.
+fn told(holds: bool, text: &'static str) -> &'static str {
+    if holds { text } else { "" }
+}
+
 /// `tests TEXT`: which tests of bytes hold.
 fn tests_text(alloc: Global, bytes: &[u8]) -> Result<String, AllocError> {
-    let mut text = String::from_str(alloc, ":")?;
-    if ends_line(bytes) {
-        text.push_str(" ends a line,")?;
-    }
-    if starts_with_blank(bytes) {
-        text.push_str(" starts with a blank,")?;
-    }
-    if is_comment_word(bytes) {
-        text.push_str(" begins a comment,")?;
-    }
+    let ends = told(ends_line(bytes), " ends a line,");
+    let starts = told(starts_with_blank(bytes), " starts with a blank,");
+    let begins = told(is_comment_word(bytes), " begins a comment,");
     let count = bytes.iter().filter(|byte| is_separator(**byte)).count();
-    format!(in alloc; "{text} {count} separators")
+    format!(in alloc; ":{ends}{starts}{begins} {count} separators")
 }
 
 /// What is answered to a line that asks of lines and words.

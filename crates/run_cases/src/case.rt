@@ -8,7 +8,7 @@ use std::alloc::Global;
 #[derive(Drop)]
 pub struct Wanted {
     /// The number of the status.
-    pub status: u8,
+    pub status: usize,
     /// All that is written.
     pub output: Vec<u8>,
     /// How many advisors are left.

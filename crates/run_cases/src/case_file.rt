@@ -3,9 +3,9 @@
 use crate::advisors::Adviser;
 use crate::case::Case;
 use crate::pieces::{push_lines, push_numbered};
-use anyhow::{Context, Result, anyhow, bail};
+use anyhow::{Context, Result, bail};
 use cost_base::Name;
-use std::alloc::Global;
+use std::alloc::{AllocError, Global};
 use std::rt::Files;
 use std::{fs, mem};
 
@@ -29,8 +29,17 @@ struct Draft {
 }
 
 /// A name, or a text, of these bytes.
-pub(crate) fn name_of(alloc: Global, bytes: &[u8]) -> Result<Name> {
-    Name::from_bytes(alloc, bytes).map_err(|_| anyhow!("out of memory"))
+fn name_of(alloc: Global, bytes: &[u8]) -> Result<Name, AllocError> {
+    match Name::from_bytes(alloc, bytes) {
+        Ok(name) => Ok(name),
+        Err(_) => Err(AllocError),
+    }
+}
+
+/// A file of a name and these bytes.
+pub(crate) fn file_of(alloc: Global, name: &str, bytes: &[u8]) -> Result<(Name, Name), AllocError> {
+    let name = name_of(alloc, name.as_bytes())?;
+    Ok((name, name_of(alloc, bytes)?))
 }
 
 /// A number and what stands behind the space after it.
@@ -50,7 +59,7 @@ fn adviser(text: &str) -> Result<Adviser> {
 
 impl Draft {
     /// Ends the text that was being put together, and begins another.
-    fn begin(&mut self, alloc: Global, target: Target) -> Result<()> {
+    fn begin(&mut self, alloc: Global, target: Target) -> Result<(), AllocError> {
         let text = mem::replace(&mut self.text, Vec::new(alloc));
         match mem::replace(&mut self.target, target) {
             Target::Nothing => {}
@@ -61,7 +70,7 @@ impl Draft {
     }
 
     /// Adds words, one space apart.
-    fn add_words(&mut self, alloc: Global, words: &str) -> Result<()> {
+    fn add_words(&mut self, alloc: Global, words: &str) -> Result<(), AllocError> {
         for word in words.split(' ') {
             if !word.is_empty() {
                 self.case.words.push(String::from_str(alloc, word)?)?;
@@ -79,42 +88,103 @@ impl Draft {
         Ok(())
     }
 
+    /// Adds a file of a folder, under its own name.
+    fn add_file(
+        &mut self,
+        rt: &(impl Files + AllocGlobal),
+        folder: &str,
+        name: &str,
+    ) -> Result<()> {
+        let bytes = read_in(rt, folder, name)?;
+        let file = file_of(rt.alloc(), name, &bytes)?;
+        Ok(self.case.files.push(file)?)
+    }
+
     /// Adds files of a folder, under their own names.
     fn add_files(&mut self, rt: &(impl Files + AllocGlobal), files: &str) -> Result<()> {
         let (folder, names) = files.split_once(' ').context("no names of files")?;
         for name in names.split(' ') {
-            let path = format!(in rt.alloc(); "{folder}/{name}")?;
-            let bytes = read(rt, path.as_str())?;
-            let held = (
-                name_of(rt.alloc(), name.as_bytes())?,
-                name_of(rt.alloc(), &bytes)?,
-            );
-            self.case.files.push(held)?;
+            self.add_file(rt, folder, name)?;
         }
         Ok(())
+    }
+
+    /// Adds a line to the text.
+    fn add_line(&mut self, line: &str) -> Result<(), AllocError> {
+        self.text.extend_from_slice(line.as_bytes())?;
+        Ok(self.text.push(b'\n')?)
+    }
+
+    /// Adds the bytes of a file to the text.
+    fn add_copy(&mut self, rt: &(impl Files + AllocGlobal), path: &str) -> Result<()> {
+        let bytes = read(rt, path)?;
+        Ok(self.text.extend_from_slice(&bytes)?)
+    }
+
+    /// Adds lines of a file to the text, or the file many times: `FROM TO PATH`.
+    fn add_range(&mut self, rt: &(impl Files + AllocGlobal), kind: &str, rest: &str) -> Result<()> {
+        let (from, rest) = number_and_rest(rest)?;
+        let (to, path) = number_and_rest(rest)?;
+        let text = read(rt, path)?;
+        let added = match kind {
+            "lines" => push_lines(&mut self.text, &text, from as usize, to as usize),
+            _ => push_numbered(rt.alloc(), &mut self.text, &text, from, to),
+        };
+        Ok(added?)
     }
 
     /// Adds a piece to the text: the line `line TEXT`, `text TEXT`, `copy PATH`, `lines FROM TO PATH` or `repeat FROM TO PATH`.
     fn add_piece(&mut self, rt: &(impl Files + AllocGlobal), kind: &str, rest: &str) -> Result<()> {
         match kind {
-            "line" => {
-                self.text.extend_from_slice(rest.as_bytes())?;
-                self.text.push(b'\n')?;
-            }
-            "text" => self.text.extend_from_slice(rest.as_bytes())?,
-            "copy" => self.text.extend_from_slice(&read(rt, rest)?)?,
-            _ => {
-                let (from, rest) = number_and_rest(rest)?;
-                let (to, path) = number_and_rest(rest)?;
-                let text = read(rt, path)?;
-                if kind == "lines" {
-                    push_lines(&mut self.text, &text, from as usize, to as usize)?;
-                } else {
-                    push_numbered(rt.alloc(), &mut self.text, &text, from, to)?;
-                }
-            }
+            "line" => Ok(self.add_line(rest)?),
+            "text" => Ok(self.text.extend_from_slice(rest.as_bytes())?),
+            "copy" => self.add_copy(rt, rest),
+            _ => self.add_range(rt, kind, rest),
+        }
+    }
+
+    /// Begins a file of a name.
+    fn begin_file(&mut self, alloc: Global, name: &str) -> Result<(), AllocError> {
+        let name = name_of(alloc, name.as_bytes())?;
+        self.begin(alloc, Target::File(name))
+    }
+
+    /// Adds a call of the sink that fails: `CALL KEPT`.
+    fn add_failing_put(&mut self, rest: &str) -> Result<()> {
+        let (call, kept) = number_and_rest(rest)?;
+        let kept = kept.parse::<usize>().context("no number of bytes")?;
+        Ok(self.case.failing_puts.push((call, kept))?)
+    }
+
+    /// Takes what the case says by one number: its status, how many advisors are left, or a call of the shelf that fails.
+    fn take_number(&mut self, kind: &str, rest: &str) -> Result<()> {
+        let number = rest.parse::<usize>().context("no number")?;
+        match kind {
+            "status" => self.case.wanted.status = number,
+            "advisors-left" => self.case.wanted.advisors_left = number,
+            _ => self.case.failing_takes.push(number as u64)?,
         }
         Ok(())
+    }
+
+    /// Reads a line that is no piece of a text, and adds no words or files.
+    fn read_other(&mut self, alloc: Global, kind: &str, rest: &str) -> Result<()> {
+        match kind {
+            "" | "#" => Ok(()),
+            "file" => Ok(self.begin_file(alloc, rest)?),
+            "output" => Ok(self.begin(alloc, Target::Output)?),
+            "status" | "advisors-left" | "take" => self.take_number(kind, rest),
+            "put" => self.add_failing_put(rest),
+            "advisor" => {
+                let adviser = adviser(rest)?;
+                Ok(self.case.advisers.push(adviser)?)
+            }
+            "sure" => {
+                self.case.is_sure = true;
+                Ok(())
+            }
+            _ => bail!("no line of a case begins with `{kind}`"),
+        }
     }
 
     /// Reads a line of the case's file.
@@ -122,38 +192,48 @@ impl Draft {
         let alloc = rt.alloc();
         let (kind, rest) = line.split_once(' ').unwrap_or((line, ""));
         match kind {
-            "" | "#" => {}
-            "words" => self.add_words(alloc, rest)?,
-            "repeat-word" => self.repeat_word(alloc, rest)?,
-            "files" => self.add_files(rt, rest)?,
-            "file" => self.begin(alloc, Target::File(name_of(alloc, rest.as_bytes())?))?,
-            "output" => self.begin(alloc, Target::Output)?,
-            "line" | "text" | "copy" | "lines" | "repeat" => self.add_piece(rt, kind, rest)?,
-            "status" => self.case.wanted.status = rest.parse::<u8>().context("no status")?,
-            "take" => {
-                let call = rest.parse::<u64>().context("no number of a call")?;
-                self.case.failing_takes.push(call)?;
-            }
-            "put" => {
-                let (call, kept) = number_and_rest(rest)?;
-                let kept = kept.parse::<usize>().context("no number of bytes")?;
-                self.case.failing_puts.push((call, kept))?;
-            }
-            "advisor" => self.case.advisers.push(adviser(rest)?)?,
-            "advisors-left" => {
-                let left = rest.parse::<usize>().context("no number of advisors")?;
-                self.case.wanted.advisors_left = left;
-            }
-            "sure" => self.case.is_sure = true,
-            _ => bail!("no line of a case begins with `{kind}`"),
+            "words" => Ok(self.add_words(alloc, rest)?),
+            "repeat-word" => self.repeat_word(alloc, rest),
+            "files" => self.add_files(rt, rest),
+            "line" | "text" | "copy" | "lines" | "repeat" => self.add_piece(rt, kind, rest),
+            _ => self.read_other(alloc, kind, rest),
         }
-        Ok(())
+    }
+
+    /// Reads lines of the case's file, and ends the text behind them.
+    fn read_block(&mut self, rt: &(impl Files + AllocGlobal), block: &str) -> Result<()> {
+        for line in block.split('\n') {
+            self.read_line(rt, line)
+                .context(format_args!("at `{line}`"))?;
+        }
+        Ok(self.begin(rt.alloc(), Target::Nothing)?)
+    }
+
+    /// Reads the lines that stand for every run of the case, and then a run's own.
+    fn read_blocks(
+        &mut self,
+        rt: &(impl Files + AllocGlobal),
+        common: &str,
+        own: &str,
+    ) -> Result<()> {
+        self.read_block(rt, common)?;
+        self.read_block(rt, own)
     }
 }
 
 /// The bytes of a file.
 pub(crate) fn read(rt: &(impl Files + AllocGlobal), path: &str) -> Result<Vec<u8>> {
     Ok(fs::read(rt, path).context(format_args!("reading {path}"))?)
+}
+
+/// The bytes of a file of a folder.
+pub(crate) fn read_in(
+    rt: &(impl Files + AllocGlobal),
+    folder: &str,
+    name: &str,
+) -> Result<Vec<u8>> {
+    let path = format!(in rt.alloc(); "{folder}/{name}")?;
+    read(rt, path.as_str())
 }
 
 /// A run of a case, from the lines that stand for every run of it and then the run's own. The last file of a name counts.
@@ -164,14 +244,7 @@ pub(crate) fn read_case(rt: &(impl Files + AllocGlobal), common: &str, own: &str
         target: Target::Nothing,
         text: Vec::new(alloc),
     };
-    for block in [common, own] {
-        for line in block.split('\n') {
-            draft
-                .read_line(rt, line)
-                .context(format_args!("at `{line}`"))?;
-        }
-        draft.begin(alloc, Target::Nothing)?;
-    }
+    draft.read_blocks(rt, common, own)?;
     draft.case.files.reverse();
     Ok(draft.case)
 }

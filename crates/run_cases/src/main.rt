@@ -26,8 +26,8 @@ fn play_run(
     common: &str,
     own: &str,
 ) -> Result<()> {
-    let case = read_case(rt, common, own)?;
-    play_as(rt.alloc(), told, label, case)
+    let mut case = read_case(rt, common, own)?;
+    Ok(play_as(rt.alloc(), told, label, &mut case)?)
 }
 
 /// Plays the runs of a case, and tells those that differ. What stands before the first line `run LABEL` goes for every run.

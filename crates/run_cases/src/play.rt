@@ -2,11 +2,11 @@
 
 use crate::advisors::{Adviser, Always};
 use crate::case::{Case, Wanted};
-use anyhow::{Result, anyhow};
-use cost_base::{MemoryShelf, MemorySink, Status, SureShelf, SureSink};
+use cost_base::{MemoryShelf, MemorySink, Shelf, Sink, Status, SureShelf, SureSink};
 use cut_advisors::{Advisor, SmallestNumber};
 use designer_command::run;
 use std::alloc::{AllocError, Global};
+use std::mem;
 
 /// How many bytes a sink has room for.
 const ROOM: usize = 4096;
@@ -38,7 +38,7 @@ fn difference(
     got: &[u8],
     wanted: &Wanted,
 ) -> Result<Option<String>, AllocError> {
-    let number = status.number();
+    let number = usize::from(status.number());
     let due = wanted.status;
     if got == wanted.output.as_slice() {
         if number == due {
@@ -70,8 +70,13 @@ fn difference_with(
     Ok(Some(format!(in alloc; "{left} advisors are left, wanted {due}")?))
 }
 
-/// Runs the words of a case over its files, and tells what differs from what is wanted, or None.
-fn play(alloc: Global, case: Case) -> Result<Option<String>> {
+/// Runs the words of a case over a shelf and into a sink, and tells how the run ended and how many advisors are left.
+fn run_case<S: Shelf, K: Sink>(
+    alloc: Global,
+    case: &Case,
+    shelf: &mut S,
+    sink: &mut K,
+) -> Result<(Status, usize), AllocError> {
     let mut advisors: Vec<Box<dyn Advisor>> = Vec::new(alloc);
     for adviser in case.advisers.as_slice() {
         match *adviser {
@@ -79,24 +84,58 @@ fn play(alloc: Global, case: Case) -> Result<Option<String>> {
             Adviser::SmallestNumber => advisors.push(Box::new(alloc, SmallestNumber)?)?,
         }
     }
-    if case.is_sure {
-        let mut shelf = SureShelf::new(case.files);
-        let mut sink = SureSink::new(alloc, ROOM).map_err(|_| anyhow!("out of memory"))?;
-        let status = run(alloc, &case.words, &mut shelf, &mut sink, &mut advisors);
-        let left = advisors.len();
-        return Ok(difference_with(alloc, left, status, sink.got(), &case.wanted)?);
-    }
-    let mut shelf = MemoryShelf::new(case.files, case.failing_takes);
-    let sink = MemorySink::new(alloc, ROOM, case.failing_puts);
-    let mut sink = sink.map_err(|_| anyhow!("out of memory"))?;
-    let status = run(alloc, &case.words, &mut shelf, &mut sink, &mut advisors);
-    Ok(difference_with(alloc, advisors.len(), status, sink.got(), &case.wanted)?)
+    let status = run(alloc, &case.words, shelf, sink, &mut advisors);
+    Ok((status, advisors.len()))
 }
 
-/// Plays a run, and adds what differs to a text, under the run's label.
-pub(crate) fn play_as(alloc: Global, told: &mut String, label: &str, case: Case) -> Result<()> {
-    if let Some(difference) = play(alloc, case)? {
-        told.push_str(format!(in alloc; " {label}: {difference};")?.as_str())?;
+/// Runs a case into a sink that never fails, and tells what differs from what is wanted, or None.
+fn play_surely(
+    alloc: Global,
+    case: &Case,
+    shelf: &mut SureShelf,
+) -> Result<Option<String>, AllocError> {
+    let Ok(mut sink) = SureSink::new(alloc, ROOM) else {
+        return Err(AllocError);
+    };
+    let (status, left) = run_case(alloc, case, shelf, &mut sink)?;
+    difference_with(alloc, left, status, sink.got(), &case.wanted)
+}
+
+/// Runs a case into a sink that fails where the case says, and tells what differs from what is wanted, or None.
+fn play_failing(
+    alloc: Global,
+    case: &mut Case,
+    shelf: &mut MemoryShelf,
+) -> Result<Option<String>, AllocError> {
+    let failing_puts = mem::replace(&mut case.failing_puts, Vec::new(alloc));
+    let Ok(mut sink) = MemorySink::new(alloc, ROOM, failing_puts) else {
+        return Err(AllocError);
+    };
+    let (status, left) = run_case(alloc, case, shelf, &mut sink)?;
+    difference_with(alloc, left, status, sink.got(), &case.wanted)
+}
+
+/// Runs the words of a case over its files, which the shelf takes, and tells what differs from what is wanted, or None.
+fn play(alloc: Global, case: &mut Case) -> Result<Option<String>, AllocError> {
+    let files = mem::replace(&mut case.files, Vec::new(alloc));
+    if case.is_sure {
+        let mut shelf = SureShelf::new(files);
+        return play_surely(alloc, case, &mut shelf);
     }
-    Ok(())
+    let failing_takes = mem::replace(&mut case.failing_takes, Vec::new(alloc));
+    let mut shelf = MemoryShelf::new(files, failing_takes);
+    play_failing(alloc, case, &mut shelf)
+}
+
+/// Plays a run, and adds what differs to a text, under the run's label. The case's files and failing calls are used up.
+pub(crate) fn play_as(
+    alloc: Global,
+    told: &mut String,
+    label: &str,
+    case: &mut Case,
+) -> Result<(), AllocError> {
+    match play(alloc, case)? {
+        Some(difference) => told.push_str(format!(in alloc; " {label}: {difference};")?.as_str()),
+        None => Ok(()),
+    }
 }

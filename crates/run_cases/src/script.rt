@@ -1,11 +1,11 @@
 //! A case of a shell script: each step of the script is a run.
 
 use crate::case::Case;
-use crate::case_file::{name_of, read};
+use crate::case_file::{file_of, read, read_in};
 use crate::play::play_as;
 use crate::steps::{Folder, Step, Variables};
 use anyhow::{Context, Result, bail, ensure};
-use std::alloc::Global;
+use std::alloc::{AllocError, Global};
 use std::collections::{BTreeMap, VecDeque};
 use std::fs;
 use std::rt::Files;
@@ -60,13 +60,17 @@ struct Progress {
     told: String,
 }
 
+/// Adds a file to those of a shelf.
+fn shelve(alloc: Global, case: &mut Case, path: &str, bytes: &[u8]) -> Result<(), AllocError> {
+    let file = file_of(alloc, path, bytes)?;
+    Ok(case.files.push(file)?)
+}
+
 /// Adds the files of a folder to those of a shelf, under their paths.
-fn shelve(alloc: Global, case: &mut Case, folder: &Folder) -> Result<()> {
-    let path = folder.path.as_str();
+fn shelve_all(alloc: Global, case: &mut Case, folder: &Folder) -> Result<(), AllocError> {
     for (name, bytes) in &folder.files {
-        let path = format!(in alloc; "{path}/{name}")?;
-        let held = (name_of(alloc, path.as_bytes())?, name_of(alloc, bytes)?);
-        case.files.push(held)?;
+        let path = folder.path_of(alloc, name.as_str())?;
+        shelve(alloc, case, path.as_str(), bytes)?;
     }
     Ok(())
 }
@@ -92,10 +96,8 @@ impl Progress {
         let (folder, names) = text.split_once(' ').context("no configurations")?;
         self.variables.old.path = String::from_str(rt.alloc(), folder)?;
         for name in names.split(' ') {
-            let path = format!(in rt.alloc(); "{folder}/{name}")?;
-            let bytes = read(rt, path.as_str())?;
-            let name = String::from_str(rt.alloc(), name)?;
-            self.variables.old.files.insert(name, bytes)?;
+            let bytes = read_in(rt, folder, name)?;
+            self.variables.old.add(rt.alloc(), name, bytes)?;
         }
         Ok(())
     }
@@ -103,69 +105,87 @@ impl Progress {
     /// Reads `NAME PATH`, a file that the next step is to make.
     fn read_due(&mut self, rt: &(impl Files + AllocGlobal), text: &str) -> Result<()> {
         let (name, path) = text.split_once(' ').context("no path")?;
-        let due = Due {
-            name: String::from_str(rt.alloc(), name)?,
-            bytes: read(rt, path)?,
-        };
-        Ok(self.due.push_back(due)?)
+        let bytes = read(rt, path)?;
+        let name = String::from_str(rt.alloc(), name)?;
+        Ok(self.due.push_back(Due { name, bytes })?)
+    }
+
+    /// Reads the request.
+    fn read_request(&mut self, rt: &(impl Files + AllocGlobal), path: &str) -> Result<()> {
+        self.variables.request = String::from_str(rt.alloc(), path)?;
+        self.request = read(rt, path)?;
+        Ok(())
     }
 
     /// Reads a line of the case's file, but for the script's name.
     fn read_line(&mut self, rt: &(impl Files + AllocGlobal), line: &str) -> Result<()> {
         let (kind, rest) = line.split_once(' ').unwrap_or((line, ""));
         match kind {
-            "" | "#" | "script" => {}
-            "request" => {
-                self.variables.request = String::from_str(rt.alloc(), rest)?;
-                self.request = read(rt, rest)?;
+            "" | "#" | "script" => Ok(()),
+            "request" => self.read_request(rt, rest),
+            "old" => self.read_old(rt, rest),
+            "new" => {
+                self.variables.new.path = String::from_str(rt.alloc(), rest)?;
+                Ok(())
             }
-            "old" => self.read_old(rt, rest)?,
-            "new" => self.variables.new.path = String::from_str(rt.alloc(), rest)?,
-            "makes" => self.read_due(rt, rest)?,
+            "makes" => self.read_due(rt, rest),
             _ => bail!("no line of a script's case begins with `{kind}`"),
         }
-        Ok(())
     }
 
-    /// The run of a step that is to write these bytes.
-    fn case_of(&self, alloc: Global, step: Step, wanted: &[u8]) -> Result<Case> {
+    /// Adds the files that a step finds.
+    fn shelve_found(&self, alloc: Global, case: &mut Case) -> Result<(), AllocError> {
+        let variables = &self.variables;
+        shelve(alloc, case, variables.request.as_str(), &self.request)?;
+        shelve_all(alloc, case, &variables.old)?;
+        shelve_all(alloc, case, &variables.new)
+    }
+
+    /// Plays the run of a step that is to write a file of a name and these bytes.
+    fn play_due(
+        &mut self,
+        alloc: Global,
+        case: &mut Case,
+        name: &str,
+        bytes: &[u8],
+    ) -> Result<(), AllocError> {
+        case.wanted.output.extend_from_slice(bytes)?;
+        self.shelve_found(alloc, case)?;
+        play_as(alloc, &mut self.told, name, case)
+    }
+
+    /// Plays a step that is to make a file. The steps behind it find the file.
+    fn make(&mut self, alloc: Global, step: Step, due: Due) -> Result<()> {
+        let Due { name, bytes } = due;
+        let Step { output, words } = step;
+        ensure!(output.as_str() == name.as_str(), "`{name}` is wanted");
         let mut case = Case::new(alloc);
-        case.words = step.words;
-        case.wanted.output.extend_from_slice(wanted)?;
-        let request = self.variables.request.as_bytes();
-        let held = (name_of(alloc, request)?, name_of(alloc, &self.request)?);
-        case.files.push(held)?;
-        shelve(alloc, &mut case, &self.variables.old)?;
-        shelve(alloc, &mut case, &self.variables.new)?;
-        Ok(case)
+        case.words = words;
+        self.play_due(alloc, &mut case, name.as_str(), &bytes)?;
+        Ok(self.variables.new.add(alloc, name.as_str(), bytes)?)
     }
 
-    /// Plays a step. The steps behind it find the file that it was to make.
+    /// Plays a step, which is to make the next file.
     fn play_step(&mut self, alloc: Global, text: &str) -> Result<()> {
         let step = self.variables.read_step(alloc, text)?;
-        let Some(due) = self.due.pop_front() else {
-            bail!("a step too many");
-        };
-        let name = due.name;
-        ensure!(step.output.as_str() == name.as_str(), "`{name}` is wanted");
-        let case = self.case_of(alloc, step, &due.bytes)?;
-        play_as(alloc, &mut self.told, name.as_str(), case)?;
-        self.variables.new.files.insert(name, due.bytes)?;
-        Ok(())
+        match self.due.pop_front() {
+            Some(due) => self.make(alloc, step, due),
+            None => bail!("a step too many"),
+        }
     }
 
     /// Plays a line. Only a step does something; `cat` may print what was made.
     fn play_line(&mut self, alloc: Global, line: &str) -> Result<()> {
         let (kind, rest) = line.split_once(' ').unwrap_or((line, ""));
         match kind {
-            "" | "#" => {}
-            "step" => self.play_step(alloc, rest)?,
+            "" | "#" => Ok(()),
+            "step" => self.play_step(alloc, rest),
             "cat" => {
                 self.variables.read_words(alloc, rest)?;
+                Ok(())
             }
             _ => bail!("the line isn't understood"),
         }
-        Ok(())
     }
 
     /// Plays lines that are not in a loop, or in one turn of it.
@@ -177,19 +197,56 @@ impl Progress {
         Ok(())
     }
 
+    /// Plays the lines inside of a loop, once for each of these configurations.
+    fn play_turns(&mut self, alloc: Global, names: Vec<String>, inside: &str) -> Result<()> {
+        for name in names {
+            self.variables.configuration = Some(name);
+            self.play_lines(alloc, inside)?;
+        }
+        self.variables.configuration = None;
+        Ok(())
+    }
+
+    /// Plays the lines inside of the loop and those behind it.
+    fn play_loop(&mut self, alloc: Global, behind: &str) -> Result<()> {
+        let (inside, after) = behind.split_once(LOOP_END).context("a loop doesn't end")?;
+        let names = self.variables.old.configurations(alloc)?;
+        self.play_turns(alloc, names, inside)?;
+        self.play_lines(alloc, after)
+    }
+
     /// Plays the lines behind the start of the steps.
     fn play_steps(&mut self, alloc: Global, steps: &str) -> Result<()> {
         let Some((before, behind)) = steps.split_once(LOOP) else {
             return self.play_lines(alloc, steps);
         };
-        let (inside, after) = behind.split_once(LOOP_END).context("a loop doesn't end")?;
         self.play_lines(alloc, before)?;
-        for name in self.variables.old.configurations(alloc)? {
-            self.variables.configuration = Some(name);
-            self.play_lines(alloc, inside)?;
+        self.play_loop(alloc, behind)
+    }
+
+    /// Reads the lines of the case's file.
+    fn read_lines(&mut self, rt: &(impl Files + AllocGlobal), text: &str) -> Result<()> {
+        for line in text.split('\n') {
+            self.read_line(rt, line)
+                .context(format_args!("at `{line}`"))?;
         }
-        self.variables.configuration = None;
-        self.play_lines(alloc, after)
+        Ok(())
+    }
+
+    /// Reads the lines of the case's file, and plays steps, which are to make all files that it says.
+    fn play_case(
+        &mut self,
+        rt: &(impl Files + AllocGlobal),
+        steps: &str,
+        text: &str,
+    ) -> Result<()> {
+        self.read_lines(rt, text)?;
+        self.play_steps(rt.alloc(), steps)?;
+        if let Some(due) = self.due.front() {
+            let name = due.name.as_str();
+            bail!("no step makes `{name}`");
+        }
+        Ok(())
     }
 }
 
@@ -223,6 +280,13 @@ pub(crate) fn script_of(text: &str) -> Option<&str> {
     None
 }
 
+/// Plays steps. The text is empty where they make, in this order, the files that the case says.
+fn play_steps(rt: &(impl Files + AllocGlobal), steps: &str, text: &str) -> Result<String> {
+    let mut progress = Progress::new(rt.alloc());
+    progress.play_case(rt, steps, text)?;
+    Ok(progress.told)
+}
+
 /// Plays the steps of a script. The text is empty where they make, in this order, the files that the case says.
 pub(crate) fn play_script(
     rt: &(impl Files + AllocGlobal),
@@ -230,16 +294,5 @@ pub(crate) fn play_script(
     text: &str,
 ) -> Result<String> {
     let script = fs::read_to_string(rt, path).context(format_args!("reading {path}"))?;
-    let mut progress = Progress::new(rt.alloc());
-    for line in text.split('\n') {
-        progress
-            .read_line(rt, line)
-            .context(format_args!("at `{line}`"))?;
-    }
-    progress.play_steps(rt.alloc(), steps_of(script.as_str())?)?;
-    if let Some(due) = progress.due.pop_front() {
-        let name = due.name;
-        bail!("no step makes `{name}`");
-    }
-    Ok(progress.told)
+    play_steps(rt, steps_of(script.as_str())?, text)
 }

@@ -1,7 +1,7 @@
 //! The steps of a shell script, with the script's variables put in.
 
 use anyhow::{Context, Result, bail, ensure};
-use std::alloc::Global;
+use std::alloc::{AllocError, Global};
 use std::collections::BTreeMap;
 
 /// A folder: its path, and the bytes of its files by their names.
@@ -21,13 +21,25 @@ impl Folder {
     }
 
     /// The path of a file of this name.
-    fn path_of(&self, alloc: Global, name: &str) -> Result<String> {
+    pub(crate) fn path_of(&self, alloc: Global, name: &str) -> Result<String, AllocError> {
         let path = self.path.as_str();
-        Ok(format!(in alloc; "{path}/{name}")?)
+        format!(in alloc; "{path}/{name}")
+    }
+
+    /// Adds a file.
+    pub(crate) fn add(
+        &mut self,
+        alloc: Global,
+        name: &str,
+        bytes: Vec<u8>,
+    ) -> Result<(), AllocError> {
+        let name = String::from_str(alloc, name)?;
+        self.files.insert(name, bytes)?;
+        Ok(())
     }
 
     /// The names of the configurations, `*.conf`, in the order of their bytes.
-    pub(crate) fn configurations(&self, alloc: Global) -> Result<Vec<String>> {
+    pub(crate) fn configurations(&self, alloc: Global) -> Result<Vec<String>, AllocError> {
         let mut names = Vec::new(alloc);
         for name in self.files.keys() {
             if name.as_str().ends_with(".conf") {
@@ -38,7 +50,7 @@ impl Folder {
     }
 
     /// Adds the paths of the configurations.
-    fn add_configurations(&self, alloc: Global, words: &mut Vec<String>) -> Result<()> {
+    fn add_configurations(&self, alloc: Global, words: &mut Vec<String>) -> Result<(), AllocError> {
         for name in self.configurations(alloc)? {
             words.push(self.path_of(alloc, name.as_str())?)?;
         }
@@ -98,13 +110,13 @@ impl Variables {
     fn made(&self, alloc: Global, name: &str) -> Result<String> {
         let is_made = self.new.files.contains_key(name);
         ensure!(is_made, "no step before makes `{name}`");
-        self.new.path_of(alloc, name)
+        Ok(self.new.path_of(alloc, name)?)
     }
 
     /// What a single word comes to: `"$configuration"`, `"$new/NAME"`, or a plain word.
     fn single(&self, alloc: Global, word: &str) -> Result<String> {
         if word == "\"$configuration\"" {
-            return self.old.path_of(alloc, self.configuration()?);
+            return Ok(self.old.path_of(alloc, self.configuration()?)?);
         }
         let Some(made) = word.strip_prefix("\"$new/") else {
             return plain(alloc, word);
@@ -112,15 +124,24 @@ impl Variables {
         self.made(alloc, made.strip_suffix("\"").context("no end of a word")?)
     }
 
+    /// What a single word comes to: `"$request"`, or what `single` says.
+    fn word(&self, alloc: Global, word: &str) -> Result<String> {
+        if word == "\"$request\"" {
+            return Ok(String::from_str(alloc, self.request.as_str())?);
+        }
+        self.single(alloc, word)
+    }
+
     /// Adds what a word comes to.
     fn add_word(&self, alloc: Global, word: &str, words: &mut Vec<String>) -> Result<()> {
         match word {
-            "\"$request\"" => words.push(String::from_str(alloc, self.request.as_str())?)?,
-            "\"$old\"/*.conf" => self.old.add_configurations(alloc, words)?,
-            "\"$new\"/*.conf" => self.new.add_configurations(alloc, words)?,
-            _ => words.push(self.single(alloc, word)?)?,
+            "\"$old\"/*.conf" => Ok(self.old.add_configurations(alloc, words)?),
+            "\"$new\"/*.conf" => Ok(self.new.add_configurations(alloc, words)?),
+            _ => {
+                let word = self.word(alloc, word)?;
+                Ok(words.push(word)?)
+            }
         }
-        Ok(())
     }
 
     /// What words come to, which stand one space apart.
@@ -132,25 +153,31 @@ impl Variables {
         Ok(words)
     }
 
+    /// The name of a step's output, and what stands behind it.
+    fn read_output<'a>(&self, alloc: Global, text: &'a str) -> Result<(String, &'a str)> {
+        if let Some(rest) = text.strip_prefix("\"$(basename \"$configuration\")\" ") {
+            return Ok((String::from_str(alloc, self.configuration()?)?, rest));
+        }
+        let (output, rest) = text.split_once(' ').context("no command")?;
+        Ok((plain(alloc, output)?, rest))
+    }
+
     /// The step `OUTPUT COMMAND WORD..`. The command is `"$checker"` before the word `check`, and else `"$program"`.
     pub(crate) fn read_step(&self, alloc: Global, text: &str) -> Result<Step> {
-        let own_name = "\"$(basename \"$configuration\")\" ";
-        let (output, rest) = if let Some(rest) = text.strip_prefix(own_name) {
-            (String::from_str(alloc, self.configuration()?)?, rest)
-        } else {
-            let (output, rest) = text.split_once(' ').context("no command")?;
-            (plain(alloc, output)?, rest)
-        };
-        let (command, rest) = rest.split_once(' ').context("no words")?;
-        let due = if rest.starts_with("check ") {
-            "\"$checker\""
-        } else {
-            "\"$program\""
-        };
-        ensure!(command == due, "the command isn't `{due}`");
-        Ok(Step {
-            output,
-            words: self.read_words(alloc, rest)?,
-        })
+        let (output, rest) = self.read_output(alloc, text)?;
+        let words = self.read_words(alloc, words_of(rest)?)?;
+        Ok(Step { output, words })
     }
+}
+
+/// The words behind a command: `"$checker"` before the word `check`, and else `"$program"`.
+fn words_of(text: &str) -> Result<&str> {
+    let (command, rest) = text.split_once(' ').context("no words")?;
+    let due = if rest.starts_with("check ") {
+        "\"$checker\""
+    } else {
+        "\"$program\""
+    };
+    ensure!(command == due, "the command isn't `{due}`");
+    Ok(rest)
 }

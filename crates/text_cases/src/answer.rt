@@ -1,9 +1,7 @@
 //! What is answered to a line of a script.
 
-use crate::beside::beside_text;
 use crate::configs::config_text;
 use crate::networks::{links_text, network_text};
-use crate::problems::{present_text, problem_text};
 use crate::requests::request_text;
 use case_scripts::Texts;
 use lsdb_build::Lsdb;
@@ -31,10 +29,9 @@ fn asked(alloc: Global, desk: &Desk, first: &str, more: &str) -> Result<String, 
     let bytes = desk.texts.with(alloc, more)?;
     match (first, &desk.network) {
         ("config", _) => config_text(alloc, desk.texts.last().name.as_str(), bytes.as_slice()),
-        ("request", _) => request_text(alloc, bytes.as_slice()),
-        ("problem", Some(network)) => problem_text(alloc, bytes.as_slice(), network),
-        ("present", Some(network)) => present_text(alloc, bytes.as_slice(), network),
-        ("beside", Some(network)) => beside_text(alloc, bytes.as_slice(), network),
+        ("request", _) | ("problem" | "present" | "beside", Some(_)) => {
+            request_text(alloc, first, bytes.as_slice(), &desk.network)
+        }
         _ => String::from_str(alloc, ""),
     }
 }

@@ -2,15 +2,12 @@
 ghost use Rattle.std.specs.Prelude.{◌≡◌};
 ghost use Rattle.path_requests.specs.Meaning.{problem_of};
 
-use crate::requests::requests_of;
-use cost_base::Refusal;
 use design_problem::Problem;
 use lsdb_build::Lsdb;
 use present_costs::{present_of_variables, resolve_beside_present};
 use request_reader::RequestFile;
 use std::alloc::{AllocError, Global};
 use std::fmt;
-use wanted_paths::ResolutionFault;
 
 /// The present costs of variables as they are written, `-` where there is none.
 #[derive(Drop)]
@@ -43,27 +40,14 @@ fn costs_text(
     }
 }
 
-/// What is told of the present costs, or of the first fault of requests.
-fn told(alloc: Global, requests: &RequestFile, network: &Lsdb) -> Result<String, AllocError> {
-    match resolve_beside_present(alloc, requests, network) {
-        Ok(problem) => costs_text(alloc, requests, network, &problem),
-        Err(stop) => stopped(alloc, stop),
-    }
-}
-
-/// What is told of the first fault.
-fn stopped(alloc: Global, stop: Refusal<ResolutionFault, ()>) -> Result<String, AllocError> {
-    format!(in alloc; ": {stop:?}")
-}
-
-/// `beside MORE`: the present cost of each variable that the last text makes of the network at hand.
+/// The present cost of each variable that requests make of a network, or their first fault.
 pub(crate) fn beside_text(
     alloc: Global,
-    bytes: &[u8],
+    requests: &RequestFile,
     network: &Lsdb,
 ) -> Result<String, AllocError> {
-    match requests_of(alloc, bytes) {
-        Ok(requests) => told(alloc, &requests, network),
+    match resolve_beside_present(alloc, requests, network) {
+        Ok(problem) => costs_text(alloc, requests, network, &problem),
         Err(stop) => format!(in alloc; ": {stop:?}"),
     }
 }

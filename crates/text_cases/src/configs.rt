@@ -15,9 +15,34 @@ struct Quad(u32);
 
 impl fmt::Display for Quad {
     fn fmt<W: fmt::Write>(&self, f: &mut fmt::Formatter<W>) -> fmt::Result {
-        let address = self.0;
-        write!(f, "{}.{}.", address >> 24, (address >> 16) & 255)?;
-        write!(f, "{}.{}", (address >> 8) & 255, address & 255)
+        let [first, second, third, fourth] = self.0.to_be_bytes();
+        write!(f, "{first}.{second}.{third}.{fourth}")
+    }
+}
+
+/// A number behind a word, as they are written; nothing where there is no number.
+#[derive(Drop)]
+pub(crate) struct Said<'a, T>(pub(crate) &'a str, pub(crate) &'a Option<T>);
+
+impl<'a, T: fmt::Display> fmt::Display for Said<'a, T> {
+    fn fmt<W: fmt::Write>(&self, f: &mut fmt::Formatter<W>) -> fmt::Result {
+        match self.1 {
+            Some(number) => write!(f, "{}{number}", self.0),
+            None => Ok(()),
+        }
+    }
+}
+
+/// An address and the length of its subnet, as they are written; nothing where there is no address.
+#[derive(Drop)]
+struct Subnet(Option<u32>, u8);
+
+impl fmt::Display for Subnet {
+    fn fmt<W: fmt::Write>(&self, f: &mut fmt::Formatter<W>) -> fmt::Result {
+        match self.0 {
+            Some(address) => write!(f, ", {}/{}", Quad(address), self.1),
+            None => Ok(()),
+        }
     }
 }
 
@@ -30,61 +55,58 @@ impl<'a> fmt::Display for Shown<'a> {
         let interface = self.0;
         write!(
             f,
-            "{} at line {}",
+            "{} at line {}{}{}{}{}",
             interface.name.as_bytes().escape_ascii(),
-            interface.line
-        )?;
-        if let Some(address) = interface.address {
-            write!(f, ", {}/{}", Quad(address), interface.length)?;
-        }
-        if let Some(area) = interface.area {
-            write!(f, ", area {area}")?;
-        }
-        if let Some(cost) = interface.cost {
-            write!(f, ", cost {cost}")?;
-        }
-        write_rest(interface, f)
+            interface.line,
+            Subnet(interface.address, interface.length),
+            Said(", area ", &interface.area),
+            Said(", cost ", &interface.cost),
+            Marks(interface)
+        )
     }
 }
 
 /// What is said of an interface beside its address, area and cost; nothing of what stands where nothing is said.
-fn write_rest<W: fmt::Write>(interface: &Interface, f: &mut fmt::Formatter<W>) -> fmt::Result {
-    if interface.kind == Kind::PointToPoint {
-        write!(f, ", point-to-point")?;
+#[derive(Drop)]
+struct Marks<'a>(&'a Interface);
+
+impl<'a> fmt::Display for Marks<'a> {
+    fn fmt<W: fmt::Write>(&self, f: &mut fmt::Formatter<W>) -> fmt::Result {
+        let interface = self.0;
+        let kind = match interface.kind {
+            Kind::PointToPoint => ", point-to-point",
+            Kind::Broadcast => "",
+        };
+        let passive = if interface.passive { ", passive" } else { "" };
+        let down = if interface.down { ", down" } else { "" };
+        match interface.priority {
+            1 => write!(f, "{kind}{passive}{down}"),
+            priority => write!(f, "{kind}{passive}{down}, priority {priority}"),
+        }
     }
-    if interface.passive {
-        write!(f, ", passive")?;
-    }
-    if interface.down {
-        write!(f, ", down")?;
-    }
-    if interface.priority != 1 {
-        write!(f, ", priority {}", interface.priority)?;
-    }
-    Ok(())
 }
 
-/// Adds a router's interfaces.
-fn add_interfaces(
-    alloc: Global,
-    text: &mut String,
-    config: &RouterConfig,
-) -> Result<(), AllocError> {
-    for interface in config.interfaces.as_slice() {
-        text.push_str(format!(in alloc; "; {}", Shown(interface))?.as_str())?;
+/// The interfaces of a router, as they are written.
+#[derive(Drop)]
+struct Interfaces<'a>(&'a [Interface]);
+
+impl<'a> fmt::Display for Interfaces<'a> {
+    fn fmt<W: fmt::Write>(&self, f: &mut fmt::Formatter<W>) -> fmt::Result {
+        for interface in self.0 {
+            write!(f, "; {}", Shown(interface))?;
+        }
+        Ok(())
     }
-    Ok(())
 }
 
 /// The router's name and ID, and its interfaces.
 fn router_text(alloc: Global, config: &RouterConfig) -> Result<String, AllocError> {
     let name = config.name.as_bytes().escape_ascii();
-    let mut text = match config.router_id {
-        Some(id) => format!(in alloc; ": {name}, id {}", Quad(id))?,
-        None => format!(in alloc; ": {name}")?,
-    };
-    add_interfaces(alloc, &mut text, config)?;
-    Ok(text)
+    let interfaces = Interfaces(config.interfaces.as_slice());
+    match config.router_id {
+        Some(id) => format!(in alloc; ": {name}, id {}{interfaces}", Quad(id)),
+        None => format!(in alloc; ": {name}{interfaces}"),
+    }
 }
 
 /// What a configuration says that isn't longer than any of a script.

@@ -1,7 +1,8 @@
 //! The network that configurations make, as it is written.
 
-use crate::configs::config_of;
+use crate::configs::{Said, config_of};
 use case_scripts::{Texts, Written};
+use cost_base::Listed;
 use interface_model::RouterConfig;
 use lsdb_build::{Linked, Lsdb, build};
 use std::alloc::{AllocError, Global};
@@ -66,34 +67,40 @@ impl<'a> fmt::Display for Shown<'a> {
         let name = link.interface.as_bytes().escape_ascii();
         write!(
             f,
-            "{name} of {} at line {}, to {:?}",
-            link.router, link.line, link.to
-        )?;
-        if let Some(link_back) = link.link_back {
-            write!(f, ", mate {link_back}")?;
-        }
-        if let Some(cost) = link.cost {
-            write!(f, ", cost {cost}")?;
+            "{name} of {} at line {}, to {:?}{}{}",
+            link.router,
+            link.line,
+            link.to,
+            Said(", mate ", &link.link_back),
+            Said(", cost ", &link.cost)
+        )
+    }
+}
+
+/// Links, each on a line of its own.
+#[derive(Drop)]
+struct Links<'a>(&'a [Linked]);
+
+impl<'a> fmt::Display for Links<'a> {
+    fn fmt<W: fmt::Write>(&self, f: &mut fmt::Formatter<W>) -> fmt::Result {
+        for link in self.0 {
+            write!(f, "\n  {}", Shown(link))?;
         }
         Ok(())
     }
 }
 
-/// Adds the links of a network.
-fn add_links(alloc: Global, text: &mut String, network: &Lsdb) -> Result<(), AllocError> {
-    for link in network.links.as_slice() {
-        text.push_str(format!(in alloc; "\n  {}", Shown(link))?.as_str())?;
-    }
-    Ok(())
-}
+/// Transit subnets, each on a line of its own.
+#[derive(Drop)]
+struct Subnets<'a>(&'a [Listed<u32>]);
 
-/// Adds the transit subnets of a network.
-fn add_subnets(alloc: Global, text: &mut String, network: &Lsdb) -> Result<(), AllocError> {
-    for members in network.subnets.as_slice() {
-        let members = Written(members.as_slice());
-        text.push_str(format!(in alloc; "\n  subnet of links {members}")?.as_str())?;
+impl<'a> fmt::Display for Subnets<'a> {
+    fn fmt<W: fmt::Write>(&self, f: &mut fmt::Formatter<W>) -> fmt::Result {
+        for members in self.0 {
+            write!(f, "\n  subnet of links {}", Written(members.as_slice()))?;
+        }
+        Ok(())
     }
-    Ok(())
 }
 
 /// `links`: the routers, links and transit subnets of the network at hand.
@@ -101,8 +108,8 @@ pub(crate) fn links_text(alloc: Global, network: &Option<Lsdb>) -> Result<String
     let Some(network) = network else {
         return String::from_str(alloc, ": no network");
     };
-    let mut text = format!(in alloc; ": {} routers", network.routers.as_slice().len())?;
-    add_links(alloc, &mut text, network)?;
-    add_subnets(alloc, &mut text, network)?;
-    Ok(text)
+    let routers = network.routers.as_slice().len();
+    let links = Links(network.links.as_slice());
+    let subnets = Subnets(network.subnets.as_slice());
+    format!(in alloc; ": {routers} routers{links}{subnets}")
 }
