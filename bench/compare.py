@@ -1,15 +1,15 @@
 #!/usr/bin/env python3
-"""Runs `ospfcost` and row generation by CBC and by GLPK on the same cases, one after the other.
+"""Runs `ospfcost` and row generation by CBC and by GLPK on the same networks, one after the other.
 
-    compare.py [--program PATH] [--question design|total|change|conflict] [--cases small|whole|large] [--limit SECONDS]
-               [--plot FILE] [--solver cbc|glpk ..] [--case FOLDER ..]
+    compare.py [--program PATH] [--question design|total|change|conflict] [--networks small|whole|large] [--limit SECONDS]
+               [--plot FILE] [--solver cbc|glpk ..] [--folder FOLDER ..]
 
-Prints a table: for each case what was found (the greatest cost; with `total` the least sum of costs of that greatest
+Prints a table: for each network what was found (the greatest cost; with `total` the least sum of costs of that greatest
 cost; with `change` the fewest changed variables), the user seconds of each, and how many times as long as `ospfcost`
 the solver took. What was found is compared; where two differ, the script says so and ends with status 1. A run that
 passes the limit counts as `over`, and a table's ratio is then a lower bound. `conflict` has the times of `design` in
 the solvers' place. --solver names those that are to run; else both do. With --plot it also writes an SVG of how the times
-grow (it wants gnuplot). With --case it runs over folders that are there, such as examples/backbone.
+grow (it wants gnuplot). With --folder it runs over folders that are there, such as examples/backbone.
 """
 import argparse
 import datetime
@@ -42,13 +42,13 @@ class Run:
     note: str = ''
 
 
-def cases(kind, question):
-    """The cases, as (network, routers, paths, seed, detours, moved costs). The first ones grow in routers, the next in
+def networks(kind, question):
+    """The networks, as (kind, routers, paths, seed, detours, moved costs). The first ones grow in routers, the next in
     paths. `change` has present costs, of which some were moved."""
     if kind == 'large':
         found = [('random', 200, 200, 1), ('random', 200, 200, 2), ('random', 200, 400, 1), ('random', 250, 250, 1),
                  ('random', 250, 1000, 1), ('random', 50, 1000, 1), ('symmetric', 200, 200, 1), ('grid', 144, 200, 1)]
-        return [(*case, 0, 5 if question == 'change' else None) for case in found]
+        return [(*made, 0, 5 if question == 'change' else None) for made in found]
     grown = [(20, 20), (30, 30), (50, 50), (75, 75), (100, 100)]
     if kind == 'whole':
         grown += [(150, 100), (200, 100), (250, 100)]
@@ -122,7 +122,7 @@ def rivals_of(question, solvers):
 
 
 def measure(question, program, request, configurations, limit, others):
-    """The runs of one case, by name."""
+    """The runs of one network, by name."""
     problem = read_problem(request, configurations)
     with tempfile.TemporaryDirectory() as folder:
         runs = {'ospfcost': least_time(lambda: run_design(question, program, request, configurations, limit, folder))}
@@ -177,10 +177,10 @@ def machine():
 
 def plot(path, measured):
     """An SVG with two pictures: times by routers and by paths."""
-    by_routers = [(case[1], runs) for case, runs in measured if case[0] == 'random' and case[4] == 0 and case[3] == 1
-                  and case[2] == min(case[1], 100)]
-    by_paths = [(case[2], runs) for case, runs in measured if case[:2] == ('random', 100) and case[4] == 0
-                and case[3] == 1]
+    by_routers = [(made[1], runs) for made, runs in measured if made[0] == 'random' and made[4] == 0 and made[3] == 1
+                  and made[2] == min(made[1], 100)]
+    by_paths = [(made[2], runs) for made, runs in measured if made[:2] == ('random', 100) and made[4] == 0
+                and made[3] == 1]
     text = ["set terminal svg size 1000,420 font 'Helvetica,13' background 'white'", "set output '%s'" % path,
             'set logscale y', 'set grid', "set ylabel 'user seconds'", 'set key left top', 'set multiplot layout 1,2']
     for points, title, axis in ((by_routers, 'as many paths as routers, at most 100', 'routers'),
@@ -200,11 +200,11 @@ def main():
     words = argparse.ArgumentParser(description='Compares ospfcost with row generation by CBC and by GLPK.')
     words.add_argument('--program', default=str(PROGRAM))
     words.add_argument('--question', choices=('design', 'total', 'change', 'conflict'), default='design')
-    words.add_argument('--cases', choices=('small', 'whole', 'large'), default='small')
+    words.add_argument('--networks', choices=('small', 'whole', 'large'), default='small')
     words.add_argument('--limit', type=float, default=60.0)
     words.add_argument('--plot')
     words.add_argument('--solver', nargs='+', choices=tuple(SOLVERS))
-    words.add_argument('--case', nargs='+', default=[])
+    words.add_argument('--folder', nargs='+', default=[])
     asked = words.parse_args()
     print(machine(), flush=True)
     others = rivals_of(asked.question, asked.solver or SOLVERS)
@@ -215,12 +215,12 @@ def main():
     print('|---|---|---|---|---|---|' + '---|---|' * len(others), flush=True)
     measured, right = [], True
     with tempfile.TemporaryDirectory() as folder:
-        waiting = [(folder_name, None) for folder_name in asked.case] or [(None, case) for case in cases(asked.cases, asked.question)]
-        for given, case in waiting:
+        waiting = [(folder_name, None) for folder_name in asked.folder] or [(None, made) for made in networks(asked.networks, asked.question)]
+        for given, made in waiting:
             if given is None:
-                label = '%s, seed %d%s%s' % (case[0], case[3], ', %d detours' % case[4] if case[4] else '',
-                                             ', %d moved' % case[5] if case[5] else '')
-                request, configurations = make_network.make(os.path.join(folder, '-'.join(map(str, case))), *case)
+                label = '%s, seed %d%s%s' % (made[0], made[3], ', %d detours' % made[4] if made[4] else '',
+                                             ', %d moved' % made[5] if made[5] else '')
+                request, configurations = make_network.make(os.path.join(folder, '-'.join(map(str, made))), *made)
             else:
                 label = os.path.basename(given.rstrip('/'))
                 request = os.path.join(given, 'request.txt')
@@ -232,8 +232,8 @@ def main():
             if asked.question != 'conflict' and not agree(runs):
                 right = False
                 print('they differ: %s' % {name: run.found for name, run in runs.items()}, flush=True)
-            if case is not None:
-                measured.append((case, runs))
+            if made is not None:
+                measured.append((made, runs))
     if asked.plot and measured:
         plot(asked.plot, measured)
     sys.exit(0 if right else 1)

@@ -3,7 +3,8 @@
     python3 bench/faults.py [COMMAND ..]
 
 For one run of each command (or of those named): each request for memory refused alone, and each with all that follow;
-each read and each write failed, interrupted, and cut to one byte. What is right:
+each read and each write failed, interrupted, and cut to one byte. The run without a fault has to end with its own status.
+What is right else:
 
 - memory: status 6 and nothing written, or the right text with its status
 - a read that failed: status 4 and the line of a file of the words, or the right text
@@ -30,12 +31,13 @@ def words_of(folder, *options):
 
 
 def runs():
+    """A run of each command, and one of words that are none's."""
     request = ("--request", "request.txt")
     return {
         "audit": ["audit", *words_of("check-optimal", *request)],
         "design": ["design", *words_of("check-optimal", *request)],
         "check": ["check", *words_of("check-optimal", *request, "--answer", "answer.txt")],
-        "rewrite": ["rewrite", *words_of("rewrite", "--answer", "answer.txt")],
+        "rewrite": ["rewrite", "--answer", "examples/rewrite/answer.txt", "examples/rewrite/A.conf"],
         "conflict": ["conflict", *words_of("conflict", *request)],
         "spread": ["spread", *words_of("spread", *request, "--sets", "sets.txt")],
         "total": ["total", *words_of("total", *request)],
@@ -46,9 +48,14 @@ def runs():
         "compare": ["compare", *words_of("tour", "--live", "running.json", *request)],
         "audit of a running area": ["audit", *words_of("tour", "--live", "running.json", *request)],
         "help": ["help", "design"],
+        "version": ["version"],
         "trial": ["trial", "--blocks", "2"],
         "words": ["design"],
     }
+
+
+# The runs that without a fault end with another status than 0.
+STATUS = {"words": 7}
 
 
 class Faults:
@@ -76,6 +83,7 @@ class Faults:
 
     def try_command(self, name, words):
         right = self.run(words)
+        self.judge(name, {}, right, right[0] == STATUS.get(name, 0))
         allocs, reads, writes = self.counted()
         tally = {"right text": 0, "status 4": 0, "status 5": 0, "status 6": 0}
 
