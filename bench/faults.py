@@ -34,7 +34,7 @@ def runs():
     """A run of each command, and one of words that are none's."""
     request = ("--request", "request.txt")
     return {
-        "audit": ["audit", *words_of("check-optimal", *request)],
+        "audit": ["audit", *words_of("tour", *request)],
         "design": ["design", *words_of("check-optimal", *request)],
         "check": ["check", *words_of("check-optimal", *request, "--answer", "answer.txt")],
         "rewrite": ["rewrite", "--answer", "examples/rewrite/answer.txt", "examples/rewrite/A.conf"],
