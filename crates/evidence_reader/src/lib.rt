@@ -18,4 +18,5 @@ pub mod validity;
 pub use fault::AnswerFault;
 pub use faults::{fault_at, nothing_left};
 pub use reader::read_answer;
+pub use stage_head::answer_head;
 pub use stage_sections::{Sections, read_sections};
