@@ -7,10 +7,10 @@ use Rattle.cost_base.specs.declared.refusal.Refusal.{Refusal}
 use Rattle.cost_base.specs.declared.refusal.Refusal.TheVariants as stops
 use Rattle.design_problem.specs.Answers.{greatest_bound}
 use Rattle.design_problem.specs.Problems.{DesignProblem}
-use Rattle.text_lines.specs.LineFaults.{FaultyLine}
+use Rattle.text_lines.specs.LineFaults.{FaultyLine, TellsFault}
 use Rattle.set_reader.specs.declared.fault.SetFault.{SetFault}
 use Rattle.set_reader.specs.FaultNumbers.{set_fault_number}
-use Rattle.set_reader.specs.Reading.{AreSaid, TellsReading, set_fault}
+use Rattle.set_reader.specs.Reading.{AreSaid, set_fault}
 use Rattle.set_reader.specs.SpreadSets.{AreSetsOf}
 use Rattle.command_words.specs.Jobs.{SearchLimits}
 use Rattle.input_files.specs.declared.problem.View.TheVariants.{AsRequested}
@@ -69,7 +69,7 @@ sets_ready file d p bytes sets is none said lawful = record {
 
 -- a file with one
 pub sets_stop : (file : Bor (List ℕ)) (d : Input) (p : DesignProblem) (bytes : List ℕ) (stop : Refusal SetFault ℕ) → d.problem ≡ p →
-    TellsReading (set_fault p bytes) stop →
+    TellsFault (set_fault p bytes) stop →
     StopsAs (if_sets file.now d bytes (set_fault d.problem bytes)) [] (refusal_stop set_fault_number stop file)
 sets_stop file d p bytes (stops.Refused fault line) is tells =
     subst (λ (f : Option (FaultyLine SetFault)). EndsAs (if_sets file.now d bytes f) [] (Faulty (refusal_in (set_fault_number fault) file line)))

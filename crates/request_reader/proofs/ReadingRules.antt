@@ -7,14 +7,13 @@ use Rattle.request_reader.specs.declared.fault.RequestFault.{RequestFault}
 use Rattle.request_reader.specs.declared.reading.statement.Bounds.{Bounds}
 use Rattle.request_reader.specs.declared.Directive.TheVariants.{Fix, Symmetric, SymmetricAll}
 use Rattle.request_reader.specs.declared.fault.RequestFault.TheVariants.{BadBounds}
-use Rattle.request_reader.specs.declared.reading.statement.Statement.TheVariants.{Passed, Header, DefaultCost, Ask}
+use Rattle.request_reader.specs.declared.reading.statement.Statement.TheVariants.{DefaultCost, Ask}
 use Rattle.request_reader.specs.WrittenRoutes.{Route}
 use Rattle.request_reader.specs.declared.Part.{Part}
 use Rattle.cost_base.specs.Lists.{same_bytes}
-use Rattle.text_lines.specs.Lines.{starts_comment}
 use Rattle.text_lines.specs.Numbers.{number, area}
 use Rattle.request_reader.specs.Routes.{route_of}
-use Rattle.request_reader.specs.ReadingLines.{off, header_line, area_line_by, area_line, default_cost_read, default_cost_line, bound, bounds_of, bounds_said, free_all, free_one, is_router_word, free_line, fix_line, symmetric_line, to_without, behind_without, excluded_parts, path_said, path_line, request_statement_by, request_statement_of}
+use Rattle.request_reader.specs.ReadingLines.{off, area_line_by, area_line, default_cost_read, default_cost_line, bound, bounds_of, bounds_said, free_all, free_one, is_router_word, free_line, fix_line, symmetric_line, to_without, behind_without, excluded_parts, path_said, path_line, request_statement_by, request_statement_of}
 use Rattle.request_reader.specs.ReadingSteps.{KeepsRules}
 
 -- bounds from 1 on that don't cross
@@ -92,12 +91,6 @@ area_keeps (word ∷ []) = said_keeps (area word)
     said_keeps (Some n) = tt
 area_keeps (a ∷ b ∷ more) = tt
 
-header_keeps : (ws : List (List ℕ)) → KeepsRules (header_line ws)
-header_keeps [] = tt
-header_keeps (a ∷ []) = tt
-header_keeps (a ∷ b ∷ []) = either (same_bytes a (codes "request") && same_bytes b (codes "1")) Header off tt tt
-header_keeps (a ∷ b ∷ c ∷ more) = tt
-
 path_keeps : (ws : List (List ℕ)) → KeepsRules (path_line ws)
 path_keeps [] = tt
 path_keeps (word ∷ words) = said_keeps (route_of (word ∷ to_without words)) (excluded_parts (behind_without words))
@@ -111,17 +104,17 @@ line_keeps : (word : List ℕ) (ws : List (List ℕ)) → KeepsRules (request_st
 line_keeps word ws =
     one_of (same_bytes word (codes "path")) (same_bytes word (codes "free")) (same_bytes word (codes "fix"))
     (same_bytes word (codes "symmetric")) (same_bytes word (codes "area"))
-    (same_bytes word (codes "default-cost")) (same_bytes word (codes "ospfcost"))
-    (path_line ws) (free_line ws) (fix_line ws) (symmetric_line ws) (area_line ws) (default_cost_line ws) (header_line ws)
-    (path_keeps ws) (free_keeps ws) (fix_keeps ws) (symmetric_keeps ws) (area_keeps ws) (cost_keeps ws) (header_keeps ws)
+    (same_bytes word (codes "default-cost"))
+    (path_line ws) (free_line ws) (fix_line ws) (symmetric_line ws) (area_line ws) (default_cost_line ws)
+    (path_keeps ws) (free_keeps ws) (fix_keeps ws) (symmetric_keeps ws) (area_keeps ws) (cost_keeps ws)
   where
     one_of :
-        (a b c d e f g : Bool) (p q r s t u v : Statement) → KeepsRules p → KeepsRules q → KeepsRules r → KeepsRules s →
-        KeepsRules t → KeepsRules u → KeepsRules v →
-        KeepsRules (cond a p (cond b q (cond c r (cond d s (cond e t (cond f u (cond g v off)))))))
-    one_of a b c d e f g p q r s t u v kp kq kr ks kt ku kv =
-        either a p _ kp (either b q _ kq (either c r _ kr (either d s _ ks (either e t _ kt (either f u _ ku (either g v off kv tt))))))
+        (a b c d e f : Bool) (p q r s t u : Statement) → KeepsRules p → KeepsRules q → KeepsRules r → KeepsRules s →
+        KeepsRules t → KeepsRules u →
+        KeepsRules (cond a p (cond b q (cond c r (cond d s (cond e t (cond f u off))))))
+    one_of a b c d e f p q r s t u kp kq kr ks kt ku =
+        either a p _ kp (either b q _ kq (either c r _ kr (either d s _ ks (either e t _ kt (either f u off ku tt)))))
 
 pub statement_rules : (ws : List (List ℕ)) (said : Statement) → said ≡ request_statement_of ws → KeepsRules said
 statement_rules [] said is = subst KeepsRules (sym is) tt
-statement_rules (word ∷ ws) said is = subst KeepsRules (sym is) (either (starts_comment word) Passed (request_statement_by word ws) tt (line_keeps word ws))
+statement_rules (word ∷ ws) said is = subst KeepsRules (sym is) (line_keeps word ws)

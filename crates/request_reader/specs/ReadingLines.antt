@@ -1,7 +1,6 @@
--- What a line of a request file says by itself.
+-- What a statement of a request file says by itself.
 use Rattle.std.specs.Prelude.{ℕ, List, [], ◌∷◌, ◌==◌, ◌&&◌, nat_le, if◌then◌else◌, Bool, Option, Some, None, Result, Ok, Err, codes, is_none}
 use Rattle.cost_base.specs.Lists.{same_bytes}
-use Rattle.text_lines.specs.Lines.{words, starts_comment}
 use Rattle.text_lines.specs.Numbers.{number, number_within, area}
 use Rattle.text_lines.specs.WordLists.{all_said}
 use Rattle.request_reader.specs.declared.Part.{Part}
@@ -10,7 +9,7 @@ use Rattle.request_reader.specs.declared.Directive.TheVariants.{FreeAll, Free, F
 use Rattle.request_reader.specs.declared.fault.RequestFault.{RequestFault}
 use Rattle.request_reader.specs.declared.fault.RequestFault.TheVariants.{BadRequestLine, BadBounds}
 use Rattle.request_reader.specs.declared.reading.statement.Statement.{Statement}
-use Rattle.request_reader.specs.declared.reading.statement.Statement.TheVariants.{Passed, Header, Area, DefaultCost, Ask, Refused}
+use Rattle.request_reader.specs.declared.reading.statement.Statement.TheVariants.{Area, DefaultCost, Ask, Refused}
 use Rattle.request_reader.specs.declared.reading.statement.Bounds.{Bounds}
 use Rattle.request_reader.specs.WrittenRoutes.{Route}
 use Rattle.request_reader.specs.Routes.{cut, hop_of, route_of}
@@ -18,11 +17,6 @@ use Rattle.request_reader.specs.Routes.{cut, hop_of, route_of}
 -- a line off the table
 abbrev pub off : Statement
 off = Refused BadRequestLine
-
--- `ospfcost request 1`
-abbrev pub header_line : List (List ℕ) → Statement
-header_line (request ∷ version ∷ []) = if same_bytes request (codes "request") && same_bytes version (codes "1") then Header else off
-header_line _ = off
 
 -- an `area` line, by the area that was read
 abbrev pub area_line_by : Option ℕ → Statement
@@ -140,10 +134,9 @@ request_statement_by word words =
     else if same_bytes word (codes "symmetric") then symmetric_line words
     else if same_bytes word (codes "area") then area_line words
     else if same_bytes word (codes "default-cost") then default_cost_line words
-    else if same_bytes word (codes "ospfcost") then header_line words
     else off
 
--- what a line with these words says: nothing where it is blank or a comment
+-- what a statement of these words says
 abbrev pub request_statement_of : List (List ℕ) → Statement
-request_statement_of [] = Passed
-request_statement_of (word ∷ words) = if starts_comment word then Passed else request_statement_by word words
+request_statement_of [] = off
+request_statement_of (word ∷ words) = request_statement_by word words
