@@ -3,7 +3,7 @@ ghost use Rattle.std.specs.Prelude.{◌≡◌, [], ◌∷◌, ◌++◌, codes, s
 ghost use Rattle.text_lines.specs.Lines.{with_ends};
 ghost use Rattle.evidence_text.specs.Lines.{with_words};
 ghost use Rattle.change_steps.specs.Rollouts.{lines_of_step};
-ghost use Rattle.change_commands.specs.Steps.{barrier_word, held_line, link_interface, link_of_step, outcome_lines, link_router};
+ghost use Rattle.change_commands.specs.Steps.{barrier_word, held_line, link_of_step, outcome_lines};
 ghost use Rattle.change_commands.specs.Steps.{step_line, step_name, step_words, steps_lines, steps_text, stuck_line, stuck_lines};
 
 use change_steps::{Barrier, Blocked, Moves, Outcome, Steps, Stuck};
@@ -52,26 +52,6 @@ fn cost_of_link(costs: &[u16], link: u32) -> u16
     }
 }
 
-/// The name of a link's router.
-fn router_of_link<'a>(names: &'a Names, link: u32) -> &'a [u8]
-    ensures { result.now ≡ link_router names.now link }
-{
-    match names.links().get(link as usize) {
-        Some(link) => names.router_name(link.router),
-        None => &[],
-    }
-}
-
-/// The name of a link's interface.
-fn interface_of_link<'a>(names: &'a Names, link: u32) -> &'a [u8]
-    ensures { result.now ≡ link_interface names.now link }
-{
-    match names.links().get(link as usize) {
-        Some(link) => link.interface.as_bytes(),
-        None => &[],
-    }
-}
-
 /// Adds a name behind a space.
 fn push_name(line: &mut Vec<u8>, name: &[u8]) -> Result<(), OutOfMemory>
     ensures { OnOk result (line.new.items ≡ line.old.items ++ 32 ∷ name.now) }
@@ -86,9 +66,9 @@ fn push_step_name(line: &mut Vec<u8>, of: StepNames, step: usize) -> Result<(), 
         (step_name of.entry.by of.entry.names.now of.entry.moves.now step)) }
 {
     let link = link_of_step(of.moves, step);
-    push_name(line, router_of_link(of.names, link))?;
+    push_name(line, of.names.link_router(link))?;
     match of.by {
-        StepUnit::Line => push_name(line, interface_of_link(of.names, link)),
+        StepUnit::Line => push_name(line, of.names.link_interface(link)),
         StepUnit::Router => Ok(()),
     }
 }
