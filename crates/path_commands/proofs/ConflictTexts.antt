@@ -1,8 +1,7 @@
 -- The text of `conflict`, part by part.
-use Rattle.std.proofs.Common.{◌≡◌, ℕ, ◌+◌, ◌<◌, sym, ◌∙◌, ap, subst, List, [], ◌∷◌, ◌++◌, map, length, drop, get_or, append_assoc, arith}
+use Rattle.std.proofs.Common.{◌≡◌, ℕ, ◌+◌, ◌<◌, sym, ◌∙◌, ap, subst, List, [], ◌∷◌, ◌++◌, length, drop, get_or, append_assoc, arith}
 use Rattle.std.specs.Prelude.{All, codes, Some}
 use Rattle.std.proofs.lemmas.List.{at_drop_more, get_or_default}
-use Rattle.cost_base.specs.Decimal.{decimal}
 use Rattle.design_problem.specs.declared.answer.CapTree.{CapTree}
 use Rattle.design_problem.specs.declared.form.Row.{Row}
 use Rattle.design_problem.specs.declared.tree.Entry.{Entry}
@@ -11,23 +10,13 @@ use Rattle.design_problem.specs.Boxes.{IsInBox}
 use Rattle.design_problem.specs.Rows.{box_of}
 use Rattle.design_problem.specs.Text.{tree_lines}
 use Rattle.text_lines.specs.Lines.{with_ends}
-use Rattle.evidence_text.specs.Lines.{with_words}
 use Rattle.evidence_text.specs.Parts.{rows_lines}
 use Rattle.text_lines.proofs.LineLaws.{with_ends-append}
-use Rattle.evidence_text.proofs.WordLaws.{spaced-with}
 use Rattle.conflict_core.specs.declared.conflict.Conflict.TheVariants.{Fits, Core, Undecided}
 use Rattle.conflict_core.specs.Conflicts.{IsCore, all_requests}
 use Rattle.printed_parts.specs.SharedParts.{at_ceiling, costs_part}
 use Rattle.path_commands.specs.Conflicts.{conflict_text, members_line, without_line, without_parts}
 use Rattle.printed_parts.proofs.TextParts.{joined}
-
--- The line of the requests.
-
--- with its first two words
-pub members_begun : (line members : List ℕ) → line ≡ codes "members " ++ decimal (length members) → with_words line (map decimal members) ≡ members_line members
-members_begun line members is =
-    ap (λ (first : List ℕ). with_words first (map decimal members)) is
-    ∙ sym (spaced-with (codes "members") (decimal (length members) ∷ map decimal members))
 
 -- The whole texts.
 
@@ -85,17 +74,6 @@ without_more p members lists i d none w member old new whole known listed is_mem
     ∙ ap (λ (bytes : List ℕ). old ++ bytes) (sym (with_ends-append first rest))
     ∙ ap (λ (lines : List (List ℕ)). old ++ with_ends lines) (sym (next_member ∙ next_list ∙ same))
     ∙ so_far
-
--- the first three lines
-pub head_spelled : (verdict members line none first second third : List ℕ) → none ≡ [] →
-    first ≡ none ++ with_ends (codes "ospfcost conflict 1" ∷ []) → second ≡ first ++ with_ends (verdict ∷ []) →
-    third ≡ second ++ with_ends (line ∷ []) → line ≡ members_line members →
-    third ≡ with_ends (codes "ospfcost conflict 1" ∷ verdict ∷ members_line members ∷ [])
-head_spelled verdict members line none first second third empty one two three is =
-    let a = codes "ospfcost conflict 1" in
-    let begun = joined [] (a ∷ []) none first empty one in
-    let next = joined (a ∷ []) (verdict ∷ []) first second begun two in
-    joined (a ∷ verdict ∷ []) (line ∷ []) second third next three ∙ ap (λ (last : List ℕ). with_ends (a ∷ verdict ∷ last ∷ [])) is
 
 -- the tree of a part by its other name
 pub evidence_pushed : (p : DesignProblem) (rows : List Row) (tree : List Entry) (t : CapTree) (word old new : List ℕ) →

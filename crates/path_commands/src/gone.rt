@@ -1,5 +1,5 @@
 //! The edges of linked interfaces, in both directions.
-ghost use Rattle.std.specs.Prelude.{◌≡◌, ◌<◌, ◌^◌, ◌==◌, ◌||◌, ◌++◌, ◌∷◌, [], if◌then◌else◌, IfOk, OnOk, length, slice_get};
+ghost use Rattle.std.specs.Prelude.{◌≡◌, ◌<◌, ◌^◌, ◌==◌, ◌||◌, IfOk, length, slice_get};
 ghost use Rattle.area_graph.specs.Area.{edge_at};
 ghost use Rattle.std.specs.List.{list_any};
 ghost use Rattle.wanted_paths.specs.Paths.{link_takes};
@@ -7,7 +7,7 @@ ghost use Rattle.path_commands.specs.LiveAudits.{edges_of_links};
 ghost use Rattle.path_commands.specs.Gone.{is_link_back, leads_back};
 
 use area_graph::{Edge, Graph, edge_of};
-use cost_base::OutOfMemory;
+use cost_base::{OutOfMemory, push_if};
 use lsdb_build::{Far, Linked, Lsdb};
 use std::alloc::Global;
 
@@ -66,17 +66,6 @@ fn is_taken(lsdb: &Lsdb, graph: &Graph, links: &[u32], edge: u32) -> bool
     links
         .iter()
         .any(|link| link_takes(lsdb, graph, *link, edge))
-}
-
-/// Adds an edge, if it is one of those that are sought.
-fn push_if(edges: &mut Vec<u32>, edge: u32, is_sought: bool) -> Result<(), OutOfMemory>
-    ensures { OnOk result (edges.new.items ≡ edges.old.items ++
-        (if is_sought then edge ∷ [] else [])) }
-{
-    if is_sought {
-        edges.push(edge)?;
-    }
-    Ok(())
 }
 
 /// The edges of some links in both directions, in rising order.

@@ -3,7 +3,7 @@ use Rattle.std.proofs.Common.{◌∙◌, ap, sym, map, ℕ, List, ◌∷◌, ◌
 use Rattle.cost_base.specs.Decimal.{decimal}
 use Rattle.evidence_text.specs.Lines.{with_words}
 use Rattle.evidence_text.proofs.WordLaws.{spaced-with}
-use Rattle.change_commands.proofs.number_lines.counted_line.Goals as goal
+use Rattle.printed_parts.proofs.number_lines.counted_line.Goals as goal
 
 pub returns : goal.returns
 returns c =
