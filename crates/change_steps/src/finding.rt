@@ -10,7 +10,7 @@ use crate::ending::outcome_of;
 use crate::found::{Outcome, Steps};
 use crate::moves::Moves;
 use crate::plan::Plan;
-use crate::scene::Scene;
+use crate::rollout::Scene;
 use crate::walk::Walk;
 use area_graph::Graph;
 use cost_base::OutOfMemory;

@@ -5,7 +5,7 @@ ghost use Rattle.change_steps.specs.Orders.{AreHeld, IsOnlyIn, all_done, none_do
 ghost use Rattle.change_steps.specs.States.{is_done_in, marks_of};
 ghost use Rattle.change_steps.specs.Search.{IsStateOf};
 
-use crate::scene::Scene;
+use crate::rollout::Scene;
 use crate::state::State;
 use cost_base::OutOfMemory;
 use spf_ties::Room;

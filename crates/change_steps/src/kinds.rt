@@ -7,7 +7,7 @@ ghost use Rattle.change_steps.specs.Rollouts.{lines_of_step, step_count};
 ghost use Rattle.change_steps.specs.Kinds.{falls_off_held, goes_over, has_kind, kind_of_step, lies_on_held, rises, rises_off_held};
 ghost use Rattle.change_steps.specs.Search.{AreHeldMarks};
 
-use crate::scene::Scene;
+use crate::rollout::Scene;
 use area_graph::{Graph, Price, edge_of};
 use cost_base::{OutOfMemory, no_marks};
 use std::alloc::Global;

@@ -14,7 +14,7 @@ ghost use Rattle.change_steps.specs.Search.{HasMore, HeldRollout, IsStateOf};
 use crate::held::find_held;
 use crate::kinds::{Kind, is_kind, kinds_of};
 use crate::reach::Reach;
-use crate::scene::Scene;
+use crate::rollout::Scene;
 use crate::state::State;
 use cost_base::OutOfMemory;
 use spf_ties::Room;

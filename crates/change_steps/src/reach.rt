@@ -9,7 +9,7 @@ ghost use Rattle.change_steps.specs.Search.{IsStateOf};
 ghost use Rattle.change_steps.specs.Reaches.{AreAtLeast, AreDearerOver, AreLeastTo, IsHarmless, IsReach, least_from_to, edges_of_step, has_price, least_cost, least_costs, price_rises};
 
 use crate::kinds::{Kind, is_kind, line_rises};
-use crate::scene::Scene;
+use crate::rollout::Scene;
 use crate::state::State;
 use area_graph::{FAR, Graph, Point, Price, edge_of, path_cost, price_of};
 use cost_base::{Listed, OutOfMemory, no_marks};

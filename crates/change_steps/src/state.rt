@@ -6,7 +6,7 @@ ghost use Rattle.change_steps.specs.Orders.{IsOnlyIn, all_done, is_one_of, none_
 ghost use Rattle.change_steps.specs.States.{is_done_in, marks_of};
 ghost use Rattle.change_steps.specs.Search.{IsStateOf};
 
-use crate::scene::Scene;
+use crate::rollout::Scene;
 use area_graph::Point;
 use cost_base::{Listed, OutOfMemory, no_marks};
 use rival_separation::find_rival;
