@@ -19,11 +19,16 @@ fn is_only_in_both(
     number: u32,
     room: &mut Room,
 ) -> bool
+    // Both states and the request are of the rollout.
     requires first { IsStateOf scene.now first.now }
     requires second { IsStateOf scene.now second.now }
     requires known { number < length scene.now.paths }
+
+    // The room is one for the rollout's graph, before and after.
     requires room { IsRoomFor scene.now.graph room.old }
     ensures room { IsRoomFor scene.now.graph room.new }
+
+    // It tells of the request's path in the one state and in the other.
     ensures both { IsTrue result ↔ (IsOnlyIn scene.now (is_done_in first.now.done.items) number ×
         IsOnlyIn scene.now (is_done_in second.now.done.items) number) }
 {
@@ -41,12 +46,17 @@ fn held_in(
     present: &State,
     wanted: &State,
 ) -> Result<Vec<u32>, OutOfMemory>
-    requires room { IsRoomFor scene.now.graph room.old }
+    // In the present state no step is done, in the wanted one all are.
     requires present { IsStateOf scene.now present.now }
     requires none { present.now.done.items ≡ marks_of scene.now none_done }
     requires wanted { IsStateOf scene.now wanted.now }
     requires all { wanted.now.done.items ≡ marks_of scene.now all_done }
+
+    // The room is one for the rollout's graph, before and after.
+    requires room { IsRoomFor scene.now.graph room.old }
     ensures room { IsRoomFor scene.now.graph room.new }
+
+    // On Ok these are the held paths of the rollout.
     ensures held { IfOk result (λ held. AreHeld scene.now held.items) }
 {
     let mut held = Vec::new(alloc);

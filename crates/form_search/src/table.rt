@@ -176,6 +176,7 @@ impl HeldTableau {
 
     /// Solves, and puts the least point in place.
     fn solve_held(&mut self, alloc: Global, point: &mut Point) -> Result<Least, SimplexStop>
+        // The tableau can go on, and the point has a place for each of its variables.
         requires going { IsGoing self.old.tableau.stage }
         requires places { length point.old.values ≡ length self.old.tableau.costs.low }
 
