@@ -37,7 +37,10 @@ impl<'a> Model for Plan<'a> {
 
     ghost view = { λ p. record { rollout = p.scene; held = p.held.items } };
 
-    ghost invariant = { λ p. IsPlan (record { rollout = p.scene; held = p.held.items }) p.kinds.items p.reach };
+    ghost invariant = { λ p. IsPlan (record {
+      rollout = p.scene;
+      held = p.held.items;
+    }) p.kinds.items p.reach };
 }
 
 /// The kind at a place.

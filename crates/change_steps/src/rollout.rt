@@ -25,7 +25,11 @@ impl<'a> Model for Scene<'a> {
 
     ghost view = { λ s. record { graph = s.graph.now; paths = s.paths.now; moves = s.moves.now } };
 
-    ghost invariant = { λ s. IsRollout (record { graph = s.graph.now; paths = s.paths.now; moves = s.moves.now }) };
+    ghost invariant = { λ s. IsRollout (record {
+      graph = s.graph.now;
+      paths = s.paths.now;
+      moves = s.moves.now;
+    }) };
 }
 
 impl<'a> Scene<'a> {

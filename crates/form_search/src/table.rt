@@ -117,8 +117,8 @@ impl HeldTableau {
     /// variables, or had stopped.
     fn moves_to(&mut self, costs: &CostBox, top: Top) -> bool
         requires ranges { IsBox (length costs.now.low) costs.now }
-        requires fits { (forms : List Form) × IsHeld self.old.top self.old.variables forms self.old ×
-            All (FitsBox costs.now) forms }
+        requires fits { (forms : List Form) ×
+            IsHeld self.old.top self.old.variables forms self.old × All (FitsBox costs.now) forms }
         ensures { (forms : List Form) → IsHeld self.old.top self.old.variables forms self.old →
             IsTrue result → StandsAt top costs.now forms self.new }
     {

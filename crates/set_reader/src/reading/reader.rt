@@ -31,7 +31,11 @@ impl<'a> Model for Reader<'a> {
 
     ghost Value = { SoFar };
 
-    ghost view = { λ r. record { problem = r.problem.now; spoken = r.spoken; sets = r.sets.items } };
+    ghost view = { λ r. record {
+      problem = r.problem.now;
+      spoken = r.spoken;
+      sets = r.sets.items;
+    } };
 
     ghost invariant = { λ r. KeepsSets r.problem.now r.sets.items r.taken.items };
 }
