@@ -12,29 +12,29 @@ use std::marker::Model;
 
 /// A rollout. Contracts see its graph, its requests and its moves.
 #[derive(Drop)]
-pub(crate) struct Scene<'a> {
+pub(crate) struct Rollout<'a> {
     graph: &'a Graph,
     paths: &'a [Request],
     moves: &'a Moves,
 }
 
-impl<'a> Model for Scene<'a> {
-    ghost use Rattle.change_steps.specs.Rollouts.{IsRollout, Rollout};
+impl<'a> Model for Rollout<'a> {
+    ghost use Rattle.change_steps.specs.Rollouts.{IsRollout, Rollout as OneRollout};
 
-    ghost Value = { Rollout };
+    ghost Value = { OneRollout };
 
-    ghost view = { λ s. record { graph = s.graph.now; paths = s.paths.now; moves = s.moves.now } };
+    ghost view = { λ r. record { graph = r.graph.now; paths = r.paths.now; moves = r.moves.now } };
 
-    ghost invariant = { λ s. IsRollout (record {
-      graph = s.graph.now;
-      paths = s.paths.now;
-      moves = s.moves.now;
+    ghost invariant = { λ r. IsRollout (record {
+      graph = r.graph.now;
+      paths = r.paths.now;
+      moves = r.moves.now;
     }) };
 }
 
-impl<'a> Scene<'a> {
+impl<'a> Rollout<'a> {
     /// The rollout of a graph, its requests and its moves.
-    pub fn new(graph: &'a Graph, paths: &'a [Request], moves: &'a Moves) -> Scene<'a>
+    pub fn new(graph: &'a Graph, paths: &'a [Request], moves: &'a Moves) -> Rollout<'a>
         requires priced { All (λ edge. IsPriced (length moves.now.present) edge.price)
             graph.now.edges }
         requires paths { ArePathsOf graph.now paths.now }
@@ -43,7 +43,7 @@ impl<'a> Scene<'a> {
     {
         graph.keeps_conditions();
         moves.keeps_conditions();
-        Scene {
+        Rollout {
             graph,
             paths,
             moves,

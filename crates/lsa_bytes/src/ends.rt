@@ -14,7 +14,10 @@ use std::alloc::Global;
 #[derive(Drop)]
 pub enum Ends {
     /// A router-LSA: to these routers and into these networks.
-    Links { routers: SortedNumbers, networks: SortedNumbers },
+    Links {
+        routers: SortedNumbers,
+        networks: SortedNumbers,
+    },
     /// A network-LSA: to these routers.
     Attached(SortedNumbers),
 }
