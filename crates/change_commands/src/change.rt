@@ -143,7 +143,8 @@ pub fn change_report<'a, S: Shelf>(
 ) -> Result<Report, Stop<'a>>
     ensures { Gave (S.gave shelf.old shelf.new)
         (λ came. IsReadAs (outcome View.BesidePresent (files_named words.entry)) came
-        (λ report d. MayChange (limits_seen limits.now) d report.status (bytes_in report.text)) result) }
+        (λ report d. MayChange (limits_seen limits.now) d report.status (bytes_in report.text))
+        result) }
 {
     let network = read_network(alloc, View::BesidePresent, words, shelf)?;
     let report = report_of_network(alloc, &network, limits);

@@ -164,11 +164,16 @@ fn report_of_wanted(
     wanted: Vec<u16>,
     words: StepsWords,
 ) -> Result<Report, OutOfMemory>
+    // The network is at its present costs, and has the database of the names.
     requires network { IsAtPresent network.now }
     requires names { names.now ≡ network.now.lsdb }
     requires present { present.items ≡ present_of_links network.now.requests network.now.lsdb }
+
+    // Each link has a wanted cost, at least 1.
     requires wanted { length wanted.items ≡ length names.now.links }
     requires positive { All (λ cost. 0 < cost) wanted.items }
+
+    // The report is of the rollout between these costs.
     ensures { IfOk result (ReportsSteps words.entry.nodes words.entry.by names.now
         (record {
           graph = graph_by_links network.now.lsdb;

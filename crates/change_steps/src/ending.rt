@@ -83,9 +83,9 @@ fn blocked_by(
     // In the way is the first held path that is lost, or that the state after it wasn't tested.
     ensures blocked { IsStepBlocked plan.now tested.now state.old.done.items step result }
 {
-    state.do_step(plan.scene(), step);
+    state.do_step(plan.rollout(), step);
     let by = barrier_of(plan, tested, room, state);
-    state.undo_step(plan.scene(), step);
+    state.undo_step(plan.rollout(), step);
     Blocked { step, by }
 }
 
@@ -122,7 +122,7 @@ fn stuck_of(alloc: Global, plan: &Plan, walk: &mut Walk) -> Result<Stuck, OutOfM
     ensures { IfOk result (IsSearchEnd plan.now.rollout plan.now.held walk.old.tested) }
 {
     let done = line_of(alloc, plan, &walk.greatest)?;
-    let mut state = State::after(alloc, plan.scene(), &done)?;
+    let mut state = State::after(alloc, plan.rollout(), &done)?;
     let blocked = blocked_in(alloc, plan, &walk.tested, &mut walk.room, &mut state)?;
     Ok(Stuck { done, blocked })
 }

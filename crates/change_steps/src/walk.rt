@@ -65,7 +65,7 @@ fn first_state(alloc: Global, plan: &Plan) -> Result<State, OutOfMemory>
 {
     let mut first = Vec::new(alloc);
     plan.put_steps(&mut first, Kind::First)?;
-    State::after(alloc, plan.scene(), &first)
+    State::after(alloc, plan.rollout(), &first)
 }
 
 impl Walk {
@@ -174,13 +174,13 @@ impl Walk {
         ensures order { IfOk result (λ safe. length self.new.order.items ≤
             length self.old.order.items + 1) }
     {
-        self.state.do_step(plan.scene(), step);
+        self.state.do_step(plan.rollout(), step);
         self.tested.add(alloc, &self.state.done)?;
         let safe = plan.is_safe_after(&self.state, step, &mut self.room);
         if safe {
             self.go_on(step)?;
         } else {
-            self.state.undo_step(plan.scene(), step);
+            self.state.undo_step(plan.rollout(), step);
             self.next = step + 1;
         }
         Ok(safe)
@@ -205,7 +205,7 @@ impl Walk {
         let _few = plan.step_count();
         match self.order.pop() {
             Some(step) => {
-                self.state.undo_step(plan.scene(), step);
+                self.state.undo_step(plan.rollout(), step);
                 self.next = step + 1;
                 true
             }

@@ -66,7 +66,8 @@ impl Model for Networks {
 
     ghost view = { λ n. n.lines.items };
 
-    ghost invariant = { λ n. (key : Key) → get same_prefix n.by_prefix key ≡ lines_of_prefix key n.lines.items };
+    ghost invariant = { λ n. (key : Key) →
+        get same_prefix n.by_prefix key ≡ lines_of_prefix key n.lines.items };
 }
 
 /// The `network` line that a line is.

@@ -43,11 +43,16 @@ fn search_set(
     pool: &mut Pool,
     advisors: &mut Vec<Box<dyn Advisor>>,
 ) -> Result<Found, OutOfMemory>
+    // The members are a set of the problem's requests, and the rows of the pool those of it.
     requires set { IsRequestSet problem.now members.now }
     requires pool { IsRowPool (restricted problem.now members.now) pool.old }
+
+    // What is found holds of the problem of these requests alone; the pool stays one of its rows.
     ensures decided { IfOk result (IsDecided (restricted problem.now members.now) limits.now.top
         limits.now.nodes (greatest_bound problem.now) pool.new) }
     ensures pool { IsRowPool (restricted problem.now members.now) pool.new }
+
+    // The advisors are called as that search calls them, and left as its calls leave them.
     ensures asked { IfOk result (λ found. IsAskedSearching ⟦<dyn Advisor as Advisor>⟧
         (λ b. b.vtable) (λ b. state b) problem.now limits.now.top limits.now.nodes (record {
           set = members.now;

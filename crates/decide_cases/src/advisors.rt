@@ -14,7 +14,8 @@ impl Advisor for Counting {
 
     ghost state = { λ advisor. advisor.told ∷ [] };
 
-    ghost would = { λ state choices. if nat_le 100 (length choices) then slice_index state 0 else 0 };
+    ghost would = { λ state choices.
+        if nat_le 100 (length choices) then slice_index state 0 else 0 };
 
     ghost left = { λ state _. state };
 

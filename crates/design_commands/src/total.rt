@@ -172,7 +172,8 @@ fn report_of_total(
     limits: &Limits,
 ) -> Result<Report, OutOfMemory>
     requires { IsAnswerTo (limits_seen limits.now) problem.now answer }
-    ensures { IfOk result (ReportsTotal (limits_seen limits.now) problem.now answer answer.verdict) }
+    ensures { IfOk result (ReportsTotal (limits_seen limits.now) problem.now answer
+        answer.verdict) }
 {
     match answer.verdict {
         Verdict::Optimal(cap) => {

@@ -184,9 +184,12 @@ pub fn trial_report(
     trial: TrialNumbers,
     advisors: &mut Vec<Box<dyn Advisor>>,
 ) -> Result<Report, OutOfMemory>
+    // The numbers are those that the words of `trial` may say.
     requires some { 1 ≤ trial.blocks }
     requires most { trial.blocks ≤ 125 }
     requires start { trial.start < 2 ^ 31 }
+
+    // The report is one of the made texts.
     ensures tried { IfOk result (λ report. MayTrial trial.blocks trial.start report.status
         (bytes_in report.text)) }
 

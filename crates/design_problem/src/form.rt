@@ -50,7 +50,8 @@ impl Model for Form {
 
     ghost view = { λ f. form_by f.variables f.constant f.terms.items };
 
-    ghost invariant = { λ f. f.terms.items ≡ terms_of (form_by f.variables f.constant f.terms.items) };
+    ghost invariant = { λ f.
+        f.terms.items ≡ terms_of (form_by f.variables f.constant f.terms.items) };
 }
 
 /// Puts the term of a coefficient at the end, unless it is 0.

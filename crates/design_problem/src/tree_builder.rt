@@ -32,7 +32,10 @@ impl Model for TreeBuilder {
 
     ghost use Rattle.design_problem.specs.Builders.{KeepsBuilder, places_of};
 
-    ghost view = { λ t. record { entries = t.entries.items; places = places_of t.is_open t.boxes t.entries.items } };
+    ghost view = { λ t. record {
+      entries = t.entries.items;
+      places = places_of t.is_open t.boxes t.entries.items;
+    } };
 
     ghost invariant = { λ t. KeepsBuilder t.entries.items t.is_open t.boxes t.marks };
 }

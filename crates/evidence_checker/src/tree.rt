@@ -69,10 +69,15 @@ fn check_lines(
     sums: &mut Vec<i128>,
     entries: &[Entry],
 ) -> Result<(), Refusal<CheckFault, u64>>
+    // The lines are those of one tree, and one box is open.
     requires alone { boxes.old.behind ≡ [] }
+    requires whole { IsSingleTree entries.now }
+
+    // Sums and forms are of as many variables as the box.
     requires sums { length sums.old.items ≡ length boxes.old.present.low }
     requires forms { All (IsSmallForm (length boxes.old.present.low)) forms.now }
-    requires whole { IsSingleTree entries.now }
+
+    // On Ok the lines are sound and close the box, else the first line that fails tells which test.
     ensures sound { IfOk result (λ _. IsSoundTree forms.now boxes.old.present entries.now ×
         IsClosed entries.now) }
     ensures first { IfErr result

@@ -26,6 +26,7 @@ struct Rank {
 
 /// The rank of a candidate that stands in so many forms.
 fn rank_of(candidate: &Candidate, forms: usize) -> Rank {
+    // For the prover alone: a candidate's low is at most its high, so nothing saturates; no clause says so here.
     let range = candidate.high.saturating_sub(candidate.low);
     if range >= WIDE {
         Rank {

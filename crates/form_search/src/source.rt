@@ -70,9 +70,12 @@ pub trait RowSource {
         ensures in_step { SameFor (in_step self.old) (in_step self.new) }
         ensures same { SameSource count accepted true_form candidates self.old self.new };
 
-    ghost true_forms_hold: { (s : Self) (form : Form) → true_form s form → IsTrueForm (count s) (accepted s) form };
+    ghost true_forms_hold: { (s : Self) (form : Form) → true_form s form →
+        IsTrueForm (count s) (accepted s) form };
 
-    ghost true_forms_listed: { (s : Self) (form : Form) → true_form s form → Contains (candidates s) form };
+    ghost true_forms_listed: { (s : Self) (form : Form) → true_form s form →
+        Contains (candidates s) form };
 
-    ghost scale_is_free: { (s : Self) (w : List ℕ) (scale : ℕ) → 0 < scale → accepted s (scaled w scale) → accepted s (at_costs w) };
+    ghost scale_is_free: { (s : Self) (w : List ℕ) (scale : ℕ) → 0 < scale →
+        accepted s (scaled w scale) → accepted s (at_costs w) };
 }

@@ -117,8 +117,8 @@ impl HeldTableau {
     /// variables, or had stopped.
     fn moves_to(&mut self, costs: &CostBox, top: Top) -> bool
         requires ranges { IsBox (length costs.now.low) costs.now }
-        requires fits { (forms : List Form) × IsHeld self.old.top self.old.variables forms self.old ×
-            All (FitsBox costs.now) forms }
+        requires fits { (forms : List Form) ×
+            IsHeld self.old.top self.old.variables forms self.old × All (FitsBox costs.now) forms }
         ensures { (forms : List Form) → IsHeld self.old.top self.old.variables forms self.old →
             IsTrue result → StandsAt top costs.now forms self.new }
     {
@@ -176,6 +176,7 @@ impl HeldTableau {
 
     /// Solves, and puts the least point in place.
     fn solve_held(&mut self, alloc: Global, point: &mut Point) -> Result<Least, SimplexStop>
+        // The tableau can go on, and the point has a place for each of its variables.
         requires going { IsGoing self.old.tableau.stage }
         requires places { length point.old.values ≡ length self.old.tableau.costs.low }
 

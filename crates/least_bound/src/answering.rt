@@ -10,7 +10,7 @@ ghost use Rattle.least_bound.specs.Asking.{TellsCaps, TellsFound};
 ghost use Rattle.least_bound.specs.Caps.{caps_of, IsKeptAt, IsTreeKeptBelow, IsProgress, AreCapsDone, IsRefuted, IsUndecidedAt, CostsFound};
 ghost use Rattle.least_bound.specs.Printing.{ArePrintedIfAny, IsFloorFor};
 
-use crate::greatest::floor_of;
+use crate::floor::floor_of;
 use crate::progress::{Best, Progress};
 use cost_base::OutOfMemory;
 use cost_branching::{Pool, keeps_conditions};

@@ -5,7 +5,7 @@
 #![tactic(auto)]
 
 mod answering;
-mod greatest;
+mod floor;
 mod least_cap;
 mod progress;
 

@@ -102,11 +102,11 @@ mod fields;
 mod graphs;
 mod ids;
 mod instances;
-mod members;
 mod newest;
 mod reader;
 mod reading;
 mod seen;
+mod sorted_numbers;
 mod vertices;
 
 pub use fault::LsaFault;

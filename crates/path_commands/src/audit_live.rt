@@ -13,7 +13,7 @@ ghost use Rattle.path_commands.specs.LiveAudits.{IsFoundLive, MayAuditLive, Repo
 ghost use Rattle.report_writer.specs.Reports.{bytes_in};
 
 use crate::audit::{AuditedPath, audited, line_of};
-use crate::gone::edges_of_links;
+use crate::link_edges::edges_of_links;
 use area_graph::{Graph, Path, Point, Removal, mark_excluded};
 use cost_base::{Listed, OutOfMemory, Shelf, Status};
 use design_problem::{Problem, Request};

@@ -35,7 +35,8 @@ impl<'a> Model for Choices<'a> {
 
     ghost invariant = { λ c. record {
       ranges : c.ranges.items ≡ map (range_of c.requests.now c.names.now) c.names.now.links;
-      symmetric : c.symmetric.items ≡ map (λ link. any_symmetric c.requests.now c.names.now (Some link)) c.names.now.links;
+      symmetric : c.symmetric.items ≡
+          map (λ link. any_symmetric c.requests.now c.names.now (Some link)) c.names.now.links;
     } };
 }
 

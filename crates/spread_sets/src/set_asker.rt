@@ -51,7 +51,11 @@ impl Model for SetAsker {
 
     ghost Value = { SetAsking };
 
-    ghost view = { λ a. record { room = a.room; places = length a.costs.items; order = a.order.items } };
+    ghost view = { λ a. record {
+      room = a.room;
+      places = length a.costs.items;
+      order = a.order.items;
+    } };
 }
 
 /// What sets that share distances have in common: the end of their requests, and how many edges these exclude and the

@@ -71,7 +71,11 @@ impl<'a, B: Begun> Model for Spreads<'a, B> {
 
     ghost Value = { KnownSets };
 
-    ghost view = { λ s. record { problem = s.problem.now; sets = sets_in s.sets.items; rows = s.rows.items } };
+    ghost view = { λ s. record {
+      problem = s.problem.now;
+      sets = sets_in s.sets.items;
+      rows = s.rows.items;
+    } };
 
     ghost invariant = { λ s. record {
       problem : s.problem.now ≡ B.problem;

@@ -14,11 +14,11 @@ mod line;
 mod lowest_turn;
 mod moves;
 mod multipliers;
+mod pivot;
 mod read_back;
 mod restate;
 mod settle;
 mod start;
-mod turn;
 
 pub use kernel::{Kernel, OutOfRange};
 pub use start::starting_kernel;

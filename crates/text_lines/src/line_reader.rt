@@ -38,7 +38,12 @@ impl<'a> Model for Lines<'a> {
 
     ghost Value = { TextLeft };
 
-    ghost view = { λ l. record { bytes = l.left.now; read = l.read; ended = l.ended; longest = l.longest } };
+    ghost view = { λ l. record {
+      bytes = l.left.now;
+      read = l.read;
+      ended = l.ended;
+      longest = l.longest;
+    } };
 
     ghost invariant = { λ l. l.read + length l.left.now < 2 ^ 32 - 1 };
 }

@@ -39,7 +39,8 @@ impl<'a> Model for Names<'a> {
     ghost invariant = { λ n. record {
       base : IsAreaDatabase n.lsdb.now;
       routers : map (λ name. name.now) n.routers.keys ≡ n.lsdb.now.routers;
-      links : map {B = ℕ × List ℕ} (λ key. (key.0, key.1.now)) n.links.keys ≡ map link_key n.lsdb.now.links;
+      links : map {B = ℕ × List ℕ} (λ key. (key.0, key.1.now)) n.links.keys ≡
+          map link_key n.lsdb.now.links;
     } };
 }
 

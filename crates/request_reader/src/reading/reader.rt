@@ -34,7 +34,11 @@ impl Model for Reader {
 
     ghost Value = { Told };
 
-    ghost view = { λ r. record { area = r.area; default_cost = r.default_cost; items = r.items.items } };
+    ghost view = { λ r. record {
+      area = r.area;
+      default_cost = r.default_cost;
+      items = r.items.items;
+    } };
 
     ghost invariant = { λ r. KeepsTold r.default_cost r.paths r.items.items };
 }

@@ -11,11 +11,11 @@ use Rattle.change_steps.proofs.reach.least_to_each.Goals.{then-asked-target+in_o
 
 pub least_to-requires-clause-fits : goal.least_to-requires-clause-fits
 least_to-requires-clause-fits c =
-    least_point_fits c.args.scene.now c.graph-graph.result.now c.in_ok-point.point c.keeps_conditions.ensures c.graph-graph.ensures c.in_ok-point.ensures
+    least_point_fits c.args.rollout.now c.graph-graph.result.now c.in_ok-point.point c.keeps_conditions.ensures c.graph-graph.ensures c.in_ok-point.ensures
 
 pub loop-target-preserved : goal.loop-target-preserved
 loop-target-preserved c =
-    let r = c.args.scene.now in
+    let r = c.args.rollout.now in
     let n = c.loop-target.target in
     elim c.if-asked-target.branch [
       | then-asked-target+in_ok-row+in_ok-push w ↦

@@ -6,7 +6,7 @@ use Rattle.change_steps.proofs.reach.least_to_each.Given as goal
 
 abbrev pub invariant-loop-target : goal.invariant-loop-target
 invariant-loop-target l = record {
-  room : IsRoomFor l.scene.graph l.room;
+  room : IsRoomFor l.rollout.graph l.room;
   count : length l.least.items ≡ l.target;
-  least : AreAtLeast l.scene.graph (at_costs (least_costs l.scene.moves)) l.least.items;
+  least : AreAtLeast l.rollout.graph (at_costs (least_costs l.rollout.moves)) l.least.items;
 }
