@@ -1,4 +1,5 @@
-//! The commands on the way from the present costs to wanted ones: the fewest changes, and an order in which they go live.
+//! The commands on the way from the present costs to wanted ones: the fewest changes, and an order in which
+//! they go live.
 #![tactic(auto)]
 
 mod change;

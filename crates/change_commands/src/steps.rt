@@ -32,8 +32,8 @@ use sections_reader::read_costs;
 use std::alloc::Global;
 use wanted_paths::Names;
 
-/// What `steps` is asked besides its network: the file of the text with the costs, how many states may be tested, and what
-/// one step is.
+/// What `steps` is asked besides its network: the file of the text with the costs, how many states may be tested, and
+/// what one step is.
 #[derive(Clone, Copy)]
 pub struct StepsWords<'a> {
     /// The file of the text with the costs.
@@ -300,9 +300,9 @@ fn report_by_file<'a, S: Shelf>(
     Ok(report_of_text(alloc, network, &bytes, words)?)
 }
 
-/// The report of `steps` from the files of words, and after them the text with the costs: an order of its lines, or of its
-/// routers, in which each path that is the only cheapest before and after stays so after each step; that there is none; or
-/// that the budget of states was used up.
+/// The report of `steps` from the files of words, and after them the text with the costs: an order of its lines, or of
+/// its routers, in which each path that is the only cheapest before and after stays so after each step; that there is
+/// none; or that the budget of states was used up.
 ///
 /// # Errors
 ///

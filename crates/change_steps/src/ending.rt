@@ -6,7 +6,7 @@ ghost use Rattle.change_steps.specs.Orders.{IsSafe};
 ghost use Rattle.change_steps.specs.States.{MayFollow, is_done_in};
 ghost use Rattle.change_steps.specs.Outcomes.{IsBarrier, IsOutcome, IsSearchEnd};
 ghost use Rattle.change_steps.specs.Search.{AreBlockedIn, IsStateOf, IsStepBlocked, last_steps, order_behind_first as way_of};
-ghost use Rattle.change_steps.specs.Walks.{IsEnded, IsSearchWalk};
+ghost use Rattle.change_steps.specs.Walks.{IsWalkEnded, IsSearchWalk};
 
 use crate::found::{Barrier, Blocked, Outcome, Stuck};
 use crate::kinds::Kind;
@@ -134,14 +134,14 @@ pub(crate) fn outcome_of(
     walk: &mut Walk,
     end: End,
 ) -> Result<Outcome, OutOfMemory>
-    requires { (nodes : ℕ) × IsEnded plan.now nodes walk.old end }
-    ensures { (nodes : ℕ) → IsEnded plan.now nodes walk.old end →
+    requires { (nodes : ℕ) × IsWalkEnded plan.now nodes walk.old end }
+    ensures { (nodes : ℕ) → IsWalkEnded plan.now nodes walk.old end →
         IfOk result (IsOutcome plan.now.rollout plan.now.held nodes) }
 {
     plan.keeps_conditions();
     match end {
         End::Complete => Ok(Outcome::Order(order_of(alloc, plan, &walk.order)?)),
         End::Exhausted => Ok(Outcome::NoOrder(stuck_of(alloc, plan, walk)?)),
-        End::Spent => Ok(Outcome::Undecided(stuck_of(alloc, plan, walk)?)),
+        End::UsedUp => Ok(Outcome::Undecided(stuck_of(alloc, plan, walk)?)),
     }
 }

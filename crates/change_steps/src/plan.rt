@@ -75,8 +75,8 @@ impl<'a> Plan<'a> {
         })
     }
 
-    /// A law of each plan, which takes no time: it keeps the conditions of its rollout, and its held paths are those of the
-    /// rollout.
+    /// A law of each plan, which takes no time: it keeps the conditions of its rollout, and its held paths are those of
+    /// the rollout.
     pub fn keeps_conditions(&self)
         ensures rollout { IsRollout self.now.rollout }
         ensures held { AreHeld self.now.rollout self.now.held }

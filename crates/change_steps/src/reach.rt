@@ -6,7 +6,7 @@ ghost use Rattle.spf_ties.specs.Distances.{IsRoomFor};
 ghost use Rattle.change_steps.specs.Rollouts.{step_count};
 ghost use Rattle.change_steps.specs.States.{is_done_in};
 ghost use Rattle.change_steps.specs.Search.{IsStateOf};
-ghost use Rattle.change_steps.specs.Reaches.{AreAtLeast, AreDearerOver, AreLeastTo, IsHarmless, IsReach, least_from_to, edges_of_step, has_price, least_cost, least_costs, price_rises};
+ghost use Rattle.change_steps.specs.Reaches.{AreLeastToEach, AreDearerOver, AreLeastTo, IsHarmless, IsReach, least_from_to, edges_of_step, has_price, least_cost, least_costs, price_rises};
 
 use crate::kinds::{Kind, is_kind, line_rises};
 use crate::rollout::Rollout;
@@ -149,8 +149,8 @@ fn is_between(kinds: &[Kind], step: usize) -> bool {
     }
 }
 
-/// Marks the vertices that the edges of a step leave, if it comes between the first and the last ones, and tells whether
-/// it does.
+/// Marks the vertices that the edges of a step leave, if it comes between the first and the last ones, and tells
+/// whether it does.
 fn mark_step(
     marks: &mut Vec<bool>,
     graph: &Graph,
@@ -235,7 +235,7 @@ fn least_to_each(
     requires room { IsRoomFor rollout.now.graph room.old }
     requires asked { length asked.now ≡ length rollout.now.graph.vertices }
     ensures room { IsRoomFor rollout.now.graph room.new }
-    ensures least { IfOk result (λ least. AreAtLeast rollout.now.graph
+    ensures least { IfOk result (λ least. AreLeastToEach rollout.now.graph
         (at_costs (least_costs rollout.now.moves)) least.items) }
 {
     rollout.keeps_conditions();

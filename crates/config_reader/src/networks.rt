@@ -47,8 +47,8 @@ struct PrefixLines {
 
 /// The `network` lines of a configuration, in order. Contracts see their list.
 ///
-/// They are found by their prefixes: one prefix of each length holds an address, so a look-up for each length finds the lines
-/// that match it.
+/// They are found by their prefixes: one prefix of each length holds an address, so a look-up for each length finds the
+/// lines that match it.
 #[derive(Drop)]
 pub(crate) struct Networks {
     lines: Vec<NetworkLine>,

@@ -11,7 +11,8 @@ use crate::content::{copy_within, find_first};
 use crate::failed_calls::FailedCalls;
 use crate::{Name, Shelf, ShelfStop};
 
-/// A shelf over files in memory, for tests. It fails at the calls whose numbers it was given, and where a name is missing.
+/// A shelf over files in memory, for tests. It fails at the calls whose numbers it was given, and where a
+/// name is missing.
 ///
 /// Calls are numbered from 0. The first file of a name counts. The shelf tells its bytes.
 #[derive(Drop)]

@@ -25,7 +25,8 @@ pub struct MemorySink {
 impl MemorySink {
     /// A sink that got nothing, with room for `room` bytes and a count of faults of 0.
     ///
-    /// `fail` lists pairs of a call's number and of how many bytes of its piece are kept; the first pair of a call counts.
+    /// `fail` lists pairs of a call's number and of how many bytes of its piece are kept; the first pair of
+    /// a call counts.
     ///
     /// # Errors
     ///

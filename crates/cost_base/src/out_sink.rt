@@ -77,7 +77,8 @@ fn write_whole<W: Write>(output: &mut W, piece: &[u8]) -> Result<(), PutFailed>
     Err(PutFailed)
 }
 
-/// Writes some bytes of a piece, and tells how many: 0 where the write was interrupted. A write that takes nothing has failed.
+/// Writes some bytes of a piece, and tells how many: 0 where the write was interrupted. A write that takes
+/// nothing has failed.
 fn write_some<W: Write>(output: &mut W, piece: &[u8]) -> Result<usize, PutFailed>
     ensures within { IfOk result (λ count. count ≤ length piece.now) }
     ensures some { IfOk result (λ count. Appends (W.contents output.old) (W.contents output.new)

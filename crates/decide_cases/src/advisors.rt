@@ -3,7 +3,8 @@
 use cut_advisors::{Advisor, Candidate};
 use design_problem::Entry;
 
-/// Picks the first of fewer than 100 choices; of 100 or more the position that is the number of entries that it was told.
+/// Picks the first of fewer than 100 choices; of 100 or more the position that is the number of entries that
+/// it was told.
 #[derive(Drop)]
 pub struct Counting {
     pub told: u32,

@@ -117,8 +117,8 @@ impl Form {
         })
     }
 
-    /// The form in so many variables with this constant and these terms, which have coefficients other than 0 and rise by
-    /// their variables. It takes no memory.
+    /// The form in so many variables with this constant and these terms, which have coefficients other than 0 and rise
+    /// by their variables. It takes no memory.
     pub fn from_terms(variables: usize, constant: i64, terms: Vec<Term>) -> Form
         requires { AreTerms variables terms.items }
         ensures { result ≡ form_by variables constant terms.items }

@@ -23,7 +23,7 @@ use path_commands::{audit_live_report, audit_report, conflict_report, spread_rep
 use report_writer::{Report, Text};
 use std::alloc::Global;
 
-/// The files of a request and of configurations.
+/// A request file and configurations.
 fn files<'a>(request: &'a str, configs: &'a [String]) -> FileWords<'a>
     ensures { files_named result ≡ input_files_of request.now (texts configs.now) }
 {

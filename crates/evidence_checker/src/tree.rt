@@ -61,8 +61,8 @@ fn fault_at(
     line_fault(forms, costs, sums, entry)
 }
 
-/// Whether the lines of a tree are sound over the one open box, and close it: they are tested in order. The sums are room
-/// for a number for each variable.
+/// Whether the lines of a tree are sound over the one open box, and close it: they are tested in order. The sums are
+/// room for a number for each variable.
 fn check_lines(
     forms: &[Form],
     boxes: &mut OpenBoxes,

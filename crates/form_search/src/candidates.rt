@@ -19,7 +19,8 @@ const WIDE: u16 = 256;
 #[derive(Clone, Copy, PartialEq, Eq, PartialOrd, Ord)]
 struct Rank {
     is_narrow: bool,
-    /// By how much the width, or the number of forms, falls short of `usize::MAX`: where it is less, a candidate is earlier.
+    /// By how much the width, or the number of forms, falls short of `usize::MAX`: where it is less, a
+    /// candidate is earlier.
     short_by: usize,
     var: u32,
 }

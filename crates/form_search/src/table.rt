@@ -52,8 +52,8 @@ fn started(alloc: Global, costs: &CostBox, top: Top) -> Result<HeldTableau, OutO
     })
 }
 
-/// The tableau over the box: the kept one moved there, with the forms that it holds; a new one where it is another top's or
-/// of another number of variables, or it had stopped.
+/// The tableau over the box: the kept one moved there, with the forms that it holds; a new one where it is another
+/// top's or of another number of variables, or it had stopped.
 fn moved_there(
     alloc: Global,
     mut table: HeldTableau,
@@ -113,8 +113,8 @@ impl HeldTableau {
         self.variables == variables && self.top.size() == top.size()
     }
 
-    /// Moves it to the box, with the forms that it holds. It can't where it was started for another top or another number of
-    /// variables, or had stopped.
+    /// Moves it to the box, with the forms that it holds. It can't where it was started for another top or another
+    /// number of variables, or had stopped.
     fn moves_to(&mut self, costs: &CostBox, top: Top) -> bool
         requires ranges { IsBox (length costs.now.low) costs.now }
         requires fits { (forms : List Form) ×

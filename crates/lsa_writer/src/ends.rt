@@ -72,8 +72,8 @@ fn place_of(interfaces: &[Interface], name: &[u8]) -> Option<usize>
     None
 }
 
-/// The place of the interface of a name, looked for from a place on and then before it. So no interface is gone over twice
-/// where names are looked up in the order of the interfaces.
+/// The place of the interface of a name, looked for from a place on and then before it. So no interface is gone over
+/// twice where names are looked up in the order of the interfaces.
 fn place_from(interfaces: &[Interface], name: &[u8], from: usize) -> Option<usize>
     requires { AllPairs (λ a b. a.name ≢ b.name) interfaces.now }
     ensures { option_and_then (slice_get interfaces.now) result ≡

@@ -16,6 +16,6 @@ avoids_both xs ys [] first second = tt
 avoids_both xs ys (e ∷ es) first second = (lacks_both xs ys e first.0 second.0, avoids_both xs ys es first.1 second.1)
 
 -- a path of which no edge is excluded is one of what is left
-pub path_left : (g : Area) (gone : List ℕ) (r : Request) → IsPathOf g (request_ends r) r.path.edges → Avoids gone r.path.edges →
-    IsPathOf g (request_ends (left_without gone r)) r.path.edges
-path_left g gone r is avoids = record { simple = is.simple; kept = avoids_both r.excluded gone r.path.edges is.kept avoids }
+pub path_left : (g : Area) (exclusion : List ℕ) (r : Request) → IsPathOf g (request_ends r) r.path.edges → Avoids exclusion r.path.edges →
+    IsPathOf g (request_ends (left_without exclusion r)) r.path.edges
+path_left g exclusion r is avoids = record { simple = is.simple; kept = avoids_both r.excluded exclusion r.path.edges is.kept avoids }

@@ -102,7 +102,7 @@ spread_found Given limits file d p sets spread report of small read found r =
     let sharing : Sharing = read.so.said in
     let is : p ≡ sharing.input.problem = sym (ap (λ (e : Input). e.problem) read.so.fits.0 ∙ of.0) in
     let ready : IsReadyInput sharing.input = subst IsReadyInput (sym read.so.fits.0) of.1 in
-    let ceiling : greatest_bound sharing.input.problem ≤ 65535 = subst (λ (q : DesignProblem). greatest_bound q ≤ 65535) is small in
+    let bound_small : greatest_bound sharing.input.problem ≤ 65535 = subst (λ (q : DesignProblem). greatest_bound q ≤ 65535) is small in
     let of_said : IsSpreadFound sharing.input.problem sets limits.top limits.nodes spread =
     subst (λ (q : DesignProblem). IsSpreadFound q sets limits.top limits.nodes spread) is found in
     let reports : Reports (spread_status spread) (spread_text sharing.input.problem spread) report =
@@ -114,6 +114,6 @@ spread_found Given limits file d p sets spread report of small read found r =
         said = sharing;
         ends = read.so.ends;
         fits = may_report (MaySpread limits sharing) (spread_status spread) (spread_text sharing.input.problem spread) report
-            reports (found_may limits sharing sets spread ready ceiling read.so.fits.1 of_said);
+            reports (found_may limits sharing sets spread ready bound_small read.so.fits.1 of_said);
       };
     }

@@ -13,7 +13,7 @@ use cost_base::OutOfMemory;
 use cost_branching::keeps_conditions;
 use design_problem::{CostList, Problem, Row, Tree};
 use evidence_text::{TreePart, push_costs, push_evidence};
-use printed_parts::{at_ceiling, costs_by_name, counted_line, head_lines, number_line, push_line};
+use printed_parts::{at_greatest_bound, costs_by_name, counted_line, head_lines, number_line, push_line};
 use std::alloc::Global;
 
 /// The first lines, up to that of the requests.
@@ -113,7 +113,7 @@ fn core_text(
 {
     keeps_conditions(problem);
     let mut text = head_of(alloc, b"verdict core", core.members)?;
-    let tree = at_ceiling(problem, tree);
+    let tree = at_greatest_bound(problem, tree);
     push_evidence(alloc, &mut text, core.rows, TreePart::Proof, &tree)?;
     push_without(alloc, &mut text, problem, core.members, core.without)?;
     push_line(&mut text, b"end")?;
@@ -135,7 +135,7 @@ fn undecided_text(
 {
     keeps_conditions(problem);
     let mut text = head_of(alloc, b"verdict undecided", members)?;
-    let tree = at_ceiling(problem, tree);
+    let tree = at_greatest_bound(problem, tree);
     push_evidence(alloc, &mut text, rows, TreePart::Unfinished, &tree)?;
     push_line(&mut text, b"end")?;
     Ok(text)

@@ -2,7 +2,7 @@
 ghost use Rattle.std.specs.Prelude.{◌≡◌, ◌<◌, ◌^◌, ◌==◌, ◌||◌, IfOk, length, slice_get};
 ghost use Rattle.area_graph.specs.Area.{edge_at};
 ghost use Rattle.std.specs.List.{list_any};
-ghost use Rattle.wanted_paths.specs.Paths.{link_takes};
+ghost use Rattle.wanted_paths.specs.Paths.{link_excludes};
 ghost use Rattle.path_commands.specs.LiveAudits.{edges_of_links};
 ghost use Rattle.path_commands.specs.LinkEdges.{is_link_back, leads_back};
 
@@ -47,9 +47,9 @@ fn is_of_link(routers: usize, graph: &Graph, number: u32, link: &Linked, edge: u
 }
 
 /// Whether an edge is of the link of a number, in one direction or the other.
-fn link_takes(lsdb: &Lsdb, graph: &Graph, number: u32, edge: u32) -> bool
+fn link_excludes(lsdb: &Lsdb, graph: &Graph, number: u32, edge: u32) -> bool
     requires { edge < length graph.now.edges }
-    ensures { result ≡ link_takes lsdb.now graph.now number (slice_get lsdb.now.links number) edge }
+    ensures { result ≡ link_excludes lsdb.now graph.now number (slice_get lsdb.now.links number) edge }
 {
     match lsdb.links.as_slice().get(number as usize) {
         Some(link) => is_of_link(lsdb.routers.as_slice().len(), graph, number, link, edge),
@@ -58,14 +58,14 @@ fn link_takes(lsdb: &Lsdb, graph: &Graph, number: u32, edge: u32) -> bool
 }
 
 /// Whether an edge is of one of some links, in one direction or the other.
-fn is_taken(lsdb: &Lsdb, graph: &Graph, links: &[u32], edge: u32) -> bool
+fn is_of_any_link(lsdb: &Lsdb, graph: &Graph, links: &[u32], edge: u32) -> bool
     requires { edge < length graph.now.edges }
-    ensures { result ≡ list_any (λ l. link_takes lsdb.now graph.now l (slice_get lsdb.now.links l)
+    ensures { result ≡ list_any (λ l. link_excludes lsdb.now graph.now l (slice_get lsdb.now.links l)
         edge) links.now }
 {
     links
         .iter()
-        .any(|link| link_takes(lsdb, graph, *link, edge))
+        .any(|link| link_excludes(lsdb, graph, *link, edge))
 }
 
 /// The edges of some links in both directions, in rising order.
@@ -80,7 +80,7 @@ pub(crate) fn edges_of_links(
     graph.keeps_conditions();
     let mut edges = Vec::new(alloc);
     for edge in 0..graph.edges().len() as u32 {
-        push_if(&mut edges, edge, is_taken(lsdb, graph, links, edge))?;
+        push_if(&mut edges, edge, is_of_any_link(lsdb, graph, links, edge))?;
     }
     Ok(edges)
 }

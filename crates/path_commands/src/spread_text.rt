@@ -9,7 +9,7 @@ ghost use Rattle.text_lines.specs.Lines.{with_ends};
 ghost use Rattle.evidence_text.specs.Lines.{AreShort};
 ghost use Rattle.printed_rows.specs.FittingTexts.{FitText};
 ghost use Rattle.spread_sets.specs.Answers.{IsSpreadFound, set_row_line};
-ghost use Rattle.printed_parts.specs.SharedParts.{at_ceiling};
+ghost use Rattle.printed_parts.specs.SharedParts.{at_greatest_bound};
 ghost use Rattle.printed_rows.specs.PrintedCosts.{named_costs};
 ghost use Rattle.path_commands.specs.Spreads.{front_lines, set_rows_lines, spread_lines, spread_text};
 
@@ -17,7 +17,7 @@ use cost_base::OutOfMemory;
 use design_problem::{CapTree, CostList, Costs, Problem, Tree};
 use evidence_text::{TreePart, push_costs, push_tree};
 use printed_parts::{
-    at_ceiling, costs_by_name, counted_line, head_lines, number_line, push_count_line, push_line,
+    at_greatest_bound, costs_by_name, counted_line, head_lines, number_line, push_count_line, push_line,
 };
 use spread_sets::{SetRow, Spread};
 use std::alloc::Global;
@@ -117,9 +117,9 @@ fn impossible_text(
     ensures { IfOk result
         (λ text. text.items ≡
         with_ends (spread_lines (codes "verdict impossible") None rows.now
-        (Some (at_ceiling problem.now tree)) None)) }
+        (Some (at_greatest_bound problem.now tree)) None)) }
 {
-    let tree = at_ceiling(problem, tree);
+    let tree = at_greatest_bound(problem, tree);
     let mut text = text_of_rows(alloc, b"verdict impossible", None, rows)?;
     push_trees(alloc, &mut text, Some(&tree), None)?;
     Ok(text)
@@ -136,9 +136,9 @@ fn undecided_text(
     ensures { IfOk result
         (λ text. text.items ≡
         with_ends (spread_lines (codes "verdict undecided") None rows.now None
-        (Some (at_ceiling problem.now tree)))) }
+        (Some (at_greatest_bound problem.now tree)))) }
 {
-    let tree = at_ceiling(problem, tree);
+    let tree = at_greatest_bound(problem, tree);
     let mut text = text_of_rows(alloc, b"verdict undecided", None, rows)?;
     push_trees(alloc, &mut text, None, Some(&tree))?;
     Ok(text)

@@ -39,9 +39,10 @@ one_path_more true true n few_is few none = absurd (cc)
 one_path_more true false n few_is few none = let below : n < 10000 = leb-false 10000 n (sym few_is) in omega arith
 one_path_more false many n few_is few none = omega arith
 
-kept_wish : (told : Told) (n : ℕ) (directive : Directive) → ToldKeeps told → HasGoodBounds directive →
+-- so they do with one more line that asks for something, which has no fault
+kept_directive : (told : Told) (n : ℕ) (directive : Directive) → ToldKeeps told → HasGoodBounds directive →
     fault_said told (Ask directive) ≡ None → ToldKeeps (told_with told n (Ask directive))
-kept_wish told n directive kept bounds none =
+kept_directive told n directive kept bounds none =
     let item : Item = record { line = n; what = directive } in
     let counted : count_by is_path (told.items ++ item ∷ []) ≡ count_by is_path told.items + (0 + cond (is_path_directive directive) 1 0)
     = sum_by-append (λ (i : Item). cond (is_path i) 1 0) told.items (item ∷ []) in
@@ -58,7 +59,7 @@ kept_more : (told : Told) (n : ℕ) (said : Statement) → ToldKeeps told → Ke
     ToldKeeps (told_with told n said)
 kept_more told n (Area a) kept rules none = record { bounds = kept.bounds; default = kept.default; paths = kept.paths }
 kept_more told n (DefaultCost cost) kept rules none = record { bounds = kept.bounds; default = rules; paths = kept.paths }
-kept_more told n (Ask directive) kept rules none = kept_wish told n directive kept rules none
+kept_more told n (Ask directive) kept rules none = kept_directive told n directive kept rules none
 kept_more told n (Refused fault) kept rules none = kept
 
 -- a request file without a fault asks for lawful bounds, a positive default cost and at most 10,000 paths

@@ -1,4 +1,4 @@
--- What a line says keeps the rules of requests.
+-- What a line says keeps the rules of request files.
 use Rattle.std.proofs.Common.{◌≡◌, ℕ, ◌≤◌, ◌<◌, refl, sym, subst, List, [], ◌∷◌, Bool, true, false, cond, ◌&&◌, Option, Some, None, arith}
 use Rattle.std.specs.Prelude.{nat_le, ◌==◌, codes, Result, Ok, Err}
 use Rattle.std.proofs.lemmas.Bool.{leb-true, eqb-false}
@@ -13,7 +13,7 @@ use Rattle.request_reader.specs.declared.Part.{Part}
 use Rattle.cost_base.specs.Lists.{same_bytes}
 use Rattle.text_lines.specs.Numbers.{number, area}
 use Rattle.request_reader.specs.Routes.{route_of}
-use Rattle.request_reader.specs.ReadingLines.{off, area_line_by, area_line, default_cost_read, default_cost_line, bound, bounds_of, bounds_said, free_all, free_one, is_router_word, free_line, fix_line, symmetric_line, to_without, behind_without, excluded_parts, path_said, path_line, request_statement_by, request_statement_of}
+use Rattle.request_reader.specs.ReadingLines.{bad_request_line, area_line_by, area_line, default_cost_read, default_cost_line, bound, bounds_of, bounds_said, free_all, free_one, is_router_word, free_line, fix_line, symmetric_line, to_without, behind_without, excluded_parts, path_said, path_line, request_statement_by, request_statement_of}
 use Rattle.request_reader.specs.ReadingSteps.{KeepsRules}
 
 -- bounds from 1 on that don't cross
@@ -50,23 +50,23 @@ free_keeps [] = tt
 free_keeps (a ∷ []) = tt
 free_keeps (a ∷ b ∷ []) = tt
 free_keeps (all ∷ lo ∷ hi ∷ []) =
-    either (same_bytes all (codes "all")) (free_all (bounds_said lo hi)) off
+    either (same_bytes all (codes "all")) (free_all (bounds_said lo hi)) bad_request_line
     (free_all_keeps (bounds_said lo hi) (bounds_keep (bound lo) (bound hi))) tt
 free_keeps (router ∷ interface ∷ lo ∷ hi ∷ []) =
-    either (is_router_word router) (free_one router interface (bounds_said lo hi)) off
+    either (is_router_word router) (free_one router interface (bounds_said lo hi)) bad_request_line
     (free_one_keeps router interface (bounds_said lo hi) (bounds_keep (bound lo) (bound hi))) tt
 free_keeps (a ∷ b ∷ c ∷ d ∷ e ∷ more) = tt
 
 fix_keeps : (ws : List (List ℕ)) → KeepsRules (fix_line ws)
 fix_keeps [] = tt
 fix_keeps (a ∷ []) = tt
-fix_keeps (router ∷ interface ∷ []) = either (is_router_word router) (Ask (Fix router interface)) off tt tt
+fix_keeps (router ∷ interface ∷ []) = either (is_router_word router) (Ask (Fix router interface)) bad_request_line tt tt
 fix_keeps (a ∷ b ∷ c ∷ more) = tt
 
 symmetric_keeps : (ws : List (List ℕ)) → KeepsRules (symmetric_line ws)
 symmetric_keeps [] = tt
-symmetric_keeps (all ∷ []) = either (same_bytes all (codes "all")) (Ask SymmetricAll) off tt tt
-symmetric_keeps (router ∷ interface ∷ []) = either (is_router_word router) (Ask (Symmetric router interface)) off tt tt
+symmetric_keeps (all ∷ []) = either (same_bytes all (codes "all")) (Ask SymmetricAll) bad_request_line tt tt
+symmetric_keeps (router ∷ interface ∷ []) = either (is_router_word router) (Ask (Symmetric router interface)) bad_request_line tt tt
 symmetric_keeps (a ∷ b ∷ c ∷ more) = tt
 
 cost_keeps : (ws : List (List ℕ)) → KeepsRules (default_cost_line ws)
@@ -77,7 +77,7 @@ cost_keeps (word ∷ []) = said_keeps (number word 65535)
     said_keeps None = tt
     said_keeps (Some n) = by_test (n == 0) (λ some. omega (arith, eqb-false n 0 some))
       where
-        by_test : (b : Bool) → (b ≡ false → 0 < n) → KeepsRules (cond b off (DefaultCost n))
+        by_test : (b : Bool) → (b ≡ false → 0 < n) → KeepsRules (cond b bad_request_line (DefaultCost n))
         by_test true some = tt
         by_test false some = some refl
 cost_keeps (a ∷ b ∷ more) = tt
@@ -111,9 +111,9 @@ line_keeps word ws =
     one_of :
         (a b c d e f : Bool) (p q r s t u : Statement) → KeepsRules p → KeepsRules q → KeepsRules r → KeepsRules s →
         KeepsRules t → KeepsRules u →
-        KeepsRules (cond a p (cond b q (cond c r (cond d s (cond e t (cond f u off))))))
+        KeepsRules (cond a p (cond b q (cond c r (cond d s (cond e t (cond f u bad_request_line))))))
     one_of a b c d e f p q r s t u kp kq kr ks kt ku =
-        either a p _ kp (either b q _ kq (either c r _ kr (either d s _ ks (either e t _ kt (either f u off ku tt)))))
+        either a p _ kp (either b q _ kq (either c r _ kr (either d s _ ks (either e t _ kt (either f u bad_request_line ku tt)))))
 
 pub statement_rules : (ws : List (List ℕ)) (said : Statement) → said ≡ request_statement_of ws → KeepsRules said
 statement_rules [] said is = subst KeepsRules (sym is) tt

@@ -13,13 +13,13 @@ told_with told n (DefaultCost cost) = record told { default_cost = Some cost }
 told_with told n (Ask directive) = record told { items = told.items ++ record { line = n; what = directive } ∷ [] }
 told_with told n (Refused fault) = told
 
--- what a line says keeps the rules of requests
+-- what a line says keeps the rules of request files
 abbrev pub KeepsRules : Statement → Type 0
 KeepsRules (Ask directive) = HasGoodBounds directive
 KeepsRules (DefaultCost cost) = 0 < cost
 KeepsRules _ = Unit {0}
 
--- items and a default cost keep the rules of requests, and there are so many paths
+-- items and a default cost keep the rules of request files, and there are so many paths
 pub record KeepsTold (default_cost : Option ℕ) (paths : ℕ) (items : List Item) : Type 0 where
   pub bounds : All (λ item. HasGoodBounds item.what) items
   pub default : IfSome default_cost (λ cost. 0 < cost)

@@ -29,8 +29,8 @@ pub struct TextKind<'a, F> {
 
 /// What takes the statements of a text one after another, up to the first fault.
 ///
-/// Its meanings are `fault_of`, the fault that a statement of these words has behind other statements, as the reader at the
-/// start judges; and `took`, that from one state to another it took these statements, of which none had a fault.
+/// Its meanings are `fault_of`, the fault that a statement of these words has behind other statements, as the reader at
+/// the start judges; and `took`, that from one state to another it took these statements, of which none had a fault.
 pub trait StatementReader<F> {
     ghost use Rattle.std.specs.Prelude.{ℕ, List, Option};
     ghost use Rattle.text_lines.specs.Statements.{SaidLine};
@@ -57,7 +57,8 @@ pub trait StatementReader<F> {
             (fault_of start before (word.now ∷ words rest.now))) refusal) };
 }
 
-/// The first word of a line that says something, and the text behind it; None exactly where the line is blank or a comment.
+/// The first word of a line that says something, and the text behind it; None exactly where the line is blank
+/// or a comment.
 fn first_said(line: &[u8]) -> Option<(&[u8], &[u8])>
     ensures { MatchOption result (said_words (words line.now) ≡ []) (λ p.
         said_words (words line.now) ≡ p.0.now ∷ words p.1.now) }
@@ -83,8 +84,8 @@ fn is_header(kind: &[u8], word: &[u8], rest: &[u8]) -> bool
     word == OSPFCOST && second == kind && third == VERSION && first_word(end).is_none()
 }
 
-/// Reads a line, unless it has a fault behind those that were read, and tells whether there is a header now. `begun` says
-/// whether there was one.
+/// Reads a line, unless it has a fault behind those that were read, and tells whether there is a header now. `begun`
+/// says whether there was one.
 fn read_line<F: Copy, R: StatementReader<F>>(
     alloc: Global,
     reader: &mut R,
@@ -120,12 +121,14 @@ fn read_line<F: Copy, R: StatementReader<F>>(
 }
 
 /// Reads the statements of a text, and tells how many lines it has. A line has at most 65,536 bytes. Blank lines and
-/// comments are passed, and indentation has no meaning. The first other line is the header, and the reader takes the rest.
+/// comments are passed, and indentation has no meaning. The first other line is the header, and the reader
+/// takes the rest.
 ///
 /// # Errors
 ///
-/// `Refused` with the first faulty line: the fault of a statement, or the kind's `bad_line` where a line is too long or not
-/// the header where that has to stand, and behind the last line where there is no header. `OutOfMemory` as the reader says.
+/// `Refused` with the first faulty line: the fault of a statement, or the kind's `bad_line` where a line is too long or
+/// not the header where that has to stand, and behind the last line where there is no header. `OutOfMemory` as the
+/// reader says.
 pub fn read_statements<F: Copy, R: StatementReader<F>>(
     alloc: Global,
     reader: &mut R,

@@ -18,8 +18,8 @@ use text_lines::StatementReader;
 /// The greatest count of wanted paths.
 const MOST_PATHS: u32 = 10_000;
 
-/// What the statements that were taken say together: the area and the default cost so far, and what they ask for, of which
-/// `paths` are paths.
+/// What the statements that were taken say together: the area and the default cost so far, and what they ask for, of
+/// which `paths` are paths.
 #[derive(Drop)]
 pub(crate) struct Reader {
     area: Option<u32>,

@@ -6,7 +6,7 @@ use Rattle.design_problem.specs.declared.form.Row.{Row}
 use Rattle.design_problem.specs.declared.tree.Entry.{Entry}
 use Rattle.printed_rows.specs.NamedRows.{NamesBelow, is_row_named_in}
 use Rattle.printed_rows.specs.NewNumbers.{AreAllPrinted, with_new_numbers}
-use Rattle.least_change.proofs.telling.printed_stuck.Goals as goal
+use Rattle.least_change.proofs.telling.printed_undecided.Goals as goal
 
 tree_is : {X : Type 0} (o : Option X) (x y : X) → o ≡ Some x → o ≡ Some y → x ≡ y
 tree_is o x y first second = cc

@@ -10,14 +10,14 @@ use std::marker::Model;
 /// The excluded edges of a request, with a mark for each edge of the graph that tells at once whether it is one of
 /// them (`mark_excluded` sets the marks). Contracts see the list of their numbers.
 #[derive(Drop)]
-pub struct Removal<'a> {
+pub struct Exclusion<'a> {
     /// The numbers of the excluded edges.
     pub excluded: &'a [u32],
     /// For each edge of the graph, whether it is one of them.
     pub marks: &'a [bool],
 }
 
-impl<'a> Model for Removal<'a> {
+impl<'a> Model for Exclusion<'a> {
     ghost use Rattle.std.specs.Prelude.{ℕ, List};
 
     ghost Value = { List ℕ };
@@ -29,7 +29,7 @@ impl<'a> Model for Removal<'a> {
     ghost invariant = { λ r. AreEdgeMarks r.excluded.now r.marks.now };
 }
 
-impl<'a> Removal<'a> {
+impl<'a> Exclusion<'a> {
     /// Whether an edge isn't excluded. Takes no memory.
     pub fn leaves(&self, edge: u32) -> bool
         ensures { IsTrue result ↔ Lacks self.now edge }

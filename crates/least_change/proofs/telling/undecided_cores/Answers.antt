@@ -3,10 +3,10 @@ use Rattle.std.proofs.Common.{◌∙◌, sym, subst, refl, List, [], ◌∷◌, 
 use Rattle.design_problem.specs.declared.form.Row.{Row}
 use Rattle.printed_rows.specs.NewNumbers.{AreAllPrinted}
 use Rattle.least_change.proofs.ShownLaws.{stuck_front}
-use Rattle.least_change.proofs.telling.stuck_cores.Goals as goal
+use Rattle.least_change.proofs.telling.undecided_cores.Goals as goal
 
-pub printed_stuck-requires : goal.printed_stuck-requires
-printed_stuck-requires c = c.requires.names
+pub printed_undecided-requires : goal.printed_undecided-requires
+printed_undecided-requires c = c.requires.names
 
 pub gathered-requires : goal.gathered-requires
 gathered-requires c =

@@ -1,6 +1,6 @@
 use Rattle.std.proofs.Common.{rules, ◌<◌, ◌≤◌, length}
 use Rattle.area_graph.proofs.ExcludedMarks.{marks_more, marks_past}
-use Rattle.area_graph.proofs.removal.mark.Goals as goal
+use Rattle.area_graph.proofs.exclusion.mark.Goals as goal
 
 pub returns-then-edge-len-clause-marks : goal.returns-then-edge-len-clause-marks
 returns-then-edge-len-clause-marks c =

@@ -1,6 +1,6 @@
 use Rattle.std.proofs.Common.{◌≡◌, length, take}
 use Rattle.area_graph.specs.Distances.{AreEdgeMarks}
-use Rattle.area_graph.proofs.removal.mark_excluded.Given as goal
+use Rattle.area_graph.proofs.exclusion.mark_excluded.Given as goal
 
 abbrev pub invariant-loop-edge : goal.invariant-loop-edge
 invariant-loop-edge l = record {

@@ -1,10 +1,10 @@
 -- The tree that used the budget up is printed behind those of the cores.
 use Rattle.std.proofs.Common.{refl}
 use Rattle.std.proofs.lemmas.Result.{IfOk-weaker}
-use Rattle.least_change.specs.Telling.{IsStuckEvidenceTold, IsStuckPrinted}
+use Rattle.least_change.specs.Telling.{IsUndecidedEvidenceTold, IsUndecidedPrinted}
 use Rattle.least_change.proofs.KnownTrees.{as_many_trees}
-use Rattle.least_change.proofs.ShownLaws.{known_told, most_names, stuck_evidence_told, stuck_names_rows}
-use Rattle.least_change.proofs.telling.stuck_evidence.Goals as goal
+use Rattle.least_change.proofs.ShownLaws.{known_told, most_names, undecided_evidence_told, undecided_names_rows}
+use Rattle.least_change.proofs.telling.undecided_evidence.Goals as goal
 
 pub told_cores-requires-clause-counted : goal.told_cores-requires-clause-counted
 told_cores-requires-clause-counted c =
@@ -14,15 +14,15 @@ pub told_cores-requires-clause-names : goal.told_cores-requires-clause-names
 told_cores-requires-clause-names c =
     most_names c.args.question.now c.args.known.sets.items c.requires.known.most c.args.known.cover c.requires.known.is_most
 
-pub stuck_cores-requires-clause-names : goal.stuck_cores-requires-clause-names
-stuck_cores-requires-clause-names c =
+pub undecided_cores-requires-clause-names : goal.undecided_cores-requires-clause-names
+undecided_cores-requires-clause-names c =
     let q = c.args.question.now in
     let named = c.in_ok-named.named in
     let told = known_told q c.args.pool c.args.known.sets.items c.args.known.trees.items c.args.known.cover named c.requires.known c.in_ok-named.ensures in
-    stuck_names_rows q c.args.pool c.requires.known.most named c.args.stuck _ c.requires.pool told c.requires.stuck refl
+    undecided_names_rows q c.args.pool c.requires.known.most named c.args.stuck _ c.requires.pool told c.requires.stuck refl
 
-pub stuck_cores-requires-clause-counted : goal.stuck_cores-requires-clause-counted
-stuck_cores-requires-clause-counted c =
+pub undecided_cores-requires-clause-counted : goal.undecided_cores-requires-clause-counted
+undecided_cores-requires-clause-counted c =
     let q = c.args.question.now in
     let named = c.in_ok-named.named in
     let told = known_told q c.args.pool c.args.known.sets.items c.args.known.trees.items c.args.known.cover named c.requires.known c.in_ok-named.ensures in
@@ -32,6 +32,6 @@ pub returns : goal.returns
 returns c =
     let q = c.args.question.now in
     let named = c.in_ok-named.named in
-    IfOk-weaker c.stuck_cores.result (IsStuckPrinted c.args.pool.rows named c.args.stuck) (IsStuckEvidenceTold q c.args.stuck)
-    (stuck_evidence_told q c.args.pool c.args.known.sets.items c.args.known.trees.items c.args.known.cover named c.args.stuck c.keeps_conditions.ensures.problem.problem
-    c.keeps_conditions.ensures.present c.requires.pool c.requires.known c.in_ok-named.ensures c.requires.stuck) c.stuck_cores.ensures
+    IfOk-weaker c.undecided_cores.result (IsUndecidedPrinted c.args.pool.rows named c.args.stuck) (IsUndecidedEvidenceTold q c.args.stuck)
+    (undecided_evidence_told q c.args.pool c.args.known.sets.items c.args.known.trees.items c.args.known.cover named c.args.stuck c.keeps_conditions.ensures.problem.problem
+    c.keeps_conditions.ensures.present c.requires.pool c.requires.known c.in_ok-named.ensures c.requires.stuck) c.undecided_cores.ensures

@@ -1,8 +1,8 @@
 use Rattle.std.proofs.Common.{◌+◌, refl, drop}
 use Rattle.wanted_paths.specs.LineFaults.{part_faults, parts_faults}
-use Rattle.wanted_paths.specs.Taken.{taken_by, taken_by_all}
+use Rattle.wanted_paths.specs.Excluded.{excluded_by, excluded_by_all}
 use Rattle.wanted_paths.proofs.LoopSteps.{no_fault, added, none_at_all, all_made}
-use Rattle.wanted_paths.proofs.parts.taken_by.Goals as goal
+use Rattle.wanted_paths.proofs.parts.excluded_by.Goals as goal
 
 pub loop-part-preserved : goal.loop-part-preserved
 loop-part-preserved c =
@@ -17,9 +17,9 @@ loop-part-preserved c =
       faults =
           no_fault (parts_faults d line) parts i part (part_faults d line part) (parts_faults d line parts) (parts_faults d line (drop (i + 1) parts)) within is refl
           c.in_ok-push_part.ensures.made c.loop-part.invariant.faults;
-      taken =
-          added (taken_by_all d g) parts i part c.loop-part.taken.items (taken_by d g part) c.push_part.new.taken.items (taken_by_all d g parts)
-          (taken_by_all d g (drop (i + 1) parts)) within is refl c.in_ok-push_part.ensures.taken c.loop-part.invariant.taken;
+      excluded =
+          added (excluded_by_all d g) parts i part c.loop-part.excluded.items (excluded_by d g part) c.push_part.new.excluded.items (excluded_by_all d g parts)
+          (excluded_by_all d g (drop (i + 1) parts)) within is refl c.in_ok-push_part.ensures.excluded c.loop-part.invariant.excluded;
     }
 
 pub returns-clause-made : goal.returns-clause-made
@@ -28,5 +28,5 @@ returns-clause-made c =
     let parts = c.args.parts.now in
     let i = c.loop-part.part-index in (
       none_at_all (parts_faults d c.args.line) parts i refl c.loop-part-test.false c.loop-part.invariant.faults,
-      all_made (taken_by_all d c.args.graph.now) parts i c.loop-part.taken.items refl c.loop-part-test.false c.loop-part.invariant.taken,
+      all_made (excluded_by_all d c.args.graph.now) parts i c.loop-part.excluded.items refl c.loop-part-test.false c.loop-part.invariant.excluded,
     )
