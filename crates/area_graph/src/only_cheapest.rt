@@ -8,9 +8,9 @@ ghost use Rattle.area_graph.specs.Paths.{IsPathOf, IsSimple, ends_wanted};
 ghost use Rattle.area_graph.specs.Distances.{AreDistancesTo, AreEdgeMarks, AreNumbersIn, FitsSubgraph, LeadsToMore, OtherEdgesLeadToMore, far, through};
 
 use crate::costs::{path_cost, price_of};
+use crate::exclusion::{Exclusion, mark_excluded};
 use crate::passes::put_distances;
 use crate::paths::edge_of;
-use crate::exclusion::{Exclusion, mark_excluded};
 use crate::subgraph::Subgraph;
 use crate::{Graph, Path, Point};
 use cost_base::OutOfMemory;

@@ -1,6 +1,6 @@
 //! A graph at a point without the excluded edges of a request.
 
-use crate::{Graph, Point, Exclusion};
+use crate::{Exclusion, Graph, Point};
 
 /// What is left of a graph without the excluded edges of a request, with the costs of a point.
 #[derive(Clone, Copy)]

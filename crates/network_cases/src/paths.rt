@@ -115,9 +115,7 @@ fn only_at(
         end: request.end,
         excluded: request.excluded.as_slice(),
     };
-    if !point_fits(graph, point)
-        || !is_path_of(graph, wanted.path, wanted.end, wanted.excluded)
-    {
+    if !point_fits(graph, point) || !is_path_of(graph, wanted.path, wanted.end, wanted.excluded) {
         return said(alloc, ": unfit");
     }
     let is_only = is_only_cheapest(alloc, graph, point, &wanted)?;

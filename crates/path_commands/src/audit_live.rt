@@ -14,7 +14,7 @@ ghost use Rattle.report_writer.specs.Reports.{bytes_in};
 
 use crate::audit::{AuditedPath, audited, line_of};
 use crate::link_edges::edges_of_links;
-use area_graph::{Graph, Path, Point, Exclusion, mark_excluded};
+use area_graph::{Exclusion, Graph, Path, Point, mark_excluded};
 use cost_base::{Listed, OutOfMemory, Shelf, Status};
 use design_problem::{Problem, Request};
 use input_files::{FileWords, Layout, Stop, View, read_layout, resolution_at_present};

@@ -13,7 +13,9 @@ use cost_base::OutOfMemory;
 use cost_branching::keeps_conditions;
 use design_problem::{CostList, Problem, Row, Tree};
 use evidence_text::{TreePart, push_costs, push_evidence};
-use printed_parts::{at_greatest_bound, costs_by_name, counted_line, head_lines, number_line, push_line};
+use printed_parts::{
+    at_greatest_bound, costs_by_name, counted_line, head_lines, number_line, push_line,
+};
 use std::alloc::Global;
 
 /// The first lines, up to that of the requests.

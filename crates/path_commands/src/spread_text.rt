@@ -17,7 +17,8 @@ use cost_base::OutOfMemory;
 use design_problem::{CapTree, CostList, Costs, Problem, Tree};
 use evidence_text::{TreePart, push_costs, push_tree};
 use printed_parts::{
-    at_greatest_bound, costs_by_name, counted_line, head_lines, number_line, push_count_line, push_line,
+    at_greatest_bound, costs_by_name, counted_line, head_lines, number_line, push_count_line,
+    push_line,
 };
 use spread_sets::{SetRow, Spread};
 use std::alloc::Global;

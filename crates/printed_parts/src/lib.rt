@@ -8,5 +8,6 @@ pub use number_lines::{
     counted_line, number_line, push_count, push_count_line, push_counts, push_word, push_words,
 };
 pub use parts::{
-    at_greatest_bound, costs_by_name, head_lines, keeps_greatest_bound, push_line, push_tree_at_greatest_bound,
+    at_greatest_bound, costs_by_name, head_lines, keeps_greatest_bound, push_line,
+    push_tree_at_greatest_bound,
 };

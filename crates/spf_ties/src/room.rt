@@ -9,7 +9,7 @@ ghost use Rattle.spf_ties.specs.Distances.{AreTight, IsLeastBelow, IsLeastCost, 
 use crate::heap::Heap;
 use crate::search::{Front, Width, find_in_either};
 use crate::{Aim, NextHops};
-use area_graph::{FAR, Graph, Point, Exclusion, Subgraph, edge_of, mark_excluded, price_of};
+use area_graph::{Exclusion, FAR, Graph, Point, Subgraph, edge_of, mark_excluded, price_of};
 use cost_base::OutOfMemory;
 use std::alloc::Global;
 use std::marker::Model;

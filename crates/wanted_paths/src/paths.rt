@@ -10,7 +10,7 @@ ghost use Rattle.wanted_paths.specs.Walks.{IsWalk};
 
 use crate::ResolutionFault;
 use crate::names::Names;
-use crate::parts::{has_marked, has_router, marked, excluded_by};
+use crate::parts::{excluded_by, has_marked, has_router, marked};
 use crate::routes::{Walk, next_name, resolve_walk};
 use area_graph::{Graph, mark_excluded};
 use cost_base::{Listed, OutOfMemory, Refusal};
