@@ -7,8 +7,8 @@ use case_scripts::Texts;
 use cost_base::OutOfMemory;
 use std::alloc::{AllocError, Global};
 
-/// What is answered to a line that asks of the last text or of a line, in which `more` is what it says. The last text with
-/// this behind it is `bytes`.
+/// What is answered to a line that asks of the last text or of a line, in which `more` is what it says. The last text
+/// with this behind it is `bytes`.
 fn asked(alloc: Global, bytes: &[u8], first: &str, more: &str) -> Result<String, OutOfMemory> {
     match first {
         "answer" => read_text(alloc, bytes),

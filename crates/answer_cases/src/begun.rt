@@ -43,8 +43,8 @@ pub(crate) fn begun_text(alloc: Global, rest: &str) -> Result<String, AllocError
     String::from_str(alloc, told)
 }
 
-/// `longest`: whether a `router` line of 65,536 bytes begins a section behind one of the router `A`, and behind one of the
-/// same router.
+/// `longest`: whether a `router` line of 65,536 bytes begins a section behind one of the router `A`, and behind one of
+/// the same router.
 pub(crate) fn longest_text(alloc: Global) -> Result<String, AllocError> {
     let mut longest = b"router ".as_slice().to_vec(alloc)?;
     longest.resize(65_536, b'A')?;

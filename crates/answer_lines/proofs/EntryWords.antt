@@ -11,7 +11,7 @@ use Rattle.design_problem.specs.declared.tree.Member.TheVariants.{Low, High, Row
 use Rattle.design_problem.specs.declared.tree.Entry.{Entry}
 use Rattle.design_problem.specs.declared.tree.Entry.TheVariants.{Tighten, Split, Halve, Refute, Undone}
 use Rattle.design_problem.specs.declared.tree.WideAt.{WideAt}
-use Rattle.design_problem.specs.Bounds.{IsThing, IsCost, IsRowNumber, BoundsMember, BoundsParts, BoundsEntry}
+use Rattle.design_problem.specs.Bounds.{IsIndex, IsCost, IsRowNumber, BoundsMember, BoundsParts, BoundsEntry}
 use Rattle.design_problem.specs.Text.{side_word, member_words, members_words, part_words, step_word, ratio_word, entry_line, spaced, FitsEntry}
 use Rattle.answer_lines.specs.Words.{entry_words, SaysEntry, SaysNoEntry}
 use Rattle.std.proofs.Common.{get_or}
@@ -34,7 +34,7 @@ other_kind a b xs ys us vs differ e = differ (head-is a b xs ys (head-is (a ∷ 
 
 -- words that say no Tighten say nothing behind its name
 pub only_tighten : (ws : List (List ℕ)) →
-    ((v : ℕ) (side : Side) (b row : ℕ) → IsThing v → IsCost b → IsRowNumber row →
+    ((v : ℕ) (side : Side) (b row : ℕ) → IsIndex v → IsCost b → IsRowNumber row →
     ws ≢ decimal v ∷ side_word side ∷ decimal b ∷ decimal row ∷ []) → SaysNoEntry (codes "tighten" ∷ ws)
 only_tighten ws h (Tighten v side b row) says = h v side b row says.bounds.0 says.bounds.1 says.bounds.2 (tail-is _ _ _ _ says.is)
 only_tighten ws h (Split v b) says = other_kind 116 115 _ _ _ _ (λ e. omega arith) says.is
@@ -100,7 +100,7 @@ side-row HighSide e = apart 104 114 (λ same. omega arith) (head-is 104 114 (cod
 
 -- where no two numbers follow a side, they are no member
 pub no_bound : (ws numbers : List (List ℕ)) (side : Side) → ws ≡ side_word side ∷ numbers →
-    ((v b : ℕ) (rest : List (List ℕ)) → IsThing v → IsCost b → numbers ≢ decimal v ∷ decimal b ∷ rest) →
+    ((v b : ℕ) (rest : List (List ℕ)) → IsIndex v → IsCost b → numbers ≢ decimal v ∷ decimal b ∷ rest) →
     (m : Member) (rest : List (List ℕ)) → BoundsMember m → ws ≢ member_words m ++ rest
 no_bound ws numbers side is none (Low v b) rest bounds e = none v b rest bounds.0 bounds.1 (tail-is _ _ _ _ (sym is ∙ e))
 no_bound ws numbers side is none (High v b) rest bounds e = none v b rest bounds.0 bounds.1 (tail-is _ _ _ _ (sym is ∙ e))

@@ -3,17 +3,17 @@ use Rattle.std.proofs.Common.{◌≡◌, ◌≢◌, ℕ, ◌≤◌, List, [], �
 use Rattle.std.proofs.lemmas.List.{map-append}
 use Rattle.std.proofs.lemmas.List.Elements.{All-nil, All-cons, All-head, All-tail, All-append}
 use Rattle.cost_base.specs.Decimal.{decimal}
-use Rattle.design_problem.specs.Bounds.{IsThing}
+use Rattle.design_problem.specs.Bounds.{IsIndex}
 
 -- numbers go on where the words that were read do
-pub no_number : (xs ns : List ℕ) (left : List (List ℕ)) → All IsThing ns → map decimal ns ≡ map decimal xs ++ left → left ≢ [] →
+pub no_number : (xs ns : List ℕ) (left : List (List ℕ)) → All IsIndex ns → map decimal ns ≡ map decimal xs ++ left → left ≢ [] →
     ((n : ℕ) (rest : List (List ℕ)) → n ≤ 4294967295 → left ≢ decimal n ∷ rest) → ⊥
 no_number [] [] left all e some none = some (sym e)
 no_number [] (n ∷ ns) left all e some none =
-    let small : IsThing n = All-head IsThing n ns all in
+    let small : IsIndex n = All-head IsIndex n ns all in
     none n (map decimal ns) (omega arith) (sym e)
 no_number (x ∷ xs) [] left all e some none = cc
-no_number (x ∷ xs) (n ∷ ns) left all e some none = no_number xs ns left (All-tail IsThing n ns all) (cc) some none
+no_number (x ∷ xs) (n ∷ ns) left all e some none = no_number xs ns left (All-tail IsIndex n ns all) (cc) some none
 
 -- one more number
 pub number_more : (words left rest : List (List ℕ)) (xs : List ℕ) (n : ℕ) → words ≡ map decimal xs ++ left →

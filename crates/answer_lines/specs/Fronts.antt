@@ -1,7 +1,7 @@
 -- What a `halve` line says before its basis. No public clause cites it.
 use Rattle.std.specs.Prelude.{ℕ, List, ◌∷◌}
 use Rattle.cost_base.specs.Decimal.{decimal}
-use Rattle.design_problem.specs.Bounds.{IsThing, IsCost}
+use Rattle.design_problem.specs.Bounds.{IsIndex, IsCost}
 use Rattle.design_problem.specs.Text.{step_word, ratio_word, IsPrintedRatio}
 use Rattle.answer_lines.specs.declared.entries.HalveFront.{HalveFront}
 
@@ -11,7 +11,7 @@ front_words front rest = decimal front.var ∷ decimal front.value ∷ step_word
 
 -- the numbers before a `halve` line's basis are within their types, and its fractions are printed ones
 pub record IsHalveFront (front : HalveFront) : Type 0 where
-  pub var : IsThing front.var
+  pub var : IsIndex front.var
   pub value : IsCost front.value
   pub left : IsPrintedRatio front.left
   pub right : IsPrintedRatio front.right

@@ -9,7 +9,7 @@ use Rattle.design_problem.specs.declared.form.Row.{Row}
 use Rattle.design_problem.specs.declared.tree.Entry.{Entry}
 use Rattle.design_problem.specs.declared.answer.Verdict.{Verdict}
 use Rattle.design_problem.specs.declared.answer.Floor.{Floor}
-use Rattle.design_problem.specs.Bounds.{IsThing, IsCost, IsRowNumber, BoundsVerdict, BoundsFloor, BoundsRow, BoundsEntry}
+use Rattle.design_problem.specs.Bounds.{IsIndex, IsCost, IsRowNumber, BoundsVerdict, BoundsFloor, BoundsRow, BoundsEntry}
 use Rattle.design_problem.specs.Text.{spaced, row_line, entry_line, FitsEntry}
 use Rattle.design_problem.specs.Trees.{subtree_count}
 use Rattle.evidence_text.specs.Parts.{verdict_line, costs_line, interface_line, answer_cost_line, floor_line, rows_line, no_tree_line, tree_line}
@@ -121,7 +121,7 @@ pub record IsTreeNext (part : TreePart) (line : List ℕ) (next : TextPlace) : T
   pub cap : ℕ
   pub count : ℕ
   pub cap_bounds : IsCost cap
-  pub count_bounds : IsThing count
+  pub count_bounds : IsIndex count
   pub is : line ≡ tree_line part cap count
   pub leads : next ≡ AtTree part 1 count
 

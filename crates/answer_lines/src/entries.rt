@@ -6,7 +6,7 @@ ghost use Rattle.cost_base.specs.declared.StepName.{StepName};
 ghost use Rattle.design_problem.specs.declared.tree.Side.{Side};
 ghost use Rattle.design_problem.specs.declared.tree.Member.{Member};
 ghost use Rattle.design_problem.specs.declared.tree.Entry.{Entry};
-ghost use Rattle.design_problem.specs.Bounds.{IsThing, IsCost, IsRowNumber, BoundsMember, BoundsParts, BoundsEntry};
+ghost use Rattle.design_problem.specs.Bounds.{IsIndex, IsCost, IsRowNumber, BoundsMember, BoundsParts, BoundsEntry};
 ghost use Rattle.design_problem.specs.Text.{side_word, step_word, member_words, members_words, part_words, entry_line, FitsEntry};
 ghost use Rattle.text_lines.specs.Numbers.{split};
 ghost use Rattle.cost_base.specs.declared.Ratio.{Ratio};
@@ -25,7 +25,7 @@ use std::alloc::Global;
 pub const GREATEST_VAR: u128 = 4_294_967_295;
 /// The greatest number of a row.
 pub const GREATEST_ROW: u128 = 18_446_744_073_709_551_615;
-/// The greatest bound.
+/// The greatest bound of a range, or cap: that of an interface's cost.
 pub const GREATEST_VALUE: u128 = 65_535;
 /// The greatest multiplier, of 31 digits.
 pub const GREATEST_MULTIPLIER: u128 = 9_999_999_999_999_999_999_999_999_999_999;
@@ -331,7 +331,7 @@ pub fn member_of(words: Pieces<'_>) -> Option<(Member, Pieces<'_>)>
 
 /// The member of a bound of a variable, whose side is known, and the words behind it.
 fn bound_of(side: Side, words: Pieces<'_>) -> Option<(Member, Pieces<'_>)>
-    ensures { MatchOption result ((var value : ℕ) (rest : List (List ℕ)) → IsThing var →
+    ensures { MatchOption result ((var value : ℕ) (rest : List (List ℕ)) → IsIndex var →
         IsCost value → words_left words.entry ≢ decimal var ∷ decimal value ∷ rest)
         (λ r. BoundsMember r.0 × (side_word side ∷ words_left words.entry ≡
         member_words r.0 ++ words_left r.1)) }

@@ -1,6 +1,6 @@
 //! Reading the lines of an answer that have at most one number.
 ghost use Rattle.std.specs.Prelude.{◌≡◌, ◌≢◌, ℕ, ◌+◌, ◌<◌, List, [], ◌∷◌, MatchOption, MatchResult, codes};
-ghost use Rattle.design_problem.specs.Bounds.{IsThing, IsCost, IsRowNumber, BoundsVerdict, BoundsFloor};
+ghost use Rattle.design_problem.specs.Bounds.{IsIndex, IsCost, IsRowNumber, BoundsVerdict, BoundsFloor};
 ghost use Rattle.evidence_text.specs.Parts.{verdict_line, floor_line, rows_line, tree_line};
 ghost use Rattle.answer_lines.specs.Grammar.{AtHead, AtVerdict, AtCosts, AtFloor, AtSections, AtRows, AtRow, AtTree, AtEnd, AfterEnd};
 ghost use Rattle.answer_lines.specs.Places.{LacksLawful};
@@ -74,7 +74,7 @@ pub fn rows_next(text: TextLeft<'_>) -> Option<(u64, TextLeft<'_>)>
 
 /// The cap of a tree, and how many lines it has, as the head of this part says.
 pub fn tree_head_of(line: &[u8], part: TreePart) -> Option<(u16, u32)>
-    ensures { MatchOption result ((cap count : ℕ) → IsCost cap → IsThing count →
+    ensures { MatchOption result ((cap count : ℕ) → IsCost cap → IsIndex count →
         line.now ≢ tree_line part cap count) (λ r. line.now ≡ tree_line part r.0 r.1) }
 {
     let numbers = Pieces::new(line).behind(part_word(part))?;

@@ -2,7 +2,7 @@
 ghost use Rattle.std.specs.Prelude.{◌≡◌, ◌≢◌, ℕ, ◌+◌, ◌<◌, ◌≤◌, List, [], ◌∷◌, All, MatchOption, IfOk, map, length};
 ghost use Rattle.cost_base.specs.Decimal.{decimal};
 ghost use Rattle.design_problem.specs.declared.form.Row.{Row};
-ghost use Rattle.design_problem.specs.Bounds.{IsThing, BoundsRow};
+ghost use Rattle.design_problem.specs.Bounds.{IsIndex, BoundsRow};
 ghost use Rattle.design_problem.specs.Text.{row_line};
 ghost use Rattle.answer_lines.specs.Words.{words_left};
 
@@ -37,9 +37,9 @@ pub fn row_of(alloc: Global, line: &[u8]) -> Result<Option<Row>, OutOfMemory>
 
 /// The numbers that words say, each at most 4294967295.
 fn numbers_of(alloc: Global, words: Pieces<'_>) -> Result<Option<Vec<u32>>, OutOfMemory>
-    ensures { IfOk result (λ found. MatchOption found ((ns : List ℕ) → All IsThing ns →
+    ensures { IfOk result (λ found. MatchOption found ((ns : List ℕ) → All IsIndex ns →
         words_left words.entry ≢ map decimal ns)
-        (λ ns. (words_left words.entry ≡ map decimal ns.items) × All IsThing ns.items)) }
+        (λ ns. (words_left words.entry ≡ map decimal ns.items) × All IsIndex ns.items)) }
 {
     let mut numbers = Vec::new(alloc);
     let mut left = words;

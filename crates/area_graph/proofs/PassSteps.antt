@@ -33,7 +33,7 @@ passed_none g p excluded d bounded = record {
     clash : false ≡ true → ⊥
     clash h = cc
 
--- an edge that is gone, or leads to no smaller number
+-- an edge that is excluded, or leads to no smaller number
 pub passed_stays : (g : Area) (p : Point) (excluded : List ℕ) (n : ℕ) (old d new : List ℕ) (lowered : Bool) →
     Passed g p excluded n old d lowered → new ≡ d → (Lacks excluded n → StaysBy p (edge_at g n) d new) →
     Passed g p excluded (n + 1) old new lowered

@@ -47,8 +47,8 @@ pub record AreNumbersIn (s : Subgraph) (d : List ℕ) : Type 0 where
 
 -- the numbers below a limit are costs of walks to t, and no edge that isn't excluded leads its start to a smaller one
 pub record AreDistancesTo (s : Subgraph) (t limit : ℕ) (d : List ℕ) : Type 0 where
-  pub reached : AreReached s.graph.now s.point.now s.removal.now t limit d
-  pub settled : SettledBelow (length s.graph.now.edges) s.graph.now s.point.now s.removal.now d
+  pub reached : AreReached s.graph.now s.point.now s.exclusion.now t limit d
+  pub settled : SettledBelow (length s.graph.now.edges) s.graph.now s.point.now s.exclusion.now d
 
 -- the numbers stayed as they were, since the edge leads its start to no smaller one
 pub record StaysBy (p : Point) (edge : Edge) (old new : List ℕ) : Type 0 where

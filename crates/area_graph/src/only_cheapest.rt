@@ -4,13 +4,13 @@
 ghost use Rattle.std.specs.Prelude.{◌≡◌, ◌↔◌, ◌++◌, ◌∷◌, [], ◌≤◌, ◌<◌, ◌*◌, ◌+◌, ◌^◌, ℕ, All, IfOk, IsTrue, List, length};
 ghost use Rattle.area_graph.specs.Area.{edge_at, edges_out};
 ghost use Rattle.area_graph.specs.Costs.{FitsPoint, IsOnlyCheapest, cost};
-ghost use Rattle.area_graph.specs.Paths.{IsPathOf, IsSimple, ends_requested};
+ghost use Rattle.area_graph.specs.Paths.{IsPathOf, IsSimple, ends_wanted};
 ghost use Rattle.area_graph.specs.Distances.{AreDistancesTo, AreEdgeMarks, AreNumbersIn, FitsSubgraph, LeadsToMore, OtherEdgesLeadToMore, far, through};
 
 use crate::costs::{path_cost, price_of};
+use crate::exclusion::{Exclusion, mark_excluded};
 use crate::passes::put_distances;
 use crate::paths::edge_of;
-use crate::removal::{Removal, mark_excluded};
 use crate::subgraph::Subgraph;
 use crate::{Graph, Path, Point};
 use cost_base::OutOfMemory;
@@ -21,7 +21,7 @@ pub const FAR: u128 = 1 << 26;
 
 /// A path with what a request says of it.
 #[derive(Clone, Copy)]
-pub struct RequestedPath<'a> {
+pub struct WantedPath<'a> {
     /// The path.
     pub path: &'a Path,
     /// The vertex where it is to end.
@@ -60,10 +60,10 @@ fn is_dearer(
     requires known { other < length subgraph.now.graph.now.edges }
     requires numbers { AreNumbersIn subgraph.now distances.now }
     ensures { IsTrue result ↔ LeadsToMore subgraph.now.graph.now subgraph.now.point.now
-        subgraph.now.removal.now distances.now named most other }
+        subgraph.now.exclusion.now distances.now named most other }
 {
     subgraph.graph.keeps_conditions();
-    if other == named || !subgraph.removal.leaves(other) {
+    if other == named || !subgraph.exclusion.leaves(other) {
         return true;
     }
     let edge = edge_of(subgraph.graph, other);
@@ -76,7 +76,7 @@ fn others_are_dearer(subgraph: &Subgraph<'_>, distances: &[u128], named: u32, mo
     requires known { named < length subgraph.now.graph.now.edges }
     requires numbers { AreNumbersIn subgraph.now distances.now }
     ensures { IsTrue result ↔
-        All (LeadsToMore subgraph.now.graph.now subgraph.now.point.now subgraph.now.removal.now
+        All (LeadsToMore subgraph.now.graph.now subgraph.now.point.now subgraph.now.exclusion.now
         distances.now named most) (edges_out subgraph.now.graph.now
         (edge_at subgraph.now.graph.now named).from) }
 {
@@ -98,7 +98,7 @@ fn leads(subgraph: &Subgraph<'_>, path: &Path, distances: &[u128]) -> bool
         end }
     requires numbers { AreNumbersIn subgraph.now distances.now }
     ensures leads { IsTrue result ↔ OtherEdgesLeadToMore subgraph.now.graph.now
-        subgraph.now.point.now subgraph.now.removal.now distances.now path.now.edges }
+        subgraph.now.point.now subgraph.now.exclusion.now distances.now path.now.edges }
     ensures below { cost subgraph.now.graph.now subgraph.now.point.now path.now.edges <
         far subgraph.now.point.now }
 {
@@ -124,25 +124,25 @@ pub fn is_only_cheapest(
     alloc: Global,
     graph: &Graph,
     point: &Point,
-    requested: &RequestedPath<'_>,
+    wanted: &WantedPath<'_>,
 ) -> Result<bool, OutOfMemory>
     requires fits { FitsPoint graph.now point.now }
-    requires path { IsPathOf graph.now (ends_requested requested.now) requested.now.path.now.edges }
+    requires path { IsPathOf graph.now (ends_wanted wanted.now) wanted.now.path.now.edges }
     ensures { IfOk result (λ yes. IsTrue yes ↔ IsOnlyCheapest graph.now point.now
-        (ends_requested requested.now) requested.now.path.now.edges) }
+        (ends_wanted wanted.now) wanted.now.path.now.edges) }
 {
     graph.keeps_conditions();
     let mut marks = vec![in alloc; false; graph.edges().len()]?;
-    mark_excluded(&mut marks, requested.excluded);
-    let removal = Removal {
-        excluded: requested.excluded,
+    mark_excluded(&mut marks, wanted.excluded);
+    let exclusion = Exclusion {
+        excluded: wanted.excluded,
         marks: marks.as_slice(),
     };
     let subgraph = Subgraph {
         graph,
         point,
-        removal: &removal,
+        exclusion: &exclusion,
     };
-    let distances = distances_to(alloc, &subgraph, requested.end)?;
-    Ok(leads(&subgraph, requested.path, distances.as_slice()))
+    let distances = distances_to(alloc, &subgraph, wanted.end)?;
+    Ok(leads(&subgraph, wanted.path, distances.as_slice()))
 }

@@ -44,16 +44,16 @@ fn visit(subgraph: &Subgraph<'_>, number: u32, distances: &mut Vec<u128>) -> boo
     requires numbers { AreNumbersIn subgraph.now distances.old.items }
 
     // The number of the edge's start is lowered, or all numbers stay.
-    ensures lowered { IsTrue result → Lacks subgraph.now.removal.now number ×
+    ensures lowered { IsTrue result → Lacks subgraph.now.exclusion.now number ×
         ShorterBy subgraph.now.point.now (edge_at subgraph.now.graph.now number) distances.old.items
         distances.new.items }
     ensures same { (result ≡ false) → distances.new.items ≡ distances.old.items }
-    ensures least { (result ≡ false) → Lacks subgraph.now.removal.now number →
+    ensures least { (result ≡ false) → Lacks subgraph.now.exclusion.now number →
         StaysBy subgraph.now.point.now (edge_at subgraph.now.graph.now number) distances.old.items
         distances.new.items }
 {
     subgraph.graph.keeps_conditions();
-    if subgraph.removal.leaves(number) {
+    if subgraph.exclusion.leaves(number) {
         shorten(edge_of(subgraph.graph, number), subgraph.point, distances)
     } else {
         false
@@ -69,14 +69,14 @@ fn pass(subgraph: &Subgraph<'_>, distances: &mut Vec<u128>) -> bool
     // Numbers stay costs of walks to the target, and none rises.
     ensures numbers { AreNumbersIn subgraph.now distances.new.items }
     ensures reached { (t limit : ℕ) → AreReached subgraph.now.graph.now subgraph.now.point.now
-        subgraph.now.removal.now t limit distances.old.items →
-        AreReached subgraph.now.graph.now subgraph.now.point.now subgraph.now.removal.now t limit
+        subgraph.now.exclusion.now t limit distances.old.items →
+        AreReached subgraph.now.graph.now subgraph.now.point.now subgraph.now.exclusion.now t limit
         distances.new.items }
     ensures lower { IsTrue result → sum distances.new.items < sum distances.old.items }
 
     // Where none was lowered no edge leads to a smaller one.
     ensures settled { (result ≡ false) → SettledBelow (length subgraph.now.graph.now.edges)
-        subgraph.now.graph.now subgraph.now.point.now subgraph.now.removal.now distances.new.items }
+        subgraph.now.graph.now subgraph.now.point.now subgraph.now.exclusion.now distances.new.items }
 {
     subgraph.graph.keeps_conditions();
     let mut lowered = false;
@@ -88,8 +88,8 @@ fn pass(subgraph: &Subgraph<'_>, distances: &mut Vec<u128>) -> bool
     lowered
 }
 
-/// Puts each vertex's least cost of a walk to the target into its place, where that is below a limit, and the limit into
-/// each other place. Takes no memory; it takes time in proportion to the edges for each pass.
+/// Puts each vertex's least cost of a walk to the target into its place, where that is below a limit, and the limit
+/// into each other place. Takes no memory; it takes time in proportion to the edges for each pass.
 pub fn put_distances(subgraph: &Subgraph<'_>, target: u32, limit: u128, distances: &mut Vec<u128>)
     // The target is a vertex, and no cost of a simple path passes the greatest one.
     requires fits { FitsSubgraph subgraph.now }

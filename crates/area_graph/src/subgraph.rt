@@ -1,6 +1,6 @@
 //! A graph at a point without the excluded edges of a request.
 
-use crate::{Graph, Point, Removal};
+use crate::{Exclusion, Graph, Point};
 
 /// What is left of a graph without the excluded edges of a request, with the costs of a point.
 #[derive(Clone, Copy)]
@@ -10,5 +10,5 @@ pub struct Subgraph<'a> {
     /// The point that its prices are taken at.
     pub point: &'a Point,
     /// The excluded edges.
-    pub removal: &'a Removal<'a>,
+    pub exclusion: &'a Exclusion<'a>,
 }

@@ -12,7 +12,7 @@ use Rattle.design_problem.specs.declared.tree.Member.{Member}
 use Rattle.design_problem.specs.declared.tree.Member.TheVariants.{Low, High, Row}
 use Rattle.design_problem.specs.declared.tree.Entry.{Entry}
 use Rattle.design_problem.specs.declared.tree.Entry.TheVariants.{Tighten, Split, Halve, Refute, Undone}
-use Rattle.design_problem.specs.Bounds.{IsThing, IsCost, IsRowNumber, BoundsMember, BoundsParts, BoundsEntry}
+use Rattle.design_problem.specs.Bounds.{IsIndex, IsCost, IsRowNumber, BoundsMember, BoundsParts, BoundsEntry}
 use Rattle.design_problem.specs.Text.{side_word, step_word, ratio_word, member_words, members_words, part_words, entry_line, spaced, FitsEntry}
 use Rattle.text_lines.specs.Numbers.{split}
 use Rattle.whole_numbers.proofs.Divisors.{one-gcd}
@@ -205,7 +205,7 @@ bound_member ws is =
     member name.first.0 var.first.0 value.1.0 (omega (arith, var.first.1.greatest)) (omega (arith, value.1.1.greatest))
     (joined ws name.rest (decimal var.first.0 ∷ decimal value.1.0 ∷ []) name.w (side_word name.first.0) name.is name.first.1 numbers)
   where
-    member : (side : Side) (v b : ℕ) → IsThing v → IsCost b → ws ≡ side_word side ∷ decimal v ∷ decimal b ∷ [] → MemberWords ws
+    member : (side : Side) (v b : ℕ) → IsIndex v → IsCost b → ws ≡ side_word side ∷ decimal v ∷ decimal b ∷ [] → MemberWords ws
     member LowSide v b small few e = (Low v b, (small, few), e)
     member HighSide v b small few e = (High v b, (small, few), e)
 

@@ -4,7 +4,7 @@ use Rattle.std.proofs.lemmas.List.{map-append}
 use Rattle.std.proofs.lemmas.List.Elements.{All-nil, All-cons, All-head, All-tail, All-push}
 use Rattle.cost_base.specs.Decimal.{decimal}
 use Rattle.design_problem.specs.declared.form.Row.{Row}
-use Rattle.design_problem.specs.Bounds.{IsThing, BoundsRow}
+use Rattle.design_problem.specs.Bounds.{IsIndex, BoundsRow}
 use Rattle.design_problem.specs.Text.{spaced, row_line}
 use Rattle.text_lines.specs.Numbers.{split}
 use Rattle.text_lines.proofs.WordLaws.{decimal-word}
@@ -22,7 +22,7 @@ use Rattle.answer_lines.proofs.SpacedWords.{from-words}
 record IsNumbers (text : List ℕ) : Type 0 where
   pub first : ℕ
   pub others : List ℕ
-  pub bounds : All IsThing (first ∷ others)
+  pub bounds : All IsIndex (first ∷ others)
   pub is : text ≡ spaced (map decimal (first ∷ others))
 
 -- numbers, and a space behind them, with more to come
@@ -32,22 +32,22 @@ record AwaitsNumber (text more : List ℕ) : Type 0 where
   pub is : text ≡ line ++ 32 ∷ []
   pub some : more ≢ []
 
-one-bound : (n : ℕ) → IsThing n → All IsThing (n ∷ [])
-one-bound n small = All-cons IsThing n [] small (All-nil IsThing)
+one-bound : (n : ℕ) → IsIndex n → All IsIndex (n ∷ [])
+one-bound n small = All-cons IsIndex n [] small (All-nil IsIndex)
 
 -- the first number, cut
-cut-one : (n : ℕ) (text more : List ℕ) → IsThing n → text ++ more ≡ decimal n → text ≢ [] → IsNumbers text
+cut-one : (n : ℕ) (text more : List ℕ) → IsIndex n → text ++ more ≡ decimal n → text ≢ [] → IsNumbers text
 cut-one n text more small e some =
     let found : (m : ℕ) × (m ≤ n) × (text ≡ decimal m) = cut-decimal n text more (sym e) some in
     record { first = found.0; others = []; bounds = one-bound found.0 (omega (arith, found.1, small)); is = found.2 }
 
 -- one more number in front
-in_front : (n : ℕ) (text left : List ℕ) → IsThing n → text ≡ decimal n ++ 32 ∷ left → IsNumbers left → IsNumbers text
+in_front : (n : ℕ) (text left : List ℕ) → IsIndex n → text ≡ decimal n ++ 32 ∷ left → IsNumbers left → IsNumbers text
 in_front n text left small is numbers =
     record {
       first = n;
       others = numbers.first ∷ numbers.others;
-      bounds = All-cons IsThing n (numbers.first ∷ numbers.others) small numbers.bounds;
+      bounds = All-cons IsIndex n (numbers.first ∷ numbers.others) small numbers.bounds;
       is = is ∙ ap (λ bytes. decimal n ++ 32 ∷ bytes) numbers.is;
     }
 
@@ -57,21 +57,21 @@ spaced-some (c ∷ cs) [] some e = cc
 spaced-some (c ∷ cs) (v ∷ vs) some e = cc
 
 -- what numbers begin with, where it isn't empty, is numbers or awaits one
-numbers-front : (n : ℕ) (ns text more : List ℕ) → All IsThing (n ∷ ns) → text ++ more ≡ spaced (map decimal (n ∷ ns)) →
+numbers-front : (n : ℕ) (ns text more : List ℕ) → All IsIndex (n ∷ ns) → text ++ more ≡ spaced (map decimal (n ∷ ns)) →
     text ≢ [] → IsNumbers text ⊎ AwaitsNumber text more
-numbers-front n [] text more all e some = inl (cut-one n text more (All-head IsThing n [] all) e some)
+numbers-front n [] text more all e some = inl (cut-one n text more (All-head IsIndex n [] all) e some)
 numbers-front n (k ∷ ks) text more all e some =
-    let small : IsThing n = All-head IsThing n (k ∷ ks) all in
+    let small : IsIndex n = All-head IsIndex n (k ∷ ks) all in
     let rest : List ℕ = spaced (map decimal (k ∷ ks)) in
     elim (two_parts text more (decimal n) (32 ∷ rest) e) [
       | inl within ↦ inl (cut-one n text within.0 small within.1 some)
       | inr into ↦
           let found : (left : List ℕ) × (into.cut ≡ 32 ∷ left) × (left ++ more ≡ rest) = behind-space into.cut more rest into.some into.left in
           step small found.0 (into.is ∙ ap (λ bytes. decimal n ++ bytes) found.1) found.2
-          (numbers-front k ks found.0 more (All-tail IsThing n (k ∷ ks) all) found.2)
+          (numbers-front k ks found.0 more (All-tail IsIndex n (k ∷ ks) all) found.2)
     ]
   where
-    step : IsThing n → (left : List ℕ) → text ≡ decimal n ++ 32 ∷ left → left ++ more ≡ spaced (map decimal (k ∷ ks)) →
+    step : IsIndex n → (left : List ℕ) → text ≡ decimal n ++ 32 ∷ left → left ++ more ≡ spaced (map decimal (k ∷ ks)) →
         (left ≢ [] → IsNumbers left ⊎ AwaitsNumber left more) → IsNumbers text ⊎ AwaitsNumber text more
     step small [] is e behind =
         inr (record {
@@ -100,7 +100,7 @@ row_of_numbers first others = record { request = first; rival = others }
 row-line : (rest text : List ℕ) → rest ≡ codes "row " ++ text → IsNumbers text → IsLineOfRow rest
 row-line rest text is numbers = (
   row_of_numbers numbers.first numbers.others,
-  (All-head IsThing numbers.first numbers.others numbers.bounds, All-tail IsThing numbers.first numbers.others numbers.bounds),
+  (All-head IsIndex numbers.first numbers.others numbers.bounds, All-tail IsIndex numbers.first numbers.others numbers.bounds),
   is ∙ ap (λ bytes. codes "row " ++ bytes) numbers.is,
 )
 
@@ -124,7 +124,7 @@ edge-begins rest left edge = go edge.0 edge.1.0 edge.1.1 edge.1.2 edge.2 edge.3
         ap (λ bytes. bytes ++ 48 ∷ []) space ∙ append_assoc line (32 ∷ []) (48 ∷ [])
         ∙ ap (λ bytes. bytes ++ 32 ∷ 48 ∷ []) is ∙ sym (row-more row.request row.rival) in
         begins-from (AtRow (suc left)) (AtRow left) rest (row_line longer)
-        (record { row = longer; bounds = (bounds.0, All-push IsThing row.rival 0 bounds.1 (omega arith)); is = refl; leads = refl })
+        (record { row = longer; bounds = (bounds.0, All-push IsIndex row.rival 0 bounds.1 (omega arith)); is = refl; leads = refl })
         (omega (arith, ap length whole, length-append rest (48 ∷ []))) (48 ∷ [], whole)
 
 pub row-begun : (rest : List ℕ) (left : ℕ) →
@@ -133,7 +133,7 @@ row-begun rest left = (
   λ begun. elim begun [
     | inl (inl number) ↦
         begins-from (AtRow (suc left)) (AtRow left) rest (codes "row " ++ decimal number.0)
-        (record { row = row_of_numbers number.0 []; bounds = (omega (arith, number.1), All-nil IsThing); is = refl; leads = refl })
+        (record { row = row_of_numbers number.0 []; bounds = (omega (arith, number.1), All-nil IsIndex); is = refl; leads = refl })
         (omega (arith, short_number (codes "row ") number.0 (omega arith) (omega (arith, number.1)))) number.2
     | inl (inr row) ↦
         begins-from (AtRow (suc left)) (AtRow left) rest rest
@@ -164,14 +164,14 @@ row-begun rest left = (
           | inl started ↦ inl (inl (0, omega arith, front-longer rest (codes "row ") (decimal 0) started))
           | inr into ↦
               behind more into.cut into.is short
-              (numbers-front row.request row.rival into.cut more (All-cons IsThing row.request row.rival bounds.0 bounds.1) into.left into.some)
+              (numbers-front row.request row.rival into.cut more (All-cons IsIndex row.request row.rival bounds.0 bounds.1) into.left into.some)
         ]
 
 -- a word `row`, and numbers behind it, one at least, are the words of a row's line
 pub row-said : (line : List ℕ) (words : List (List ℕ)) → split 32 line ≡ codes "row" ∷ words → ((words ≢ []) × AreNumberWords words) ↔ IsLineOfRow line
 row-said line words cut = (λ said. from said.1.0 said.1.1 said.1.2 said.0, λ row. back row.0 row.1 row.2)
   where
-    from : (ns : List ℕ) → All IsThing ns → words ≡ map decimal ns → words ≢ [] → IsLineOfRow line
+    from : (ns : List ℕ) → All IsIndex ns → words ≡ map decimal ns → words ≢ [] → IsLineOfRow line
     from [] all is some = absurd (some is)
     from (n ∷ ns) all is some =
         row-line line (spaced (map decimal (n ∷ ns))) (from-words line (codes "row") (map decimal (n ∷ ns)) (cut ∙ ap (λ ws. codes "row" ∷ ws) is))
@@ -182,15 +182,15 @@ row-said line words cut = (λ said. from said.1.0 said.1.1 said.1.2 said.0, λ r
         let same : words ≡ map decimal (row.request ∷ row.rival) =
         tail-is (codes "row") (codes "row") words (map decimal (row.request ∷ row.rival))
         (sym cut ∙ row-words line row is) in
-        (λ none. cc, (row.request ∷ row.rival, All-cons IsThing row.request row.rival bounds.0 bounds.1, same))
+        (λ none. cc, (row.request ∷ row.rival, All-cons IsIndex row.request row.rival bounds.0 bounds.1, same))
 
 -- words that begin with no number aren't numbers
 pub numbers-off : (words : List (List ℕ)) → words ≢ [] → ((n : ℕ) (rest : List (List ℕ)) → n ≤ 4294967295 → words ≢ decimal n ∷ rest) → AreNumberWords words → ⊥
 numbers-off words some none numbers = go numbers.0 numbers.1 numbers.2
   where
-    go : (ns : List ℕ) → All IsThing ns → words ≡ map decimal ns → ⊥
+    go : (ns : List ℕ) → All IsIndex ns → words ≡ map decimal ns → ⊥
     go [] all is = some is
-    go (n ∷ ns) all is = let small : IsThing n = All-head IsThing n ns all in none n (map decimal ns) (omega arith) is
+    go (n ∷ ns) all is = let small : IsIndex n = All-head IsIndex n ns all in none n (map decimal ns) (omega arith) is
 
 -- words that begin with a number are numbers where those behind it are
 pub numbers-on : (words rest : List (List ℕ)) (n : ℕ) → n ≤ 4294967295 → words ≡ decimal n ∷ rest → AreNumberWords words ↔ AreNumberWords rest
@@ -198,12 +198,12 @@ numbers-on words rest n small is = (
   λ numbers. from numbers.0 numbers.1 numbers.2,
   λ numbers. (
     n ∷ numbers.0,
-    All-cons IsThing n numbers.0 (omega (arith, small)) numbers.1,
+    All-cons IsIndex n numbers.0 (omega (arith, small)) numbers.1,
     is
         ∙ ap (λ ws. decimal n ∷ ws) numbers.2,
   ),
 )
   where
-    from : (ns : List ℕ) → All IsThing ns → words ≡ map decimal ns → AreNumberWords rest
+    from : (ns : List ℕ) → All IsIndex ns → words ≡ map decimal ns → AreNumberWords rest
     from [] all same = absurd (cc)
-    from (k ∷ ks) all same = (ks, All-tail IsThing k ks all, tail-is (decimal n) (decimal k) rest (map decimal ks) (sym is ∙ same))
+    from (k ∷ ks) all same = (ks, All-tail IsIndex k ks all, tail-is (decimal n) (decimal k) rest (map decimal ks) (sym is ∙ same))

@@ -3,7 +3,7 @@ use Rattle.std.specs.Prelude.{◌≡◌, ◌≢◌, ℕ, ◌<◌, ◌≤◌, Lis
 use Rattle.cost_base.specs.Decimal.{decimal}
 use Rattle.cost_base.specs.Words.{IsOneWord}
 use Rattle.design_problem.specs.declared.form.Row.{Row}
-use Rattle.design_problem.specs.Bounds.{IsThing, BoundsRow}
+use Rattle.design_problem.specs.Bounds.{IsIndex, BoundsRow}
 use Rattle.design_problem.specs.Text.{row_line}
 use Rattle.answer_lines.specs.declared.other_text.OtherText.{OtherText}
 use Rattle.answer_lines.specs.Grammar.{TextPlace, AtInterface, IsEndNext, router_line}
@@ -72,4 +72,4 @@ BeginsEdge rest = (line : List ℕ) × IsLineOfRow line × (rest ≡ line ++ 32 
 
 -- words that are decimal numbers of 32 bits
 abbrev pub AreNumberWords : List (List ℕ) → Type 0
-AreNumberWords words = (ns : List ℕ) × All IsThing ns × (words ≡ map decimal ns)
+AreNumberWords words = (ns : List ℕ) × All IsIndex ns × (words ≡ map decimal ns)

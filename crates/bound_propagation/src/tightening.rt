@@ -16,11 +16,11 @@ pub struct Step {
 
 /// The first variable whose range the form alone makes smaller, with its exact new bound: the form is negative over the
 /// part of the box that is removed, and not over the part at the new bound itself. None exactly where the form makes no
-/// range smaller. With a positive coefficient it is the lower bound that rises, with a negative one the upper bound that
-/// falls.
+/// range smaller. With a positive coefficient it is the lower bound that rises, with a negative one the upper bound
+/// that falls.
 ///
-/// There is a coefficient for each variable, each of size at most 2^26, and the form's greatest value over the box isn't
-/// negative.
+/// There is a coefficient for each variable, each of size at most 2^26, and the form's greatest value over the box
+/// isn't negative.
 pub fn tighten(form: &Form, costs: &CostBox) -> Option<Step>
     // The form has a coefficient for each variable of the box, of size at most 2^26.
     requires low { length form.now.coefficients ≡ length costs.now.low }
@@ -38,8 +38,8 @@ pub fn tighten(form: &Form, costs: &CostBox) -> Option<Step>
     tighten_within(form, costs, greatest_over(form, costs))
 }
 
-/// As `tighten`, where the form's greatest value over the box is known: `most`. It is what the form can lose, so a range
-/// gets smaller only where the form's term loses more between its ends.
+/// As `tighten`, where the form's greatest value over the box is known: `most`. It is what the form can lose, so a
+/// range gets smaller only where the form's term loses more between its ends.
 pub fn tighten_within(form: &Form, costs: &CostBox, most: i128) -> Option<Step>
     // The form has a coefficient for each variable of the box.
     requires low { length form.now.coefficients ≡ length costs.now.low }

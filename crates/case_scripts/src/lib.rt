@@ -109,8 +109,8 @@ fn hex_byte(text: &[u8]) -> Option<u8>
     Some((high * 16 + low) as u8)
 }
 
-/// The byte that stands behind a `\`, and what follows it: `n`, `r` and `t` are those of Rust, `xNN` is hexadecimal, and
-/// anything else is `\` itself.
+/// The byte that stands behind a `\`, and what follows it: `n`, `r` and `t` are those of Rust, `xNN` is hexadecimal,
+/// and anything else is `\` itself.
 fn unescaped(text: &[u8]) -> (u8, &[u8])
     ensures { (result.0 ∷ result.1.now) ≡ unescaped text.now }
 {

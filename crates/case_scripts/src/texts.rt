@@ -139,8 +139,8 @@ impl Texts {
         self.last.bytes.extend_from_slice(bytes.as_slice())
     }
 
-    /// Takes a line that makes texts: `text NAME` begins one, and `| LINE` adds a line to it. Whether it is such a line is
-    /// the answer.
+    /// Takes a line that makes texts: `text NAME` begins one, and `| LINE` adds a line to it. Whether it is such a line
+    /// is the answer.
     pub fn takes(&mut self, alloc: Global, line: &str) -> Result<bool, AllocError>
         ensures answer { IfOk result (λ is_taken. is_taken ≡ is_some
             (after_line line.now self.old)) }

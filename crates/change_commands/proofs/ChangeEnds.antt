@@ -9,7 +9,7 @@ use Rattle.least_change.specs.declared.change.Change.{Change}
 use Rattle.least_change.specs.declared.change.Change.TheVariants.{Fewest, Impossible, Undecided}
 use Rattle.least_change.specs.Changes.{IsChangeFound}
 use Rattle.least_change.specs.Laws.{CannotBeUndecidedOnChanges}
-use Rattle.least_change.proofs.Unspent.{unspent_settle}
+use Rattle.least_change.proofs.Sufficient.{sufficient_settle}
 use Rattle.change_commands.specs.Changes.{ShowsChange, change_status, question_of}
 
 done_impossible : status.Done ≡ status.Impossible → ⊥
@@ -56,4 +56,4 @@ never_unknown limits d bytes cannot shown = by_found shown.change shown.found sh
     by_found : (change : Change) → IsChangeFound (question_of limits d) change → change_status change ≡ status.Undecided → ⊥
     by_found (Fewest w evidence) found is = done_undecided is
     by_found (Impossible rows tree) found is = impossible_undecided is
-    by_found (Undecided w evidence stuck) found is = unspent_settle (question_of limits d) (Undecided w evidence stuck) cannot found
+    by_found (Undecided w evidence stuck) found is = sufficient_settle (question_of limits d) (Undecided w evidence stuck) cannot found

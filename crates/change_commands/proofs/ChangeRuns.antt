@@ -64,7 +64,7 @@ change_found Given limits names network report read told =
         said = d;
         ends = read.so.ends;
         fits = may_report (MayChange limits d) (change_status of_d.change) (change_text d.asked d.database d.problem of_d.change) report of_d.reports
-            (found_may limits d of_d.change (ready_beside_present names d read.came read.so.ends) of_d.ceiling of_d.found);
+            (found_may limits d of_d.change (ready_beside_present names d read.came read.so.ends) of_d.bound_small of_d.found);
       };
     }
 

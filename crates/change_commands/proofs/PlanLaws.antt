@@ -3,8 +3,8 @@ use Rattle.std.proofs.Common.{◌≡◌, ℕ, zero, suc, ◌+◌, ◌<◌, ◌�
 use Rattle.std.specs.Prelude.{◌==◌, ◌||◌, ◌⊎◌, slice_index, slice_set, slice_index_or}
 use Rattle.std.specs.List.{cons_option, list_any}
 use Rattle.std.proofs.lemmas.Bool.{eqb-true, eq-eqb, ne_eqb}
-use Rattle.std.proofs.lemmas.List.{append-nil, at_drop_all, at_drop_more, get_or_default, length-set, get_or-set_same, get_or-set_other}
-use Rattle.std.proofs.lemmas.List.Elements.{All-cons, All-filter, All-head, All-nil, All-set, All-tail, filter-append, filter_map-append}
+use Rattle.std.proofs.lemmas.List.{at_drop_all, at_drop_more, get_or_default, length-set, get_or-set_same, get_or-set_other}
+use Rattle.std.proofs.lemmas.List.Elements.{All-cons, All-filter, All-head, All-nil, All-set, All-tail, filter_map-append}
 use Rattle.std.proofs.lemmas.Option.{slice_get_within}
 use native.Mathlib.Decide.{ℕ_discrete}
 use Rattle.cost_base.specs.Lists.{numbers_from, Has}
@@ -116,21 +116,6 @@ all_taken d present lines i costs seen taken past =
     (sym taken.fault ∙ at_drop_all (first_fault_after d taken.before) lines i past, sym (at_drop_all (with_lines d costs) lines i past) ∙ taken.rest)
 
 -- The links, and their steps.
-
--- one number more, tested
-pub number_more : (p : ℕ → Bool) (n : ℕ) (old new : List ℕ) → old ≡ filter p (numbers_from 0 n) →
-    new ≡ cond (p n) (old ++ n ∷ []) old → new ≡ filter p (numbers_from 0 (n + 1))
-number_more p n old new is pushed =
-    pushed ∙ by_test (p n) ∙ ap (λ (xs : List ℕ). xs ++ cond (p n) (n ∷ []) []) is
-    ∙ sym (ap (filter p) (numbers_from-push 0 n) ∙ filter-append p (numbers_from 0 n) ((0 + n) ∷ [])
-    ∙ ap (λ m. filter p (numbers_from 0 n) ++ filter p (m ∷ [])) none_more)
-  where
-    none_more : 0 + n ≡ n
-    none_more = omega arith
-
-    by_test : (b : Bool) → cond b (old ++ n ∷ []) old ≡ old ++ cond b (n ∷ []) []
-    by_test true = refl
-    by_test false = sym (append-nil old)
 
 -- one link of a router more
 pub router_link_more : (links : List Linked) (moved : List ℕ) (router i l r : ℕ) (old new whole : List ℕ) →

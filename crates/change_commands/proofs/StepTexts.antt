@@ -1,23 +1,13 @@
 -- The text of `steps`, line by line.
 use Rattle.std.proofs.Common.{◌≡◌, ℕ, ◌+◌, ◌<◌, sym, ◌∙◌, ap, List, [], ◌∷◌, ◌++◌, length, map, drop, get_or, append_assoc}
-use Rattle.std.specs.Prelude.{codes}
 use Rattle.std.proofs.lemmas.List.{at_drop_more}
-use Rattle.cost_base.specs.Decimal.{decimal}
 use Rattle.lsdb_build.specs.Graphs.{Database}
 use Rattle.text_lines.specs.Lines.{with_ends}
 use Rattle.text_lines.proofs.LineLaws.{with_ends-append}
-use Rattle.evidence_text.specs.Lines.{with_words}
-use Rattle.evidence_text.proofs.WordLaws.{spaced-with}
 use Rattle.change_steps.specs.declared.found.Blocked.{Blocked}
 use Rattle.change_steps.specs.Rollouts.{CostMoves}
 use Rattle.command_words.specs.declared.job.StepUnit.{StepUnit}
-use Rattle.change_commands.specs.Steps.{held_line, step_line, step_lines_from, stuck_line}
-
--- the line of the held paths, with its first two words
-pub held_begun : (line held : List ℕ) → line ≡ codes "held" ++ 32 ∷ decimal (length held) → with_words line (map decimal held) ≡ held_line held
-held_begun line held is =
-    ap (λ (first : List ℕ). with_words first (map decimal held)) is
-    ∙ sym (spaced-with (codes "held") (decimal (length held) ∷ map decimal held))
+use Rattle.change_commands.specs.Steps.{step_line, step_lines_from, stuck_line}
 
 -- lines behind lines behind a text
 pub lines_behind : (old new : List ℕ) (first rest : List (List ℕ)) → new ≡ old ++ with_ends first → new ++ with_ends rest ≡ old ++ with_ends (first ++ rest)

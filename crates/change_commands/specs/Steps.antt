@@ -1,10 +1,10 @@
 -- The text of `steps`, and what the command may write.
-use Rattle.std.specs.Prelude.{◌≡◌, ℕ, ◌+◌, ◌⊎◌, List, [], ◌∷◌, ◌++◌, map, length, codes, slice_get, slice_index, slice_index_or, Option, None, Some}
+use Rattle.std.specs.Prelude.{◌≡◌, ℕ, ◌+◌, ◌⊎◌, List, [], ◌∷◌, ◌++◌, map, length, codes, slice_index, None, Some}
 use Rattle.cost_base.specs.Decimal.{decimal}
 use Rattle.cost_base.specs.declared.Status.{Status}
 use Rattle.cost_base.specs.declared.Status.TheVariants as status
-use Rattle.lsdb_build.specs.declared.Linked.{Linked}
 use Rattle.lsdb_build.specs.Graphs.{Database}
+use Rattle.lsdb_build.specs.LinkNames.{link_interface, link_router}
 use Rattle.design_problem.specs.declared.answer.CostLine.{CostLine}
 use Rattle.design_problem.specs.Text.{spaced}
 use Rattle.text_lines.specs.Lines.{with_ends}
@@ -29,22 +29,6 @@ use Rattle.change_commands.specs.declared.fault.PlanFault.{PlanFault}
 use Rattle.change_commands.specs.declared.fault.PlanFault.TheVariants.{NoCosts}
 use Rattle.change_commands.specs.FaultNumbers.{plan_fault_number}
 use Rattle.change_commands.specs.Plans.{Plan, first_line_fault, moves_of, rollout_of}
-
--- the name of the router that a link leaves
-abbrev pub link_router : Database → ℕ → List ℕ
-link_router d l = name_of (slice_get d.links l)
-  where
-    name_of : Option Linked → List ℕ
-    name_of None = []
-    name_of (Some link) = slice_index_or d.routers link.router []
-
--- the name of the interface by which a link leaves its router
-abbrev pub link_interface : Database → ℕ → List ℕ
-link_interface d l = name_of (slice_get d.links l)
-  where
-    name_of : Option Linked → List ℕ
-    name_of None = []
-    name_of (Some link) = link.interface
 
 -- the number of the first link of a step
 abbrev pub link_of_step : CostMoves → ℕ → ℕ

@@ -17,7 +17,7 @@ use design_problem::Problem;
 use input_files::{FileWords, Network, Stop, View, read_network};
 use least_change::{Change, change_count, find_change};
 use present_costs::present_of_variables;
-use printed_parts::keeps_ceiling;
+use printed_parts::keeps_greatest_bound;
 use report_writer::Report;
 use std::alloc::Global;
 use wide_fraction::Limits;
@@ -53,7 +53,7 @@ fn text_of_change(
         network.now.problem change.now) }
 {
     keeps_conditions(&network.problem);
-    keeps_ceiling(&network.problem);
+    keeps_greatest_bound(&network.problem);
     match change {
         Change::Fewest { costs, evidence } => {
             let count = change_count(present, costs.as_slice());
@@ -106,7 +106,7 @@ fn report_of_present(
     ensures { IfOk result (IsReportIn (limits_seen limits.now) network.now.requests network.now.lsdb
         network.now.problem) }
 {
-    keeps_ceiling(&network.problem);
+    keeps_greatest_bound(&network.problem);
     let change = find_change(alloc, &network.problem, present, limits)?;
     let report = report_of_change(alloc, network, present, &change);
     // For the prover alone: a call drops the change, so that its parts' drops aren't written out at each exit.
@@ -143,7 +143,8 @@ pub fn change_report<'a, S: Shelf>(
 ) -> Result<Report, Stop<'a>>
     ensures { Gave (S.gave shelf.old shelf.new)
         (λ came. IsReadAs (outcome View.BesidePresent (files_named words.entry)) came
-        (λ report d. MayChange (limits_seen limits.now) d report.status (bytes_in report.text)) result) }
+        (λ report d. MayChange (limits_seen limits.now) d report.status (bytes_in report.text))
+        result) }
 {
     let network = read_network(alloc, View::BesidePresent, words, shelf)?;
     let report = report_of_network(alloc, &network, limits);

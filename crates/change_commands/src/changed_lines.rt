@@ -69,8 +69,8 @@ fn push_changed(
     Ok(())
 }
 
-/// The cost lines of a network that costs of its variables change: those of the free interfaces whose variable hasn't their
-/// present cost, in the order of the links. One pass over these.
+/// The cost lines of a network that costs of its variables change: those of the free interfaces whose variable hasn't
+/// their present cost, in the order of the links. One pass over these.
 ///
 /// # Errors
 ///

@@ -1,11 +1,11 @@
-//! The commands on the way from the present costs to wanted ones: the fewest changes, and an order in which they go live.
+//! The commands on the way from the present costs to wanted ones: the fewest changes, and an order in which
+//! they go live.
 #![tactic(auto)]
 
 mod change;
 mod change_text;
 mod changed_lines;
 mod fault;
-mod number_lines;
 mod plan;
 mod step_text;
 mod steps;

@@ -1,5 +1,5 @@
 //! The steps that the cost lines of a text make of the present costs.
-ghost use Rattle.std.specs.Prelude.{◌≡◌, ℕ, ◌<◌, ◌≤◌, ◌++◌, cond, true, List, [], ◌∷◌, None, Some, length, map, slice_index, slice_set, All, IfOk, OnOk, MatchResult};
+ghost use Rattle.std.specs.Prelude.{◌≡◌, ℕ, ◌<◌, ◌≤◌, ◌++◌, true, List, [], ◌∷◌, None, Some, length, map, slice_index, slice_set, All, IfOk, OnOk, MatchResult};
 ghost use Rattle.std.specs.List.{cons_option};
 ghost use Rattle.change_commands.specs.Plans.{first_line_fault, if_some, line_fault, link_of_line, links_of_router, moved_links, moves_between};
 ghost use Rattle.change_commands.specs.Plans.{router_steps, steps_of, with_lines};
@@ -9,7 +9,7 @@ ghost use Rattle.cost_base.specs.Lists.{numbers_from};
 use crate::fault::PlanFault;
 use change_steps::Moves;
 use command_words::StepUnit;
-use cost_base::{Listed, OutOfMemory, no_marks};
+use cost_base::{Listed, OutOfMemory, no_marks, push_if};
 use design_problem::CostLine;
 use std::alloc::Global;
 use wanted_paths::Names;
@@ -67,17 +67,6 @@ pub(crate) fn wanted_costs(
         }
     }
     Ok(Ok(costs))
-}
-
-/// Adds a link, if it is one of those that are sought.
-fn push_if(links: &mut Vec<u32>, link: u32, is_sought: bool) -> Result<(), OutOfMemory>
-    ensures { OnOk result (links.new.items ≡ cond is_sought (links.old.items ++ link ∷ [])
-        links.old.items) }
-{
-    if is_sought {
-        links.push(link)?;
-    }
-    Ok(())
 }
 
 /// The links whose wanted cost isn't the present one, in order.

@@ -1,17 +1,15 @@
 //! The text of `steps`.
-ghost use Rattle.std.specs.Prelude.{◌≡◌, [], ◌∷◌, ◌++◌, codes, map, slice_index, IfOk, OnOk};
-ghost use Rattle.cost_base.specs.Decimal.{decimal};
+ghost use Rattle.std.specs.Prelude.{◌≡◌, [], ◌∷◌, ◌++◌, codes, slice_index, IfOk, OnOk};
 ghost use Rattle.text_lines.specs.Lines.{with_ends};
 ghost use Rattle.evidence_text.specs.Lines.{with_words};
 ghost use Rattle.change_steps.specs.Rollouts.{lines_of_step};
-ghost use Rattle.change_commands.specs.Steps.{barrier_word, held_line, link_interface, link_of_step, outcome_lines, link_router};
+ghost use Rattle.change_commands.specs.Steps.{barrier_word, held_line, link_of_step, outcome_lines};
 ghost use Rattle.change_commands.specs.Steps.{step_line, step_name, step_words, steps_lines, steps_text, stuck_line, stuck_lines};
 
-use crate::number_lines::push_count;
 use change_steps::{Barrier, Blocked, Moves, Outcome, Steps, Stuck};
 use command_words::StepUnit;
 use cost_base::OutOfMemory;
-use printed_parts::{push_line, push_word, push_words};
+use printed_parts::{counted_line, head_lines, push_count, push_count_line, push_line, push_word};
 use std::alloc::Global;
 use text_lines::push_bytes;
 use wanted_paths::Names;
@@ -54,26 +52,6 @@ fn cost_of_link(costs: &[u16], link: u32) -> u16
     }
 }
 
-/// The name of a link's router.
-fn router_of_link<'a>(names: &'a Names, link: u32) -> &'a [u8]
-    ensures { result.now ≡ link_router names.now link }
-{
-    match names.links().get(link as usize) {
-        Some(link) => names.router_name(link.router),
-        None => &[],
-    }
-}
-
-/// The name of a link's interface.
-fn interface_of_link<'a>(names: &'a Names, link: u32) -> &'a [u8]
-    ensures { result.now ≡ link_interface names.now link }
-{
-    match names.links().get(link as usize) {
-        Some(link) => link.interface.as_bytes(),
-        None => &[],
-    }
-}
-
 /// Adds a name behind a space.
 fn push_name(line: &mut Vec<u8>, name: &[u8]) -> Result<(), OutOfMemory>
     ensures { OnOk result (line.new.items ≡ line.old.items ++ 32 ∷ name.now) }
@@ -88,9 +66,9 @@ fn push_step_name(line: &mut Vec<u8>, of: StepNames, step: usize) -> Result<(), 
         (step_name of.entry.by of.entry.names.now of.entry.moves.now step)) }
 {
     let link = link_of_step(of.moves, step);
-    push_name(line, router_of_link(of.names, link))?;
+    push_name(line, of.names.link_router(link))?;
     match of.by {
-        StepUnit::Line => push_name(line, interface_of_link(of.names, link)),
+        StepUnit::Line => push_name(line, of.names.link_interface(link)),
         StepUnit::Router => Ok(()),
     }
 }
@@ -151,16 +129,6 @@ fn push_step(
     push_line(text, line.as_slice())
 }
 
-/// Adds the line that tells how many steps there are.
-fn push_steps_count(alloc: Global, text: &mut Vec<u8>, count: usize) -> Result<(), OutOfMemory>
-    ensures { OnOk result (text.new.items ≡ text.old.items ++ with_ends
-        ((codes "steps" ++ 32 ∷ decimal count) ∷ [])) }
-{
-    let mut line = Vec::from_slice(alloc, b"steps")?;
-    push_count(&mut line, count as u64)?;
-    push_line(text, line.as_slice())
-}
-
 /// Adds the lines of steps.
 fn push_steps(
     alloc: Global,
@@ -171,7 +139,7 @@ fn push_steps(
     ensures { OnOk result (text.new.items ≡ text.old.items ++ with_ends
         (steps_lines of.entry.by of.entry.names.now of.entry.moves.now order.now)) }
 {
-    push_steps_count(alloc, text, order.len())?;
+    push_count_line(alloc, text, b"steps", order.len() as u64)?;
     for (number, step) in order.iter().enumerate() {
         push_step(alloc, text, of, number, *step)?;
     }
@@ -230,26 +198,14 @@ fn push_stuck(
     Ok(())
 }
 
-/// The line of the held paths.
-fn held_line(alloc: Global, held: &[u32]) -> Result<Vec<u8>, OutOfMemory>
-    ensures { IfOk result (λ line. line.items ≡ held_line held.now) }
-{
-    let mut line = Vec::from_slice(alloc, b"held")?;
-    push_count(&mut line, held.len() as u64)?;
-    push_words(&mut line, held)?;
-    Ok(line)
-}
-
 /// The first lines, up to that of the held paths.
 fn head_of(alloc: Global, verdict: &[u8], held: &[u32]) -> Result<Vec<u8>, OutOfMemory>
     ensures { IfOk result
         (λ text. text.items ≡ with_ends (codes "ospfcost steps 1" ∷ verdict.now ∷
         held_line held.now ∷ [])) }
 {
-    let held = held_line(alloc, held)?;
-    let mut text = Vec::new(alloc);
-    push_line(&mut text, b"ospfcost steps 1")?;
-    push_line(&mut text, verdict)?;
+    let held = counted_line(alloc, b"held", held.len() as u64, held)?;
+    let mut text = head_lines(alloc, b"ospfcost steps 1", verdict)?;
     push_line(&mut text, held.as_slice())?;
     Ok(text)
 }

@@ -32,8 +32,8 @@ use sections_reader::read_costs;
 use std::alloc::Global;
 use wanted_paths::Names;
 
-/// What `steps` is asked besides its network: the file of the text with the costs, how many states may be tested, and what
-/// one step is.
+/// What `steps` is asked besides its network: the file of the text with the costs, how many states may be tested, and
+/// what one step is.
 #[derive(Clone, Copy)]
 pub struct StepsWords<'a> {
     /// The file of the text with the costs.
@@ -164,11 +164,16 @@ fn report_of_wanted(
     wanted: Vec<u16>,
     words: StepsWords,
 ) -> Result<Report, OutOfMemory>
+    // The network is at its present costs, and has the database of the names.
     requires network { IsAtPresent network.now }
     requires names { names.now ≡ network.now.lsdb }
     requires present { present.items ≡ present_of_links network.now.requests network.now.lsdb }
+
+    // Each link has a wanted cost, at least 1.
     requires wanted { length wanted.items ≡ length names.now.links }
     requires positive { All (λ cost. 0 < cost) wanted.items }
+
+    // The report is of the rollout between these costs.
     ensures { IfOk result (ReportsSteps words.entry.nodes words.entry.by names.now
         (record {
           graph = graph_by_links network.now.lsdb;
@@ -295,9 +300,9 @@ fn report_by_file<'a, S: Shelf>(
     Ok(report_of_text(alloc, network, &bytes, words)?)
 }
 
-/// The report of `steps` from the files of words, and after them the text with the costs: an order of its lines, or of its
-/// routers, in which each path that is the only cheapest before and after stays so after each step; that there is none; or
-/// that the budget of states was used up.
+/// The report of `steps` from the files of words, and after them the text with the costs: an order of its lines, or of
+/// its routers, in which each path that is the only cheapest before and after stays so after each step; that there is
+/// none; or that the budget of states was used up.
 ///
 /// # Errors
 ///

@@ -1,4 +1,4 @@
--- There are at most 2 to the number of steps between states, so a budget of so many isn't spent.
+-- There are at most 2 to the number of steps between states, so a budget of so many isn't used up.
 use Rattle.std.proofs.Common.{◌≡◌, ◌≢◌, ℕ, zero, suc, ◌+◌, ◌*◌, ◌^◌, ◌<◌, ◌≤◌, refl, sym, ◌∙◌, ap, subst, List, [], ◌∷◌, ◌++◌, map, length, get_or, set, inl, inr, ◌⊎◌, arith, Bool, true, false, cond, max, get_or-set_other, length-set}
 use Rattle.std.proofs.lemmas.Bool.{cases_lt}
 use Rattle.std.proofs.lemmas.List.{ext_get_or, get_or-map, get_or-take, get_or_at, get_or_append_left, get_or_default, length-map, length-take, length_push}
@@ -144,13 +144,13 @@ few_states r held states form differ =
     number : List Bool → ℕ
     number = code (steps_between r held)
 
--- so a budget that was spent is less than that
+-- so a budget that was used up is less than that
 pub budget_short : (r : Rollout) (held : List ℕ) (tested : List (List Bool)) (nodes : ℕ) → AreTested r held tested →
     length tested ≡ max 1 nodes → IsAnotherReached r held tested → nodes < 2 ^ length (steps_between r held)
-budget_short r held tested nodes are spent another =
+budget_short r held tested nodes are used_up another =
     let all = few_states r held (tested ++ another.marks ∷ []) form differ in
     let count = length_push tested another.marks in
-    omega (arith, all, count, spent)
+    omega (arith, all, count, used_up)
   where
     split : (i : ℕ) → i < length (tested ++ another.marks ∷ []) →
         ((i < length tested) × (get_or (tested ++ another.marks ∷ []) i [] ≡ get_or tested i []))

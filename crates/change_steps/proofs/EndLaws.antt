@@ -17,7 +17,7 @@ use Rattle.change_steps.specs.Rollouts.{IsRollout, Rollout, step_count}
 use Rattle.change_steps.specs.Orders.{AreHeld, IsSafe, IsSafeOrder, is_one_of}
 use Rattle.change_steps.specs.Kinds.{comes_between, comes_first, comes_last, first_steps, kind_of_step, steps_between}
 use Rattle.change_steps.specs.States.{AreAllReached, IsAnotherReached, MayFollow, is_done_in, marks_of}
-use Rattle.change_steps.specs.Outcomes.{AreStepsFound, HasNoOrder, IsBarrier, IsStateBudgetSpent, IsGreatest, IsOutcome, IsSearchEnd, done_count}
+use Rattle.change_steps.specs.Outcomes.{AreStepsFound, HasNoOrder, IsBarrier, IsStateBudgetUsedUp, IsGreatest, IsOutcome, IsSearchEnd, done_count}
 use Rattle.change_steps.specs.Search.{AreBlockedIn, HeldRollout, IsSearch, Position, last_steps, order_behind_first, way_state}
 use Rattle.change_steps.specs.Walks.{IsComplete, IsUnderWay}
 use Rattle.change_steps.proofs.Keeping.{known_if, lacks_unless}
@@ -157,19 +157,19 @@ no_order_found p nodes w stuck rollout is all end = record {
   came = end;
 }
 
-pub budget_spent : (p : HeldRollout) (nodes : ℕ) (w : Walk) (stuck : Stuck) → IsUnderWay p nodes w → length w.tested ≡ max 1 nodes →
+pub budget_used_up : (p : HeldRollout) (nodes : ℕ) (w : Walk) (stuck : Stuck) → IsUnderWay p nodes w → length w.tested ≡ max 1 nodes →
     IsAnotherReached p.rollout p.held w.tested → IsSearchEnd p.rollout p.held w.tested stuck →
-    IsStateBudgetSpent p.rollout p.held nodes stuck × (nodes < 2 ^ length (steps_between p.rollout p.held))
-budget_spent p nodes w stuck is spent another end = (
+    IsStateBudgetUsedUp p.rollout p.held nodes stuck × (nodes < 2 ^ length (steps_between p.rollout p.held))
+budget_used_up p nodes w stuck is used_up another end = (
   record {
     tested = w.tested;
     are = is.walk.search.are;
     incomplete = λ i within safe. is.lack (get_or w.tested i []) (Contains-get_or w.tested i [] within) safe;
-    spent = spent;
+    used_up = used_up;
     another = another;
     came = end;
   },
-  budget_short p.rollout p.held w.tested nodes is.walk.search.are spent another,
+  budget_short p.rollout p.held w.tested nodes is.walk.search.are used_up another,
 )
 
 -- a plan's outcome is one of the rollout

@@ -19,7 +19,7 @@ use Rattle.change_steps.specs.Rollouts.{CostMoves, IsInterfaceCost, IsRollout, R
 use Rattle.change_steps.specs.Orders.{IsOnlyIn, costs_in, is_changed, is_one_of}
 use Rattle.change_steps.specs.States.{is_done_in}
 use Rattle.change_steps.specs.Search.{HasMore}
-use Rattle.change_steps.specs.Reaches.{AreAtLeast, AreDearerOver, AreLeastTo, IsHarmless, IsReach, least_from_to, edges_of_step, has_price, least_cost, least_costs, price_rises}
+use Rattle.change_steps.specs.Reaches.{AreLeastToEach, AreDearerOver, AreLeastTo, IsHarmless, IsReach, least_from_to, edges_of_step, has_price, least_cost, least_costs, price_rises}
 use Rattle.change_steps.proofs.Keeping.{known_if, only_unless, paid, pays_more}
 use Rattle.change_steps.proofs.Passages.{costs_over}
 use Rattle.change_steps.proofs.StateCosts.{changed_if, cost_at, cost_changed, cost_left, costs_le, has_one_of, one_of_has, price_le}
@@ -117,11 +117,11 @@ least_more g p target x least n found count are is below = λ v path way. elim (
   ]
 ]
 
-pub at_least_none : (g : Area) (p : Point) → AreAtLeast g p []
+pub at_least_none : (g : Area) (p : Point) → AreLeastToEach g p []
 at_least_none g p = λ target. subst (AreLeastTo g p target) (sym (get_or_past {X = List ℕ} [] target [] (omega arith))) (least_none g p target)
 
-pub at_least_more : (g : Area) (p : Point) (n : ℕ) (least : List (List ℕ)) (row : List ℕ) → length least ≡ n → AreAtLeast g p least → AreLeastTo g p n row →
-    AreAtLeast g p (least ++ row ∷ [])
+pub at_least_more : (g : Area) (p : Point) (n : ℕ) (least : List (List ℕ)) (row : List ℕ) → length least ≡ n → AreLeastToEach g p least → AreLeastTo g p n row →
+    AreLeastToEach g p (least ++ row ∷ [])
 at_least_more g p n least row count are is = λ target. elim (cases_lt target n) [
   | inl before ↦ subst (AreLeastTo g p target) (sym (get_or_append_left least (row ∷ []) [] target (omega (arith, before, count)))) (are target)
   | inr not_before ↦ elim (cases_lt n target) [
@@ -167,7 +167,7 @@ least_point_fits r g p is graph same =
 
 -- rivals over an edge are dearer than a path that costs less than they do at least
 pub dearer_over : (r : Rollout) (done : ℕ → Bool) (least : List (List ℕ)) (k e mine : ℕ) → IsRollout r →
-    AreAtLeast r.graph (at_costs (least_costs r.moves)) least →
+    AreLeastToEach r.graph (at_costs (least_costs r.moves)) least →
     mine ≡ cost r.graph (at_costs (costs_in r.moves done)) (request_at r.paths k).path.edges →
     mine < least_from_to least (request_at r.paths k).path.start (edge_at r.graph e).from
     + (paid r.graph (at_costs (costs_in r.moves done)) e + least_from_to least (edge_at r.graph e).to (request_at r.paths k).end) →

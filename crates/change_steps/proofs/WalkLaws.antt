@@ -8,13 +8,13 @@ use Rattle.cost_base.proofs.ListLemmas.{none_twice_seam}
 use Rattle.spf_ties.specs.Distances.{IsRoomFor}
 use Rattle.change_steps.specs.declared.walk.Walk.{Walk}
 use Rattle.change_steps.specs.declared.walk.End.{End}
-use Rattle.change_steps.specs.declared.walk.End.TheVariants.{Exhausted, Spent}
+use Rattle.change_steps.specs.declared.walk.End.TheVariants.{Exhausted, UsedUp}
 use Rattle.change_steps.specs.Rollouts.{IsRollout, step_count}
 use Rattle.change_steps.specs.Orders.{AreHeld, IsSafe, is_one_of}
 use Rattle.change_steps.specs.Kinds.{first_steps}
 use Rattle.change_steps.specs.States.{MayFollow, is_done_in, marks_of}
 use Rattle.change_steps.specs.Search.{AllLack, HasMore, HeldRollout, IsExplored, IsNewStep, IsSearch, IsStateOf, Position, order_behind_first, longer_of, way_state}
-use Rattle.change_steps.specs.Walks.{IsBegun, IsEnded, IsWalkTurned, IsUnderWay, IsSearchWalk, left_of, position_of}
+use Rattle.change_steps.specs.Walks.{IsBegun, IsWalkEnded, IsWalkTurned, IsUnderWay, IsSearchWalk, left_of, position_of}
 use Rattle.change_steps.proofs.Keeping.{has_lacks}
 use Rattle.change_steps.proofs.StateCosts.{one_of_has}
 use Rattle.change_steps.proofs.StateLaws.{set_more}
@@ -186,7 +186,7 @@ walk_backs p w v step is end order state done next tested greatest room = record
 -- Its turns.
 
 pub turn_spends : (p : HeldRollout) (nodes : ℕ) (w : Walk) (step : ℕ) → IsUnderWay p nodes w → IsNewStep p w.tested w.state.done.items step →
-    nodes ≤ length w.tested → IsEnded p nodes w Spent
+    nodes ≤ length w.tested → IsWalkEnded p nodes w UsedUp
 turn_spends p nodes w step is new full = (
   is,
   (
@@ -220,7 +220,7 @@ turn_backs p nodes w v is walk tested order = (
 )
 
 pub turn_exhausts : (p : HeldRollout) (nodes : ℕ) (w v : Walk) → IsUnderWay p nodes w → IsSearchWalk p v → v.tested ≡ w.tested → v.order.items ≡ [] →
-    v.next ≡ step_count p.rollout → IsEnded p nodes v Exhausted
+    v.next ≡ step_count p.rollout → IsWalkEnded p nodes v Exhausted
 turn_exhausts p nodes w v is walk tested order next = (
   record {
     walk = walk;

@@ -67,12 +67,12 @@ pub record HasNoOrder (r : Rollout) (held : List ℕ) (nodes : ℕ) (stuck : Stu
 
 -- exactly so many states were tested, and another would be; no tested state that is safe has all steps between, so that
 -- no order was found
-pub record IsStateBudgetSpent (r : Rollout) (held : List ℕ) (nodes : ℕ) (stuck : Stuck) : Type 0 where
+pub record IsStateBudgetUsedUp (r : Rollout) (held : List ℕ) (nodes : ℕ) (stuck : Stuck) : Type 0 where
   pub tested : List (List Bool)
   pub are : AreTested r held tested
   pub incomplete : (i : ℕ) → i < length tested → IsSafe r held (is_done_in (slice_index_or tested i [])) →
       (k : ℕ) × MayFollow r held (slice_index_or tested i []) k
-  pub spent : length tested ≡ max 1 nodes
+  pub used_up : length tested ≡ max 1 nodes
   pub another : IsAnotherReached r held tested
   pub came : IsSearchEnd r held tested stuck
 
@@ -80,7 +80,7 @@ pub record IsStateBudgetSpent (r : Rollout) (held : List ℕ) (nodes : ℕ) (stu
 abbrev pub IsOutcome : Rollout → List ℕ → ℕ → Outcome → Type 0
 IsOutcome r held nodes (Order order) = IsSafeOrder r held order.items
 IsOutcome r held nodes (NoOrder stuck) = HasNoOrder r held nodes stuck
-IsOutcome r held nodes (Undecided stuck) = IsStateBudgetSpent r held nodes stuck × (nodes < 2 ^ length (steps_between r held))
+IsOutcome r held nodes (Undecided stuck) = IsStateBudgetUsedUp r held nodes stuck × (nodes < 2 ^ length (steps_between r held))
 
 -- what is found of a rollout: the held paths, and the outcome for them
 pub record AreStepsFound (r : Rollout) (nodes : ℕ) (steps : Steps) : Type 0 where

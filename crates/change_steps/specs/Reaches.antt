@@ -42,9 +42,9 @@ abbrev pub AreLeastTo : Area → Point → ℕ → List ℕ → Type 0
 AreLeastTo g p target least = (v : ℕ) (path : List ℕ) → IsPathOf g (record { start = v; end = target; excluded = [] }) path →
     slice_index_or least v 0 ≤ cost g p path
 
--- such numbers for each target
-abbrev pub AreAtLeast : Area → Point → List (List ℕ) → Type 0
-AreAtLeast g p least = (target : ℕ) → AreLeastTo g p target (slice_index_or least target [])
+-- for each target numbers of which each is at most what a simple path costs from the vertex of its place to that target
+abbrev pub AreLeastToEach : Area → Point → List (List ℕ) → Type 0
+AreLeastToEach g p least = (target : ℕ) → AreLeastTo g p target (slice_index_or least target [])
 
 -- what a path costs at least from one vertex to another
 abbrev pub least_from_to : List (List ℕ) → ℕ → ℕ → ℕ
@@ -53,7 +53,7 @@ least_from_to least start target = slice_index_or (slice_index_or least target [
 -- the edges of each step, and what paths cost at least at the least costs of the variables
 pub record IsReach (r : Rollout) (reach : Reach) : Type 0 where
   pub edges : reach.edges ≡ map (edges_of_step r) (numbers_from 0 (step_count r))
-  pub least : AreAtLeast r.graph (at_costs (least_costs r.moves)) reach.least
+  pub least : AreLeastToEach r.graph (at_costs (least_costs r.moves)) reach.least
 
 -- each rival that goes over the edge costs more in a state than the path of the request
 abbrev pub AreDearerOver : Rollout → (ℕ → Bool) → ℕ → ℕ → Type 0

@@ -54,7 +54,7 @@ pub record Position : Type 0 where
 abbrev pub order_behind_first : HeldRollout → List ℕ → List ℕ
 order_behind_first p order = first_steps p.rollout p.held ++ order
 
--- the state after them
+-- the state in which just the first steps and these are done, by a mark for each step
 abbrev pub way_state : HeldRollout → List ℕ → List Bool
 way_state p order = marks_of p.rollout (is_one_of (order_behind_first p order))
 

@@ -6,7 +6,7 @@ use Rattle.change_steps.specs.Rollouts.{Rollout, step_count}
 use Rattle.change_steps.specs.Orders.{IsSafe}
 use Rattle.change_steps.specs.Kinds.{comes_first, kind_of_step}
 
--- a state as a mark for each step that is done
+-- whether the marks of a state, one for each step, say that step k is done
 abbrev pub is_done_in : List Bool → ℕ → Bool
 is_done_in marks k = slice_index_or marks k false
 

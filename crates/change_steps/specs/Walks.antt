@@ -3,11 +3,11 @@ use Rattle.std.specs.Prelude.{◌≡◌, ℕ, ◌+◌, ◌-◌, ◌*◌, ◌<◌
 use Rattle.spf_ties.specs.Distances.{IsRoomFor}
 use Rattle.change_steps.specs.declared.walk.Walk.{Walk}
 use Rattle.change_steps.specs.declared.walk.End.{End}
-use Rattle.change_steps.specs.declared.walk.End.TheVariants.{Complete, Exhausted, Spent}
+use Rattle.change_steps.specs.declared.walk.End.TheVariants.{Complete, Exhausted, UsedUp}
 use Rattle.change_steps.specs.States.{AreAllReached, IsAnotherReached, MayFollow}
 use Rattle.change_steps.specs.Search.{AllLack, HeldRollout, IsSearch, IsStateOf, Position, way_state}
 
--- where a walk stands
+-- the position of a walk's search, without the room and the state that its work needs
 abbrev pub position_of : Walk → Position
 position_of w = record { order = w.order.items; next = w.next; tested = w.tested; greatest = w.greatest.items }
 
@@ -35,11 +35,12 @@ pub record IsComplete (p : HeldRollout) (w : Walk) : Type 0 where
   pub walk : IsSearchWalk p w
   pub whole : (k : ℕ) → MayFollow p.rollout p.held w.state.done.items k → ⊥
 
--- how a walk ended
-abbrev pub IsEnded : HeldRollout → ℕ → Walk → End → Type 0
-IsEnded p nodes w Complete = IsComplete p w
-IsEnded p nodes w Exhausted = IsUnderWay p nodes w × AreAllReached p.rollout p.held w.tested
-IsEnded p nodes w Spent = IsUnderWay p nodes w × ((length w.tested ≡ max 1 nodes) × IsAnotherReached p.rollout p.held w.tested)
+-- what a walk is by how it ended: all steps between are done; or all states that can be reached were tested; or as many as
+-- the budget allows were tested, and another can be reached
+abbrev pub IsWalkEnded : HeldRollout → ℕ → Walk → End → Type 0
+IsWalkEnded p nodes w Complete = IsComplete p w
+IsWalkEnded p nodes w Exhausted = IsUnderWay p nodes w × AreAllReached p.rollout p.held w.tested
+IsWalkEnded p nodes w UsedUp = IsUnderWay p nodes w × ((length w.tested ≡ max 1 nodes) × IsAnotherReached p.rollout p.held w.tested)
 
 -- how much a walk has left: each state that may still be tested counts for two, one for going there and one for going back
 abbrev pub left_of : ℕ → Walk → ℕ
@@ -48,4 +49,4 @@ left_of nodes w = 2 * (max 1 nodes - length w.tested) + length w.order.items
 -- after a turn a walk is under way with less left, or it ended
 abbrev pub IsWalkTurned : HeldRollout → ℕ → Walk → Walk → Option End → Type 0
 IsWalkTurned p nodes old new None = IsUnderWay p nodes new × (left_of nodes new < left_of nodes old)
-IsWalkTurned p nodes old new (Some end) = IsEnded p nodes new end
+IsWalkTurned p nodes old new (Some end) = IsWalkEnded p nodes new end

@@ -6,7 +6,7 @@ ghost use Rattle.change_steps.specs.Orders.{IsSafe};
 ghost use Rattle.change_steps.specs.States.{MayFollow, is_done_in};
 ghost use Rattle.change_steps.specs.Outcomes.{IsBarrier, IsOutcome, IsSearchEnd};
 ghost use Rattle.change_steps.specs.Search.{AreBlockedIn, IsStateOf, IsStepBlocked, last_steps, order_behind_first as way_of};
-ghost use Rattle.change_steps.specs.Walks.{IsEnded, IsSearchWalk};
+ghost use Rattle.change_steps.specs.Walks.{IsWalkEnded, IsSearchWalk};
 
 use crate::found::{Barrier, Blocked, Outcome, Stuck};
 use crate::kinds::Kind;
@@ -83,9 +83,9 @@ fn blocked_by(
     // In the way is the first held path that is lost, or that the state after it wasn't tested.
     ensures blocked { IsStepBlocked plan.now tested.now state.old.done.items step result }
 {
-    state.do_step(plan.scene(), step);
+    state.do_step(plan.rollout(), step);
     let by = barrier_of(plan, tested, room, state);
-    state.undo_step(plan.scene(), step);
+    state.undo_step(plan.rollout(), step);
     Blocked { step, by }
 }
 
@@ -122,7 +122,7 @@ fn stuck_of(alloc: Global, plan: &Plan, walk: &mut Walk) -> Result<Stuck, OutOfM
     ensures { IfOk result (IsSearchEnd plan.now.rollout plan.now.held walk.old.tested) }
 {
     let done = line_of(alloc, plan, &walk.greatest)?;
-    let mut state = State::after(alloc, plan.scene(), &done)?;
+    let mut state = State::after(alloc, plan.rollout(), &done)?;
     let blocked = blocked_in(alloc, plan, &walk.tested, &mut walk.room, &mut state)?;
     Ok(Stuck { done, blocked })
 }
@@ -134,14 +134,14 @@ pub(crate) fn outcome_of(
     walk: &mut Walk,
     end: End,
 ) -> Result<Outcome, OutOfMemory>
-    requires { (nodes : ℕ) × IsEnded plan.now nodes walk.old end }
-    ensures { (nodes : ℕ) → IsEnded plan.now nodes walk.old end →
+    requires { (nodes : ℕ) × IsWalkEnded plan.now nodes walk.old end }
+    ensures { (nodes : ℕ) → IsWalkEnded plan.now nodes walk.old end →
         IfOk result (IsOutcome plan.now.rollout plan.now.held nodes) }
 {
     plan.keeps_conditions();
     match end {
         End::Complete => Ok(Outcome::Order(order_of(alloc, plan, &walk.order)?)),
         End::Exhausted => Ok(Outcome::NoOrder(stuck_of(alloc, plan, walk)?)),
-        End::Spent => Ok(Outcome::Undecided(stuck_of(alloc, plan, walk)?)),
+        End::UsedUp => Ok(Outcome::Undecided(stuck_of(alloc, plan, walk)?)),
     }
 }

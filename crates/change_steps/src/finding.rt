@@ -10,7 +10,7 @@ use crate::ending::outcome_of;
 use crate::found::{Outcome, Steps};
 use crate::moves::Moves;
 use crate::plan::Plan;
-use crate::scene::Scene;
+use crate::rollout::Rollout;
 use crate::walk::Walk;
 use area_graph::Graph;
 use cost_base::OutOfMemory;
@@ -64,9 +64,9 @@ pub fn find_steps(
     ensures { IfOk result
         (AreStepsFound (record { graph = graph.now; paths = paths.now; moves = moves.now }) nodes) }
 {
-    let scene = Scene::new(graph, paths, moves);
+    let rollout = Rollout::new(graph, paths, moves);
     let mut room = Room::new(alloc, graph)?;
-    let plan = Plan::new(alloc, scene, &mut room)?;
+    let plan = Plan::new(alloc, rollout, &mut room)?;
     let outcome = outcome_by(alloc, &plan, room, nodes)?;
     Ok(Steps {
         held: plan.into_held(),

@@ -5,7 +5,7 @@ ghost use Rattle.change_steps.specs.Orders.{AreHeld, IsOnlyIn, all_done, none_do
 ghost use Rattle.change_steps.specs.States.{is_done_in, marks_of};
 ghost use Rattle.change_steps.specs.Search.{IsStateOf};
 
-use crate::scene::Scene;
+use crate::rollout::Rollout;
 use crate::state::State;
 use cost_base::OutOfMemory;
 use spf_ties::Room;
@@ -13,45 +13,55 @@ use std::alloc::Global;
 
 /// Whether the path of a request is the only cheapest in two states.
 fn is_only_in_both(
-    scene: &Scene,
+    rollout: &Rollout,
     first: &State,
     second: &State,
     number: u32,
     room: &mut Room,
 ) -> bool
-    requires first { IsStateOf scene.now first.now }
-    requires second { IsStateOf scene.now second.now }
-    requires known { number < length scene.now.paths }
-    requires room { IsRoomFor scene.now.graph room.old }
-    ensures room { IsRoomFor scene.now.graph room.new }
-    ensures both { IsTrue result ↔ (IsOnlyIn scene.now (is_done_in first.now.done.items) number ×
-        IsOnlyIn scene.now (is_done_in second.now.done.items) number) }
+    // Both states and the request are of the rollout.
+    requires first { IsStateOf rollout.now first.now }
+    requires second { IsStateOf rollout.now second.now }
+    requires known { number < length rollout.now.paths }
+
+    // The room is one for the rollout's graph, before and after.
+    requires room { IsRoomFor rollout.now.graph room.old }
+    ensures room { IsRoomFor rollout.now.graph room.new }
+
+    // It tells of the request's path in the one state and in the other.
+    ensures both { IsTrue result ↔ (IsOnlyIn rollout.now (is_done_in first.now.done.items) number ×
+        IsOnlyIn rollout.now (is_done_in second.now.done.items) number) }
 {
-    if !first.is_only(scene, number, room) {
+    if !first.is_only(rollout, number, room) {
         return false;
     }
-    second.is_only(scene, number, room)
+    second.is_only(rollout, number, room)
 }
 
 /// The numbers of the requests whose paths are the only cheapest in the present and in the wanted network.
 fn held_in(
     alloc: Global,
-    scene: &Scene,
+    rollout: &Rollout,
     room: &mut Room,
     present: &State,
     wanted: &State,
 ) -> Result<Vec<u32>, OutOfMemory>
-    requires room { IsRoomFor scene.now.graph room.old }
-    requires present { IsStateOf scene.now present.now }
-    requires none { present.now.done.items ≡ marks_of scene.now none_done }
-    requires wanted { IsStateOf scene.now wanted.now }
-    requires all { wanted.now.done.items ≡ marks_of scene.now all_done }
-    ensures room { IsRoomFor scene.now.graph room.new }
-    ensures held { IfOk result (λ held. AreHeld scene.now held.items) }
+    // In the present state no step is done, in the wanted one all are.
+    requires present { IsStateOf rollout.now present.now }
+    requires none { present.now.done.items ≡ marks_of rollout.now none_done }
+    requires wanted { IsStateOf rollout.now wanted.now }
+    requires all { wanted.now.done.items ≡ marks_of rollout.now all_done }
+
+    // The room is one for the rollout's graph, before and after.
+    requires room { IsRoomFor rollout.now.graph room.old }
+    ensures room { IsRoomFor rollout.now.graph room.new }
+
+    // On Ok these are the held paths of the rollout.
+    ensures held { IfOk result (λ held. AreHeld rollout.now held.items) }
 {
     let mut held = Vec::new(alloc);
-    for number in 0..scene.path_count() {
-        if is_only_in_both(scene, present, wanted, number, room) {
+    for number in 0..rollout.path_count() {
+        if is_only_in_both(rollout, present, wanted, number, room) {
             held.push(number)?;
         }
     }
@@ -62,30 +72,30 @@ fn held_in(
 /// all steps.
 fn held_beside(
     alloc: Global,
-    scene: &Scene,
+    rollout: &Rollout,
     room: &mut Room,
     present: &State,
 ) -> Result<Vec<u32>, OutOfMemory>
-    requires room { IsRoomFor scene.now.graph room.old }
-    requires present { IsStateOf scene.now present.now }
-    requires none { present.now.done.items ≡ marks_of scene.now none_done }
-    ensures room { IsRoomFor scene.now.graph room.new }
-    ensures held { IfOk result (λ held. AreHeld scene.now held.items) }
+    requires room { IsRoomFor rollout.now.graph room.old }
+    requires present { IsStateOf rollout.now present.now }
+    requires none { present.now.done.items ≡ marks_of rollout.now none_done }
+    ensures room { IsRoomFor rollout.now.graph room.new }
+    ensures held { IfOk result (λ held. AreHeld rollout.now held.items) }
 {
-    let wanted = State::wanted(alloc, scene)?;
-    held_in(alloc, scene, room, present, &wanted)
+    let wanted = State::wanted(alloc, rollout)?;
+    held_in(alloc, rollout, room, present, &wanted)
 }
 
 /// The numbers of the requests whose paths are the only cheapest both at present and after all steps.
 pub(crate) fn find_held(
     alloc: Global,
-    scene: &Scene,
+    rollout: &Rollout,
     room: &mut Room,
 ) -> Result<Vec<u32>, OutOfMemory>
-    requires { IsRoomFor scene.now.graph room.old }
-    ensures room { IsRoomFor scene.now.graph room.new }
-    ensures held { IfOk result (λ held. AreHeld scene.now held.items) }
+    requires { IsRoomFor rollout.now.graph room.old }
+    ensures room { IsRoomFor rollout.now.graph room.new }
+    ensures held { IfOk result (λ held. AreHeld rollout.now held.items) }
 {
-    let present = State::present(alloc, scene)?;
-    held_beside(alloc, scene, room, &present)
+    let present = State::present(alloc, rollout)?;
+    held_beside(alloc, rollout, room, &present)
 }

@@ -7,7 +7,7 @@ ghost use Rattle.change_steps.specs.Rollouts.{lines_of_step, step_count};
 ghost use Rattle.change_steps.specs.Kinds.{falls_off_held, goes_over, has_kind, kind_of_step, lies_on_held, rises, rises_off_held};
 ghost use Rattle.change_steps.specs.Search.{AreHeldMarks};
 
-use crate::scene::Scene;
+use crate::rollout::Rollout;
 use area_graph::{Graph, Price, edge_of};
 use cost_base::{OutOfMemory, no_marks};
 use std::alloc::Global;
@@ -71,40 +71,40 @@ fn mark_path(marks: &mut Vec<bool>, graph: &Graph, edges: &[u32])
 }
 
 /// A mark for each variable that lies on a held path.
-fn mark_held(alloc: Global, scene: &Scene, held: &[u32]) -> Result<Vec<bool>, OutOfMemory>
-    requires { All (λ k. k < length scene.now.paths) held.now }
-    ensures { IfOk result (λ marks. AreHeldMarks scene.now held.now marks.items) }
+fn mark_held(alloc: Global, rollout: &Rollout, held: &[u32]) -> Result<Vec<bool>, OutOfMemory>
+    requires { All (λ k. k < length rollout.now.paths) held.now }
+    ensures { IfOk result (λ marks. AreHeldMarks rollout.now held.now marks.items) }
 {
-    scene.keeps_conditions();
-    let mut marks = no_marks(alloc, scene.present().len())?;
+    rollout.keeps_conditions();
+    let mut marks = no_marks(alloc, rollout.present().len())?;
     for number in held {
         mark_path(
             &mut marks,
-            scene.graph(),
-            scene.request(*number).path.edges.as_slice(),
+            rollout.graph(),
+            rollout.request(*number).path.edges.as_slice(),
         );
     }
     Ok(marks)
 }
 
 /// Whether the wanted cost of a variable is greater than its present one.
-pub(crate) fn line_rises(scene: &Scene, line: u32) -> bool
-    requires { line < length scene.now.moves.present }
-    ensures { result ≡ rises scene.now.moves line }
+pub(crate) fn line_rises(rollout: &Rollout, line: u32) -> bool
+    requires { line < length rollout.now.moves.present }
+    ensures { result ≡ rises rollout.now.moves line }
 {
-    scene.keeps_conditions();
-    scene.present()[line as usize] < scene.wanted()[line as usize]
+    rollout.keeps_conditions();
+    rollout.present()[line as usize] < rollout.wanted()[line as usize]
 }
 
 /// Whether each line of a step rises off the held paths.
-fn all_rise(scene: &Scene, marks: &[bool], lines: &[u32]) -> bool
-    requires known { All (λ v. v < length scene.now.moves.present) lines.now }
-    requires count { length marks.now ≡ length scene.now.moves.present }
-    ensures { (held : List ℕ) → AreHeldMarks scene.now held marks.now →
-        result ≡ list_all (rises_off_held scene.now held) lines.now }
+fn all_rise(rollout: &Rollout, marks: &[bool], lines: &[u32]) -> bool
+    requires known { All (λ v. v < length rollout.now.moves.present) lines.now }
+    requires count { length marks.now ≡ length rollout.now.moves.present }
+    ensures { (held : List ℕ) → AreHeldMarks rollout.now held marks.now →
+        result ≡ list_all (rises_off_held rollout.now held) lines.now }
 {
     for line in lines {
-        if !line_rises(scene, *line) || marks[*line as usize] {
+        if !line_rises(rollout, *line) || marks[*line as usize] {
             return false;
         }
     }
@@ -112,14 +112,14 @@ fn all_rise(scene: &Scene, marks: &[bool], lines: &[u32]) -> bool
 }
 
 /// Whether each line of a step falls off the held paths.
-fn all_fall(scene: &Scene, marks: &[bool], lines: &[u32]) -> bool
-    requires known { All (λ v. v < length scene.now.moves.present) lines.now }
-    requires count { length marks.now ≡ length scene.now.moves.present }
-    ensures { (held : List ℕ) → AreHeldMarks scene.now held marks.now →
-        result ≡ list_all (falls_off_held scene.now held) lines.now }
+fn all_fall(rollout: &Rollout, marks: &[bool], lines: &[u32]) -> bool
+    requires known { All (λ v. v < length rollout.now.moves.present) lines.now }
+    requires count { length marks.now ≡ length rollout.now.moves.present }
+    ensures { (held : List ℕ) → AreHeldMarks rollout.now held marks.now →
+        result ≡ list_all (falls_off_held rollout.now held) lines.now }
 {
     for line in lines {
-        if line_rises(scene, *line) || marks[*line as usize] {
+        if line_rises(rollout, *line) || marks[*line as usize] {
             return false;
         }
     }
@@ -127,17 +127,17 @@ fn all_fall(scene: &Scene, marks: &[bool], lines: &[u32]) -> bool
 }
 
 /// When a step is done.
-fn kind_of(scene: &Scene, marks: &[bool], step: usize) -> Kind
-    requires step { step < step_count scene.now }
-    requires count { length marks.now ≡ length scene.now.moves.present }
-    ensures { (held : List ℕ) → AreHeldMarks scene.now held marks.now →
-        result ≡ kind_of_step scene.now held step }
+fn kind_of(rollout: &Rollout, marks: &[bool], step: usize) -> Kind
+    requires step { step < step_count rollout.now }
+    requires count { length marks.now ≡ length rollout.now.moves.present }
+    ensures { (held : List ℕ) → AreHeldMarks rollout.now held marks.now →
+        result ≡ kind_of_step rollout.now held step }
 {
-    scene.keeps_conditions();
-    let lines = scene.lines(step);
-    if all_rise(scene, marks, lines) {
+    rollout.keeps_conditions();
+    let lines = rollout.lines(step);
+    if all_rise(rollout, marks, lines) {
         Kind::First
-    } else if all_fall(scene, marks, lines) {
+    } else if all_fall(rollout, marks, lines) {
         Kind::Last
     } else {
         Kind::Between
@@ -145,15 +145,19 @@ fn kind_of(scene: &Scene, marks: &[bool], step: usize) -> Kind
 }
 
 /// When each step is done.
-pub(crate) fn kinds_of(alloc: Global, scene: &Scene, held: &[u32]) -> Result<Vec<Kind>, OutOfMemory>
-    requires { All (λ k. k < length scene.now.paths) held.now }
-    ensures { IfOk result (λ kinds. kinds.items ≡ map (kind_of_step scene.now held.now)
-        (numbers_from 0 (step_count scene.now))) }
+pub(crate) fn kinds_of(
+    alloc: Global,
+    rollout: &Rollout,
+    held: &[u32],
+) -> Result<Vec<Kind>, OutOfMemory>
+    requires { All (λ k. k < length rollout.now.paths) held.now }
+    ensures { IfOk result (λ kinds. kinds.items ≡ map (kind_of_step rollout.now held.now)
+        (numbers_from 0 (step_count rollout.now))) }
 {
-    let marks = mark_held(alloc, scene, held)?;
+    let marks = mark_held(alloc, rollout, held)?;
     let mut kinds = Vec::new(alloc);
-    for step in 0..scene.step_count() {
-        kinds.push(kind_of(scene, &marks, step))?;
+    for step in 0..rollout.step_count() {
+        kinds.push(kind_of(rollout, &marks, step))?;
     }
     Ok(kinds)
 }

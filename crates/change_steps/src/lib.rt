@@ -9,7 +9,7 @@ mod kinds;
 mod moves;
 mod plan;
 mod reach;
-mod scene;
+mod rollout;
 mod state;
 mod tested;
 mod walk;

@@ -26,7 +26,11 @@ impl Model for Moves {
 
     ghost view = { λ m. record { present = m.present; wanted = m.wanted; steps = m.steps } };
 
-    ghost invariant = { λ m. AreMoves (record { present = m.present; wanted = m.wanted; steps = m.steps }) };
+    ghost invariant = { λ m. AreMoves (record {
+      present = m.present;
+      wanted = m.wanted;
+      steps = m.steps;
+    }) };
 }
 
 impl Moves {

@@ -14,7 +14,7 @@ ghost use Rattle.change_steps.specs.Search.{HasMore, HeldRollout, IsStateOf};
 use crate::held::find_held;
 use crate::kinds::{Kind, is_kind, kinds_of};
 use crate::reach::Reach;
-use crate::scene::Scene;
+use crate::rollout::Rollout;
 use crate::state::State;
 use cost_base::OutOfMemory;
 use spf_ties::Room;
@@ -24,7 +24,7 @@ use std::marker::Model;
 /// A rollout with the paths that it has to hold. Contracts see both.
 #[derive(Drop)]
 pub(crate) struct Plan<'a> {
-    scene: Scene<'a>,
+    rollout: Rollout<'a>,
     held: Vec<u32>,
     kinds: Vec<Kind>,
     reach: Reach,
@@ -35,9 +35,12 @@ impl<'a> Model for Plan<'a> {
 
     ghost Value = { HeldRollout };
 
-    ghost view = { λ p. record { rollout = p.scene; held = p.held.items } };
+    ghost view = { λ p. record { rollout = p.rollout; held = p.held.items } };
 
-    ghost invariant = { λ p. IsPlan (record { rollout = p.scene; held = p.held.items }) p.kinds.items p.reach };
+    ghost invariant = { λ p. IsPlan (record {
+      rollout = p.rollout;
+      held = p.held.items;
+    }) p.kinds.items p.reach };
 }
 
 /// The kind at a place.
@@ -50,26 +53,30 @@ fn kind_at(kinds: &[Kind], step: usize) -> Kind
 
 impl<'a> Plan<'a> {
     /// The plan of a rollout.
-    pub fn new(alloc: Global, scene: Scene<'a>, room: &mut Room) -> Result<Plan<'a>, OutOfMemory>
-        requires { IsRoomFor scene.graph room.old }
-        ensures room { IsRoomFor scene.entry.graph room.new }
-        ensures plan { IfOk result (λ plan. plan.rollout ≡ scene.entry) }
-        ensures held { IfOk result (λ plan. AreHeld scene.entry plan.held) }
+    pub fn new(
+        alloc: Global,
+        rollout: Rollout<'a>,
+        room: &mut Room,
+    ) -> Result<Plan<'a>, OutOfMemory>
+        requires { IsRoomFor rollout.graph room.old }
+        ensures room { IsRoomFor rollout.entry.graph room.new }
+        ensures plan { IfOk result (λ plan. plan.rollout ≡ rollout.entry) }
+        ensures held { IfOk result (λ plan. AreHeld rollout.entry plan.held) }
     {
-        scene.keeps_conditions();
-        let held = find_held(alloc, &scene, room)?;
-        let kinds = kinds_of(alloc, &scene, &held)?;
-        let reach = Reach::new(alloc, &scene, &held, &kinds, room)?;
+        rollout.keeps_conditions();
+        let held = find_held(alloc, &rollout, room)?;
+        let kinds = kinds_of(alloc, &rollout, &held)?;
+        let reach = Reach::new(alloc, &rollout, &held, &kinds, room)?;
         Ok(Plan {
-            scene,
+            rollout,
             held,
             kinds,
             reach,
         })
     }
 
-    /// A law of each plan, which takes no time: it keeps the conditions of its rollout, and its held paths are those of the
-    /// rollout.
+    /// A law of each plan, which takes no time: it keeps the conditions of its rollout, and its held paths are those of
+    /// the rollout.
     pub fn keeps_conditions(&self)
         ensures rollout { IsRollout self.now.rollout }
         ensures held { AreHeld self.now.rollout self.now.held }
@@ -78,10 +85,10 @@ impl<'a> Plan<'a> {
     }
 
     /// The rollout.
-    pub fn scene(&self) -> &Scene<'a>
+    pub fn rollout(&self) -> &Rollout<'a>
         ensures { result.now ≡ self.now.rollout }
     {
-        &self.scene
+        &self.rollout
     }
 
     /// The held paths.
@@ -96,7 +103,7 @@ impl<'a> Plan<'a> {
         ensures { result.items ≡ self.entry.held }
     {
         let Plan {
-            scene: _,
+            rollout: _,
             held,
             kinds: _,
             reach: _,
@@ -108,7 +115,7 @@ impl<'a> Plan<'a> {
     pub fn step_count(&self) -> usize
         ensures { result ≡ step_count self.now.rollout }
     {
-        self.scene.step_count()
+        self.rollout.step_count()
     }
 
     /// When a step is done.
@@ -171,7 +178,7 @@ impl<'a> Plan<'a> {
             (is_done_in state.now.done.items) step → IsOnlyIn self.now.rollout before number →
             IsOnlyIn self.now.rollout (is_done_in state.now.done.items) number }
     {
-        self.reach.spares(&self.scene, state, number, step)
+        self.reach.spares(&self.rollout, state, number, step)
     }
 
     /// Whether a state is safe, one step of which was done last, after a state that was safe. Held paths that the step
@@ -187,7 +194,7 @@ impl<'a> Plan<'a> {
     {
         self.keeps_conditions();
         for number in self.held() {
-            if !self.spares(state, step, *number) && !state.is_only(self.scene(), *number, room) {
+            if !self.spares(state, step, *number) && !state.is_only(self.rollout(), *number, room) {
                 return false;
             }
         }
@@ -205,7 +212,7 @@ impl<'a> Plan<'a> {
     {
         self.keeps_conditions();
         for number in self.held() {
-            if !state.is_only(self.scene(), *number, room) {
+            if !state.is_only(self.rollout(), *number, room) {
                 return Some(*number);
             }
         }

@@ -6,10 +6,10 @@ ghost use Rattle.spf_ties.specs.Distances.{IsRoomFor};
 ghost use Rattle.change_steps.specs.Rollouts.{step_count};
 ghost use Rattle.change_steps.specs.States.{is_done_in};
 ghost use Rattle.change_steps.specs.Search.{IsStateOf};
-ghost use Rattle.change_steps.specs.Reaches.{AreAtLeast, AreDearerOver, AreLeastTo, IsHarmless, IsReach, least_from_to, edges_of_step, has_price, least_cost, least_costs, price_rises};
+ghost use Rattle.change_steps.specs.Reaches.{AreLeastToEach, AreDearerOver, AreLeastTo, IsHarmless, IsReach, least_from_to, edges_of_step, has_price, least_cost, least_costs, price_rises};
 
 use crate::kinds::{Kind, is_kind, line_rises};
-use crate::scene::Scene;
+use crate::rollout::Rollout;
 use crate::state::State;
 use area_graph::{FAR, Graph, Point, Price, edge_of, path_cost, price_of};
 use cost_base::{Listed, OutOfMemory, no_marks};
@@ -37,15 +37,15 @@ fn has_price(lines: &[u32], price: Price) -> bool
 
 /// The edges whose costs a step changes.
 #[tactic(auto, unfolding(crate::specs::Reaches::edges_of_step))]
-fn edges_of_step(alloc: Global, scene: &Scene, step: usize) -> Result<Vec<u32>, OutOfMemory>
-    requires { step < step_count scene.now }
-    ensures { IfOk result (λ edges. edges.items ≡ edges_of_step scene.now step) }
+fn edges_of_step(alloc: Global, rollout: &Rollout, step: usize) -> Result<Vec<u32>, OutOfMemory>
+    requires { step < step_count rollout.now }
+    ensures { IfOk result (λ edges. edges.items ≡ edges_of_step rollout.now step) }
 {
-    scene.keeps_conditions();
-    let lines = scene.lines(step);
+    rollout.keeps_conditions();
+    let lines = rollout.lines(step);
     let mut edges = Vec::new(alloc);
-    for number in 0..scene.edge_count() {
-        if has_price(lines, edge_of(scene.graph(), number).price) {
+    for number in 0..rollout.edge_count() {
+        if has_price(lines, edge_of(rollout.graph(), number).price) {
             edges.push(number)?;
         }
     }
@@ -53,24 +53,24 @@ fn edges_of_step(alloc: Global, scene: &Scene, step: usize) -> Result<Vec<u32>, 
 }
 
 /// The least cost of a variable in any state.
-fn least_cost(scene: &Scene, line: usize) -> u16
-    requires { line < length scene.now.moves.present }
-    ensures { result ≡ least_cost scene.now.moves line }
+fn least_cost(rollout: &Rollout, line: usize) -> u16
+    requires { line < length rollout.now.moves.present }
+    ensures { result ≡ least_cost rollout.now.moves line }
 {
-    scene.keeps_conditions();
-    let present = scene.present()[line];
-    let wanted = scene.wanted()[line];
+    rollout.keeps_conditions();
+    let present = rollout.present()[line];
+    let wanted = rollout.wanted()[line];
     if present < wanted { present } else { wanted }
 }
 
 /// The least costs of the variables in any state.
 #[tactic(auto, unfolding(crate::specs::Reaches::least_costs))]
-fn least_costs(alloc: Global, scene: &Scene) -> Result<Point, OutOfMemory>
-    ensures { IfOk result (λ point. point ≡ at_costs (least_costs scene.now.moves)) }
+fn least_costs(alloc: Global, rollout: &Rollout) -> Result<Point, OutOfMemory>
+    ensures { IfOk result (λ point. point ≡ at_costs (least_costs rollout.now.moves)) }
 {
     let mut values = Vec::new(alloc);
-    for line in 0..scene.present().len() {
-        values.push(least_cost(scene, line) as u128)?;
+    for line in 0..rollout.present().len() {
+        values.push(least_cost(rollout, line) as u128)?;
     }
     Ok(Point {
         scale: 1,
@@ -132,12 +132,12 @@ fn mark_starts(marks: &mut Vec<bool>, graph: &Graph, edges: &[u32])
 }
 
 /// Marks the ends of the held paths.
-fn mark_ends(marks: &mut Vec<bool>, scene: &Scene, held: &[u32])
-    requires { All (λ k. k < length scene.now.paths) held.now }
+fn mark_ends(marks: &mut Vec<bool>, rollout: &Rollout, held: &[u32])
+    requires { All (λ k. k < length rollout.now.paths) held.now }
     ensures { length marks.new.items ≡ length marks.old.items }
 {
     for number in held {
-        mark(marks, scene.request(*number).end);
+        mark(marks, rollout.request(*number).end);
     }
 }
 
@@ -149,8 +149,8 @@ fn is_between(kinds: &[Kind], step: usize) -> bool {
     }
 }
 
-/// Marks the vertices that the edges of a step leave, if it comes between the first and the last ones, and tells whether
-/// it does.
+/// Marks the vertices that the edges of a step leave, if it comes between the first and the last ones, and tells
+/// whether it does.
 fn mark_step(
     marks: &mut Vec<bool>,
     graph: &Graph,
@@ -181,18 +181,18 @@ fn mark_between(marks: &mut Vec<bool>, graph: &Graph, kinds: &[Kind], edges: &[L
 /// A mark for each vertex that an edge of a step between leaves, or at which a held path ends.
 fn mark_asked(
     alloc: Global,
-    scene: &Scene,
+    rollout: &Rollout,
     held: &[u32],
     kinds: &[Kind],
     edges: &[Listed<u32>],
 ) -> Result<Vec<bool>, OutOfMemory>
-    requires { All (λ k. k < length scene.now.paths) held.now }
-    ensures { IfOk result (λ asked. length asked.items ≡ length scene.now.graph.vertices) }
+    requires { All (λ k. k < length rollout.now.paths) held.now }
+    ensures { IfOk result (λ asked. length asked.items ≡ length rollout.now.graph.vertices) }
 {
-    let graph = scene.graph();
+    let graph = rollout.graph();
     let mut asked = no_marks(alloc, graph.vertices().len())?;
     if mark_between(&mut asked, graph, kinds, edges) {
-        mark_ends(&mut asked, scene, held);
+        mark_ends(&mut asked, rollout, held);
     }
     Ok(asked)
 }
@@ -201,25 +201,26 @@ fn mark_asked(
 fn put_edges(
     edges: &mut Vec<Listed<u32>>,
     alloc: Global,
-    scene: &Scene,
+    rollout: &Rollout,
     step: usize,
 ) -> Result<(), OutOfMemory>
-    requires { step < step_count scene.now }
-    ensures { OnOk result (edges.new.items ≡ edges.old.items ++ edges_of_step scene.now step ∷ []) }
+    requires { step < step_count rollout.now }
+    ensures { OnOk result (edges.new.items ≡ edges.old.items ++
+        edges_of_step rollout.now step ∷ []) }
 {
-    let list = edges_of_step(alloc, scene, step)?;
+    let list = edges_of_step(alloc, rollout, step)?;
     edges.push(Listed::from_items(list))?;
     Ok(())
 }
 
 /// The edges whose costs each step changes.
-fn edges_of_steps(alloc: Global, scene: &Scene) -> Result<Vec<Listed<u32>>, OutOfMemory>
-    ensures { IfOk result (λ edges. edges.items ≡ map (edges_of_step scene.now)
-        (numbers_from 0 (step_count scene.now))) }
+fn edges_of_steps(alloc: Global, rollout: &Rollout) -> Result<Vec<Listed<u32>>, OutOfMemory>
+    ensures { IfOk result (λ edges. edges.items ≡ map (edges_of_step rollout.now)
+        (numbers_from 0 (step_count rollout.now))) }
 {
     let mut edges = Vec::new(alloc);
-    for step in 0..scene.step_count() {
-        put_edges(&mut edges, alloc, scene, step)?;
+    for step in 0..rollout.step_count() {
+        put_edges(&mut edges, alloc, rollout, step)?;
     }
     Ok(edges)
 }
@@ -227,19 +228,19 @@ fn edges_of_steps(alloc: Global, scene: &Scene) -> Result<Vec<Listed<u32>>, OutO
 /// What paths to each vertex that is asked for cost at least, whichever steps are done.
 fn least_to_each(
     alloc: Global,
-    scene: &Scene,
+    rollout: &Rollout,
     asked: &[bool],
     room: &mut Room,
 ) -> Result<Vec<Listed<u32>>, OutOfMemory>
-    requires room { IsRoomFor scene.now.graph room.old }
-    requires asked { length asked.now ≡ length scene.now.graph.vertices }
-    ensures room { IsRoomFor scene.now.graph room.new }
-    ensures least { IfOk result (λ least. AreAtLeast scene.now.graph
-        (at_costs (least_costs scene.now.moves)) least.items) }
+    requires room { IsRoomFor rollout.now.graph room.old }
+    requires asked { length asked.now ≡ length rollout.now.graph.vertices }
+    ensures room { IsRoomFor rollout.now.graph room.new }
+    ensures least { IfOk result (λ least. AreLeastToEach rollout.now.graph
+        (at_costs (least_costs rollout.now.moves)) least.items) }
 {
-    scene.keeps_conditions();
-    let graph = scene.graph();
-    let point = least_costs(alloc, scene)?;
+    rollout.keeps_conditions();
+    let graph = rollout.graph();
+    let point = least_costs(alloc, rollout)?;
     let mut least = Vec::new(alloc);
     for target in 0..asked.len() as u32 {
         if asked[target as usize] {
@@ -264,12 +265,12 @@ fn number_at(numbers: &[u32], place: u32) -> u128
 }
 
 /// Whether the wanted price is greater than the present one.
-fn price_rises(scene: &Scene, price: Price) -> bool
-    requires { IsPriced (length scene.now.moves.present) price }
-    ensures { result ≡ price_rises scene.now.moves price }
+fn price_rises(rollout: &Rollout, price: Price) -> bool
+    requires { IsPriced (length rollout.now.moves.present) price }
+    ensures { result ≡ price_rises rollout.now.moves price }
 {
     match price {
-        Price::Var(line) => line_rises(scene, line),
+        Price::Var(line) => line_rises(rollout, line),
         Price::Fixed(_) | Price::Zero => false,
     }
 }
@@ -278,37 +279,37 @@ impl Reach {
     /// What the steps of a rollout may take from its held paths.
     pub(crate) fn new(
         alloc: Global,
-        scene: &Scene,
+        rollout: &Rollout,
         held: &[u32],
         kinds: &[Kind],
         room: &mut Room,
     ) -> Result<Reach, OutOfMemory>
-        requires room { IsRoomFor scene.now.graph room.old }
-        requires held { All (λ k. k < length scene.now.paths) held.now }
-        ensures room { IsRoomFor scene.now.graph room.new }
-        ensures reach { IfOk result (IsReach scene.now) }
+        requires room { IsRoomFor rollout.now.graph room.old }
+        requires held { All (λ k. k < length rollout.now.paths) held.now }
+        ensures room { IsRoomFor rollout.now.graph room.new }
+        ensures reach { IfOk result (IsReach rollout.now) }
     {
-        let edges = edges_of_steps(alloc, scene)?;
-        let asked = mark_asked(alloc, scene, held, kinds, &edges)?;
-        Reach::beside(alloc, scene, edges, &asked, room)
+        let edges = edges_of_steps(alloc, rollout)?;
+        let asked = mark_asked(alloc, rollout, held, kinds, &edges)?;
+        Reach::beside(alloc, rollout, edges, &asked, room)
     }
 
     /// These edges of each step, and what paths to the marked vertices cost at least.
     fn beside(
         alloc: Global,
-        scene: &Scene,
+        rollout: &Rollout,
         edges: Vec<Listed<u32>>,
         asked: &[bool],
         room: &mut Room,
     ) -> Result<Reach, OutOfMemory>
-        requires room { IsRoomFor scene.now.graph room.old }
-        requires edges { edges.items ≡ map (edges_of_step scene.now)
-            (numbers_from 0 (step_count scene.now)) }
-        requires asked { length asked.now ≡ length scene.now.graph.vertices }
-        ensures room { IsRoomFor scene.now.graph room.new }
-        ensures reach { IfOk result (IsReach scene.now) }
+        requires room { IsRoomFor rollout.now.graph room.old }
+        requires edges { edges.items ≡ map (edges_of_step rollout.now)
+            (numbers_from 0 (step_count rollout.now)) }
+        requires asked { length asked.now ≡ length rollout.now.graph.vertices }
+        ensures room { IsRoomFor rollout.now.graph room.new }
+        ensures reach { IfOk result (IsReach rollout.now) }
     {
-        let least = least_to_each(alloc, scene, asked, room)?;
+        let least = least_to_each(alloc, rollout, asked, room)?;
         Ok(Reach {
             edges: Listed::from_items(edges),
             least: Listed::from_items(least),
@@ -338,19 +339,19 @@ impl Reach {
     }
 
     /// Whether each rival that goes over an edge is seen to cost more than the path of a request.
-    fn are_dearer_over(&self, scene: &Scene, state: &State, number: u32, edge: u32) -> bool
-        requires reach { IsReach scene.now self.now }
-        requires state { IsStateOf scene.now state.now }
-        requires number { number < length scene.now.paths }
-        requires edge { edge < length scene.now.graph.edges }
-        ensures { IsTrue result → AreDearerOver scene.now (is_done_in state.now.done.items) number
+    fn are_dearer_over(&self, rollout: &Rollout, state: &State, number: u32, edge: u32) -> bool
+        requires reach { IsReach rollout.now self.now }
+        requires state { IsStateOf rollout.now state.now }
+        requires number { number < length rollout.now.paths }
+        requires edge { edge < length rollout.now.graph.edges }
+        ensures { IsTrue result → AreDearerOver rollout.now (is_done_in state.now.done.items) number
             edge }
     {
-        scene.keeps_conditions();
-        let graph = scene.graph();
+        rollout.keeps_conditions();
+        let graph = rollout.graph();
         graph.keeps_conditions();
         let point = state.point();
-        let request = scene.request(number);
+        let request = rollout.request(number);
         let over = edge_of(graph, edge);
         let before = self.at_least(request.path.start, over.from);
         let behind = self.at_least(over.to, request.end);
@@ -358,36 +359,36 @@ impl Reach {
     }
 
     /// Whether an edge is seen to take nothing from the path of a request by the price that a step gave it.
-    fn is_harmless(&self, scene: &Scene, state: &State, number: u32, edge: u32) -> bool
-        requires reach { IsReach scene.now self.now }
-        requires state { IsStateOf scene.now state.now }
-        requires number { number < length scene.now.paths }
-        requires edge { edge < length scene.now.graph.edges }
-        ensures { IsTrue result → IsHarmless scene.now (is_done_in state.now.done.items) number
+    fn is_harmless(&self, rollout: &Rollout, state: &State, number: u32, edge: u32) -> bool
+        requires reach { IsReach rollout.now self.now }
+        requires state { IsStateOf rollout.now state.now }
+        requires number { number < length rollout.now.paths }
+        requires edge { edge < length rollout.now.graph.edges }
+        ensures { IsTrue result → IsHarmless rollout.now (is_done_in state.now.done.items) number
             edge }
     {
-        scene.keeps_conditions();
-        let rises = price_rises(scene, edge_of(scene.graph(), edge).price);
-        let edges = scene.request(number).path.edges.as_slice();
+        rollout.keeps_conditions();
+        let rises = price_rises(rollout, edge_of(rollout.graph(), edge).price);
+        let edges = rollout.request(number).path.edges.as_slice();
         if edges.contains(&edge) {
             !rises
         } else {
-            rises || self.are_dearer_over(scene, state, number, edge)
+            rises || self.are_dearer_over(rollout, state, number, edge)
         }
     }
 
     /// Whether a step is seen to have taken nothing from the path of a request.
-    pub(crate) fn spares(&self, scene: &Scene, state: &State, number: u32, step: usize) -> bool
-        requires reach { IsReach scene.now self.now }
-        requires state { IsStateOf scene.now state.now }
-        requires number { number < length scene.now.paths }
-        requires step { step < step_count scene.now }
+    pub(crate) fn spares(&self, rollout: &Rollout, state: &State, number: u32, step: usize) -> bool
+        requires reach { IsReach rollout.now self.now }
+        requires state { IsStateOf rollout.now state.now }
+        requires number { number < length rollout.now.paths }
+        requires step { step < step_count rollout.now }
         ensures { IsTrue result →
-            All (IsHarmless scene.now (is_done_in state.now.done.items) number)
-            (edges_of_step scene.now step) }
+            All (IsHarmless rollout.now (is_done_in state.now.done.items) number)
+            (edges_of_step rollout.now step) }
     {
         for edge in self.edges(step) {
-            if !self.is_harmless(scene, state, number, *edge) {
+            if !self.is_harmless(rollout, state, number, *edge) {
                 return false;
             }
         }

@@ -6,7 +6,7 @@ ghost use Rattle.change_steps.specs.Orders.{IsOnlyIn, all_done, is_one_of, none_
 ghost use Rattle.change_steps.specs.States.{is_done_in, marks_of};
 ghost use Rattle.change_steps.specs.Search.{IsStateOf};
 
-use crate::scene::Scene;
+use crate::rollout::Rollout;
 use area_graph::Point;
 use cost_base::{Listed, OutOfMemory, no_marks};
 use rival_separation::find_rival;
@@ -47,12 +47,12 @@ fn put(values: &mut Listed<u128>, lines: &[u32], costs: &[u16])
 
 impl State {
     /// The present network: no step is done.
-    pub(crate) fn present(alloc: Global, scene: &Scene) -> Result<State, OutOfMemory>
-        ensures state { IfOk result (IsStateOf scene.now) }
-        ensures none { IfOk result (λ state. state.done.items ≡ marks_of scene.now none_done) }
+    pub(crate) fn present(alloc: Global, rollout: &Rollout) -> Result<State, OutOfMemory>
+        ensures state { IfOk result (IsStateOf rollout.now) }
+        ensures none { IfOk result (λ state. state.done.items ≡ marks_of rollout.now none_done) }
     {
-        let done = no_marks(alloc, scene.step_count())?;
-        let values = widened(alloc, scene.present())?;
+        let done = no_marks(alloc, rollout.step_count())?;
+        let values = widened(alloc, rollout.present())?;
         Ok(State {
             done,
             point: Point {
@@ -63,52 +63,64 @@ impl State {
     }
 
     /// The state after some steps.
-    pub(crate) fn after(alloc: Global, scene: &Scene, steps: &[usize]) -> Result<State, OutOfMemory>
-        requires { All (λ k. k < step_count scene.now) steps.now }
-        ensures state { IfOk result (IsStateOf scene.now) }
-        ensures done { IfOk result (λ state. state.done.items ≡ marks_of scene.now
+    pub(crate) fn after(
+        alloc: Global,
+        rollout: &Rollout,
+        steps: &[usize],
+    ) -> Result<State, OutOfMemory>
+        requires { All (λ k. k < step_count rollout.now) steps.now }
+        ensures state { IfOk result (IsStateOf rollout.now) }
+        ensures done { IfOk result (λ state. state.done.items ≡ marks_of rollout.now
             (is_one_of steps.now)) }
     {
-        let mut state = State::present(alloc, scene)?;
+        let mut state = State::present(alloc, rollout)?;
         for step in steps {
-            state.do_step(scene, *step);
+            state.do_step(rollout, *step);
         }
         Ok(state)
     }
 
     /// The wanted network: all steps are done.
-    pub(crate) fn wanted(alloc: Global, scene: &Scene) -> Result<State, OutOfMemory>
-        ensures state { IfOk result (IsStateOf scene.now) }
-        ensures all { IfOk result (λ state. state.done.items ≡ marks_of scene.now all_done) }
+    pub(crate) fn wanted(alloc: Global, rollout: &Rollout) -> Result<State, OutOfMemory>
+        ensures state { IfOk result (IsStateOf rollout.now) }
+        ensures all { IfOk result (λ state. state.done.items ≡ marks_of rollout.now all_done) }
     {
-        let mut state = State::present(alloc, scene)?;
-        for step in 0..scene.step_count() {
-            state.do_step(scene, step);
+        let mut state = State::present(alloc, rollout)?;
+        for step in 0..rollout.step_count() {
+            state.do_step(rollout, step);
         }
         Ok(state)
     }
 
     /// Does a step.
-    pub(crate) fn do_step(&mut self, scene: &Scene, step: usize)
-        requires state { IsStateOf scene.now self.old }
-        requires step { step < step_count scene.now }
-        ensures state { IsStateOf scene.now self.new }
+    pub(crate) fn do_step(&mut self, rollout: &Rollout, step: usize)
+        requires state { IsStateOf rollout.now self.old }
+        requires step { step < step_count rollout.now }
+        ensures state { IsStateOf rollout.now self.new }
         ensures done { self.new.done.items ≡ slice_set self.old.done.items step true }
     {
-        scene.keeps_conditions();
-        put(&mut self.point.values, scene.lines(step), scene.wanted());
+        rollout.keeps_conditions();
+        put(
+            &mut self.point.values,
+            rollout.lines(step),
+            rollout.wanted(),
+        );
         self.done[step] = true;
     }
 
     /// Takes a step back that is done.
-    pub(crate) fn undo_step(&mut self, scene: &Scene, step: usize)
-        requires state { IsStateOf scene.now self.old }
-        requires step { step < step_count scene.now }
-        ensures state { IsStateOf scene.now self.new }
+    pub(crate) fn undo_step(&mut self, rollout: &Rollout, step: usize)
+        requires state { IsStateOf rollout.now self.old }
+        requires step { step < step_count rollout.now }
+        ensures state { IsStateOf rollout.now self.new }
         ensures undone { self.new.done.items ≡ slice_set self.old.done.items step false }
     {
-        scene.keeps_conditions();
-        put(&mut self.point.values, scene.lines(step), scene.present());
+        rollout.keeps_conditions();
+        put(
+            &mut self.point.values,
+            rollout.lines(step),
+            rollout.present(),
+        );
         self.done[step] = false;
     }
 
@@ -120,14 +132,15 @@ impl State {
     }
 
     /// Whether the path of a request is the only cheapest in the state.
-    pub(crate) fn is_only(&self, scene: &Scene, number: u32, room: &mut Room) -> bool
-        requires state { IsStateOf scene.now self.now }
-        requires known { number < length scene.now.paths }
-        requires room { IsRoomFor scene.now.graph room.old }
-        ensures room { IsRoomFor scene.now.graph room.new }
-        ensures only { IsTrue result ↔ IsOnlyIn scene.now (is_done_in self.now.done.items) number }
+    pub(crate) fn is_only(&self, rollout: &Rollout, number: u32, room: &mut Room) -> bool
+        requires state { IsStateOf rollout.now self.now }
+        requires known { number < length rollout.now.paths }
+        requires room { IsRoomFor rollout.now.graph room.old }
+        ensures room { IsRoomFor rollout.now.graph room.new }
+        ensures only { IsTrue result ↔
+            IsOnlyIn rollout.now (is_done_in self.now.done.items) number }
     {
-        scene.keeps_conditions();
-        !find_rival(scene.graph(), scene.request(number), &self.point, room)
+        rollout.keeps_conditions();
+        !find_rival(rollout.graph(), rollout.request(number), &self.point, room)
     }
 }

@@ -6,7 +6,7 @@ ghost use Rattle.change_steps.specs.Orders.{IsSafe, is_one_of};
 ghost use Rattle.change_steps.specs.Kinds.{first_steps};
 ghost use Rattle.change_steps.specs.States.{MayFollow, is_done_in, marks_of};
 ghost use Rattle.change_steps.specs.Search.{AllLack, IsNewStep, IsStateOf, longer_of};
-ghost use Rattle.change_steps.specs.Walks.{IsBegun, IsEnded, IsWalkTurned, IsUnderWay, IsSearchWalk, position_of};
+ghost use Rattle.change_steps.specs.Walks.{IsBegun, IsWalkEnded, IsWalkTurned, IsUnderWay, IsSearchWalk, position_of};
 
 use crate::kinds::Kind;
 use crate::plan::Plan;
@@ -23,7 +23,7 @@ pub(crate) enum End {
     /// Each state that can be reached was tested.
     Exhausted,
     /// Another state would be tested than the budget allows.
-    Spent,
+    UsedUp,
 }
 
 /// A search, depth first, for an order of the steps between.
@@ -65,7 +65,7 @@ fn first_state(alloc: Global, plan: &Plan) -> Result<State, OutOfMemory>
 {
     let mut first = Vec::new(alloc);
     plan.put_steps(&mut first, Kind::First)?;
-    State::after(alloc, plan.scene(), &first)
+    State::after(alloc, plan.rollout(), &first)
 }
 
 impl Walk {
@@ -174,13 +174,13 @@ impl Walk {
         ensures order { IfOk result (λ safe. length self.new.order.items ≤
             length self.old.order.items + 1) }
     {
-        self.state.do_step(plan.scene(), step);
+        self.state.do_step(plan.rollout(), step);
         self.tested.add(alloc, &self.state.done)?;
         let safe = plan.is_safe_after(&self.state, step, &mut self.room);
         if safe {
             self.go_on(step)?;
         } else {
-            self.state.undo_step(plan.scene(), step);
+            self.state.undo_step(plan.rollout(), step);
             self.next = step + 1;
         }
         Ok(safe)
@@ -205,7 +205,7 @@ impl Walk {
         let _few = plan.step_count();
         match self.order.pop() {
             Some(step) => {
-                self.state.undo_step(plan.scene(), step);
+                self.state.undo_step(plan.rollout(), step);
                 self.next = step + 1;
                 true
             }
@@ -227,7 +227,7 @@ impl Walk {
         ensures { IfOk result (IsWalkTurned plan.now nodes self.old self.new) }
     {
         if nodes as usize <= self.tested.len() {
-            return Ok(Some(End::Spent));
+            return Ok(Some(End::UsedUp));
         }
         let safe = self.test(alloc, plan, step)?;
         if !safe {
@@ -267,7 +267,7 @@ impl Walk {
     /// Takes turns until the search ends.
     fn take_turns(&mut self, alloc: Global, plan: &Plan, nodes: u32) -> Result<End, OutOfMemory>
         requires { IsUnderWay plan.now nodes self.old }
-        ensures { IfOk result (IsEnded plan.now nodes self.new) }
+        ensures { IfOk result (IsWalkEnded plan.now nodes self.new) }
     {
         loop {
             if let Some(end) = self.turn(alloc, plan, nodes)? {
@@ -279,7 +279,7 @@ impl Walk {
     /// Searches until all steps between are done, each state that can be reached was tested, or the budget is used up.
     pub fn search(&mut self, alloc: Global, plan: &Plan, nodes: u32) -> Result<End, OutOfMemory>
         requires { IsBegun plan.now self.old }
-        ensures { IfOk result (IsEnded plan.now nodes self.new) }
+        ensures { IfOk result (IsWalkEnded plan.now nodes self.new) }
     {
         match plan.first_left(&self.state.done) {
             Some(_) => self.take_turns(alloc, plan, nodes),

@@ -168,7 +168,7 @@ abbrev pub topic_of : Option Text → Option (Option CommandName)
 topic_of None = Some None
 topic_of (Some word) = option_map Some (command_named word)
 
--- a request, the limits and the configurations
+-- a request file, the limits and the configurations
 abbrev pub search_of : Found → Option SearchRead
 search_of found = of_three (λ request limits configs. record { request = request; limits = limits; configs = configs })
     (option_value (codes "request") found) (limits found) (configs_found found)

@@ -22,9 +22,9 @@ operands_of words.Topic = topic
 abbrev pub now_texts : List (Bor Text) → List Text
 now_texts = map (λ t. t.now)
 
--- what a parse found
-abbrev pub found : ArgMatches → Found
-found matches = rows_of (found_of matches)
+-- the options and operands, each with its values, that the parser of the command line found in the words
+abbrev pub rows_found : ArgMatches → Found
+rows_found matches = rows_of (found_of matches)
 
 -- What a call may answer that reads a part of the words: the part, a refusal where there is none, or want of memory.
 abbrev pub Answers : {A T : Type 0} → Option A → (T → A) → Result T WordsStop → Type 0

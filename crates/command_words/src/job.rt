@@ -2,11 +2,11 @@
 use std::alloc::AllocError;
 use wide_fraction::Limits;
 
-/// What a search is asked: the value of `--request`, the limits of `--nodes` and `--bits`, and the CONFIG words in their
-/// order.
+/// What a search is asked: the value of `--request`, the limits of `--nodes` and `--bits`, and the CONFIG words in
+/// their order.
 #[derive(Debug, Drop)]
 pub struct Search {
-    /// The file of the request.
+    /// The request file.
     pub request: String,
     /// How many entries a tree may have, and how long a number may be.
     pub limits: Limits,
@@ -45,8 +45,8 @@ pub enum CommandName {
 
 /// What the words ask for: the values of the options, the CONFIG words in their order, and the stated defaults.
 ///
-/// Texts are names of files: `request` is that of `--request`, `answer` that of `--answer`, `sets` that of `--sets`, `live`
-/// that of `--live`, `lsas` that of `--lsas`; `config` and `configs` are the CONFIG words.
+/// Texts are names of files: `request` is that of `--request`, `answer` that of `--answer`, `sets` that of `--sets`,
+/// `live` that of `--live`, `lsas` that of `--lsas`; `config` and `configs` are the CONFIG words.
 #[derive(Debug, Drop)]
 pub enum Job {
     /// Find costs, or evidence that there are none.

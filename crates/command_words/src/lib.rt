@@ -25,8 +25,8 @@ use table::command_named;
 ///
 /// `Refused` comes exactly where the first word is missing or names no command, where that `clap` command doesn't
 /// take the other words (as where they ask for help), where a number isn't 1 to 10 decimal digits within its range,
-/// where a router isn't a dotted quad, where the word of `--by` is neither `line` nor `router`, or where the word behind
-/// `help` names no command.
+/// where a router isn't a dotted quad, where the word of `--by` is neither `line` nor `router`, or where the word
+/// behind `help` names no command.
 ///
 /// # Errors
 ///

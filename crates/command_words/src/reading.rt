@@ -4,7 +4,7 @@ ghost use Rattle.clap.specs.Values.{kind_of};
 ghost use Rattle.command_words.specs.Commands.{row_of, takes_words, found_in, job_of_row, search_of, design_job, check_job, audit_job, rewrite_job};
 ghost use Rattle.command_words.specs.Commands.{trial_job, conflict_job, spread_job, total_job, change_job, steps_job};
 ghost use Rattle.command_words.specs.Commands.{compare_job, lsas_job, route_job, help_job};
-ghost use Rattle.command_words.specs.Forms.{found, Answers};
+ghost use Rattle.command_words.specs.Forms.{rows_found, Answers};
 ghost use Rattle.command_words.specs.Jobs.{search_seen, seen};
 ghost use Rattle.text_lines.specs.Arguments.{texts};
 
@@ -32,7 +32,7 @@ fn find_values<'a>(
     words: &'a [String],
 ) -> Result<ArgMatches<'a>, WordsStop>
     ensures { MatchResult result (λ matches. (takes_words (row_of name) (texts words.now) ≡ true) ×
-        (found matches ≡ found_in (row_of name) (texts words.now)))
+        (rows_found matches ≡ found_in (row_of name) (texts words.now)))
         (λ stop. stop ≡ WordsStop.Refused → takes_words (row_of name) (texts words.now) ≡ false) }
 {
     let command = simple_command(alloc, name)?;
@@ -59,7 +59,7 @@ fn job_of_values(
     name: CommandName,
     matches: &ArgMatches<'_>,
 ) -> Result<Job, WordsStop>
-    ensures { Answers ((row_of name).job (found matches.now)) seen result }
+    ensures { Answers ((row_of name).job (rows_found matches.now)) seen result }
 {
     match name {
         CommandName::Design => design(alloc, matches),
@@ -82,7 +82,7 @@ fn job_of_values(
 
 /// What the words ask of a search.
 fn searched(alloc: Global, matches: &ArgMatches<'_>) -> Result<Search, WordsStop>
-    ensures { Answers (search_of (found matches.now)) search_seen result }
+    ensures { Answers (search_of (rows_found matches.now)) search_seen result }
 {
     let limits = limits(matches).ok_or(WordsStop::Refused)?;
     let request = text(alloc, matches, "request")?;
@@ -95,14 +95,14 @@ fn searched(alloc: Global, matches: &ArgMatches<'_>) -> Result<Search, WordsStop
 }
 
 fn design(alloc: Global, matches: &ArgMatches<'_>) -> Result<Job, WordsStop>
-    ensures { Answers (design_job (found matches.now)) seen result }
+    ensures { Answers (design_job (rows_found matches.now)) seen result }
 {
     let search = searched(alloc, matches)?;
     Ok(Job::Design(search))
 }
 
 fn check(alloc: Global, matches: &ArgMatches<'_>) -> Result<Job, WordsStop>
-    ensures { Answers (check_job (found matches.now)) seen result }
+    ensures { Answers (check_job (rows_found matches.now)) seen result }
 {
     let request = text(alloc, matches, "request")?;
     let answer = text(alloc, matches, "answer")?;
@@ -115,7 +115,7 @@ fn check(alloc: Global, matches: &ArgMatches<'_>) -> Result<Job, WordsStop>
 }
 
 fn audit(alloc: Global, matches: &ArgMatches<'_>) -> Result<Job, WordsStop>
-    ensures { Answers (audit_job (found matches.now)) seen result }
+    ensures { Answers (audit_job (rows_found matches.now)) seen result }
 {
     let request = text(alloc, matches, "request")?;
     let live = may_text(alloc, matches, "live")?;
@@ -128,7 +128,7 @@ fn audit(alloc: Global, matches: &ArgMatches<'_>) -> Result<Job, WordsStop>
 }
 
 fn rewrite(alloc: Global, matches: &ArgMatches<'_>) -> Result<Job, WordsStop>
-    ensures { Answers (rewrite_job (found matches.now)) seen result }
+    ensures { Answers (rewrite_job (rows_found matches.now)) seen result }
 {
     let answer = text(alloc, matches, "answer")?;
     let config = text(alloc, matches, "CONFIG")?;
@@ -136,7 +136,7 @@ fn rewrite(alloc: Global, matches: &ArgMatches<'_>) -> Result<Job, WordsStop>
 }
 
 fn trial(matches: &ArgMatches<'_>) -> Result<Job, WordsStop>
-    ensures { Answers (trial_job (found matches.now)) seen result }
+    ensures { Answers (trial_job (rows_found matches.now)) seen result }
 {
     let blocks = must_number(matches, "blocks", 1, 125).ok_or(WordsStop::Refused)?;
     let start = may_number(matches, "start", 0, 2147483647, 1).ok_or(WordsStop::Refused)?;
@@ -147,14 +147,14 @@ fn trial(matches: &ArgMatches<'_>) -> Result<Job, WordsStop>
 }
 
 fn conflict(alloc: Global, matches: &ArgMatches<'_>) -> Result<Job, WordsStop>
-    ensures { Answers (conflict_job (found matches.now)) seen result }
+    ensures { Answers (conflict_job (rows_found matches.now)) seen result }
 {
     let search = searched(alloc, matches)?;
     Ok(Job::Conflict(search))
 }
 
 fn spread(alloc: Global, matches: &ArgMatches<'_>) -> Result<Job, WordsStop>
-    ensures { Answers (spread_job (found matches.now)) seen result }
+    ensures { Answers (spread_job (rows_found matches.now)) seen result }
 {
     let search = searched(alloc, matches)?;
     let sets = text(alloc, matches, "sets")?;
@@ -162,21 +162,21 @@ fn spread(alloc: Global, matches: &ArgMatches<'_>) -> Result<Job, WordsStop>
 }
 
 fn total(alloc: Global, matches: &ArgMatches<'_>) -> Result<Job, WordsStop>
-    ensures { Answers (total_job (found matches.now)) seen result }
+    ensures { Answers (total_job (rows_found matches.now)) seen result }
 {
     let search = searched(alloc, matches)?;
     Ok(Job::Total(search))
 }
 
 fn change(alloc: Global, matches: &ArgMatches<'_>) -> Result<Job, WordsStop>
-    ensures { Answers (change_job (found matches.now)) seen result }
+    ensures { Answers (change_job (rows_found matches.now)) seen result }
 {
     let search = searched(alloc, matches)?;
     Ok(Job::Change(search))
 }
 
 fn steps(alloc: Global, matches: &ArgMatches<'_>) -> Result<Job, WordsStop>
-    ensures { Answers (steps_job (found matches.now)) seen result }
+    ensures { Answers (steps_job (rows_found matches.now)) seen result }
 {
     let nodes = nodes(matches).ok_or(WordsStop::Refused)?;
     let by = step_unit(matches).ok_or(WordsStop::Refused)?;
@@ -193,7 +193,7 @@ fn steps(alloc: Global, matches: &ArgMatches<'_>) -> Result<Job, WordsStop>
 }
 
 fn compare(alloc: Global, matches: &ArgMatches<'_>) -> Result<Job, WordsStop>
-    ensures { Answers (compare_job (found matches.now)) seen result }
+    ensures { Answers (compare_job (rows_found matches.now)) seen result }
 {
     let live = text(alloc, matches, "live")?;
     let request = text(alloc, matches, "request")?;
@@ -206,7 +206,7 @@ fn compare(alloc: Global, matches: &ArgMatches<'_>) -> Result<Job, WordsStop>
 }
 
 fn lsas(alloc: Global, matches: &ArgMatches<'_>) -> Result<Job, WordsStop>
-    ensures { Answers (lsas_job (found matches.now)) seen result }
+    ensures { Answers (lsas_job (rows_found matches.now)) seen result }
 {
     let request = text(alloc, matches, "request")?;
     let configs = configs(alloc, matches)?;
@@ -214,7 +214,7 @@ fn lsas(alloc: Global, matches: &ArgMatches<'_>) -> Result<Job, WordsStop>
 }
 
 fn route(alloc: Global, matches: &ArgMatches<'_>) -> Result<Job, WordsStop>
-    ensures { Answers (route_job (found matches.now)) seen result }
+    ensures { Answers (route_job (rows_found matches.now)) seen result }
 {
     let from = router(matches, "from").ok_or(WordsStop::Refused)?;
     let to = router(matches, "to").ok_or(WordsStop::Refused)?;
@@ -223,7 +223,7 @@ fn route(alloc: Global, matches: &ArgMatches<'_>) -> Result<Job, WordsStop>
 }
 
 fn help(matches: &ArgMatches<'_>) -> Result<Job, WordsStop>
-    ensures { Answers (help_job (found matches.now)) seen result }
+    ensures { Answers (help_job (rows_found matches.now)) seen result }
 {
     let topic = topic(matches).ok_or(WordsStop::Refused)?;
     Ok(Job::Help(topic))

@@ -3,7 +3,7 @@ ghost use Rattle.std.specs.Prelude.{◌≡◌, ◌≤◌, IfOk, IfSome, Some, ma
 ghost use Rattle.text_lines.specs.Numbers as numbers;
 ghost use Rattle.command_words.specs.Commands.{option_value, configs_found, number_between, number_or, limits};
 ghost use Rattle.command_words.specs.Commands.{nodes_found, step_unit, unit_named, topic_of};
-ghost use Rattle.command_words.specs.Forms.{found, now_texts, Answers};
+ghost use Rattle.command_words.specs.Forms.{rows_found, now_texts, Answers};
 ghost use Rattle.command_words.specs.Jobs.{limits_seen};
 ghost use Rattle.text_lines.specs.Arguments.{texts};
 
@@ -16,14 +16,14 @@ use wide_fraction::{Limits, Top};
 
 /// The value of an option, or the first CONFIG word.
 fn value<'a>(matches: &ArgMatches<'a>, name: &str) -> Option<&'a str>
-    ensures { option_map (λ text. text.now) result ≡ option_value name.now (found matches.now) }
+    ensures { option_map (λ text. text.now) result ≡ option_value name.now (rows_found matches.now) }
 {
     matches.get_str(name)
 }
 
 /// A copy of the value of an option, or of the first CONFIG word.
 pub(crate) fn text(alloc: Global, matches: &ArgMatches<'_>, name: &str) -> Result<String, WordsStop>
-    ensures { Answers (option_value name.now (found matches.now)) string_bytes result }
+    ensures { Answers (option_value name.now (rows_found matches.now)) string_bytes result }
 {
     match value(matches, name) {
         Some(value) => Ok(String::from_str(alloc, value)?),
@@ -38,7 +38,7 @@ pub(crate) fn may_text(
     name: &str,
 ) -> Result<Option<String>, AllocError>
     ensures { IfOk result (λ text. option_map string_bytes text ≡
-        option_value name.now (found matches.now)) }
+        option_value name.now (rows_found matches.now)) }
 {
     match value(matches, name) {
         Some(value) => Ok(Some(String::from_str(alloc, value)?)),
@@ -48,7 +48,7 @@ pub(crate) fn may_text(
 
 /// Copies of the CONFIG words in their order.
 pub(crate) fn configs(alloc: Global, matches: &ArgMatches<'_>) -> Result<Vec<String>, WordsStop>
-    ensures { Answers (configs_found (found matches.now)) (λ all. texts all.items) result }
+    ensures { Answers (configs_found (rows_found matches.now)) (λ all. texts all.items) result }
 {
     match matches.get_raw("CONFIG") {
         Some(words) => Ok(copies(alloc, words)?),
@@ -79,7 +79,7 @@ fn number_between(text: &str, low: u64, high: u64) -> Option<u64>
 /// The number of an option that must be given; None where it isn't a number from `low` to `high`.
 pub(crate) fn must_number(matches: &ArgMatches<'_>, name: &str, low: u64, high: u64) -> Option<u64>
     ensures { result ≡ option_and_then (number_between low high)
-        (option_value name.now (found matches.now)) }
+        (option_value name.now (rows_found matches.now)) }
 {
     number_between(value(matches, name)?, low, high)
 }
@@ -92,7 +92,7 @@ pub(crate) fn may_number(
     high: u64,
     default: u64,
 ) -> Option<u64>
-    ensures { result ≡ number_or default low high (option_value name.now (found matches.now)) }
+    ensures { result ≡ number_or default low high (option_value name.now (rows_found matches.now)) }
 {
     match value(matches, name) {
         Some(text) => number_between(text, low, high),
@@ -102,21 +102,21 @@ pub(crate) fn may_number(
 
 /// The router ID of an option that must be given; None where it isn't a dotted quad.
 pub(crate) fn router(matches: &ArgMatches<'_>, name: &str) -> Option<u32>
-    ensures { result ≡ option_and_then numbers.quad (option_value name.now (found matches.now)) }
+    ensures { result ≡ option_and_then numbers.quad (option_value name.now (rows_found matches.now)) }
 {
     quad(value(matches, name)?.as_bytes())
 }
 
 /// The budget; None where it is off its range.
 pub(crate) fn nodes(matches: &ArgMatches<'_>) -> Option<u64>
-    ensures { result ≡ nodes_found (found matches.now) }
+    ensures { result ≡ nodes_found (rows_found matches.now) }
 {
     may_number(matches, "nodes", 1, 10_000_000, 100_000)
 }
 
 /// What a step is; None where the word of `--by` is neither `line` nor `router`.
 pub(crate) fn step_unit(matches: &ArgMatches<'_>) -> Option<StepUnit>
-    ensures { result ≡ step_unit (option_value (codes "by") (found matches.now)) }
+    ensures { result ≡ step_unit (option_value (codes "by") (rows_found matches.now)) }
 {
     match value(matches, "by") {
         Some(word) => unit_named(word),
@@ -137,7 +137,7 @@ fn unit_named(word: &str) -> Option<StepUnit>
 
 /// What help is asked about: all commands, or the one that the word names; None where it names none.
 pub(crate) fn topic(matches: &ArgMatches<'_>) -> Option<Option<CommandName>>
-    ensures { result ≡ topic_of (option_value (codes "COMMAND") (found matches.now)) }
+    ensures { result ≡ topic_of (option_value (codes "COMMAND") (rows_found matches.now)) }
 {
     match value(matches, "COMMAND") {
         Some(word) => Some(Some(command_named(word.as_bytes())?)),
@@ -147,7 +147,7 @@ pub(crate) fn topic(matches: &ArgMatches<'_>) -> Option<Option<CommandName>>
 
 /// The limits of a search; None where one is off its range.
 pub(crate) fn limits(matches: &ArgMatches<'_>) -> Option<Limits>
-    ensures { option_map limits_seen result ≡ limits (found matches.now) }
+    ensures { option_map limits_seen result ≡ limits (rows_found matches.now) }
 {
     let nodes = nodes(matches)?;
     let bits = may_number(matches, "bits", 28, 127, 127)?;

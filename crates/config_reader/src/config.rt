@@ -145,8 +145,8 @@ fn gathered<'a>(
 ///
 /// # Errors
 ///
-/// `Refused` with the first fault of the lines, in the order of lines and, on one line, of numbers; a name that is taken
-/// from the file's name has line 0. `OutOfMemory` where a list got no memory.
+/// `Refused` with the first fault of the lines, in the order of lines and, on one line, of numbers; a name that is
+/// taken from the file's name has line 0. `OutOfMemory` where a list got no memory.
 pub fn read_config(
     alloc: Global,
     file_name: &str,

@@ -16,8 +16,8 @@ use cost_base::{Name, OutOfMemory};
 use interface_model::{Interface, Kind};
 use std::alloc::Global;
 
-/// An interface with what its blocks say; whether a `network` line matches one of its addresses, and whether a router block
-/// makes it passive.
+/// An interface with what its blocks say; whether a `network` line matches one of its addresses, and whether a router
+/// block makes it passive.
 #[derive(Drop)]
 pub(crate) struct Draft {
     pub interface: Interface,

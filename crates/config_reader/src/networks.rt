@@ -47,8 +47,8 @@ struct PrefixLines {
 
 /// The `network` lines of a configuration, in order. Contracts see their list.
 ///
-/// They are found by their prefixes: one prefix of each length holds an address, so a look-up for each length finds the lines
-/// that match it.
+/// They are found by their prefixes: one prefix of each length holds an address, so a look-up for each length finds the
+/// lines that match it.
 #[derive(Drop)]
 pub(crate) struct Networks {
     lines: Vec<NetworkLine>,
@@ -66,7 +66,8 @@ impl Model for Networks {
 
     ghost view = { λ n. n.lines.items };
 
-    ghost invariant = { λ n. (key : Key) → get same_prefix n.by_prefix key ≡ lines_of_prefix key n.lines.items };
+    ghost invariant = { λ n. (key : Key) →
+        get same_prefix n.by_prefix key ≡ lines_of_prefix key n.lines.items };
 }
 
 /// The `network` line that a line is.

@@ -38,8 +38,8 @@ pub(crate) struct LineFault {
     pub fault: ConfigFault,
 }
 
-/// What is kept of the lines: what they set, the heads of interfaces, the last `hostname` head, the first line that is faulty
-/// by itself, and the block that is open.
+/// What is kept of the lines: what they set, the heads of interfaces, the last `hostname` head, the first line that is
+/// faulty by itself, and the block that is open.
 #[derive(Drop)]
 pub(crate) struct Reader<'a> {
     said: Vec<SaidLine<'a>>,

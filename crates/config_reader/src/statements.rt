@@ -43,7 +43,8 @@ pub(crate) enum Block<'a> {
     Other,
 }
 
-/// The block that a head opens: `interface NAME` and `router ospf`, each of exactly two words, open a block that is read.
+/// The block that a head opens: `interface NAME` and `router ospf`, each of exactly two words, open a block
+/// that is read.
 pub(crate) fn block_of(text: &[u8]) -> Block<'_>
     ensures { block_spoken result ≡ definition.block_of (words text.now) }
 {

@@ -1,7 +1,7 @@
 //! A configuration with new costs of its interfaces.
 //!
-//! The `ip ospf cost` lines of the named interfaces are taken out, and each new line is put right after the first head of its
-//! interface. All other bytes stay as they are, in their order.
+//! The `ip ospf cost` lines of the named interfaces are taken out, and each new line is put right after the first head
+//! of its interface. All other bytes stay as they are, in their order.
 #![tactic(auto)]
 
 mod config_lines;

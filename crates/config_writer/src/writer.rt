@@ -13,8 +13,8 @@ use cost_base::OutOfMemory;
 use std::alloc::Global;
 use text_lines::{LineKind, kind_of, number_bytes};
 
-/// What was written for the lines so far, the heads that were met, and whether the open block is of an interface that has a
-/// new cost.
+/// What was written for the lines so far, the heads that were met, and whether the open block is of an interface that
+/// has a new cost.
 #[derive(Drop)]
 pub(crate) struct Writer<'a> {
     pub costs: NewCosts<'a>,

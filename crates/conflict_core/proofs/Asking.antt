@@ -34,7 +34,7 @@ use Rattle.conflict_core.specs.Deciding.{AreBefore, AreShrinking, IsPoolOf, IsSe
 
 -- How a search of a set calls the advisors.
 
--- a search that decides the greatest upper bound of a problem, which is that of a set of requests
+-- a search that decides the greatest bound of a problem, which is that of a set of requests
 pub asked_of : {A : Type 0} (IsItself : A → A → Type 0) (state : A → List ℕ) (would : A → List ℕ → List Candidate → ℕ)
     (left : A → List ℕ → List Candidate → List ℕ) (after : A → List ℕ → Entry → List ℕ) (p q : DesignProblem) (set slice : List ℕ)
     (top nodes cap : ℕ) (pool : Pooled) (found known : Found) (tree : Growing) (old new : List A) → slice ≡ set → q ≡ restricted p slice →
@@ -56,7 +56,7 @@ pub both_ok : (result : Result Found OutOfMemory) (P Q R : Found → Type 0) →
 both_ok (Ok found) P Q R step p q = step found p q
 both_ok (Err e) P Q R step p q = tt
 
--- what is decided at a cap that is the greatest upper bound of a problem, which is that of a set of requests
+-- what is decided at a cap that is the greatest bound of a problem, which is that of a set of requests
 pub decided_of : (p q : DesignProblem) (set : List ℕ) (top nodes cap : ℕ) (pool : Pooled) (result : Result Found OutOfMemory) →
     q ≡ restricted p set → cap ≡ greatest_bound q → IfOk result (IsDecided q top nodes cap pool) →
     IfOk result (IsDecided (restricted p set) top nodes (greatest_bound p) pool)

@@ -6,16 +6,16 @@ use Rattle.design_problem.proofs.TreeShapes.{few_entries}
 use Rattle.design_problem.specs.Answers.{whole_box}
 use Rattle.printed_rows.proofs.CapBoxes.{bounds_box}
 use Rattle.conflict_core.specs.declared.conflict.Conflict.TheVariants.{Fits, Core, Undecided}
-use Rattle.conflict_core.specs.Laws.{ConflictUnspentIfLarge, ConflictSettlesUnspent}
+use Rattle.conflict_core.specs.Laws.{ConflictSufficientIfLarge, ConflictSettlesIfSufficient}
 
-pub unspent_settle : ConflictSettlesUnspent
-unspent_settle p top nodes (Fits w) cannot found = tt
-unspent_settle p top nodes (Core members rows tree without) cannot found = tt
-unspent_settle p top nodes (Undecided members rows tree) cannot found =
-    absurd (cannot members rows tree found.set found.told.sheet.true_rows found.told.printed.earnest found.undone found.spent)
+pub sufficient_settle : ConflictSettlesIfSufficient
+sufficient_settle p top nodes (Fits w) cannot found = tt
+sufficient_settle p top nodes (Core members rows tree without) cannot found = tt
+sufficient_settle p top nodes (Undecided members rows tree) cannot found =
+    absurd (cannot members rows tree found.set found.told.sheet.true_rows found.told.printed.earnest found.undone found.used_up)
 
-pub large_suffice : ConflictUnspentIfLarge
-large_suffice p top nodes kept enough members rows tree set true_rows earnest undone spent =
+pub large_suffice : ConflictSufficientIfLarge
+large_suffice p top nodes kept enough members rows tree set true_rows earnest undone used_up =
     let few = (few_entries (length p.low) (forms_of_rows p rows) (whole_box p) tree
     (bounds_box p kept) earnest.sound).unfinished undone in
-    absurd (omega (arith, few, enough, spent))
+    absurd (omega (arith, few, enough, used_up))

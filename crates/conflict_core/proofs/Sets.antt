@@ -291,7 +291,7 @@ pub whole_are : (members slice : List ℕ) (pool taken rows : List Row) → slic
 whole_are members slice pool taken rows same from is = is ∙ ap (λ (ms : List ℕ). map (whole_row ms) taken) same
     ∙ ap (λ (rs : List Row). map (whole_row members) rs) from
 
--- a cap that is the greatest upper bound of the restricted problem
+-- a cap that is the greatest bound of the restricted problem
 pub cap_above : (p q : DesignProblem) (members slice : List ℕ) (cap : ℕ) → IsProblem p → IsRequestSet p members →
     slice ≡ members → q ≡ restricted p slice → cap ≡ greatest_bound q → All (λ low. low ≤ cap) q.low
 cap_above p q members slice cap kept set same is cap_is =

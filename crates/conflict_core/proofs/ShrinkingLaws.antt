@@ -164,12 +164,12 @@ core_found p top nodes t without told kept refuted counted fits is =
 pub undecided_found : (p : DesignProblem) (top nodes : ℕ) (t : SetTree) (told : Told) → IsUndecidedSet p top nodes t →
     (t.members.items ≡ all_requests p) ⊎ IsConflictLessOne p t.members.items → IsSetTreeTold p top nodes t told →
     IsUndecidedConflict p top nodes told.members told.rows told.tree
-undecided_found p top nodes t told spent tried is =
+undecided_found p top nodes t told used_up tried is =
     subst (λ (ms : List ℕ). IsUndecidedConflict p top nodes ms told.rows told.tree) (sym is.members)
     (record {
-      set = spent.tree.set;
+      set = used_up.tree.set;
       tried = tried;
       told = subst (λ (ms : List ℕ). IsTreeOfSet p top nodes ms told.rows told.tree) is.members is.of_set;
-      undone = is.undone spent.undone;
-      spent = is.counted ∙ spent.spent;
+      undone = is.undone used_up.undone;
+      used_up = is.counted ∙ used_up.used_up;
     })

@@ -22,7 +22,7 @@ pub record SetDecision : Type 0 where
   pub pool : Pooled
   pub found : Found
 
--- a search that decided the greatest upper bound of the problem of a set's requests alone called the advisors
+-- a search that decided the greatest bound of the problem of a set's requests alone called the advisors
 abbrev pub IsAskedOfSet : {A : Type 0} → (A → A → Type 0) → (A → List ℕ) → (A → List ℕ → List Candidate → ℕ) →
     (A → List ℕ → List Candidate → List ℕ) → (A → List ℕ → Entry → List ℕ) → DesignProblem → ℕ → ℕ → SetDecision → List A → List A → Type 0
 IsAskedOfSet IsItself state would left after p top nodes d old new =

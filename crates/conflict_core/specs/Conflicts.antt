@@ -43,7 +43,7 @@ pub record IsLeastConflict (p : DesignProblem) (members : List ℕ) : Type 0 whe
   pub least : (k : ℕ) → k < length members → (w : List ℕ) × IsFit (restricted p (remove members k)) w
 
 -- Rows and a tree that are told of a set of requests: a sheet of rows of the whole problem, each of a member. The tree
--- stands over the box at the greatest upper bound, and is earnest for the restricted problem. Each of its entries fits the
+-- stands over the box at the greatest bound, and is earnest for the restricted problem. Each of its entries fits the
 -- text, and a Refute names at most one row more than there are variables.
 pub record IsTreeOfSet (p : DesignProblem) (top nodes : ℕ) (members : List ℕ) (rows : List Row) (tree : List Entry) : Type 0 where
   pub sheet : IsSheet (IsRow p) Differ 0 rows tree
@@ -75,7 +75,7 @@ pub record IsUndecidedConflict (p : DesignProblem) (top nodes : ℕ) (members : 
   pub tried : (members ≡ all_requests p) ⊎ IsConflictLessOne p members
   pub told : IsTreeOfSet p top nodes members rows tree
   pub undone : Contains tree Undone
-  pub spent : entry_count tree ≡ nodes
+  pub used_up : entry_count tree ≡ nodes
 
 -- what is found of a problem's requests
 abbrev pub IsConflictFound : DesignProblem → ℕ → ℕ → Conflict → Type 0

@@ -41,7 +41,7 @@ pub record IsRefutedSet (p : DesignProblem) (top nodes : ℕ) (t : SetTree) : Ty
 pub record IsUndecidedSet (p : DesignProblem) (top nodes : ℕ) (t : SetTree) : Type 0 where
   pub tree : IsSetTree p top nodes t
   pub undone : Contains t.tree Undone
-  pub spent : entry_count t.tree ≡ nodes
+  pub used_up : entry_count t.tree ≡ nodes
 
 -- what is decided of a set: fit costs of its restricted problem, a closed tree, or a tree that used up the budget
 abbrev pub IsSetDecided : DesignProblem → ℕ → ℕ → List ℕ → Decided → Type 0

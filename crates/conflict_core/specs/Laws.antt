@@ -19,7 +19,7 @@ IsConflictSettled (Fits w) = Unit {0}
 IsConflictSettled (Core members rows tree without) = Unit {0}
 IsConflictSettled (Undecided members rows tree) = ⊥
 
--- The budget can't be used up: for no set of requests has an earnest tree over the box at the greatest upper bound an undone entry
+-- The budget can't be used up: for no set of requests has an earnest tree over the box at the greatest bound an undone entry
 -- and exactly as many entries as the budget.
 abbrev pub CannotBeUndecidedOnSets : DesignProblem → ℕ → ℕ → Type 0
 CannotBeUndecidedOnSets p top nodes =
@@ -28,12 +28,12 @@ CannotBeUndecidedOnSets p top nodes =
     Contains tree Undone → entry_count tree ≡ nodes → ⊥
 
 -- where the budget can't be used up, what is found is fit costs or a least conflict
-abbrev pub ConflictSettlesUnspent : Type 0
-ConflictSettlesUnspent =
+abbrev pub ConflictSettlesIfSufficient : Type 0
+ConflictSettlesIfSufficient =
     (p : DesignProblem) (top nodes : ℕ) (conflict : Conflict) → CannotBeUndecidedOnSets p top nodes →
     IsConflictFound p top nodes conflict → IsConflictSettled conflict
 
--- a budget of twice as many entries as the box at the greatest upper bound has points, less one, can't be used up
-abbrev pub ConflictUnspentIfLarge : Type 0
-ConflictUnspentIfLarge =
+-- a budget of twice as many entries as the box at the greatest bound has points, less one, can't be used up
+abbrev pub ConflictSufficientIfLarge : Type 0
+ConflictSufficientIfLarge =
     (p : DesignProblem) (top nodes : ℕ) → IsProblem p → 2 * points (whole_box p) ≤ nodes + 1 → CannotBeUndecidedOnSets p top nodes

@@ -16,18 +16,19 @@ pub enum Conflict {
         members: Listed<u32>,
         /// The rows that the tree uses.
         rows: Listed<Row>,
-        /// A closed tree over the box at the greatest upper bound.
+        /// A closed tree over the box at the greatest bound.
         tree: Tree,
         /// For each member, in order, costs that are fit for the others.
         without: Listed<CostList>,
     },
     /// The budget was used up.
     Undecided {
-        /// The requests at which it was used up, in rising order: all of them, or a conflict without one of its members.
+        /// The requests at which it was used up, in rising order: all of them, or a conflict without one
+        /// of its members.
         members: Listed<u32>,
         /// The rows that the tree uses.
         rows: Listed<Row>,
-        /// The unfinished tree over the box at the greatest upper bound.
+        /// The unfinished tree over the box at the greatest bound.
         tree: Tree,
     },
 }

@@ -15,7 +15,7 @@ use design_problem::{CostList, Problem, Tree, greatest_of};
 use std::alloc::Global;
 use wide_fraction::Limits;
 
-/// A set of requests, and a tree over the box at the greatest upper bound that speaks of it. The rows of the pool are those
+/// A set of requests, and a tree over the box at the greatest bound that speaks of it. The rows of the pool are those
 /// of the restricted problem: they number the members.
 #[derive(Drop)]
 pub(crate) struct SetTree {
@@ -35,7 +35,7 @@ pub(crate) enum Decided {
     Undecided(SetTree),
 }
 
-/// Decides the greatest upper bound of the problem of these requests alone, by a pool of its rows.
+/// Decides the greatest bound of the problem of these requests alone, by a pool of its rows.
 fn search_set(
     problem: &Problem,
     members: &[u32],
@@ -43,11 +43,16 @@ fn search_set(
     pool: &mut Pool,
     advisors: &mut Vec<Box<dyn Advisor>>,
 ) -> Result<Found, OutOfMemory>
+    // The members are a set of the problem's requests, and the rows of the pool those of it.
     requires set { IsRequestSet problem.now members.now }
     requires pool { IsRowPool (restricted problem.now members.now) pool.old }
+
+    // What is found holds of the problem of these requests alone; the pool stays one of its rows.
     ensures decided { IfOk result (IsDecided (restricted problem.now members.now) limits.now.top
         limits.now.nodes (greatest_bound problem.now) pool.new) }
     ensures pool { IsRowPool (restricted problem.now members.now) pool.new }
+
+    // The advisors are called as that search calls them, and left as its calls leave them.
     ensures asked { IfOk result (λ found. IsAskedSearching ⟦<dyn Advisor as Advisor>⟧
         (λ b. b.vtable) (λ b. state b) problem.now limits.now.top limits.now.nodes (record {
           set = members.now;
@@ -60,11 +65,11 @@ fn search_set(
 {
     keeps_conditions(problem);
     let part = problem.only(pool.alloc(), members)?;
-    let ceiling = greatest_of(part.high.as_slice());
-    decide(&part, ceiling, limits, pool, advisors)
+    let cap = greatest_of(part.high.as_slice());
+    decide(&part, cap, limits, pool, advisors)
 }
 
-/// Decides a set of requests at the greatest upper bound, with a pool of its own.
+/// Decides a set of requests at the greatest bound, with a pool of its own.
 pub(crate) fn decide_set(
     alloc: Global,
     problem: &Problem,

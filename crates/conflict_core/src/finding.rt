@@ -19,7 +19,7 @@ use wide_fraction::Limits;
 
 /// That the budget was used up at a set.
 fn undecided(alloc: Global, problem: &Problem, set: SetTree) -> Result<Conflict, OutOfMemory>
-    requires spent { (top : ℕ) × (nodes : ℕ) × IsUndecidedSet problem.now top nodes set }
+    requires used_up { (top : ℕ) × (nodes : ℕ) × IsUndecidedSet problem.now top nodes set }
     requires tried { (set.members.items ≡ all_requests problem.now) ⊎
         IsConflictLessOne problem.now set.members.items }
     ensures found { (top nodes : ℕ) → IsUndecidedSet problem.now top nodes set →
@@ -132,7 +132,7 @@ fn shrink(
 
 /// Looks for a least conflict among the requests of a problem.
 ///
-/// All requests are decided first, at the greatest upper bound. Where they have no fit costs, each request in rising
+/// All requests are decided first, at the greatest bound. Where they have no fit costs, each request in rising
 /// order is left out, and stays out where the others have none either. That is known without a search where the last
 /// tree has no row of it; so the core is decided once more, for its own tree. Fits has fit costs of the whole problem.
 /// A core is a least conflict, with a closed earnest tree, and fit costs for each set without one of its members.

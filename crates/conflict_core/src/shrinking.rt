@@ -124,8 +124,8 @@ fn uses_next(shrunk: &Shrunk) -> bool
     has_row_of(shrunk.rows.as_slice(), members[shrunk.without.len()])
 }
 
-/// Leaves out the next member for which it isn't known whether the others are a conflict without it. Nothing is searched
-/// where the rows do without it.
+/// Leaves out the next member for which it isn't known whether the others are a conflict without it. Nothing is
+/// searched where the rows do without it.
 pub(crate) fn leave_out(
     alloc: Global,
     problem: &Problem,

@@ -3,8 +3,8 @@ use Rattle.std.proofs.Common.{◌≡◌, ◌≢◌, ℕ, zero, suc, ◌+◌, ◌
 use Rattle.std.specs.List.{AllByRecursion, AllZip, cons_option, list_any}
 use Rattle.std.specs.Option.{option_or}
 use Rattle.std.proofs.lemmas.Bool.{false_from_ne_true, false≢true}
-use Rattle.std.proofs.lemmas.List.{length-map, map-append}
-use Rattle.std.proofs.lemmas.List.Elements.{All-cons, All-head, All-nil, All-tail}
+use Rattle.std.proofs.lemmas.List.{append-nil, length-map, map-append}
+use Rattle.std.proofs.lemmas.List.Elements.{All-cons, All-head, All-nil, All-tail, filter-append}
 use Rattle.std.proofs.lemmas.List.Folds.{list_any_at}
 use native.Mathlib.Decide.{ℕ_discrete}
 use Rattle.cost_base.specs.Lists.{numbers_from, first_of, last_of, Lacks, NoneTwice}
@@ -25,6 +25,21 @@ numbers_from-more a (suc n) =
 
 pub numbers_from-push : (a n : ℕ) → numbers_from a (n + 1) ≡ numbers_from a n ++ (a + n) ∷ []
 numbers_from-push a n = let next : n + 1 ≡ suc n = omega arith in ap (numbers_from a) next ∙ numbers_from-more a n
+
+-- one number more, put behind those that pass, where it passes
+pub filter-numbers_from-push : (p : ℕ → Bool) (n : ℕ) (old new : List ℕ) → old ≡ filter p (numbers_from 0 n) →
+    new ≡ cond (p n) (old ++ n ∷ []) old → new ≡ filter p (numbers_from 0 (n + 1))
+filter-numbers_from-push p n old new is pushed =
+    pushed ∙ by_test (p n) ∙ ap (λ (xs : List ℕ). xs ++ cond (p n) (n ∷ []) []) is
+    ∙ sym (ap (filter p) (numbers_from-push 0 n) ∙ filter-append p (numbers_from 0 n) ((0 + n) ∷ [])
+    ∙ ap (λ m. filter p (numbers_from 0 n) ++ filter p (m ∷ [])) none_more)
+  where
+    none_more : 0 + n ≡ n
+    none_more = omega arith
+
+    by_test : (b : Bool) → cond b (old ++ n ∷ []) old ≡ old ++ cond b (n ∷ []) []
+    by_test true = refl
+    by_test false = sym (append-nil old)
 
 -- the number at a place
 pub get_or-numbers_from : (a n k d : ℕ) → k < n → get_or (numbers_from a n) k d ≡ a + k

@@ -5,7 +5,8 @@ ghost use Rattle.std.specs.Prelude.{◌≡◌, ◌∷◌, [], ◌++◌, ◌<◌,
 use crate::{Name, OutOfMemory};
 use std::alloc::Global;
 
-/// The names of the files whose `take` failed, one for each such call. How often a name stands here is its count of faults.
+/// The names of the files whose `take` failed, one for each such call. How often a name stands here is its
+/// count of faults.
 #[derive(Drop)]
 pub(crate) struct FailedCalls {
     names: Vec<Name>,

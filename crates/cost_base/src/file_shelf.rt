@@ -38,8 +38,9 @@ impl<R: Files> Shelf for FileShelf<R> {
 
     ghost faults = { λ shelf name. count_of_name shelf.failed.names.items name };
 
-    ghost gave = { λ before now came. (now.files ≡ before.files)
-        × HasGiven (λ name. None) (λ name. None) before.failed.names.items now.failed.names.items came };
+    ghost gave = { λ before now came. (now.files ≡ before.files) ×
+        HasGiven (λ name. None) (λ name. None) before.failed.names.items
+        now.failed.names.items came };
 
     #[tactic(auto, using(crate::proofs::FaultCounts::noted))]
     fn take(&mut self, name: &str, most: usize, into: &mut Vec<u8>) -> Result<(), ShelfStop>

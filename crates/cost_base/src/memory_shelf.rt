@@ -11,7 +11,8 @@ use crate::content::{copy_within, find_first};
 use crate::failed_calls::FailedCalls;
 use crate::{Name, Shelf, ShelfStop};
 
-/// A shelf over files in memory, for tests. It fails at the calls whose numbers it was given, and where a name is missing.
+/// A shelf over files in memory, for tests. It fails at the calls whose numbers it was given, and where a
+/// name is missing.
 ///
 /// Calls are numbered from 0. The first file of a name counts. The shelf tells its bytes.
 #[derive(Drop)]
@@ -75,7 +76,8 @@ impl Shelf for MemoryShelf {
     ghost faults = { λ shelf name. count_of_name shelf.failed.names.items name };
 
     ghost gave = { λ before now came.
-        HasGiven (first_file before.files.items) (first_file now.files.items) before.failed.names.items now.failed.names.items came };
+        HasGiven (first_file before.files.items) (first_file now.files.items)
+        before.failed.names.items now.failed.names.items came };
 
     #[tactic(auto, using(crate::proofs::FaultCounts::noted))]
     fn take(&mut self, name: &str, most: usize, into: &mut Vec<u8>) -> Result<(), ShelfStop>
@@ -121,5 +123,6 @@ impl Shelf for MemoryShelf {
     ghost gave_told = { λ a b came given. given.told };
 
     ghost gave_counted = { λ a b came given.
-        given_counts (first_file a.files.items) (first_file b.files.items) a.failed.names.items b.failed.names.items came given };
+        given_counts (first_file a.files.items) (first_file b.files.items)
+        a.failed.names.items b.failed.names.items came given };
 }

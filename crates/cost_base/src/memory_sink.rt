@@ -25,7 +25,8 @@ pub struct MemorySink {
 impl MemorySink {
     /// A sink that got nothing, with room for `room` bytes and a count of faults of 0.
     ///
-    /// `fail` lists pairs of a call's number and of how many bytes of its piece are kept; the first pair of a call counts.
+    /// `fail` lists pairs of a call's number and of how many bytes of its piece are kept; the first pair of
+    /// a call counts.
     ///
     /// # Errors
     ///
@@ -76,7 +77,8 @@ impl Sink for MemorySink {
 
     ghost faults = { λ sink. sink.faults };
 
-    ghost handed = { λ before now bytes. GotAll (Some before.bytes.items) (Some now.bytes.items) bytes };
+    ghost handed = { λ before now bytes.
+        GotAll (Some before.bytes.items) (Some now.bytes.items) bytes };
 
     fn put(&mut self, piece: &[u8]) -> Result<(), PutFailed>
         // A piece is kept whole, or its first bytes, and a refusal is counted.
@@ -112,7 +114,8 @@ impl Sink for MemorySink {
 
     ghost handed_none = { λ a. handed_none (Some a.bytes.items) };
 
-    ghost handed_more = { λ a b c first later. handed_more (Some a.bytes.items) (Some b.bytes.items) (Some c.bytes.items) first later };
+    ghost handed_more = { λ a b c first later.
+        handed_more (Some a.bytes.items) (Some b.bytes.items) (Some c.bytes.items) first later };
 
     ghost handed_got = { λ a b bytes handed. handed };
 }

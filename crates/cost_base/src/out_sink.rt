@@ -33,7 +33,8 @@ impl<W: Write> Sink for OutSink<W> {
 
     ghost faults = { λ sink. sink.faults };
 
-    ghost handed = { λ before now bytes. Appends (W.contents before.output) (W.contents now.output) bytes };
+    ghost handed = { λ before now bytes.
+        Appends (W.contents before.output) (W.contents now.output) bytes };
 
     fn put(&mut self, piece: &[u8]) -> Result<(), PutFailed>
         ensures cause { HasCause self.old.faults self.new.faults result }
@@ -52,7 +53,9 @@ impl<W: Write> Sink for OutSink<W> {
 
     ghost handed_none = { λ a. appends_none (W.contents a.output) };
 
-    ghost handed_more = { λ a b c first later. appends_both (W.contents a.output) (W.contents b.output) (W.contents c.output) first later };
+    ghost handed_more = { λ a b c first later.
+        appends_both (W.contents a.output) (W.contents b.output) (W.contents c.output)
+        first later };
 
     ghost handed_got = { λ a b bytes handed. tt };
 }
@@ -74,7 +77,8 @@ fn write_whole<W: Write>(output: &mut W, piece: &[u8]) -> Result<(), PutFailed>
     Err(PutFailed)
 }
 
-/// Writes some bytes of a piece, and tells how many: 0 where the write was interrupted. A write that takes nothing has failed.
+/// Writes some bytes of a piece, and tells how many: 0 where the write was interrupted. A write that takes
+/// nothing has failed.
 fn write_some<W: Write>(output: &mut W, piece: &[u8]) -> Result<usize, PutFailed>
     ensures within { IfOk result (λ count. count ≤ length piece.now) }
     ensures some { IfOk result (λ count. Appends (W.contents output.old) (W.contents output.new)

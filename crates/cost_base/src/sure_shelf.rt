@@ -33,7 +33,8 @@ impl Shelf for SureShelf {
 
     ghost faults = { λ shelf name. 0 };
 
-    ghost gave = { λ before now came. HasGiven (sure_file before.files.items) (sure_file now.files.items) [] [] came };
+    ghost gave = { λ before now came.
+        HasGiven (sure_file before.files.items) (sure_file now.files.items) [] [] came };
 
     fn take(&mut self, name: &str, most: usize, into: &mut Vec<u8>) -> Result<(), ShelfStop> {
         let bytes = find_first(self.files.as_slice(), name.as_bytes()).unwrap_or(&[]);
@@ -42,11 +43,14 @@ impl Shelf for SureShelf {
 
     ghost gave_none = { λ a. given_none (sure_file a.files.items) [] };
 
-    ghost gave_more = { λ a b c first later. given_more (sure_file a.files.items) (sure_file b.files.items) (sure_file c.files.items) [] [] [] first later };
+    ghost gave_more = { λ a b c first later.
+        given_more (sure_file a.files.items) (sure_file b.files.items) (sure_file c.files.items)
+        [] [] [] first later };
 
     ghost gave_held = { λ a b came given. given.held };
 
     ghost gave_told = { λ a b came given. given.told };
 
-    ghost gave_counted = { λ a b came given. given_surely (sure_file a.files.items) (sure_file b.files.items) came given };
+    ghost gave_counted = { λ a b came given.
+        given_surely (sure_file a.files.items) (sure_file b.files.items) came given };
 }

@@ -63,7 +63,9 @@ impl Sink for SureSink {
 
     ghost faults = { λ sink. 0 };
 
-    ghost handed = { λ before now bytes. GotAll (unless_lost before.lost before.bytes.items) (unless_lost now.lost now.bytes.items) bytes };
+    ghost handed = { λ before now bytes.
+        GotAll (unless_lost before.lost before.bytes.items)
+        (unless_lost now.lost now.bytes.items) bytes };
 
     fn put(&mut self, piece: &[u8]) -> Result<(), PutFailed>
         ensures sure { IsOk result }
@@ -87,7 +89,8 @@ impl Sink for SureSink {
     ghost handed_none = { λ a. handed_none (unless_lost a.lost a.bytes.items) };
 
     ghost handed_more = { λ a b c first later.
-        handed_more (unless_lost a.lost a.bytes.items) (unless_lost b.lost b.bytes.items) (unless_lost c.lost c.bytes.items) first later };
+        handed_more (unless_lost a.lost a.bytes.items) (unless_lost b.lost b.bytes.items)
+        (unless_lost c.lost c.bytes.items) first later };
 
     ghost handed_got = { λ a b bytes handed. handed };
 }

@@ -102,9 +102,9 @@ pub fn decide_within(
 
 /// Decides whether a problem has fit costs of at most `cap`.
 ///
-/// Costs are fit and lie in the box at the cap. Refuted comes with a closed earnest tree over that box, Undecided with one
-/// that has an Undone and exactly `limits.nodes` entries; the rows of the trees are numbered as in the pool. The pool keeps its
-/// rows, and new ones come at its end.
+/// Costs are fit and lie in the box at the cap. Refuted comes with a closed earnest tree over that box, Undecided with
+/// one that has an Undone and exactly `limits.nodes` entries; the rows of the trees are numbered as in the pool. The
+/// pool keeps its rows, and new ones come at its end.
 ///
 /// # Errors
 ///

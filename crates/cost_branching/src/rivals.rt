@@ -40,8 +40,8 @@ impl Begun for Brand {
 /// The source whose accepted points are those at which each wanted path of a problem leads by the scale, and whose true
 /// forms are those of the problem's rows. Contracts see the problem and the rows that are known.
 ///
-/// It keeps what asks for rivals, and the rows of the pool's forms, in the same order: those with which the search began,
-/// and behind them those that came since.
+/// It keeps what asks for rivals, and the rows of the pool's forms, in the same order: those with which the search
+/// began, and behind them those that came since.
 #[derive(Drop)]
 pub struct Rivals<'a, B: Begun> {
     problem: &'a Problem,
@@ -66,8 +66,8 @@ impl<'a, B: Begun> Model for Rivals<'a, B> {
     } };
 }
 
-/// For the prover alone: keeps that a problem meets the conditions of its type, and its graph those of a graph; takes no
-/// time and changes nothing.
+/// For the prover alone: keeps that a problem meets the conditions of its type, and its graph those of a graph; takes
+/// no time and changes nothing.
 pub fn keeps_conditions(problem: &Problem)
     ensures { IsProblemOnGraph problem.now }
 {
@@ -188,8 +188,8 @@ fn ask_one(
     }
 }
 
-/// Looks for the cheapest rival of each request, and makes those that cost less than path and scale rows, in the requests'
-/// order.
+/// Looks for the cheapest rival of each request, and makes those that cost less than path and scale rows, in the
+/// requests' order.
 fn ask_each(
     problem: &Problem,
     asker: &mut Asker,
@@ -282,8 +282,8 @@ impl<'a, B: Begun> Rivals<'a, B> {
         all_lead(problem, &mut self.asker, point)
     }
 
-    /// Asks each request in order for its cheapest rival. Each that costs less than its path and the scale becomes a row, and
-    /// its form comes at the end of the pool, which may hold other forms besides those of the rows.
+    /// Asks each request in order for its cheapest rival. Each that costs less than its path and the scale becomes a
+    /// row, and its form comes at the end of the pool, which may hold other forms besides those of the rows.
     ///
     /// # Errors
     ///

@@ -43,7 +43,7 @@ pub fn choose(advisors: &mut Vec<Box<dyn Advisor>>, choices: &[Candidate]) -> u3
         if (answer as usize) < choices.len() {
             return answer;
         }
-        drop(advisors.remove(0));
+        advisors.remove(0);
     }
     0
 }

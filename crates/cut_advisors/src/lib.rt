@@ -8,10 +8,12 @@ mod advisor;
 mod candidate;
 mod choosing;
 mod progress;
-mod usual;
+mod smallest_number;
+mod widest_first;
 
 pub use advisor::Advisor;
 pub use candidate::Candidate;
 pub use choosing::{choose, tell};
 pub use progress::Progress;
-pub use usual::{SmallestNumber, WidestFirst};
+pub use smallest_number::SmallestNumber;
+pub use widest_first::WidestFirst;

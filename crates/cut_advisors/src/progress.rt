@@ -9,8 +9,8 @@ use std::time::{Clock, Instant};
 /// Picks the first candidate, and writes a line to standard error now and then: the seconds since it began, and the
 /// entries that it was told of.
 ///
-/// It is told of entries and of nothing else, so these are the entries of all caps so far: at which cap a search stands it
-/// can't know. What it picks doesn't hang on what it wrote, nor on the clock. It has no state.
+/// It is told of entries and of nothing else, so these are the entries of all caps so far: at which cap a search stands
+/// it can't know. What it picks doesn't hang on what it wrote, nor on the clock. It has no state.
 #[derive(Drop)]
 pub struct Progress<R> {
     runtime: R,
@@ -25,8 +25,8 @@ pub struct Progress<R> {
 }
 
 impl<R: Clock + Eprint + Drop> Progress<R> {
-    /// Begins now. The first line comes after `pause` seconds, and each further one at least so long after the one before
-    /// it; `budget` is how many entries a tree may have. None where the clock can't be read.
+    /// Begins now. The first line comes after `pause` seconds, and each further one at least so long after the one
+    /// before it; `budget` is how many entries a tree may have. None where the clock can't be read.
     pub fn begin(runtime: R, budget: u64, pause: u64) -> Option<Progress<R>>
         ensures told { IfSome result (λ begun. begun.entries ≡ 0) }
         ensures due { IfSome result (λ begun. (begun.due ≡ pause) × (begun.pause ≡ pause)) }

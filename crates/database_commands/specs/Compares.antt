@@ -1,11 +1,11 @@
 -- What `compare` writes: where the running area differs from its configurations.
-use Rattle.std.specs.Prelude.{◌≡◌, ℕ, ◌==◌, ◌&&◌, List, [], ◌∷◌, flat_map, length, codes, slice_get, slice_index_or, Bool, true, false, Option, Some, None}
+use Rattle.std.specs.Prelude.{◌≡◌, ℕ, ◌==◌, ◌&&◌, List, [], ◌∷◌, flat_map, length, codes, slice_index_or, Bool, true, false}
 use Rattle.std.specs.List.{list_all}
 use Rattle.cost_base.specs.Decimal.{decimal}
 use Rattle.cost_base.specs.declared.Status.{Status}
 use Rattle.cost_base.specs.declared.Status.TheVariants as status
-use Rattle.lsdb_build.specs.declared.Linked.{Linked}
 use Rattle.lsdb_build.specs.Graphs.{Database}
+use Rattle.lsdb_build.specs.LinkNames.{link_interface, link_router}
 use Rattle.input_files.specs.Inputs.{InputFiles}
 use Rattle.input_files.specs.Readings.{Reading, Ready, ◌>>=◌}
 use Rattle.input_files.specs.Outcomes.{Input, routers_of}
@@ -39,19 +39,9 @@ differences_of c = difference_lines (routers_of c.input.files) c.input.database 
 abbrev pub router_named : Database → ℕ → List ℕ
 router_named d router = slice_index_or d.routers router []
 
--- the name of a link's router
-abbrev pub router_of_linked : Database → Option Linked → List ℕ
-router_of_linked d None = []
-router_of_linked d (Some link) = router_named d link.router
-
--- the name of a link's interface
-abbrev pub interface_of_linked : Option Linked → List ℕ
-interface_of_linked None = []
-interface_of_linked (Some link) = link.interface
-
 -- a line of a linked interface: a word, its router and its name, and further words
 abbrev pub linked_words : List ℕ → Database → ℕ → List (List ℕ) → List (List ℕ)
-linked_words word d link further = word ∷ router_of_linked d (slice_get d.links link) ∷ interface_of_linked (slice_get d.links link) ∷ further
+linked_words word d link further = word ∷ link_router d link ∷ link_interface d link ∷ further
 
 -- the words of a line: routers and interfaces by their names, router IDs and addresses as dotted quads
 abbrev pub difference_words : Database → Difference → List (List ℕ)

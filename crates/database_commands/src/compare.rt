@@ -61,7 +61,7 @@ fn status_of(lines: &[Difference]) -> Status
     }
 }
 
-/// The area that the request of a network names.
+/// The area that a network's request file names.
 fn area_of(network: &Network) -> u32
     ensures { result ≡ network.now.requests.area }
 {
@@ -96,13 +96,13 @@ fn compare_live<'a, S: Shelf>(
     Ok(report)
 }
 
-/// The report of where the running area of a live file differs from the files of words: a line for each difference, and the
-/// count of the linked interfaces that have a link with their present cost.
+/// The report of where the running area of a live file differs from the files of words: a line for each difference, and
+/// the count of the linked interfaces that have a link with their present cost.
 ///
 /// # Errors
 ///
-/// `Stop`: a file failed or is too long, or the input has a fault; a configuration has no router ID, or that of an earlier
-/// one; the live file has a fault; want of memory.
+/// `Stop`: a file failed or is too long, or the input has a fault; a configuration has no router ID, or that of an
+/// earlier one; the live file has a fault; want of memory.
 pub fn compare_report<'a, S: Shelf>(
     alloc: Global,
     words: FileWords<'a>,

@@ -1,8 +1,8 @@
 //! The lines of a comparison.
-ghost use Rattle.std.specs.Prelude.{◌≡◌, [], ◌∷◌, IfOk, codes, slice_get};
+ghost use Rattle.std.specs.Prelude.{◌≡◌, [], ◌∷◌, IfOk, codes};
 ghost use Rattle.cost_base.specs.Decimal.{decimal};
 ghost use Rattle.report_writer.specs.Texts.{line_of_words};
-ghost use Rattle.database_commands.specs.Compares.{difference_text, difference_words, interface_of_linked, router_of_linked};
+ghost use Rattle.database_commands.specs.Compares.{difference_text, difference_words};
 ghost use Rattle.database_commands.specs.Quads.{router_id_text};
 
 use crate::quads::push_quad;
@@ -11,26 +11,6 @@ use live_area::Difference;
 use lsdb_build::Lsdb;
 use std::alloc::Global;
 use text_lines::{push_bytes, push_number};
-
-/// The name of a link's router.
-fn router_of_link(lsdb: &Lsdb, link: u32) -> &[u8]
-    ensures { result.now ≡ router_of_linked lsdb.now (slice_get lsdb.now.links link) }
-{
-    match lsdb.links().get(link as usize) {
-        Some(link) => lsdb.router_name(link.router),
-        None => &[],
-    }
-}
-
-/// The name of a link's interface.
-fn interface_of_link(lsdb: &Lsdb, link: u32) -> &[u8]
-    ensures { result.now ≡ interface_of_linked (slice_get lsdb.now.links link) }
-{
-    match lsdb.links().get(link as usize) {
-        Some(link) => link.interface.as_bytes(),
-        None => &[],
-    }
-}
 
 /// The line of a router without a router-LSA.
 fn absent_line(alloc: Global, lsdb: &Lsdb, router: u32) -> Result<Vec<u8>, OutOfMemory>
@@ -59,9 +39,9 @@ fn cost_line(
 {
     let mut line = Vec::new(alloc);
     push_bytes(&mut line, b"cost ")?;
-    push_bytes(&mut line, router_of_link(lsdb, link))?;
+    push_bytes(&mut line, lsdb.link_router(link))?;
     push_bytes(&mut line, b" ")?;
-    push_bytes(&mut line, interface_of_link(lsdb, link))?;
+    push_bytes(&mut line, lsdb.link_interface(link))?;
     push_bytes(&mut line, b" file ")?;
     push_number(&mut line, u128::from(file))?;
     push_bytes(&mut line, b" live ")?;
@@ -77,9 +57,9 @@ fn missing_line(alloc: Global, lsdb: &Lsdb, link: u32) -> Result<Vec<u8>, OutOfM
 {
     let mut line = Vec::new(alloc);
     push_bytes(&mut line, b"missing ")?;
-    push_bytes(&mut line, router_of_link(lsdb, link))?;
+    push_bytes(&mut line, lsdb.link_router(link))?;
     push_bytes(&mut line, b" ")?;
-    push_bytes(&mut line, interface_of_link(lsdb, link))?;
+    push_bytes(&mut line, lsdb.link_interface(link))?;
     push_bytes(&mut line, b"\n")?;
     Ok(line)
 }

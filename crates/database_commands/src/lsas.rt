@@ -44,8 +44,8 @@ fn report_of<'a>(alloc: Global, network: &Network) -> Result<Report, Stop<'a>>
 ///
 /// # Errors
 ///
-/// `Stop`: a file failed or is too long, or the input has a fault; a configuration has no router ID, or that of an earlier
-/// one; want of memory.
+/// `Stop`: a file failed or is too long, or the input has a fault; a configuration has no router ID, or that of an
+/// earlier one; want of memory.
 pub fn lsas_report<'a, S: Shelf>(
     alloc: Global,
     words: FileWords<'a>,

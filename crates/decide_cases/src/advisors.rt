@@ -3,7 +3,8 @@
 use cut_advisors::{Advisor, Candidate};
 use design_problem::Entry;
 
-/// Picks the first of fewer than 100 choices; of 100 or more the position that is the number of entries that it was told.
+/// Picks the first of fewer than 100 choices; of 100 or more the position that is the number of entries that
+/// it was told.
 #[derive(Drop)]
 pub struct Counting {
     pub told: u32,
@@ -14,7 +15,8 @@ impl Advisor for Counting {
 
     ghost state = { λ advisor. advisor.told ∷ [] };
 
-    ghost would = { λ state choices. if nat_le 100 (length choices) then slice_index state 0 else 0 };
+    ghost would = { λ state choices.
+        if nat_le 100 (length choices) then slice_index state 0 else 0 };
 
     ghost left = { λ state _. state };
 

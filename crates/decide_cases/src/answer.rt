@@ -124,7 +124,7 @@ fn answered(alloc: Global, scene: &mut Scene, asked: Command) -> Result<String, 
             scene.draft.add_variable(router, interface, low, high),
         ),
         Command::Link(edge) => said(alloc, scene.draft.add_edge(edge)),
-        Command::Wish(request) => said(alloc, scene.draft.add_path(request)),
+        Command::Path(request) => said(alloc, scene.draft.add_path(request)),
         Command::Problem => scene.make(alloc),
         asked => of_problem(alloc, scene, &asked),
     }

@@ -17,7 +17,7 @@ pub enum Command {
     /// `edge FROM TO fixed COST`, `edge FROM TO variable NUMBER` or `edge FROM TO zero`: one more edge.
     Link(Edge),
     /// `path START END EDGE .. without EDGE ..`: one more wanted path, with the edges that its request excludes.
-    Wish(Request),
+    Path(Request),
     /// `problem`: what the lines since the last network say is the problem at hand, where it is one.
     Problem,
     /// `decide CAP NODES BITS`: one cap decided.
@@ -116,7 +116,7 @@ fn directive(alloc: Global, words: &mut SplitWhitespace<'_>) -> Result<Command, 
     let end = number(words)?;
     let edges = numbers(alloc, words, "without")?;
     let excluded = numbers(alloc, words, "")?;
-    Ok(Command::Wish(Request {
+    Ok(Command::Path(Request {
         path: Path {
             start,
             edges: Listed::from_items(edges),

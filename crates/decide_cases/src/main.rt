@@ -1,5 +1,5 @@
-//! Runs scripts of problems: each line of standard input, with what is answered to it. `stdin` has the cases, and `stdout`
-//! their answers, which were worked out by hand in the stated order of steps.
+//! Runs scripts of problems: each line of standard input, with what is answered to it. `stdin` has the cases, and
+//! `stdout` their answers, which were worked out by hand in the stated order of steps.
 #![tactic(auto)]
 
 mod advisors;

@@ -1,4 +1,4 @@
--- A pair of routers: what its files say, its printed answer read back, and a request with a bound of 0.
+-- A pair of routers: what its files say, its printed answer read back, and a request file with a bound of 0.
 use Rattle.std.proofs.Common.{◌≡◌, ℕ, refl, List, [], ◌∷◌, ◌++◌, None}
 use Rattle.std.specs.Prelude.{codes, Ok, Err}
 use Rattle.area_graph.specs.declared.Vertex.TheVariants.{Router as RouterVertex}
@@ -22,7 +22,7 @@ config address = codes "interface eth0\n ip address " ++ address ++ codes "\n ip
 abbrev request : List ℕ → List ℕ
 request bounds = codes "ospfcost request 1\narea 0\nfree all " ++ bounds ++ codes "\npath A:eth0 B\n"
 
--- what came of the request of these bounds and of the two configurations
+-- what came of the request file with these bounds and of the two configurations
 abbrev came : List ℕ → List Taken
 came bounds =
     record { name = codes "request.txt"; most = 4194304; came = Ok (request bounds) }

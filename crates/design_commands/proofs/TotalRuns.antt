@@ -220,7 +220,7 @@ found_may limits d a k (TotalUndecided answer sum bound rows tree) report ready 
       rows = rows.items;
       sheet = answered.5;
       tree = tree;
-      spent = subst (λ (v : List ℕ). IsUndecidedTotal d.problem limits.top limits.nodes (greatest_cost v) bound rows.items tree) there answered.6;
+      used_up = subst (λ (v : List ℕ). IsUndecidedTotal d.problem limits.top limits.nodes (greatest_cost v) bound rows.items tree) there answered.6;
       spelled = ap (λ (n : ℕ). total_text (text answer) n (bound_lines bound rows.items (at_cap k tree))) answered.2
           ∙ ap (λ (cap : ℕ). total_text (text answer) (total w)
           (bound_lines bound rows.items (at_cap cap tree))) (sym same)

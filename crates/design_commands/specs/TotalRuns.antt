@@ -98,7 +98,7 @@ pub record IsShownUndecidedTotal (limits : SearchLimits) (d : Input) (bytes : Li
   pub rows : List Row
   pub tree : List Entry
   pub sheet : IsTotalSheet d.problem rows tree
-  pub spent : IsUndecidedTotal d.problem limits.top limits.nodes (greatest_cost designed.costs) bound rows tree
+  pub used_up : IsUndecidedTotal d.problem limits.top limits.nodes (greatest_cost designed.costs) bound rows tree
   pub spelled : bytes ≡ total_text inside (total designed.costs) (bound_lines bound rows (at_cap (greatest_cost designed.costs) tree))
 
 -- `total`: the least total among the best costs; or that no costs are fit; or that the budget was used up, for the greatest

@@ -23,21 +23,11 @@ use design_problem::{Answer, CapTree, Problem, Row, Verdict};
 use evidence_text::{TreePart, keeps_answer, push_evidence, text_of_answer};
 use input_files::{FileWords, Stop, View, read_problem};
 use least_total::{Total, TotalProof, least_total};
+use printed_parts::push_count_line;
 use report_writer::Report;
 use std::alloc::Global;
-use text_lines::{push_bytes, push_number};
+use text_lines::push_bytes;
 use wide_fraction::Limits;
-
-/// Adds a line of a word and a number.
-fn push_line(text: &mut Vec<u8>, word: &[u8], number: u64) -> Result<(), OutOfMemory>
-    ensures { OnOk result (text.new.items ≡ text.old.items ++ word.now ++ 32 ∷ decimal number ++
-        10 ∷ []) }
-{
-    push_bytes(text, word)?;
-    push_bytes(text, b" ")?;
-    push_number(text, u128::from(number))?;
-    push_bytes(text, b"\n")
-}
 
 /// The text up to the line of the total: the whole text of the answer stands in it.
 fn begun_text(alloc: Global, answer: &Answer, total: u64) -> Result<Vec<u8>, OutOfMemory>
@@ -48,7 +38,7 @@ fn begun_text(alloc: Global, answer: &Answer, total: u64) -> Result<Vec<u8>, Out
     push_bytes(&mut text, b"ospfcost total 1\n")?;
     let inside = text_of_answer(alloc, answer)?;
     push_bytes(&mut text, &inside)?;
-    push_line(&mut text, b"total", total)?;
+    push_count_line(alloc, &mut text, b"total", total)?;
     Ok(text)
 }
 
@@ -108,7 +98,7 @@ fn undecided_text(
         total_text (text answer.now) range.total (bound_lines range.bound rows.now tree.now)) }
 {
     let mut text = begun_text(alloc, answer, range.total)?;
-    push_line(&mut text, b"bound", range.bound)?;
+    push_count_line(alloc, &mut text, b"bound", range.bound)?;
     push_evidence(alloc, &mut text, rows, TreePart::Unfinished, tree)?;
     push_bytes(&mut text, b"end\n")?;
     Ok(text)
@@ -182,7 +172,8 @@ fn report_of_total(
     limits: &Limits,
 ) -> Result<Report, OutOfMemory>
     requires { IsAnswerTo (limits_seen limits.now) problem.now answer }
-    ensures { IfOk result (ReportsTotal (limits_seen limits.now) problem.now answer answer.verdict) }
+    ensures { IfOk result (ReportsTotal (limits_seen limits.now) problem.now answer
+        answer.verdict) }
 {
     match answer.verdict {
         Verdict::Optimal(cap) => {

@@ -4,7 +4,6 @@ ghost use Rattle.std.specs.List.{sum};
 ghost use Rattle.cost_base.specs.Decimal.{decimal};
 ghost use Rattle.command_words.specs.Jobs.{limits_seen};
 ghost use Rattle.design_problem.specs.Text.{text};
-ghost use Rattle.design_problem.specs.Answers.{lines_in};
 ghost use Rattle.design_problem.specs.GivenCosts.{costs_given};
 ghost use Rattle.form_search.specs.Advised.{AreCalled};
 ghost use Rattle.least_bound.specs.Asking.{AreAskedAnswering};
@@ -24,7 +23,7 @@ use crate::trial_files::{REQUEST, shelf_of, words_of};
 use crate::trial_line::{TrialNumbers, best_line, costless_line};
 use cost_base::{OutOfMemory, Shelf, Status};
 use cut_advisors::Advisor;
-use design_problem::{Answer, CostLine, Costs, Problem, Verdict};
+use design_problem::{Answer, CostLine, Problem, Verdict, lines_in};
 use evidence_text::text_of_answer;
 use input_files::{FileWords, Stop, View, read_problem};
 use report_writer::{Report, report_of};
@@ -56,16 +55,6 @@ fn costless_report(
     let behind = text_of_answer(alloc, answer)?;
     push_bytes(&mut text, &behind)?;
     Ok(Report::made(status_of(answer.verdict), text))
-}
-
-/// The cost lines of an answer; none where it has no costs.
-fn lines_of(costs: &Option<Costs>) -> &[CostLine]
-    ensures { result.now ≡ lines_in costs.now }
-{
-    match costs {
-        Some(costs) => costs.lines.as_slice(),
-        None => &[],
-    }
 }
 
 /// The report of a trial with best costs of this greatest cost: the summary line.
@@ -103,7 +92,7 @@ fn report_of_trial(
 {
     match answer.verdict {
         Verdict::Optimal(greatest) => {
-            best_report(alloc, trial, problem, greatest, lines_of(&answer.costs))
+            best_report(alloc, trial, problem, greatest, lines_in(&answer.costs))
         }
         Verdict::Impossible => costless_report(alloc, trial, b"impossible", answer),
         Verdict::Undecided(_) => costless_report(alloc, trial, b"undecided", answer),
@@ -195,9 +184,12 @@ pub fn trial_report(
     trial: TrialNumbers,
     advisors: &mut Vec<Box<dyn Advisor>>,
 ) -> Result<Report, OutOfMemory>
+    // The numbers are those that the words of `trial` may say.
     requires some { 1 ≤ trial.blocks }
     requires most { trial.blocks ≤ 125 }
     requires start { trial.start < 2 ^ 31 }
+
+    // The report is one of the made texts.
     ensures tried { IfOk result (λ report. MayTrial trial.blocks trial.start report.status
         (bytes_in report.text)) }
 

@@ -89,7 +89,7 @@ fold_le (x ∷ w) start most first each =
     let here = each 0 (omega arith) in
     fold_le w (max start x) most (omega arith) (λ k k_in. each (suc k) (omega arith))
 
--- no lower bound is above the greatest upper bound
+-- no lower bound is above the greatest bound
 pub low_below : (p : DesignProblem) → IsProblem p → All (λ low. low ≤ greatest_bound p) p.low
 low_below p kept k d k_in =
     let ordered = (kept.ordered k k_in).1 in
@@ -122,7 +122,7 @@ tree_bounds p rows cap tree kept true_rows sound closed w fit =
           (in_capped (box_of p) cap w fit.within within) (fit_meets p rows w kept true_rows fit))
     ]
 
--- fit costs are at most the greatest upper bound
+-- fit costs are at most the greatest bound
 fit_most : (p : DesignProblem) (w : List ℕ) → IsFit p w → greatest_cost w ≤ greatest_bound p
 fit_most p w fit =
     fold_le w 0 (greatest_bound p) (omega arith)

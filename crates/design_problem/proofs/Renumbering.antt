@@ -18,7 +18,7 @@ use Rattle.design_problem.specs.Forms.{added, form_at, no_form, weighted}
 use Rattle.design_problem.specs.Boxes.{Refutes, greatest}
 use Rattle.design_problem.specs.Basis.{entry, AreEntries, HasEntries, IsFormOf, IsTable, forms_of, low_member, member_form}
 use Rattle.cost_base.specs.declared.StepName.TheVariants.{Add, Mul, Lcm, Scale}
-use Rattle.design_problem.specs.Steps.{IsPivot, IsTableStep, row_product, row_sum, pivot_quotient, pivot_inverse, pivot_product, pivot_inverse_product, pivot_difference, corner_multiple, corner_scale, multiple, multiplier_product, multiplier_sum, multiplier_scale, IsStuck, IsStepTooWide, column_parts, denominators, lcm_of, made_whole, refuting_multipliers, own_part, start_of_sum, terms, two_to_27}
+use Rattle.design_problem.specs.Steps.{IsPivot, IsTableStep, row_product, row_sum, pivot_quotient, pivot_inverse, pivot_product, pivot_inverse_product, pivot_difference, corner_multiple, corner_scale, multiple, multiplier_product, multiplier_sum, multiplier_scale, IsStuck, IsStepTooWide, column_parts, denominators, lcm_of, made_whole, refuting_multipliers, own_multiplier, start_of_sum, terms, two_to_27}
 use Rattle.design_problem.specs.Trees.{SoundAt, TightensAt, removed}
 use Rattle.design_problem.specs.Earnest.{OpenPlace, Earnest, EarnestAt, at_bound, subplaces}
 use Rattle.design_problem.specs.OpenPlaces.{LeavesPlacesOpen}
@@ -94,7 +94,7 @@ same_parts number (Low var bound ∷ basis) (q ∷ qs) = same_parts number basis
 same_parts number (High var bound ∷ basis) (q ∷ qs) = same_parts number basis qs
 same_parts number (Row row ∷ basis) (q ∷ qs) = cc (same_parts number basis qs)
 
-same_own : (number : ℕ → ℕ) (member : Member) → own_part (renumbered_member number member) ≡ own_part member
+same_own : (number : ℕ → ℕ) (member : Member) → own_multiplier (renumbered_member number member) ≡ own_multiplier member
 same_own number (Low var bound) = refl
 same_own number (High var bound) = refl
 same_own number (Row row) = refl

@@ -53,7 +53,7 @@ pub record GivesCosts (p : DesignProblem) (k : ℕ) (costs : Costs) : Type 0 whe
   pub greatest : greatest_cost values ≡ k
   pub printed : costs.greatest ≡ k
 
--- the greatest upper bound of a variable
+-- the greatest bound of a problem: the greatest of its variables' upper bounds, 0 where there is none
 abbrev pub greatest_bound : DesignProblem → ℕ
 greatest_bound p = fold max 0 p.high
 
@@ -69,7 +69,7 @@ pub record IsValid (p : DesignProblem) (a : AnswerParts) : Type 0 where
   pub finished : a.unfinished ≡ None
   pub claim : ClaimHolds p a.rows a.verdict a.costs a.floor a.proof
 
--- the box of the problem at the cap of its greatest upper bound
+-- the box of the problem at the cap of its greatest bound
 abbrev pub whole_box : DesignProblem → CostBox
 whole_box p = capped (box_of p) (greatest_bound p)
 

@@ -16,9 +16,9 @@ use Rattle.design_problem.specs.declared.answer.CapTree.{CapTree}
 use Rattle.design_problem.specs.Trees.{IsSingleTree}
 use Rattle.design_problem.specs.Answers.{AnswerParts}
 
--- a number of 32 bits, as that of a variable, a request or an edge has
-abbrev pub IsThing : ℕ → Type 0
-IsThing n = n < 2 ^ 32
+-- the number of a variable, of a request or of an edge: 32 bits
+abbrev pub IsIndex : ℕ → Type 0
+IsIndex n = n < 2 ^ 32
 
 -- a cost, a bound or a cap: 16 bits
 abbrev pub IsCost : ℕ → Type 0
@@ -30,8 +30,8 @@ IsRowNumber n = n < 2 ^ 64
 
 -- the numbers of a member of a basis are within their types
 abbrev pub BoundsMember : Member → Type 0
-BoundsMember (Low v bound) = IsThing v × IsCost bound
-BoundsMember (High v bound) = IsThing v × IsCost bound
+BoundsMember (Low v bound) = IsIndex v × IsCost bound
+BoundsMember (High v bound) = IsIndex v × IsCost bound
 BoundsMember (ByRow row) = IsRowNumber row
 
 -- the row numbers of a Refute rise and are within their type, and its multipliers are positive
@@ -42,9 +42,9 @@ pub record BoundsParts (parts : List (ℕ × ℕ)) : Type 0 where
 
 -- the numbers of an entry are within their types
 abbrev pub BoundsEntry : Entry → Type 0
-BoundsEntry (Tighten v side bound row) = IsThing v × IsCost bound × IsRowNumber row
-BoundsEntry (Split v bound) = IsThing v × IsCost bound
-BoundsEntry (Halve v bound wide) = IsThing v × IsCost bound × All BoundsMember wide.basis
+BoundsEntry (Tighten v side bound row) = IsIndex v × IsCost bound × IsRowNumber row
+BoundsEntry (Split v bound) = IsIndex v × IsCost bound
+BoundsEntry (Halve v bound wide) = IsIndex v × IsCost bound × All BoundsMember wide.basis
 BoundsEntry (Refute parts) = BoundsParts parts
 BoundsEntry Undone = Unit {0}
 
@@ -68,11 +68,11 @@ BoundsVerdict (Undecided cap) = IsCost cap
 abbrev pub BoundsFloor : Floor → Type 0
 BoundsFloor Absent = Unit {0}
 BoundsFloor Empty = Unit {0}
-BoundsFloor (Var v) = IsThing v
+BoundsFloor (Var v) = IsIndex v
 
 -- a row's request and edges have 32 bits
 abbrev pub BoundsRow : Row → Type 0
-BoundsRow row = IsThing row.request × All IsThing row.rival
+BoundsRow row = IsIndex row.request × All IsIndex row.rival
 
 -- an answer is a value of its type: all its numbers are within their types, and its trees are whole
 pub record HasBounds (a : AnswerParts) : Type 0 where

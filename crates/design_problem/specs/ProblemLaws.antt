@@ -33,7 +33,7 @@ TreesBoundCosts = (p : DesignProblem) (rows : List Row) (cap : ℕ) (tree : List
 abbrev pub HasNoFit : DesignProblem → Type 0
 HasNoFit p = (w : List ℕ) → IsFit p w → ⊥
 
--- a closed sound tree over the box at the greatest upper bound leaves no fit costs
+-- a closed sound tree over the box at the greatest bound leaves no fit costs
 abbrev pub TreesLeaveNoFit : Type 0
 TreesLeaveNoFit = (p : DesignProblem) (rows : List Row) (proof : CapTree) → IsProblem p → All (IsRow p) rows →
     Proves p rows (greatest_bound p) proof → HasNoFit p

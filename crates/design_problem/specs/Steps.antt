@@ -58,15 +58,15 @@ column_parts [] qs = []
 column_parts (member ∷ members) [] = []
 column_parts (member ∷ members) (q ∷ qs) = column_part member q ++ column_parts members qs
 
--- a row counts itself once
-abbrev pub own_part : Member → List Fraction
-own_part (Low var bound) = []
-own_part (High var bound) = []
-own_part (Row row) = whole (pos 1) ∷ []
+-- the multiplier of the form that is negative itself: 1 where it is a row, and none where it is a bound of a variable
+abbrev pub own_multiplier : Member → List Fraction
+own_multiplier (Low var bound) = []
+own_multiplier (High var bound) = []
+own_multiplier (Row row) = whole (pos 1) ∷ []
 
 -- the multipliers by which a form over a basis refutes the box: its own 1, and those of the columns
 abbrev pub refuting_multipliers : List Member → Member → List Fraction → List Fraction
-refuting_multipliers basis r entries = own_part r ++ column_parts basis (drop 1 entries)
+refuting_multipliers basis r entries = own_multiplier r ++ column_parts basis (drop 1 entries)
 
 -- the least common multiple of some numbers
 abbrev pub lcm_of : List ℕ → ℕ

@@ -75,7 +75,14 @@ impl Model for Answer {
 
     ghost use Rattle.design_problem.specs.Text.{FitsAnswer};
 
-    ghost view = { λ a. record { verdict = a.verdict; costs = a.costs; floor = a.floor; rows = a.rows; proof = a.proof; unfinished = a.unfinished } };
+    ghost view = { λ a. record {
+      verdict = a.verdict;
+      costs = a.costs;
+      floor = a.floor;
+      rows = a.rows;
+      proof = a.proof;
+      unfinished = a.unfinished;
+    } };
 
     ghost invariant = { λ a. FitsAnswer (record {
       verdict = a.verdict;

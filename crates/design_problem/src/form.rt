@@ -50,7 +50,8 @@ impl Model for Form {
 
     ghost view = { λ f. form_by f.variables f.constant f.terms.items };
 
-    ghost invariant = { λ f. f.terms.items ≡ terms_of (form_by f.variables f.constant f.terms.items) };
+    ghost invariant = { λ f.
+        f.terms.items ≡ terms_of (form_by f.variables f.constant f.terms.items) };
 }
 
 /// Puts the term of a coefficient at the end, unless it is 0.
@@ -116,8 +117,8 @@ impl Form {
         })
     }
 
-    /// The form in so many variables with this constant and these terms, which have coefficients other than 0 and rise by
-    /// their variables. It takes no memory.
+    /// The form in so many variables with this constant and these terms, which have coefficients other than 0 and rise
+    /// by their variables. It takes no memory.
     pub fn from_terms(variables: usize, constant: i64, terms: Vec<Term>) -> Form
         requires { AreTerms variables terms.items }
         ensures { result ≡ form_by variables constant terms.items }

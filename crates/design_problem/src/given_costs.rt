@@ -1,10 +1,21 @@
-//! The costs that the lines of an answer give.
+//! The cost lines of an answer, and the costs that they give.
 ghost use Rattle.std.specs.Prelude.{◌≡◌, ℕ, ◌<◌, length, replicate, All, IfOk};
+ghost use Rattle.design_problem.specs.Answers.{lines_in};
 ghost use Rattle.design_problem.specs.GivenCosts.{written};
 
-use crate::{CostLine, VarName};
+use crate::{CostLine, Costs, VarName};
 use cost_base::OutOfMemory;
 use std::alloc::Global;
+
+/// The cost lines of an answer's costs; none where it has no costs.
+pub fn lines_in(costs: &Option<Costs>) -> &[CostLine]
+    ensures { result.now ≡ lines_in costs.now }
+{
+    match costs {
+        Some(costs) => costs.lines.as_slice(),
+        None => &[],
+    }
+}
 
 /// The costs that the lines give so many variables: each line's is written at its variable.
 ///

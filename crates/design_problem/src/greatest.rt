@@ -69,9 +69,9 @@ fn greatest_with(form: &Form, costs: &CostBox, var: usize, low_end: u16, high_en
     sum
 }
 
-/// The greatest value of the form over the part of the box that a new bound of a variable's range removes: below `value`
-/// at the low side, above it at the high side. The conditions on the form are those of `greatest_over`, and the new bound
-/// makes the range smaller.
+/// The greatest value of the form over the part of the box that a new bound of a variable's range removes: below
+/// `value` at the low side, above it at the high side. The conditions on the form are those of `greatest_over`, and the
+/// new bound makes the range smaller.
 pub fn greatest_removed(form: &Form, costs: &CostBox, side: Side, var: u32, value: u16) -> i128
     // The form has a small coefficient for each variable of the box.
     requires low { length form.now.coefficients ≡ length costs.now.low }

@@ -34,7 +34,7 @@ pub fn trees_bound_costs()
     ensures { TreesBoundCosts }
 {}
 
-/// Where a closed tree of true rows is sound over the box at the greatest upper bound, no costs are fit.
+/// Where a closed tree of true rows is sound over the box at the greatest bound, no costs are fit.
 pub fn trees_leave_no_fit()
     ensures { TreesLeaveNoFit }
 {}
@@ -49,7 +49,8 @@ pub fn valid_answers_hold()
     ensures { ValidAnswersHold }
 {}
 
-/// A sound tree over a box has at most twice as many entries as the box has points, less one, and one fewer with an Undone.
+/// A sound tree over a box has at most twice as many entries as the box has points, less one, and one fewer
+/// with an Undone.
 pub fn trees_are_small()
     ensures { TreesAreSmall }
 {}

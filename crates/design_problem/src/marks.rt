@@ -17,13 +17,6 @@ pub(crate) struct Marks {
     pub high: Vec<usize>,
 }
 
-/// So many zeros.
-fn zeros(alloc: Global, count: usize) -> Result<Vec<usize>, OutOfMemory>
-    ensures { IfOk result (λ counts. counts.items ≡ replicate count 0) }
-{
-    Ok(vec![in alloc; 0usize; count]?)
-}
-
 impl Marks {
     /// The marks of so many variables, none of which was tightened.
     pub(crate) fn start(alloc: Global, variables: usize) -> Result<Marks, OutOfMemory>
@@ -31,8 +24,8 @@ impl Marks {
     {
         Ok(Marks {
             begun: 0,
-            low: zeros(alloc, variables)?,
-            high: zeros(alloc, variables)?,
+            low: vec![in alloc; 0usize; variables]?,
+            high: vec![in alloc; 0usize; variables]?,
         })
     }
 

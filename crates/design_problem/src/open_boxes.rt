@@ -18,8 +18,8 @@ enum Change {
     Second(u32, u16, u16),
 }
 
-/// The box that the next entry of a tree speaks of, and the boxes that wait behind it, the next first. None of those that
-/// wait is copied: they are told by the ends that were changed since.
+/// The box that the next entry of a tree speaks of, and the boxes that wait behind it, the next first. None of those
+/// that wait is copied: they are told by the ends that were changed since.
 #[derive(Drop)]
 pub struct OpenBoxes {
     costs: CostBox,

@@ -44,9 +44,21 @@ impl Model for Problem {
 
     ghost Value = { DesignProblem };
 
-    ghost view = { λ p. record { graph = p.graph; vars = p.vars; low = p.low; high = p.high; paths = p.paths } };
+    ghost view = { λ p. record {
+      graph = p.graph;
+      vars = p.vars;
+      low = p.low;
+      high = p.high;
+      paths = p.paths;
+    } };
 
-    ghost invariant = { λ p. IsProblem (record { graph = p.graph; vars = p.vars; low = p.low; high = p.high; paths = p.paths }) };
+    ghost invariant = { λ p. IsProblem (record {
+      graph = p.graph;
+      vars = p.vars;
+      low = p.low;
+      high = p.high;
+      paths = p.paths;
+    }) };
 }
 
 impl Problem {

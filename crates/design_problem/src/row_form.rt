@@ -71,8 +71,8 @@ fn form_of_paths(
     Ok(Form::from_terms(variables, constant, terms))
 }
 
-/// The form of a row: cost(rival) - cost(wanted path) - 1, in time in proportion to the two paths times the logarithm of
-/// their length. The row's request is one of the problem's, and its rival's edges are a simple path of that request.
+/// The form of a row: cost(rival) - cost(wanted path) - 1, in time in proportion to the two paths times the logarithm
+/// of their length. The row's request is one of the problem's, and its rival's edges are a simple path of that request.
 ///
 /// # Errors
 ///

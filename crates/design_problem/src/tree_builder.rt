@@ -13,8 +13,8 @@ use cost_base::OutOfMemory;
 use std::alloc::Global;
 use std::marker::Model;
 
-/// A branching tree that is built in preorder: its entries so far, and the boxes that are still open. One box is kept, and
-/// a stack of the ends of ranges that were changed: nothing is copied for a box that waits.
+/// A branching tree that is built in preorder: its entries so far, and the boxes that are still open. One box is kept,
+/// and a stack of the ends of ranges that were changed: nothing is copied for a box that waits.
 ///
 /// Contracts see the entries and the open places, the first of which the next entry speaks of.
 #[derive(Drop)]
@@ -32,7 +32,10 @@ impl Model for TreeBuilder {
 
     ghost use Rattle.design_problem.specs.Builders.{KeepsBuilder, places_of};
 
-    ghost view = { λ t. record { entries = t.entries.items; places = places_of t.is_open t.boxes t.entries.items } };
+    ghost view = { λ t. record {
+      entries = t.entries.items;
+      places = places_of t.is_open t.boxes t.entries.items;
+    } };
 
     ghost invariant = { λ t. KeepsBuilder t.entries.items t.is_open t.boxes t.marks };
 }

@@ -11,7 +11,7 @@ use Rattle.least_change.specs.declared.change.Change.{Change}
 use Rattle.least_change.specs.declared.change.Change.TheVariants.{Fewest, Impossible, Undecided}
 use Rattle.least_change.specs.Changes.{IsChangeFound}
 use Rattle.least_change.specs.Laws.{CannotBeUndecidedOnChanges}
-use Rattle.least_change.proofs.Unspent.{unspent_settle as changes_settle}
+use Rattle.least_change.proofs.Sufficient.{sufficient_settle as changes_settle}
 use Rattle.change_commands.specs.Changes.{MayChange, ShowsChange, change_status, question_of}
 use Rattle.design_problem.specs.declared.answer.CostLine.{CostLine}
 use Rattle.sections_reader.specs.Texts.{SaysCosts}

@@ -66,7 +66,7 @@ never_undecided limits p bytes never shown = by_tree shown.answer.unfinished sho
     by_tree (Some t) h =
         never t.cap shown.answer.rows t.tree
         (subst (λ (cap : ℕ). All (λ low. low ≤ cap) p.low) (sym h.0) shown.undecided.no_higher) shown.undecided.rows
-        h.1.printed.earnest h.1.undone h.1.spent
+        h.1.printed.earnest h.1.undone h.1.used_up
 
 pub designed : WellFormedInputIsDesigned
 designed limits names came d end bytes ends never h =

@@ -9,13 +9,13 @@ use Rattle.conflict_core.specs.declared.conflict.Conflict.{Conflict}
 use Rattle.conflict_core.specs.declared.conflict.Conflict.TheVariants.{Fits, Core, Undecided as NoConflictKnown}
 use Rattle.conflict_core.specs.Conflicts.{IsConflictFound}
 use Rattle.conflict_core.specs.Laws.{CannotBeUndecidedOnSets}
-use Rattle.conflict_core.proofs.LargeBudgets.{unspent_settle as conflict_settles}
+use Rattle.conflict_core.proofs.LargeBudgets.{sufficient_settle as conflict_settles}
 use Rattle.path_commands.specs.Conflicts as conflicts
 use Rattle.path_commands.specs.Conflicts.{MayConflict, ShowsConflict}
 use Rattle.spread_sets.specs.declared.spread.Spread.{Spread}
 use Rattle.spread_sets.specs.declared.spread.Spread.TheVariants.{Fit, Impossible as NoSpread, Undecided as NoSpreadKnown}
 use Rattle.spread_sets.specs.Answers.{IsSpreadFound}
-use Rattle.spread_sets.proofs.PrintedSets.{unspent_settle as spread_settles}
+use Rattle.spread_sets.proofs.PrintedSets.{sufficient_settle as spread_settles}
 use Rattle.path_commands.specs.SetFiles.{Sharing}
 use Rattle.path_commands.specs.Spreads as spreads
 use Rattle.path_commands.specs.Spreads.{MaySpread, ShowsSpread}
@@ -62,7 +62,7 @@ IsFound s = (s ≡ status.Done) ⊎ (s ≡ status.Impossible) ⊎ (s ≡ status.
 unknown_total : (limits : SearchLimits) (d : Input) (bytes : List ℕ) → CannotBeUndecidedOnTotal limits d.problem → IsShownUndecidedTotal limits d bytes → ⊥
 unknown_total limits d bytes cannot shown =
     cannot shown.designed.costs shown.bound shown.rows shown.tree shown.designed.best shown.sheet.true_rows
-    shown.spent.printed.earnest shown.spent.undone shown.spent.spent
+    shown.used_up.printed.earnest shown.used_up.undone shown.used_up.used_up
 
 pub totals_found : TotalsAreFound
 totals_found limits names came d end bytes ends h =

@@ -59,22 +59,22 @@ capped-le p cap =
     omega arith)
 
 -- no tree over the box at such a cap has an undone entry and exactly as many entries
-never_spent : (limits : SearchLimits) (p : DesignProblem) (cap : ℕ) (forms : List Form) (tree : List Entry) → IsProblem p →
+never_used_up : (limits : SearchLimits) (p : DesignProblem) (cap : ℕ) (forms : List Form) (tree : List Entry) → IsProblem p →
     IsLarge limits p → All (λ low. low ≤ cap) p.low → IsSoundTree forms (capped (box_of p) cap) tree → Contains tree Undone →
     entry_count tree ≡ limits.nodes → ⊥
-never_spent limits p cap forms tree kept large no_higher sound undone spent =
+never_used_up limits p cap forms tree kept large no_higher sound undone used_up =
     let few = (few_entries (length p.low) forms (capped (box_of p) cap) tree (capped_box p cap kept no_higher) sound).unfinished undone in
-    omega (arith, few, large, spent, capped-le p cap)
+    omega (arith, few, large, used_up, capped-le p cap)
 
 -- for a problem a large budget is enough
 enough : (limits : SearchLimits) (p : DesignProblem) → IsProblem p → IsLarge limits p → LargeBudgetIsEnough limits p
 enough limits p kept large = record {
-  design = λ cap rows tree no_higher true_rows earnest undone spent.
-      never_spent limits p cap (forms_of_rows p rows) tree kept large no_higher earnest.sound undone spent;
+  design = λ cap rows tree no_higher true_rows earnest undone used_up.
+      never_used_up limits p cap (forms_of_rows p rows) tree kept large no_higher earnest.sound undone used_up;
   conflict = conflict_large p limits.top limits.nodes kept large;
   spread = λ sets. spread_large p sets limits.top limits.nodes kept large;
-  total = λ w bound rows tree best true_rows earnest undone spent.
-      never_spent limits p (greatest_cost w) (forms_within p bound rows) tree kept large (lows_below p w best.fit) earnest.sound undone spent;
+  total = λ w bound rows tree best true_rows earnest undone used_up.
+      never_used_up limits p (greatest_cost w) (forms_within p bound rows) tree kept large (lows_below p w best.fit) earnest.sound undone used_up;
 }
 
 -- the input that is read before a file of sets

@@ -116,7 +116,7 @@ HeadedCostsAreWritten =
     first_missing (new_costs r.config costs) r.config.bytes ≡ None →
     MayAfter (revision_read config answer) MayRewrite came end bytes → end ≡ status.Done
 
--- the budget is large: at least twice as many entries as the box at the greatest upper bound has points, less one
+-- the budget is large: at least twice as many entries as the box at the greatest bound has points, less one
 abbrev pub IsLarge : SearchLimits → DesignProblem → Type 0
 IsLarge limits p = 2 * points (whole_box p) ≤ limits.nodes + 1
 

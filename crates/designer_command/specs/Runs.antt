@@ -75,7 +75,7 @@ abbrev pub MayTell : List ℕ → List Taken → Status → List ℕ → Type 0
 MayTell text came Done bytes = (came ≡ []) × (bytes ≡ text)
 MayTell text came status bytes = ⊥
 
--- the files of a request and of configurations
+-- a request file and configurations
 abbrev pub input_files_of : List ℕ → List (List ℕ) → InputFiles
 input_files_of request configs = record { request = request; configs = configs }
 

@@ -12,8 +12,8 @@ use cost_base::{Shelf, Sink, Status, SureShelf, SureSink};
 use cut_advisors::Advisor;
 use std::alloc::Global;
 
-/// A design of well-formed input answers that there are fit costs, or that there are none, as it is, where the budget can't
-/// be used up.
+/// A design of well-formed input answers that there are fit costs, or that there are none, as it is, where the budget
+/// can't be used up.
 pub fn well_formed_input_is_designed()
     ensures { WellFormedInputIsDesigned }
 {}
@@ -24,7 +24,7 @@ pub fn trials_are_designed()
     ensures { TrialsAreDesigned }
 {}
 
-/// For well-formed input a budget of twice as many entries as the box at the greatest upper bound has points, less one,
+/// For well-formed input a budget of twice as many entries as the box at the greatest bound has points, less one,
 /// can't be used up: by `design`, `conflict`, `spread` or `total`.
 pub fn large_budgets_suffice()
     ensures { LargeBudgetsSuffice }
@@ -35,7 +35,8 @@ pub fn valid_answers_are_accepted()
     ensures { ValidAnswersAreAccepted }
 {}
 
-/// A check of what a design printed may write nothing but that it is accepted, also where that is that no costs are fit.
+/// A check of what a design printed may write nothing but that it is accepted, also where that is that no
+/// costs are fit.
 pub fn designs_are_accepted()
     ensures { DesignsAreAccepted }
 {}
@@ -45,19 +46,20 @@ pub fn well_formed_input_is_audited()
     ensures { WellFormedInputIsAudited }
 {}
 
-/// A rewrite with the costs of a text, whose interfaces of the router have heads, may write nothing but the configuration.
+/// A rewrite with the costs of a text, whose interfaces of the router have heads, may write nothing
+/// but the configuration.
 pub fn headed_costs_are_written()
     ensures { HeadedCostsAreWritten }
 {}
 
-/// `conflict` on well-formed input may write nothing but what it found, and not that it is undecided where the budget can't
-/// be used up.
+/// `conflict` on well-formed input may write nothing but what it found, and not that it is undecided where the budget
+/// can't be used up.
 pub fn conflicts_are_found()
     ensures { ConflictsAreFound }
 {}
 
-/// `spread` on well-formed input and sets without a fault may write nothing but what it found: where the budget can't be
-/// used up it writes spread-fit costs where there are such, and that there are none exactly where there are none.
+/// `spread` on well-formed input and sets without a fault may write nothing but what it found: where the budget can't
+/// be used up it writes spread-fit costs where there are such, and that there are none exactly where there are none.
 pub fn spreads_are_found()
     ensures { SpreadsAreFound }
 {}
@@ -68,14 +70,15 @@ pub fn totals_are_found()
     ensures { TotalsAreFound }
 {}
 
-/// `change` on well-formed input may write nothing but what it found: where the budget can't be used up it writes fit costs with
-/// the fewest changes where there are fit costs, and that there are none exactly where there are none.
+/// `change` on well-formed input may write nothing but what it found: where the budget can't be used up it writes fit
+/// costs with the fewest changes where there are fit costs, and that there are none exactly where there are none.
 pub fn changes_are_found()
     ensures { ChangesAreFound }
 {}
 
-/// `steps` on well-formed input and a text with costs of its interfaces may write nothing but what it found: where each set of
-/// steps may be tested it writes a safe order where there is one, and that there is none exactly where there is none.
+/// `steps` on well-formed input and a text with costs of its interfaces may write nothing but what it found: where
+/// each set of steps may be tested it writes a safe order where there is one, and that there is none exactly where
+/// there is none.
 pub fn steps_are_found()
     ensures { StepsAreFound }
 {}
@@ -90,8 +93,8 @@ pub fn running_area_is_audited()
     ensures { RunningAreaIsAudited }
 {}
 
-/// `compare` on well-formed input with router IDs and a live file without a fault may write nothing but the differences, and tells
-/// by its status whether there are some.
+/// `compare` on well-formed input with router IDs and a live file without a fault may write nothing but the
+/// differences, and tells by its status whether there are some.
 pub fn differences_are_written()
     ensures { DifferencesAreWritten }
 {}

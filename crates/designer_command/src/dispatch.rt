@@ -2,16 +2,16 @@
 ghost use Rattle.std.specs.Prelude.{◌≡◌, ◌≤◌, ◌<◌, ◌^◌, [], IfOk, Some, option_map, string_bytes};
 ghost use Rattle.form_search.specs.Advised.{AreCalled};
 ghost use Rattle.text_lines.specs.Arguments.{texts};
-ghost use Rattle.command_words.specs.Jobs.{Audit, IsInRange, Trial, seen};
+ghost use Rattle.command_words.specs.Jobs.{Audit, IsInRange, Spread, Trial, search_seen, seen};
 ghost use Rattle.help_texts.specs.Texts.{help_text, version_text};
 ghost use Rattle.input_files.specs.Readings.{Gave};
 ghost use Rattle.input_files.specs.Stops.{files_named};
 ghost use Rattle.report_writer.specs.Reports.{bytes_in};
 ghost use Rattle.designer_command.specs.Asking.{AreAskedBy, IsMadeAsking};
-ghost use Rattle.designer_command.specs.Runs.{IsMadeAs, IsTold, IsTried, input_files_of};
+ghost use Rattle.designer_command.specs.Runs.{IsMadeAs, IsTold, IsTried, input_files_of, searched};
 
 use change_commands::{StepsWords, change_report, steps_report};
-use command_words::{CommandName, Job};
+use command_words::{CommandName, Job, Search, StepUnit};
 use cost_base::{Shelf, Status};
 use cut_advisors::Advisor;
 use database_commands::{compare_report, lsas_report, route_report};
@@ -23,11 +23,40 @@ use path_commands::{audit_live_report, audit_report, conflict_report, spread_rep
 use report_writer::{Report, Text};
 use std::alloc::Global;
 
-/// The files of a request and of configurations.
+/// A request file and configurations.
 fn files<'a>(request: &'a str, configs: &'a [String]) -> FileWords<'a>
     ensures { files_named result ≡ input_files_of request.now (texts configs.now) }
 {
     FileWords { request, configs }
+}
+
+/// The files that a search is asked about.
+fn words<'a>(search: &'a Search) -> FileWords<'a>
+    ensures { files_named result ≡ searched (search_seen search.now) }
+{
+    files(&search.request, &search.configs)
+}
+
+/// What `steps` is asked besides its network.
+fn steps_words<'a>(answer: &'a str, nodes: u32, by: StepUnit) -> StepsWords<'a>
+    ensures answer { result.answer.now ≡ answer.now }
+    ensures nodes { result.nodes ≡ nodes }
+    ensures by { result.by ≡ by }
+{
+    StepsWords { answer, nodes, by }
+}
+
+/// What `spread` makes of a search, with a file of sets.
+fn made_spread<'a, S: Shelf>(
+    alloc: Global,
+    search: &'a Search,
+    sets: &'a str,
+    shelf: &mut S,
+) -> Result<Report, Stop<'a>>
+    ensures { Gave (S.gave shelf.old shelf.new) (λ came. IsMadeAs
+        (Spread (search_seen search.now) sets.now) came result) }
+{
+    spread_report(alloc, words(search), sets, &search.limits, shelf)
 }
 
 /// What `trial` makes: no file is read, and only want of memory stops it.
@@ -106,10 +135,7 @@ pub(crate) fn job_report<'a, S: Shelf>(
         advisors.old.items advisors.new.items }
 {
     match job {
-        Job::Design(search) => {
-            let words = files(&search.request, &search.configs);
-            design_report(alloc, words, &search.limits, shelf, advisors)
-        }
+        Job::Design(search) => design_report(alloc, words(search), &search.limits, shelf, advisors),
         Job::Check {
             request,
             answer,
@@ -123,21 +149,11 @@ pub(crate) fn job_report<'a, S: Shelf>(
         Job::Rewrite { answer, config } => rewrite_report(alloc, answer, config, shelf),
         Job::Trial { blocks, start } => made_trial(alloc, *blocks, *start, advisors),
         Job::Conflict(search) => {
-            let words = files(&search.request, &search.configs);
-            conflict_report(alloc, words, &search.limits, shelf, advisors)
+            conflict_report(alloc, words(search), &search.limits, shelf, advisors)
         }
-        Job::Spread { search, sets } => {
-            let words = files(&search.request, &search.configs);
-            spread_report(alloc, words, sets, &search.limits, shelf)
-        }
-        Job::Total(search) => {
-            let words = files(&search.request, &search.configs);
-            total_report(alloc, words, &search.limits, shelf, advisors)
-        }
-        Job::Change(search) => {
-            let words = files(&search.request, &search.configs);
-            change_report(alloc, words, &search.limits, shelf)
-        }
+        Job::Spread { search, sets } => made_spread(alloc, search, sets, shelf),
+        Job::Total(search) => total_report(alloc, words(search), &search.limits, shelf, advisors),
+        Job::Change(search) => change_report(alloc, words(search), &search.limits, shelf),
         Job::Steps {
             request,
             answer,
@@ -145,11 +161,7 @@ pub(crate) fn job_report<'a, S: Shelf>(
             by,
             configs,
         } => {
-            let steps = StepsWords {
-                answer,
-                nodes: *nodes,
-                by: *by,
-            };
+            let steps = steps_words(answer, *nodes, *by);
             steps_report(alloc, files(request, configs), steps, shelf)
         }
         Job::Compare {

@@ -16,7 +16,8 @@ use cut_advisors::Advisor;
 use std::alloc::Global;
 use std::process::ExitCode;
 
-/// Runs the program on the words after its name, and gives the run's status, and its number as the exit status of the process.
+/// Runs the program on the words after its name, and gives the run's status, and its number as the exit status
+/// of the process.
 pub fn run_to_exit<S: Shelf, K: Sink>(
     alloc: Global,
     words: &[String],
@@ -41,8 +42,8 @@ pub fn run_to_exit<S: Shelf, K: Sink>(
     (status, ExitCode::from(status.number()))
 }
 
-/// A run over a shelf and a sink that keep records: what the records grew by is what came of the files and what was handed
-/// over, also where the shelf and the sink in them tell nothing, as real files and the standard output do.
+/// A run over a shelf and a sink that keep records: what the records grew by is what came of the files and what was
+/// handed over, also where the shelf and the sink in them tell nothing, as real files and the standard output do.
 ///
 /// A record grows by calls of `take` and `put` alone, so no body that reads other files, or none, meets this at
 /// `RecordedShelf<FileShelf<R>>` and `RecordedSink<OutSink<W>>` either.

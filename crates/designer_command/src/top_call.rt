@@ -61,9 +61,9 @@ fn write_made<K: Sink>(made: Result<Report, OutOfMemory>, out: &mut K) -> Status
 
 /// Runs the program on the words after its name, and tells how it ended.
 ///
-/// `design --request F CONFIG..` reads the request and the configurations from the shelf and writes the text of an answer
-/// to the sink: with status `Done` that of best costs, with `Impossible` that no costs are fit, and with `Undecided` that
-/// the budget of `--nodes` was used up at the cap that it names. Each comes with its evidence.
+/// `design --request F CONFIG..` reads the request file and the configurations from the shelf and writes the text of an
+/// answer to the sink: with status `Done` that of best costs, with `Impossible` that no costs are fit, and with
+/// `Undecided` that the budget of `--nodes` was used up at the cap that it names. Each comes with its evidence.
 ///
 /// `trial --blocks T` makes a network of T blocks and designs it with a budget of 100,000 entries. It writes a summary
 /// line and, with `Impossible` and `Undecided`, the answer's text behind it. No file is read.
@@ -71,57 +71,60 @@ fn write_made<K: Sink>(made: Result<Report, OutOfMemory>, out: &mut K) -> Status
 /// `audit --request F CONFIG..` writes a line for each wanted path, with status `Done`: at present costs, or with
 /// `--live L` at those at which the area runs whose database the file L has.
 ///
-/// `check --request F --answer A CONFIG..` reads the answer's file after the other files. It writes `accepted optimal K` or
-/// `accepted impossible`, with status `Done`, where the file's bytes are the text of a valid answer; else
+/// `check --request F --answer A CONFIG..` reads the answer's file after the other files. It writes `accepted optimal
+/// K` or `accepted impossible`, with status `Done`, where the file's bytes are the text of a valid answer; else
 /// `rejected NUMBER PLACE`, with status `EvidenceRefused`.
 ///
 /// `rewrite --answer A CONFIG` reads the configuration and then the answer's file. It writes the configuration with the
 /// answer's costs of its router, with status `Done`; else `rejected NUMBER PLACE`, with status `EvidenceRefused`.
 ///
-/// `conflict --request F CONFIG..` writes costs that are fit for all requests, or a least conflict: requests for which no
-/// costs are fit, with costs for each set without one of them. Its status is `Done`, or `Undecided`.
+/// `conflict --request F CONFIG..` writes costs that are fit for all requests, or a least conflict: requests for which
+/// no costs are fit, with costs for each set without one of them. Its status is `Done`, or `Undecided`.
 ///
 /// `spread --request F --sets G CONFIG..` reads the file of sets after the other files. It writes costs under which the
 /// members of each set cost the same and every other simple path of their request costs more, with status `Done`; with
 /// `Impossible` that there are none, and with `Undecided` that the budget was used up, each with its evidence.
 ///
 /// `total --request F CONFIG..` writes the best costs with the least total. Where it finds no best costs it writes what
-/// `design` does; where the budget was used up below a total, it tells the total that it found, with status `Undecided`.
+/// `design` does; where the budget was used up below a total, it tells the total that it found,
+/// with status `Undecided`.
 ///
-/// `lsas --request F CONFIG..` writes the router-LSAs and network-LSAs of the configurations at present costs (RFC 2328,
-/// A.4), with status `Done`. Each is put by itself; all other texts are put line by line.
+/// `lsas --request F CONFIG..` writes the router-LSAs and network-LSAs of the configurations at present costs (RFC
+/// 2328, A.4), with status `Done`. Each is put by itself; all other texts are put line by line.
 ///
-/// `route --lsas L --from A.B.C.D --to A.B.C.D` reads a file of LSAs, as `lsas` writes them, and writes the least cost from one
-/// router to the other and where the first edges of the cheapest paths lead, with status `Done`.
+/// `route --lsas L --from A.B.C.D --to A.B.C.D` reads a file of LSAs, as `lsas` writes them, and writes the least cost
+/// from one router to the other and where the first edges of the cheapest paths lead, with status `Done`.
 ///
-/// `change --request F CONFIG..` writes the cost lines that differ from the present ones, of fit costs that change as few
-/// variables as any, with status `Done`; with `Impossible` that no costs are fit, and with `Undecided` what was found until
-/// the budget was used up. Each comes with its evidence.
+/// `change --request F CONFIG..` writes the cost lines that differ from the present ones, of fit costs that change as
+/// few variables as any, with status `Done`; with `Impossible` that no costs are fit, and with `Undecided` what was
+/// found until the budget was used up. Each comes with its evidence.
 ///
-/// `steps --request F --answer A CONFIG..` reads a text with costs after the other files. It writes an order of their lines, or
-/// of their routers, in which each path that is the only cheapest before and after stays so after each step, with status
-/// `Done`; with `Impossible` that there is none, and with `Undecided` that the budget of states was used up, each with what
-/// stops the next steps; else `rejected NUMBER PLACE`, with status `EvidenceRefused`.
+/// `steps --request F --answer A CONFIG..` reads a text with costs after the other files. It writes an order of their
+/// lines, or of their routers, in which each path that is the only cheapest before and after stays so after each step,
+/// with status `Done`; with `Impossible` that there is none, and with `Undecided` that the budget of states was used
+/// up, each with what stops the next steps; else `rejected NUMBER PLACE`, with status `EvidenceRefused`.
 ///
-/// `compare --live L --request F CONFIG..` reads the database of the running area after the other files. It writes a line for
-/// each difference from the configurations, and how many interfaces are the same, with status `Done` where there is no
-/// difference, and `Impossible` where there is one.
+/// `compare --live L --request F CONFIG..` reads the database of the running area after the other files. It writes a
+/// line for each difference from the configurations, and how many interfaces are the same, with status `Done` where
+/// there is no difference, and `Impossible` where there is one.
 ///
 /// `help [COMMAND]` and `version` write a text that is always the same, with status `Done`. No file is read.
 ///
 /// The advisors are asked where a box is cut, and told of each entry of a tree. Whatever they answer, all of this
-/// holds. Some of the first may be gone after the call, since they answered out of range; every other is left in its place,
-/// and stands as these calls left it. `design`, `trial`, `total` and `conflict` ask them, in the searches of the problem that
-/// their files say by whose findings the text is written; where these have a fault, and by other words, none is asked.
+/// holds. Some of the first may be gone after the call, since they answered out of range; every other is left in its
+/// place, and stands as these calls left it. `design`, `trial`, `total` and `conflict` ask them, in the searches of the
+/// problem that their files say by whose findings the text is written; where these have a fault, and by other words,
+/// none is asked.
 ///
-/// Each file is asked for once, in its turn, and only where no fault stands before it. What is written is right for what
-/// came of the files, also where the shelf keeps nothing of their content.
+/// Each file is asked for once, in its turn, and only where no fault stands before it. What is written is right for
+/// what came of the files, also where the shelf keeps nothing of their content.
 ///
 /// # Status
 ///
-/// `InputRefused` with the first fault; `ReadFault` where a file of the words failed; `WriteFault` where the sink's count
-/// of faults rose, and then a part of a text that this call may write was written; `OutOfMemory`, and then nothing was
-/// written, and the files that were asked for begin those of the words; `WordsRefused` off the words, with the usage text.
+/// `InputRefused` with the first fault; `ReadFault` where a file of the words failed; `WriteFault` where the sink's
+/// count of faults rose, and then a part of a text that this call may write was written; `OutOfMemory`, and then
+/// nothing was written, and the files that were asked for begin those of the words; `WordsRefused` off the words, with
+/// the usage text.
 pub fn run<S: Shelf, K: Sink>(
     alloc: Global,
     words: &[String],

@@ -42,7 +42,7 @@ ShapeOfLeast p k Empty (Some proof) = ⊥
 ShapeOfLeast p k (Var v) None = Unit {0}
 ShapeOfLeast p k (Var v) (Some proof) = ⊥
 
--- a proof stands at the greatest upper bound, and no floor
+-- a proof stands at the greatest bound, and no floor
 abbrev pub ShapeOfNone : DesignProblem → Floor → Option CapTree → Type 0
 ShapeOfNone p Absent (Some proof) = proof.cap ≡ greatest_bound p
 ShapeOfNone p Absent None = ⊥

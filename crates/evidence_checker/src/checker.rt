@@ -89,13 +89,13 @@ fn check_evidence(
     }
 }
 
-/// Checks the evidence of an answer to a problem. An answer is accepted exactly where it is valid; else it is refused by
-/// the first of the tests that fails.
+/// Checks the evidence of an answer to a problem. An answer is accepted exactly where it is valid; else it is refused
+/// by the first of the tests that fails.
 ///
 /// # Errors
 ///
-/// `Refused` with the first test that fails and its place, in the order of `CheckFault`: the tests of each row are made row
-/// by row, and those of each line of the tree line by line. `OutOfMemory` where memory ran out.
+/// `Refused` with the first test that fails and its place, in the order of `CheckFault`: the tests of each row are made
+/// row by row, and those of each line of the tree line by line. `OutOfMemory` where memory ran out.
 pub fn check(
     alloc: Global,
     problem: &Problem,

@@ -1,4 +1,5 @@
-//! The tests of the costs and the floor of an optimal answer, each with its refusal.
+//! The tests of an optimal answer in their order, each with its refusal: that its lines name the free interfaces, that
+//! its costs are of one variable each and within the bounds, its greatest cost, its wanted paths, and its floor.
 ghost use Rattle.evidence_checker.specs.declared.fault.CheckFault.TheVariants.{FalseFloor, NotOnlyCheapest, OutOfBounds, UnequalEnds, WrongGreatest};
 ghost use Rattle.evidence_checker.specs.declared.fault.CheckFault.TheVariants.{WrongPlaces};
 ghost use Rattle.evidence_checker.specs.Numbers.{check_fault_number};

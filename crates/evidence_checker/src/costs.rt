@@ -1,4 +1,5 @@
-//! The tests of the costs and the floor of an optimal answer.
+//! Where the cost lines of an optimal answer are wrong: whether they name the free interfaces in order, and the first
+//! variable of two different costs or of a cost outside its bounds. No refusal is made here.
 ghost use Rattle.std.specs.Prelude.{◌≡◌, ◌↔◌, ◌⊎◌, ℕ, ◌^◌, ◌<◌, ◌≤◌, MatchBool, max, fold, length, replicate, slice_index, All, IsTrue, IfOk, MatchOption};
 ghost use Rattle.area_graph.specs.Costs.{at_costs, IsOnlyCheapest, FitsPoint};
 ghost use Rattle.design_problem.specs.Problems.{request_ends};

@@ -5,7 +5,7 @@ ghost use Rattle.area_graph.specs.Paths.{IsPathOf};
 ghost use Rattle.design_problem.specs.Problems.{request_ends};
 ghost use Rattle.evidence_checker.specs.Costs.{IsFirstTied};
 
-use area_graph::{Graph, Point, RequestedPath, is_only_cheapest};
+use area_graph::{Graph, Point, WantedPath, is_only_cheapest};
 use cost_base::{Listed, OutOfMemory};
 use design_problem::Request;
 use std::alloc::Global;
@@ -36,7 +36,7 @@ fn is_only(
     ensures { IfOk result (λ yes. IsTrue yes ↔ IsOnlyCheapest graph.now point.now
         (request_ends request.now) request.now.path.edges) }
 {
-    let wanted = RequestedPath {
+    let wanted = WantedPath {
         path: &request.path,
         end: request.end,
         excluded: request.excluded.as_slice(),

@@ -16,13 +16,6 @@ use cost_base::{Listed, OutOfMemory, Refusal};
 use design_problem::{Form, Problem, Request, Row, form_of};
 use std::alloc::Global;
 
-/// The same numbers.
-fn copied(alloc: Global, numbers: &[u32]) -> Result<Listed<u32>, OutOfMemory>
-    ensures { IfOk result (λ copy. copy ≡ numbers.now) }
-{
-    Ok(Listed::from_items(numbers.to_vec(alloc)?))
-}
-
 /// Whether edges are a simple path of a request.
 fn is_route(
     alloc: Global,
@@ -34,7 +27,7 @@ fn is_route(
         edges.now) }
 {
     let start = request.path.start;
-    let edges = copied(alloc, edges)?;
+    let edges = Listed::from_slice(alloc, edges)?;
     let path = Path { start, edges };
     Ok(is_path_of(graph, &path, request.end, request.excluded.as_slice()))
 }

@@ -48,7 +48,7 @@ fn shows_least(problem: &Problem, greatest: u16, floor: Floor, proof: Option<&Ca
     }
 }
 
-/// Whether a proof stands at the greatest upper bound, and no floor.
+/// Whether a proof stands at the greatest bound, and no floor.
 fn shows_none(problem: &Problem, floor: Floor, proof: Option<&CapTree>) -> bool
     ensures { IsTrue result ↔ ShapeOfNone problem.now floor (option_copied proof.entry) }
 {
@@ -77,7 +77,8 @@ pub(crate) fn fits_claim(
     }
 }
 
-/// Whether a floor is false: its variable has another lower bound than the greatest cost, or there is a variable after all.
+/// Whether a floor is false: its variable has another lower bound than the greatest cost, or there is a
+/// variable after all.
 pub(crate) fn is_false_floor(problem: &Problem, greatest: u16, floor: Floor) -> bool
     ensures { IsTrue result ↔ IsFalseFloor problem.now greatest floor }
 {

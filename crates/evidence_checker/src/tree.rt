@@ -61,18 +61,23 @@ fn fault_at(
     line_fault(forms, costs, sums, entry)
 }
 
-/// Whether the lines of a tree are sound over the one open box, and close it: they are tested in order. The sums are room
-/// for a number for each variable.
+/// Whether the lines of a tree are sound over the one open box, and close it: they are tested in order. The sums are
+/// room for a number for each variable.
 fn check_lines(
     forms: &[Form],
     boxes: &mut OpenBoxes,
     sums: &mut Vec<i128>,
     entries: &[Entry],
 ) -> Result<(), Refusal<CheckFault, u64>>
+    // The lines are those of one tree, and one box is open.
     requires alone { boxes.old.behind ≡ [] }
+    requires whole { IsSingleTree entries.now }
+
+    // Sums and forms are of as many variables as the box.
     requires sums { length sums.old.items ≡ length boxes.old.present.low }
     requires forms { All (IsSmallForm (length boxes.old.present.low)) forms.now }
-    requires whole { IsSingleTree entries.now }
+
+    // On Ok the lines are sound and close the box, else the first line that fails tells which test.
     ensures sound { IfOk result (λ _. IsSoundTree forms.now boxes.old.present entries.now ×
         IsClosed entries.now) }
     ensures first { IfErr result

@@ -1,6 +1,7 @@
 //! The stage of the head: the first line and the verdict.
-ghost use Rattle.std.specs.Prelude.{[], ◌∷◌, MatchResult, codes};
-ghost use Rattle.answer_lines.specs.Grammar.{AtHead, AtVerdict, AtCosts};
+ghost use Rattle.std.specs.Prelude.{[], ◌∷◌, MatchResult};
+ghost use Rattle.answer_lines.specs.Grammar.{AtHead, AtVerdict, AtCosts, AtInnerHead, AtOtherVerdict, answer_head};
+ghost use Rattle.answer_lines.specs.declared.other_text.OtherText.TheVariants as other;
 ghost use Rattle.evidence_text.specs.Parts.{head_lines, verdict_line};
 ghost use Rattle.evidence_reader.specs.Stops.{StopsReader};
 ghost use Rattle.answer_lines.specs.Going.{Goes};
@@ -21,14 +22,20 @@ pub(crate) fn read_head(text: TextLeft<'_>) -> Result<(Verdict, TextLeft<'_>), R
     ensures { MatchResult result (λ r. Goes AtHead text.entry (head_lines r.0) AtCosts r.1)
         (StopsReader AtHead text.entry) }
 {
-    let behind = first_line(text)?;
+    let behind = answer_head(text)?;
     verdict_at(behind)
 }
 
-/// The text behind the first line.
-fn first_line(text: TextLeft<'_>) -> Result<TextLeft<'_>, Refusal<AnswerFault>>
-    ensures { MatchResult result (λ rest. Goes AtHead text.entry (codes "ospfcost answer 1" ∷ [])
-        AtVerdict rest) (StopsReader AtHead text.entry) }
+/// The text behind the first line of an answer, which may stand inside another text.
+///
+/// # Errors
+///
+/// `Refused` where that line isn't the next.
+pub fn answer_head(text: TextLeft<'_>) -> Result<TextLeft<'_>, Refusal<AnswerFault>>
+    ensures own { MatchResult result (λ rest. Goes AtHead text.entry (answer_head ∷ []) AtVerdict
+        rest) (StopsReader AtHead text.entry) }
+    ensures inner { MatchResult result (λ rest. Goes AtInnerHead text.entry (answer_head ∷ [])
+        (AtOtherVerdict other.Total) rest) (StopsReader AtInnerHead text.entry) }
 {
     match text.behind(b"ospfcost answer 1") {
         Some(rest) => Ok(rest),

@@ -1,17 +1,19 @@
-//! What the types of an answer keep: its numbers are within their bounds, its trees are whole, the rows of a Refute rise.
+//! What the types of an answer keep: its numbers are within their bounds, its trees are whole, the rows of
+//! a Refute rise.
 //!
-//! This code is for the prover alone: contracts know the range of a number's type only once the code reads the number, so
-//! each function reads those of its argument. None writes anything.
+//! This code is for the prover alone: contracts know the range of a number's type only once the code reads the number,
+//! so each function reads those of its argument. None writes anything.
 ghost use Rattle.std.specs.Prelude.{ℕ, List, All, Some, length};
 ghost use Rattle.design_problem.specs.Bounds.{BoundsCosts, BoundsEntry, BoundsFloor, BoundsMember, BoundsParts, BoundsRow, BoundsTree, BoundsVerdict, IsCost};
-ghost use Rattle.design_problem.specs.Bounds.{IsRowNumber, IsThing};
+ghost use Rattle.design_problem.specs.Bounds.{IsRowNumber, IsIndex};
 ghost use Rattle.evidence_text.specs.AnswerValues.{IsAnswerValue};
 
 use design_problem::{Answer, CapTree, CostLine, Costs, Entry, Floor, Member, Parts, Row, Verdict};
 
-/// Keeps that the number of a variable, a request or an edge has 32 bits: a number that is passed is in its type's range.
+/// Keeps that the number of a variable, a request or an edge has 32 bits: a number that is passed is in
+/// its type's range.
 fn keeps_thing(_number: u32)
-    ensures { IsThing _number }
+    ensures { IsIndex _number }
 {}
 
 /// Keeps that a cost or a bound has 16 bits.
@@ -26,7 +28,7 @@ fn keeps_row_number(_row: u64)
 
 /// Keeps the ranges of a variable's number and of its bound.
 fn keeps_end(_var: u32, _bound: u16)
-    ensures { IsThing _var × IsCost _bound }
+    ensures { IsIndex _var × IsCost _bound }
 {}
 
 /// Keeps the range of the cost that a verdict names.
@@ -75,7 +77,7 @@ fn keeps_costs(costs: &Option<Costs>)
 
 /// Keeps that the numbers of edges have 32 bits, as a slice's type tells of each.
 fn keeps_edges(_edges: &[u32])
-    ensures { All IsThing _edges.now }
+    ensures { All IsIndex _edges.now }
 {}
 
 /// Keeps the ranges of a row's request and edges.
@@ -189,7 +191,8 @@ fn keeps_tree(tree: &Option<CapTree>)
     }
 }
 
-/// An answer is a value of its type: its numbers are within their bounds, its trees are whole, its text is in the grammar.
+/// An answer is a value of its type: its numbers are within their bounds, its trees are whole, its text is
+/// in the grammar.
 pub fn keeps_answer(answer: &Answer)
     ensures { IsAnswerValue answer.now }
 {

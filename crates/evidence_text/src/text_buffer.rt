@@ -17,7 +17,8 @@ impl Sink for TextBuffer {
 
     ghost faults = { λ sink. sink.faults };
 
-    ghost handed = { λ before now bytes. GotAll (Some before.bytes.items) (Some now.bytes.items) bytes };
+    ghost handed = { λ before now bytes.
+        GotAll (Some before.bytes.items) (Some now.bytes.items) bytes };
 
     fn put(&mut self, piece: &[u8]) -> Result<(), PutFailed> {
         match self.bytes.extend_from_slice(piece) {
@@ -31,7 +32,8 @@ impl Sink for TextBuffer {
 
     ghost handed_none = { λ a. handed_none (Some a.bytes.items) };
 
-    ghost handed_more = { λ a b c first later. handed_more (Some a.bytes.items) (Some b.bytes.items) (Some c.bytes.items) first later };
+    ghost handed_more = { λ a b c first later.
+        handed_more (Some a.bytes.items) (Some b.bytes.items) (Some c.bytes.items) first later };
 
     ghost handed_got = { λ a b bytes handed. handed };
 }

@@ -29,8 +29,8 @@ use cut_advisors::{Advisor, Candidate, choose};
 use design_problem::{CostBox, CostList, Entry, TreeBuilder};
 use std::alloc::Global;
 
-/// Costs of the box that the least accepted point gives: its values over the scale where these are whole; else the values
-/// themselves, where they are accepted as costs.
+/// Costs of the box that the least accepted point gives: its values over the scale where these are whole; else the
+/// values themselves, where they are accepted as costs.
 fn costs_there<S: RowSource>(
     alloc: Global,
     source: &mut S,

@@ -19,13 +19,15 @@ const WIDE: u16 = 256;
 #[derive(Clone, Copy, PartialEq, Eq, PartialOrd, Ord)]
 struct Rank {
     is_narrow: bool,
-    /// By how much the width, or the number of forms, falls short of `usize::MAX`: where it is less, a candidate is earlier.
+    /// By how much the width, or the number of forms, falls short of `usize::MAX`: where it is less, a
+    /// candidate is earlier.
     short_by: usize,
     var: u32,
 }
 
 /// The rank of a candidate that stands in so many forms.
 fn rank_of(candidate: &Candidate, forms: usize) -> Rank {
+    // For the prover alone: a candidate's low is at most its high, so nothing saturates; no clause says so here.
     let range = candidate.high.saturating_sub(candidate.low);
     if range >= WIDE {
         Rank {

@@ -1,6 +1,6 @@
 //! The search over a source of forms: sources and their contract, the pool of forms, the steps at one box, and the loop
-//! over the boxes of a tree. The steps are bound propagation, the relaxation by the tableau that is kept with the pool, a box
-//! of one point, and the variables at which a box may be split.
+//! over the boxes of a tree. The steps are bound propagation, the relaxation by the tableau that is kept with the pool,
+//! a box of one point, and the variables at which a box may be split.
 #![tactic(auto)]
 
 mod at_box;

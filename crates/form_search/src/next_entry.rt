@@ -61,6 +61,7 @@ fn widest(costs: &CostBox) -> usize
     let mut widest = 0;
     let mut width = 0;
     for var in 0..low.len() {
+        // For the prover alone: in a box low is at most high, so nothing saturates; a plain `-` would need that here.
         let range = high[var].saturating_sub(low[var]);
         if width < range {
             widest = var;

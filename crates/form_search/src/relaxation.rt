@@ -54,7 +54,8 @@ fn ask_least<S: RowSource>(
     }
 }
 
-/// One round: solves the tableau with the pool's forms, and asks the source at its least point; None where new forms came.
+/// One round: solves the tableau with the pool's forms, and asks the source at its least point; None where
+/// new forms came.
 fn relax_once<S: RowSource>(
     source: &mut S,
     pool: &mut FormPool,
@@ -156,8 +157,8 @@ fn relax_with<S: RowSource>(
     }
 }
 
-/// Relaxes a box: moves the tableau that is kept with the pool there or starts one, and asks the source at the least point
-/// that meets the pool's forms, until that point is accepted or there is none. The tableau is kept with the pool.
+/// Relaxes a box: moves the tableau that is kept with the pool there or starts one, and asks the source at the least
+/// point that meets the pool's forms, until that point is accepted or there is none. The tableau is kept with the pool.
 pub(crate) fn relax<S: RowSource>(
     source: &mut S,
     top: Top,

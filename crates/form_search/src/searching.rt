@@ -84,10 +84,10 @@ fn turn(
 /// Searches a box for costs that the source accepts.
 ///
 /// Costs are an accepted whole point of the box. Refuted comes with a closed earnest tree over the box, of at most
-/// `limits.nodes` entries; Undecided with an earnest tree that has an Undone and exactly so many. The forms of the trees are
-/// those of the pool, in its order. Boxes are worked in preorder: by propagation, by the exact simplex with forms of the
-/// source, and by cuts. The variable of a Split is picked by the advisors, who are told each entry; without one the first
-/// candidate is taken.
+/// `limits.nodes` entries; Undecided with an earnest tree that has an Undone and exactly so many. The forms of the
+/// trees are those of the pool, in its order. Boxes are worked in preorder: by propagation, by the exact simplex with
+/// forms of the source, and by cuts. The variable of a Split is picked by the advisors, who are told each entry;
+/// without one the first candidate is taken.
 ///
 /// # Errors
 ///

@@ -52,8 +52,8 @@ fn started(alloc: Global, costs: &CostBox, top: Top) -> Result<HeldTableau, OutO
     })
 }
 
-/// The tableau over the box: the kept one moved there, with the forms that it holds; a new one where it is another top's or
-/// of another number of variables, or it had stopped.
+/// The tableau over the box: the kept one moved there, with the forms that it holds; a new one where it is another
+/// top's or of another number of variables, or it had stopped.
 fn moved_there(
     alloc: Global,
     mut table: HeldTableau,
@@ -113,12 +113,12 @@ impl HeldTableau {
         self.variables == variables && self.top.size() == top.size()
     }
 
-    /// Moves it to the box, with the forms that it holds. It can't where it was started for another top or another number of
-    /// variables, or had stopped.
+    /// Moves it to the box, with the forms that it holds. It can't where it was started for another top or another
+    /// number of variables, or had stopped.
     fn moves_to(&mut self, costs: &CostBox, top: Top) -> bool
         requires ranges { IsBox (length costs.now.low) costs.now }
-        requires fits { (forms : List Form) × IsHeld self.old.top self.old.variables forms self.old ×
-            All (FitsBox costs.now) forms }
+        requires fits { (forms : List Form) ×
+            IsHeld self.old.top self.old.variables forms self.old × All (FitsBox costs.now) forms }
         ensures { (forms : List Form) → IsHeld self.old.top self.old.variables forms self.old →
             IsTrue result → StandsAt top costs.now forms self.new }
     {
@@ -176,6 +176,7 @@ impl HeldTableau {
 
     /// Solves, and puts the least point in place.
     fn solve_held(&mut self, alloc: Global, point: &mut Point) -> Result<Least, SimplexStop>
+        // The tableau can go on, and the point has a place for each of its variables.
         requires going { IsGoing self.old.tableau.stage }
         requires places { length point.old.values ≡ length self.old.tableau.costs.low }
 

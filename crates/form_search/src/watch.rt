@@ -186,8 +186,8 @@ impl Watch {
         self.look_at(costs, var as usize)
     }
 
-    /// Looks at the ranges that changed where an entry ended a box: those that were changed since the last cut are as they
-    /// were at it, and the second part of the cut comes next.
+    /// Looks at the ranges that changed where an entry ended a box: those that were changed since the last cut are as
+    /// they were at it, and the second part of the cut comes next.
     fn look_back(&mut self, costs: &CostBox) -> Result<(), OutOfMemory>
         requires high { length costs.now.high ≡ length costs.now.low }
         requires watch { IsWatch (length costs.now.low) self.old }
@@ -216,9 +216,9 @@ impl Watch {
         }
     }
 
-    /// Compares the ranges that may have changed with those of the open box, and wakes the forms of each variable whose range
-    /// did: an entry that leaves the box or a part of it changes one range, and one that ends it those that were changed since
-    /// the last cut. Each entry of the tree is looked at once.
+    /// Compares the ranges that may have changed with those of the open box, and wakes the forms of each variable whose
+    /// range did: an entry that leaves the box or a part of it changes one range, and one that ends it those that were
+    /// changed since the last cut. Each entry of the tree is looked at once.
     pub(crate) fn look(&mut self, tree: &TreeBuilder) -> Result<(), OutOfMemory>
         requires open { 0 < length tree.now.places }
         requires high { length (first_place tree.now.places).box.high ≡

@@ -158,8 +158,8 @@ pub fn crossed(old: Frac, factor: Frac, quotient: Frac, top: Top) -> Result<Frac
     sub(old, mul(factor, quotient, top)?, top)
 }
 
-/// Makes the list that has at each column the fraction of `olds` less the factor times that of `quotients`. A fraction of
-/// `olds` with no other one at its column is copied.
+/// Makes the list that has at each column the fraction of `olds` less the factor times that of `quotients`. A fraction
+/// of `olds` with no other one at its column is copied.
 pub fn cross_entries(
     olds: &[(u32, Frac)],
     factor: Frac,
@@ -235,7 +235,8 @@ fn quotient_at(
     div(value, divisor, top)
 }
 
-/// Makes the list that has at each column the fraction of `olds` over the divisor, and 0 at the column that is left out.
+/// Makes the list that has at each column the fraction of `olds` over the divisor, and 0 at the column that
+/// is left out.
 pub fn divide_entries(
     olds: &[(u32, Frac)],
     divisor: Frac,

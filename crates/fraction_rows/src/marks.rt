@@ -5,8 +5,8 @@ ghost use Rattle.fraction_rows.specs.Marks.{AllMarked, IsColumnMarked, IsSet};
 
 use wide_fraction::Frac;
 
-/// Two marks for each column, which it shares with others: one with those that are equal up to a multiple of 128, and one
-/// with its neighbours. So few columns that the list lacks have both.
+/// Two marks for each column, which it shares with others: one with those that are equal up to a multiple of 128, and
+/// one with its neighbours. So few columns that the list lacks have both.
 #[derive(Clone, Copy)]
 pub struct Marks {
     near: u128,

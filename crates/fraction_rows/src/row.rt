@@ -15,8 +15,8 @@ use std::marker::Model;
 use wide_fraction::{Frac, Top, Wide, div};
 
 /// A row of the table. Contracts see the list of its fractions: the constant at place 0, and after it the entry of each
-/// column, zeros too. It holds the columns that aren't 0 alone, with marks that most zeros lack, and has room for all of
-/// them, so that no step on it takes memory.
+/// column, zeros too. It holds the columns that aren't 0 alone, with marks that most zeros lack, and has room for all
+/// of them, so that no step on it takes memory.
 #[derive(Drop)]
 pub struct TableRow {
     constant: Frac,
@@ -145,9 +145,9 @@ impl TableRow {
         replace_fraction(&mut self.entries, column, value);
     }
 
-    /// Makes the row whose fractions are those of this one, each less the factor times that of `quotients` at its place.
-    /// The steps are taken by the places, the constant first, and for a place the product before the difference; none is
-    /// taken where the quotient is 0.
+    /// Makes the row whose fractions are those of this one, each less the factor times that of `quotients` at its
+    /// place. The steps are taken by the places, the constant first, and for a place the product before the difference;
+    /// none is taken where the quotient is 0.
     ///
     /// # Errors
     ///

@@ -84,8 +84,8 @@ pub fn sum_at(
     Ok(sum)
 }
 
-/// Puts a coefficient times another row to a row, place by place. `scratch` is a row of the same width, in which the new
-/// row is made.
+/// Puts a coefficient times another row to a row, place by place. `scratch` is a row of the same width, in which the
+/// new row is made.
 ///
 /// # Errors
 ///

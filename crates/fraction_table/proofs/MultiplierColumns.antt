@@ -21,7 +21,7 @@ use Rattle.design_problem.specs.declared.form.CostBox.{CostBox}
 use Rattle.design_problem.specs.declared.tree.Member.{Member}
 use Rattle.design_problem.specs.declared.tree.Member.TheVariants.{Low, High, Row}
 use Rattle.design_problem.specs.Basis.{IsFormOf, entry}
-use Rattle.design_problem.specs.Steps.{column_part, column_parts, denominators, made_whole, refuting_multipliers, own_part, unless_zero}
+use Rattle.design_problem.specs.Steps.{column_part, column_parts, denominators, made_whole, refuting_multipliers, own_multiplier, unless_zero}
 use Rattle.fraction_rows.specs.Entries.{AllNumbers}
 use Rattle.fraction_rows.specs.TableRows.{AreTableNumbers, IsTableNumber}
 use Rattle.fraction_table.specs.ValidTables.{Stand}
@@ -31,7 +31,7 @@ use Rattle.fraction_table.proofs.Solutions.{low_number}
 use Rattle.fraction_table.proofs.MultiplierSums.{AreMade, IsEntry}
 
 -- without the rows' numbers they are the multipliers
-own_fractions : (r : Member) → fractions (numbered r (whole (pos 1) ∷ [])) ≡ own_part r
+own_fractions : (r : Member) → fractions (numbered r (whole (pos 1) ∷ [])) ≡ own_multiplier r
 own_fractions (Low v bound) = refl
 own_fractions (High v bound) = refl
 own_fractions (Row row) = refl
@@ -57,7 +57,7 @@ pub fractions_are : (basis : List Member) (r : Member) (es : List Fraction) → 
 fractions_are basis r es =
     map-append (λ (part : ℕ × Fraction). part.1) (numbered r (whole (pos 1) ∷ [])) (columns_numbered basis (drop 1 es))
     ∙ ap (λ ps. ps ++ fractions (columns_numbered basis (drop 1 es))) (own_fractions r)
-    ∙ ap (λ ps. own_part r ++ ps) (columns_fractions basis (drop 1 es))
+    ∙ ap (λ ps. own_multiplier r ++ ps) (columns_fractions basis (drop 1 es))
 
 -- with one more column
 pub columns_next : (members : List Member) (qs : List Fraction) (k : ℕ) (d : Member) → k < length members →

@@ -133,7 +133,8 @@ fn fill_in_order(
     Ok(())
 }
 
-/// Puts the line of the row's form in place of its line of zeros, variable by variable. `scratch` is a line of the same width.
+/// Puts the line of the row's form in place of its line of zeros, variable by variable. `scratch` is a line of
+/// the same width.
 ///
 /// # Errors
 ///
@@ -164,8 +165,8 @@ fn gather_line(
     sum_lines(&mut row.line, &row.form, lines, scratch, top)
 }
 
-/// Puts the line of the row's form in place of its line of zeros. Where a step is too wide, the line is made in order, so that the
-/// step that is named is the first one in that order. `scratch` is a line of the same width.
+/// Puts the line of the row's form in place of its line of zeros. Where a step is too wide, the line is made in order,
+/// so that the step that is named is the first one in that order. `scratch` is a line of the same width.
 ///
 /// # Errors
 ///

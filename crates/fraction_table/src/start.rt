@@ -12,25 +12,19 @@ ghost use Rattle.fraction_table.specs.Tableaus.{starting};
 ghost use Rattle.fraction_table.specs.ValidTables.{IsSound, held_of, members_of_box, starting_line};
 
 use crate::table::Table;
-use cost_base::{Listed, OutOfMemory};
+use cost_base::OutOfMemory;
 use design_problem::{CostBox, Member};
 use fraction_rows::TableRow;
 use std::alloc::Global;
 use wide_fraction::{Frac, Top};
-
-fn copy_bounds(alloc: Global, bounds: &[u16]) -> Result<Listed<u16>, OutOfMemory>
-    ensures { IfOk result (λ copy. copy ≡ bounds.now) }
-{
-    Ok(Listed::from_items(bounds.to_vec(alloc)?))
-}
 
 /// An equal box.
 pub fn copy_box(alloc: Global, costs: &CostBox) -> Result<CostBox, OutOfMemory>
     ensures { IfOk result (λ copy. copy ≡ costs.now) }
 {
     Ok(CostBox {
-        low: copy_bounds(alloc, costs.low.as_slice())?,
-        high: copy_bounds(alloc, costs.high.as_slice())?,
+        low: costs.low.copy(alloc)?,
+        high: costs.high.copy(alloc)?,
     })
 }
 

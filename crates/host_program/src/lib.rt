@@ -1,5 +1,5 @@
-//! The program over the machine it runs on: the words that it was given, the machine's files, its standard output, and the
-//! lines on a terminal that tell how far a search is, and what a refusal means.
+//! The program over the machine it runs on: the words that it was given, the machine's files, its standard output, and
+//! the lines on a terminal that tell how far a search is, and what a refusal means.
 #![tactic(auto)]
 
 ghost use Rattle.std.specs.Prelude.{◌≡◌, IfOk};
@@ -75,8 +75,8 @@ fn tell_refusal(rt: &HostRuntime, status: Status, line: &[u8]) {
     }
 }
 
-/// Runs the words that the program was given over the machine's files and standard output, with the advisor that picks the
-/// first candidate. Behind it stands the one that tells how far the search is. A refusal is then told in words.
+/// Runs the words that the program was given over the machine's files and standard output, with the advisor that picks
+/// the first candidate. Behind it stands the one that tells how far the search is. A refusal is then told in words.
 fn run_program(rt: &HostRuntime) -> Result<ExitCode, OutOfMemory>
     ensures { IfOk result (λ code. (status : Status) × (exit_status code ≡ status_number status)) }
 {

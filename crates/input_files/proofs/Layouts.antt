@@ -31,7 +31,7 @@ after_asked names asked = configs_read names.configs >>= λ files. after_files n
 abbrev pub after_area : InputFiles → LaidOut → Reading LaidOut
 after_area names laid = lines_read names laid.asked laid.database >>= λ _. Ready laid
 
--- what stops the request stops all
+-- what stops the request file stops all
 pub asked_stops : (Given : List Taken → Type 0) (names : InputFiles) (stop : Stop) →
     Gave Given (λ came. StopsAs (request_read names.request) came stop) → Gave Given (λ came. StopsAs (area_read names) came stop)
 asked_stops Given names stop a = gave_stop Given (request_read names.request) (after_asked names) stop a

@@ -1,4 +1,4 @@
--- Networks at present costs and beside them: their requests have no fault, and each present cost is above 0.
+-- Networks at present costs and beside them: their request file has no fault, and each present cost is above 0.
 use Rattle.std.proofs.Common.{◌≡◌, ◌<◌, refl, sym, ◌∙◌, ap, ◌++◌, map, All, Option, None, Some}
 use Rattle.std.proofs.lemmas.Option.{none-some, same_Some}
 use Rattle.cost_base.proofs.ListLemmas.{append-none}
@@ -30,7 +30,7 @@ resolved names d p q (Some fault) h = absurd (none-some q (ap is_ready h))
 
 -- At present costs.
 
--- the requests have no fault, and the problem is that of the present network
+-- the request file has no fault, and the problem is that of the present network
 pub at_present : (names : InputFiles) (d : Input) → problem_read AtPresent names d.asked d.database ≡ Ready d.problem →
     (present_fault d.asked d.database ≡ None) × (d.problem ≡ present_problem_of d.asked d.database)
 at_present names d is = resolved names d.database (present_problem_of d.asked d.database) d.problem (present_fault d.asked d.database) is
@@ -50,7 +50,7 @@ graph_at_present names d is = ap (λ (p : DesignProblem). p.graph) (at_present n
 
 -- Beside present costs.
 
--- the requests have no fault, and the problem is theirs
+-- the request file has no fault, and the problem is its
 pub beside_present : (names : InputFiles) (d : Input) → problem_read BesidePresent names d.asked d.database ≡ Ready d.problem →
     (fault_beside_present d.asked d.database ≡ None) × (d.problem ≡ problem_of d.asked d.database)
 beside_present names d is = resolved names d.database (problem_of d.asked d.database) d.problem (fault_beside_present d.asked d.database) is

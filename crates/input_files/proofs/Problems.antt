@@ -39,7 +39,7 @@ IsAsked r asked = r ≡ asked
 abbrev pub AreRouters : List Router → List ConfigFile → Type 0
 AreRouters routers files = routers ≡ routers_of files
 
--- what stops the request stops all
+-- what stops the request file stops all
 pub request_stops : (Given : List Taken → Type 0) (view : View) (names : InputFiles) (stop : Stop) →
     Gave Given (λ came. StopsAs (request_read names.request) came stop) →
     Gave Given (λ came. StopsAs (outcome view names) came stop)

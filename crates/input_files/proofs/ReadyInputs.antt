@@ -32,7 +32,7 @@ use Rattle.input_files.proofs.Readings.{one_said, said_faulty, said_failed, was_
 use Rattle.input_files.specs.Outcomes.{ConfigFile, Input, request_read, if_asked, config_read, if_config, configs_read, routers_of, if_faultless, topology_read, if_resolved, problem_read, outcome}
 
 -- no configuration and not the topology has a fault; the database is that of the configurations, and the problem that of
--- the requests
+-- the request file
 pub record IsReadyInput (d : Input) : Type 0 where
   pub accepted : All (λ file. config_fault file.name file.bytes ≡ None) d.files
   pub faultless : topology_fault d.asked.area (routers_of d.files) ≡ None
@@ -118,7 +118,7 @@ input_ready : (made d : Input) (came : List Taken) → EndsAs (Ready made) came 
 input_ready made d [] is ready = subst (λ (e : Input). IsReadyInput e) (sym (one_said d made is)) ready
 input_ready made d (taken ∷ more) is ready = absurd is
 
--- a view whose problem is that of the requests
+-- a view whose problem is that of the request file
 abbrev IsOfRequests : View → Type 0
 IsOfRequests view = (names : InputFiles) (asked : Asked) (d : Database) (p : DesignProblem) (came : List Taken) →
     EndsAs (problem_read view names asked d) came (Says p) → (resolution_fault asked d ≡ None) × (p ≡ problem_of asked d)

@@ -24,16 +24,17 @@ area_read names =
     topology_read names asked.area (routers_of files) >>= λ d.
     Ready (record { asked = asked; files = files; database = d })
 
--- a fault of a line of the request is refused
+-- a fault of a line of the request file is refused
 abbrev pub unless_faulty : InputFiles → Database → Option ResolutionFault → Reading (Unit {0})
 unless_faulty names d None = Ready tt
 unless_faulty names d (Some fault) = Refused (resolution_refusal names d fault)
 
--- the lines of the request, each looked up in the database; or the first fault of one
+-- the lines of the request file, each looked up in the database; or the first fault of one
 abbrev pub lines_read : InputFiles → Asked → Database → Reading (Unit {0})
 lines_read names asked d = unless_faulty names d (first_of (line_faults d asked.items))
 
--- what the files of a network say but for its costs: the request, each configuration, the topology, the request's lines
+-- what the files of a network say but for its costs: the request file, each configuration, the topology, the lines of the
+-- request file
 abbrev pub layout_read : InputFiles → Reading LaidOut
 layout_read names = area_read names >>= λ laid. lines_read names laid.asked laid.database >>= λ _. Ready laid
 

@@ -1,4 +1,4 @@
--- What the files of a network say, read in their order: the request, each configuration, the topology, resolution.
+-- What the files of a network say, read in their order: the request file, each configuration, the topology, resolution.
 use Rattle.std.specs.Prelude.{ℕ, List, [], ◌∷◌, Option, Some, None, map, slice_get, slice_index_or}
 use Rattle.interface_model.specs.Records.{Router}
 use Rattle.config_reader.specs.Configs.{config_of}
@@ -100,7 +100,7 @@ abbrev pub place_of_head : InputFiles → Option Linked → FilePlace
 place_of_head names None = record { file = names.request; line = 0 }
 place_of_head names (Some link) = record { file = file_of names link.router; line = link.line }
 
--- the place of a fault of resolution: a line of the request, but for an interface without a cost
+-- the place of a fault of resolution: a line of the request file, but for an interface without a cost
 abbrev pub resolution_place : InputFiles → Database → ResolutionFault → FilePlace
 resolution_place names d (NoCost link) = place_of_head names (slice_get d.links link)
 resolution_place names d (UnknownRouter line) = record { file = names.request; line = line }
@@ -122,8 +122,8 @@ abbrev pub if_resolved : InputFiles → Database → DesignProblem → Option Re
 if_resolved names d p None = Ready p
 if_resolved names d p (Some fault) = Refused (resolution_refusal names d fault)
 
--- The problem that the requests make of the database: with the interfaces that they free, and so beside the present costs,
--- which then every interface needs; or with every interface as it is.
+-- The problem that the request file makes of the database: with the interfaces that it frees, and so beside the present
+-- costs, which then every interface needs; or with every interface as it is.
 abbrev pub problem_read : View → InputFiles → Asked → Database → Reading DesignProblem
 problem_read AsRequested names asked d = if_resolved names d (problem_of asked d) (resolution_fault asked d)
 problem_read BesidePresent names asked d = if_resolved names d (problem_of asked d) (fault_beside_present asked d)

@@ -69,7 +69,7 @@ topology_stop (FaultAt fault place) names stop =
     IsRefusal (record { number = topology_fault_number fault; file = file_of names place.config; line = place.line }) stop
 topology_stop NoMemoryLeft names stop = stop ≡ OutOfMemory
 
--- the stop of requests that aren't resolved
+-- the stop of a request file that isn't resolved
 abbrev pub resolution_stop : Refusal ResolutionFault (Unit {0}) → Database → InputFiles → Stop → Type 0
 resolution_stop (FaultAt fault place) d names stop = IsRefusal (resolution_refusal names d fault) stop
 resolution_stop NoMemoryLeft d names stop = stop ≡ OutOfMemory

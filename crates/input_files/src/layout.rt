@@ -19,7 +19,7 @@ use wanted_paths::{Names, ResolutionFault, resolve_lines};
 /// A network as its files say it, whatever its interfaces cost.
 #[derive(Drop)]
 pub struct Layout {
-    /// What the request asks for.
+    /// What the request file asks for.
     pub requests: RequestFile,
     /// What the configurations say, in their order.
     pub configs: Vec<RouterConfig>,
@@ -46,7 +46,7 @@ fn read_area<'a, S: Shelf>(
     })
 }
 
-/// Whether each line of requests can be resolved in an area, or the first fault of one that can't.
+/// Whether each line of a request file can be resolved in an area, or the first fault of one that can't.
 fn resolve_each_line(
     alloc: Global,
     requests: &RequestFile,
@@ -63,7 +63,7 @@ fn resolve_each_line(
     Ok(())
 }
 
-/// Tests that each line of the requests of a layout can be resolved.
+/// Tests that each line of a layout's request file can be resolved.
 fn check_lines<'a>(alloc: Global, layout: &Layout, words: FileWords<'a>) -> Result<(), Stop<'a>>
     ensures { IsReadAs (lines_read (files_named words.entry) layout.now.requests layout.now.lsdb) []
         (λ _ none. none ≡ tt) result }
@@ -74,12 +74,13 @@ fn check_lines<'a>(alloc: Global, layout: &Layout, words: FileWords<'a>) -> Resu
     }
 }
 
-/// The layout of the network that the files of words make, in which each line of the request is resolved. Whether its
-/// interfaces have costs isn't asked.
+/// The layout of the network that the files of words make, in which each line of the request file is resolved. Whether
+/// its interfaces have costs isn't asked.
 ///
 /// # Errors
 ///
-/// `Stop`: a file failed or is too long, or the input has another fault than an interface without a cost; want of memory.
+/// `Stop`: a file failed or is too long, or the input has another fault than an interface without a cost;
+/// want of memory.
 pub fn read_layout<'a, S: Shelf>(
     alloc: Global,
     words: FileWords<'a>,

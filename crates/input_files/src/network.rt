@@ -1,4 +1,4 @@
-//! The network that the files of words make: the request, the configurations, the topology, the problem.
+//! The network that the files of words make: the request file, the configurations, the topology, the problem.
 ghost use Rattle.std.specs.Prelude.{◌≡◌, [], IfOk};
 ghost use Rattle.input_files.specs.Readings.{Gave};
 ghost use Rattle.input_files.specs.Outcomes.{outcome};
@@ -18,13 +18,13 @@ use std::alloc::Global;
 /// A network as its files say it.
 #[derive(Drop)]
 pub struct Network {
-    /// What the request asks for.
+    /// What the request file asks for.
     pub requests: RequestFile,
     /// What the configurations say, in their order.
     pub configs: Vec<RouterConfig>,
     /// The routers, links and transit subnets of the area.
     pub lsdb: Lsdb,
-    /// The problem that the requests make of them.
+    /// The problem that the request file makes of them.
     pub problem: Problem,
 }
 

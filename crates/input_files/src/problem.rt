@@ -1,4 +1,4 @@
-//! The problem that the files of words make: the request, the configurations, the topology, resolution.
+//! The problem that the files of words make: the request file, the configurations, the topology, resolution.
 ghost use Rattle.std.specs.Prelude.{◌≡◌, ℕ, List, [], IfOk};
 ghost use Rattle.lsdb_build.specs.Graphs.{IsAreaDatabase};
 ghost use Rattle.input_files.specs.Readings.{Gave};
@@ -18,14 +18,14 @@ use request_reader::RequestFile;
 use std::alloc::Global;
 use wanted_paths::ResolutionFault;
 
-/// Which interfaces of a problem are free: those that the request frees, or none, as every interface stands at present.
+/// Which interfaces of a problem are free: those that the request file frees, or none, as each stands at present.
 /// With it goes which interfaces need a cost line where there is no default.
 #[derive(Clone, Copy)]
 pub enum View {
-    /// The interfaces that the request frees are free. The others need a cost.
+    /// The interfaces that the request file frees are free. The others need a cost.
     AsRequested,
-    /// The interfaces that the request frees are free, beside what they cost at present: every linked interface needs a
-    /// cost, free or not.
+    /// The interfaces that the request file frees are free, beside what they cost at present: every linked interface
+    /// needs a cost, free or not.
     BesidePresent,
     /// None is free: every interface stands at its present cost or the default, so each needs one.
     AtPresent,
@@ -71,8 +71,8 @@ pub(crate) fn topology<'a>(
     }
 }
 
-/// The place of a fault of resolution: the file, and the line in it. An interface without a cost is refused at its first
-/// head, any other fault in the request.
+/// The place of a fault of resolution: the file, and the line in it. An interface without a cost is refused at its
+/// first head, any other fault in the request file.
 fn place_of<'a>(fault: ResolutionFault, lsdb: &Lsdb, words: FileWords<'a>) -> (&'a str, u32)
     ensures { resolution_place (files_named words.entry) lsdb.now fault ≡
         record { file = result.0.now; line = result.1 } }
@@ -86,7 +86,7 @@ fn place_of<'a>(fault: ResolutionFault, lsdb: &Lsdb, words: FileWords<'a>) -> (&
     }
 }
 
-/// The stop of requests that aren't resolved.
+/// The stop of a request file that isn't resolved.
 pub(crate) fn stop_of_resolution<'a>(
     refusal: Refusal<ResolutionFault, ()>,
     lsdb: &Lsdb,
@@ -107,7 +107,7 @@ pub(crate) fn stop_of_resolution<'a>(
     }
 }
 
-/// The problem that requests make of a topology, with the interfaces that they free.
+/// The problem that a request file makes of a topology, with the interfaces that it frees.
 fn resolution_as_requested<'a>(
     alloc: Global,
     requests: &RequestFile,
@@ -123,7 +123,8 @@ fn resolution_as_requested<'a>(
     }
 }
 
-/// The problem that requests make of a topology with the interfaces that they free, where each has a present cost.
+/// The problem that a request file makes of a topology with the interfaces that it frees, where each has
+/// a present cost.
 fn resolution_beside_present<'a>(
     alloc: Global,
     requests: &RequestFile,
@@ -139,11 +140,11 @@ fn resolution_beside_present<'a>(
     }
 }
 
-/// The problem that requests make of a topology at present costs.
+/// The problem that a request file makes of a topology at present costs.
 ///
 /// # Errors
 ///
-/// `Stop`: a line of the requests can't be resolved, or an interface has no cost; want of memory.
+/// `Stop`: a line of the request file can't be resolved, or an interface has no cost; want of memory.
 pub fn resolution_at_present<'a>(
     alloc: Global,
     requests: &RequestFile,
@@ -160,7 +161,7 @@ pub fn resolution_at_present<'a>(
     }
 }
 
-/// The problem that requests make of a topology.
+/// The problem that a request file makes of a topology.
 pub(crate) fn resolution<'a>(
     alloc: Global,
     view: View,

@@ -13,16 +13,16 @@ use request_reader::{RequestFile, read_requests};
 use std::alloc::Global;
 use std::marker::Model;
 
-/// The files that words name: a request, and configurations in their order.
+/// The files that words name: a request file, and configurations in their order.
 #[derive(Clone, Copy)]
 pub struct FileWords<'a> {
-    /// The request.
+    /// The request file.
     pub request: &'a str,
     /// The configurations.
     pub configs: &'a [String],
 }
 
-/// The greatest length of a request and of a configuration: 4 MiB.
+/// The greatest length of a request file and of a configuration: 4 MiB.
 const LONGEST_FILE: usize = 4_194_304;
 
 /// The greatest length of an answer's file: 1 GiB.

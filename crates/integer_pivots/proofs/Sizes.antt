@@ -34,16 +34,19 @@ test_natural a b m n a_is b_is =
 pub read_known : (z : ℤ) → mag z < 2 ^ 63 → read z ≡ z
 read_known z small = to_z-of_z w64 z (record { sfits = small })
 
--- the sizes of products, sums and differences
+-- the size of a product is at most that of its first factor times a bound of the second's
 pub product_size : (c z : ℤ) (most : ℕ) → nat_abs z ≤ most → nat_abs (c *ℤ z) ≤ nat_abs c * most
 product_size c z most small = omega (arith, unsigned_abs-mul c z, mul-le-mul_left (nat_abs c) small)
 
+-- bounds of two factors' sizes bound the product's by their product
 pub product_small : (m n : ℕ) (a b : ℤ) → nat_abs a ≤ m → nat_abs b ≤ n → nat_abs (a *ℤ b) ≤ m * n
 product_small m n a b a_small b_small = omega (arith, unsigned_abs-mul a b, mul-le-mul a_small b_small)
 
+-- bounds of two numbers' sizes bound that of their sum by theirs
 pub sum_small : (m n : ℕ) (x y : ℤ) → nat_abs x ≤ m → nat_abs y ≤ n → nat_abs (x +ℤ y) ≤ m + n
 sum_small m n x y x_small y_small = omega (arith, ints, x_small, y_small)
 
+-- and so that of their difference
 pub difference_small : (m n : ℕ) (x y : ℤ) → nat_abs x ≤ m → nat_abs y ≤ n → nat_abs (x -ℤ y) ≤ m + n
 difference_small m n x y x_small y_small = omega (arith, ints, x_small, y_small)
 

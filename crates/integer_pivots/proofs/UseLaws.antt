@@ -13,26 +13,26 @@ use Rattle.design_problem.specs.declared.form.Form.{Form}
 use Rattle.design_problem.specs.Forms.{no_form}
 use Rattle.design_problem.proofs.Tallies.{tabulated}
 use Rattle.integer_pivots.specs.declared.uses.Use.{Use}
-use Rattle.integer_pivots.specs.Uses.{coefficient_in, held_in, size_in, use_of, uses_by, uses_from}
+use Rattle.integer_pivots.specs.Uses.{coefficient_in, uses_in, size_in, use_of, uses_by, uses_from}
 use Rattle.integer_pivots.proofs.WrittenPlaces.{written}
 
 -- lists that hold the same are the uses of the same rows
 pub uses_kept : (lists news : List (Vec Use Global)) (rows others : List Form) (n m : ℕ) →
-    held_in news ≡ held_in lists → others ≡ rows → m ≡ n → held_in lists ≡ uses_by rows n →
-    held_in news ≡ uses_by others m
+    uses_in news ≡ uses_in lists → others ≡ rows → m ≡ n → uses_in lists ≡ uses_by rows n →
+    uses_in news ≡ uses_by others m
 uses_kept lists news rows others n m same rows_are n_is are =
     same ∙ are ∙ ap (λ (fs : List Form). uses_by fs n) (sym rows_are) ∙ ap (uses_by others) (sym n_is)
 
 -- there is a list for each variable, with its uses
-pub lists_many : (lists : List (Vec Use Global)) (rows : List Form) (n : ℕ) → held_in lists ≡ uses_by rows n → length lists ≡ n
+pub lists_many : (lists : List (Vec Use Global)) (rows : List Form) (n : ℕ) → uses_in lists ≡ uses_by rows n → length lists ≡ n
 lists_many lists rows n are =
     sym (length-map lists (λ (list : Vec Use Global). list.items))
     ∙ ap length are
     ∙ length-map (numbers_from 0 n) (uses_from 0 rows)
     ∙ length-numbers_from 0 n
 
-pub list_at : (lists : List (Vec Use Global)) (rows : List Form) (n v : ℕ) → held_in lists ≡ uses_by rows n → v < n →
-    slice_index_or (held_in lists) v [] ≡ uses_from 0 rows v
+pub list_at : (lists : List (Vec Use Global)) (rows : List Form) (n v : ℕ) → uses_in lists ≡ uses_by rows n → v < n →
+    slice_index_or (uses_in lists) v [] ≡ uses_from 0 rows v
 list_at lists rows n v are v_in =
     ap (λ (us : List (List Use)). slice_index_or us v []) are
     ∙ get_or-map-numbers_from (uses_from 0 rows) 0 n v [] v_in
@@ -52,12 +52,12 @@ uses_append first (g ∷ rows) f v =
     (use_of (first + suc (length rows)) (number_at f.coefficients v)))
 
 pub uses_grown : (lists news : List (Vec Use Global)) (rows : List Form) (f : Form) (n : ℕ) →
-    held_in lists ≡ uses_by rows n → length news ≡ length lists →
-    ((v : ℕ) → v < length lists → slice_index_or (held_in news) v [] ≡ slice_index_or (held_in lists) v []
-    ++ use_of (length rows) (number_at f.coefficients v)) → held_in news ≡ uses_by (rows ++ f ∷ []) n
+    uses_in lists ≡ uses_by rows n → length news ≡ length lists →
+    ((v : ℕ) → v < length lists → slice_index_or (uses_in news) v [] ≡ slice_index_or (uses_in lists) v []
+    ++ use_of (length rows) (number_at f.coefficients v)) → uses_in news ≡ uses_by (rows ++ f ∷ []) n
 uses_grown lists news rows f n are long each =
     let many = lists_many lists rows n are in
-    tabulated [] (held_in news) (uses_from 0 (rows ++ f ∷ [])) n (length-map news (λ (list : Vec Use Global). list.items) ∙ long ∙ many)
+    tabulated [] (uses_in news) (uses_from 0 (rows ++ f ∷ [])) n (length-map news (λ (list : Vec Use Global). list.items) ∙ long ∙ many)
     (λ v v_in.
     each v (omega (arith, v_in, many))
     ∙ ap (λ (us : List Use). us ++ use_of (length rows) (number_at f.coefficients v)) (list_at lists rows n v are v_in)
@@ -66,24 +66,24 @@ uses_grown lists news rows f n are long each =
 
 -- what code leaves where it puts a row's uses
 pub uses_put : (n many width : ℕ) (olds lent news : List (Vec Use Global)) (rows : List Form) (f : Form) →
-    held_in olds ≡ uses_by rows width → lent ≡ olds → n ≡ length olds → many ≡ length rows → length news ≡ length lent →
-    ((v : ℕ) → v < length lent → slice_index_or (held_in news) v [] ≡ slice_index_or (held_in lent) v []
+    uses_in olds ≡ uses_by rows width → lent ≡ olds → n ≡ length olds → many ≡ length rows → length news ≡ length lent →
+    ((v : ℕ) → v < length lent → slice_index_or (uses_in news) v [] ≡ slice_index_or (uses_in lent) v []
     ++ use_of many (number_at f.coefficients v)) →
-    held_in (take n (news ++ drop (length news) olds)) ≡ uses_by (rows ++ f ∷ []) width
+    uses_in (take n (news ++ drop (length news) olds)) ≡ uses_by (rows ++ f ∷ []) width
 uses_put n many width olds lent news rows f are same counted many_is long each =
     let kept = subst (λ (ls : List (Vec Use Global)). (v : ℕ) → v < length ls →
-    slice_index_or (held_in news) v [] ≡ slice_index_or (held_in ls) v []
+    slice_index_or (uses_in news) v [] ≡ slice_index_or (uses_in ls) v []
     ++ use_of many (number_at f.coefficients v)) same each in
     let all : length news ≡ length olds = long ∙ ap length same in
-    ap held_in (written n news olds all counted)
+    ap uses_in (written n news olds all counted)
     ∙ uses_grown olds news rows f width are all (λ v v_in. kept v v_in
-    ∙ ap (λ (k : ℕ). slice_index_or (held_in olds) v [] ++ use_of k (number_at f.coefficients v)) many_is)
+    ∙ ap (λ (k : ℕ). slice_index_or (uses_in olds) v [] ++ use_of k (number_at f.coefficients v)) many_is)
 
 -- and where it makes room
 pub uses_lent : (n : ℕ) (olds lent news : List (Vec Use Global)) → lent ≡ olds → n ≡ length olds →
-    length news ≡ length lent → held_in news ≡ held_in lent →
-    held_in (take n (news ++ drop (length news) olds)) ≡ held_in olds
-uses_lent n olds lent news same counted long kept = ap held_in (written n news olds (long ∙ ap length same) counted) ∙ kept ∙ ap held_in same
+    length news ≡ length lent → uses_in news ≡ uses_in lent →
+    uses_in (take n (news ++ drop (length news) olds)) ≡ uses_in olds
+uses_lent n olds lent news same counted long kept = ap uses_in (written n news olds (long ∙ ap length same) counted) ∙ kept ∙ ap uses_in same
 
 -- each use is by one of the rows
 abbrev pub IsOfRows : ℕ → ℕ → Use → Type 0
@@ -158,7 +158,7 @@ row_told first (f ∷ rows) v (suc row) =
 
 -- a list that is read holds the variable's uses
 pub list_read : (lists : List (Vec Use Global)) (rows : List Form) (v : ℕ) (list : Vec Use Global) →
-    held_in lists ≡ uses_by rows (length lists) → v < length lists → list ≡ get_or lists v list →
+    uses_in lists ≡ uses_by rows (length lists) → v < length lists → list ≡ get_or lists v list →
     list.items ≡ uses_from 0 rows v
 list_read lists rows v list are v_in is =
     ap (λ (l : Vec Use Global). l.items) is ∙ sym (get_or-map (λ (l : Vec Use Global). l.items) lists v list [] v_in)

@@ -12,7 +12,7 @@ use Rattle.design_problem.specs.Forms.{terms_from, terms_of, no_term}
 use Rattle.design_problem.proofs.TermLaws.{rising_from, term_coefficient, term_or_zero, terms_known}
 use Rattle.integer_pivots.specs.declared.uses.Use.{Use}
 use Rattle.integer_pivots.specs.Numbers.{AllWithin}
-use Rattle.integer_pivots.specs.Uses.{held_in, use_of}
+use Rattle.integer_pivots.specs.Uses.{uses_in, use_of}
 use Rattle.integer_pivots.proofs.Sizes.{number_within}
 
 -- no term has coefficient 0
@@ -44,8 +44,8 @@ term_within f ts index most are index_in within =
 
 -- the uses by the terms before an index are put
 pub record ArePushed (row : ℕ) (ts : List Term) (index : ℕ) (olds news : List (Vec Use Global)) : Type 0 where
-  pub done : (k : ℕ) → k < index → slice_index_or (held_in news) (get_or ts k no_term).var []
-      ≡ slice_index_or (held_in olds) (get_or ts k no_term).var []
+  pub done : (k : ℕ) → k < index → slice_index_or (uses_in news) (get_or ts k no_term).var []
+      ≡ slice_index_or (uses_in olds) (get_or ts k no_term).var []
       ++ (let u : Use = record { row = row; coefficient = (get_or ts k no_term).coefficient } in u) ∷ []
   pub rest : (v : ℕ) → ((k : ℕ) → k < index → (get_or ts k no_term).var ≢ v) → (d : Vec Use Global) → get_or news v d ≡ get_or olds v d
 
@@ -71,14 +71,14 @@ push_next row f ts index olds news list d c are index_in count long list_is c_is
     let known : t.var < length f.coefficients = subst (All (λ (u : Term). u.var < length f.coefficients)) (sym are) (terms_known f) index no_term index_in in
     let v_in : t.var < length olds = omega (arith, known, count) in
     let rising : AllPairs (λ (a b : Term). a.var < b.var) ts = subst (AllPairs (λ (a b : Term). a.var < b.var)) (sym are) (rising_from 0 f.coefficients) in
-    let written : held_in (set news t.var list) ≡ set (held_in news) t.var list.items = map-set (λ (l : Vec Use Global). l.items) news t.var list in
+    let written : uses_in (set news t.var list) ≡ set (uses_in news) t.var list.items = map-set (λ (l : Vec Use Global). l.items) news t.var list in
     record {
-      done = below_more (λ (k : ℕ). slice_index_or (held_in (set news t.var list)) (get_or ts k no_term).var []
-          ≡ slice_index_or (held_in olds) (get_or ts k no_term).var []
+      done = below_more (λ (k : ℕ). slice_index_or (uses_in (set news t.var list)) (get_or ts k no_term).var []
+          ≡ slice_index_or (uses_in olds) (get_or ts k no_term).var []
           ++ (let u : Use = record { row = row; coefficient = (get_or ts k no_term).coefficient } in u) ∷ []) index
           (λ k k_in.
           ap (λ (us : List (List Use)). slice_index_or us (get_or ts k no_term).var []) written
-          ∙ get_or-set_other (held_in news) t.var (get_or ts k no_term).var list.items []
+          ∙ get_or-set_other (uses_in news) t.var (get_or ts k no_term).var list.items []
           (λ (same : (get_or ts k no_term).var ≡ t.var).
           absurd (omega (arith, same, rising k index no_term k_in index_in)))
           ∙ p.done k k_in)
@@ -100,7 +100,7 @@ push_next row f ts index olds news list d c are index_in count long list_is c_is
 -- the uses by all terms are put
 pub all_pushed : (row : ℕ) (f : Form) (ts : List Term) (index : ℕ) (olds news : List (Vec Use Global)) (v : ℕ) →
     ts ≡ terms_of f → length ts ≤ index → index ≤ length ts → length news ≡ length olds → v < length olds →
-    ArePushed row ts index olds news → slice_index_or (held_in news) v [] ≡ slice_index_or (held_in olds) v []
+    ArePushed row ts index olds news → slice_index_or (uses_in news) v [] ≡ slice_index_or (uses_in olds) v []
     ++ use_of row (number_at f.coefficients v)
 all_pushed row f ts index olds news v are past most long v_in p =
     elim (term_or_zero f v no_term) [
@@ -112,8 +112,8 @@ all_pushed row f ts index olds news v are past most long v_in p =
           some k no_term there (sym (term_coefficient f k no_term there) ∙ ap (number_at f.coefficients) same_there ∙ none)
           ) in
           held_at news olds v v_in long (λ d. p.rest v apart d)
-          ∙ sym (append-nil (slice_index_or (held_in olds) v []))
-          ∙ ap (λ (c : ℤ). slice_index_or (held_in olds) v [] ++ use_of row c) (sym none)
+          ∙ sym (append-nil (slice_index_or (uses_in olds) v []))
+          ∙ ap (λ (c : ℤ). slice_index_or (uses_in olds) v [] ++ use_of row c) (sym none)
       | inr has ↦
           let k = has.0 in
           let there : k < length ts = omega (arith, has.1, ap length are) in
@@ -124,15 +124,15 @@ all_pushed row f ts index olds news v are past most long v_in p =
           let c_some : (get_or ts k no_term).coefficient ≢ pos 0 =
           subst (All (λ (t : Term). t.coefficient ≢ pos 0)) (sym are) (some_from 0 f.coefficients) k
           no_term there in
-          subst (λ (w : ℕ). slice_index_or (held_in news) w [] ≡ slice_index_or (held_in olds) w [] ++ use_of row (number_at f.coefficients v)) var_is
+          subst (λ (w : ℕ). slice_index_or (uses_in news) w [] ≡ slice_index_or (uses_in olds) w [] ++ use_of row (number_at f.coefficients v)) var_is
           (p.done k (omega (arith, there, past))
-          ∙ ap (λ (us : List Use). slice_index_or (held_in olds) (get_or ts k no_term).var [] ++ us) (sym (single row (get_or ts k no_term).coefficient c_some))
-          ∙ ap (λ (c : ℤ). slice_index_or (held_in olds) (get_or ts k no_term).var [] ++ use_of row c) (sym c_is))
+          ∙ ap (λ (us : List Use). slice_index_or (uses_in olds) (get_or ts k no_term).var [] ++ us) (sym (single row (get_or ts k no_term).coefficient c_some))
+          ∙ ap (λ (c : ℤ). slice_index_or (uses_in olds) (get_or ts k no_term).var [] ++ use_of row c) (sym c_is))
     ]
   where
     held_at : (news olds : List (Vec Use Global)) (v : ℕ) → v < length olds → length news ≡ length olds →
         ((d : Vec Use Global) → get_or news v d ≡ get_or olds v d) →
-        slice_index_or (held_in news) v [] ≡ slice_index_or (held_in olds) v []
+        slice_index_or (uses_in news) v [] ≡ slice_index_or (uses_in olds) v []
     held_at news [] v v_in long same = absurd (omega arith)
     held_at news (d ∷ olds) v v_in long same =
         get_or-map (λ (l : Vec Use Global). l.items) news v d [] (omega (arith, v_in, long))

@@ -21,9 +21,9 @@ uses_from first (f ∷ fs) v = use_of first (number_at f.coefficients v) ++ uses
 abbrev pub uses_by : List Form → ℕ → List (List Use)
 uses_by rows width = map (uses_from 0 rows) (numbers_from 0 width)
 
--- what lists of uses hold
-abbrev pub held_in : List (Vec Use Global) → List (List Use)
-held_in lists = map (λ list. list.items) lists
+-- the uses that each of some lists has, without its room
+abbrev pub uses_in : List (Vec Use Global) → List (List Use)
+uses_in lists = map (λ list. list.items) lists
 
 -- each list has room for one use more
 abbrev pub HaveRoom : List (Vec Use Global) → Type 0

@@ -172,8 +172,8 @@ impl Turn {
         self.multiplier * most + self.factor.abs() * entering <= ENTRY_LIMIT
     }
 
-    /// A size that no number passes in a turn, where those of the line and of the entering one don't pass these, nor the
-    /// entering line's denominator this one.
+    /// A size that no number passes in a turn, where those of the line and of the entering one don't pass these, nor
+    /// the entering line's denominator this one.
     fn most_after(self, most: i64, entering: i64, denominator: i64) -> i64
         // None of the five numbers passes 2^30 in size, so what is made of them fits 64 bits.
         requires multiplier { nat_abs self.multiplier ≤ 2 ^ 30 }
@@ -204,8 +204,8 @@ impl Turn {
         self.multiplier * number - self.factor * entering
     }
 
-    /// Turns numbers by those of the entering line, each over what it has in common with all of them and with a divisor.
-    /// Gives that common part.
+    /// Turns numbers by those of the entering line, each over what it has in common with all of them and with a
+    /// divisor. Gives that common part.
     fn turn_over(
         self,
         numbers: &mut MarkedNumbers,
@@ -313,8 +313,8 @@ impl Line {
         self.reach = self.reach_by(most / part);
     }
 
-    /// Turns the numbers of a line whose denominator and constant have turned, and brings it into lowest terms. Gives what
-    /// went out. Over 1 nothing does, and the numbers in the touched columns alone change.
+    /// Turns the numbers of a line whose denominator and constant have turned, and brings it into lowest terms. Gives
+    /// what went out. Over 1 nothing does, and the numbers in the touched columns alone change.
     fn turn_numbers(&mut self, entering: &Line, column: usize, touched: &[usize], turn: Turn) -> i64
         requires turning { IsTurning turn column entering.now self.old }
         requires touched { AreNonZeros entering.now.numbers (length entering.now.numbers)
@@ -331,8 +331,8 @@ impl Line {
         self.turn_and_lower(entering, column, turn)
     }
 
-    /// Turns the numbers of a line whose denominator and constant have turned, in one walk over all of them, and brings it
-    /// into lowest terms. Gives what went out.
+    /// Turns the numbers of a line whose denominator and constant have turned, in one walk over all of them, and brings
+    /// it into lowest terms. Gives what went out.
     fn turn_and_lower(&mut self, entering: &Line, column: usize, turn: Turn) -> i64
         requires turning { IsTurning turn column entering.now self.old }
         ensures turned { IsTurnedOver turn column entering.now self.old self.new result }

@@ -2,7 +2,7 @@
 ghost use Rattle.std.specs.Prelude.{◌≡◌, ℕ, ◌^◌, ◌+◌, ◌*◌, ◌<◌, ◌≤◌, ◌++◌, [], nat_abs, ◌+ℤ◌, ◌*ℤ◌, length, map, slice_index_or, All, IfOk, OnOk};
 ghost use Rattle.cost_base.specs.Lists.{numbers_from};
 ghost use Rattle.whole_numbers.specs.Lists.{number_at};
-ghost use Rattle.integer_pivots.specs.Uses.{HaveRoom, coefficient_in, held_in, size_in, use_of};
+ghost use Rattle.integer_pivots.specs.Uses.{HaveRoom, coefficient_in, uses_in, size_in, use_of};
 
 use cost_base::OutOfMemory;
 use design_problem::Form;
@@ -23,7 +23,7 @@ pub struct Use {
 ///
 /// `OutOfMemory`.
 pub fn empty_uses(alloc: Global, count: usize) -> Result<Vec<Vec<Use>>, OutOfMemory>
-    ensures { IfOk result (λ uses. held_in uses.items ≡ map (λ var. []) (numbers_from 0 count)) }
+    ensures { IfOk result (λ uses. uses_in uses.items ≡ map (λ var. []) (numbers_from 0 count)) }
 {
     let mut uses = Vec::new(alloc);
     for _ in 0..count {
@@ -38,7 +38,7 @@ pub fn empty_uses(alloc: Global, count: usize) -> Result<Vec<Vec<Use>>, OutOfMem
 ///
 /// `OutOfMemory` where a list got no memory. Then the lists hold what they held.
 pub fn reserve_uses(uses: &mut [Vec<Use>]) -> Result<(), OutOfMemory>
-    ensures same { held_in uses.new ≡ held_in uses.old }
+    ensures same { uses_in uses.new ≡ uses_in uses.old }
     ensures room { OnOk result (HaveRoom uses.new) }
 {
     for var in 0..uses.len() {
@@ -54,8 +54,8 @@ pub fn push_uses(uses: &mut [Vec<Use>], form: &Form, row: usize)
     requires count { length form.now.coefficients ≤ length uses.old }
     requires sizes { All (λ c. nat_abs c ≤ 2 ^ 26) form.now.coefficients }
     requires room { HaveRoom uses.old }
-    ensures { (v : ℕ) → v < length uses.old → slice_index_or (held_in uses.new) v [] ≡
-        slice_index_or (held_in uses.old) v [] ++ use_of row (number_at form.now.coefficients v) }
+    ensures { (v : ℕ) → v < length uses.old → slice_index_or (uses_in uses.new) v [] ≡
+        slice_index_or (uses_in uses.old) v [] ++ use_of row (number_at form.now.coefficients v) }
 {
     for term in form.terms() {
         uses[term.var as usize].push_reserved(Use {

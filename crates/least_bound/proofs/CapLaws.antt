@@ -49,9 +49,9 @@ pub refuted_grown : (p : DesignProblem) (top nodes : ℕ) (old new : Pooled) (t 
     IsRefuted p top nodes old t → IsRefuted p top nodes new t
 refuted_grown p top nodes old new t grows is = record { tree = tree_grown p top t.cap old new t.tree grows is.tree; closed = is.closed; few = is.few }
 
-pub spent_grown : (p : DesignProblem) (top nodes : ℕ) (old new : Pooled) (t : CapTree) → MoreRows old new →
+pub used_up_grown : (p : DesignProblem) (top nodes : ℕ) (old new : Pooled) (t : CapTree) → MoreRows old new →
     IsUndecidedAt p top nodes old t → IsUndecidedAt p top nodes new t
-spent_grown p top nodes old new t grows is = record { tree = tree_grown p top t.cap old new t.tree grows is.tree; undone = is.undone; spent = is.spent }
+used_up_grown p top nodes old new t grows is = record { tree = tree_grown p top t.cap old new t.tree grows is.tree; undone = is.undone; used_up = is.used_up }
 
 kept_grown : (p : DesignProblem) (top nodes : ℕ) (old new : Pooled) (least : ℕ) (kept : Option CapTree) →
     MoreRows old new → IsKeptAt p top nodes old least kept → IsKeptAt p top nodes new least kept
@@ -60,11 +60,11 @@ kept_grown p top nodes old new least (Some t) grows holds = (holds.0, holds.1, r
 
 best_grown : (p : DesignProblem) (top nodes : ℕ) (old new : Pooled) (most : ℕ) (best : Best) → MoreRows old new →
     BestHolds p top nodes old most best → BestHolds p top nodes new most best
-best_grown p top nodes old new most (NoCosts t) grows holds = (holds.0, holds.1, spent_grown p top nodes old new t grows holds.2)
+best_grown p top nodes old new most (NoCosts t) grows holds = (holds.0, holds.1, used_up_grown p top nodes old new t grows holds.2)
 best_grown p top nodes old new most (Costs w) grows holds = holds
-best_grown p top nodes old new most (Between w t) grows holds = (holds.0, holds.1, holds.2, spent_grown p top nodes old new t grows holds.3)
+best_grown p top nodes old new most (Between w t) grows holds = (holds.0, holds.1, holds.2, used_up_grown p top nodes old new t grows holds.3)
 
--- at the greatest upper bound
+-- at the greatest bound
 pub progress_starts : (p : DesignProblem) (top nodes : ℕ) (pool : Pooled) (floor most : ℕ) (best : Best) →
     floor ≡ greatest_cost p.low → greatest_cost p.low ≤ most → BestHolds p top nodes pool most best →
     IsProgress p top nodes pool (record { floor = floor; least = floor; most = most; kept = None; best = best })
@@ -116,10 +116,10 @@ after_refuted p top nodes old new progress cap tree problem pool grows from belo
 }
 
 -- a cap at which the budget was used up
-pub after_spent : (p : DesignProblem) (top nodes : ℕ) (old new : Pooled) (progress : Progress) (cap : ℕ) (best : Best) →
+pub after_used_up : (p : DesignProblem) (top nodes : ℕ) (old new : Pooled) (progress : Progress) (cap : ℕ) (best : Best) →
     MoreRows old new → progress.least ≤ cap → IsProgress p top nodes old progress → BestHolds p top nodes new cap best →
     IsProgress p top nodes new (record { floor = progress.floor; least = progress.least; most = cap; kept = progress.kept; best = best })
-after_spent p top nodes old new progress cap best grows from holds there = record {
+after_used_up p top nodes old new progress cap best grows from holds there = record {
   floor = holds.floor;
   from_floor = holds.from_floor;
   ordered = from;
@@ -128,13 +128,13 @@ after_spent p top nodes old new progress cap best grows from holds there = recor
   best = there;
 }
 
--- without costs the tree at the greatest upper bound stays
+-- without costs the tree at the greatest bound stays
 pub still_none : (p : DesignProblem) (top nodes : ℕ) (old new : Pooled) (most cap : ℕ) (t : CapTree) →
     MoreRows old new → cap < most → BestHolds p top nodes old most (NoCosts t) →
     BestHolds p top nodes new cap (NoCosts t)
-still_none p top nodes old new most cap t grows below holds = (holds.0, omega (arith, holds.1), spent_grown p top nodes old new t grows holds.2)
+still_none p top nodes old new most cap t grows below holds = (holds.0, omega (arith, holds.1), used_up_grown p top nodes old new t grows holds.2)
 
--- costs, a refutation or a spent budget at a cap between
+-- costs, a refutation, or a budget that was used up at a cap between
 pub costs_nearer : (p : DesignProblem) (top nodes cap : ℕ) (pool : Pooled) (w : List ℕ) (least most greatest : ℕ) →
     cap < most → greatest ≡ greatest_cost w → IsDecided p top nodes cap pool (FoundCosts w) →
     greatest + least < most + least

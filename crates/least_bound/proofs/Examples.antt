@@ -1,4 +1,4 @@
--- The order of caps on small cases: a climb from 1, and costs that are found at the greatest upper bound 9 and at 2.
+-- The order of caps on small cases: a climb from 1, and costs that are found at the greatest bound 9 and at 2.
 use Rattle.std.proofs.Common.{◌≡◌, refl, [], ◌∷◌}
 use Rattle.std.specs.Prelude.{None, Some}
 use Rattle.design_problem.specs.declared.tree.Entry.TheVariants.{Undone}

@@ -18,7 +18,7 @@ use Rattle.cost_branching.proofs.Advising.{cap_searched, turns_left}
 use Rattle.least_bound.specs.declared.progress.Best.{Best}
 use Rattle.least_bound.specs.declared.progress.Best.TheVariants.{Costs}
 use Rattle.least_bound.specs.declared.progress.Progress.{Progress}
-use Rattle.least_bound.specs.Asking.{AreAskedAtCaps, AreCapsBehind, AreCapsInOrder, AreSettledCaps, CapDecision, CapsSoFar, TellsCaps, TellsFound, after_cap, after_ceiling, cap_between, next_cap, unfinished_after}
+use Rattle.least_bound.specs.Asking.{AreAskedAtCaps, AreCapsBehind, AreCapsInOrder, AreSettledCaps, CapDecision, CapsSoFar, TellsCaps, TellsFound, after_cap, after_greatest_bound, cap_between, next_cap, unfinished_after}
 use Rattle.least_bound.specs.Caps.{caps_of, known_costs, unfinished_of}
 use Rattle.least_bound.specs.Printing.{ArePrintedIfAny}
 
@@ -69,7 +69,7 @@ caps_undecided progress cap found tree best found_is costs_are tree_is =
     both : caps_of (record progress { most = cap; best = best }) ≡ after_cap (caps_of progress) cap (Undecided tree)
     both = λ i. record { least = progress.least; most = cap; costs = costs_are i; refuted = progress.kept; unfinished = tree_is i }
 
--- The greatest upper bound.
+-- The greatest bound.
 
 -- it was refuted
 pub settled_refuted : (p : DesignProblem) (cap : ℕ) (pool : Pooled) (found : Found) (tree : List Entry) (a : AnswerParts) → cap ≡ greatest_bound p →
@@ -82,7 +82,7 @@ settled_refuted p cap pool found tree a cap_is found_is tells = (
 
 -- costs were found at it
 pub settled_by_costs : (p : DesignProblem) (cap : ℕ) (pool : Pooled) (found : Found) (w : List ℕ) (s : CapsSoFar) (ds : List CapDecision)
-    (a : AnswerParts) → cap ≡ greatest_bound p → found ≡ FoundCosts w → s ≡ after_ceiling p (FoundCosts w) → AreCapsInOrder p s ds a →
+    (a : AnswerParts) → cap ≡ greatest_bound p → found ≡ FoundCosts w → s ≡ after_greatest_bound p (FoundCosts w) → AreCapsInOrder p s ds a →
     AreSettledCaps p (decision cap pool found ∷ ds) a
 settled_by_costs p cap pool found w s ds a cap_is found_is s_is are = (
   cap_is,
@@ -91,7 +91,7 @@ settled_by_costs p cap pool found w s ds a cap_is found_is s_is are = (
 
 -- the budget was used up at it
 pub settled_undecided : (p : DesignProblem) (cap : ℕ) (pool : Pooled) (found : Found) (tree : List Entry) (s : CapsSoFar) (ds : List CapDecision)
-    (a : AnswerParts) → cap ≡ greatest_bound p → found ≡ Undecided tree → s ≡ after_ceiling p (Undecided tree) → AreCapsInOrder p s ds a →
+    (a : AnswerParts) → cap ≡ greatest_bound p → found ≡ Undecided tree → s ≡ after_greatest_bound p (Undecided tree) → AreCapsInOrder p s ds a →
     AreSettledCaps p (decision cap pool found ∷ ds) a
 settled_undecided p cap pool found tree s ds a cap_is found_is s_is are = (
   cap_is,
@@ -101,12 +101,12 @@ settled_undecided p cap pool found tree s ds a cap_is found_is s_is are = (
 -- What the answer tells.
 
 -- the costs as they are printed, and the trees with the new numbers of the rows
-pub told_found : (p : DesignProblem) (found : Option (List ℕ)) (kept lent spent : Option CapTree) (old : List Row) (a : AnswerParts) → lent ≡ kept →
-    ArePrinted old lent spent a.rows a.proof a.unfinished → ArePrintedIfAny p found a.costs → TellsFound p found kept spent a
-told_found p found kept lent spent old a same printed costs = record {
+pub told_found : (p : DesignProblem) (found : Option (List ℕ)) (kept lent undecided : Option CapTree) (old : List Row) (a : AnswerParts) → lent ≡ kept →
+    ArePrinted old lent undecided a.rows a.proof a.unfinished → ArePrintedIfAny p found a.costs → TellsFound p found kept undecided a
+told_found p found kept lent undecided old a same printed costs = record {
   costs = costs;
-  number = new_number (named_in lent spent);
-  proof = subst (λ (t : Option CapTree). HasNumbers (new_number (named_in lent spent)) t a.proof) same printed.proof_is;
+  number = new_number (named_in lent undecided);
+  proof = subst (λ (t : Option CapTree). HasNumbers (new_number (named_in lent undecided)) t a.proof) same printed.proof_is;
   unfinished = printed.unfinished_is;
 }
 

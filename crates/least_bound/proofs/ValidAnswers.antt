@@ -21,10 +21,10 @@ use Rattle.printed_rows.specs.NewNumbers.{AreKept, ArePrinted, named_in}
 use Rattle.printed_rows.specs.PrintedCosts.{ArePrintedCosts}
 use Rattle.printed_rows.specs.PrintedTrees.{IsPrintedTree}
 use Rattle.printed_rows.proofs.AnswerLines.{CanPrintCosts, CanPrintTree, FitsFloor, answer_kept}
-use Rattle.printed_rows.proofs.CapBoxes.{cost_bounds, floor_below_ceiling, no_low_above}
+use Rattle.printed_rows.proofs.CapBoxes.{cost_bounds, low_below_greatest_bound, no_low_above}
 use Rattle.printed_rows.proofs.RowLines.{rows_short}
 use Rattle.printed_rows.proofs.SheetLaws.{trees_sheet}
-use Rattle.printed_rows.proofs.TreeCopies.{IsCopy, all_printed, copy_closed, copy_printable, copy_printed, copy_spent, proof_copy, search_names, unfinished_copy}
+use Rattle.printed_rows.proofs.TreeCopies.{IsCopy, all_printed, copy_closed, copy_printable, copy_printed, copy_used_up, proof_copy, search_names, unfinished_copy}
 use Rattle.printed_rows.specs.FittingTexts.{IsTextLine}
 use Rattle.printed_rows.proofs.TreeLines.{IsPrintable}
 use Rattle.cost_branching.specs.Pools.{Differ, IsRowPool, Pooled}
@@ -186,12 +186,12 @@ pub impossible_answered : (p : DesignProblem) (top nodes : ℕ) (pool : Pooled) 
     IsPrintedBy pool sheet None unfinished → t.cap ≡ greatest_bound p → IsRefuted p top nodes pool t →
     IsAnswerSheet p sheet.rows proof unfinished →
     IsDesignAnswer p top nodes (record { verdict = Impossible; costs = None; floor = Absent; rows = sheet.rows; proof = proof; unfinished = unfinished })
-impossible_answered p top nodes pool sheet t None unfinished is proof_is unfinished_is ceiling refuted whole = absurd proof_is
-impossible_answered p top nodes pool sheet t (Some u) (Some v) is proof_is unfinished_is ceiling refuted whole = absurd unfinished_is
-impossible_answered p top nodes pool sheet t (Some u) None is proof_is unfinished_is ceiling refuted whole =
-    let from : greatest_cost p.low ≤ t.cap = let below = floor_below_ceiling p is.problem in omega arith in
+impossible_answered p top nodes pool sheet t None unfinished is proof_is unfinished_is cap_is refuted whole = absurd proof_is
+impossible_answered p top nodes pool sheet t (Some u) (Some v) is proof_is unfinished_is cap_is refuted whole = absurd unfinished_is
+impossible_answered p top nodes pool sheet t (Some u) None is proof_is unfinished_is cap_is refuted whole =
+    let from : greatest_cost p.low ≤ t.cap = let below = low_below_greatest_bound p is.problem in omega arith in
     let proves = tree_proves p top nodes pool sheet t u is proof_is from refuted in
-    let same : u.cap ≡ greatest_bound p = proof_is.0 ∙ ceiling in
+    let same : u.cap ≡ greatest_bound p = proof_is.0 ∙ cap_is in
     record {
       holds = record { rows = sheet_rows p pool sheet is; finished = refl; claim = subst (λ (cap : ℕ). Proves p sheet.rows cap u) same proves };
       proof = tree_printed p top nodes pool sheet t u is proof_is refuted.tree refuted.few;
@@ -206,10 +206,10 @@ pub impossible_kept : (p : DesignProblem) (top nodes : ℕ) (pool : Pooled) (she
     IsPrintedBy pool sheet None unfinished → t.cap ≡ greatest_bound p → t.cap ≤ 65535 → nodes ≤ 10000000 →
     IsRefuted p top nodes pool t →
     FitsAnswer (record { verdict = Impossible; costs = None; floor = Absent; rows = sheet.rows; proof = proof; unfinished = unfinished })
-impossible_kept p top nodes pool sheet t None unfinished is proof_is unfinished_is ceiling small budget refuted = absurd proof_is
-impossible_kept p top nodes pool sheet t (Some u) (Some v) is proof_is unfinished_is ceiling small budget refuted = absurd unfinished_is
-impossible_kept p top nodes pool sheet t (Some u) None is proof_is unfinished_is ceiling small budget refuted =
-    let from : greatest_cost p.low ≤ t.cap = let below = floor_below_ceiling p is.problem in omega arith in
+impossible_kept p top nodes pool sheet t None unfinished is proof_is unfinished_is cap_is small budget refuted = absurd proof_is
+impossible_kept p top nodes pool sheet t (Some u) (Some v) is proof_is unfinished_is cap_is small budget refuted = absurd unfinished_is
+impossible_kept p top nodes pool sheet t (Some u) None is proof_is unfinished_is cap_is small budget refuted =
+    let from : greatest_cost p.low ≤ t.cap = let below = low_below_greatest_bound p is.problem in omega arith in
     answer_kept (record {
       verdict = Impossible;
       costs = None;
@@ -318,12 +318,12 @@ optimal_kept p top nodes pool sheet w costs floor kept proof unfinished is proof
 unfinished_at : (p : DesignProblem) (top nodes : ℕ) (pool : Pooled) (sheet : Sheet) (t : CapTree)
     (unfinished : Option CapTree) → IsSheetOf p pool sheet → IsPrintedBy pool sheet (Some t) unfinished →
     IsUndecidedAt p top nodes pool t → UnfinishedAt p top nodes sheet.rows t.cap unfinished
-unfinished_at p top nodes pool sheet t None is copy spent = absurd copy
-unfinished_at p top nodes pool sheet t (Some u) is copy spent = (
+unfinished_at p top nodes pool sheet t None is copy used_up = absurd copy
+unfinished_at p top nodes pool sheet t (Some u) is copy used_up = (
   copy.0,
-  copy_spent (LeadsEach p) (IsFormOfRow p) top nodes (form_of_row p) (capped (box_of p) u.cap) sheet.named pool.rows
+  copy_used_up (LeadsEach p) (IsFormOfRow p) top nodes (form_of_row p) (capped (box_of p) u.cap) sheet.named pool.rows
       sheet.rows t.tree u.tree copy.1 (true_forms p pool.rows is.is_pool.rows)
-      (at_new_cap p top pool t u copy.0 spent.tree) spent.undone spent.spent,
+      (at_new_cap p top pool t u copy.0 used_up.tree) used_up.undone used_up.used_up,
 )
 
 proof_below : (p : DesignProblem) (top nodes : ℕ) (pool : Pooled) (sheet : Sheet) (cap : ℕ)
@@ -358,12 +358,12 @@ pub undecided_answered : (p : DesignProblem) (top nodes : ℕ) (pool : Pooled) (
     CostsFound p t.cap found → ArePrintedIfAny p found costs → IsTreeKeptBelow p top nodes pool t.cap kept → IsUndecidedAt p top nodes pool t →
     IsAnswerSheet p sheet.rows proof unfinished →
     IsDesignAnswer p top nodes (record { verdict = Undecided t.cap; costs = costs; floor = Absent; rows = sheet.rows; proof = proof; unfinished = unfinished })
-undecided_answered p top nodes pool sheet found costs kept proof t unfinished is proof_is unfinished_is from holds printed below spent whole = record {
+undecided_answered p top nodes pool sheet found costs kept proof t unfinished is proof_is unfinished_is from holds printed below used_up whole = record {
   holds = record {
     rows = sheet_rows p pool sheet is;
     no_floor = refl;
     no_higher = no_low_above p.low t.cap from;
-    unfinished = unfinished_at p top nodes pool sheet t unfinished is unfinished_is spent;
+    unfinished = unfinished_at p top nodes pool sheet t unfinished is unfinished_is used_up;
     proof = proof_below p top nodes pool sheet t.cap kept proof is proof_is below;
     costs = costs_above p t.cap found costs holds printed;
   };
@@ -377,13 +377,13 @@ costs_printable p None (Some costs) printed = absurd printed
 costs_printable p (Some w) None printed = absurd printed
 costs_printable p (Some w) (Some costs) printed = (printed.named, printed.small)
 
-spent_printable : (p : DesignProblem) (top nodes : ℕ) (pool : Pooled) (sheet : Sheet) (t : CapTree)
+used_up_printable : (p : DesignProblem) (top nodes : ℕ) (pool : Pooled) (sheet : Sheet) (t : CapTree)
     (unfinished : Option CapTree) → IsSheetOf p pool sheet → IsPrintedBy pool sheet (Some t) unfinished →
     greatest_cost p.low ≤ t.cap → t.cap ≤ 65535 → nodes ≤ 10000000 → IsUndecidedAt p top nodes pool t →
     CanPrintTree unfinished
-spent_printable p top nodes pool sheet t None is copy from small budget spent = absurd copy
-spent_printable p top nodes pool sheet t (Some u) is copy from small budget spent =
-    tree_printable p top nodes pool sheet t u is copy from small budget spent.tree (omega (arith, spent.spent))
+used_up_printable p top nodes pool sheet t None is copy from small budget used_up = absurd copy
+used_up_printable p top nodes pool sheet t (Some u) is copy from small budget used_up =
+    tree_printable p top nodes pool sheet t u is copy from small budget used_up.tree (omega (arith, used_up.used_up))
 
 pub undecided_kept : (p : DesignProblem) (top nodes : ℕ) (pool : Pooled) (sheet : Sheet) (found : Option (List ℕ))
     (costs : Option CostsPart) (kept proof : Option CapTree) (t : CapTree) (unfinished : Option CapTree) →
@@ -391,7 +391,7 @@ pub undecided_kept : (p : DesignProblem) (top nodes : ℕ) (pool : Pooled) (shee
     greatest_cost p.low ≤ t.cap → t.cap ≤ 65535 → nodes ≤ 10000000 →
     ArePrintedIfAny p found costs → IsTreeKeptBelow p top nodes pool t.cap kept → IsUndecidedAt p top nodes pool t →
     FitsAnswer (record { verdict = Undecided t.cap; costs = costs; floor = Absent; rows = sheet.rows; proof = proof; unfinished = unfinished })
-undecided_kept p top nodes pool sheet found costs kept proof t unfinished is proof_is unfinished_is from small budget printed below spent =
+undecided_kept p top nodes pool sheet found costs kept proof t unfinished is proof_is unfinished_is from small budget printed below used_up =
     answer_kept (record {
       verdict = Undecided t.cap;
       costs = costs;
@@ -402,4 +402,4 @@ undecided_kept p top nodes pool sheet found costs kept proof t unfinished is pro
     }) small (costs_printable p found costs printed) tt is.kept.few
     (rows_kept p pool sheet is)
     (kept_printable p top nodes pool sheet t.cap kept proof is proof_is below small budget)
-    (spent_printable p top nodes pool sheet t unfinished is unfinished_is from small budget spent)
+    (used_up_printable p top nodes pool sheet t unfinished is unfinished_is from small budget used_up)

@@ -29,7 +29,7 @@ abbrev pub ProofIsBelow : DesignProblem → List Row → ℕ → Option CapTree 
 ProofIsBelow p rows cap None = Unit {0}
 ProofIsBelow p rows cap (Some proof) = Proves p rows proof.cap proof × (proof.cap < cap)
 
--- Without costs the cap is the greatest upper bound; with costs, which are fit and of the greatest that is told, it is less
+-- Without costs the cap is the greatest bound; with costs, which are fit and of the greatest that is told, it is less
 -- than that.
 abbrev pub CostsAreAbove : DesignProblem → ℕ → Option Costs → Type 0
 CostsAreAbove p cap None = cap ≡ greatest_bound p

@@ -23,7 +23,7 @@ pub record CapDecision : Type 0 where
 -- What the caps so far have come to. Fit costs have at least the greatest cost `least`; `most` is the greatest cost of the
 -- costs that were found last, or the least cap at which the budget was used up. `refuted` is the closed tree at the greatest
 -- refuted cap, and `unfinished` the tree that used up the budget: with costs the one at `most`, without any the one at the
--- greatest upper bound.
+-- greatest bound.
 pub record CapsSoFar : Type 0 where
   pub least : ℕ
   pub most : ℕ
@@ -49,7 +49,7 @@ cap_between floor least most (Some w) = halved_cap least most
 abbrev pub next_cap : DesignProblem → CapsSoFar → Option ℕ
 next_cap p s = cap_between (greatest_cost p.low) s.least s.most s.costs
 
--- the unfinished tree behind one more: without costs the one at the greatest upper bound stays
+-- the unfinished tree behind one more: without costs the one at the greatest bound stays
 abbrev pub unfinished_after : Option (List ℕ) → Option CapTree → CapTree → Option CapTree
 unfinished_after None old new = old
 unfinished_after (Some w) old new = Some new
@@ -60,17 +60,17 @@ after_cap s cap (Costs w) = record s { most = greatest_cost w; costs = Some w; u
 after_cap s cap (Refuted tree) = record s { least = cap + 1; refuted = Some (record { cap = cap; tree = tree }) }
 after_cap s cap (Undecided tree) = record s { most = cap; unfinished = unfinished_after s.costs s.unfinished (record { cap = cap; tree = tree }) }
 
--- what the greatest upper bound has come to, by what was found at it
-abbrev pub after_ceiling : DesignProblem → Found → CapsSoFar
-after_ceiling p (Costs w) = record { least = greatest_cost p.low; most = greatest_cost w; costs = Some w; refuted = None; unfinished = None }
-after_ceiling p (Refuted tree) = record {
+-- what the greatest bound has come to, by what was found at it
+abbrev pub after_greatest_bound : DesignProblem → Found → CapsSoFar
+after_greatest_bound p (Costs w) = record { least = greatest_cost p.low; most = greatest_cost w; costs = Some w; refuted = None; unfinished = None }
+after_greatest_bound p (Refuted tree) = record {
   least = greatest_cost p.low;
   most = greatest_bound p;
   costs = None;
   refuted = Some (record { cap = greatest_bound p; tree = tree });
   unfinished = None;
 }
-after_ceiling p (Undecided tree) = record {
+after_greatest_bound p (Undecided tree) = record {
   least = greatest_cost p.low;
   most = greatest_bound p;
   costs = None;
@@ -79,11 +79,11 @@ after_ceiling p (Undecided tree) = record {
 }
 
 -- The answer tells what was found: these costs, if any, and these two trees at their caps, if any, with new numbers of rows.
-pub record TellsFound (p : DesignProblem) (found : Option (List ℕ)) (refuted spent : Option CapTree) (a : AnswerParts) : Type 0 where
+pub record TellsFound (p : DesignProblem) (found : Option (List ℕ)) (refuted undecided : Option CapTree) (a : AnswerParts) : Type 0 where
   pub costs : ArePrintedIfAny p found a.costs
   pub number : ℕ → ℕ
   pub proof : HasNumbers number refuted a.proof
-  pub unfinished : HasNumbers number spent a.unfinished
+  pub unfinished : HasNumbers number undecided a.unfinished
 
 -- the answer tells what the caps have come to
 abbrev pub TellsCaps : DesignProblem → CapsSoFar → AnswerParts → Type 0
@@ -94,13 +94,13 @@ abbrev pub AreCapsInOrder : DesignProblem → CapsSoFar → List CapDecision →
 AreCapsInOrder p s [] a = (next_cap p s ≡ None) × TellsCaps p s a
 AreCapsInOrder p s (d ∷ ds) a = (next_cap p s ≡ Some d.cap) × AreCapsInOrder p (after_cap s d.cap d.found) ds a
 
--- the caps behind the greatest upper bound: none where it was refuted
+-- the caps behind the greatest bound: none where it was refuted
 abbrev pub AreCapsBehind : DesignProblem → Found → List CapDecision → AnswerParts → Type 0
-AreCapsBehind p (Costs w) ds a = AreCapsInOrder p (after_ceiling p (Costs w)) ds a
-AreCapsBehind p (Refuted tree) ds a = (ds ≡ []) × TellsCaps p (after_ceiling p (Refuted tree)) a
-AreCapsBehind p (Undecided tree) ds a = AreCapsInOrder p (after_ceiling p (Undecided tree)) ds a
+AreCapsBehind p (Costs w) ds a = AreCapsInOrder p (after_greatest_bound p (Costs w)) ds a
+AreCapsBehind p (Refuted tree) ds a = (ds ≡ []) × TellsCaps p (after_greatest_bound p (Refuted tree)) a
+AreCapsBehind p (Undecided tree) ds a = AreCapsInOrder p (after_greatest_bound p (Undecided tree)) ds a
 
--- the greatest upper bound is decided first, and then the caps behind it
+-- the greatest bound is decided first, and then the caps behind it
 abbrev pub AreSettledCaps : DesignProblem → List CapDecision → AnswerParts → Type 0
 AreSettledCaps p [] a = ⊥
 AreSettledCaps p (first ∷ behind) a = (first.cap ≡ greatest_bound p) × AreCapsBehind p first.found behind a

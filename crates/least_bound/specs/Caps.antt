@@ -24,7 +24,7 @@ pub record IsRefuted (p : DesignProblem) (top nodes : ℕ) (pool : Pooled) (t : 
 pub record IsUndecidedAt (p : DesignProblem) (top nodes : ℕ) (pool : Pooled) (t : CapTree) : Type 0 where
   pub tree : IsTreeAt p top t.cap pool t.tree
   pub undone : Contains t.tree Undone
-  pub spent : entry_count t.tree ≡ nodes
+  pub used_up : entry_count t.tree ≡ nodes
 
 -- the kept tree is closed at the cap below the least; without one the least is the greatest lower bound
 abbrev pub IsKeptAt : DesignProblem → ℕ → ℕ → Pooled → ℕ → Option CapTree → Type 0
@@ -36,7 +36,7 @@ abbrev pub IsTreeKeptBelow : DesignProblem → ℕ → ℕ → Pooled → ℕ �
 IsTreeKeptBelow p top nodes pool cap None = Unit {0}
 IsTreeKeptBelow p top nodes pool cap (Some t) = (t.cap < cap) × (greatest_cost p.low ≤ t.cap) × IsRefuted p top nodes pool t
 
--- without costs the cap is the greatest upper bound; with costs, which are fit, it is below their greatest
+-- without costs the cap is the greatest bound; with costs, which are fit, it is below their greatest
 abbrev pub CostsFound : DesignProblem → ℕ → Option (List ℕ) → Type 0
 CostsFound p cap None = cap ≡ greatest_bound p
 CostsFound p cap (Some w) = IsFit p w × (cap < greatest_cost w)
@@ -47,7 +47,7 @@ BestHolds p top nodes pool most (NoCosts t) = (t.cap ≡ greatest_bound p) × (m
 BestHolds p top nodes pool most (Costs w) = IsFit p w × (greatest_cost w ≡ most)
 BestHolds p top nodes pool most (Between w t) = IsFit p w × (most < greatest_cost w) × (t.cap ≡ most) × IsUndecidedAt p top nodes pool t
 
--- fit costs have a greatest cost from `least` on, and `most` is the least cap at which costs or a spent tree stand
+-- fit costs have a greatest cost from `least` on, and `most` is the least cap at which costs or an undecided tree stand
 pub record IsProgress (p : DesignProblem) (top nodes : ℕ) (pool : Pooled) (progress : Progress) : Type 0 where
   pub floor : progress.floor ≡ greatest_cost p.low
   pub from_floor : progress.floor ≤ progress.least

@@ -10,7 +10,7 @@ ghost use Rattle.least_bound.specs.Asking.{TellsCaps, TellsFound};
 ghost use Rattle.least_bound.specs.Caps.{caps_of, IsKeptAt, IsTreeKeptBelow, IsProgress, AreCapsDone, IsRefuted, IsUndecidedAt, CostsFound};
 ghost use Rattle.least_bound.specs.Printing.{ArePrintedIfAny, IsFloorFor};
 
-use crate::greatest::floor_of;
+use crate::floor::floor_of;
 use crate::progress::{Best, Progress};
 use cost_base::OutOfMemory;
 use cost_branching::{Pool, keeps_conditions};
@@ -18,26 +18,26 @@ use design_problem::{Answer, CapTree, CostList, Costs, Floor, Problem, Tree, Ver
 use printed_rows::{printed_both, printed_costs};
 use std::alloc::Global;
 
-/// That no costs are fit, with the closed tree at the greatest upper bound.
+/// That no costs are fit, with the closed tree at the greatest bound.
 pub(crate) fn impossible(
     problem: &Problem,
     pool: Pool,
-    ceiling: u16,
+    cap: u16,
     tree: Tree,
 ) -> Result<Answer, OutOfMemory>
     requires pool { IsRowPool problem.now pool }
-    requires ceiling { ceiling ≡ greatest_bound problem.now }
+    requires cap { cap ≡ greatest_bound problem.now }
     requires refuted { (top : ℕ) × (nodes : ℕ) × (nodes ≤ 10000000) ×
-        IsRefuted problem.now top nodes pool (record { cap = ceiling; tree = tree }) }
+        IsRefuted problem.now top nodes pool (record { cap = cap; tree = tree }) }
     ensures answered { (top nodes : ℕ) → IsRefuted problem.now top nodes pool
-        (record { cap = ceiling; tree = tree }) → IfOk result
+        (record { cap = cap; tree = tree }) → IfOk result
         (IsDesignAnswer problem.now top nodes) }
     ensures tells { IfOk result (TellsFound problem.now None
-        (Some (record { cap = ceiling; tree = tree })) None) }
+        (Some (record { cap = cap; tree = tree })) None) }
 {
     keeps_conditions(problem);
     let alloc = pool.alloc();
-    let proof = CapTree { cap: ceiling, tree };
+    let proof = CapTree { cap, tree };
     let printed = printed_both(alloc, pool.into_rows(), Some(&proof), None)?;
     Ok(Answer {
         verdict: Verdict::Impossible,
@@ -121,8 +121,8 @@ fn cap_of(tree: &CapTree) -> u16
     tree.cap
 }
 
-/// That the budget was used up at the cap of the unfinished tree, with the best costs and the kept tree, where there are
-/// such.
+/// That the budget was used up at the cap of the unfinished tree, with the best costs and the kept tree, where there
+/// are such.
 fn undecided(
     problem: &Problem,
     pool: Pool,
@@ -131,7 +131,7 @@ fn undecided(
     unfinished: CapTree,
 ) -> Result<Answer, OutOfMemory>
     // The unfinished tree stands at a cap from the greatest lower bound on: without costs at the
-    // greatest upper bound, with costs below their greatest. The kept one is closed below that cap.
+    // greatest bound, with costs below their greatest. The kept one is closed below that cap.
     requires pool { IsRowPool problem.now pool }
     requires from_floor { greatest_cost problem.now.low ≤ unfinished.cap }
     requires costs { CostsFound problem.now unfinished.cap (option_copied costs) }

@@ -45,9 +45,9 @@ fn narrowed(
 /// Looks for fit costs of the least greatest cost, with evidence.
 ///
 /// An optimal answer has best costs, with a floor or a closed earnest tree at the cap below; an impossible one a closed
-/// earnest tree at the greatest upper bound. An undecided answer names the cap of its unfinished tree, which has exactly
-/// `limits.nodes` entries; it holds the best costs that were found, and the closed tree of the greatest refuted cap, where
-/// there are such.
+/// earnest tree at the greatest bound. An undecided answer names the cap of its unfinished tree, which has exactly
+/// `limits.nodes` entries; it holds the best costs that were found, and the closed tree of the greatest refuted cap,
+/// where there are such.
 ///
 /// # Errors
 ///
@@ -61,7 +61,7 @@ pub fn least(
     ensures answered { IfOk result (IsDesignAnswer problem.now limits.now.top limits.now.nodes) }
 
     // The advisors are asked and told by one search for each cap that is decided: the greatest
-    // upper bound first, and then each that comes next until none is left. The answer tells what
+    // bound first, and then each that comes next until none is left. The answer tells what
     // these searches found.
     ensures asked { IfOk result (AreAskedAnswering ⟦<dyn Advisor as Advisor>⟧ (λ b. b.vtable)
         (λ b. state b) problem.now limits.now.top limits.now.nodes advisors.old.items
@@ -70,18 +70,18 @@ pub fn least(
         advisors.old.items advisors.new.items }
 {
     keeps_conditions(problem);
-    let ceiling = greatest_of(problem.high.as_slice());
+    let cap = greatest_of(problem.high.as_slice());
     let mut pool = Pool::new(alloc);
-    match decide(problem, ceiling, limits, &mut pool, advisors)? {
-        Found::Refuted(tree) => impossible(problem, pool, ceiling, tree),
+    match decide(problem, cap, limits, &mut pool, advisors)? {
+        Found::Refuted(tree) => impossible(problem, pool, cap, tree),
         Found::Costs(costs) => {
             let most = greatest_of(costs.as_slice());
             let progress = Progress::start(problem, most, Best::Costs(costs));
             narrowed(problem, limits, pool, progress, advisors)
         }
         Found::Undecided(tree) => {
-            let best = Best::NoCosts(CapTree { cap: ceiling, tree });
-            let progress = Progress::start(problem, ceiling, best);
+            let best = Best::NoCosts(CapTree { cap, tree });
+            let progress = Progress::start(problem, cap, best);
             narrowed(problem, limits, pool, progress, advisors)
         }
     }

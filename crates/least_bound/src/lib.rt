@@ -1,11 +1,11 @@
 //! The least cap at which a problem has fit costs, with its evidence.
 //!
-//! Caps are decided one by one: the greatest upper bound first, then caps between the greatest one that was refuted and
+//! Caps are decided one by one: the greatest bound first, then caps between the greatest one that was refuted and
 //! the least one that wasn't.
 #![tactic(auto)]
 
 mod answering;
-mod greatest;
+mod floor;
 mod least_cap;
 mod progress;
 

@@ -13,7 +13,7 @@ use design_problem::{CapTree, CostList, Problem, Tree, greatest_of};
 /// The best that the caps so far have come to.
 #[derive(Drop)]
 pub(crate) enum Best {
-    /// No costs yet: at the greatest upper bound this tree used the budget up.
+    /// No costs yet: at the greatest bound this tree used the budget up.
     NoCosts(CapTree),
     /// Costs, whose greatest cost is the least cap that was decided without a refutation.
     Costs(CostList),
@@ -89,7 +89,7 @@ impl Best {
 }
 
 impl Progress {
-    /// After the greatest upper bound was decided.
+    /// After the greatest bound was decided.
     pub(crate) fn start(problem: &Problem, most: u16, best: Best) -> Progress
         requires { greatest_cost problem.now.low ≤ most }
         ensures holds { (top nodes : ℕ) (pool : Pooled) →

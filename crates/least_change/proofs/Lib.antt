@@ -14,4 +14,4 @@ pub mod SeekLaws
 pub mod ShownLaws
 pub mod StandingLaws
 pub mod TurnLaws
-pub mod Unspent
+pub mod Sufficient

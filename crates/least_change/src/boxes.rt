@@ -30,18 +30,18 @@ fn pin_if_any(costs: &mut CostBox, var: usize, present: Option<u16>)
     }
 }
 
-/// The box at the greatest upper bound.
+/// The box at the greatest bound.
 fn whole_box(alloc: Global, question: &Question) -> Result<CostBox, OutOfMemory>
     ensures cut { IfOk result (λ costs. costs ≡ whole_box question.now.problem) }
     ensures ranges { IfOk result (λ costs. IsBox (length question.now.problem.low) costs) }
 {
     question.keeps_conditions();
     let problem = question.problem();
-    let ceiling = greatest_of(problem.high.as_slice());
-    box_at(alloc, problem, ceiling)
+    let cap = greatest_of(problem.high.as_slice());
+    box_at(alloc, problem, cap)
 }
 
-/// The box of a set: that at the greatest upper bound, with the range of each member cut to its present cost.
+/// The box of a set: that at the greatest bound, with the range of each member cut to its present cost.
 pub(crate) fn kept_box(
     alloc: Global,
     question: &Question,

@@ -1,9 +1,9 @@
 //! How many variables costs change, and which are to be kept.
-ghost use Rattle.std.specs.Prelude.{◌≡◌, ◌≤◌, ◌++◌, ◌∷◌, [], ◌&&◌, length, cond, is_some, not, IfOk, OnOk};
+ghost use Rattle.std.specs.Prelude.{◌≡◌, ◌≤◌, ◌&&◌, length, is_some, not, IfOk};
 ghost use Rattle.least_change.specs.Present.{change_count, is_present, unkept_count};
 ghost use Rattle.least_change.specs.Marks.{unmarked_from};
 
-use cost_base::OutOfMemory;
+use cost_base::{OutOfMemory, push_if};
 use std::alloc::Global;
 
 /// Whether a cost is the present one.
@@ -40,17 +40,6 @@ pub(crate) fn unkept_count(present: &[Option<u16>]) -> u32
         }
     }
     count
-}
-
-/// Puts a variable at the end, if it is one of those that are sought.
-pub(crate) fn push_if(vars: &mut Vec<u32>, var: u32, is_sought: bool) -> Result<(), OutOfMemory>
-    ensures { OnOk result (vars.new.items ≡ cond is_sought (vars.old.items ++ var ∷ [])
-        vars.old.items) }
-{
-    if is_sought {
-        vars.push(var)?;
-    }
-    Ok(())
 }
 
 /// Whether a variable has a present cost and no mark.

@@ -22,7 +22,12 @@ impl<'a> Model for Question<'a> {
 
     ghost Value = { ChangeQuestion };
 
-    ghost view = { λ q. record { problem = q.problem.now; present = q.present.now; top = q.limits.now.top; nodes = q.limits.now.nodes } };
+    ghost view = { λ q. record {
+      problem = q.problem.now;
+      present = q.present.now;
+      top = q.limits.now.top;
+      nodes = q.limits.now.nodes;
+    } };
 
     ghost invariant = { λ q. ArePresentCosts q.problem.now q.present.now };
 }

@@ -22,7 +22,7 @@ use Rattle.least_total.specs.Rounds.{IsFitWithin, IsKeptBelowTotal, IsUndecidedW
 use Rattle.printed_rows.specs.FittingTexts.{FitText}
 use Rattle.least_total.specs.Results.{CanPrintTotals, IsTotalAnswer, IsRecosted, IsUndecidedTotal, ShowsLeastTotal}
 use Rattle.least_total.proofs.LeastTotals.{best_within, kept_bounds}
-use Rattle.least_total.proofs.PrintedTotals.{shown_closed, shown_is, shown_spent}
+use Rattle.least_total.proofs.PrintedTotals.{shown_closed, shown_is, shown_used_up}
 
 -- the printed kept tree shows the least total
 pub kept_shows : (p : DesignProblem) (top nodes cap least : ℕ) (t : TotalTree) (printed : PrintedTotal) →
@@ -93,16 +93,16 @@ least_answered p top nodes cap old answer s sum proof problem is holds ended oth
     )
 
 -- where a round has used the budget up
-pub unknown_answered : (p : DesignProblem) (top nodes cap : ℕ) (old answer : AnswerParts) (s : Standing) (sum most : ℕ)
+pub total_undecided : (p : DesignProblem) (top nodes cap : ℕ) (old answer : AnswerParts) (s : Standing) (sum most : ℕ)
     (t : TotalTree) (printed : PrintedTotal) → CanPrintTotals p nodes cap → old.verdict ≡ Optimal cap →
     IsStanding p top nodes cap s → s.least ≤ most → most < s.total → IsUndecidedWithin p top nodes cap most t →
     IsRecosted p old answer s.costs → sum ≡ s.total → IsPrintedLast t printed →
     IsTotalAnswer p top nodes old (TotalUndecided answer sum most printed.rows printed.tree)
-unknown_answered p top nodes cap old answer s sum most t printed can is holds above below spent other sum_is last =
+total_undecided p top nodes cap old answer s sum most t printed can is holds above below used_up other sum_is last =
     let w = s.costs in
     let same = same_greatest p old answer w cap is other in
-    let shown = shown_is p top nodes cap most t printed can spent.tree (omega (arith, spent.spent)) last in
-    let counted = shown_spent p top nodes cap most t printed spent.tree spent.undone spent.spent last in
+    let shown = shown_is p top nodes cap most t printed can used_up.tree (omega (arith, used_up.used_up)) last in
+    let counted = shown_used_up p top nodes cap most t printed used_up.tree used_up.undone used_up.used_up last in
     let lows = holds.from_lows in (
       w,
       other,
@@ -111,6 +111,6 @@ unknown_answered p top nodes cap old answer s sum most t printed can is holds ab
       omega (arith, holds.total_is),
       shown.sheet,
       subst (λ (k : ℕ). IsUndecidedTotal p top nodes k most printed.rows.items printed.tree) same
-          (record { printed = shown.printed; undone = counted.0; spent = counted.1 }),
+          (record { printed = shown.printed; undone = counted.0; used_up = counted.1 }),
       subst (λ (k : ℕ). FitText row_line k printed.rows.items printed.tree) same shown.fits,
     )

@@ -376,14 +376,14 @@ shown_closed p top cap most t printed holds closed last =
     (printed_copies p top cap most t last.kept printed.tree holds last.is_printed)
     (moved_from_closed t.before (length t.rows.items) t.tree closed)
 
-pub shown_spent : (p : DesignProblem) (top nodes cap most : ℕ) (t : TotalTree) (printed : PrintedTotal) →
+pub shown_used_up : (p : DesignProblem) (top nodes cap most : ℕ) (t : TotalTree) (printed : PrintedTotal) →
     IsTreeWithin p top cap most t → Contains t.tree Undone → entry_count t.tree ≡ nodes → IsPrintedLast t printed →
     Contains printed.tree Undone × (entry_count printed.tree ≡ nodes)
-shown_spent p top nodes cap most t printed holds undone spent last =
+shown_used_up p top nodes cap most t printed holds undone used_up last =
     let old = moved_from t.before (length t.rows.items) t.tree in
     let copy = printed_copies p top cap most t last.kept printed.tree holds last.is_printed in
     let number = new_number (is_row_named old) in (
       subst (λ (es : List Entry). Contains es Undone) (sym copy.copied)
           (undone_kept number old (moved_from_undone t.before (length t.rows.items) t.tree undone)),
-      ap entry_count copy.copied ∙ count_kept number old ∙ moved_counted t.before (length t.rows.items) t.tree ∙ spent,
+      ap entry_count copy.copied ∙ count_kept number old ∙ moved_counted t.before (length t.rows.items) t.tree ∙ used_up,
     )

@@ -42,14 +42,14 @@ minus_sum (suc n) (x ∷ xs) count =
     subst (λ (s : ℕ). (((negsuc 0 *ℤ pos x) +ℤ dot (replicate n (negsuc 0)) xs) +ℤ pos s) ≡ pos 0) (sym (sum_more x xs))
     (one_less x (dot (replicate n (negsuc 0)) xs) (sum xs) (minus_sum n xs (omega arith)))
 
--- the sum of some costs
-pub sum_small : (n : ℕ) (w : List ℕ) → length w ≡ n → All (λ x. (1 ≤ x) × (x ≤ 65535)) w → sum w ≤ 65535 * n
-sum_small zero [] count each = omega arith
-sum_small (suc n) [] count each = absurd (omega arith)
-sum_small zero (x ∷ w) count each = absurd (omega arith)
-sum_small (suc n) (x ∷ w) count each =
+-- each cost is at most 65535, so the sum of n costs is at most 65535 times n
+pub cost_sum_small : (n : ℕ) (w : List ℕ) → length w ≡ n → All (λ x. (1 ≤ x) × (x ≤ 65535)) w → sum w ≤ 65535 * n
+cost_sum_small zero [] count each = omega arith
+cost_sum_small (suc n) [] count each = absurd (omega arith)
+cost_sum_small zero (x ∷ w) count each = absurd (omega arith)
+cost_sum_small (suc n) (x ∷ w) count each =
     let here = All-head (λ x. (1 ≤ x) × (x ≤ 65535)) x w each in
-    let rest = sum_small n w (omega arith) (All-tail (λ x. (1 ≤ x) × (x ≤ 65535)) x w each) in
+    let rest = cost_sum_small n w (omega arith) (All-tail (λ x. (1 ≤ x) × (x ≤ 65535)) x w each) in
     omega (arith, here.1, rest, sum_more x w)
 
 -- coefficients of -1 are at most 2^26 in size
@@ -71,7 +71,7 @@ total_holds p most form is =
       count = length-replicate n (negsuc 0);
       sizes = all_ones n;
       values = λ w count each.
-          let small = sum_small n w count each in
+          let small = cost_sum_small n w count each in
           apart most (sum w) (dot (replicate n (negsuc 0)) w) is.small (omega arith) (minus_sum n w count);
       met = λ point count within. within.within;
     })

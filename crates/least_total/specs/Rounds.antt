@@ -45,7 +45,7 @@ pub record IsRefutedWithin (p : DesignProblem) (top nodes cap most : ℕ) (t : T
 pub record IsUndecidedWithin (p : DesignProblem) (top nodes cap most : ℕ) (t : TotalTree) : Type 0 where
   pub tree : IsTreeWithin p top cap most t
   pub undone : Contains t.tree Undone
-  pub spent : entry_count t.tree ≡ nodes
+  pub used_up : entry_count t.tree ≡ nodes
 
 -- fit costs whose greatest is at most the cap
 abbrev pub IsFitWithin : DesignProblem → ℕ → List ℕ → Type 0
@@ -79,4 +79,4 @@ EndsAt p top nodes cap s (Some (most, t)) = (s.least ≤ most) × (most < s.tota
 -- what the rounds come to: costs within the cap, and bounds on the least total that are equal or that the budget left apart
 pub record IsNarrowed (p : DesignProblem) (top nodes cap : ℕ) (n : Narrowed) : Type 0 where
   pub standing : IsStanding p top nodes cap n.standing
-  pub ends : EndsAt p top nodes cap n.standing n.spent
+  pub ends : EndsAt p top nodes cap n.standing n.open

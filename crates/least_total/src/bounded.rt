@@ -16,11 +16,12 @@ use rival_separation::Asker;
 use std::alloc::Global;
 use std::marker::Model;
 
-/// The source whose accepted points are those at which each wanted path of a problem leads by the scale and the sum of the
-/// values is at most `most` times the scale. Its true forms are those of the problem's rows, and the form of the total.
+/// The source whose accepted points are those at which each wanted path of a problem leads by the scale and the
+/// sum of the values is at most `most` times the scale. Its true forms are those of the problem's rows, and the
+/// form of the total.
 ///
-/// It keeps the rows of the pool's forms, in their order, and how many of them came before the form of the total, once that
-/// one has come.
+/// It keeps the rows of the pool's forms, in their order, and how many of them came before the form of the total, once
+/// that one has come.
 #[derive(Drop)]
 pub(crate) struct Bounded<'a, B: Begun> {
     rivals: Rivals<'a, B>,

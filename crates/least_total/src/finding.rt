@@ -21,8 +21,8 @@ use wide_fraction::Limits;
 pub enum TotalProof {
     /// It is the total of the lower bounds.
     Floor,
-    /// A closed tree over the box at the answer's greatest cost, in which the form of the total has the bound `total - 1`.
-    /// That form has the number behind those of the rows.
+    /// A closed tree over the box at the answer's greatest cost, in which the form of the total has the bound `total -
+    /// 1`. That form has the number behind those of the rows.
     Tree { rows: Vec<Row>, tree: Tree },
 }
 
@@ -55,7 +55,7 @@ pub enum Total {
 #[derive(Drop)]
 pub(crate) struct Narrowed {
     pub(crate) standing: Standing,
-    pub(crate) spent: Option<(u32, TotalTree)>,
+    pub(crate) open: Option<(u32, TotalTree)>,
 }
 
 /// Runs rounds until none is left, or until one uses the budget up.
@@ -79,14 +79,14 @@ fn run_rounds(
             Round::Undecided(tree) => {
                 return Ok(Narrowed {
                     standing,
-                    spent: Some((most, tree)),
+                    open: Some((most, tree)),
                 });
             }
         }
     }
     Ok(Narrowed {
         standing,
-        spent: None,
+        open: None,
     })
 }
 
@@ -109,10 +109,10 @@ fn proof_of(alloc: Global, kept: Option<TotalTree>) -> Result<TotalProof, OutOfM
 
 /// Looks for the best costs of the least total, from a valid optimal answer.
 ///
-/// Where they are found, the answer with these costs is valid, and the proof is the floor or a closed earnest tree. Where
-/// the budget is used up in a round, the answer has the best costs of the least total so far, and the tree of that round is
-/// earnest and has an Undone and exactly `limits.nodes` entries. In both the trees stand over the box at the answer's
-/// greatest cost.
+/// Where they are found, the answer with these costs is valid, and the proof is the floor or a closed earnest tree.
+/// Where the budget is used up in a round, the answer has the best costs of the least total so far, and the tree of
+/// that round is earnest and has an Undone and exactly `limits.nodes` entries. In both the trees stand over the box at
+/// the answer's greatest cost.
 ///
 /// # Errors
 ///
@@ -131,10 +131,10 @@ pub fn least_total(
     let costs = costs_in(alloc, problem, &answer)?;
     let cap = greatest_of(costs.as_slice());
     let standing = Standing::start(problem, costs);
-    let Narrowed { standing, spent } = run_rounds(alloc, problem, cap, limits, standing)?;
+    let Narrowed { standing, open } = run_rounds(alloc, problem, cap, limits, standing)?;
     let answer = recosted(alloc, problem, answer, &standing.costs)?;
     let total = u64::from(standing.total);
-    match spent {
+    match open {
         None => Ok(Total::Least {
             answer,
             total,

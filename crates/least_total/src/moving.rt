@@ -33,7 +33,8 @@ impl Move {
         }
     }
 
-    /// Puts those parts behind others that are of the moved form, or those that aren't, each with the new number of its form.
+    /// Puts those parts behind others that are of the moved form, or those that aren't, each with the new number
+    /// of its form.
     fn push_parts(
         self,
         pairs: &mut Vec<(u64, u128)>,

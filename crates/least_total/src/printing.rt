@@ -78,8 +78,8 @@ fn moved_from(
     }
 }
 
-/// The rows that the tree names, in their order, and the tree with their new numbers. The form of the total has the number
-/// behind them, whether it is named or not.
+/// The rows that the tree names, in their order, and the tree with their new numbers. The form of the total has the
+/// number behind them, whether it is named or not.
 ///
 /// # Errors
 ///

@@ -2,26 +2,16 @@
 ghost use Rattle.std.specs.Prelude.{◌≡◌, ℕ, length, IfOk};
 ghost use Rattle.design_problem.specs.declared.answer.Verdict.TheVariants.{Optimal};
 ghost use Rattle.design_problem.specs.Rows.{greatest_cost};
-ghost use Rattle.design_problem.specs.Answers.{IsValid, lines_in};
+ghost use Rattle.design_problem.specs.Answers.{IsValid};
 ghost use Rattle.least_total.specs.Rounds.{IsFitWithin};
 ghost use Rattle.least_total.specs.Results.{IsRecosted};
 ghost use Rattle.least_total.specs.Given.{AreGiven};
 
 use cost_base::OutOfMemory;
 use cost_branching::keeps_conditions;
-use design_problem::{Answer, CostLine, CostList, Costs, Problem, costs_given};
+use design_problem::{Answer, CostList, Problem, costs_given, lines_in};
 use printed_rows::printed_costs;
 use std::alloc::Global;
-
-/// The cost lines of an answer; none where it has no costs.
-fn lines_in(costs: &Option<Costs>) -> &[CostLine]
-    ensures { result.now ≡ lines_in costs.now }
-{
-    match costs {
-        Some(costs) => costs.lines.as_slice(),
-        None => &[],
-    }
-}
 
 /// The costs that a valid optimal answer gives the variables.
 ///

@@ -14,10 +14,10 @@ use lsa_writer::{CostedLinks, ends_of};
 use lsdb_build::Lsdb;
 use std::alloc::Global;
 
-/// Where the running area differs from its configurations, line by line: first the linked interfaces, in order, whose link
-/// has another metric than their present cost, or that have no link, or of whose router no router-LSA counts (which is said
-/// once for each router); then the router-LSAs, in order, that no configuration knows, and the links that are those of no
-/// linked interface; and last how many linked interfaces have a link with their present cost.
+/// Where the running area differs from its configurations, line by line: first the linked interfaces, in order, whose
+/// link has another metric than their present cost, or that have no link, or of whose router no router-LSA counts
+/// (which is said once for each router); then the router-LSAs, in order, that no configuration knows, and the links
+/// that are those of no linked interface; and last how many linked interfaces have a link with their present cost.
 ///
 /// The link of an interface is the first one of type 1 or 2 in the router-LSA of its router ID whose link data is its
 /// address.

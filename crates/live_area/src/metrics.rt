@@ -131,7 +131,8 @@ impl EndMetrics {
     /// Whether one of the ends has the router ID and the address of a link.
     pub fn has_end(&self, link: LiveLink) -> bool
         ensures { (ends : List OneEnd) (links : List OneLink) → HasLinkMetrics self.now.by_name ends
-            links → result ≡ list_any (definition.is_end_named (definition.name_of_link link)) ends }
+            links → result ≡
+            list_any (definition.is_end_named (definition.name_of_link link)) ends }
     {
         self.of(name_of_link(link)).is_some()
     }

@@ -136,9 +136,9 @@ fn costed_links(
     Ok(made)
 }
 
-/// An area at the costs at which it runs, as the LSAs that count say them. The link of a linked interface is the first one
-/// of type 1 or 2 in the router-LSA of its router ID whose link data is its address; an interface of a configuration
-/// without a router ID has none.
+/// An area at the costs at which it runs, as the LSAs that count say them. The link of a linked interface is the first
+/// one of type 1 or 2 in the router-LSA of its router ID whose link data is its address; an interface of a
+/// configuration without a router ID has none.
 ///
 /// # Errors
 ///

@@ -1,6 +1,8 @@
-//! Runs scripts of live files: each line of standard input has an area and a file, and with it is written what the file says.
+//! Runs scripts of live files: each line of standard input has an area and a file, and with it is written what
+//! the file says.
 //!
-//! `stdin` has the cases, among them the database of a real router, and `stdout` what they say, which was worked out outside.
+//! `stdin` has the cases, among them the database of a real router, and `stdout` what they say, which was
+//! worked out outside.
 #![tactic(auto)]
 
 mod answer;

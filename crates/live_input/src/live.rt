@@ -15,8 +15,8 @@ use std::alloc::Global;
 ///
 /// # Errors
 ///
-/// `Stop`: the file failed or is too long, or has a fault, with the line of JSON or the offset in LSA bytes as the line;
-/// want of memory.
+/// `Stop`: the file failed or is too long, or has a fault, with the line of JSON or the offset in LSA bytes as the
+/// line; want of memory.
 pub fn read_live_file<'a, S: Shelf>(
     alloc: Global,
     shelf: &mut S,

@@ -176,14 +176,14 @@ fn read_bytes(alloc: Global, bytes: &[u8]) -> Result<Database, Refusal<LiveFault
     }
 }
 
-/// The LSAs of an area in a router's own database, of each the newest instance (RFC 2328, 13.1); one of age 3600 or more is
-/// gone. Where the first byte other than blanks of JSON is a brace, the file is JSON as FRRouting prints it to `show
-/// ip ospf database router json`, of which the router-LSAs of the area are read; else it is LSAs as bytes.
+/// The LSAs of an area in a router's own database, of each the newest instance (RFC 2328, 13.1); one of MaxAge (3600)
+/// or more is flushed. Where the first byte other than blanks of JSON is a brace, the file is JSON as FRRouting prints
+/// it to `show ip ospf database router json`, of which the router-LSAs of the area are read; else it is LSAs as bytes.
 ///
 /// # Errors
 ///
-/// - In JSON `BadJson` where the text isn't JSON or nests deeper than 64, then `BadLive` for the first object that lacks a
-///   member or has it off its form, then `TooManyRouters`, `LsaTwice` and `ZeroMetric`, each with its line.
+/// - In JSON `BadJson` where the text isn't JSON or nests deeper than 64, then `BadLive` for the first object that
+///   lacks a member or has it off its form, then `TooManyRouters`, `LsaTwice` and `ZeroMetric`, each with its line.
 /// - In bytes the faults of `lsa_bytes::read_lsas`, each with the offset at which its LSA begins.
 /// - `OutOfMemory` where memory runs out.
 pub fn read_live(alloc: Global, bytes: &[u8], area: u32) -> Result<Database, Refusal<LiveFault>>

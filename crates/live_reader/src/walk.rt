@@ -130,8 +130,8 @@ pub fn item_places(alloc: Global, tape: &Tape<'_>, place: usize) -> Result<Vec<u
     Ok(places)
 }
 
-/// The place of the last member whose name is that of an area, if there is one, of the object at a place; None where some
-/// name is no dotted quad.
+/// The place of the last member whose name is that of an area, if there is one, of the object at a place; None where
+/// some name is no dotted quad.
 pub fn area_place(tape: &Tape<'_>, place: usize, area: u32) -> Option<Option<usize>>
     ensures { (ms : SpecMembers) → Stands tape.now place (object ms) →
         result ≡ option_map (option_map (λ m. m.place))

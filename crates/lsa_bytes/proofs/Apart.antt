@@ -19,7 +19,7 @@ use Rattle.lsa_bytes.specs.declared.instances.Stamp.{Stamp}
 use Rattle.lsa_bytes.specs.declared.instances.Instance.{Instance}
 use Rattle.lsa_bytes.specs.Databases.{HaveNoFault, has_links, is_router_lsa, is_same, has_zero_metric}
 use Rattle.lsa_bytes.specs.Written.{type_of_body}
-use Rattle.lsa_bytes.specs.Instances.{counts_among, is_gone, is_named, lsas_of, lsa_name_of, newest, same_name, stamps_of, stands_at, those_that_count}
+use Rattle.lsa_bytes.specs.Instances.{counts_among, is_max_age, is_named, lsas_of, lsa_name_of, newest, same_name, stamps_of, stands_at, those_that_count}
 use Rattle.lsa_bytes.specs.Faults.{fault_among, lsa_fault_behind, first_fault, placed}
 use Rattle.lsa_bytes.proofs.NewestLaws.{same_is}
 
@@ -91,7 +91,7 @@ only_one (first ∷ before) more instance are =
     ap (λ (b : Bool). map (λ (i : Instance). i.stamp) (cond b (first ∷ filter (is_named name) all) (filter (is_named name) all))) other
     ∙ only_one before more instance are.1
 
-rest_count : (before rest : List Instance) → AreApart (before ++ rest) → AllByRecursion (λ i. is_gone i.stamp ≡ false) rest →
+rest_count : (before rest : List Instance) → AreApart (before ++ rest) → AllByRecursion (λ i. is_max_age i.stamp ≡ false) rest →
     filter (counts_among (before ++ rest)) rest ≡ rest
 rest_count before [] are young = refl
 rest_count before (instance ∷ more) are young =
@@ -140,7 +140,7 @@ rest_faultless before (instance ∷ more) none =
     (subst HaveNoFault (sym (append_assoc before (instance.lsa ∷ []) (lsas_of more))) none)
 
 -- all of them count, and there is no fault
-pub all_count : (all : List Instance) → AllByRecursion (λ i. is_gone i.stamp ≡ false) all → HaveNoFault (lsas_of all) →
+pub all_count : (all : List Instance) → AllByRecursion (λ i. is_max_age i.stamp ≡ false) all → HaveNoFault (lsas_of all) →
     (fault_among all ≡ None) × (those_that_count all ≡ all)
 all_count all young none =
     let count = rest_count [] all (apart all none.different) young in

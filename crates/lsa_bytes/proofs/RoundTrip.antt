@@ -20,7 +20,7 @@ use Rattle.lsa_bytes.specs.declared.instances.Instance.{Instance}
 use Rattle.lsa_bytes.specs.Fields.{number_16, number_32}
 use Rattle.lsa_bytes.specs.Grammar.{age_of, type_of, length_of, link_at, starts_link, links_of, body_of, with_body, is_read, said_at, stamp_of}
 use Rattle.lsa_bytes.specs.Databases.{HaveNoFault}
-use Rattle.lsa_bytes.specs.Instances.{is_gone, lsas_of, those_that_count}
+use Rattle.lsa_bytes.specs.Instances.{is_max_age, lsas_of, those_that_count}
 use Rattle.lsa_bytes.specs.Faults.{body_fault}
 use Rattle.lsa_bytes.specs.Files.{IsLsa, Say, decided, fault_or, instances_in}
 use Rattle.lsa_bytes.proofs.Apart.{all_count}
@@ -159,7 +159,7 @@ said_again place m is =
     ap (λ (found : Option Body). with_body place bytes found) (body_again m.mask m.lsa.id m.lsa.router size m.lsa.body is.body)
     ∙ (λ i. record { stamp = stamp_of place bytes; lsa = record { id = id i; router = router i; body = m.lsa.body } } ∷ [])
 
-young_again : (place : ℕ) (m : Masked) → is_gone (written_at place m).stamp ≡ false
+young_again : (place : ℕ) (m : Masked) → is_max_age (written_at place m).stamp ≡ false
 young_again place m =
     let body = body_bytes m.mask m.lsa.body in
     ap (λ (age : ℕ). nat_le 3600 age) (header_age (type_of_body m.lsa.body) m.lsa.id m.lsa.router (20 + length body) body)
@@ -191,7 +191,7 @@ written_lsas : (place : ℕ) (ms : List Masked) → lsas_of (all_written place m
 written_lsas place [] = refl
 written_lsas place (m ∷ ms) = ap (λ (lsas : List Lsa). m.lsa ∷ lsas) (written_lsas (place + length (lsa_bytes m)) ms)
 
-all_young : (place : ℕ) (ms : List Masked) → AllByRecursion (λ i. is_gone i.stamp ≡ false) (all_written place ms)
+all_young : (place : ℕ) (ms : List Masked) → AllByRecursion (λ i. is_max_age i.stamp ≡ false) (all_written place ms)
 all_young place [] = tt
 all_young place (m ∷ ms) = (young_again place m, all_young (place + length (lsa_bytes m)) ms)
 

@@ -15,9 +15,9 @@ lsa_name_of lsa = record { kind = type_of_body lsa.body; id = lsa.id; router = l
 abbrev pub same_name : LsaName → LsaName → Bool
 same_name name other = name.kind == other.kind && (name.id == other.id && name.router == other.router)
 
--- the age is MaxAge or more: the LSA is taken back
-abbrev pub is_gone : Stamp → Bool
-is_gone stamp = nat_le 3600 stamp.age
+-- the age is MaxAge, 3600, or more: the LSA is flushed (RFC 2328, 14)
+abbrev pub is_max_age : Stamp → Bool
+is_max_age stamp = nat_le 3600 stamp.age
 
 -- RFC 2328, 13.1: the greater sequence number, as a signed number, is newer; of equals the greater checksum; of equals
 -- the one of MaxAge; of equals the one that is younger by more than MaxAgeDiff; else they are the same instance
@@ -25,8 +25,8 @@ abbrev pub is_newer : Stamp → Stamp → Bool
 is_newer stamp other =
     if not (stamp.sequence == other.sequence) then int_lt (cast_signed w32 other.sequence) (cast_signed w32 stamp.sequence)
     else if not (stamp.checksum == other.checksum) then nat_lt other.checksum stamp.checksum
-    else if is_gone stamp && not (is_gone other) then true
-    else if is_gone other && not (is_gone stamp) then false
+    else if is_max_age stamp && not (is_max_age other) then true
+    else if is_max_age other && not (is_max_age stamp) then false
     else nat_lt 900 (other.age - stamp.age)
 
 -- what stands of an LSA where an instance comes behind others: this one if there was none or it is newer
@@ -60,7 +60,7 @@ stands_at place (Some stamp) = stamp.place == place
 -- an instance counts where it is the newest of its LSA's and isn't of MaxAge
 abbrev pub counts_among : List Instance → Instance → Bool
 counts_among all instance =
-    not (is_gone instance.stamp) && stands_at instance.stamp.place (newest (stamps_of (lsa_name_of instance.lsa) all))
+    not (is_max_age instance.stamp) && stands_at instance.stamp.place (newest (stamps_of (lsa_name_of instance.lsa) all))
 
 -- the instances that count, in order
 abbrev pub those_that_count : List Instance → List Instance

@@ -41,7 +41,7 @@ lsa_bytes m =
 abbrev pub bytes_of_all : List Masked → List ℕ
 bytes_of_all lsas = flat_map lsa_bytes lsas
 
--- what a link may say
+-- a link of a router-LSA whose numbers fit their fields (RFC 2328, A.4.2), of a type from 1 to 4
 pub record IsWritableLink (link : LsaLink) : Type 0 where
   pub id : link.id < 2 ^ 32
   pub address : link.address < 2 ^ 32

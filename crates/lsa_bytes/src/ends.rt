@@ -5,7 +5,7 @@ ghost use Rattle.lsa_bytes.specs.AreaGraphs.{attaches, has_link};
 ghost use Rattle.lsa_bytes.specs.Grammar.{is_read};
 ghost use Rattle.lsa_bytes.specs.Vertices.{AreEnds, ids_of_type};
 
-use crate::members::Members;
+use crate::sorted_numbers::SortedNumbers;
 use crate::{Body, LsaLink, POINT_TO_POINT_LINK, TRANSIT_LINK};
 use cost_base::OutOfMemory;
 use std::alloc::Global;
@@ -14,9 +14,12 @@ use std::alloc::Global;
 #[derive(Drop)]
 pub enum Ends {
     /// A router-LSA: to these routers and into these networks.
-    Links { routers: Members, networks: Members },
+    Links {
+        routers: SortedNumbers,
+        networks: SortedNumbers,
+    },
     /// A network-LSA: to these routers.
-    Attached(Members),
+    Attached(SortedNumbers),
 }
 
 /// The IDs of the links of a type.
@@ -43,14 +46,14 @@ pub fn ends_of(alloc: Global, body: &Body) -> Result<Ends, OutOfMemory>
             let routers = ids_of_type(alloc, links.as_slice(), POINT_TO_POINT_LINK)?;
             let networks = ids_of_type(alloc, links.as_slice(), TRANSIT_LINK)?;
             Ok(Ends::Links {
-                routers: Members::of(routers),
-                networks: Members::of(networks),
+                routers: SortedNumbers::of(routers),
+                networks: SortedNumbers::of(networks),
             })
         }
         Body::Attached(attached) => {
             let mut routers = Vec::new(alloc);
             routers.extend_from_slice(attached.as_slice())?;
-            Ok(Ends::Attached(Members::of(routers)))
+            Ok(Ends::Attached(SortedNumbers::of(routers)))
         }
     }
 }

@@ -12,8 +12,8 @@ pub enum LsaFault {
     BadLength,
     /// A router-LSA's or network-LSA's body isn't as RFC 2328, A.4.2 and A.4.3, say, or a link's type isn't 1 to 4.
     BadBody,
-    /// An earlier LSA that counts is another router-LSA of the same advertising router, or another network-LSA of the same
-    /// link state ID, and no instance of this one.
+    /// An earlier LSA that counts is another router-LSA of the same advertising router, or another network-LSA of the
+    /// same link state ID, and no instance of this one.
     LsaTwice,
     /// A link of type 1 or 2 has metric 0.
     ZeroMetric,

@@ -9,9 +9,9 @@ use area_graph::{Graph, vertices_of};
 use cost_base::OutOfMemory;
 use std::alloc::Global;
 
-/// The graph of a database (RFC 2328, 16.1, first stage): a vertex for each router-LSA and then for each network-LSA, in
-/// their order; an edge for each link of type 1 or 2 to a vertex whose LSA leads back, at the link's metric; and an edge
-/// at no price out of each network to each attached router that has a link into it.
+/// The graph of a database (RFC 2328, 16.1, first stage): a vertex for each router-LSA and then for each network-LSA,
+/// in their order; an edge for each link of type 1 or 2 to a vertex whose LSA leads back, at the link's metric; and an
+/// edge at no price out of each network to each attached router that has a link into it.
 ///
 /// # Errors
 ///

@@ -45,8 +45,8 @@ fn id_fault(before: &[RouterConfig], id: Option<u32>) -> Option<LsaFault>
     }
 }
 
-/// The first configuration that has no router ID, or that of an earlier one; None where there is none. It takes no memory,
-/// and time in proportion to the square of their number.
+/// The first configuration that has no router ID, or that of an earlier one; None where there is none. It takes no
+/// memory, and time in proportion to the square of their number.
 pub fn check_ids(configs: &[RouterConfig]) -> Option<IdFault>
     requires { length configs.now < 2 ^ 32 }
     ensures { result ≡ first_id_fault [] 0 configs.now }

@@ -1,6 +1,6 @@
 //! Instances of one LSA, and which of two is the newer.
 ghost use Rattle.std.specs.Prelude.{◌≡◌};
-ghost use Rattle.lsa_bytes.specs.Instances.{is_gone, is_newer, lsa_name_of, newer_of};
+ghost use Rattle.lsa_bytes.specs.Instances.{is_max_age, is_newer, lsa_name_of, newer_of};
 
 use crate::{Body, Lsa, NETWORK_LSA, ROUTER_LSA};
 
@@ -54,9 +54,9 @@ pub fn name_of(lsa: &Lsa) -> LsaName
     }
 }
 
-/// Whether an instance is of the greatest age or more.
-pub fn is_gone(stamp: Stamp) -> bool
-    ensures { result ≡ is_gone stamp }
+/// Whether an instance is of MaxAge or more, by which an LSA is flushed (RFC 2328, 14).
+pub fn is_max_age(stamp: Stamp) -> bool
+    ensures { result ≡ is_max_age stamp }
 {
     stamp.age >= GREATEST_AGE
 }
@@ -71,10 +71,10 @@ fn is_newer(stamp: Stamp, other: Stamp) -> bool
     if stamp.checksum != other.checksum {
         return stamp.checksum > other.checksum;
     }
-    if is_gone(stamp) && !is_gone(other) {
+    if is_max_age(stamp) && !is_max_age(other) {
         return true;
     }
-    if is_gone(other) && !is_gone(stamp) {
+    if is_max_age(other) && !is_max_age(stamp) {
         return false;
     }
     other.age.saturating_sub(stamp.age) > GREATEST_AGE_DIFFERENCE

@@ -54,9 +54,9 @@ pub struct Lsa {
 
 /// The LSAs of an area that count, of each the newest instance, in the order of these instances in a file.
 ///
-/// Kept: each link is of type 1 to 4, and has a metric above 0 where it is of type 1 or 2; no two router-LSAs are of one
-/// advertising router, and no two network-LSAs of one link state ID; there are at most 1,000 router-LSAs; LSAs, links and
-/// attached routers are together fewer than 2^30.
+/// Kept: each link is of type 1 to 4, and has a metric above 0 where it is of type 1 or 2; no two router-LSAs are of
+/// one advertising router, and no two network-LSAs of one link state ID; there are at most 1,000 router-LSAs; LSAs,
+/// links and attached routers are together fewer than 2^30.
 #[derive(Drop)]
 pub struct Database {
     lsas: Listed<Lsa>,
@@ -102,11 +102,11 @@ mod fields;
 mod graphs;
 mod ids;
 mod instances;
-mod members;
 mod newest;
 mod reader;
 mod reading;
 mod seen;
+mod sorted_numbers;
 mod vertices;
 
 pub use fault::LsaFault;

@@ -6,7 +6,7 @@ ghost use Rattle.lsa_bytes.specs.Instances.{counts_among, same_name, stands_at};
 ghost use Rattle.indexmap.specs.IndexMap.{get};
 ghost use Rattle.lsa_bytes.specs.Newest.{HasNewest};
 
-use crate::instances::{Instance, LsaName, Stamp, is_gone, name_of, newer_of};
+use crate::instances::{Instance, LsaName, Stamp, is_max_age, name_of, newer_of};
 use cost_base::OutOfMemory;
 use indexmap::IndexMap;
 use std::alloc::Global;
@@ -81,6 +81,6 @@ impl Newest {
             result ≡ counts_among all instance.now }
     {
         let newest = self.of(name_of(&instance.lsa));
-        !is_gone(instance.stamp) && stands_at(newest, instance.stamp.place)
+        !is_max_age(instance.stamp) && stands_at(newest, instance.stamp.place)
     }
 }

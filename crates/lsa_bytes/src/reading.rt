@@ -70,7 +70,7 @@ fn push_instances(
 }
 
 /// The database of the instances that count, in their order. Of the instances of one LSA the newest counts (RFC 2328,
-/// 13.1), unless it is of age 3600 or more: then the LSA is gone.
+/// 13.1), unless it is of MaxAge (3600) or more: then the LSA is flushed.
 ///
 /// # Errors
 ///
@@ -111,14 +111,14 @@ fn first_refusal(
 }
 
 /// The LSAs that the bytes are, one after the other (RFC 2328, A.4.1 to A.4.3). LSAs of other types than 1 and 2 are
-/// passed over. Of the instances of one LSA the newest counts (RFC 2328, 13.1), and where its age is 3600 or more the LSA
-/// is gone. The LSAs stand in the order of the instances that count.
+/// passed over. Of the instances of one LSA the newest counts (RFC 2328, 13.1), and where its age is MaxAge (3600) or
+/// more the LSA is flushed. The LSAs stand in the order of the instances that count.
 ///
 /// # Errors
 ///
 /// `Refused` with the offset of the first faulty LSA, and of its faults the first in the order `ShortLsa`, `BadLength`,
-/// `BadBody`, `TooManyRouters`, `LsaTwice`, `ZeroMetric`, of which the last three are faults of what counts among the LSAs
-/// before the first that has one of the others. `OutOfMemory` where memory runs out.
+/// `BadBody`, `TooManyRouters`, `LsaTwice`, `ZeroMetric`, of which the last three are faults of what counts among the
+/// LSAs before the first that has one of the others. `OutOfMemory` where memory runs out.
 pub fn read_lsas(alloc: Global, bytes: &[u8]) -> Result<Database, Refusal<LsaFault>>
     requires { length bytes.now < 2 ^ 32 - 1 }
     ensures { MatchResult result (λ database. ComesTo bytes.now (Ok database)) (Refuses bytes.now) }

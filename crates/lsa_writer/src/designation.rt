@@ -14,8 +14,8 @@ fn outranks(member: LinkEnd, other: LinkEnd) -> bool
         || member.priority == other.priority && other.router < member.router
 }
 
-/// The end of the designated router among the members of a subnet: the one with the greatest priority, of equals the one
-/// with the greatest router ID.
+/// The end of the designated router among the members of a subnet: the one with the greatest priority, of equals the
+/// one with the greatest router ID.
 fn designated(ends: &[LinkEnd], members: &[u32]) -> LinkEnd
     ensures { result ≡ designated (member_ends ends.now members.now) }
 {

@@ -72,13 +72,14 @@ fn place_of(interfaces: &[Interface], name: &[u8]) -> Option<usize>
     None
 }
 
-/// The place of the interface of a name, looked for from a place on and then before it. So no interface is gone over twice
-/// where names are looked up in the order of the interfaces.
+/// The place of the interface of a name, looked for from a place on and then before it. So no interface is gone over
+/// twice where names are looked up in the order of the interfaces.
 fn place_from(interfaces: &[Interface], name: &[u8], from: usize) -> Option<usize>
     requires { AllPairs (λ a b. a.name ≢ b.name) interfaces.now }
     ensures { option_and_then (slice_get interfaces.now) result ≡
         interface_named name.now interfaces.now }
 {
+    // The place to begin at may be one of a router with more interfaces, whose link stands before this one.
     let (before, behind) = interfaces.split_at(from.min(interfaces.len()));
     match place_of(behind, name) {
         Some(place) => Some(before.len() + place),
@@ -117,6 +118,7 @@ fn interface_at(interfaces: &[Interface], place: Option<usize>) -> Option<&Inter
 /// The place behind one that was found, or the first.
 fn next_place(place: Option<usize>) -> usize {
     match place {
+        // For the prover alone: a place is below a list's length, so nothing saturates; no clause says so here.
         Some(place) => place.saturating_add(1),
         None => 0,
     }

@@ -73,9 +73,9 @@ fn push_network_lsas(
 }
 
 /// The LSAs of an area, one after the other (RFC 2328, A.4.1 to A.4.3): the router-LSAs in the order of the
-/// configurations, each with its linked interfaces in order at their costs; then the network-LSAs of the transit subnets.
-/// A subnet's designated router is the member with the greatest priority, of equals the one with the greatest router ID.
-/// Stub links aren't written. The graph of these LSAs is that of the area at these costs.
+/// configurations, each with its linked interfaces in order at their costs; then the network-LSAs of the transit
+/// subnets. A subnet's designated router is the member with the greatest priority, of equals the one with the greatest
+/// router ID. Stub links aren't written. The graph of these LSAs is that of the area at these costs.
 ///
 /// The database is that of the configurations; each link has a cost above 0; each configuration has a router ID, no two
 /// the same.

@@ -16,7 +16,8 @@ use cost_base::{Listed, Name, OutOfMemory};
 use interface_model::{Kind, RouterConfig};
 use std::alloc::Global;
 
-/// Whether a subnet of so many members links them: a point-to-point subnet links exactly two, a broadcast subnet two or more.
+/// Whether a subnet of so many members links them: a point-to-point subnet links exactly two, a broadcast subnet
+/// two or more.
 fn links_members(kind: Kind, members: u32) -> bool
     ensures { result ≡ is_linked_kind kind members }
 {
@@ -49,7 +50,8 @@ pub fn linked_ports<'a>(alloc: Global, ports: &[Port<'a>]) -> Result<Vec<Port<'a
     Ok(found)
 }
 
-/// Whether an interface is a transit subnet's first member, from how many linked interfaces before it stand on each subnet.
+/// Whether an interface is a transit subnet's first member, from how many linked interfaces before it stand
+/// on each subnet.
 fn is_first_member(seen: &Tally<Subnet>, port: &Port) -> bool
     ensures { (before : List Port) → IsTally same_subnet seen.now.counts (map subnet_of before) →
         result ≡ (is_broadcast port.now && not (list_any (shares_subnet port.now) before)) }
@@ -163,7 +165,8 @@ fn far_and_link_back(
     }
 }
 
-/// The link of a linked interface, by the places of the linked interfaces and those of the first members of transit subnets.
+/// The link of a linked interface, by the places of the linked interfaces and those of the first members
+/// of transit subnets.
 fn link_of(
     alloc: Global,
     links: &[Port],

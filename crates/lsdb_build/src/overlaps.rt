@@ -88,7 +88,8 @@ fn may_overlap(seen: &Owners, enclosing: &Owners, port: &Port) -> bool
     is_inside(seen, port) || enclosing.has_other(port.router, subnet_of(port))
 }
 
-/// Refuses the first interface of which an earlier one, of another router, has an overlapping subnet, and notes those before.
+/// Refuses the first interface of which an earlier one, of another router, has an overlapping subnet, and
+/// notes those before.
 fn refuse_among(
     seen: &mut Owners,
     enclosing: &mut Owners,
@@ -109,8 +110,8 @@ fn refuse_among(
 
 /// Refuses the first interface of which an earlier one, of another router, has an overlapping subnet.
 ///
-/// The interfaces before are compared one by one only at an interface whose subnet lies in or round an earlier one of another
-/// router.
+/// The interfaces before are compared one by one only at an interface whose subnet lies in or round an earlier one of
+/// another router.
 pub fn refuse_overlap(
     alloc: Global,
     ports: &[Port],

@@ -23,7 +23,11 @@ impl<'a> Model for Port<'a> {
 
     ghost Value = { Port };
 
-    ghost view = { λ p. record { router = p.router; interface = p.interface.now; address = p.address } };
+    ghost view = { λ p. record {
+      router = p.router;
+      interface = p.interface.now;
+      address = p.address;
+    } };
 
     ghost invariant = { λ p. p.interface.now.length ≤ 31 };
 }

@@ -46,7 +46,8 @@ fn start(
     said(alloc, told)
 }
 
-/// What is answered to a line, to stand behind it: `graph` takes another graph, and the other words ask of the one at hand.
+/// What is answered to a line, to stand behind it: `graph` takes another graph, and the other words ask of the
+/// one at hand.
 pub(crate) fn answer(
     alloc: Global,
     network: &mut Option<Graph>,

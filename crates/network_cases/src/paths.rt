@@ -2,7 +2,7 @@
 
 use crate::networks::{point, said};
 use area_graph::{
-    Graph, Path, Point, RequestedPath, avoids, is_only_cheapest, is_path_of, is_simple, path_cost,
+    Graph, Path, Point, WantedPath, avoids, is_only_cheapest, is_path_of, is_simple, path_cost,
     point_fits,
 };
 use case_scripts::{Written, next_number, next_numbers, next_word};
@@ -110,17 +110,15 @@ fn only_at(
     request: &Request,
     point: &Point,
 ) -> Result<String, OutOfMemory> {
-    let requested = RequestedPath {
+    let wanted = WantedPath {
         path: &request.path,
         end: request.end,
         excluded: request.excluded.as_slice(),
     };
-    if !point_fits(graph, point)
-        || !is_path_of(graph, requested.path, requested.end, requested.excluded)
-    {
+    if !point_fits(graph, point) || !is_path_of(graph, wanted.path, wanted.end, wanted.excluded) {
         return said(alloc, ": unfit");
     }
-    let is_only = is_only_cheapest(alloc, graph, point, &requested)?;
+    let is_only = is_only_cheapest(alloc, graph, point, &wanted)?;
     let told = if is_only { ": yes" } else { ": no" };
     said(alloc, told)
 }

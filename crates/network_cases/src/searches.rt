@@ -273,8 +273,8 @@ fn next_wanted(
 }
 
 /// `search TARGETS EXCLUDED POINT ..`: the least costs to each target where some edges are excluded, the edges that are
-/// tight, and the next hops of each vertex. `within LIMIT TARGETS EXCLUDED POINT ..`: the same of the least costs that are
-/// below a limit.
+/// tight, and the next hops of each vertex. `within LIMIT TARGETS EXCLUDED POINT ..`: the same of the least costs that
+/// are below a limit.
 pub(crate) fn search_text(
     alloc: Global,
     graph: &Graph,

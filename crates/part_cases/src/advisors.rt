@@ -86,8 +86,8 @@ fn chosen_text(
     Ok(text)
 }
 
-/// `choose TOLD CALLS ADVISOR ..`: tells advisors so many entries, and asks them so often over the ranges 1 to 4, 1 to 9 and
-/// 2 to 10. An advisor is `widest`, `smallest`, `turns` or a number that it adds to what it was told.
+/// `choose TOLD CALLS ADVISOR ..`: tells advisors so many entries, and asks them so often over the ranges 1 to 4, 1 to
+/// 9 and 2 to 10. An advisor is `widest`, `smallest`, `turns` or a number that it adds to what it was told.
 pub(crate) fn choose_text(alloc: Global, rest: &str) -> Result<String, AllocError> {
     let mut words = rest.split_whitespace();
     let told = next_number(&mut words);

@@ -56,7 +56,8 @@ impl<'a> fmt::Display for Names<'a> {
     }
 }
 
-/// `made BLOCKS START PLACE`: the names of the files of a made trial, the file at a place among them, and the request.
+/// `made BLOCKS START PLACE`: the names of the files of a made trial, the file at a place among them, and the request
+/// file.
 pub(crate) fn made_text(alloc: Global, rest: &str) -> Result<String, AllocError> {
     let mut words = rest.split_whitespace();
     let blocks = next_number(&mut words);
@@ -71,7 +72,7 @@ pub(crate) fn made_text(alloc: Global, rest: &str) -> Result<String, AllocError>
     case_text(alloc, &case, place)
 }
 
-/// The names of a made case's files, the file at a place among them, and the request.
+/// The names of a made trial's files, the file at a place among them, and the request file.
 fn case_text(alloc: Global, case: &TrialTexts, place: u32) -> Result<String, AllocError> {
     let names = Names(case.names.as_slice());
     let request = TextLines(&case.request);

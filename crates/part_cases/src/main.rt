@@ -1,5 +1,6 @@
-//! Runs scripts of the parts that know no network: lines, words and numbers, fractions, forms and boxes, covers, commands,
-//! made cases, advisors, and what stands for the outside. Each line of standard input, with what is answered to it.
+//! Runs scripts of the parts that know no network: lines, words and numbers, fractions, forms and boxes, covers,
+//! commands, made cases, advisors, and what stands for the outside. Each line of standard input, with what is answered
+//! to it.
 //!
 //! `stdin` has the cases, and `stdout` their answers, which were worked out by hand.
 #![tactic(auto)]

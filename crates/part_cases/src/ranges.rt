@@ -77,8 +77,8 @@ fn numbers_text(alloc: Global, numbers: &[i64], costs: &CostBox) -> Result<Strin
     form_text(alloc, &form, costs)
 }
 
-/// `over CONSTANT,COEFFICIENT.. LOWS HIGHS`: the terms of a form, its greatest value over a box, and the first range that it
-/// makes smaller.
+/// `over CONSTANT,COEFFICIENT.. LOWS HIGHS`: the terms of a form, its greatest value over a box, and the first range
+/// that it makes smaller.
 pub(crate) fn over_text(alloc: Global, rest: &str) -> Result<String, AllocError> {
     let mut words = rest.split_whitespace();
     let numbers = list_of::<i64>(alloc, next_word(&mut words))?;

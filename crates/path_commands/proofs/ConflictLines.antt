@@ -13,14 +13,14 @@ use Rattle.design_problem.proofs.TreeShapes.{sound_whole}
 use Rattle.evidence_text.specs.Lines.{AreShort}
 use Rattle.evidence_text.specs.Parts.{rows_lines}
 use Rattle.printed_rows.proofs.AnswerLines.{rows_lines_short, trees_short}
-use Rattle.printed_rows.proofs.CapBoxes.{cost_bounds, floor_below_ceiling}
+use Rattle.printed_rows.proofs.CapBoxes.{cost_bounds, low_below_greatest_bound}
 use Rattle.printed_rows.proofs.RowLines.{rows_short}
 use Rattle.printed_rows.proofs.SheetLaws.{sheet_names}
 use Rattle.printed_rows.proofs.TreeCopies.{whole_length}
 use Rattle.cost_branching.specs.Pools.{Differ}
 use Rattle.printed_rows.proofs.TreeLines.{IsPrintable, tree_short}
 use Rattle.conflict_core.specs.Conflicts.{IsTreeOfSet}
-use Rattle.printed_parts.specs.SharedParts.{at_ceiling}
+use Rattle.printed_parts.specs.SharedParts.{at_greatest_bound}
 
 pub rows_part_short : (p : DesignProblem) (top nodes : ℕ) (members : List ℕ) (rows : List Row) (tree : List Entry) →
     IsProblem p → FitsGraph p.graph → IsTreeOfSet p top nodes members rows tree → AreShort (rows_lines rows)
@@ -29,7 +29,7 @@ rows_part_short p top nodes members rows tree kept graph told = rows_lines_short
 -- the tree can be printed
 printable : (p : DesignProblem) (top nodes : ℕ) (members : List ℕ) (rows : List Row) (tree : List Entry) → IsProblem p →
     greatest_bound p ≤ 65535 → nodes ≤ 10000000 → IsTreeOfSet p top nodes members rows tree →
-    IsPrintable (at_ceiling p tree)
+    IsPrintable (at_greatest_bound p tree)
 printable p top nodes members rows tree kept small budget told =
     let over = told.printed.earnest in
     let whole = whole_length 1 tree (sound_whole (forms_of_rows p rows) (whole_box p) tree over.sound) in
@@ -38,19 +38,19 @@ printable p top nodes members rows tree kept small budget told =
       count = omega (arith, whole, told.printed.few);
       entries = λ k d k_in. (told.short k d k_in).0;
       lines = tree_short (LeadsEach (restricted p members)) top (length p.low) (length rows) _ (whole_box p) tree
-          (cost_bounds p (greatest_bound p) kept (floor_below_ceiling p kept) small) told.few over.earnest told.short
+          (cost_bounds p (greatest_bound p) kept (low_below_greatest_bound p kept) small) told.few over.earnest told.short
           (sheet_names (IsRow p) Differ rows tree told.sheet);
     }
 
 tree_part_short : (p : DesignProblem) (top nodes : ℕ) (members : List ℕ) (rows : List Row) (tree : List Entry)
     (word : List ℕ) → IsProblem p → greatest_bound p ≤ 65535 → nodes ≤ 10000000 → length word ≤ 20 →
-    IsTreeOfSet p top nodes members rows tree → AreShort (tree_lines word (Some (at_ceiling p tree)))
+    IsTreeOfSet p top nodes members rows tree → AreShort (tree_lines word (Some (at_greatest_bound p tree)))
 tree_part_short p top nodes members rows tree word kept small budget brief told =
-    trees_short word (Some (at_ceiling p tree)) brief (printable p top nodes members rows tree kept small budget told)
+    trees_short word (Some (at_greatest_bound p tree)) brief (printable p top nodes members rows tree kept small budget told)
 
 -- and the tree that was made of it
 pub made_part_short : (p : DesignProblem) (top nodes : ℕ) (members : List ℕ) (rows : List Row) (tree : List Entry)
-    (word : List ℕ) (made : CapTree) → IsProblem p → made ≡ at_ceiling p tree → made.cap ≤ 65535 → nodes ≤ 10000000 →
+    (word : List ℕ) (made : CapTree) → IsProblem p → made ≡ at_greatest_bound p tree → made.cap ≤ 65535 → nodes ≤ 10000000 →
     length word ≤ 20 → IsTreeOfSet p top nodes members rows tree → AreShort (tree_lines word (Some made))
 made_part_short p top nodes members rows tree word made kept same made_small budget brief told =
     let small : greatest_bound p ≤ 65535 = omega (arith, ap (λ (t : CapTree). t.cap) same, made_small) in

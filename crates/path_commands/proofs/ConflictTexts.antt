@@ -1,8 +1,7 @@
 -- The text of `conflict`, part by part.
-use Rattle.std.proofs.Common.{◌≡◌, ℕ, ◌+◌, ◌<◌, sym, ◌∙◌, ap, subst, List, [], ◌∷◌, ◌++◌, map, length, drop, get_or, append_assoc, arith}
+use Rattle.std.proofs.Common.{◌≡◌, ℕ, ◌+◌, ◌<◌, sym, ◌∙◌, ap, subst, List, [], ◌∷◌, ◌++◌, length, drop, get_or, append_assoc, arith}
 use Rattle.std.specs.Prelude.{All, codes, Some}
 use Rattle.std.proofs.lemmas.List.{at_drop_more, get_or_default}
-use Rattle.cost_base.specs.Decimal.{decimal}
 use Rattle.design_problem.specs.declared.answer.CapTree.{CapTree}
 use Rattle.design_problem.specs.declared.form.Row.{Row}
 use Rattle.design_problem.specs.declared.tree.Entry.{Entry}
@@ -11,23 +10,13 @@ use Rattle.design_problem.specs.Boxes.{IsInBox}
 use Rattle.design_problem.specs.Rows.{box_of}
 use Rattle.design_problem.specs.Text.{tree_lines}
 use Rattle.text_lines.specs.Lines.{with_ends}
-use Rattle.evidence_text.specs.Lines.{with_words}
 use Rattle.evidence_text.specs.Parts.{rows_lines}
 use Rattle.text_lines.proofs.LineLaws.{with_ends-append}
-use Rattle.evidence_text.proofs.WordLaws.{spaced-with}
 use Rattle.conflict_core.specs.declared.conflict.Conflict.TheVariants.{Fits, Core, Undecided}
 use Rattle.conflict_core.specs.Conflicts.{IsCore, all_requests}
-use Rattle.printed_parts.specs.SharedParts.{at_ceiling, costs_part}
+use Rattle.printed_parts.specs.SharedParts.{at_greatest_bound, costs_part}
 use Rattle.path_commands.specs.Conflicts.{conflict_text, members_line, without_line, without_parts}
 use Rattle.printed_parts.proofs.TextParts.{joined}
-
--- The line of the requests.
-
--- with its first two words
-pub members_begun : (line members : List ℕ) → line ≡ codes "members " ++ decimal (length members) → with_words line (map decimal members) ≡ members_line members
-members_begun line members is =
-    ap (λ (first : List ℕ). with_words first (map decimal members)) is
-    ∙ sym (spaced-with (codes "members") (decimal (length members) ∷ map decimal members))
 
 -- The whole texts.
 
@@ -43,22 +32,22 @@ fits_spelled p w members head costs whole all first second last =
 pub undecided_spelled : (p : DesignProblem) (members : List ℕ) (rows : List Row) (tree : List Entry)
     (head evidence whole : List ℕ) →
     head ≡ with_ends (codes "ospfcost conflict 1" ∷ codes "verdict undecided" ∷ members_line members ∷ []) →
-    evidence ≡ head ++ with_ends (rows_lines rows ++ tree_lines (codes "open") (Some (at_ceiling p tree))) →
+    evidence ≡ head ++ with_ends (rows_lines rows ++ tree_lines (codes "open") (Some (at_greatest_bound p tree))) →
     whole ≡ evidence ++ with_ends (codes "end" ∷ []) → whole ≡ conflict_text p (Undecided members rows tree)
 undecided_spelled p members rows tree head evidence whole first second last =
     let lines = codes "ospfcost conflict 1" ∷ codes "verdict undecided" ∷ members_line members ∷ [] in
-    let part = rows_lines rows ++ tree_lines (codes "open") (Some (at_ceiling p tree)) in
+    let part = rows_lines rows ++ tree_lines (codes "open") (Some (at_greatest_bound p tree)) in
     joined (lines ++ part) (codes "end" ∷ []) evidence whole (joined lines part head evidence first second) last
 
 pub core_spelled : (p : DesignProblem) (members : List ℕ) (rows : List Row) (tree : List Entry)
     (without : List (List ℕ)) (head evidence each whole : List ℕ) →
     head ≡ with_ends (codes "ospfcost conflict 1" ∷ codes "verdict core" ∷ members_line members ∷ []) →
-    evidence ≡ head ++ with_ends (rows_lines rows ++ tree_lines (codes "proof") (Some (at_ceiling p tree))) →
+    evidence ≡ head ++ with_ends (rows_lines rows ++ tree_lines (codes "proof") (Some (at_greatest_bound p tree))) →
     each ≡ evidence ++ with_ends (without_parts p members without) → whole ≡ each ++ with_ends (codes "end" ∷ []) →
     whole ≡ conflict_text p (Core members rows tree without)
 core_spelled p members rows tree without head evidence each whole first second third last =
     let lines = codes "ospfcost conflict 1" ∷ codes "verdict core" ∷ members_line members ∷ [] in
-    let part = rows_lines rows ++ tree_lines (codes "proof") (Some (at_ceiling p tree)) in
+    let part = rows_lines rows ++ tree_lines (codes "proof") (Some (at_greatest_bound p tree)) in
     let more = without_parts p members without in
     joined ((lines ++ part) ++ more) (codes "end" ∷ []) each whole
     (joined (lines ++ part) more evidence each (joined lines part head evidence first second) third) last
@@ -86,21 +75,10 @@ without_more p members lists i d none w member old new whole known listed is_mem
     ∙ ap (λ (lines : List (List ℕ)). old ++ with_ends lines) (sym (next_member ∙ next_list ∙ same))
     ∙ so_far
 
--- the first three lines
-pub head_spelled : (verdict members line none first second third : List ℕ) → none ≡ [] →
-    first ≡ none ++ with_ends (codes "ospfcost conflict 1" ∷ []) → second ≡ first ++ with_ends (verdict ∷ []) →
-    third ≡ second ++ with_ends (line ∷ []) → line ≡ members_line members →
-    third ≡ with_ends (codes "ospfcost conflict 1" ∷ verdict ∷ members_line members ∷ [])
-head_spelled verdict members line none first second third empty one two three is =
-    let a = codes "ospfcost conflict 1" in
-    let begun = joined [] (a ∷ []) none first empty one in
-    let next = joined (a ∷ []) (verdict ∷ []) first second begun two in
-    joined (a ∷ verdict ∷ []) (line ∷ []) second third next three ∙ ap (λ (last : List ℕ). with_ends (a ∷ verdict ∷ last ∷ [])) is
-
 -- the tree of a part by its other name
 pub evidence_pushed : (p : DesignProblem) (rows : List Row) (tree : List Entry) (t : CapTree) (word old new : List ℕ) →
-    t ≡ at_ceiling p tree → new ≡ old ++ with_ends (rows_lines rows ++ tree_lines word (Some t)) →
-    new ≡ old ++ with_ends (rows_lines rows ++ tree_lines word (Some (at_ceiling p tree)))
+    t ≡ at_greatest_bound p tree → new ≡ old ++ with_ends (rows_lines rows ++ tree_lines word (Some t)) →
+    new ≡ old ++ with_ends (rows_lines rows ++ tree_lines word (Some (at_greatest_bound p tree)))
 evidence_pushed p rows tree t word old new is pushed = pushed ∙ ap (λ (u : CapTree). old ++ with_ends (rows_lines rows ++ tree_lines word (Some u))) is
 
 -- each of the costs lies within the bounds

@@ -1,9 +1,6 @@
 -- What is left of an area of which edges are excluded.
-use Rattle.std.proofs.Common.{◌≡◌, ℕ, ◌+◌, sym, ◌∙◌, ap, List, [], ◌∷◌, ◌++◌, arith, Bool, cond}
-use Rattle.std.specs.List.{filter}
-use Rattle.std.proofs.lemmas.List.Elements.{filter-append}
-use Rattle.cost_base.specs.Lists.{Lacks, numbers_from}
-use Rattle.cost_base.proofs.ListLemmas.{numbers_from-push}
+use Rattle.std.proofs.Common.{ℕ, List, [], ◌∷◌, ◌++◌}
+use Rattle.cost_base.specs.Lists.{Lacks}
 use Rattle.area_graph.specs.Area.{Area}
 use Rattle.area_graph.specs.Paths.{Avoids, IsPathOf}
 use Rattle.design_problem.specs.declared.problem.Request.{Request}
@@ -19,17 +16,6 @@ avoids_both xs ys [] first second = tt
 avoids_both xs ys (e ∷ es) first second = (lacks_both xs ys e first.0 second.0, avoids_both xs ys es first.1 second.1)
 
 -- a path of which no edge is excluded is one of what is left
-pub path_left : (g : Area) (gone : List ℕ) (r : Request) → IsPathOf g (request_ends r) r.path.edges → Avoids gone r.path.edges →
-    IsPathOf g (request_ends (left_without gone r)) r.path.edges
-path_left g gone r is avoids = record { simple = is.simple; kept = avoids_both r.excluded gone r.path.edges is.kept avoids }
-
--- the next number was put behind those that pass, where it passes
-pub number_more : (p : ℕ → Bool) (n : ℕ) (old new : List ℕ) → old ≡ filter p (numbers_from 0 n) → new ≡ old ++ cond (p n) (n ∷ []) [] →
-    new ≡ filter p (numbers_from 0 (n + 1))
-number_more p n old new is pushed =
-    pushed ∙ ap (λ (xs : List ℕ). xs ++ cond (p n) (n ∷ []) []) is
-    ∙ sym (ap (filter p) (numbers_from-push 0 n) ∙ filter-append p (numbers_from 0 n) ((0 + n) ∷ [])
-    ∙ ap (λ m. filter p (numbers_from 0 n) ++ filter p (m ∷ [])) none_more)
-  where
-    none_more : 0 + n ≡ n
-    none_more = omega arith
+pub path_left : (g : Area) (exclusion : List ℕ) (r : Request) → IsPathOf g (request_ends r) r.path.edges → Avoids exclusion r.path.edges →
+    IsPathOf g (request_ends (left_without exclusion r)) r.path.edges
+path_left g exclusion r is avoids = record { simple = is.simple; kept = avoids_both r.excluded exclusion r.path.edges is.kept avoids }

@@ -7,10 +7,10 @@ use Rattle.cost_base.specs.declared.refusal.Refusal.{Refusal}
 use Rattle.cost_base.specs.declared.refusal.Refusal.TheVariants as stops
 use Rattle.design_problem.specs.Answers.{greatest_bound}
 use Rattle.design_problem.specs.Problems.{DesignProblem}
-use Rattle.text_lines.specs.LineFaults.{FaultyLine}
+use Rattle.text_lines.specs.LineFaults.{FaultyLine, TellsFault}
 use Rattle.set_reader.specs.declared.fault.SetFault.{SetFault}
 use Rattle.set_reader.specs.FaultNumbers.{set_fault_number}
-use Rattle.set_reader.specs.Reading.{AreSaid, TellsReading, set_fault}
+use Rattle.set_reader.specs.Reading.{AreSaid, set_fault}
 use Rattle.set_reader.specs.SpreadSets.{AreSetsOf}
 use Rattle.command_words.specs.Jobs.{SearchLimits}
 use Rattle.input_files.specs.declared.problem.View.TheVariants.{AsRequested}
@@ -69,7 +69,7 @@ sets_ready file d p bytes sets is none said lawful = record {
 
 -- a file with one
 pub sets_stop : (file : Bor (List ℕ)) (d : Input) (p : DesignProblem) (bytes : List ℕ) (stop : Refusal SetFault ℕ) → d.problem ≡ p →
-    TellsReading (set_fault p bytes) stop →
+    TellsFault (set_fault p bytes) stop →
     StopsAs (if_sets file.now d bytes (set_fault d.problem bytes)) [] (refusal_stop set_fault_number stop file)
 sets_stop file d p bytes (stops.Refused fault line) is tells =
     subst (λ (f : Option (FaultyLine SetFault)). EndsAs (if_sets file.now d bytes f) [] (Faulty (refusal_in (set_fault_number fault) file line)))
@@ -102,7 +102,7 @@ spread_found Given limits file d p sets spread report of small read found r =
     let sharing : Sharing = read.so.said in
     let is : p ≡ sharing.input.problem = sym (ap (λ (e : Input). e.problem) read.so.fits.0 ∙ of.0) in
     let ready : IsReadyInput sharing.input = subst IsReadyInput (sym read.so.fits.0) of.1 in
-    let ceiling : greatest_bound sharing.input.problem ≤ 65535 = subst (λ (q : DesignProblem). greatest_bound q ≤ 65535) is small in
+    let bound_small : greatest_bound sharing.input.problem ≤ 65535 = subst (λ (q : DesignProblem). greatest_bound q ≤ 65535) is small in
     let of_said : IsSpreadFound sharing.input.problem sets limits.top limits.nodes spread =
     subst (λ (q : DesignProblem). IsSpreadFound q sets limits.top limits.nodes spread) is found in
     let reports : Reports (spread_status spread) (spread_text sharing.input.problem spread) report =
@@ -114,6 +114,6 @@ spread_found Given limits file d p sets spread report of small read found r =
         said = sharing;
         ends = read.so.ends;
         fits = may_report (MaySpread limits sharing) (spread_status spread) (spread_text sharing.input.problem spread) report
-            reports (found_may limits sharing sets spread ready ceiling read.so.fits.1 of_said);
+            reports (found_may limits sharing sets spread ready bound_small read.so.fits.1 of_said);
       };
     }

@@ -2,38 +2,15 @@
 use Rattle.std.proofs.Common.{◌≡◌, ℕ, ◌+◌, ◌<◌, sym, ◌∙◌, ap, List, [], ◌∷◌, ◌++◌, map, length, drop, get_or, append_assoc}
 use Rattle.std.specs.Prelude.{codes, Option}
 use Rattle.std.proofs.lemmas.List.{at_drop_more}
-use Rattle.cost_base.specs.Decimal.{decimal}
 use Rattle.design_problem.specs.declared.answer.CapTree.{CapTree}
 use Rattle.design_problem.specs.declared.answer.Costs.{Costs}
-use Rattle.design_problem.specs.Text.{costs_lines, spaced, tree_lines}
+use Rattle.design_problem.specs.Text.{costs_lines, tree_lines}
 use Rattle.text_lines.specs.Lines.{with_ends}
-use Rattle.evidence_text.specs.Lines.{with_words}
 use Rattle.text_lines.proofs.LineLaws.{with_ends-append}
-use Rattle.evidence_text.proofs.WordLaws.{spaced-with}
 use Rattle.spread_sets.specs.declared.spread.SetRow.{SetRow}
 use Rattle.spread_sets.specs.Answers.{set_row_line}
 use Rattle.path_commands.specs.Spreads.{front_lines, set_rows_lines, spread_lines}
 use Rattle.printed_parts.proofs.TextParts.{joined}
-
--- The line of a row.
-
-pub rival_spelled : (first second third edges : List ℕ) (set : ℕ) → first ≡ codes "row" →
-    second ≡ first ++ 32 ∷ decimal set → third ≡ with_words second (map decimal edges) →
-    third ≡ spaced (codes "row" ∷ decimal set ∷ map decimal edges)
-rival_spelled first second third edges set one two three =
-    three
-    ∙ ap (λ (line : List ℕ). with_words line (map decimal edges)) (two ∙ ap (λ (line : List ℕ). line ++ 32 ∷ decimal set) one)
-    ∙ sym (spaced-with (codes "row") (decimal set ∷ map decimal edges))
-
-pub same_spelled : (first second third fourth : List ℕ) (set i j : ℕ) → first ≡ codes "same" →
-    second ≡ first ++ 32 ∷ decimal set → third ≡ second ++ 32 ∷ decimal i → fourth ≡ third ++ 32 ∷ decimal j →
-    fourth ≡ spaced (codes "same" ∷ decimal set ∷ decimal i ∷ decimal j ∷ [])
-same_spelled first second third fourth set i j one two three four =
-    four
-    ∙ ap (λ (line : List ℕ). line ++ 32 ∷ decimal j)
-    (three ∙ ap (λ (line : List ℕ). line ++ 32 ∷ decimal i)
-    (two ∙ ap (λ (line : List ℕ). line ++ 32 ∷ decimal set) one))
-    ∙ sym (spaced-with (codes "same") (decimal set ∷ decimal i ∷ decimal j ∷ []))
 
 -- The lines of the rows.
 
@@ -52,13 +29,6 @@ rows_more rows i d row old new whole within is pushed so_far =
     ∙ so_far
 
 -- The whole text.
-
-pub head_spelled : (verdict none first second : List ℕ) → none ≡ [] →
-    first ≡ none ++ with_ends (codes "ospfcost spread answer 1" ∷ []) → second ≡ first ++ with_ends (verdict ∷ []) →
-    second ≡ with_ends (codes "ospfcost spread answer 1" ∷ verdict ∷ [])
-head_spelled verdict none first second empty one two =
-    let a = codes "ospfcost spread answer 1" in
-    joined (a ∷ []) (verdict ∷ []) first second (joined [] (a ∷ []) none first empty one) two
 
 -- lines behind a text, part by part
 pub trees_pushed : (old first second third : List ℕ) (proof open_lines end : List (List ℕ)) →

@@ -12,7 +12,7 @@ use Rattle.conflict_core.specs.declared.conflict.Conflict.TheVariants.{Fits, Cor
 use Rattle.conflict_core.specs.Conflicts.{IsConflictFound, all_requests}
 use Rattle.command_words.specs.Jobs.{SearchLimits}
 use Rattle.input_files.specs.Outcomes.{Input}
-use Rattle.printed_parts.specs.SharedParts.{at_ceiling, costs_part}
+use Rattle.printed_parts.specs.SharedParts.{at_greatest_bound, costs_part}
 
 -- the line `members COUNT I ..` with the numbers of requests
 abbrev pub members_line : List ℕ → List ℕ
@@ -32,9 +32,9 @@ without_parts p (member ∷ members) (w ∷ lists) = without_line member ∷ cos
 abbrev pub conflict_lines : DesignProblem → Conflict → List (List ℕ)
 conflict_lines p (Fits w) = codes "verdict none" ∷ members_line (all_requests p) ∷ costs_part p w
 conflict_lines p (Core members rows tree without) =
-    codes "verdict core" ∷ members_line members ∷ rows_lines rows ++ tree_lines (codes "proof") (Some (at_ceiling p tree)) ++ without_parts p members without
+    codes "verdict core" ∷ members_line members ∷ rows_lines rows ++ tree_lines (codes "proof") (Some (at_greatest_bound p tree)) ++ without_parts p members without
 conflict_lines p (ConflictUndecided members rows tree) =
-    codes "verdict undecided" ∷ members_line members ∷ rows_lines rows ++ tree_lines (codes "open") (Some (at_ceiling p tree))
+    codes "verdict undecided" ∷ members_line members ∷ rows_lines rows ++ tree_lines (codes "open") (Some (at_greatest_bound p tree))
 
 -- the text of `conflict`
 abbrev pub conflict_text : DesignProblem → Conflict → List ℕ

@@ -1,6 +1,6 @@
 pub mod Audits
 pub mod Conflicts
-pub mod Gone
+pub mod LinkEdges
 pub mod LiveAudits
 pub mod SetFiles
 pub mod Spreads

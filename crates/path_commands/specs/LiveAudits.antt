@@ -12,7 +12,7 @@ use Rattle.lsdb_build.specs.Graphs.{Database}
 use Rattle.spf_ties.specs.Distances.{IsLeastCost}
 use Rattle.design_problem.specs.declared.problem.Request.{Request}
 use Rattle.design_problem.specs.Problems.{DesignProblem, request_ends}
-use Rattle.wanted_paths.specs.Paths.{link_takes}
+use Rattle.wanted_paths.specs.Paths.{link_excludes}
 use Rattle.lsa_bytes.specs.declared.Lsa.{Lsa}
 use Rattle.live_area.specs.LiveCosts.{missing_links, with_live_costs}
 use Rattle.live_input.specs.LiveReadings.{live_read}
@@ -50,23 +50,23 @@ live_audit_read names live = layout_read names >>= λ laid. live_read live laid.
 
 -- the edges of linked interfaces, in both directions of their point-to-point links, or from and to their subnets
 abbrev pub edges_of_links : Database → Area → List ℕ → List ℕ
-edges_of_links d g links = filter (λ e. list_any (λ l. link_takes d g l (slice_get d.links l) e) links) (numbers_from 0 (length g.edges))
+edges_of_links d g links = filter (λ e. list_any (λ l. link_excludes d g l (slice_get d.links l) e) links) (numbers_from 0 (length g.edges))
 
 -- the excluded edges of a running area: those of the linked interfaces that have no link there
-abbrev pub gone_edges : Running → List ℕ
-gone_edges now =
+abbrev pub excluded_live : Running → List ℕ
+excluded_live now =
     let d = running_database now.laid now.lsas in
     edges_of_links d now.problem.graph (missing_links (routers_of now.laid.files) now.lsas now.laid.database.links)
 
 -- a request that excludes these edges too
 abbrev pub left_without : List ℕ → Request → Request
-left_without gone r = record r { excluded = r.excluded ++ gone }
+left_without exclusion r = record r { excluded = r.excluded ++ exclusion }
 
 -- what is found of a wanted path where these edges are excluded: it is audited in what is left; or it has one of them,
 -- and its request's least cost in what is left is told
 abbrev pub IsFoundLive : Area → List ℕ → Request → LivePath → Type 0
-IsFoundLive g gone r (Stands path) = Avoids gone r.path.edges × IsAudited g (left_without gone r) path
-IsFoundLive g gone r (Gone least) = (Avoids gone r.path.edges → ⊥) × IsLeastCost g (at_costs []) (request_ends (left_without gone r)) least
+IsFoundLive g exclusion r (Stands path) = Avoids exclusion r.path.edges × IsAudited g (left_without exclusion r) path
+IsFoundLive g exclusion r (Gone least) = (Avoids exclusion r.path.edges → ⊥) × IsLeastCost g (at_costs []) (request_ends (left_without exclusion r)) least
 
 -- the words `least L` for the least cost that is left, or `unreachable` where no path is left
 abbrev pub left_words : Option ℕ → List (List ℕ)
@@ -86,7 +86,7 @@ live_lines i (path ∷ paths) = live_line i path ++ live_lines (i + 1) paths
 -- the text of an audit of a running area
 pub record IsLiveAudit (now : Running) (bytes : List ℕ) : Type 0 where
   pub paths : List LivePath
-  pub found : AllZip (IsFoundLive now.problem.graph (gone_edges now)) now.problem.paths paths
+  pub found : AllZip (IsFoundLive now.problem.graph (excluded_live now)) now.problem.paths paths
   pub spelled : bytes ≡ live_lines 0 paths
 
 -- what `audit --live` may write of a running area

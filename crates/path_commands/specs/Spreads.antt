@@ -17,7 +17,7 @@ use Rattle.spread_sets.specs.Spreads.{SharesEach, all_sets}
 use Rattle.command_words.specs.Jobs.{SearchLimits}
 use Rattle.input_files.specs.Outcomes.{Input}
 use Rattle.read_back_laws.specs.ReadBack.{graph_back, IsReadBack}
-use Rattle.printed_parts.specs.SharedParts.{at_ceiling}
+use Rattle.printed_parts.specs.SharedParts.{at_greatest_bound}
 use Rattle.printed_rows.specs.PrintedCosts.{named_costs}
 use Rattle.path_commands.specs.SetFiles.{AreSetsIn, Sharing}
 
@@ -40,11 +40,11 @@ spread_lines verdict costs rows proof unfinished =
     ++ tree_lines (codes "open") unfinished
     ++ (codes "end" ∷ [])
 
--- the lines of the text of `spread` on what was found; trees stand at the greatest upper bound
+-- the lines of the text of `spread` on what was found; trees stand at the greatest bound
 abbrev pub spread_found_lines : DesignProblem → Spread → List (List ℕ)
 spread_found_lines p (Fit w) = spread_lines (codes "verdict fit") (Some (named_costs p w)) [] None None
-spread_found_lines p (Impossible rows tree) = spread_lines (codes "verdict impossible") None rows.items (Some (at_ceiling p tree)) None
-spread_found_lines p (Undecided rows tree) = spread_lines (codes "verdict undecided") None rows.items None (Some (at_ceiling p tree))
+spread_found_lines p (Impossible rows tree) = spread_lines (codes "verdict impossible") None rows.items (Some (at_greatest_bound p tree)) None
+spread_found_lines p (Undecided rows tree) = spread_lines (codes "verdict undecided") None rows.items None (Some (at_greatest_bound p tree))
 
 -- the text of `spread` on what was found
 abbrev pub spread_text : DesignProblem → Spread → List ℕ

@@ -25,4 +25,4 @@ pub record ReportsSpread (limits : SearchLimits) (p : DesignProblem) (sets : Lis
   pub spread : Spread
   pub found : IsSpreadFound p sets limits.top limits.nodes spread
   pub reports : Reports (spread_status spread) (spread_text p spread) report
-  pub ceiling : greatest_bound p ≤ 65535
+  pub bound_small : greatest_bound p ≤ 65535

@@ -13,8 +13,8 @@ ghost use Rattle.path_commands.specs.LiveAudits.{IsFoundLive, MayAuditLive, Repo
 ghost use Rattle.report_writer.specs.Reports.{bytes_in};
 
 use crate::audit::{AuditedPath, audited, line_of};
-use crate::gone::edges_of_links;
-use area_graph::{Graph, Path, Point, Removal, mark_excluded};
+use crate::link_edges::edges_of_links;
+use area_graph::{Exclusion, Graph, Path, Point, mark_excluded};
 use cost_base::{Listed, OutOfMemory, Shelf, Status};
 use design_problem::{Problem, Request};
 use input_files::{FileWords, Layout, Stop, View, read_layout, resolution_at_present};
@@ -37,11 +37,11 @@ pub(crate) enum LivePath {
 }
 
 /// Whether none of the edges is excluded.
-fn is_left(gone: &Removal<'_>, edges: &[u32]) -> bool
-    ensures { IsTrue result ↔ Avoids gone.now edges.now }
+fn is_left(exclusion: &Exclusion<'_>, edges: &[u32]) -> bool
+    ensures { IsTrue result ↔ Avoids exclusion.now edges.now }
 {
     for edge in edges {
-        if !gone.leaves(*edge) {
+        if !exclusion.leaves(*edge) {
             return false;
         }
     }
@@ -51,13 +51,13 @@ fn is_left(gone: &Removal<'_>, edges: &[u32]) -> bool
 /// A request that excludes these edges too.
 fn left_without(
     alloc: Global,
-    gone: &Removal<'_>,
+    exclusion: &Exclusion<'_>,
     request: &Request,
 ) -> Result<Request, OutOfMemory>
-    ensures { IfOk result (λ left. left ≡ left_without gone.now request.now) }
+    ensures { IfOk result (λ left. left ≡ left_without exclusion.now request.now) }
 {
     let mut excluded = Vec::from_slice(alloc, request.excluded.as_slice())?;
-    excluded.extend_from_slice(gone.excluded)?;
+    excluded.extend_from_slice(exclusion.excluded)?;
     Ok(Request {
         path: Path {
             start: request.path.start,
@@ -90,7 +90,7 @@ fn least_left(graph: &Graph, request: &Request, point: &Point, room: &mut Room) 
 fn found_live(
     alloc: Global,
     graph: &Graph,
-    gone: &Removal<'_>,
+    exclusion: &Exclusion<'_>,
     request: &Request,
     room: &mut Room,
 ) -> Result<LivePath, OutOfMemory>
@@ -98,14 +98,14 @@ fn found_live(
     requires fits { FitsPoint graph.now (at_costs []) }
     requires path { IsPathOf graph.now (request_ends request.now) request.now.path.edges }
     ensures room { IsRoomFor graph.now room.new }
-    ensures found { IfOk result (IsFoundLive graph.now gone.now request.now) }
+    ensures found { IfOk result (IsFoundLive graph.now exclusion.now request.now) }
 {
     let point = Point {
         scale: 1,
         values: Listed::new(alloc),
     };
-    let left = left_without(alloc, gone, request)?;
-    if is_left(gone, request.path.edges.as_slice()) {
+    let left = left_without(alloc, exclusion, request)?;
+    if is_left(exclusion, request.path.edges.as_slice()) {
         Ok(LivePath::Stands(audited(graph, &left, &point, room)))
     } else {
         Ok(LivePath::Gone(least_left(graph, &left, &point, room)))
@@ -116,17 +116,17 @@ fn found_live(
 fn audit_left_in(
     alloc: Global,
     problem: &Problem,
-    gone: &Removal<'_>,
+    exclusion: &Exclusion<'_>,
     room: &mut Room,
 ) -> Result<Vec<LivePath>, OutOfMemory>
     requires low { problem.now.low ≡ [] }
     requires room { IsRoomFor problem.now.graph room.old }
-    ensures { IfOk result (λ found. AllZip (IsFoundLive problem.now.graph gone.now)
+    ensures { IfOk result (λ found. AllZip (IsFoundLive problem.now.graph exclusion.now)
         problem.now.paths found.items) }
 {
     let mut found = Vec::new(alloc);
     for request in problem.paths.as_slice() {
-        found.push(found_live(alloc, &problem.graph, gone, request, room)?)?;
+        found.push(found_live(alloc, &problem.graph, exclusion, request, room)?)?;
     }
     Ok(found)
 }
@@ -135,14 +135,14 @@ fn audit_left_in(
 fn audit_left(
     alloc: Global,
     problem: &Problem,
-    gone: &Removal<'_>,
+    exclusion: &Exclusion<'_>,
 ) -> Result<Vec<LivePath>, OutOfMemory>
     requires { problem.now.low ≡ [] }
-    ensures { IfOk result (λ found. AllZip (IsFoundLive problem.now.graph gone.now)
+    ensures { IfOk result (λ found. AllZip (IsFoundLive problem.now.graph exclusion.now)
         problem.now.paths found.items) }
 {
     let mut room = Room::new(alloc, &problem.graph)?;
-    let found = audit_left_in(alloc, problem, gone, &mut room);
+    let found = audit_left_in(alloc, problem, exclusion, &mut room);
     // For the prover alone: a call drops the room, so that its parts' drops aren't written out at each exit.
     drop(room);
     found
@@ -164,11 +164,11 @@ fn audit_running(
     let edges = edges_of_links(alloc, &running.lsdb, &problem.graph, &running.missing)?;
     let mut marks = vec![in alloc; false; problem.graph.edges().len()]?;
     mark_excluded(&mut marks, &edges);
-    let gone = Removal {
+    let exclusion = Exclusion {
         excluded: &edges,
         marks: &marks,
     };
-    audit_left(alloc, problem, &gone)
+    audit_left(alloc, problem, &exclusion)
 }
 
 /// The line of a path, by its number, of which an edge is excluded.
@@ -211,7 +211,7 @@ fn live_text(alloc: Global, paths: &[LivePath]) -> Result<Vec<u8>, OutOfMemory>
     Ok(text)
 }
 
-/// The area that requests are for.
+/// The area that a request file is for.
 fn area_of(requests: &RequestFile) -> u32
     ensures { result ≡ requests.now.area }
 {
@@ -279,8 +279,8 @@ fn report_of_running<'a>(
 ///
 /// # Errors
 ///
-/// `Stop`: a file failed or is too long, or the input has a fault; a linked interface has neither a link nor a cost; want of
-/// memory.
+/// `Stop`: a file failed or is too long, or the input has a fault; a linked interface has neither a link nor a cost;
+/// want of memory.
 pub fn audit_live_report<'a, S: Shelf>(
     alloc: Global,
     words: FileWords<'a>,

@@ -13,19 +13,10 @@ use cost_base::OutOfMemory;
 use cost_branching::keeps_conditions;
 use design_problem::{CostList, Problem, Row, Tree};
 use evidence_text::{TreePart, push_costs, push_evidence};
-use printed_parts::{at_ceiling, costs_by_name, push_line, push_words};
+use printed_parts::{
+    at_greatest_bound, costs_by_name, counted_line, head_lines, number_line, push_line,
+};
 use std::alloc::Global;
-use text_lines::push_number;
-
-/// The line of a set of requests.
-fn members_line(alloc: Global, members: &[u32]) -> Result<Vec<u8>, OutOfMemory>
-    ensures { IfOk result (λ line. line.items ≡ members_line members.now) }
-{
-    let mut line = Vec::from_slice(alloc, b"members ")?;
-    push_number(&mut line, members.len() as u128)?;
-    push_words(&mut line, members)?;
-    Ok(line)
-}
 
 /// The first lines, up to that of the requests.
 fn head_of(alloc: Global, verdict: &[u8], members: &[u32]) -> Result<Vec<u8>, OutOfMemory>
@@ -33,10 +24,8 @@ fn head_of(alloc: Global, verdict: &[u8], members: &[u32]) -> Result<Vec<u8>, Ou
         (λ text. text.items ≡ with_ends (codes "ospfcost conflict 1" ∷ verdict.now ∷
         members_line members.now ∷ [])) }
 {
-    let members = members_line(alloc, members)?;
-    let mut text = Vec::new(alloc);
-    push_line(&mut text, b"ospfcost conflict 1")?;
-    push_line(&mut text, verdict)?;
+    let members = counted_line(alloc, b"members", members.len() as u64, members)?;
+    let mut text = head_lines(alloc, b"ospfcost conflict 1", verdict)?;
     push_line(&mut text, members.as_slice())?;
     Ok(text)
 }
@@ -56,15 +45,6 @@ fn push_costs_part(
     push_costs(alloc, text, Some(&costs))
 }
 
-/// The line of a member that is left out.
-fn without_line(alloc: Global, member: u32) -> Result<Vec<u8>, OutOfMemory>
-    ensures { IfOk result (λ line. line.items ≡ without_line member) }
-{
-    let mut line = Vec::from_slice(alloc, b"without ")?;
-    push_number(&mut line, u128::from(member))?;
-    Ok(line)
-}
-
 /// Adds the lines of a member and of the costs without it.
 fn push_without_one(
     alloc: Global,
@@ -77,7 +57,7 @@ fn push_without_one(
     ensures { OnOk result (text.new.items ≡ text.old.items ++ with_ends
         (without_line member ∷ costs_part problem.now costs.now)) }
 {
-    let line = without_line(alloc, member)?;
+    let line = number_line(alloc, b"without", &[member])?;
     push_line(text, line.as_slice())?;
     push_costs_part(alloc, text, problem, costs)
 }
@@ -135,7 +115,7 @@ fn core_text(
 {
     keeps_conditions(problem);
     let mut text = head_of(alloc, b"verdict core", core.members)?;
-    let tree = at_ceiling(problem, tree);
+    let tree = at_greatest_bound(problem, tree);
     push_evidence(alloc, &mut text, core.rows, TreePart::Proof, &tree)?;
     push_without(alloc, &mut text, problem, core.members, core.without)?;
     push_line(&mut text, b"end")?;
@@ -157,7 +137,7 @@ fn undecided_text(
 {
     keeps_conditions(problem);
     let mut text = head_of(alloc, b"verdict undecided", members)?;
-    let tree = at_ceiling(problem, tree);
+    let tree = at_greatest_bound(problem, tree);
     push_evidence(alloc, &mut text, rows, TreePart::Unfinished, &tree)?;
     push_line(&mut text, b"end")?;
     Ok(text)

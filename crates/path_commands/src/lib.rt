@@ -5,7 +5,7 @@ mod audit;
 mod audit_live;
 mod conflict;
 mod conflict_text;
-mod gone;
+mod link_edges;
 mod sets_file;
 mod spread;
 mod spread_text;

@@ -17,7 +17,7 @@ use crate::spread_text::text_of_spread;
 use cost_base::{OutOfMemory, Shelf, Status};
 use design_problem::Problem;
 use input_files::{FileWords, Stop, View, read_problem};
-use printed_parts::keeps_ceiling;
+use printed_parts::keeps_greatest_bound;
 use report_writer::Report;
 use set_reader::Sets;
 use spread_sets::{Spread, find_spread};
@@ -57,7 +57,7 @@ fn report_of_sets(
     ensures { IfOk result (ReportsSpread (limits_seen limits.now) problem.now sets.now) }
 {
     let spread = find_spread(alloc, problem, sets, limits)?;
-    keeps_ceiling(problem);
+    keeps_greatest_bound(problem);
     report_of_spread(alloc, problem, spread)
 }
 
@@ -81,8 +81,8 @@ fn report_by_file<'a, S: Shelf>(
     Ok(report?)
 }
 
-/// The report of `spread` from the files of words, and from the file of sets, which is read after them: the text of what
-/// was found, with status 0, 1 or, where the budget was used up, 2.
+/// The report of `spread` from the files of words, and from the file of sets, which is read after them: the text of
+/// what was found, with status 0, 1 or, where the budget was used up, 2.
 ///
 /// # Errors
 ///

@@ -1,68 +1,38 @@
 //! The text of `spread`.
-ghost use Rattle.std.specs.Prelude.{◌≡◌, ℕ, [], ◌∷◌, ◌++◌, map, codes, List, None, Some, IfOk, OnOk};
+ghost use Rattle.std.specs.Prelude.{◌≡◌, ℕ, [], ◌∷◌, ◌++◌, codes, List, None, Some, IfOk, OnOk};
 ghost use Rattle.std.specs.Option.{option_copied};
-ghost use Rattle.cost_base.specs.Decimal.{decimal};
 ghost use Rattle.design_problem.specs.Boxes.{IsInBox};
 ghost use Rattle.design_problem.specs.Rows.{box_of};
 ghost use Rattle.design_problem.specs.Answers.{greatest_bound};
-ghost use Rattle.design_problem.specs.Text.{costs_lines, spaced, tree_lines};
+ghost use Rattle.design_problem.specs.Text.{costs_lines, tree_lines};
 ghost use Rattle.text_lines.specs.Lines.{with_ends};
 ghost use Rattle.evidence_text.specs.Lines.{AreShort};
-ghost use Rattle.evidence_text.specs.Parts.{rows_line};
-ghost use Rattle.spread_sets.specs.declared.spread.SetRow.TheVariants.{Same};
 ghost use Rattle.printed_rows.specs.FittingTexts.{FitText};
 ghost use Rattle.spread_sets.specs.Answers.{IsSpreadFound, set_row_line};
-ghost use Rattle.printed_parts.specs.SharedParts.{at_ceiling};
+ghost use Rattle.printed_parts.specs.SharedParts.{at_greatest_bound};
 ghost use Rattle.printed_rows.specs.PrintedCosts.{named_costs};
 ghost use Rattle.path_commands.specs.Spreads.{front_lines, set_rows_lines, spread_lines, spread_text};
 
 use cost_base::OutOfMemory;
 use design_problem::{CapTree, CostList, Costs, Problem, Tree};
 use evidence_text::{TreePart, push_costs, push_tree};
-use printed_parts::{at_ceiling, costs_by_name, push_line, push_word, push_words};
+use printed_parts::{
+    at_greatest_bound, costs_by_name, counted_line, head_lines, number_line, push_count_line,
+    push_line,
+};
 use spread_sets::{SetRow, Spread};
 use std::alloc::Global;
-use text_lines::push_number;
-
-/// The line of a rival: its set, and its edges.
-fn rival_line(alloc: Global, set: u32, edges: &[u32]) -> Result<Vec<u8>, OutOfMemory>
-    ensures { IfOk result
-        (λ line. line.items ≡ spaced (codes "row" ∷ decimal set ∷ map decimal edges.now)) }
-{
-    let mut line = Vec::from_slice(alloc, b"row")?;
-    push_word(&mut line, set)?;
-    push_words(&mut line, edges)?;
-    Ok(line)
-}
-
-/// The line of two members that cost the same: their set, and their numbers.
-fn same_line(alloc: Global, set: u32, first: u32, other: u32) -> Result<Vec<u8>, OutOfMemory>
-    ensures { IfOk result (λ line. line.items ≡ set_row_line (Same set first other)) }
-{
-    let mut line = Vec::from_slice(alloc, b"same")?;
-    push_word(&mut line, set)?;
-    push_word(&mut line, first)?;
-    push_word(&mut line, other)?;
-    Ok(line)
-}
 
 /// The line of a row.
 fn set_row_line(alloc: Global, row: &SetRow) -> Result<Vec<u8>, OutOfMemory>
     ensures { IfOk result (λ line. line.items ≡ set_row_line row.now) }
 {
     match row {
-        SetRow::Rival(set, rival) => rival_line(alloc, *set, rival.as_slice()),
-        SetRow::Same(set, first, other) => same_line(alloc, *set, *first, *other),
+        SetRow::Rival(set, rival) => {
+            counted_line(alloc, b"row", u64::from(*set), rival.as_slice())
+        }
+        SetRow::Same(set, first, other) => number_line(alloc, b"same", &[*set, *first, *other]),
     }
-}
-
-/// The line that rows begin with.
-fn rows_line(alloc: Global, count: usize) -> Result<Vec<u8>, OutOfMemory>
-    ensures { IfOk result (λ line. line.items ≡ rows_line count) }
-{
-    let mut line = Vec::from_slice(alloc, b"rows ")?;
-    push_number(&mut line, count as u128)?;
-    Ok(line)
 }
 
 /// Adds the line of a row.
@@ -78,23 +48,11 @@ fn push_set_row(alloc: Global, text: &mut Vec<u8>, row: &SetRow) -> Result<(), O
 fn push_set_rows(alloc: Global, text: &mut Vec<u8>, rows: &[SetRow]) -> Result<(), OutOfMemory>
     ensures { OnOk result (text.new.items ≡ text.old.items ++ with_ends (set_rows_lines rows.now)) }
 {
-    let line = rows_line(alloc, rows.len())?;
-    push_line(text, line.as_slice())?;
+    push_count_line(alloc, text, b"rows", rows.len() as u64)?;
     for row in rows {
         push_set_row(alloc, text, row)?;
     }
     Ok(())
-}
-
-/// The first lines, up to that of the verdict.
-fn head_of(alloc: Global, verdict: &[u8]) -> Result<Vec<u8>, OutOfMemory>
-    ensures { IfOk result
-        (λ text. text.items ≡ with_ends (codes "ospfcost spread answer 1" ∷ verdict.now ∷ [])) }
-{
-    let mut text = Vec::new(alloc);
-    push_line(&mut text, b"ospfcost spread answer 1")?;
-    push_line(&mut text, verdict)?;
-    Ok(text)
 }
 
 /// Adds the lines of both trees, and the last one.
@@ -129,7 +87,7 @@ fn text_of_rows(
         (λ text. text.items ≡
         with_ends (front_lines verdict.now (option_copied costs.entry) rows.now)) }
 {
-    let mut text = head_of(alloc, verdict)?;
+    let mut text = head_lines(alloc, b"ospfcost spread answer 1", verdict)?;
     push_costs(alloc, &mut text, costs)?;
     push_set_rows(alloc, &mut text, rows)?;
     Ok(text)
@@ -160,9 +118,9 @@ fn impossible_text(
     ensures { IfOk result
         (λ text. text.items ≡
         with_ends (spread_lines (codes "verdict impossible") None rows.now
-        (Some (at_ceiling problem.now tree)) None)) }
+        (Some (at_greatest_bound problem.now tree)) None)) }
 {
-    let tree = at_ceiling(problem, tree);
+    let tree = at_greatest_bound(problem, tree);
     let mut text = text_of_rows(alloc, b"verdict impossible", None, rows)?;
     push_trees(alloc, &mut text, Some(&tree), None)?;
     Ok(text)
@@ -179,9 +137,9 @@ fn undecided_text(
     ensures { IfOk result
         (λ text. text.items ≡
         with_ends (spread_lines (codes "verdict undecided") None rows.now None
-        (Some (at_ceiling problem.now tree)))) }
+        (Some (at_greatest_bound problem.now tree)))) }
 {
-    let tree = at_ceiling(problem, tree);
+    let tree = at_greatest_bound(problem, tree);
     let mut text = text_of_rows(alloc, b"verdict undecided", None, rows)?;
     push_trees(alloc, &mut text, None, Some(&tree))?;
     Ok(text)

@@ -1,4 +1,4 @@
--- The parts that are made of requests are the parts of their problem.
+-- The parts that are made of a request file are the parts of its problem.
 use Rattle.std.proofs.Common.{◌≡◌, ℕ, ◌+◌, ◌<◌, sym, ◌∙◌, ap, List, [], ◌∷◌, map, Option, Some, None, IfSome}
 use Rattle.std.specs.Prelude.{All, unwrap_or, if◌then◌else◌}
 use Rattle.std.specs.List.{filter_map}

@@ -1,4 +1,4 @@
--- Each refusal of a request once, on small databases.
+-- Each refusal of a request file once, on small databases.
 use Rattle.std.proofs.Common.{◌≡◌, ℕ, refl, List, [], ◌∷◌}
 use Rattle.std.specs.Prelude.{Some, None, codes}
 use Rattle.area_graph.specs.declared.Vertex.TheVariants.{Router as RouterVertex}
@@ -76,7 +76,7 @@ unknown_part : resolution_fault
     triangle ≡ Some (UnknownRouter 4)
 unknown_part = refl
 
--- the link is taken away in both directions
+-- the link is excluded in both directions
 path_excluded : resolution_fault (asked
     (line 4 (Path (record { hops = (codes "A", codes "0") ∷ []; last = codes "B" })
     (InterfacePart (codes "B") (codes "1") ∷ [])) ∷ [])) triangle ≡ Some (PathExcluded 4)
@@ -124,7 +124,7 @@ pair_asked = record {
 present_resolves : present_fault pair_asked pair ≡ None
 present_resolves = refl
 
--- in the present every interface is fixed, whatever is free in the request
+-- in the present every interface is fixed, whatever is free in the request file
 present_problem : present_problem_of pair_asked pair ≡ record {
   graph = record {
     vertices = RouterVertex 0 ∷ RouterVertex 1 ∷ [];

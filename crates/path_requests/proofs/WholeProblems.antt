@@ -1,4 +1,4 @@
--- The problem of requests without a fault keeps what every problem keeps.
+-- The problem of a request file without a fault keeps what every problem keeps.
 use Rattle.std.proofs.Common.{◌≡◌, ℕ, zero, suc, ◌+◌, ◌<◌, ◌≤◌, refl, sym, ◌∙◌, ap, subst, List, [], ◌∷◌, ◌++◌, length, map, get_or, arith, Bool, true, false, cond, Option, Some, None}
 use Rattle.std.specs.Prelude.{All, Any, count_by, slice_get, slice_index, slice_index_or, unwrap_or, not, if◌then◌else◌, ◌&&◌, ◌==◌}
 use Rattle.std.specs.List.{filter_map, list_any, cons_option}
@@ -28,18 +28,18 @@ use Rattle.request_reader.specs.declared.Item.{Item}
 use Rattle.request_reader.specs.WrittenRoutes.{Route}
 use Rattle.request_reader.specs.Asked.{Asked, HasGoodBounds, IsAsked, is_path_directive, is_path}
 use Rattle.path_requests.specs.Meaning.{Range, Within, AsItIs, range_said, range_of, is_free, is_free_at, low_of, high_of, owner, own, owners, variable_of, ranges, price_of, prices_from, names_from, problem_of}
-use Rattle.wanted_paths.specs.Paths.{is_link_named, next_name, router_number, route_edges, takes, excluded_edges, request_of}
+use Rattle.wanted_paths.specs.Paths.{is_link_named, next_name, router_number, route_edges, excludes, excluded_edges, request_of}
 use Rattle.wanted_paths.specs.Resolution.{is_known, is_joined, is_loop_free}
 use Rattle.wanted_paths.specs.LineFaults.{fault_unless, hop_faults, broken_faults, walk_faults, parts_faults, without_faults, is_router_part, is_path_excluded, directive_faults, line_faults}
 use Rattle.path_requests.specs.Resolving.{ends_faults}
 use Rattle.wanted_paths.specs.Paths.{outline}
 use Rattle.wanted_paths.proofs.RouteLaws.{route_simple, lacks_from}
-use Rattle.wanted_paths.proofs.ExcludedLaws.{excluded_takes}
+use Rattle.wanted_paths.proofs.ExcludedLaws.{excluded_may_be}
 use Rattle.wanted_paths.proofs.LookUps.{no_link}
 use Rattle.path_requests.proofs.ProblemLaws.{subnets_priced}
 use Rattle.wanted_paths.proofs.Walks.{well_from, words_known, hops_joined}
 use Rattle.wanted_paths.proofs.Withouts.{walk_simple}
-use Rattle.wanted_paths.proofs.TakenEdges.{has_kept}
+use Rattle.wanted_paths.proofs.ExcludedEdges.{has_kept}
 use Rattle.path_requests.proofs.RangeSteps.{range_after, range_is}
 use Rattle.wanted_paths.proofs.Outline.{as_outline, route_same, excluded_same, loop_free_same}
 use Rattle.path_requests.proofs.Numbering.{passing, numbered, passing_all}
@@ -199,15 +199,15 @@ names_have a d l (suc j) (first ∷ links) link at free =
 
 -- Paths
 
-avoids_taken : (d : Database) (g : Area) (parts : List Part) (es : List ℕ) →
-    list_any (λ e. list_any (takes d g e) parts) es ≡ false → All (λ e. e < length g.edges) es →
+avoids_excluded : (d : Database) (g : Area) (parts : List Part) (es : List ℕ) →
+    list_any (λ e. list_any (excludes d g e) parts) es ≡ false → All (λ e. e < length g.edges) es →
     Avoids (excluded_edges d g parts) es
-avoids_taken d g parts [] none within = tt
-avoids_taken d g parts (e ∷ es) none within =
-    let split = or_parts (list_any (takes d g e) parts) (list_any (λ e. list_any (takes d g e) parts) es) none in
+avoids_excluded d g parts [] none within = tt
+avoids_excluded d g parts (e ∷ es) none within =
+    let split = or_parts (list_any (excludes d g e) parts) (list_any (λ e. list_any (excludes d g e) parts) es) none in
     let below = All-head (λ e. e < length g.edges) e es within in (
-      lacks_from (excluded_edges d g parts) e (has_kept (λ e. list_any (takes d g e) parts) 0 (length g.edges) e (omega arith) (omega (arith, below)) ∙ split.0),
-      avoids_taken d g parts es split.1 (All-tail (λ e. e < length g.edges) e es within),
+      lacks_from (excluded_edges d g parts) e (has_kept (λ e. list_any (excludes d g e) parts) 0 (length g.edges) e (omega arith) (omega (arith, below)) ∙ split.0),
+      avoids_excluded d g parts es split.1 (All-tail (λ e. e < length g.edges) e es within),
     )
 
 -- what a wanted path gives
@@ -247,17 +247,17 @@ path_good d prices line route parts base same none =
     let start = router_number d (next_name route.hops route.last) in
     let stays = append-none (parts_faults d line parts) (fault_unless (not (is_path_excluded d route parts)) (PathExcluded line)) whole.1 in
     let kept = or_parts (list_any (is_router_part (next_name route.hops route.last)) parts)
-    (list_any (λ e. list_any (takes d (outline d) e) parts) edges)
+    (list_any (λ e. list_any (excludes d (outline d) e) parts) edges)
     (not-true (is_path_excluded d route parts)
     (well_from (not (is_path_excluded d route parts)) (PathExcluded line) stays.1)) in
-    let avoids = avoids_taken d (outline d) parts edges kept.1 (joined_known (outline d) start edges (router_number d route.last) out.joins) in
+    let avoids = avoids_excluded d (outline d) parts edges kept.1 (joined_known (outline d) start edges (router_number d route.last) out.joins) in
     record {
       path = record {
         simple = route_simple d prices route base same resolves;
         kept = subst (λ (excluded : List ℕ). Avoids excluded (route_edges d g route.hops route.last)) (sym (excluded_same d g (outline d) parts ends))
             (subst (λ (es : List ℕ). Avoids (excluded_edges d (outline d) parts) es) (sym (route_same d g (outline d) route.hops route.last ends)) avoids);
       };
-      excluded = excluded_takes d g parts;
+      excluded = excluded_may_be d g parts;
     }
 
 paths_good : (d : Database) (prices : List Price) (items : List Item) → IsAreaDatabase d → length prices ≡ length d.links →

@@ -1,4 +1,5 @@
--- What of requests can't be resolved in a database, as the whole list of faults in their order; and the present requests.
+-- What of a request file can't be resolved in a database, as the whole list of faults in their order; and the present
+-- request file.
 use Rattle.std.specs.Prelude.{ℕ, ◌+◌, List, [], ◌∷◌, ◌++◌, ◌==◌, ◌&&◌, nat_le, not, if◌then◌else◌, Bool, true, false, Option, Some, None, filter, length, slice_get}
 use Rattle.std.specs.List.{list_any}
 use Rattle.cost_base.specs.Lists.{first_of}
@@ -52,7 +53,7 @@ abbrev pub ends_faults : Asked → Database → List Item → List ResolutionFau
 ends_faults a d [] = []
 ends_faults a d (item ∷ items) = fault_unless (not (ties_different a d item.what)) (EndsDiffer item.line) ++ ends_faults a d items
 
--- the fault of requests that make more than 1,000 variables
+-- the fault of a request file that makes more than 1,000 variables
 abbrev pub variable_faults : Asked → Database → List ResolutionFault
 variable_faults a d = fault_unless (nat_le (length (owners a d)) 1000) TooManyVariables
 
@@ -75,7 +76,7 @@ cost_faults a d l (link ∷ links) =
 abbrev pub whole_faults : Asked → Database → List ResolutionFault
 whole_faults a d = ends_faults a d a.items ++ variable_faults a d ++ cost_faults a d 0 d.links
 
--- all faults of requests in a database, in order: those of the lines, then those of the whole
+-- all faults of a request file in a database, in order: those of the lines, then those of the whole
 abbrev pub resolution_faults : Asked → Database → List ResolutionFault
 resolution_faults a d = line_faults d a.items ++ whole_faults a d
 
@@ -92,7 +93,7 @@ says_freedom (Free router interface lo hi) = true
 says_freedom (Fix router interface) = true
 says_freedom _ = false
 
--- the requests without the lines on freedom
+-- the present request file: the request file without its lines on freedom
 abbrev pub present_asked : Asked → Asked
 present_asked a = record a { items = filter (λ item. not (says_freedom item.what)) a.items }
 

@@ -15,7 +15,7 @@ use std::alloc::Global;
 use std::marker::Model;
 use wanted_paths::Names;
 
-/// The range of each link, and whether lines make it symmetric. Contracts see the requests and the database.
+/// The range of each link, and whether lines make it symmetric. Contracts see the request file and the database.
 #[derive(Drop)]
 pub struct Choices<'a> {
     names: &'a Names<'a>,
@@ -35,11 +35,12 @@ impl<'a> Model for Choices<'a> {
 
     ghost invariant = { λ c. record {
       ranges : c.ranges.items ≡ map (range_of c.requests.now c.names.now) c.names.now.links;
-      symmetric : c.symmetric.items ≡ map (λ link. any_symmetric c.requests.now c.names.now (Some link)) c.names.now.links;
+      symmetric : c.symmetric.items ≡
+          map (λ link. any_symmetric c.requests.now c.names.now (Some link)) c.names.now.links;
     } };
 }
 
-/// The lines of requests.
+/// The lines of a request file.
 pub fn items(requests: &RequestFile) -> &[Item]
     ensures value { result.now ≡ requests.now.items }
     ensures asked { IsAsked requests.now }
@@ -48,7 +49,7 @@ pub fn items(requests: &RequestFile) -> &[Item]
 }
 
 impl<'a> Choices<'a> {
-    /// The choices of requests for an area's links, by one pass over the lines.
+    /// The choices of a request file for an area's links, by one pass over the lines.
     pub fn new(
         alloc: Global,
         names: &'a Names<'a>,
@@ -82,7 +83,7 @@ impl<'a> Choices<'a> {
         ensures value { result.now ≡ self.now.asked }
         ensures asked { IsAsked self.now.asked }
     {
-        // For the prover: what the type of requests keeps is known once their lines are read.
+        // For the prover: what the type of a request file keeps is known once its lines are read.
         let _lines = items(self.requests);
         self.requests
     }

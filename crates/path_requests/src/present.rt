@@ -80,7 +80,7 @@ pub fn assemble_present(
     requires costs { cost_faults (present_asked requests.now) names.now 0 names.now.links ≡ [] }
     ensures { IfOk result (λ problem. problem ≡ present_problem_of requests.now names.now) }
 {
-    // For the prover: what the types of requests and of an area keep is known once their parts are read.
+    // For the prover: what the types of a request file and of an area keep is known once their parts are read.
     let _lines = items(requests);
     let _links = names.links();
     let prices = present_prices(alloc, names, requests)?;

@@ -19,7 +19,8 @@ use request_reader::RequestFile;
 use std::alloc::Global;
 use wanted_paths::Names;
 
-/// The present cost of a link's interface; the default of the requests where it has none, and 0 where they have none.
+/// The present cost of a link's interface; the default of the request file where it has none, and 0 where
+/// there is none.
 pub fn present_cost(requests: &RequestFile, link: &Linked) -> u16
     ensures { result ≡ present_cost requests.now link.now }
 {
@@ -138,7 +139,7 @@ impl<'a> Numbering<'a> {
             (prices_from self.now.choices.now.asked self.now.choices.now.database 0
             self.now.choices.now.database.links)) }
     {
-        // For the prover: what the types of requests and of an area keep is known once their parts are read.
+        // For the prover: what the types of a request file and of an area keep is known once their parts are read.
         let _requests = self.choices.requests();
         let _links = self.choices.links();
         let prices = self.prices(alloc)?;
@@ -146,20 +147,20 @@ impl<'a> Numbering<'a> {
     }
 }
 
-/// The problem of requests whose lines have no fault, with their paths and the links with a variable of their own.
+/// The problem of a request file whose lines have no fault, with its paths and the links with a variable of their own.
 pub fn assemble(
     alloc: Global,
     choices: &Choices,
     own: &[u32],
     paths: Vec<Request>,
 ) -> Result<Problem, OutOfMemory>
-    // The links that own a variable, at most 1,000, and the paths are those of the requests.
+    // The links that own a variable, at most 1,000, and the paths are those of the request file.
     requires few { length own.now ≤ 1000 }
     requires own { own.now ≡ owners choices.now.asked choices.now.database }
     requires paths { paths.items ≡ filter_map (λ item. request_of choices.now.database
         (outline choices.now.database) item.what) choices.now.asked.items }
 
-    // No line of the requests has a fault.
+    // No line of the request file has a fault.
     requires lines { line_faults choices.now.database choices.now.asked.items ≡ [] }
     requires ends { ends_faults choices.now.asked choices.now.database choices.now.asked.items ≡
         [] }
@@ -167,7 +168,7 @@ pub fn assemble(
         choices.now.database.links ≡ [] }
     ensures { IfOk result (λ problem. problem ≡ problem_of choices.now.asked choices.now.database) }
 {
-    // For the prover: what the types of requests and of an area keep is known once their parts are read.
+    // For the prover: what the types of a request file and of an area keep is known once their parts are read.
     let _requests = choices.requests();
     let _links = choices.links();
     let numbering = Numbering { choices, own };

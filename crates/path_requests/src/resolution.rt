@@ -71,7 +71,7 @@ fn resolve_choices(
     Ok(assemble(alloc, choices, &own, paths)?)
 }
 
-/// The problem of requests whose lines have no fault, with their paths; the first fault after all lines.
+/// The problem of a request file whose lines have no fault, with its paths; the first fault after all lines.
 fn resolve_whole(
     alloc: Global,
     names: &Names,
@@ -90,7 +90,7 @@ fn resolve_whole(
     resolve_choices(alloc, &choices, paths)
 }
 
-/// The paths of requests, whose lines have no fault; the first fault of a line.
+/// The paths of a request file, whose lines have no fault; the first fault of a line.
 fn resolve_paths(
     alloc: Global,
     names: &Names,
@@ -157,8 +157,8 @@ pub fn resolve(
     resolve_named(alloc, &names, requests)
 }
 
-/// The problem in which every interface is fixed at its present cost, or at the default, whatever the requests free:
-/// there is no variable, and the paths are those of `resolve`.
+/// The problem in which every interface is fixed at its present cost, or at the default, whatever the request file
+/// frees: there is no variable, and the paths are those of `resolve`.
 ///
 /// # Errors
 ///

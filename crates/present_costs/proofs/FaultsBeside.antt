@@ -1,4 +1,4 @@
--- The first fault beside present costs, by the first fault of the requests.
+-- The first fault beside present costs, by the first fault of the request file.
 use Rattle.std.proofs.Common.{◌≡◌, ℕ, suc, ◌+◌, ◌<◌, get_or, drop, drop-cons, refl, sym, ◌∙◌, ap, List, [], ◌∷◌, ◌++◌, append_assoc, Bool, true, false, Option, Some, None}
 use Rattle.std.specs.Prelude.{if◌then◌else◌, ◌&&◌, nat_le, not, is_some, length}
 use Rattle.std.specs.List.{AllByRecursion}
@@ -29,7 +29,7 @@ use Rattle.present_costs.specs.PresentCosts.{faults_beside_present, fault_beside
 
 -- Links without a cost.
 
--- neither the interface nor the requests have a cost
+-- neither the interface nor the request file has a cost
 abbrev lacks_present : Option ℕ → Option ℕ → Bool
 lacks_present cost default = not (is_some cost) && not (is_some default)
 
@@ -190,7 +190,7 @@ cost_ones a d l (link ∷ links) = by_test (lacks_cost a link (range_of a d link
 
 -- The first fault.
 
--- the faults of costs come last, of the requests and beside present costs
+-- the faults of costs come last, of the request file and beside present costs
 resolution_is : (a : Asked) (d : Database) → resolution_faults a d ≡ faults_before a d ++ cost_faults a d 0 d.links
 resolution_is a d =
     let lines = line_faults d a.items in
@@ -215,7 +215,7 @@ none_before (x ∷ xs) ys fault others cost is =
     let same : x ≡ fault = cc in
     absurd (false≢true (sym others.0 ∙ ap is_of_cost same ∙ cost))
 
--- where the requests have no fault, it is that of the present network
+-- where the request file has no fault, it is that of the present network
 pub beside_resolved : (a : Asked) (d : Database) → resolution_fault a d ≡ None →
     fault_beside_present a d ≡ first_of (cost_faults (present_asked a) d 0 d.links)
 beside_resolved a d none =
@@ -223,7 +223,7 @@ beside_resolved a d none =
     let parts = append-none (faults_before a d) (cost_faults a d 0 d.links) all in
     ap (λ xs. first_of (xs ++ cost_faults (present_asked a) d 0 d.links)) parts.0
 
--- and where there is none beside present costs, the requests have none
+-- and where there is none beside present costs, the request file has none
 pub beside_then_resolved : (a : Asked) (d : Database) → fault_beside_present a d ≡ None → resolution_fault a d ≡ None
 beside_then_resolved a d none =
     let parts = append-none (faults_before a d) (cost_faults (present_asked a) d 0 d.links) (none_first (faults_beside_present a d) none) in

@@ -10,13 +10,13 @@ use Rattle.wanted_paths.specs.LineFaults.{line_faults}
 use Rattle.path_requests.specs.Meaning.{range_of, is_free, variable_of, present_cost, problem_of}
 use Rattle.path_requests.specs.Resolving.{ends_faults, variable_faults, cost_faults, present_asked}
 
--- all faults of requests beside present costs, in order: those of the lines, ends that differ, too many variables; and then,
--- as in the present network, each link without a cost, free or not
+-- all faults of a request file beside present costs, in order: those of the lines, ends that differ, too many variables;
+-- and then, as in the present network, each link without a cost, free or not
 abbrev pub faults_beside_present : Asked → Database → List ResolutionFault
 faults_beside_present a d =
     line_faults d a.items ++ ends_faults a d a.items ++ variable_faults a d ++ cost_faults (present_asked a) d 0 d.links
 
--- the first fault of requests beside present costs
+-- the first fault of a request file beside present costs
 abbrev pub fault_beside_present : Asked → Database → Option ResolutionFault
 fault_beside_present a d = first_of (faults_beside_present a d)
 

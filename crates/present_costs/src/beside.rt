@@ -1,4 +1,4 @@
-//! The problem of requests in an area where each link has a present cost, or their first fault.
+//! The problem of a request file in an area where each link has a present cost, or its first fault.
 ghost use Rattle.std.specs.Prelude.{◌≡◌, ◌&&◌, not, is_some, Some, None, IfOk, IfErr};
 ghost use Rattle.cost_base.specs.Lists.{first_of};
 ghost use Rattle.wanted_paths.specs.LineFaults.{TellsResolution};
@@ -34,8 +34,8 @@ fn first_without_cost(requests: &RequestFile, lsdb: &Lsdb) -> Option<ResolutionF
     None
 }
 
-/// The first fault beside present costs, where this is the first one of `resolve`: a fixed link without a cost gives way to
-/// the first link without one.
+/// The first fault beside present costs, where this is the first one of `resolve`: a fixed link without a cost gives
+/// way to the first link without one.
 fn fault_beside_present(
     requests: &RequestFile,
     lsdb: &Lsdb,
@@ -73,8 +73,8 @@ fn refusal_beside_present(
     }
 }
 
-/// The problem that requests make of an area's routers and links, as `resolve` makes it, where each link has a present
-/// cost, free or not: a cost line, or the default of the requests.
+/// The problem that a request file makes of an area's routers and links, as `resolve` makes it, where each link has a
+/// present cost, free or not: a cost line, or the default of the request file.
 ///
 /// # Errors
 ///

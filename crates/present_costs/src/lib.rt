@@ -1,4 +1,5 @@
-//! The present costs beside requests: which problem they make where each link has one, and the present cost of each variable.
+//! The present costs beside requests: which problem they make where each link has one, and the present cost
+//! of each variable.
 #![tactic(auto)]
 
 mod beside;

@@ -12,7 +12,7 @@ use path_requests::present_cost;
 use request_reader::RequestFile;
 use std::alloc::Global;
 
-/// The present cost of each link, in order: its cost line's, or the default of the requests.
+/// The present cost of each link, in order: its cost line's, or the default of the request file.
 ///
 /// # Errors
 ///

@@ -139,9 +139,9 @@ fn costs_within(
     Ok(costs)
 }
 
-/// The present cost of each variable of the problem of requests: that of its interface, or of both ends of a symmetric
-/// link where they are equal. None stands where the ends differ, or where the cost is outside the variable's bounds. One
-/// pass over the links and one over the variables.
+/// The present cost of each variable of a request file's problem: that of its interface, or of both ends of a symmetric
+/// link where they are equal. None stands where the ends differ, or where the cost is outside the variable's bounds.
+/// One pass over the links and one over the variables.
 ///
 /// # Errors
 ///

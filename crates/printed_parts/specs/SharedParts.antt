@@ -11,6 +11,6 @@ use Rattle.printed_rows.specs.PrintedCosts.{named_costs}
 abbrev pub costs_part : DesignProblem → List ℕ → List (List ℕ)
 costs_part p w = costs_lines (Some (named_costs p w))
 
--- the tree at the greatest upper bound
-abbrev pub at_ceiling : DesignProblem → List Entry → CapTree
-at_ceiling p tree = record { cap = greatest_bound p; tree = tree }
+-- the tree at the greatest bound
+abbrev pub at_greatest_bound : DesignProblem → List Entry → CapTree
+at_greatest_bound p tree = record { cap = greatest_bound p; tree = tree }

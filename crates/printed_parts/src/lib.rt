@@ -1,9 +1,13 @@
 //! Lines and parts that the texts of several commands share, put behind a text in memory.
 #![tactic(auto)]
 
+mod number_lines;
 mod parts;
 
+pub use number_lines::{
+    counted_line, number_line, push_count, push_count_line, push_counts, push_word, push_words,
+};
 pub use parts::{
-    at_ceiling, costs_by_name, keeps_ceiling, push_line, push_tree_at_ceiling, push_word,
-    push_words,
+    at_greatest_bound, costs_by_name, head_lines, keeps_greatest_bound, push_line,
+    push_tree_at_greatest_bound,
 };

@@ -1,14 +1,13 @@
-//! The lines and the parts.
-ghost use Rattle.std.specs.Prelude.{◌≡◌, ◌≤◌, ◌∷◌, ◌++◌, [], map, Some, IfOk, OnOk};
-ghost use Rattle.cost_base.specs.Decimal.{decimal};
+//! The first lines of texts, and the parts of costs and trees.
+ghost use Rattle.std.specs.Prelude.{◌≡◌, ◌≤◌, ◌∷◌, ◌++◌, [], Some, IfOk, OnOk};
 ghost use Rattle.design_problem.specs.Boxes.{IsInBox};
 ghost use Rattle.design_problem.specs.Rows.{box_of};
 ghost use Rattle.design_problem.specs.Answers.{greatest_bound};
 ghost use Rattle.design_problem.specs.Text.{costs_lines, tree_lines};
 ghost use Rattle.text_lines.specs.Lines.{with_ends};
-ghost use Rattle.evidence_text.specs.Lines.{with_words, AreShort};
+ghost use Rattle.evidence_text.specs.Lines.{AreShort};
 ghost use Rattle.evidence_text.specs.Parts.{part_word};
-ghost use Rattle.printed_parts.specs.SharedParts.{at_ceiling};
+ghost use Rattle.printed_parts.specs.SharedParts.{at_greatest_bound};
 ghost use Rattle.printed_rows.specs.PrintedCosts.{named_costs};
 
 use cost_base::OutOfMemory;
@@ -17,7 +16,7 @@ use design_problem::{CapTree, CostList, Costs, Problem, Tree, greatest_of};
 use evidence_text::{TreePart, push_capped_tree};
 use printed_rows::printed_costs;
 use std::alloc::Global;
-use text_lines::{push_bytes, push_number};
+use text_lines::push_bytes;
 
 /// Adds a line at the end.
 ///
@@ -31,30 +30,18 @@ pub fn push_line(text: &mut Vec<u8>, line: &[u8]) -> Result<(), OutOfMemory>
     push_bytes(text, b"\n")
 }
 
-/// Adds a number behind a space.
+/// The first lines of a text: the one that tells its kind, and that of its verdict.
 ///
 /// # Errors
 ///
 /// `OutOfMemory`.
-pub fn push_word(line: &mut Vec<u8>, number: u32) -> Result<(), OutOfMemory>
-    ensures { OnOk result (line.new.items ≡ line.old.items ++ 32 ∷ decimal number) }
+pub fn head_lines(alloc: Global, kind: &[u8], verdict: &[u8]) -> Result<Vec<u8>, OutOfMemory>
+    ensures { IfOk result (λ text. text.items ≡ with_ends (kind.now ∷ verdict.now ∷ [])) }
 {
-    push_bytes(line, b" ")?;
-    push_number(line, u128::from(number))
-}
-
-/// Adds numbers, each behind a space.
-///
-/// # Errors
-///
-/// `OutOfMemory`.
-pub fn push_words(line: &mut Vec<u8>, numbers: &[u32]) -> Result<(), OutOfMemory>
-    ensures { OnOk result (line.new.items ≡ with_words line.old.items (map decimal numbers.now)) }
-{
-    for number in numbers {
-        push_word(line, *number)?;
-    }
-    Ok(())
+    let mut text = Vec::new(alloc);
+    push_line(&mut text, kind)?;
+    push_line(&mut text, verdict)?;
+    Ok(text)
 }
 
 /// Costs of a problem's variables as they are printed, with the names of the free interfaces.
@@ -75,48 +62,48 @@ pub fn costs_by_name(
     printed_costs(alloc, problem, costs.as_slice())
 }
 
-/// The tree over the box at the greatest upper bound.
-pub fn at_ceiling(problem: &Problem, tree: Tree) -> CapTree
-    ensures same { result ≡ at_ceiling problem.now tree }
+/// The tree over the box at the greatest bound.
+pub fn at_greatest_bound(problem: &Problem, tree: Tree) -> CapTree
+    ensures same { result ≡ at_greatest_bound problem.now tree }
     ensures small { result.cap ≤ 65535 }
 {
     CapTree {
-        cap: ceiling(problem),
+        cap: greatest_bound(problem),
         tree,
     }
 }
 
-/// The greatest upper bound of a problem's variables.
-fn ceiling(problem: &Problem) -> u16
+/// The greatest bound of a problem's variables.
+fn greatest_bound(problem: &Problem) -> u16
     ensures { result ≡ greatest_bound problem.now }
 {
     greatest_of(problem.high.as_slice())
 }
 
-/// The greatest upper bound of a problem's variables is a cost of an interface.
-pub fn keeps_ceiling(problem: &Problem)
+/// The greatest bound of a problem's variables is a cost of an interface.
+pub fn keeps_greatest_bound(problem: &Problem)
     ensures { greatest_bound problem.now ≤ 65535 }
 {
     // For the prover: that the greatest bound has 16 bits is known once it is computed.
-    let _ceiling = ceiling(problem);
+    let _bound = greatest_bound(problem);
 }
 
-/// Adds the lines of a tree over the box at the greatest upper bound at the end, as the text of an answer has them in this
+/// Adds the lines of a tree over the box at the greatest bound at the end, as the text of an answer has them in this
 /// part.
 ///
 /// # Errors
 ///
 /// `OutOfMemory`.
-pub fn push_tree_at_ceiling(
+pub fn push_tree_at_greatest_bound(
     alloc: Global,
     text: &mut Vec<u8>,
     part: TreePart,
     problem: &Problem,
     tree: &Tree,
 ) -> Result<(), OutOfMemory>
-    requires { AreShort (tree_lines (part_word part) (Some (at_ceiling problem.now tree.now))) }
+    requires { AreShort (tree_lines (part_word part) (Some (at_greatest_bound problem.now tree.now))) }
     ensures { OnOk result (text.new.items ≡ text.old.items ++ with_ends
-        (tree_lines (part_word part) (Some (at_ceiling problem.now tree.now)))) }
+        (tree_lines (part_word part) (Some (at_greatest_bound problem.now tree.now)))) }
 {
-    push_capped_tree(alloc, text, part, ceiling(problem), tree)
+    push_capped_tree(alloc, text, part, greatest_bound(problem), tree)
 }

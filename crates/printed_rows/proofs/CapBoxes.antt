@@ -18,9 +18,9 @@ no_low_above low cap from k d k_in =
     let same = get_or_default low k 0 d k_in in
     omega arith
 
--- the greatest upper bound is below no lower bound
-pub floor_below_ceiling : (p : DesignProblem) → IsProblem p → greatest_cost p.low ≤ greatest_bound p
-floor_below_ceiling p kept = greatest-le p.low (greatest_bound p) (λ k k_in.
+-- the greatest bound is below no lower bound
+pub low_below_greatest_bound : (p : DesignProblem) → IsProblem p → greatest_cost p.low ≤ greatest_bound p
+low_below_greatest_bound p kept = greatest-le p.low (greatest_bound p) (λ k k_in.
     let ordered = (kept.ordered k k_in).1 in
     let most = le_greatest p.high k (omega (arith, kept.low_count)) in
     omega arith)
@@ -37,9 +37,9 @@ capped_box p cap kept most = record {
       omega arith;
 }
 
--- the box at the greatest upper bound
+-- the box at the greatest bound
 pub bounds_box : (p : DesignProblem) → IsProblem p → IsBox (length p.low) (capped (box_of p) (greatest_bound p))
-bounds_box p kept = capped_box p (greatest_bound p) kept (no_low_above p.low (greatest_bound p) (floor_below_ceiling p kept))
+bounds_box p kept = capped_box p (greatest_bound p) kept (no_low_above p.low (greatest_bound p) (low_below_greatest_bound p kept))
 
 -- the box at a cap has bounds of costs
 pub cost_bounds : (p : DesignProblem) (cap : ℕ) → IsProblem p → greatest_cost p.low ≤ cap → cap ≤ 65535 → IsCostBounds (length p.low) (capped (box_of p) cap)

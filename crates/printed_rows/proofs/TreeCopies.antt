@@ -138,16 +138,16 @@ copy_printed accepts IsTrueForm top nodes form box named old rows tree new_tree 
   few = let same = count_kept (new_number named) tree in subst (λ (es : List Entry). entry_count es ≤ nodes) (sym copy.copied) (omega arith);
 }
 
--- and a tree of spent budget
-pub copy_spent : {R : Type 0} (accepts : Point → Type 0) (IsTrueForm : Form → Type 0) (top nodes : ℕ) (form : R → Form)
+-- and a tree that used up the budget
+pub copy_used_up : {R : Type 0} (accepts : Point → Type 0) (IsTrueForm : Form → Type 0) (top nodes : ℕ) (form : R → Form)
     (box : CostBox) (named : ℕ → Bool) (old rows : List R) (tree new_tree : List Entry) →
     IsCopy named old rows tree new_tree → All (λ row. IsTrueForm (form row)) old →
     IsSearchTree accepts top (map form old) box tree → Contains tree Undone → entry_count tree ≡ nodes →
     IsUndecidedOver accepts IsTrueForm top nodes (map form rows) box new_tree
-copy_spent accepts IsTrueForm top nodes form box named old rows tree new_tree copy true_rows search undone spent = record {
-  printed = copy_printed accepts IsTrueForm top nodes form box named old rows tree new_tree copy true_rows search (omega (arith, spent));
+copy_used_up accepts IsTrueForm top nodes form box named old rows tree new_tree copy true_rows search undone used_up = record {
+  printed = copy_printed accepts IsTrueForm top nodes form box named old rows tree new_tree copy true_rows search (omega (arith, used_up));
   undone = subst (λ (es : List Entry). Contains es Undone) (sym copy.copied) (undone_kept (new_number named) tree undone);
-  spent = ap entry_count copy.copied ∙ count_kept (new_number named) tree ∙ spent;
+  used_up = ap entry_count copy.copied ∙ count_kept (new_number named) tree ∙ used_up;
 }
 
 -- a closed tree stays closed

@@ -7,7 +7,7 @@ use Rattle.design_problem.specs.declared.tree.Entry.TheVariants.{Tighten, Split,
 use Rattle.design_problem.specs.Renumbering.{renumbered, renumbered_part}
 use Rattle.printed_rows.specs.NamedRows.{entries_in, is_row_named, is_row_named_in}
 
--- whether the row has a mark
+-- whether the row of this number is marked; none is past the end of the marks
 abbrev pub is_marked : List Bool → ℕ → Bool
 is_marked marks row = slice_index_or marks row false
 

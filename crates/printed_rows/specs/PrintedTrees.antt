@@ -26,7 +26,7 @@ pub record IsUndecidedOver (accepts : Point → Type 0) (IsTrueForm : Form → T
     (box : CostBox) (tree : List Entry) : Type 0 where
   pub printed : IsPrintedOver accepts IsTrueForm top nodes forms box tree
   pub undone : Contains tree Undone
-  pub spent : entry_count tree ≡ nodes
+  pub used_up : entry_count tree ≡ nodes
 
 -- a tree of a problem over the box at its cap: a point is accepted where each wanted path leads by the scale, and a form
 -- is true where it is that of a row

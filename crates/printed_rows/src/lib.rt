@@ -1,7 +1,7 @@
 //! Rows, trees and costs as they are printed.
 //!
-//! Of the rows that a search knew those are printed that a tree over them names, in their order, and the tree names them
-//! by their new numbers. Costs are printed with the names of the free interfaces whose variables they are.
+//! Of the rows that a search knew those are printed that a tree over them names, in their order, and the tree names
+//! them by their new numbers. Costs are printed with the names of the free interfaces whose variables they are.
 #![tactic(auto)]
 
 mod cost_lines;

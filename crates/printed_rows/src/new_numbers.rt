@@ -1,11 +1,11 @@
 //! New numbers for the rows that are named.
-ghost use Rattle.std.specs.Prelude.{◌≡◌, ℕ, ◌<◌, ◌++◌, ◌∷◌, [], length, map, cond, Bool, All, IfOk, OnOk};
+ghost use Rattle.std.specs.Prelude.{◌≡◌, ℕ, ◌<◌, length, map, Bool, All, IfOk};
 ghost use Rattle.std.specs.Option.{option_copied};
 ghost use Rattle.design_problem.specs.Renumbering.{renumbered, renumbered_member, renumbered_part, renumbered_wide};
 ghost use Rattle.printed_rows.specs.NamedRows.{MemberBelow, NamesBelow, NamesKnown, TreeNamesKnown};
 ghost use Rattle.printed_rows.specs.NewNumbers.{AreNewNumbers, HasNumbers, KeepsOrder, PartsKeepOrder, kept_rows, is_marked, new_number, number_given};
 
-use cost_base::{Listed, OutOfMemory};
+use cost_base::{Listed, OutOfMemory, push_if};
 use design_problem::{CapTree, Entry, Member, Parts, Tree, WideAt};
 use std::alloc::Global;
 
@@ -29,17 +29,6 @@ pub fn new_numbers(alloc: Global, marks: &[bool]) -> Result<Vec<u64>, OutOfMemor
     Ok(numbers)
 }
 
-/// Puts a row at the end, if it is kept.
-fn push_if_kept<R: Drop>(kept: &mut Vec<R>, row: R, is_kept: bool) -> Result<(), OutOfMemory>
-    ensures { OnOk result (kept.new.items ≡ cond is_kept (kept.old.items ++ row ∷ [])
-        kept.old.items) }
-{
-    if is_kept {
-        kept.push(row)?;
-    }
-    Ok(())
-}
-
 /// The marked rows, in their order.
 ///
 /// # Errors
@@ -56,7 +45,7 @@ pub fn marked_rows<R: Drop>(
     let mut kept = Vec::new(alloc);
     let mut place = 0;
     for row in rows {
-        push_if_kept(&mut kept, row, marks[place])?;
+        push_if(&mut kept, row, marks[place])?;
         place += 1;
     }
     Ok(kept)

@@ -39,8 +39,8 @@ pub struct PrintedForest<R> {
     pub trees: Vec<Tree>,
 }
 
-/// The rows that the tree names, in their order, and the tree with the new numbers of these rows. An entry names the row
-/// of a Tighten, those of a Refute, and those of a Halve's basis.
+/// The rows that the tree names, in their order, and the tree with the new numbers of these rows. An entry names the
+/// row of a Tighten, those of a Refute, and those of a Halve's basis.
 ///
 /// # Errors
 ///

@@ -54,7 +54,7 @@ routers_back text files = map (router_read_back text) files
 abbrev pub database_back : Input → List ℕ → Database
 database_back d text = database_of d.asked.area (routers_back text d.files)
 
--- the graph of the network read back: each linked interface at its cost there, or at the request's default
+-- the graph of the network read back: each linked interface at its cost there, or at the request file's default
 abbrev pub graph_back : Input → List ℕ → Area
 graph_back d text =
     graph_at (database_back d text) (map (λ link. Fixed (present_cost d.asked link)) (database_back d text).links)

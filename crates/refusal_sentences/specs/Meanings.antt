@@ -26,7 +26,7 @@ configuration_sayings =
     ∷ (17, codes "more than 1,000 configurations or 4,000 active interfaces")
     ∷ []
 
--- what the numbers say whose place is a line of the request
+-- what the numbers say whose place is a line of the request file
 abbrev pub request_sayings : List (ℕ × List ℕ)
 request_sayings =
     (20, codes "this is no line of a request, or the header or the area is missing")

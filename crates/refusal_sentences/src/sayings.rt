@@ -29,7 +29,7 @@ pub(crate) fn said_of_configuration(number: u8) -> Option<&'static str>
     })
 }
 
-/// What the number of a refusal says whose place is a line of the request.
+/// What the number of a refusal says whose place is a line of the request file.
 pub(crate) fn said_of_request(number: u8) -> Option<&'static str>
     ensures { option_copied result ≡ table.saying_of table.request_sayings number }
 {
@@ -48,8 +48,8 @@ pub(crate) fn said_of_request(number: u8) -> Option<&'static str>
     })
 }
 
-/// What the number of a refusal says whose place is a line of a text with costs or evidence, of a file of sets or of JSON,
-/// or a line whose words behind `without` are refused.
+/// What the number of a refusal says whose place is a line of a text with costs or evidence, of a file of sets or of
+/// JSON, or a line whose words behind `without` are refused.
 pub(crate) fn said_of_line(number: u8) -> Option<&'static str>
     ensures { option_copied result ≡ table.saying_of table.line_sayings number }
 {

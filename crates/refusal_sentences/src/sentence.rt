@@ -60,8 +60,8 @@ fn sentence<'a>(
     }
 }
 
-/// What the line of a refusal, `refused NUMBER FILE PLACE` or `rejected NUMBER PLACE`, means in a sentence; None where it
-/// is no such line, or the number of no refusal.
+/// What the line of a refusal, `refused NUMBER FILE PLACE` or `rejected NUMBER PLACE`, means in a sentence; None where
+/// it is no such line, or the number of no refusal.
 ///
 /// # Errors
 ///

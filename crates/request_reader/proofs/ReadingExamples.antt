@@ -1,20 +1,27 @@
 -- Request files, read and refused.
 use Rattle.std.proofs.Common.{◌≡◌, ℕ, refl, List, [], ◌∷◌}
 use Rattle.std.specs.Prelude.{Option, Some, None, codes}
-use Rattle.text_lines.specs.Lines.{with_ends}
+use Rattle.text_lines.specs.Lines.{with_ends, words}
+use Rattle.text_lines.specs.Statements.{said_words}
 use Rattle.text_lines.specs.LineFaults.{FaultyLine}
 use Rattle.request_reader.specs.declared.Part.TheVariants.{Router, Interface}
 use Rattle.request_reader.specs.declared.Directive.TheVariants.{FreeAll, Free, Fix, Path, SymmetricAll, Symmetric}
 use Rattle.request_reader.specs.declared.fault.RequestFault.{RequestFault}
 use Rattle.request_reader.specs.declared.fault.RequestFault.TheVariants.{BadRequestLine, BadBounds}
-use Rattle.request_reader.specs.declared.reading.statement.Statement.TheVariants.{Passed, Ask, Refused}
-use Rattle.request_reader.specs.Reading.{asked_by, request_fault, said_by_request_line}
+use Rattle.request_reader.specs.declared.reading.statement.Statement.{Statement}
+use Rattle.request_reader.specs.declared.reading.statement.Statement.TheVariants.{Ask, Refused}
+use Rattle.request_reader.specs.ReadingLines.{request_statement_of}
+use Rattle.request_reader.specs.Reading.{asked_by, request_fault}
 
 abbrev with_head : List (List ℕ) → List ℕ
 with_head ls = with_ends (codes "ospfcost request 1" ∷ codes "area 0" ∷ ls)
 
 abbrev refused : RequestFault → ℕ → Option (FaultyLine RequestFault)
 refused fault line = Some (record { fault = fault; line = line })
+
+-- what a line says as a statement
+abbrev said : List ℕ → Statement
+said line = request_statement_of (words line)
 
 -- one line of each kind
 abbrev each_kind : List ℕ
@@ -61,33 +68,33 @@ first_of_two : request_fault (with_head (codes "free all 0 5" ∷ codes "free al
 first_of_two = refl
 
 -- bounds
-too_high : said_by_request_line (codes "free all 1 65536") ≡ Refused BadBounds
+too_high : said (codes "free all 1 65536") ≡ Refused BadBounds
 too_high = refl
 
-crossed : said_by_request_line (codes "free R eth0 3 2") ≡ Refused BadBounds
+crossed : said (codes "free R eth0 3 2") ≡ Refused BadBounds
 crossed = refl
 
-ten_digits : said_by_request_line (codes "free all 1 0000000009") ≡ Refused BadRequestLine
+ten_digits : said (codes "free all 1 0000000009") ≡ Refused BadRequestLine
 ten_digits = refl
 
-router_all : said_by_request_line (codes "free all 1 2 3") ≡ Ask (Free (codes "all") (codes "1") 2 3)
+router_all : said (codes "free all 1 2 3") ≡ Ask (Free (codes "all") (codes "1") 2 3)
 router_all = refl
 
-wrong_word_first : said_by_request_line (codes "free R:eth0 eth0 0 5") ≡ Refused BadRequestLine
+wrong_word_first : said (codes "free R:eth0 eth0 0 5") ≡ Refused BadRequestLine
 wrong_word_first = refl
 
 -- words behind `without`
-without_nothing : said_by_request_line (codes "path A:eth0 B without") ≡ Refused BadRequestLine
+without_nothing : said (codes "path A:eth0 B without") ≡ Refused BadRequestLine
 without_nothing = refl
 
-router_without : said_by_request_line (codes "path without") ≡ Ask (Path (record { hops = []; last = codes "without" }) [])
+router_without : said (codes "path without") ≡ Ask (Path (record { hops = []; last = codes "without" }) [])
 router_without = refl
 
-ends_at_without : said_by_request_line (codes "path A:eth0 without") ≡ Refused BadRequestLine
+ends_at_without : said (codes "path A:eth0 without") ≡ Refused BadRequestLine
 ends_at_without = refl
 
-empty_part : said_by_request_line (codes "path A without :eth0") ≡ Refused BadRequestLine
+empty_part : said (codes "path A without :eth0") ≡ Refused BadRequestLine
 empty_part = refl
 
-comment_passed : said_by_request_line (codes "  #area 0") ≡ Passed
+comment_passed : said_words (words (codes "  #area 0")) ≡ []
 comment_passed = refl

@@ -1,28 +1,28 @@
--- A path behind the header, unless it is one too many.
+-- A path behind other statements, unless it is one too many.
 use Rattle.std.proofs.Common.{◌≡◌, ℕ, ◌+◌, ◌≤◌, ◌<◌, refl, sym, ◌∙◌, ap, subst, List, [], ◌∷◌, ◌++◌, Bool, true, false, cond, ◌&&◌, Option, Some, None, All, arith}
 use Rattle.std.specs.Prelude.{nat_le, count_by}
 use Rattle.std.proofs.lemmas.Bool.{le-leb, lt-leb}
 use Rattle.std.proofs.lemmas.List.Elements.{All-nil, All-cons, All-append}
 use Rattle.std.proofs.lemmas.List.Sums.{sum_by-append}
 use Rattle.cost_base.specs.declared.refusal.Refusal.{Refusal}
-use Rattle.text_lines.specs.LineFaults.{fault_at, fault_in_line}
+use Rattle.text_lines.specs.LineFaults.{TellsFault, fault_at, fault_in_line}
 use Rattle.request_reader.specs.declared.Item.{Item}
 use Rattle.request_reader.specs.declared.Directive.{Directive}
 use Rattle.request_reader.specs.declared.fault.RequestFault.{RequestFault}
 use Rattle.request_reader.specs.declared.fault.RequestFault.TheVariants.{TooManyPaths}
 use Rattle.request_reader.specs.declared.reading.statement.Statement.TheVariants.{Ask}
 use Rattle.request_reader.specs.Asked.{HasGoodBounds, is_path, is_path_directive}
-use Rattle.request_reader.specs.Reading.{Told, TellsRequestFault, fault_behind_header}
+use Rattle.request_reader.specs.Reading.{Told, fault_said}
 use Rattle.request_reader.specs.ReadingSteps.{KeepsTold}
 
-abbrev told_of : Bool → Option ℕ → Option ℕ → List Item → Told
-told_of spoken area default items = record { spoken = spoken; area = area; default_cost = default; items = items }
+abbrev told_of : Option ℕ → Option ℕ → List Item → Told
+told_of area default items = record { area = area; default_cost = default; items = items }
 
 -- so many paths were read
-pub counted_now : (spoken : Bool) (area default : Option ℕ) (items : List Item) (told : Told) (paths : ℕ) →
-    record { spoken = spoken; area = area; default_cost = default; items = items } ≡ told → count_by is_path items ≡ paths →
+pub counted_now : (area default : Option ℕ) (items : List Item) (told : Told) (paths : ℕ) →
+    record { area = area; default_cost = default; items = items } ≡ told → count_by is_path items ≡ paths →
     count_by is_path told.items ≡ paths
-counted_now spoken area default items told paths view counted =
+counted_now area default items told paths view counted =
     ap (λ (t : Told). count_by is_path t.items) (sym view) ∙ counted
 
 many_test : (is : Bool) (n : ℕ) → is ≡ true → 10000 ≤ n → (is && nat_le 10000 n) ≡ true
@@ -36,15 +36,15 @@ few_test false n few = refl
 -- one path too many is told
 pub path_refused : (told : Told) (line : ℕ) (what : Directive) (paths : ℕ) (stop : Refusal RequestFault ℕ) →
     count_by is_path told.items ≡ paths → 10000 ≤ paths → is_path_directive what ≡ true →
-    TellsRequestFault (Some (fault_at line TooManyPaths)) stop →
-    TellsRequestFault (fault_in_line line (fault_behind_header told (Ask what))) stop
+    TellsFault (Some (fault_at line TooManyPaths)) stop →
+    TellsFault (fault_in_line line (fault_said told (Ask what))) stop
 path_refused told line what paths stop counted many path tells =
     let test = many_test (is_path_directive what) (count_by is_path told.items) path (omega (arith, counted, many)) in
-    subst (λ (b : Bool). TellsRequestFault (fault_in_line line (cond b (Some TooManyPaths) None)) stop) (sym test) tells
+    subst (λ (b : Bool). TellsFault (fault_in_line line (cond b (Some TooManyPaths) None)) stop) (sym test) tells
 
 -- a path that isn't one too many has no fault
 pub path_lawful : (told : Told) (what : Directive) (paths : ℕ) → count_by is_path told.items ≡ paths → paths < 10000 →
-    fault_behind_header told (Ask what) ≡ None
+    fault_said told (Ask what) ≡ None
 path_lawful told what paths counted few =
     let test = few_test (is_path_directive what) (count_by is_path told.items) (omega (arith, counted, few)) in
     ap (λ (b : Bool). cond b (Some TooManyPaths) None) test
@@ -68,9 +68,9 @@ path_kept default paths items after item kept bounds path few added =
     }
 
 -- what was said, with one item more
-pub item_told : (spoken : Bool) (area default : Option ℕ) (items after : List Item) (item : Item) (told : Told) →
-    record { spoken = spoken; area = area; default_cost = default; items = items } ≡ told → after ≡ items ++ item ∷ [] →
-    record { spoken = spoken; area = area; default_cost = default; items = after } ≡ record told { items = told.items ++ item ∷ [] }
-item_told spoken area default items after item told view added =
-    ap (λ (is : List Item). told_of spoken area default is) added
-    ∙ ap (λ (t : Told). told_of t.spoken t.area t.default_cost (t.items ++ item ∷ [])) view
+pub item_told : (area default : Option ℕ) (items after : List Item) (item : Item) (told : Told) →
+    record { area = area; default_cost = default; items = items } ≡ told → after ≡ items ++ item ∷ [] →
+    record { area = area; default_cost = default; items = after } ≡ record told { items = told.items ++ item ∷ [] }
+item_told area default items after item told view added =
+    ap (λ (is : List Item). told_of area default is) added
+    ∙ ap (λ (t : Told). told_of t.area t.default_cost (t.items ++ item ∷ [])) view

@@ -1,4 +1,4 @@
--- What a line says keeps the rules of requests.
+-- What a line says keeps the rules of request files.
 use Rattle.std.proofs.Common.{◌≡◌, ℕ, ◌≤◌, ◌<◌, refl, sym, subst, List, [], ◌∷◌, Bool, true, false, cond, ◌&&◌, Option, Some, None, arith}
 use Rattle.std.specs.Prelude.{nat_le, ◌==◌, codes, Result, Ok, Err}
 use Rattle.std.proofs.lemmas.Bool.{leb-true, eqb-false}
@@ -7,14 +7,13 @@ use Rattle.request_reader.specs.declared.fault.RequestFault.{RequestFault}
 use Rattle.request_reader.specs.declared.reading.statement.Bounds.{Bounds}
 use Rattle.request_reader.specs.declared.Directive.TheVariants.{Fix, Symmetric, SymmetricAll}
 use Rattle.request_reader.specs.declared.fault.RequestFault.TheVariants.{BadBounds}
-use Rattle.request_reader.specs.declared.reading.statement.Statement.TheVariants.{Passed, Header, DefaultCost, Ask}
+use Rattle.request_reader.specs.declared.reading.statement.Statement.TheVariants.{DefaultCost, Ask}
 use Rattle.request_reader.specs.WrittenRoutes.{Route}
 use Rattle.request_reader.specs.declared.Part.{Part}
 use Rattle.cost_base.specs.Lists.{same_bytes}
-use Rattle.text_lines.specs.Lines.{starts_comment}
 use Rattle.text_lines.specs.Numbers.{number, area}
 use Rattle.request_reader.specs.Routes.{route_of}
-use Rattle.request_reader.specs.ReadingLines.{off, header_line, area_line_by, area_line, default_cost_read, default_cost_line, bound, bounds_of, bounds_said, free_all, free_one, is_router_word, free_line, fix_line, symmetric_line, to_without, behind_without, excluded_parts, path_said, path_line, request_statement_by, request_statement_of}
+use Rattle.request_reader.specs.ReadingLines.{bad_request_line, area_line_by, area_line, default_cost_read, default_cost_line, bound, bounds_of, bounds_said, free_all, free_one, is_router_word, free_line, fix_line, symmetric_line, to_without, behind_without, excluded_parts, path_said, path_line, request_statement_by, request_statement_of}
 use Rattle.request_reader.specs.ReadingSteps.{KeepsRules}
 
 -- bounds from 1 on that don't cross
@@ -51,23 +50,23 @@ free_keeps [] = tt
 free_keeps (a ∷ []) = tt
 free_keeps (a ∷ b ∷ []) = tt
 free_keeps (all ∷ lo ∷ hi ∷ []) =
-    either (same_bytes all (codes "all")) (free_all (bounds_said lo hi)) off
+    either (same_bytes all (codes "all")) (free_all (bounds_said lo hi)) bad_request_line
     (free_all_keeps (bounds_said lo hi) (bounds_keep (bound lo) (bound hi))) tt
 free_keeps (router ∷ interface ∷ lo ∷ hi ∷ []) =
-    either (is_router_word router) (free_one router interface (bounds_said lo hi)) off
+    either (is_router_word router) (free_one router interface (bounds_said lo hi)) bad_request_line
     (free_one_keeps router interface (bounds_said lo hi) (bounds_keep (bound lo) (bound hi))) tt
 free_keeps (a ∷ b ∷ c ∷ d ∷ e ∷ more) = tt
 
 fix_keeps : (ws : List (List ℕ)) → KeepsRules (fix_line ws)
 fix_keeps [] = tt
 fix_keeps (a ∷ []) = tt
-fix_keeps (router ∷ interface ∷ []) = either (is_router_word router) (Ask (Fix router interface)) off tt tt
+fix_keeps (router ∷ interface ∷ []) = either (is_router_word router) (Ask (Fix router interface)) bad_request_line tt tt
 fix_keeps (a ∷ b ∷ c ∷ more) = tt
 
 symmetric_keeps : (ws : List (List ℕ)) → KeepsRules (symmetric_line ws)
 symmetric_keeps [] = tt
-symmetric_keeps (all ∷ []) = either (same_bytes all (codes "all")) (Ask SymmetricAll) off tt tt
-symmetric_keeps (router ∷ interface ∷ []) = either (is_router_word router) (Ask (Symmetric router interface)) off tt tt
+symmetric_keeps (all ∷ []) = either (same_bytes all (codes "all")) (Ask SymmetricAll) bad_request_line tt tt
+symmetric_keeps (router ∷ interface ∷ []) = either (is_router_word router) (Ask (Symmetric router interface)) bad_request_line tt tt
 symmetric_keeps (a ∷ b ∷ c ∷ more) = tt
 
 cost_keeps : (ws : List (List ℕ)) → KeepsRules (default_cost_line ws)
@@ -78,7 +77,7 @@ cost_keeps (word ∷ []) = said_keeps (number word 65535)
     said_keeps None = tt
     said_keeps (Some n) = by_test (n == 0) (λ some. omega (arith, eqb-false n 0 some))
       where
-        by_test : (b : Bool) → (b ≡ false → 0 < n) → KeepsRules (cond b off (DefaultCost n))
+        by_test : (b : Bool) → (b ≡ false → 0 < n) → KeepsRules (cond b bad_request_line (DefaultCost n))
         by_test true some = tt
         by_test false some = some refl
 cost_keeps (a ∷ b ∷ more) = tt
@@ -91,12 +90,6 @@ area_keeps (word ∷ []) = said_keeps (area word)
     said_keeps None = tt
     said_keeps (Some n) = tt
 area_keeps (a ∷ b ∷ more) = tt
-
-header_keeps : (ws : List (List ℕ)) → KeepsRules (header_line ws)
-header_keeps [] = tt
-header_keeps (a ∷ []) = tt
-header_keeps (a ∷ b ∷ []) = either (same_bytes a (codes "request") && same_bytes b (codes "1")) Header off tt tt
-header_keeps (a ∷ b ∷ c ∷ more) = tt
 
 path_keeps : (ws : List (List ℕ)) → KeepsRules (path_line ws)
 path_keeps [] = tt
@@ -111,17 +104,17 @@ line_keeps : (word : List ℕ) (ws : List (List ℕ)) → KeepsRules (request_st
 line_keeps word ws =
     one_of (same_bytes word (codes "path")) (same_bytes word (codes "free")) (same_bytes word (codes "fix"))
     (same_bytes word (codes "symmetric")) (same_bytes word (codes "area"))
-    (same_bytes word (codes "default-cost")) (same_bytes word (codes "ospfcost"))
-    (path_line ws) (free_line ws) (fix_line ws) (symmetric_line ws) (area_line ws) (default_cost_line ws) (header_line ws)
-    (path_keeps ws) (free_keeps ws) (fix_keeps ws) (symmetric_keeps ws) (area_keeps ws) (cost_keeps ws) (header_keeps ws)
+    (same_bytes word (codes "default-cost"))
+    (path_line ws) (free_line ws) (fix_line ws) (symmetric_line ws) (area_line ws) (default_cost_line ws)
+    (path_keeps ws) (free_keeps ws) (fix_keeps ws) (symmetric_keeps ws) (area_keeps ws) (cost_keeps ws)
   where
     one_of :
-        (a b c d e f g : Bool) (p q r s t u v : Statement) → KeepsRules p → KeepsRules q → KeepsRules r → KeepsRules s →
-        KeepsRules t → KeepsRules u → KeepsRules v →
-        KeepsRules (cond a p (cond b q (cond c r (cond d s (cond e t (cond f u (cond g v off)))))))
-    one_of a b c d e f g p q r s t u v kp kq kr ks kt ku kv =
-        either a p _ kp (either b q _ kq (either c r _ kr (either d s _ ks (either e t _ kt (either f u _ ku (either g v off kv tt))))))
+        (a b c d e f : Bool) (p q r s t u : Statement) → KeepsRules p → KeepsRules q → KeepsRules r → KeepsRules s →
+        KeepsRules t → KeepsRules u →
+        KeepsRules (cond a p (cond b q (cond c r (cond d s (cond e t (cond f u bad_request_line))))))
+    one_of a b c d e f p q r s t u kp kq kr ks kt ku =
+        either a p _ kp (either b q _ kq (either c r _ kr (either d s _ ks (either e t _ kt (either f u bad_request_line ku tt)))))
 
 pub statement_rules : (ws : List (List ℕ)) (said : Statement) → said ≡ request_statement_of ws → KeepsRules said
 statement_rules [] said is = subst KeepsRules (sym is) tt
-statement_rules (word ∷ ws) said is = subst KeepsRules (sym is) (either (starts_comment word) Passed (request_statement_by word ws) tt (line_keeps word ws))
+statement_rules (word ∷ ws) said is = subst KeepsRules (sym is) (line_keeps word ws)

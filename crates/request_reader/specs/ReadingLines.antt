@@ -1,7 +1,6 @@
--- What a line of a request file says by itself.
+-- What a statement of a request file says by itself.
 use Rattle.std.specs.Prelude.{ℕ, List, [], ◌∷◌, ◌==◌, ◌&&◌, nat_le, if◌then◌else◌, Bool, Option, Some, None, Result, Ok, Err, codes, is_none}
 use Rattle.cost_base.specs.Lists.{same_bytes}
-use Rattle.text_lines.specs.Lines.{words, starts_comment}
 use Rattle.text_lines.specs.Numbers.{number, number_within, area}
 use Rattle.text_lines.specs.WordLists.{all_said}
 use Rattle.request_reader.specs.declared.Part.{Part}
@@ -10,45 +9,40 @@ use Rattle.request_reader.specs.declared.Directive.TheVariants.{FreeAll, Free, F
 use Rattle.request_reader.specs.declared.fault.RequestFault.{RequestFault}
 use Rattle.request_reader.specs.declared.fault.RequestFault.TheVariants.{BadRequestLine, BadBounds}
 use Rattle.request_reader.specs.declared.reading.statement.Statement.{Statement}
-use Rattle.request_reader.specs.declared.reading.statement.Statement.TheVariants.{Passed, Header, Area, DefaultCost, Ask, Refused}
+use Rattle.request_reader.specs.declared.reading.statement.Statement.TheVariants.{Area, DefaultCost, Ask, Refused}
 use Rattle.request_reader.specs.declared.reading.statement.Bounds.{Bounds}
 use Rattle.request_reader.specs.WrittenRoutes.{Route}
 use Rattle.request_reader.specs.Routes.{cut, hop_of, route_of}
 
--- a line off the table
-abbrev pub off : Statement
-off = Refused BadRequestLine
-
--- `ospfcost request 1`
-abbrev pub header_line : List (List ℕ) → Statement
-header_line (request ∷ version ∷ []) = if same_bytes request (codes "request") && same_bytes version (codes "1") then Header else off
-header_line _ = off
+-- what a line says that isn't one of those below: it is refused
+abbrev pub bad_request_line : Statement
+bad_request_line = Refused BadRequestLine
 
 -- an `area` line, by the area that was read
 abbrev pub area_line_by : Option ℕ → Statement
-area_line_by None = off
+area_line_by None = bad_request_line
 area_line_by (Some a) = Area a
 
 -- `area X`
 abbrev pub area_line : List (List ℕ) → Statement
 area_line (word ∷ []) = area_line_by (area word)
-area_line _ = off
+area_line _ = bad_request_line
 
 -- a `default-cost` line, by the number that was read
 abbrev pub default_cost_read : Option ℕ → Statement
-default_cost_read None = off
-default_cost_read (Some n) = if n == 0 then off else DefaultCost n
+default_cost_read None = bad_request_line
+default_cost_read (Some n) = if n == 0 then bad_request_line else DefaultCost n
 
 -- `default-cost N`, N from 1 to 65535
 abbrev pub default_cost_line : List (List ℕ) → Statement
 default_cost_line (word ∷ []) = default_cost_read (number word 65535)
-default_cost_line _ = off
+default_cost_line _ = bad_request_line
 
 -- a number of at most nine digits
 abbrev pub bound : List ℕ → Option ℕ
 bound word = number_within 9 999999999 word
 
--- bounds of costs, where 1 ≤ LO ≤ HI ≤ 65535; where a word is no number the line is off the table
+-- bounds of costs, where 1 ≤ LO ≤ HI ≤ 65535; where a word is no number the line is refused as a whole
 abbrev pub bounds_of : Option ℕ → Option ℕ → Result Bounds RequestFault
 bounds_of (Some lo) (Some hi) = if nat_le 1 lo && nat_le lo hi && nat_le hi 65535 then Ok (record { lowest = lo; highest = hi }) else Err BadBounds
 bounds_of _ _ = Err BadRequestLine
@@ -73,20 +67,20 @@ is_router_word word = is_none (cut 58 word)
 
 -- `free all LO HI` or `free R IF LO HI`
 abbrev pub free_line : List (List ℕ) → Statement
-free_line (all ∷ lo ∷ hi ∷ []) = if same_bytes all (codes "all") then free_all (bounds_said lo hi) else off
-free_line (router ∷ interface ∷ lo ∷ hi ∷ []) = if is_router_word router then free_one router interface (bounds_said lo hi) else off
-free_line _ = off
+free_line (all ∷ lo ∷ hi ∷ []) = if same_bytes all (codes "all") then free_all (bounds_said lo hi) else bad_request_line
+free_line (router ∷ interface ∷ lo ∷ hi ∷ []) = if is_router_word router then free_one router interface (bounds_said lo hi) else bad_request_line
+free_line _ = bad_request_line
 
 -- `fix R IF`
 abbrev pub fix_line : List (List ℕ) → Statement
-fix_line (router ∷ interface ∷ []) = if is_router_word router then Ask (Fix router interface) else off
-fix_line _ = off
+fix_line (router ∷ interface ∷ []) = if is_router_word router then Ask (Fix router interface) else bad_request_line
+fix_line _ = bad_request_line
 
 -- `symmetric all` or `symmetric R IF`
 abbrev pub symmetric_line : List (List ℕ) → Statement
-symmetric_line (all ∷ []) = if same_bytes all (codes "all") then Ask SymmetricAll else off
-symmetric_line (router ∷ interface ∷ []) = if is_router_word router then Ask (Symmetric router interface) else off
-symmetric_line _ = off
+symmetric_line (all ∷ []) = if same_bytes all (codes "all") then Ask SymmetricAll else bad_request_line
+symmetric_line (router ∷ interface ∷ []) = if is_router_word router then Ask (Symmetric router interface) else bad_request_line
+symmetric_line _ = bad_request_line
 
 -- the word is `without`
 abbrev pub is_without : List ℕ → Bool
@@ -124,11 +118,11 @@ excluded_parts (Some (word ∷ words)) = parts_by_words (word ∷ words)
 -- a `path` line, by its route and the parts that it excludes
 abbrev pub path_said : Option Route → Option (List Part) → Statement
 path_said (Some route) (Some parts) = Ask (Path route parts)
-path_said _ _ = off
+path_said _ _ = bad_request_line
 
 -- `path R:IF R:IF .. R` or `path R:IF R:IF .. R without W ..`; the word `without` is looked for from the line's third word on
 abbrev pub path_line : List (List ℕ) → Statement
-path_line [] = off
+path_line [] = bad_request_line
 path_line (word ∷ words) = path_said (route_of (word ∷ to_without words)) (excluded_parts (behind_without words))
 
 -- what the words behind the first one say
@@ -140,10 +134,9 @@ request_statement_by word words =
     else if same_bytes word (codes "symmetric") then symmetric_line words
     else if same_bytes word (codes "area") then area_line words
     else if same_bytes word (codes "default-cost") then default_cost_line words
-    else if same_bytes word (codes "ospfcost") then header_line words
-    else off
+    else bad_request_line
 
--- what a line with these words says: nothing where it is blank or a comment
+-- what a statement of these words says
 abbrev pub request_statement_of : List (List ℕ) → Statement
-request_statement_of [] = Passed
-request_statement_of (word ∷ words) = if starts_comment word then Passed else request_statement_by word words
+request_statement_of [] = bad_request_line
+request_statement_of (word ∷ words) = request_statement_by word words

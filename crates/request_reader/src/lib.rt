@@ -65,5 +65,9 @@ impl Model for RequestFile {
 
     ghost view = { λ r. record { area = r.area; default_cost = r.default_cost; items = r.items } };
 
-    ghost invariant = { λ r. IsAsked (record { area = r.area; default_cost = r.default_cost; items = r.items }) };
+    ghost invariant = { λ r. IsAsked (record {
+      area = r.area;
+      default_cost = r.default_cost;
+      items = r.items;
+    }) };
 }

@@ -257,7 +257,7 @@ beaten_by g p ends limit room wanted place e total graph fits found path offer b
     let below = whole.cheap in
     omega arith
 
--- distances to the end of a request serve another one with the same end, that takes away the same edges
+-- distances to the end of a request serve another one with the same end, that excludes the same edges
 pub found_as : (g : Area) (p : Point) (ends others : Ends) (limit : ℕ) (room : Findings) → HasDistancesBelow g p ends limit room →
     ends.end ≡ others.end → ends.excluded ≡ others.excluded → HasDistancesBelow g p others limit room
 found_as g p ends others limit room found same_end same_excluded =

@@ -48,7 +48,8 @@ impl Model for Asker {
     ghost view = { λ a. record { room = a.room; order = a.order.items } };
 }
 
-/// What requests that share distances have in common: their end, and how many edges they exclude and the first of these.
+/// What requests that share distances have in common: their end, and how many edges they exclude and the
+/// first of these.
 fn target_of(requests: &[Request], number: u32) -> (u32, usize, Option<u32>) {
     match requests.get(number as usize) {
         Some(request) => {
@@ -151,8 +152,8 @@ impl Asker {
         }
     }
 
-    /// Up to which limit distances serve the request at a place of the order, and those behind it that share them: each of
-    /// their rivals that is too cheap costs less.
+    /// Up to which limit distances serve the request at a place of the order, and those behind it that share them: each
+    /// of their rivals that is too cheap costs less.
     fn limit_at(&self, survey: &Survey<'_>, place: usize) -> u128
         requires asker { IsAskerFor survey.now.graph.now survey.now.requests.now self.now }
         requires fits { FitsPoint survey.now.graph.now survey.now.point.now }
@@ -222,8 +223,8 @@ impl Asker {
         least_lead(&outlook) <= shared.limit
     }
 
-    /// Sees to it that the room has the distances that serve the request at a place of the order. It keeps those that it
-    /// has where they serve that one too.
+    /// Sees to it that the room has the distances that serve the request at a place of the order. It keeps those that
+    /// it has where they serve that one too.
     fn prepare(&mut self, survey: &Survey<'_>, place: usize, shared: Option<Shared>) -> Shared
         // The asker is one for these requests, and the path of each is a simple path of it.
         requires asker { IsAskerFor survey.now.graph.now survey.now.requests.now self.old }
@@ -274,8 +275,8 @@ impl Asker {
         is_beaten(&self.outlook_at(survey, place), &self.room)
     }
 
-    /// The cheapest rival of the request at a place of the order, None where its path leads. The room has the distances that
-    /// serve it, and keeps them.
+    /// The cheapest rival of the request at a place of the order, None where its path leads. The room has the distances
+    /// that serve it, and keeps them.
     fn rival_at(
         &mut self,
         alloc: Global,
@@ -308,9 +309,9 @@ impl Asker {
         Ok(Some(edges))
     }
 
-    /// The cheapest rival of each request, in the requests' order: None where every rival costs at least the path and the
-    /// scale at the point. The distances to an end are looked for once, and serve each request with that end that excludes
-    /// the same edges; its rival is laid out while they are there.
+    /// The cheapest rival of each request, in the requests' order: None where every rival costs at least the path and
+    /// the scale at the point. The distances to an end are looked for once, and serve each request with that end that
+    /// excludes the same edges; its rival is laid out while they are there.
     ///
     /// # Errors
     ///

@@ -101,7 +101,8 @@ fn better(best: Option<Deviation>, later: Deviation) -> Deviation
     }
 }
 
-/// The better of the best deviation so far and the one that leaves by an edge at a place, where there is one, at this cost.
+/// The better of the best deviation so far and the one that leaves by an edge at a place, where there is one,
+/// at this cost.
 pub fn better_by(
     best: Option<Deviation>,
     place: usize,
@@ -149,8 +150,9 @@ fn better_at(
     found
 }
 
-/// The deviation of least cost from the path of a request: places are tried from the path's start, edges out of a vertex
-/// in rising order, and the first of least cost is kept. None where no walk leaves the path and comes to its end.
+/// The deviation of least cost from the path of a request: places are tried from the path's start, edges out of
+/// a vertex in rising order, and the first of least cost is kept. None where no walk leaves the path and comes
+/// to its end.
 pub(crate) fn least_deviation(outlook: &Outlook<'_>, room: &Room) -> Option<Deviation>
     requires fits { FitsOutlook outlook.now }
     requires found { HasDistances outlook.now room.now }

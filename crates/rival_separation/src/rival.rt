@@ -95,8 +95,8 @@ fn follow(outlook: &Outlook<'_>, start: u32, room: &mut Room)
     }
 }
 
-/// Puts an edge behind the path that the room keeps, and goes on from the edge's end as `follow` does: so a walk that leaves
-/// a path by that edge becomes whole. The room has the distances to the end of the request.
+/// Puts an edge behind the path that the room keeps, and goes on from the edge's end as `follow` does: so a walk that
+/// leaves a path by that edge becomes whole. The room has the distances to the end of the request.
 pub fn leave_by(outlook: &Outlook<'_>, edge: u32, room: &mut Room)
     // The room has the distances to the request's end, and some path leads there by the edge.
     requires fits { FitsOutlook outlook.now }
@@ -189,8 +189,8 @@ pub fn find_rival(graph: &Graph, request: &Request, point: &Point, room: &mut Ro
     find_rival_at_hand(&outlook, room)
 }
 
-/// Looks for the cheapest rival of a request's path as `find_rival` does, by the distances that the room has: those to the
-/// request's end without its excluded edges, which are below what the path and the scale cost. It finds the same
+/// Looks for the cheapest rival of a request's path as `find_rival` does, by the distances that the room has: those to
+/// the request's end without its excluded edges, which are below what the path and the scale cost. It finds the same
 /// rival, and the room has the same distances afterwards.
 pub fn find_rival_at_hand(outlook: &Outlook<'_>, room: &mut Room) -> bool
     // The room has the distances up to what the request's path is compared with.
@@ -216,7 +216,8 @@ pub fn find_rival_at_hand(outlook: &Outlook<'_>, room: &mut Room) -> bool
     }
 }
 
-/// Makes the path that the room keeps the cheapest rival: up to the place of the best deviation it is the request's path.
+/// Makes the path that the room keeps the cheapest rival: up to the place of the best deviation it is
+/// the request's path.
 fn lay_out(outlook: &Outlook<'_>, best: Deviation, room: &mut Room)
     // The room has the distances up to what the request's path is compared with.
     requires fits { FitsOutlook outlook.now }
@@ -239,8 +240,8 @@ fn lay_out(outlook: &Outlook<'_>, best: Deviation, room: &mut Room)
 }
 
 /// The cheapest rival of a request's path at a point. It is Cheaper exactly where some other simple path of the request
-/// costs less than the path and the scale; its edges are such a path, and none costs less. `find_rival` looks for it, and
-/// serves where the room is used again. Takes no memory.
+/// costs less than the path and the scale; its edges are such a path, and none costs less. `find_rival` looks for it,
+/// and serves where the room is used again. Takes no memory.
 pub fn cheapest_rival<'a>(
     graph: &Graph,
     request: &Request,

@@ -133,7 +133,8 @@ impl Draft {
         Ok(added?)
     }
 
-    /// Adds a piece to the text: the line `line TEXT`, `text TEXT`, `copy PATH`, `lines FROM TO PATH` or `repeat FROM TO PATH`.
+    /// Adds a piece to the text: the line `line TEXT`, `text TEXT`, `copy PATH`, `lines FROM TO PATH` or `repeat FROM
+    /// TO PATH`.
     fn add_piece(&mut self, rt: &(impl Files + AllocGlobal), kind: &str, rest: &str) -> Result<()> {
         match kind {
             "line" => Ok(self.add_line(rest)?),
@@ -156,7 +157,8 @@ impl Draft {
         Ok(self.case.failing_puts.push((call, kept))?)
     }
 
-    /// Takes what the case says by one number: its status, how many advisors are left, or a call of the shelf that fails.
+    /// Takes what the case says by one number: its status, how many advisors are left, or a call of the
+    /// shelf that fails.
     fn take_number(&mut self, kind: &str, rest: &str) -> Result<()> {
         let number = rest.parse::<usize>().context("no number")?;
         match kind {
@@ -236,7 +238,8 @@ pub(crate) fn read_in(
     read(rt, path.as_str())
 }
 
-/// A run of a case, from the lines that stand for every run of it and then the run's own. The last file of a name counts.
+/// A run of a case, from the lines that stand for every run of it and then the run's own. The last file of
+/// a name counts.
 pub(crate) fn read_case(rt: &(impl Files + AllocGlobal), common: &str, own: &str) -> Result<Case> {
     let alloc = rt.alloc();
     let mut draft = Draft {

@@ -1,6 +1,7 @@
 //! Runs the worked cases of the commands, and prints a line for each.
 //!
-//! Runs in the folder `data`: `cases.txt` names the cases, and `NAME/case.txt` says what a case is. `docs/cases.md` has the form.
+//! Runs in the folder `data`: `cases.txt` names the cases, and `NAME/case.txt` says what a case is. `docs/cases.md` has
+//! the form.
 #![tactic(auto)]
 
 mod advisors;
@@ -30,7 +31,8 @@ fn play_run(
     Ok(play_as(rt.alloc(), told, label, &mut case)?)
 }
 
-/// Plays the runs of a case, and tells those that differ. What stands before the first line `run LABEL` goes for every run.
+/// Plays the runs of a case, and tells those that differ. What stands before the first line `run LABEL` goes
+/// for every run.
 ///
 /// The text is empty where each run comes to what is wanted.
 fn play_runs(rt: &(impl Files + AllocGlobal), text: &str) -> Result<String> {

@@ -52,7 +52,7 @@ struct Due {
 #[derive(Drop)]
 struct Progress {
     variables: Variables,
-    /// The bytes of the request.
+    /// The bytes of the request file.
     request: Vec<u8>,
     /// The files that the steps to come are to make.
     due: VecDeque<Due>,
@@ -110,7 +110,7 @@ impl Progress {
         Ok(self.due.push_back(Due { name, bytes })?)
     }
 
-    /// Reads the request.
+    /// Reads the request file.
     fn read_request(&mut self, rt: &(impl Files + AllocGlobal), path: &str) -> Result<()> {
         self.variables.request = String::from_str(rt.alloc(), path)?;
         self.request = read(rt, path)?;

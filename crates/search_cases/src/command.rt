@@ -18,7 +18,8 @@ pub enum Command {
     Solve,
     /// `basis`: the members of the basis.
     Basis,
-    /// `search NODES ADVISOR ..`: a search of the box for costs at which each row is at least 0, with a budget and advisors.
+    /// `search NODES ADVISOR ..`: a search of the box for costs at which each row is at least 0, with a
+    /// budget and advisors.
     Search(u64, Vec<i64>),
     /// Anything else is a comment.
     Comment,

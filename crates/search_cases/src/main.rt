@@ -1,5 +1,5 @@
-//! Runs scripts of tableaus and searches: each line of standard input, with what is answered to it. `stdin` has the cases, and
-//! `stdout` their answers, which a plain program found that follows the stated order of steps.
+//! Runs scripts of tableaus and searches: each line of standard input, with what is answered to it. `stdin` has the
+//! cases, and `stdout` their answers, which a plain program found that follows the stated order of steps.
 #![tactic(auto)]
 
 mod advisors;

@@ -3,7 +3,7 @@ ghost use Rattle.std.specs.Prelude.{◌^◌, ◌<◌, length};
 ghost use Rattle.design_problem.specs.Boxes.{IsBox};
 
 use crate::source::FormList;
-use cost_base::Listed;
+use cost_base::OutOfMemory;
 use design_problem::{CostBox, Form};
 use exact_simplex::Tableau;
 use std::alloc::{AllocError, Global};
@@ -20,15 +20,10 @@ pub struct Scene {
     pub is_searched: bool,
 }
 
-/// The same bounds.
-fn copied(alloc: Global, bounds: &[u16]) -> Result<Listed<u16>, AllocError> {
-    Ok(Listed::from_items(bounds.to_vec(alloc)?))
-}
-
 /// The same box.
-fn copy_of(alloc: Global, costs: &CostBox) -> Result<CostBox, AllocError> {
-    let low = copied(alloc, costs.low.as_slice())?;
-    let high = copied(alloc, costs.high.as_slice())?;
+fn copy_of(alloc: Global, costs: &CostBox) -> Result<CostBox, OutOfMemory> {
+    let low = costs.low.copy(alloc)?;
+    let high = costs.high.copy(alloc)?;
     Ok(CostBox { low, high })
 }
 
@@ -37,7 +32,9 @@ pub(crate) fn scene_of(alloc: Global, costs: &CostBox, top: Top) -> Result<Scene
     requires ranges { IsBox (length costs.now.low) costs.now }
     requires few { length costs.now.low < 2 ^ 32 }
 {
-    let copy = copy_of(alloc, costs)?;
+    let Ok(copy) = copy_of(alloc, costs) else {
+        return Err(AllocError);
+    };
     match Tableau::start(alloc, costs, top) {
         Ok(tableau) => Ok(Scene::new(alloc, tableau, top, copy)),
         Err(_) => Err(AllocError),

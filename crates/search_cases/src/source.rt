@@ -11,8 +11,8 @@ use form_search::{Asked, FormPool, RowSource};
 use std::alloc::Global;
 use std::marker::Model;
 
-/// Forms in so many variables, each with at most 32 coefficients other than 0, of size at most 4, and a constant of size at
-/// most 2^20.
+/// Forms in so many variables, each with at most 32 coefficients other than 0, of size at most 4, and a constant of
+/// size at most 2^20.
 #[derive(Drop)]
 pub struct FormList {
     variables: u32,

@@ -1,7 +1,6 @@
 //! The lines before the costs: the heads of a text, and its verdict.
 ghost use Rattle.std.specs.Prelude.{ℕ, List, [], ◌∷◌, ◌++◌, MatchOption, MatchResult};
-ghost use Rattle.answer_lines.specs.Grammar.{AtInnerHead, AtOtherHead, AtOtherVerdict, AtOtherCosts, answer_head, other_head, behind_other_head, IsOtherVerdict};
-ghost use Rattle.answer_lines.specs.declared.other_text.OtherText.TheVariants as other;
+ghost use Rattle.answer_lines.specs.Grammar.{AtOtherHead, AtOtherVerdict, AtOtherCosts, other_head, behind_other_head, IsOtherVerdict};
 ghost use Rattle.answer_lines.specs.Going.{Goes};
 ghost use Rattle.answer_lines.specs.Places.{LacksLawful};
 ghost use Rattle.evidence_reader.specs.Stops.{StopsReader};
@@ -9,9 +8,9 @@ ghost use Rattle.sections_reader.specs.Stages.{heads_of};
 ghost use Rattle.sections_reader.specs.Texts.{top_lines};
 
 use answer_lines::{OtherText, TextLeft};
-use begun_lines::{begins_head, begins_other_head, begins_other_verdict};
+use begun_lines::{begins_other_head, begins_other_verdict};
 use cost_base::Refusal;
-use evidence_reader::{AnswerFault, fault_at};
+use evidence_reader::{AnswerFault, answer_head, fault_at};
 
 /// The text behind the verdict.
 ///
@@ -37,7 +36,7 @@ fn read_heads(text: TextLeft<'_>, of: OtherText) -> Result<TextLeft<'_>, Refusal
 {
     let behind = head_at(text, of)?;
     match of {
-        OtherText::Total => inner_head_at(behind),
+        OtherText::Total => answer_head(behind),
         OtherText::Spread | OtherText::Change => Ok(behind),
     }
 }
@@ -50,17 +49,6 @@ fn head_at(text: TextLeft<'_>, of: OtherText) -> Result<TextLeft<'_>, Refusal<An
     match text.behind(of.head()) {
         Some(rest) => Ok(rest),
         None => Err(fault_at(text, begins_other_head(text.left, of))),
-    }
-}
-
-/// The text behind the first line of the answer inside.
-fn inner_head_at(text: TextLeft<'_>) -> Result<TextLeft<'_>, Refusal<AnswerFault>>
-    ensures { MatchResult result (Goes AtInnerHead text.entry (answer_head ∷ [])
-        (AtOtherVerdict other.Total)) (StopsReader AtInnerHead text.entry) }
-{
-    match text.behind(b"ospfcost answer 1") {
-        Some(rest) => Ok(rest),
-        None => Err(fault_at(text, begins_head(text.left))),
     }
 }
 

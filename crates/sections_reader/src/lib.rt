@@ -1,5 +1,5 @@
-//! Reading the costs of a text: an answer's, or what `total`, `spread` or `change` writes. Laws of these texts, each the
-//! contract of a function that does nothing, stand in `laws`.
+//! Reading the costs of a text: an answer's, or what `total`, `spread` or `change` writes. Laws of these texts, each
+//! the contract of a function that does nothing, stand in `laws`.
 #![tactic(auto)]
 
 mod costs;

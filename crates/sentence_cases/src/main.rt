@@ -1,4 +1,5 @@
-//! Runs a script of refusals: behind each line of standard input stands what it means in a sentence, if it is a refusal's.
+//! Runs a script of refusals: behind each line of standard input stands what it means in a sentence, if it
+//! is a refusal's.
 //!
 //! `stdin` has a line for each number, and `stdout` the sentences, which were written down outside.
 #![tactic(auto)]

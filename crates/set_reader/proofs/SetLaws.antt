@@ -38,7 +38,7 @@ right_none requests earlier = record {
   different = λ i j one other apart same. omega (arith, one.1);
 }
 
--- the ends of two requests that take nothing away
+-- the ends of two requests that exclude nothing
 whole_ends : (a b : Request) → a.excluded ≡ [] → b.excluded ≡ [] → same_ends a b ≡ true → request_ends a ≡ request_ends b
 whole_ends a b a_whole b_whole same =
     let parts = and_parts (eqb a.path.start b.path.start) (eqb a.end b.end) same in

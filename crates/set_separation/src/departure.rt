@@ -52,8 +52,8 @@ fn vertex_of(outlook: &Outlook<'_>, tree: &PrefixTree, place: usize) -> u32
     edge_of(outlook.graph, tree.steps()[place - 1].edge).to
 }
 
-/// What the cheapest walk costs that leaves the tree at a place by an edge; None where the edge leads to another place or
-/// is excluded, or where no path leads on from it.
+/// What the cheapest walk costs that leaves the tree at a place by an edge; None where the edge leads to another place
+/// or is excluded, or where no path leads on from it.
 fn departure(
     outlook: &Outlook<'_>,
     room: &Room,
@@ -124,8 +124,8 @@ fn best_at(
     found
 }
 
-/// The departure of least cost from a tree: places are tried in order, edges out of a vertex in rising order, and the first
-/// of least cost is kept. None where no walk leaves the tree and comes to the end of the request.
+/// The departure of least cost from a tree: places are tried in order, edges out of a vertex in rising order, and the
+/// first of least cost is kept. None where no walk leaves the tree and comes to the end of the request.
 pub(crate) fn least_departure(
     outlook: &Outlook<'_>,
     room: &Room,

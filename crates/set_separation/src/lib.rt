@@ -1,5 +1,5 @@
-//! The cheapest simple path of a request that is none of several wanted ones, which cost the same: each such path leaves
-//! the tree of the wanted paths' common prefixes at some place.
+//! The cheapest simple path of a request that is none of several wanted ones, which cost the same: each such path
+//! leaves the tree of the wanted paths' common prefixes at some place.
 #![tactic(auto)]
 
 mod departure;

@@ -17,8 +17,8 @@ use area_graph::path_cost;
 use rival_separation::{Deviation, Outlook, find_distances, leave_by};
 use spf_ties::Room;
 
-/// Makes the path that the room keeps the prefix of a place: its edges are found from the place back to the root, and then
-/// the path is turned around.
+/// Makes the path that the room keeps the prefix of a place: its edges are found from the place back to the root, and
+/// then the path is turned around.
 fn put_prefix(outlook: &Outlook<'_>, tree: &PrefixTree, place: usize, room: &mut Room)
     requires room { IsRoomFor outlook.now.graph.now room.old }
     requires tree { HasPrefixTree outlook.now tree.now }
@@ -37,8 +37,8 @@ fn put_prefix(outlook: &Outlook<'_>, tree: &PrefixTree, place: usize, room: &mut
     room.reverse_path();
 }
 
-/// The departure of least cost, where it costs less than the wanted paths and the scale; `costs` then has what the places
-/// cost. The room has the distances to the request's end that are below that.
+/// The departure of least cost, where it costs less than the wanted paths and the scale; `costs` then has what the
+/// places cost. The room has the distances to the request's end that are below that.
 fn cheap_departure(
     outlook: &Outlook<'_>,
     tree: &PrefixTree,
@@ -81,7 +81,8 @@ fn cheap_departure(
     Some(best)
 }
 
-/// Makes the path that the room keeps the cheapest outsider: up to the place of the best departure it is that place's prefix.
+/// Makes the path that the room keeps the cheapest outsider: up to the place of the best departure it is
+/// that place's prefix.
 fn lay_out(outlook: &Outlook<'_>, costed: &CostedTree<'_>, best: Deviation, room: &mut Room)
     // The room has the distances below what the request's path and the scale cost at the point.
     requires fits { FitsOutlook outlook.now }
@@ -106,10 +107,11 @@ fn lay_out(outlook: &Outlook<'_>, costed: &CostedTree<'_>, best: Deviation, room
     leave_by(outlook, best.edge, room);
 }
 
-/// Looks for the cheapest outsider of some wanted paths at a point at which they cost the same, and tells whether one costs
-/// less than they and the scale. Then the path that the room keeps is such an outsider, and no outsider costs less. The
-/// request is that of one of the paths, the tree is that of them all, and `costs` has a number for each of its places. Takes
-/// no memory, and time in proportion to the places and the edges out of their vertices, besides that of the distances.
+/// Looks for the cheapest outsider of some wanted paths at a point at which they cost the same, and tells whether one
+/// costs less than they and the scale. Then the path that the room keeps is such an outsider, and no outsider costs
+/// less. The request is that of one of the paths, the tree is that of them all, and `costs` has a number for each of
+/// its places. Takes no memory, and time in proportion to the places and the edges out of their vertices, besides that
+/// of the distances.
 pub fn find_outsider(
     outlook: &Outlook<'_>,
     tree: &PrefixTree,
@@ -139,9 +141,10 @@ pub fn find_outsider(
     find_outsider_at_hand(outlook, tree, costs, room)
 }
 
-/// Looks for the cheapest outsider as `find_outsider` does, by the distances that the room has: those to the request's end
-/// that are below what the wanted paths and the scale cost, or more of them, as another request with that end and the same
-/// taken edges may have left them. It finds the same outsider, and the room has the same distances afterwards.
+/// Looks for the cheapest outsider as `find_outsider` does, by the distances that the room has: those to the
+/// request's end that are below what the wanted paths and the scale cost, or more of them, as another request
+/// with that end and the same excluded edges may have left them. It finds the same outsider, and the room has the
+/// same distances afterwards.
 pub fn find_outsider_at_hand(
     outlook: &Outlook<'_>,
     tree: &PrefixTree,
@@ -176,9 +179,10 @@ pub fn find_outsider_at_hand(
     }
 }
 
-/// Whether some wanted paths, which cost the same at a point, have an outsider that costs less than they and the scale. The
-/// request, the tree and `costs` are as in `find_outsider`; the room has the distances to the request's end that are below
-/// that, or more of them, as another request with that end and the same taken edges may have left them. Takes no memory.
+/// Whether some wanted paths, which cost the same at a point, have an outsider that costs less than they and the scale.
+/// The request, the tree and `costs` are as in `find_outsider`; the room has the distances to the request's end that
+/// are below that, or more of them, as another request with that end and the same excluded edges may have left them.
+/// Takes no memory.
 pub fn is_undercut(
     outlook: &Outlook<'_>,
     tree: &PrefixTree,

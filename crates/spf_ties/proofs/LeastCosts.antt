@@ -12,7 +12,7 @@ use Rattle.area_graph.proofs.Bounds.{cost_below as bounded_cost}
 use Rattle.spf_ties.specs.Distances.{IsLeastOfPaths, IsLeastBelow, IsLeastCost, cost_below}
 use Rattle.spf_ties.specs.declared.search.Width.{Width}
 use Rattle.spf_ties.specs.declared.search.Width.TheVariants.{Narrow, Wide}
-use Rattle.spf_ties.specs.Searches.{numbers_of}
+use Rattle.spf_ties.specs.Searches.{numbers_in_use}
 
 -- a number is at most the cost of each path to the target
 at_most : (g : Area) (p : Point) (excluded : List ℕ) (t limit v : ℕ) (d : List ℕ) → AreReached g p excluded t limit d →
@@ -32,7 +32,7 @@ pub lesser_is_near : (p : Point) (limit near : ℕ) → near ≡ min limit (far 
 lesser_is_near p limit near is = record { within = omega (arith, is); whole = λ less. omega (arith, is, less) }
 
 -- either of two lists for the vertices is one
-pub length_either : (w : Width) (xs ys : List ℕ) (n : ℕ) → length xs ≡ n → length ys ≡ n → length (numbers_of w xs ys) ≡ n
+pub length_either : (w : Width) (xs ys : List ℕ) (n : ℕ) → length xs ≡ n → length ys ≡ n → length (numbers_in_use w xs ys) ≡ n
 length_either Narrow xs ys n first second = first
 length_either Wide xs ys n first second = second
 

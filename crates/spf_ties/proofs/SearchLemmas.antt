@@ -155,7 +155,7 @@ settled_next g p excluded t limit least d settled entry waiting rest front under
       | no other ↦ under.closed e known left (sym (there (edge_at g e).to other) ∙ done) tt
     ]
 
--- an edge that is gone, or leads to no smaller number
+-- an edge that is excluded, or leads to no smaller number
 pub kept : (g : Area) (p : Point) (excluded : List ℕ) (t limit least e : ℕ) (todo : List ℕ) (d : List ℕ)
     (settled : List Bool) (waiting : List Entry) → Underway g p excluded t limit least (e ∷ todo) d settled waiting →
     (Lacks excluded e → get_or d (edge_at g e).from 0 ≤ through p (edge_at g e) d) →

@@ -56,7 +56,7 @@ pub record Underway (g : Area) (p : Point) (excluded : List ℕ) (t limit least 
 -- where a search for least costs in a subgraph below a limit stands that settled a vertex at `least` last
 abbrev pub UnderwayIn : Subgraph → ℕ → ℕ → ℕ → List ℕ → List ℕ → List Bool → List Entry → Type 0
 UnderwayIn s t limit least todo d settled waiting =
-    Underway s.graph.now s.point.now s.removal.now t limit least todo d settled waiting
+    Underway s.graph.now s.point.now s.exclusion.now t limit least todo d settled waiting
 
 -- the point is one for the graph, of a scale so small that each number fits 64 bits
 pub record IsNarrow (s : Subgraph) : Type 0 where
@@ -90,7 +90,7 @@ pub record NeedsNoMore (s : Subgraph) (old new : Front) : Type 0 where
   pub fewer : length new.waiting.entries + open_edges s.graph.now new.settled.items ≤
       length old.waiting.entries + open_edges s.graph.now old.settled.items
 
--- the numbers of a width
-abbrev pub numbers_of : Width → List ℕ → List ℕ → List ℕ
-numbers_of Narrow narrow wide = narrow
-numbers_of Wide narrow wide = wide
+-- the distances that a search left: of 64 bits where it worked in those, else of 128
+abbrev pub numbers_in_use : Width → List ℕ → List ℕ → List ℕ
+numbers_in_use Narrow narrow wide = narrow
+numbers_in_use Wide narrow wide = wide

@@ -30,9 +30,14 @@ impl Model for Heap {
 
     ghost Value = { Waiting };
 
-    ghost view = { λ h. record { entries = map (λ r. r.0) (heap_items h.entries); places = heap_capacity h.entries } };
+    ghost view = { λ h. record {
+      entries = map (λ r. r.0) (heap_items h.entries);
+      places = heap_capacity h.entries;
+    } };
 
-    ghost invariant = { λ h. IsHeap (λ x y. ordering_then (nat_cmp y.0.distance x.0.distance) (nat_cmp y.0.vertex x.0.vertex)) (heap_items h.entries) };
+    ghost invariant = { λ h. IsHeap (λ x y.
+        ordering_then (nat_cmp y.0.distance x.0.distance) (nat_cmp y.0.vertex x.0.vertex))
+        (heap_items h.entries) };
 }
 
 impl Heap {

@@ -9,7 +9,7 @@ ghost use Rattle.spf_ties.specs.Distances.{AreTight, IsLeastBelow, IsLeastCost, 
 use crate::heap::Heap;
 use crate::search::{Front, Width, find_in_either};
 use crate::{Aim, NextHops};
-use area_graph::{FAR, Graph, Point, Removal, Subgraph, edge_of, mark_excluded, price_of};
+use area_graph::{Exclusion, FAR, Graph, Point, Subgraph, edge_of, mark_excluded, price_of};
 use cost_base::OutOfMemory;
 use std::alloc::Global;
 use std::marker::Model;
@@ -29,12 +29,12 @@ pub struct Room {
 impl Model for Room {
     ghost use Rattle.std.specs.Prelude.{◌≡◌, ◌<◌, ◌≤◌, length, map, vec_capacity};
     ghost use Rattle.spf_ties.specs.Distances.{Findings, cost_below};
-    ghost use Rattle.spf_ties.specs.Searches.{numbers_of};
+    ghost use Rattle.spf_ties.specs.Searches.{numbers_in_use};
 
     ghost Value = { Findings };
 
     ghost view = { λ r. record {
-      costs = map (cost_below r.far) (numbers_of r.width r.front.numbers.items r.wide.items);
+      costs = map (cost_below r.far) (numbers_in_use r.width r.front.numbers.items r.wide.items);
       marks = r.marks.items;
       path = r.path.items;
     } };
@@ -82,8 +82,8 @@ impl Room {
         })
     }
 
-    /// Finds each vertex's least cost of a simple path to the target. A simple path has least cost exactly where each of
-    /// its edges is tight.
+    /// Finds each vertex's least cost of a simple path to the target. A simple path has least cost exactly where each
+    /// of its edges is tight.
     pub fn distances_to(&mut self, graph: &Graph, point: &Point, target: u32)
         // The room is one for the graph, the point is one for it, and the target is a vertex of it.
         requires room { IsRoomFor graph.now self.old }
@@ -135,9 +135,9 @@ impl Room {
     }
 
     /// Finds each vertex's least cost of a simple path to the target that has none of the excluded edges, where
-    /// that is below the limit. Among the paths that cost less than it one has least cost exactly where each of its edges is
-    /// tight. It takes time in proportion to the edges near the target, times the logarithm of their number; at scales from
-    /// 2^37 on it goes over all edges, again and again until no number falls.
+    /// that is below the limit. Among the paths that cost less than it one has least cost exactly where each of its
+    /// edges is tight. It takes time in proportion to the edges near the target, times the logarithm of their number;
+    /// at scales from 2^37 on it goes over all edges, again and again until no number falls.
     pub fn distances_within(&mut self, graph: &Graph, point: &Point, aim: &Aim<'_>)
         // The room is one for the graph, the point is one for it, and the target is a vertex of it.
         requires room { IsRoomFor graph.now self.old }
@@ -158,14 +158,14 @@ impl Room {
     {
         graph.keeps_conditions();
         mark_excluded(&mut self.marks, aim.excluded);
-        let removal = Removal {
+        let exclusion = Exclusion {
             excluded: aim.excluded,
             marks: self.marks.as_slice(),
         };
         let subgraph = Subgraph {
             graph,
             point,
-            removal: &removal,
+            exclusion: &exclusion,
         };
         self.far = aim.limit.min(FAR * point.scale);
         self.width = find_in_either(

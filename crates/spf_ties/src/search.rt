@@ -7,7 +7,7 @@ ghost use Rattle.area_graph.specs.Costs.{IsPriced, price_at};
 ghost use Rattle.area_graph.specs.Distances.{AreDistancesTo, FitsSubgraph, far};
 ghost use Rattle.spf_ties.specs.declared.heap.Entry.{Entry};
 ghost use Rattle.spf_ties.specs.Searches.{AreFrontNumbers, GrowsByOne, HasPlaces, IsFrontFor, IsNarrow, NeedsNoMore};
-ghost use Rattle.spf_ties.specs.Searches.{UnderwayIn, is_settled, numbers_of};
+ghost use Rattle.spf_ties.specs.Searches.{UnderwayIn, is_settled, numbers_in_use};
 
 use crate::heap::{Entry, Heap};
 use area_graph::{Point, Price, Subgraph, edge_of, put_distances};
@@ -64,7 +64,7 @@ fn look(subgraph: &Subgraph<'_>, number: u32, front: &mut Front)
         front.new.waiting.entries }
 {
     subgraph.graph.keeps_conditions();
-    if !subgraph.removal.leaves(number) {
+    if !subgraph.exclusion.leaves(number) {
         return;
     }
     let edge = edge_of(subgraph.graph, number);
@@ -130,8 +130,8 @@ fn take_in(subgraph: &Subgraph<'_>, entry: Entry, front: &mut Front)
 }
 
 /// Finds for each vertex the least cost of a path to the target without the excluded edges, where that is below a
-/// limit; elsewhere the limit stays. It looks at the edges into the vertices that are within the limit alone, and takes time
-/// in proportion to their number, times its logarithm.
+/// limit; elsewhere the limit stays. It looks at the edges into the vertices that are within the limit alone, and takes
+/// time in proportion to their number, times its logarithm.
 pub(crate) fn find(subgraph: &Subgraph<'_>, target: u32, limit: u64, front: &mut Front)
     // Numbers up to the limit fit 64 bits, and the front is one for the graph.
     requires narrow { IsNarrow subgraph.now }
@@ -157,8 +157,8 @@ pub(crate) fn find(subgraph: &Subgraph<'_>, target: u32, limit: u64, front: &mut
     }
 }
 
-/// Finds these least costs by a search where the scale is below 2^37, so that each number fits 64 bits, and by passes over
-/// all edges, in `wide`, where it isn't. It tells which numbers they are.
+/// Finds these least costs by a search where the scale is below 2^37, so that each number fits 64 bits, and by passes
+/// over all edges, in `wide`, where it isn't. It tells which numbers they are.
 pub(crate) fn find_in_either(
     subgraph: &Subgraph<'_>,
     target: u32,
@@ -179,7 +179,7 @@ pub(crate) fn find_in_either(
 
     // The numbers of the width that is told are the least costs below the limit.
     ensures distances { AreDistancesTo subgraph.now target limit
-        (numbers_of result front.new.numbers.items wide.new.items) }
+        (numbers_in_use result front.new.numbers.items wide.new.items) }
 {
     if subgraph.point.scale < 1 << 37 {
         find(subgraph, target, limit as u64, front);

@@ -12,7 +12,7 @@ use Rattle.design_problem.specs.Answers.{greatest_bound, whole_box}
 use Rattle.form_search.specs.Finds.{IsSearchResult}
 use Rattle.form_search.specs.declared.found.Found.{Found}
 use Rattle.cost_branching.specs.Rivals.{IsProblemOnGraph}
-use Rattle.printed_rows.proofs.CapBoxes.{floor_below_ceiling, no_low_above}
+use Rattle.printed_rows.proofs.CapBoxes.{low_below_greatest_bound, no_low_above}
 use Rattle.set_reader.specs.SpreadSets.{AreSetsOf}
 use Rattle.spread_sets.specs.declared.finding.Sought.{Sought}
 use Rattle.spread_sets.specs.declared.member_sets.MemberSet.{MemberSet}
@@ -79,9 +79,9 @@ made_sets p lines sets count all is = is ∙ ap (sets_below lines) all
 pub made_are : (p : DesignProblem) (lines sets : List (List ℕ)) → AreSetsOf p lines → sets ≡ all_sets p lines → AreMemberSets p sets
 made_are p lines sets are same = subst (AreMemberSets p) (sym same) (all_sets_are p lines are)
 
--- no lower bound is above the greatest upper bound
+-- no lower bound is above the greatest bound
 pub lows_within : (p : DesignProblem) (cap : ℕ) → IsProblem p → cap ≡ greatest_bound p → All (λ low. low ≤ cap) p.low
-lows_within p cap kept same = subst (λ (k : ℕ). All (λ low. low ≤ k) p.low) (sym same) (no_low_above p.low (greatest_bound p) (floor_below_ceiling p kept))
+lows_within p cap kept same = subst (λ (k : ℕ). All (λ low. low ≤ k) p.low) (sym same) (no_low_above p.low (greatest_bound p) (low_below_greatest_bound p kept))
 
 -- what was sought in the box that was made
 pub sought_whole : (p : DesignProblem) (sets others : List (List ℕ)) (top nodes cap : ℕ) (box : CostBox)

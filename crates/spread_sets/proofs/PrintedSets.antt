@@ -23,11 +23,11 @@ use Rattle.cost_branching.specs.Rivals.{IsProblemOnGraph}
 use Rattle.printed_rows.specs.NamedRows.{NamesBelow, is_row_named}
 use Rattle.printed_rows.specs.NewNumbers.{IsTreePrinted}
 use Rattle.printed_rows.proofs.AnswerLines.{fit_text}
-use Rattle.printed_rows.proofs.CapBoxes.{bounds_box, cost_bounds, floor_below_ceiling}
+use Rattle.printed_rows.proofs.CapBoxes.{bounds_box, cost_bounds, low_below_greatest_bound}
 use Rattle.printed_rows.proofs.MetForms.{Met, meets_all}
 use Rattle.printed_rows.proofs.RowLines.{rows_short}
 use Rattle.printed_rows.proofs.SheetLaws.{tree_sheet}
-use Rattle.printed_rows.proofs.TreeCopies.{IsCopy, all_printed, copy_closed, copy_printable, copy_printed, copy_spent, printed_copy, search_names}
+use Rattle.printed_rows.proofs.TreeCopies.{IsCopy, all_printed, copy_closed, copy_printable, copy_printed, copy_used_up, printed_copy, search_names}
 use Rattle.printed_rows.proofs.TreeLines.{spaced-le, thing_digits}
 use Rattle.set_separation.specs.Outsiders.{IsOutsider}
 use Rattle.spread_sets.specs.declared.spread.SetRow.{SetRow}
@@ -36,7 +36,7 @@ use Rattle.spread_sets.specs.declared.spread.Spread.TheVariants.{Fit, Impossible
 use Rattle.spread_sets.specs.Spreads.{IsFormOfSetRow, IsSetRow, SetRowsDiffer, SharesEach, edges_of, ends_in, name_of_set, form_of_set_row, forms_of_set_rows, paths_of}
 use Rattle.printed_rows.specs.FittingTexts.{FitText, IsTextLine}
 use Rattle.spread_sets.specs.Answers.{HasNoSpread, IsSheetOfSets, IsUndecidedOfSets, IsTreeOfSets, set_row_line}
-use Rattle.spread_sets.specs.Laws.{SpreadUnspentIfLarge, SpreadSettlesUnspent}
+use Rattle.spread_sets.specs.Laws.{SpreadSufficientIfLarge, SpreadSettlesIfSufficient}
 use Rattle.spread_sets.specs.MemberSets.{AreMemberSets, IsMemberSet}
 use Rattle.spread_sets.specs.SourceLaws.{first_listed, member_known}
 use Rattle.spread_sets.proofs.SpreadLaws.{fit_met}
@@ -120,7 +120,7 @@ text_fits : (p : DesignProblem) (sets : List (List ℕ)) (top nodes : ℕ) (old 
     IsTreePrinted old tree rows new_tree → FitText set_row_line (greatest_bound p) rows new_tree
 text_fits p sets top nodes old rows tree new_tree can true_rows search few printed =
     let copy = copied p sets top old rows tree new_tree search printed in
-    let bounds = cost_bounds p (greatest_bound p) can.kept.problem (floor_below_ceiling p can.kept.problem) can.small in
+    let bounds = cost_bounds p (greatest_bound p) can.kept.problem (low_below_greatest_bound p can.kept.problem) can.small in
     let are = all_printed (IsSetRow p sets) (is_row_named tree) old rows copy.kept true_rows in
     fit_text set_row_line (greatest_bound p) rows new_tree copy.kept.few
     (λ k d k_in. set_row_short p sets (get_or rows k d) can.kept can.are (are k d k_in))
@@ -147,23 +147,23 @@ shown_tree p sets top nodes old rows tree new_tree can true_rows once search few
       fits = text_fits p sets top nodes old rows tree new_tree can true_rows search few printed;
     }
 
-pub shown_spent : (p : DesignProblem) (sets : List (List ℕ)) (top nodes : ℕ) (old rows : List SetRow)
+pub shown_used_up : (p : DesignProblem) (sets : List (List ℕ)) (top nodes : ℕ) (old rows : List SetRow)
     (tree new_tree : List Entry) → CanPrintSets p sets nodes → All (IsSetRow p sets) old → AllPairs SetRowsDiffer old →
     IsSearchTree (SharesEach p sets) top (forms_of_set_rows p old) (whole_box p) tree → Contains tree Undone →
     entry_count tree ≡ nodes →
     IsTreePrinted old tree rows new_tree → IsUndecidedOfSets p sets top nodes rows new_tree
-shown_spent p sets top nodes old rows tree new_tree can true_rows once search undone spent printed =
+shown_used_up p sets top nodes old rows tree new_tree can true_rows once search undone used_up printed =
     let copy = copied p sets top old rows tree new_tree search printed in
     record {
       sheet = sheet_is p sets top old rows tree new_tree true_rows once search printed;
-      spent = copy_spent (SharesEach p sets) (IsFormOfSetRow p sets) top nodes (form_of_set_row p) (whole_box p)
-          (is_row_named tree) old rows tree new_tree copy (forms_true p sets old true_rows) search undone spent;
-      fits = text_fits p sets top nodes old rows tree new_tree can true_rows search (omega (arith, spent)) printed;
+      used_up = copy_used_up (SharesEach p sets) (IsFormOfSetRow p sets) top nodes (form_of_set_row p) (whole_box p)
+          (is_row_named tree) old rows tree new_tree copy (forms_true p sets old true_rows) search undone used_up;
+      fits = text_fits p sets top nodes old rows tree new_tree can true_rows search (omega (arith, used_up)) printed;
     }
 
 -- What a closed tree shows.
 
--- costs within the bounds lie in the box at the greatest upper bound
+-- costs within the bounds lie in the box at the greatest bound
 in_whole : (p : DesignProblem) (w : List ℕ) → IsInBox (box_of p) w → IsInBox (whole_box p) w
 in_whole p w inside = record {
   low_count = inside.low_count;
@@ -198,14 +198,14 @@ shown_closed p sets top nodes old rows tree new_tree can true_rows once search f
 
 -- Where no tree uses the budget up, the sets are settled.
 
-pub unspent_settle : SpreadSettlesUnspent
-unspent_settle p lines top nodes (Fit w) cannot found = tt
-unspent_settle p lines top nodes (Impossible rows tree) cannot found = tt
-unspent_settle p lines top nodes (Undecided rows tree) cannot found =
-    absurd (cannot rows.items tree found.sheet.true_rows found.spent.printed.earnest found.spent.undone found.spent.spent)
+pub sufficient_settle : SpreadSettlesIfSufficient
+sufficient_settle p lines top nodes (Fit w) cannot found = tt
+sufficient_settle p lines top nodes (Impossible rows tree) cannot found = tt
+sufficient_settle p lines top nodes (Undecided rows tree) cannot found =
+    absurd (cannot rows.items tree found.sheet.true_rows found.used_up.printed.earnest found.used_up.undone found.used_up.used_up)
 
-pub large_suffice : SpreadUnspentIfLarge
-large_suffice p lines top nodes kept enough rows tree true_rows earnest undone spent =
+pub large_suffice : SpreadSufficientIfLarge
+large_suffice p lines top nodes kept enough rows tree true_rows earnest undone used_up =
     let few = (few_entries (length p.low) (forms_of_set_rows p rows) (whole_box p) tree
     (bounds_box p kept) earnest.sound).unfinished undone in
-    absurd (omega (arith, few, enough, spent))
+    absurd (omega (arith, few, enough, used_up))

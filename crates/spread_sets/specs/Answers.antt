@@ -28,7 +28,7 @@ HasNoSpread p sets = (w : List ℕ) → IsSpreadFit p sets w → ⊥
 abbrev pub IsSheetOfSets : DesignProblem → List (List ℕ) → List SetRow → List Entry → Type 0
 IsSheetOfSets p sets rows tree = IsSheet (IsSetRow p sets) SetRowsDiffer 0 rows tree
 
--- Rows and a tree of them over the box at the greatest upper bound: they are a sheet, the tree is earnest, and both fit a
+-- Rows and a tree of them over the box at the greatest bound: they are a sheet, the tree is earnest, and both fit a
 -- text.
 pub record IsTreeOfSets (p : DesignProblem) (sets : List (List ℕ)) (top nodes : ℕ) (rows : List SetRow) (tree : List Entry) : Type 0 where
   pub sheet : IsSheetOfSets p sets rows tree
@@ -38,7 +38,7 @@ pub record IsTreeOfSets (p : DesignProblem) (sets : List (List ℕ)) (top nodes 
 -- rows and a tree of them that used up the budget: it has an Undone and exactly N entries
 pub record IsUndecidedOfSets (p : DesignProblem) (sets : List (List ℕ)) (top nodes : ℕ) (rows : List SetRow) (tree : List Entry) : Type 0 where
   pub sheet : IsSheetOfSets p sets rows tree
-  pub spent : IsUndecidedOver (SharesEach p sets) (IsFormOfSetRow p sets) top nodes (forms_of_set_rows p rows) (whole_box p) tree
+  pub used_up : IsUndecidedOver (SharesEach p sets) (IsFormOfSetRow p sets) top nodes (forms_of_set_rows p rows) (whole_box p) tree
   pub fits : FitText set_row_line (greatest_bound p) rows tree
 
 -- what is found of sets: spread-fit costs; a closed tree, and there are none; or a tree that used up the budget

@@ -48,7 +48,7 @@ IsSpreadFoundSettled (Fit w) = Unit {0}
 IsSpreadFoundSettled (Impossible rows tree) = Unit {0}
 IsSpreadFoundSettled (Undecided rows tree) = ⊥
 
--- The budget can't be used up: no earnest tree over the box at the greatest upper bound, by the sets of these lines and the
+-- The budget can't be used up: no earnest tree over the box at the greatest bound, by the sets of these lines and the
 -- paths in no line, has an undone entry and exactly as many entries as the budget.
 abbrev pub CannotBeUndecidedOnSpread : DesignProblem → List (List ℕ) → ℕ → ℕ → Type 0
 CannotBeUndecidedOnSpread p lines top nodes =
@@ -57,13 +57,13 @@ CannotBeUndecidedOnSpread p lines top nodes =
     Contains tree Undone → entry_count tree ≡ nodes → ⊥
 
 -- where the budget can't be used up, what is found is spread-fit costs, or that there are none
-abbrev pub SpreadSettlesUnspent : Type 0
-SpreadSettlesUnspent =
+abbrev pub SpreadSettlesIfSufficient : Type 0
+SpreadSettlesIfSufficient =
     (p : DesignProblem) (lines : List (List ℕ)) (top nodes : ℕ) (found : Spread) → CannotBeUndecidedOnSpread p lines top nodes →
     IsSpreadFound p lines top nodes found → IsSpreadFoundSettled found
 
--- a budget of twice as many entries as the box at the greatest upper bound has points, less one, can't be used up
-abbrev pub SpreadUnspentIfLarge : Type 0
-SpreadUnspentIfLarge =
+-- a budget of twice as many entries as the box at the greatest bound has points, less one, can't be used up
+abbrev pub SpreadSufficientIfLarge : Type 0
+SpreadSufficientIfLarge =
     (p : DesignProblem) (lines : List (List ℕ)) (top nodes : ℕ) → IsProblem p → 2 * points (whole_box p) ≤ nodes + 1 →
     CannotBeUndecidedOnSpread p lines top nodes

@@ -70,7 +70,7 @@ value_of_tie p point first second kept count =
 
 -- Every row's form holds where each set shares.
 
--- the form of a rival
+-- the form of a rival is at least 0 where each set shares
 rival_met : (p : DesignProblem) (sets : List (List ℕ)) (set es : List ℕ) (point : Point) → IsProblem p →
     length point.values ≡ length p.low → Contains sets set → IsOutsider p.graph (ends_in p set) (paths_of p set) es →
     SharesEach p sets point →
@@ -96,9 +96,9 @@ rival_holds p sets set es kept are has outsider =
       met = λ point count each. rival_met p sets set es point kept.problem count has outsider each;
     }
 
--- the form of a tie
-difference_small : (a b : ℕ) → nat_abs ((pos b -ℤ pos a) -ℤ pos 1) < 2 ^ 27 → nat_abs ((pos a -ℤ pos b) -ℤ pos 1) < 2 ^ 27 → nat_abs (pos b -ℤ pos a) < 2 ^ 27
-difference_small a b first other = omega (arith, ints)
+-- two numbers differ by less than 2^27 where both differences, less 1, are below it in size
+tie_small : (a b : ℕ) → nat_abs ((pos b -ℤ pos a) -ℤ pos 1) < 2 ^ 27 → nat_abs ((pos a -ℤ pos b) -ℤ pos 1) < 2 ^ 27 → nat_abs (pos b -ℤ pos a) < 2 ^ 27
+tie_small a b first other = omega (arith, ints)
 
 -- the difference of two numbers that equal a third is at least 0
 none_between : (a b c : ℕ) → a ≡ c → b ≡ c → pos 0 ≤ℤ (pos b -ℤ pos a)
@@ -149,7 +149,7 @@ tie_holds p sets set i j kept are has has_i has_j =
       sizes = there.sizes;
       values = λ w count each.
           subst IsBelow2To27 (sym (tie_at p w (edges_of p i) (edges_of p j) kept.problem count))
-          (difference_small (cost p.graph (at_costs w) (edges_of p i)) (cost p.graph (at_costs w) (edges_of p j))
+          (tie_small (cost p.graph (at_costs w) (edges_of p i)) (cost p.graph (at_costs w) (edges_of p j))
           (subst IsBelow2To27 (between_at p w (edges_of p i) (edges_of p j) kept.problem count)
           (small_value n (form_between p.graph n (edges_of p i) (edges_of p j)) w there each))
           (subst IsBelow2To27 (between_at p w (edges_of p j) (edges_of p i) kept.problem count)

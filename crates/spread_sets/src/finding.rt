@@ -117,7 +117,7 @@ fn answered(
     limits: &Limits,
     sought: Sought,
 ) -> Result<Spread, OutOfMemory>
-    requires ceiling { greatest_bound problem.now ≤ 65535 }
+    requires bound_small { greatest_bound problem.now ≤ 65535 }
     requires sought { (sets : List (List ℕ)) × AreMemberSets problem.now sets ×
         IsSpreadSought problem.now sets limits.now.top limits.now.nodes (whole_box problem.now)
         sought }
@@ -143,7 +143,7 @@ fn answered(
 /// Looks for costs at which the members of each set cost the same and every other simple path between their ends costs
 /// more. `sets` are those of the `set` lines; each path in none of them is a set by itself.
 ///
-/// Fit has such costs. Impossible comes with a closed earnest tree over the box at the greatest upper bound, and
+/// Fit has such costs. Impossible comes with a closed earnest tree over the box at the greatest bound, and
 /// Undecided with an earnest tree over that box that has an Undone and exactly `limits.nodes` entries.
 ///
 /// # Errors

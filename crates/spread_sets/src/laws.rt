@@ -1,5 +1,5 @@
 //! Laws about sets, their rows and what is found: each is the contract of a function that does nothing.
-ghost use Rattle.spread_sets.specs.Laws.{CheapestAreMembers, SpreadMeansMet, SpreadSettlesUnspent, SpreadUnspentIfLarge};
+ghost use Rattle.spread_sets.specs.Laws.{CheapestAreMembers, SpreadMeansMet, SpreadSettlesIfSufficient, SpreadSufficientIfLarge};
 
 /// Costs within the bounds are spread-fit exactly where the forms of all rows of the sets are at least 0.
 pub fn spread_means_met()
@@ -12,11 +12,11 @@ pub fn cheapest_are_members()
 {}
 
 /// Where no tree uses the budget up, such costs are found, or that there are none.
-pub fn unspent_budgets_settle()
-    ensures { SpreadSettlesUnspent }
+pub fn sufficient_budgets_settle()
+    ensures { SpreadSettlesIfSufficient }
 {}
 
-/// No tree uses up a budget of twice as many entries as the box at the greatest upper bound has points, less one.
+/// No tree uses up a budget of twice as many entries as the box at the greatest bound has points, less one.
 pub fn large_budgets_suffice()
-    ensures { SpreadUnspentIfLarge }
+    ensures { SpreadSufficientIfLarge }
 {}

@@ -28,8 +28,8 @@ fn put_line(numbers: &mut Vec<Option<usize>>, line: &[u32], number: usize)
     }
 }
 
-/// Beside each of so many paths the number of the first line in which it stands; None beside one that stands in none. It
-/// takes time in proportion to the paths and the members of the lines.
+/// Beside each of so many paths the number of the first line in which it stands; None beside one that stands in none.
+/// It takes time in proportion to the paths and the members of the lines.
 pub(crate) fn line_numbers(
     alloc: Global,
     lines: &[Listed<u32>],

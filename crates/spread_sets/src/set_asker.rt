@@ -36,8 +36,8 @@ struct Reach {
 }
 
 /// What asks for the outsiders of sets at one point, again and again. Sets whose requests have one end and exclude the
-/// same edges share their distances. Contracts see its room, for how many places of a tree it has room, and the order in
-/// which it looks at the sets.
+/// same edges share their distances. Contracts see its room, for how many places of a tree it has room, and the order
+/// in which it looks at the sets.
 #[derive(Drop)]
 pub(crate) struct SetAsker {
     room: Room,
@@ -51,7 +51,11 @@ impl Model for SetAsker {
 
     ghost Value = { SetAsking };
 
-    ghost view = { λ a. record { room = a.room; places = length a.costs.items; order = a.order.items } };
+    ghost view = { λ a. record {
+      room = a.room;
+      places = length a.costs.items;
+      order = a.order.items;
+    } };
 }
 
 /// What sets that share distances have in common: the end of their requests, and how many edges these exclude and the
@@ -191,8 +195,8 @@ impl SetAsker {
         set_of_number(sets, self.number_at(place))
     }
 
-    /// Up to which limit distances serve the set at a place of the order, and those behind it that share them: each of their
-    /// outsiders that is too cheap costs less.
+    /// Up to which limit distances serve the set at a place of the order, and those behind it that share them: each of
+    /// their outsiders that is too cheap costs less.
     fn limit_at(&self, survey: &SetSurvey<'_>, place: usize) -> u128
         requires asker { IsAskerOfSets survey.now.problem.now survey.now.sets.now self.now }
         requires point { IsCostPoint (length survey.now.problem.now.low) survey.now.point.now }
@@ -258,8 +262,8 @@ impl SetAsker {
         least_dearer(survey.problem, set, survey.point) <= reach.limit
     }
 
-    /// Sees to it that the room has the distances that serve the set at a place of the order. It keeps those that it has
-    /// where they serve that one too.
+    /// Sees to it that the room has the distances that serve the set at a place of the order. It keeps those that it
+    /// has where they serve that one too.
     fn prepare(&mut self, survey: &SetSurvey<'_>, place: usize, reach: Option<Reach>) -> Reach
         // The asker is one for these sets, the point is one of costs, and the order has the place.
         requires asker { IsAskerOfSets survey.now.problem.now survey.now.sets.now self.old }
@@ -288,8 +292,8 @@ impl SetAsker {
         self.look(survey, place)
     }
 
-    /// Whether the set at a place of the order, whose members tie, has an outsider that costs less than they and the scale;
-    /// the room has the distances that serve it.
+    /// Whether the set at a place of the order, whose members tie, has an outsider that costs less than they and the
+    /// scale; the room has the distances that serve it.
     fn is_undercut_at(&mut self, survey: &SetSurvey<'_>, place: usize) -> bool
         // The asker is one for these sets, the point is one of costs, and the order has the place.
         requires asker { IsAskerOfSets survey.now.problem.now survey.now.sets.now self.old }
@@ -321,8 +325,8 @@ impl SetAsker {
         is_undercut(&outlook, &set.tree, self.costs.as_mut_slice(), &self.room)
     }
 
-    /// The cheapest outsider of the set at a place of the order, whose members tie, None where each costs at least what they
-    /// and the scale do. The room has the distances that serve the set, and keeps them.
+    /// The cheapest outsider of the set at a place of the order, whose members tie, None where each costs at least what
+    /// they and the scale do. The room has the distances that serve the set, and keeps them.
     fn outsider_at(
         &mut self,
         alloc: Global,
@@ -365,9 +369,9 @@ impl SetAsker {
         Ok(Some(edges))
     }
 
-    /// Whether the members of each set tie, and every other path is dearer by the scale. It ends at the first set of which
-    /// that doesn't hold, in the order. The distances to an end are looked for once, and serve each set with that end whose
-    /// request excludes the same edges.
+    /// Whether the members of each set tie, and every other path is dearer by the scale. It ends at the first set of
+    /// which that doesn't hold, in the order. The distances to an end are looked for once, and serve each set with that
+    /// end whose request excludes the same edges.
     pub(crate) fn each_shares(
         &mut self,
         problem: &Problem,
@@ -399,9 +403,9 @@ impl SetAsker {
         true
     }
 
-    /// The cheapest outsider of each of the sets, whose members tie: None of each of which every outsider costs at least what
-    /// the members and the scale do. Distances are shared as in `each_shares`, and an outsider is laid out while they are
-    /// there.
+    /// The cheapest outsider of each of the sets, whose members tie: None of each of which every outsider costs at
+    /// least what the members and the scale do. Distances are shared as in `each_shares`, and an outsider is laid out
+    /// while they are there.
     ///
     /// # Errors
     ///

@@ -71,7 +71,11 @@ impl<'a, B: Begun> Model for Spreads<'a, B> {
 
     ghost Value = { KnownSets };
 
-    ghost view = { λ s. record { problem = s.problem.now; sets = sets_in s.sets.items; rows = s.rows.items } };
+    ghost view = { λ s. record {
+      problem = s.problem.now;
+      sets = sets_in s.sets.items;
+      rows = s.rows.items;
+    } };
 
     ghost invariant = { λ s. record {
       problem : s.problem.now ≡ B.problem;
@@ -122,8 +126,8 @@ impl<'a, B: Begun> Spreads<'a, B> {
         rows
     }
 
-    /// For the prover alone: keeps that the problem is one on its graph, and that each set is of wanted paths of it with one
-    /// pair of ends; takes no time and changes nothing.
+    /// For the prover alone: keeps that the problem is one on its graph, and that each set is of wanted paths of it
+    /// with one pair of ends; takes no time and changes nothing.
     fn keeps(&self)
         ensures kept { IsProblemOnGraph self.now.problem }
         ensures sets { AreMemberSets self.now.problem self.now.sets }
@@ -335,8 +339,8 @@ impl<'a, B: Begun> Spreads<'a, B> {
             .cheap_outsiders(alloc, self.problem, &self.sets, point)
     }
 
-    /// Asks each set in order for its cheapest rival. Each that costs less than the members and the scale becomes a row. Sets
-    /// whose requests have one end and exclude the same edges share the distances by which it is found.
+    /// Asks each set in order for its cheapest rival. Each that costs less than the members and the scale becomes a
+    /// row. Sets whose requests have one end and exclude the same edges share the distances by which it is found.
     fn ask_each(
         &mut self,
         alloc: Global,

@@ -5,15 +5,15 @@ use design_problem::{CostList, Tree};
 /// A row of a set, which is named by the least number in it.
 #[derive(Drop)]
 pub enum SetRow {
-    /// A rival of a set: a simple path of the request that is no member. Its form is cost(rival) - cost(first member) - 1.
-    /// The rival is its edges, in their order; they start where the request's path starts.
+    /// A rival of a set: a simple path of the request that is no member. Its form is cost(rival) - cost(first member) -
+    /// 1. The rival is its edges, in their order; they start where the request's path starts.
     Rival(u32, Listed<u32>),
     /// Two members of a set, I and J. Its form is cost(J) - cost(I).
     Same(u32, u32, u32),
 }
 
-/// What is found: costs under which the members of each set tie and every other path is dearer, or why there are none, or
-/// that the budget was used up.
+/// What is found: costs under which the members of each set tie and every other path is dearer, or why there are none,
+/// or that the budget was used up.
 #[derive(Drop)]
 pub enum Spread {
     /// Such costs, one for each variable.
@@ -22,14 +22,14 @@ pub enum Spread {
     Impossible {
         /// The rows that the tree uses.
         rows: Vec<SetRow>,
-        /// A closed tree over the box at the greatest upper bound.
+        /// A closed tree over the box at the greatest bound.
         tree: Tree,
     },
     /// The budget was used up.
     Undecided {
         /// The rows that the tree uses.
         rows: Vec<SetRow>,
-        /// The unfinished tree over the box at the greatest upper bound.
+        /// The unfinished tree over the box at the greatest bound.
         tree: Tree,
     },
 }

@@ -28,7 +28,7 @@ use Rattle.integer_pivots.specs.declared.line.Line.{Line}
 use Rattle.integer_pivots.specs.Lines.{IsLine, rows_of}
 use Rattle.integer_pivots.specs.Leads.{AreLeads}
 use Rattle.integer_pivots.specs.Numbers.{AllWithin, product_sum, weight_of}
-use Rattle.integer_pivots.specs.Uses.{held_in, uses_by}
+use Rattle.integer_pivots.specs.Uses.{uses_in, uses_by}
 use Rattle.integer_pivots.specs.declared.turn.Turn.{Turn}
 use Rattle.table_kernel.specs.declared.kernel.Kernel.{Kernel}
 use Rattle.table_kernel.specs.Kernels.{IsBounded, IsKernel, IsShaped, lows_of, width_of}
@@ -118,7 +118,7 @@ pub record IsGrown (old new : Kernel) (f : Form) (z : ℤ) : Type 0 where
   pub lows : new.lows ≡ old.lows
   pub leads : new.leads ≡ old.leads
   pub constants : new.constants.items ≡ old.constants.items ++ z ∷ []
-  pub uses : held_in new.uses.items ≡ uses_by (old.table.rows.items ++ f ∷ []) (width_of old)
+  pub uses : uses_in new.uses.items ≡ uses_by (old.table.rows.items ++ f ∷ []) (width_of old)
   pub turns : new.turns ≡ old.turns
   pub left : vec_capacity new.left ≡ vec_capacity old.left
   pub entering : new.entering ≡ old.entering

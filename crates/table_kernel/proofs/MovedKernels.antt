@@ -21,7 +21,7 @@ use Rattle.integer_pivots.specs.declared.line.Line.{Line}
 use Rattle.integer_pivots.specs.Leads.{AreLeads}
 use Rattle.integer_pivots.specs.Lines.{IsLine, no_line, rows_of}
 use Rattle.integer_pivots.specs.Numbers.{AllWithin, weight_of}
-use Rattle.integer_pivots.specs.Uses.{held_in}
+use Rattle.integer_pivots.specs.Uses.{uses_in}
 use Rattle.integer_pivots.proofs.UseLaws.{uses_kept}
 use Rattle.integer_pivots.proofs.ShareLaws.{share_exact}
 use Rattle.table_kernel.specs.declared.kernel.Kernel.{Kernel}
@@ -86,7 +86,7 @@ moved_shape k s next before after column far o next_width is =
         members_long k.table.costs (length k.table.rows.items),
       );
       uses = uses_kept k.uses.items s.uses.items k.table.rows.items s.table.rows.items (width_of k) (width_of s)
-          (ap (λ uses. held_in uses.items) is.keeps.uses) (ap (λ rows. rows.items) is.keeps.rows) width o.uses;
+          (ap (λ uses. uses_in uses.items) is.keeps.uses) (ap (λ rows. rows.items) is.keeps.rows) width o.uses;
       turns = ap (λ turns. length turns.items) is.keeps.turns ∙ o.turns ∙ sym width;
       left = omega (arith, ap (λ (vs : Vec ℕ Global). vs.cap) is.keeps.left, o.left, width);
       entering = ap (λ (line : Line). length line.numbers) is.keeps.entering ∙ o.entering ∙ sym width;

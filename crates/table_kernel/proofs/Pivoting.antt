@@ -25,7 +25,7 @@ use Rattle.integer_pivots.specs.declared.turn.Turn.{Turn}
 use Rattle.integer_pivots.specs.declared.uses.Use.{Use}
 use Rattle.integer_pivots.specs.Lines.{no_line}
 use Rattle.integer_pivots.specs.Numbers.{weight_of}
-use Rattle.integer_pivots.specs.Uses.{held_in, uses_by}
+use Rattle.integer_pivots.specs.Uses.{uses_in, uses_by}
 use Rattle.table_kernel.specs.declared.kernel.Kernel.{Kernel}
 use Rattle.table_kernel.specs.Bases.{AreAtBasis}
 use Rattle.table_kernel.specs.Kernels.{IsBounded, IsKernel, IsShaped, lows_of, stated, width_of}
@@ -171,7 +171,7 @@ module _ (k : Kernel) (place column : ℕ) (p : IsPivotIn k place column) where
             lead = t.leads s.lead;
             constants = t.constants_count ∙ s.constants
                 ∙ ap (λ (u : Table). length (members_of_box u.costs (length u.rows.items))) (sym t.table);
-            uses = ap (λ (us : Vec (Vec Use Global) Global). held_in us.items) t.uses
+            uses = ap (λ (us : Vec (Vec Use Global) Global). uses_in us.items) t.uses
                 ∙ s.uses
                 ∙ ap (λ (u : Table). uses_by u.rows.items (length u.costs.low)) (sym t.table);
             turns = ap (λ (ts : Vec Turn Global). length ts.items) t.turns ∙ s.turns ∙ sym wide_is;

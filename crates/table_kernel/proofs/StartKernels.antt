@@ -30,7 +30,7 @@ use Rattle.integer_pivots.specs.declared.line.Line.{Line}
 use Rattle.integer_pivots.specs.Lines.{IsLine, rows_of}
 use Rattle.integer_pivots.specs.Leads.{AreLeads, IsLead}
 use Rattle.integer_pivots.specs.Numbers.{AllWithin, weight_of}
-use Rattle.integer_pivots.specs.Uses.{held_in, uses_by}
+use Rattle.integer_pivots.specs.Uses.{uses_in, uses_by}
 use Rattle.integer_pivots.specs.UnitLines.{unit_line_of}
 use Rattle.table_kernel.specs.declared.kernel.Kernel.{Kernel}
 use Rattle.table_kernel.specs.Kernels.{IsBounded, IsKernel, IsShaped, lows_of, width_of}
@@ -165,7 +165,7 @@ pub record IsStarting (k : Kernel) (costs : CostBox) : Type 0 where
   pub leads : k.leads.items ≡ numbers_from 0 (length costs.low)
   pub constants : k.constants.items ≡ first_constants costs
   pub small : AllWithin (2 ^ 27) k.constants.items
-  pub uses : held_in k.uses.items ≡ map (λ v. []) (numbers_from 0 (length costs.low))
+  pub uses : uses_in k.uses.items ≡ map (λ v. []) (numbers_from 0 (length costs.low))
   pub turns : length k.turns.items ≡ length costs.low
   pub left : length costs.low ≤ vec_capacity k.left
   pub entering : length k.entering.numbers ≡ length costs.low

@@ -10,7 +10,7 @@ use Rattle.fraction_table.specs.ValidTables.{HasRoom, IsUnboxedTable, IsTableau,
 use Rattle.fraction_table.specs.Pivots.{member_at}
 use Rattle.integer_pivots.specs.Leads.{AreLeads}
 use Rattle.integer_pivots.specs.Lines.{IsLine, rows_of}
-use Rattle.integer_pivots.specs.Uses.{held_in, uses_by}
+use Rattle.integer_pivots.specs.Uses.{uses_in, uses_by}
 use Rattle.integer_pivots.specs.Numbers.{AllWithin, weight_of}
 use Rattle.table_kernel.specs.declared.kernel.Kernel.{Kernel}
 use Rattle.table_kernel.specs.Bases.{AreAtBasis}
@@ -48,7 +48,7 @@ pub record IsShaped (k : Kernel) : Type 0 where
   pub leads : length k.leads.items ≡ width_of k
   pub lead : AreLeads (rows_of k.lows.items) k.leads.items
   pub constants : length k.constants.items ≡ length (members_of_box k.table.costs (length k.table.rows.items))
-  pub uses : held_in k.uses.items ≡ uses_by k.table.rows.items (width_of k)
+  pub uses : uses_in k.uses.items ≡ uses_by k.table.rows.items (width_of k)
   pub turns : length k.turns.items ≡ width_of k
   pub left : width_of k ≤ vec_capacity k.left
   pub entering : length k.entering.numbers ≡ width_of k

@@ -25,7 +25,7 @@ pub record KeepsNumbers (old new : Kernel) : Type 0 where
   pub left : vec_capacity old.left ≤ vec_capacity new.left
   pub entering : length new.entering.numbers ≡ length old.entering.numbers
 
--- the form of a place
+-- the form of the member at a place: that of a variable's lower or upper bound, or of a row
 abbrev pub form_of_place : Kernel → ℕ → Form
 form_of_place k place = member_form (width_of k) k.table.rows.items (member_at k.table place)
 

@@ -5,7 +5,7 @@ use Rattle.design_problem.specs.Forms.{value_for_costs}
 use Rattle.fraction_table.specs.declared.add_row.BlankRow.{BlankRow}
 use Rattle.fraction_table.specs.RowLines.{HasPlace, IsBlankRow}
 use Rattle.integer_pivots.specs.Numbers.{product_sum, weight_of}
-use Rattle.integer_pivots.specs.Uses.{HaveRoom, held_in}
+use Rattle.integer_pivots.specs.Uses.{HaveRoom, uses_in}
 use Rattle.table_kernel.specs.declared.kernel.Kernel.{Kernel}
 
 -- a form's constant at the basis over the common denominator, by those of x - low
@@ -22,7 +22,7 @@ pub record HoldsNumbers (old new : Kernel) : Type 0 where
   pub lows : new.lows ≡ old.lows
   pub leads : new.leads ≡ old.leads
   pub constants : new.constants.items ≡ old.constants.items
-  pub uses : held_in new.uses.items ≡ held_in old.uses.items
+  pub uses : uses_in new.uses.items ≡ uses_in old.uses.items
   pub turns : new.turns ≡ old.turns
   pub left : vec_capacity old.left ≤ vec_capacity new.left
   pub entering : new.entering ≡ old.entering

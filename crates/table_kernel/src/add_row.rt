@@ -96,8 +96,8 @@ impl Kernel {
         self.table.put_blank(row);
     }
 
-    /// Adds a row for which there is room to the table in fractions. The kernel's lists grow with it, so that its lines can
-    /// be read back.
+    /// Adds a row for which there is room to the table in fractions. The kernel's lists grow with it, so that its lines
+    /// can be read back.
     ///
     /// # Errors
     ///

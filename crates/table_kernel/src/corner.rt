@@ -43,8 +43,8 @@ impl Kernel {
         divisor
     }
 
-    /// Puts the values of the corner over a divisor of the denominator: the low bounds times the scale, and the constants
-    /// over the divisor above them.
+    /// Puts the values of the corner over a divisor of the denominator: the low bounds times the scale, and the
+    /// constants over the divisor above them.
     fn put_values(&self, divisor: u128, scale: u128, into: &mut Listed<u128>)
         // The divisor isn't 0, and a low bound times the scale stays below 2^46.
         requires kernel { IsKernel self.now }

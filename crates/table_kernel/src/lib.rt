@@ -1,5 +1,5 @@
-//! The kernel: the table of a box and of rows at a basis in 64-bit whole numbers, each line over its own denominator, and
-//! the lexicographic dual simplex over it.
+//! The kernel: the table of a box and of rows at a basis in 64-bit whole numbers, each line over its own denominator,
+//! and the lexicographic dual simplex over it.
 //!
 //! It takes the same pivots as the table in fractions, and stops before a step that its bounds don't cover; then that
 //! table takes over at the same basis.
@@ -14,11 +14,11 @@ mod line;
 mod lowest_turn;
 mod moves;
 mod multipliers;
+mod pivot;
 mod read_back;
 mod restate;
 mod settle;
 mod start;
-mod turn;
 
 pub use kernel::{Kernel, OutOfRange};
 pub use start::starting_kernel;

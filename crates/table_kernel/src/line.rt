@@ -84,7 +84,8 @@ impl Kernel {
         i128::from(self.lows[var].numbers.as_slice()[column]) * i128::from(self.share(var))
     }
 
-    /// A row's number at a column, over the common denominator: the sum of its coefficients times the variables' numbers.
+    /// A row's number at a column, over the common denominator: the sum of its coefficients times
+    /// the variables' numbers.
     fn row_entry(&self, form: &Form, column: usize) -> i128
         // The form's coefficients are at most 2^16 together, each of a variable of the kernel.
         requires kernel { IsKernel self.now }

@@ -29,8 +29,8 @@ impl Kernel {
         self.lows[var].is_small_at(&self.entering, column, turn, lowest)
     }
 
-    /// The least common denominator of the lines in lowest terms, once they have turned at a column; `None` where it or a
-    /// line isn't within the bounds.
+    /// The least common denominator of the lines in lowest terms, once they have turned at a column; `None` where it or
+    /// a line isn't within the bounds.
     fn lowest_common(&self, column: usize) -> Option<i64>
         requires ready { IsReadyToTurn self.now column }
         ensures { MatchOption result (MayTurn self.now column → ⊥)
@@ -47,8 +47,8 @@ impl Kernel {
         Some(common)
     }
 
-    /// Whether the constants of the lines that have turned at a column are within the bounds in lowest terms, over their
-    /// common denominator.
+    /// Whether the constants of the lines that have turned at a column are within the bounds in lowest terms, over
+    /// their common denominator.
     fn lowest_constants_fit(&self, column: usize, common: i64) -> bool
         requires ready { IsReadyToTurn self.now column }
         requires common { IsLowestCommon self.now column common }

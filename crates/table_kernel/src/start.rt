@@ -7,7 +7,7 @@ ghost use Rattle.fraction_table.specs.Tableaus.{starting};
 ghost use Rattle.fraction_table.specs.ValidTables.{IsSound, held_of};
 ghost use Rattle.integer_pivots.specs.Numbers.{AllWithin};
 ghost use Rattle.integer_pivots.specs.UnitLines.{unit_line_of};
-ghost use Rattle.integer_pivots.specs.Uses.{held_in};
+ghost use Rattle.integer_pivots.specs.Uses.{uses_in};
 ghost use Rattle.table_kernel.specs.Kernels.{IsKernel};
 ghost use Rattle.table_kernel.specs.ReadBack.{IsParked};
 
@@ -65,7 +65,7 @@ fn rooms_of(
     alloc: Global,
     width: usize,
 ) -> Result<(Vec<Vec<Use>>, Vec<Turn>, Vec<usize>, Line), OutOfMemory>
-    ensures uses { IfOk result (λ room. held_in room.0.items ≡
+    ensures uses { IfOk result (λ room. uses_in room.0.items ≡
         map (λ var. []) (numbers_from 0 width)) }
     ensures turns { IfOk result (λ room. length room.1.items ≡ width) }
     ensures left { IfOk result (λ room. width ≤ vec_capacity room.2) }

@@ -1,8 +1,8 @@
 //! Runs scripts of texts: configurations, request files, and the networks and problems that they make. Each line of
 //! standard input, with what is answered to it.
 //!
-//! `text NAME` begins a text, and `| LINE` adds a line to it. `stdin` has the cases, and `stdout` their answers, which were
-//! worked out by hand.
+//! `text NAME` begins a text, and `| LINE` adds a line to it. `stdin` has the cases, and `stdout` their answers, which
+//! were worked out by hand.
 #![tactic(auto)]
 
 mod answer;

@@ -128,7 +128,7 @@ fn requests_text(alloc: Global, requests: &RequestFile) -> Result<String, AllocE
     }
 }
 
-/// What is told of requests: what they ask for, or what they make of a network.
+/// What is told of a request file: what it asks for, or what it makes of a network.
 fn told(
     alloc: Global,
     first: &str,
@@ -147,8 +147,8 @@ fn told(
 
 /// What is told of the last text as a request file, or its first fault.
 ///
-/// `request MORE`: what it asks for. `problem MORE`: the problem that it makes of the network at hand; `present MORE`: that at
-/// the network's present costs. `beside MORE`: the present cost of each variable of the problem.
+/// `request MORE`: what it asks for. `problem MORE`: the problem that it makes of the network at hand; `present MORE`:
+/// that at the network's present costs. `beside MORE`: the present cost of each variable of the problem.
 pub(crate) fn request_text(
     alloc: Global,
     first: &str,

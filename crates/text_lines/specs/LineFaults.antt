@@ -1,5 +1,7 @@
 -- The faults of a file, line by line.
-use Rattle.std.specs.Prelude.{ℕ, ◌+◌, List, [], ◌∷◌, ◌++◌, Option, Some, None, length}
+use Rattle.std.specs.Prelude.{◌≡◌, ℕ, ◌+◌, List, [], ◌∷◌, ◌++◌, Option, Some, None, length}
+use Rattle.cost_base.specs.declared.refusal.Refusal.{Refusal}
+use Rattle.cost_base.specs.declared.refusal.Refusal.TheVariants.{Refused, OutOfMemory}
 
 -- a fault, and the line at which it stands
 pub record FaultyLine (F : Type 0) : Type 0 where
@@ -25,3 +27,8 @@ abbrev pub faults_by_line : {F : Type 0} → (List (List ℕ) → List ℕ → O
 faults_by_line {F} fault_behind before [] = []
 faults_by_line {F} fault_behind before (line ∷ more) =
     faults_at (length before + 1) (fault_behind before line) ++ faults_by_line fault_behind (before ++ line ∷ []) more
+
+-- a refusal tells the fault; want of memory says nothing
+abbrev pub TellsFault : {F : Type 0} → Option (FaultyLine F) → Refusal F ℕ → Type 0
+TellsFault {F} faulty (Refused fault line) = faulty ≡ Some (fault_at line fault)
+TellsFault {F} faulty OutOfMemory = Unit {0}

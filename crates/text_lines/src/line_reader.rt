@@ -23,7 +23,8 @@ pub struct LongLine {
 
 /// A reader of a text, line by line. A line ends with an LF; bytes after the last LF are a line too.
 ///
-/// Contracts see the bytes that are left, the number of lines read so far, whether the last of them ended with an LF, and the greatest length of a line.
+/// Contracts see the bytes that are left, the number of lines read so far, whether the last of them ended with an LF,
+/// and the greatest length of a line.
 #[derive(Drop)]
 pub struct Lines<'a> {
     left: &'a [u8],
@@ -38,7 +39,12 @@ impl<'a> Model for Lines<'a> {
 
     ghost Value = { TextLeft };
 
-    ghost view = { λ l. record { bytes = l.left.now; read = l.read; ended = l.ended; longest = l.longest } };
+    ghost view = { λ l. record {
+      bytes = l.left.now;
+      read = l.read;
+      ended = l.ended;
+      longest = l.longest;
+    } };
 
     ghost invariant = { λ l. l.read + length l.left.now < 2 ^ 32 - 1 };
 }

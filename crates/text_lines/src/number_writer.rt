@@ -5,7 +5,8 @@ ghost use Rattle.cost_base.specs.Outside.{HasCause, GotAll, GotPart};
 
 use cost_base::{PutFailed, Sink};
 
-/// Writes the decimal digits of a number, without leading zeros, into the first places of `room`, and tells how many they are: 1 to 39.
+/// Writes the decimal digits of a number, without leading zeros, into the first places of `room`, and tells how many
+/// they are: 1 to 39.
 pub fn number_bytes(value: u128, room: &mut [u8; 40]) -> usize
     ensures some { 1 ≤ result }
     ensures within { result ≤ 39 }

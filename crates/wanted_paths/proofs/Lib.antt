@@ -1,7 +1,7 @@
 pub mod RouteLaws
 pub mod LookUps
 pub mod Walks
-pub mod TakenEdges
+pub mod ExcludedEdges
 pub mod ExcludedLaws
 pub mod Withouts
 pub mod Outline

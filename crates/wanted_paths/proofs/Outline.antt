@@ -20,7 +20,7 @@ use Rattle.request_reader.specs.declared.Directive.{Directive}
 use Rattle.request_reader.specs.declared.Directive.TheVariants.{FreeAll, Free, Fix, Path, SymmetricAll, Symmetric}
 use Rattle.request_reader.specs.declared.Item.{Item}
 use Rattle.request_reader.specs.WrittenRoutes.{Route}
-use Rattle.wanted_paths.specs.Paths.{next_name, router_number, link_number, edge_between, hop_edges, route_edges, link_takes, takes, excluded_edges, request_of}
+use Rattle.wanted_paths.specs.Paths.{next_name, router_number, link_number, edge_between, hop_edges, route_edges, link_excludes, excludes, excluded_edges, request_of}
 use Rattle.wanted_paths.specs.Resolution.{is_none_twice, is_loop_free}
 use Rattle.wanted_paths.specs.Paths.{outline}
 
@@ -90,32 +90,32 @@ route_same d g h (hop ∷ hops) last same =
     let l = link_number d hop.0 hop.1 in
     rw (hop_same d g h l (slice_get d.links l) (router_number d (next_name hops last)) same, route_same d g h hops last same) refl
 
-link_takes_same : (d : Database) (g h : Area) (l : ℕ) (o : Option Linked) (e : ℕ) → SameEnds g h → link_takes d g l o e ≡ link_takes d h l o e
-link_takes_same d g h l None e same = refl
-link_takes_same d g h l (Some link) e same = by_far link.link_back link.to
+link_excludes_same : (d : Database) (g h : Area) (l : ℕ) (o : Option Linked) (e : ℕ) → SameEnds g h → link_excludes d g l o e ≡ link_excludes d h l o e
+link_excludes_same d g h l None e same = refl
+link_excludes_same d g h l (Some link) e same = by_far link.link_back link.to
   where
-    by_far : (link_back : Option ℕ) (far : Far) → link_takes d g l (Some (record link { link_back = link_back; to = far })) e
-        ≡ link_takes d h l (Some (record link { link_back = link_back; to = far })) e
+    by_far : (link_back : Option ℕ) (far : Far) → link_excludes d g l (Some (record link { link_back = link_back; to = far })) e
+        ≡ link_excludes d h l (Some (record link { link_back = link_back; to = far })) e
     by_far None (ToRouter r) = refl
     by_far (Some m) (ToRouter r) = refl
     by_far None (ToSubnet s) = rw (same.from e, same.to e) refl
     by_far (Some m) (ToSubnet s) = rw (same.from e, same.to e) refl
 
-takes_same : (d : Database) (g h : Area) (e : ℕ) (part : Part) → SameEnds g h → takes d g e part ≡ takes d h e part
-takes_same d g h e (Router name) same = rw (same.from e, same.to e) refl
-takes_same d g h e (Interface router interface) same =
+excludes_same : (d : Database) (g h : Area) (e : ℕ) (part : Part) → SameEnds g h → excludes d g e part ≡ excludes d h e part
+excludes_same d g h e (Router name) same = rw (same.from e, same.to e) refl
+excludes_same d g h e (Interface router interface) same =
     let l = link_number d router interface in
-    link_takes_same d g h l (slice_get d.links l) e same
+    link_excludes_same d g h l (slice_get d.links l) e same
 
-any_takes_same : (d : Database) (g h : Area) (e : ℕ) (parts : List Part) → SameEnds g h → list_any (takes d g e) parts ≡ list_any (takes d h e) parts
-any_takes_same d g h e [] same = refl
-any_takes_same d g h e (part ∷ parts) same = rw (takes_same d g h e part same, any_takes_same d g h e parts same) refl
+any_excludes_same : (d : Database) (g h : Area) (e : ℕ) (parts : List Part) → SameEnds g h → list_any (excludes d g e) parts ≡ list_any (excludes d h e) parts
+any_excludes_same d g h e [] same = refl
+any_excludes_same d g h e (part ∷ parts) same = rw (excludes_same d g h e part same, any_excludes_same d g h e parts same) refl
 
 pub excluded_same : (d : Database) (g h : Area) (parts : List Part) → SameEnds g h → excluded_edges d g parts ≡ excluded_edges d h parts
 excluded_same d g h parts same =
-    filter-numbers_from-agree (λ e. list_any (takes d g e) parts) (λ e. list_any (takes d h e) parts) 0 (length g.edges)
-    (λ e above below. any_takes_same d g h e parts same)
-    ∙ ap (λ n. filter (λ e. list_any (takes d h e) parts) (numbers_from 0 n)) same.count
+    filter-numbers_from-agree (λ e. list_any (excludes d g e) parts) (λ e. list_any (excludes d h e) parts) 0 (length g.edges)
+    (λ e above below. any_excludes_same d g h e parts same)
+    ∙ ap (λ n. filter (λ e. list_any (excludes d h e) parts) (numbers_from 0 n)) same.count
 
 request_same : (d : Database) (g h : Area) (directive : Directive) → SameEnds g h → request_of d g directive ≡ request_of d h directive
 request_same d g h (Path route parts) same = rw (route_same d g h route.hops route.last same, excluded_same d g h parts same) refl

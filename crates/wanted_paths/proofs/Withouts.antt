@@ -15,9 +15,9 @@ use Rattle.wanted_paths.specs.Resolution.{is_loop_free}
 use Rattle.wanted_paths.specs.LineFaults.{fault_unless, hop_faults, broken_faults, walk_faults, parts_faults, without_faults, is_router_part, is_path_excluded}
 use Rattle.wanted_paths.specs.Paths.{outline}
 use Rattle.wanted_paths.specs.Walks.{IsWalk}
-use Rattle.wanted_paths.specs.Taken.{taken_by_all}
+use Rattle.wanted_paths.specs.Excluded.{excluded_by_all}
 use Rattle.wanted_paths.proofs.Walks.{well_from, words_known, hops_joined, outline_simple}
-use Rattle.wanted_paths.proofs.TakenEdges.{path_marked}
+use Rattle.wanted_paths.proofs.ExcludedEdges.{path_marked}
 use Rattle.wanted_paths.specs.declared.fault.ResolutionFault.TheVariants.{LoopPath, PathExcluded}
 use Rattle.area_graph.specs.Paths.{IsSimple}
 
@@ -34,36 +34,36 @@ walk_simple d line route base none =
     outline_simple d route base (words_known d line route.hops route.last parts.0)
     (hops_joined d line 1 route.hops route.last parts.1) (well_from free (LoopPath line) whole.1)
 
--- what is taken away of the outline, as a list and as marks
-pub record AreExcluded (d : Database) (parts : List Part) (taken : List ℕ) (marks : List Bool) : Type 0 where
-  pub are : AreEdgeMarks taken marks
-  pub all : taken ≡ taken_by_all d (outline d) parts
+-- the edges of the outline that are excluded, as a list and as marks
+pub record AreExcluded (d : Database) (parts : List Part) (excluded : List ℕ) (marks : List Bool) : Type 0 where
+  pub are : AreEdgeMarks excluded marks
+  pub all : excluded ≡ excluded_by_all d (outline d) parts
   pub count : length marks ≡ length (outline d).edges
 
 -- the marks that were set by a list as it was lent
-pub excluded_marks : (d : Database) (g : Area) (parts : List Part) (lent taken : List ℕ) (old marks : List Bool) →
-    g ≡ outline d → lent ≡ taken → AreEdgeMarks lent marks → taken ≡ taken_by_all d g parts →
-    length marks ≡ length old → length old ≡ length g.edges → AreExcluded d parts taken marks
-excluded_marks d g parts lent taken old marks graph same are all kept count = record {
+pub excluded_marks : (d : Database) (g : Area) (parts : List Part) (lent excluded : List ℕ) (old marks : List Bool) →
+    g ≡ outline d → lent ≡ excluded → AreEdgeMarks lent marks → excluded ≡ excluded_by_all d g parts →
+    length marks ≡ length old → length old ≡ length g.edges → AreExcluded d parts excluded marks
+excluded_marks d g parts lent excluded old marks graph same are all kept count = record {
   are = subst (λ (xs : List ℕ). AreEdgeMarks xs marks) same are;
-  all = all ∙ ap (λ (h : Area). taken_by_all d h parts) graph;
+  all = all ∙ ap (λ (h : Area). excluded_by_all d h parts) graph;
   count = kept ∙ count ∙ ap (λ (h : Area). length h.edges) graph;
 }
 
-pub without_faults_are : (d : Database) (line : ℕ) (route : Route) (walk : Walk) (parts : List Part) (taken : List ℕ)
-    (marks : List Bool) (excluded : Bool) → IsAreaDatabase d → IsWalk d route walk → walk_faults d line route ≡ [] →
-    parts_faults d line parts ≡ [] → AreExcluded d parts taken marks →
-    excluded ≡ (list_any (is_router_part (next_name route.hops route.last)) parts
+pub without_faults_are : (d : Database) (line : ℕ) (route : Route) (walk : Walk) (parts : List Part) (excluded : List ℕ)
+    (marks : List Bool) (tested : Bool) → IsAreaDatabase d → IsWalk d route walk → walk_faults d line route ≡ [] →
+    parts_faults d line parts ≡ [] → AreExcluded d parts excluded marks →
+    tested ≡ (list_any (is_router_part (next_name route.hops route.last)) parts
     || list_any (λ e. slice_index_or marks e false) walk.path.edges) →
-    without_faults d line route parts ≡ fault_unless (not excluded) (PathExcluded line)
-without_faults_are d line route walk parts taken marks excluded base is walks words taken_are tests =
+    without_faults d line route parts ≡ fault_unless (not tested) (PathExcluded line)
+without_faults_are d line route walk parts excluded marks tested base is walks words excluded_are tests =
     let simple = walk_simple d line route base walks in
     let edges = route_edges d (outline d) route.hops route.last in
     let start = list_any (is_router_part (next_name route.hops route.last)) parts in
     let within = joined_known (outline d) (router_number d (next_name route.hops route.last)) edges (router_number d route.last) simple.joins in
-    let same : is_path_excluded d route parts ≡ excluded
+    let same : is_path_excluded d route parts ≡ tested
     =
-    ap (λ b. start || b) (sym (path_marked d (outline d) parts taken marks edges taken_are.are taken_are.all
-    taken_are.count within)
+    ap (λ b. start || b) (sym (path_marked d (outline d) parts excluded marks edges excluded_are.are excluded_are.all
+    excluded_are.count within)
     ∙ ap (λ (es : List ℕ). list_any (λ e. slice_index_or marks e false) es) (sym is.edges)) ∙ sym tests in
     rw (words, same) refl

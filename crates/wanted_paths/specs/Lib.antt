@@ -4,4 +4,4 @@ pub mod FaultNumbers
 pub mod LineFaults
 pub mod Keys
 pub mod Walks
-pub mod Taken
+pub mod Excluded

@@ -14,7 +14,7 @@ use Rattle.request_reader.specs.declared.Item.{Item}
 use Rattle.request_reader.specs.WrittenRoutes.{Route}
 use Rattle.wanted_paths.specs.declared.fault.ResolutionFault.{ResolutionFault}
 use Rattle.wanted_paths.specs.declared.fault.ResolutionFault.TheVariants.{UnknownRouter, UnknownInterface, NotALink, BrokenPath, LoopPath, PathExcluded}
-use Rattle.wanted_paths.specs.Paths.{next_name, link_number, router_number, route_edges, takes, outline}
+use Rattle.wanted_paths.specs.Paths.{next_name, link_number, router_number, route_edges, excludes, outline}
 use Rattle.wanted_paths.specs.Resolution.{knows_router, knows_link, leads_to_router, is_loop_free}
 
 -- the fault, unless all is well
@@ -67,7 +67,7 @@ is_router_part name (Interface router interface) = false
 abbrev pub is_path_excluded : Database → Route → List Part → Bool
 is_path_excluded d route parts =
     list_any (is_router_part (next_name route.hops route.last)) parts
-    || list_any (λ e. list_any (takes d (outline d) e) parts) (route_edges d (outline d) route.hops route.last)
+    || list_any (λ e. list_any (excludes d (outline d) e) parts) (route_edges d (outline d) route.hops route.last)
 
 -- the faults of a path: of its words one by one, of its hops one by one, and then that a router or a subnet comes twice
 abbrev pub walk_faults : Database → ℕ → Route → List ResolutionFault

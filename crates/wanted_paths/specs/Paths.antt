@@ -60,28 +60,28 @@ route_edges d g (hop ∷ hops) last =
     hop_edges d g l (slice_get d.links l) (router_number d (next_name hops last)) ++ route_edges d g hops last
 
 -- a link, where there is one, excludes the edge: its own, its link back's, or the one from its transit subnet back
-abbrev pub link_takes : Database → Area → ℕ → Option Linked → ℕ → Bool
-link_takes d g l None e = false
-link_takes d g l (Some link) e = e == l || link_back_takes link.link_back || far_takes link.to
+abbrev pub link_excludes : Database → Area → ℕ → Option Linked → ℕ → Bool
+link_excludes d g l None e = false
+link_excludes d g l (Some link) e = e == l || link_back_excludes link.link_back || far_excludes link.to
   where
-    link_back_takes : Option ℕ → Bool
-    link_back_takes None = false
-    link_back_takes (Some m) = e == m
+    link_back_excludes : Option ℕ → Bool
+    link_back_excludes None = false
+    link_back_excludes (Some m) = e == m
 
-    far_takes : Far → Bool
-    far_takes (ToRouter r) = false
-    far_takes (ToSubnet s) = (edge_at g e).from == length d.routers + s && (edge_at g e).to == link.router
+    far_excludes : Far → Bool
+    far_excludes (ToRouter r) = false
+    far_excludes (ToSubnet s) = (edge_at g e).from == length d.routers + s && (edge_at g e).to == link.router
 
 -- a part excludes the edge: its router is at one of the edge's ends, or the link of its interface excludes the edge
-abbrev pub takes : Database → Area → ℕ → Part → Bool
-takes d g e (Router name) = (edge_at g e).from == router_number d name || (edge_at g e).to == router_number d name
-takes d g e (Interface router interface) =
+abbrev pub excludes : Database → Area → ℕ → Part → Bool
+excludes d g e (Router name) = (edge_at g e).from == router_number d name || (edge_at g e).to == router_number d name
+excludes d g e (Interface router interface) =
     let l = link_number d router interface in
-    link_takes d g l (slice_get d.links l) e
+    link_excludes d g l (slice_get d.links l) e
 
 -- the numbers of the edges that the parts exclude, in rising order
 abbrev pub excluded_edges : Database → Area → List Part → List ℕ
-excluded_edges d g parts = filter (λ e. list_any (takes d g e) parts) (numbers_from 0 (length g.edges))
+excluded_edges d g parts = filter (λ e. list_any (excludes d g e) parts) (numbers_from 0 (length g.edges))
 
 -- the request of a `path` line: the edges between its ends, and its excluded edges
 abbrev pub request_of : Database → Area → Directive → Option Request

@@ -1,4 +1,4 @@
-//! Resolves the lines of requests, one by one.
+//! Resolves the lines of a request file, one by one.
 ghost use Rattle.std.specs.Prelude.{◌≡◌, ◌++◌, [], slice_get, option_to_list, IfOk, IfErr, OnOk};
 ghost use Rattle.std.specs.List.{filter_map};
 ghost use Rattle.cost_base.specs.Lists.{first_of};

@@ -3,6 +3,7 @@ ghost use Rattle.std.specs.Prelude.{◌≡◌, ◌≢◌, ℕ, List, ◌<◌, []
 ghost use Rattle.cost_base.specs.Lists.{first_of};
 ghost use Rattle.area_graph.specs.declared.Price.TheVariants.{Fixed};
 ghost use Rattle.lsdb_build.specs.Graphs.{IsAreaDatabase, IsLinkPrice, graph_at, router_of};
+ghost use Rattle.lsdb_build.specs.LinkNames.{link_interface, link_router};
 ghost use Rattle.wanted_paths.specs.Paths.{router_number, link_number};
 ghost use Rattle.wanted_paths.specs.Keys.{link_key};
 ghost use Rattle.wanted_paths.specs.Resolution.{knows_router, knows_link};
@@ -38,7 +39,8 @@ impl<'a> Model for Names<'a> {
     ghost invariant = { λ n. record {
       base : IsAreaDatabase n.lsdb.now;
       routers : map (λ name. name.now) n.routers.keys ≡ n.lsdb.now.routers;
-      links : map {B = ℕ × List ℕ} (λ key. (key.0, key.1.now)) n.links.keys ≡ map link_key n.lsdb.now.links;
+      links : map {B = ℕ × List ℕ} (λ key. (key.0, key.1.now)) n.links.keys ≡
+          map link_key n.lsdb.now.links;
     } };
 }
 
@@ -265,6 +267,20 @@ impl<'a> Names<'a> {
         ensures { result.now ≡ slice_index_or self.now.routers number [] }
     {
         self.lsdb.router_name(number)
+    }
+
+    /// The name of the router that the link of a number leaves; none where there is no such link.
+    pub fn link_router(&self, link: u32) -> &[u8]
+        ensures { result.now ≡ link_router self.now link }
+    {
+        self.lsdb.link_router(link)
+    }
+
+    /// The name of the interface by which the link of a number leaves its router; none where there is no such link.
+    pub fn link_interface(&self, link: u32) -> &[u8]
+        ensures { result.now ≡ link_interface self.now link }
+    {
+        self.lsdb.link_interface(link)
     }
 
     /// The router of a link.

@@ -6,7 +6,7 @@ ghost use Rattle.area_graph.specs.Area.{edge_at, edges_out, edges_in};
 ghost use Rattle.lsdb_build.specs.Graphs.{IsFar};
 ghost use Rattle.wanted_paths.specs.LineFaults.{part_faults, parts_faults, is_router_part, TellsResolution};
 ghost use Rattle.wanted_paths.specs.Paths.{outline};
-ghost use Rattle.wanted_paths.specs.Taken.{taken_from, taken_by_link, taken_at, taken_by, taken_by_all};
+ghost use Rattle.wanted_paths.specs.Excluded.{excluded_from, excluded_by_link, excluded_at, excluded_by, excluded_by_all};
 
 use crate::ResolutionFault;
 use crate::names::Names;
@@ -22,14 +22,14 @@ fn push_into(
     graph: &Graph,
     edges: &[u32],
     vertex: u32,
-    taken: &mut Vec<u32>,
+    excluded: &mut Vec<u32>,
 ) -> Result<(), OutOfMemory>
-    ensures { OnOk result (taken.new.items ≡ taken.old.items ++
+    ensures { OnOk result (excluded.new.items ≡ excluded.old.items ++
         filter (λ e. (edge_at graph.now e).to == vertex) edges.now) }
 {
     for edge in edges {
         if far_end(graph, *edge) == vertex {
-            taken.push(*edge)?;
+            excluded.push(*edge)?;
         }
     }
     Ok(())
@@ -41,18 +41,18 @@ fn push_from(
     graph: &Graph,
     router: u32,
     far: Far,
-    taken: &mut Vec<u32>,
+    excluded: &mut Vec<u32>,
 ) -> Result<(), OutOfMemory>
     requires graph { graph.now ≡ outline names.now }
     requires far { IsFar names.now far }
-    ensures { OnOk result (taken.new.items ≡ taken.old.items ++
-        taken_from names.now graph.now router far) }
+    ensures { OnOk result (excluded.new.items ≡ excluded.old.items ++
+        excluded_from names.now graph.now router far) }
 {
     match far {
         Far::Router(_) => Ok(()),
         Far::Subnet(subnet) => {
             let out = graph.edges_out(subnet_vertex(names, subnet));
-            push_into(graph, out, router, taken)
+            push_into(graph, out, router, excluded)
         }
     }
 }
@@ -63,18 +63,18 @@ fn push_link(
     graph: &Graph,
     number: u32,
     link: &Linked,
-    taken: &mut Vec<u32>,
+    excluded: &mut Vec<u32>,
 ) -> Result<(), OutOfMemory>
     requires graph { graph.now ≡ outline names.now }
     requires far { IsFar names.now link.now.to }
-    ensures { OnOk result (taken.new.items ≡ taken.old.items ++
-        taken_by_link names.now graph.now number link.now) }
+    ensures { OnOk result (excluded.new.items ≡ excluded.old.items ++
+        excluded_by_link names.now graph.now number link.now) }
 {
-    taken.push(number)?;
+    excluded.push(number)?;
     if let Some(link_back) = link.link_back {
-        taken.push(link_back)?;
+        excluded.push(link_back)?;
     }
-    push_from(names, graph, link.router, link.to, taken)
+    push_from(names, graph, link.router, link.to, excluded)
 }
 
 /// Appends the edges of the link of a number in both directions.
@@ -82,26 +82,26 @@ fn push_interface(
     names: &Names,
     graph: &Graph,
     number: u32,
-    taken: &mut Vec<u32>,
+    excluded: &mut Vec<u32>,
 ) -> Result<(), OutOfMemory>
     requires { graph.now ≡ outline names.now }
-    ensures { OnOk result (taken.new.items ≡ taken.old.items ++
-        taken_at names.now graph.now number (slice_get names.now.links number)) }
+    ensures { OnOk result (excluded.new.items ≡ excluded.old.items ++
+        excluded_at names.now graph.now number (slice_get names.now.links number)) }
 {
     match names.links().get(number as usize) {
-        Some(link) => push_link(names, graph, number, link, taken),
+        Some(link) => push_link(names, graph, number, link, excluded),
         None => Ok(()),
     }
 }
 
 /// Appends the edges out of a vertex and those into it.
-fn push_router(graph: &Graph, vertex: u32, taken: &mut Vec<u32>) -> Result<(), OutOfMemory>
+fn push_router(graph: &Graph, vertex: u32, excluded: &mut Vec<u32>) -> Result<(), OutOfMemory>
     requires { vertex < length graph.now.vertices }
-    ensures { OnOk result (taken.new.items ≡ taken.old.items ++
+    ensures { OnOk result (excluded.new.items ≡ excluded.old.items ++
         (edges_out graph.now vertex ++ edges_in graph.now vertex)) }
 {
-    taken.extend_from_slice(graph.edges_out(vertex))?;
-    taken.extend_from_slice(graph.edges_in(vertex))?;
+    excluded.extend_from_slice(graph.edges_out(vertex))?;
+    excluded.extend_from_slice(graph.edges_in(vertex))?;
     Ok(())
 }
 
@@ -111,30 +111,30 @@ fn push_part(
     graph: &Graph,
     line: u32,
     part: &Part,
-    taken: &mut Vec<u32>,
+    excluded: &mut Vec<u32>,
 ) -> Result<(), Refusal<ResolutionFault, ()>>
     requires { graph.now ≡ outline names.now }
     ensures made { OnOk result (part_faults names.now line part.now ≡ []) }
-    ensures taken { OnOk result (taken.new.items ≡ taken.old.items ++
-        taken_by names.now graph.now part.now) }
+    ensures excluded { OnOk result (excluded.new.items ≡ excluded.old.items ++
+        excluded_by names.now graph.now part.now) }
     ensures refused { IfErr result
         (TellsResolution (first_of (part_faults names.now line part.now))) }
 {
     match part {
         Part::Router(name) => {
             let router = names.router(line, name.as_bytes())?;
-            push_router(graph, router, taken)?;
+            push_router(graph, router, excluded)?;
         }
         Part::Interface(router, interface) => {
             let number = names.link(line, router.as_bytes(), interface.as_bytes())?;
-            push_interface(names, graph, number, taken)?;
+            push_interface(names, graph, number, excluded)?;
         }
     }
     Ok(())
 }
 
 /// The edges that parts exclude, each maybe several times; the line's fault at the first unknown word.
-pub fn taken_by(
+pub fn excluded_by(
     alloc: Global,
     names: &Names,
     graph: &Graph,
@@ -142,16 +142,16 @@ pub fn taken_by(
     parts: &[Part],
 ) -> Result<Vec<u32>, Refusal<ResolutionFault, ()>>
     requires { graph.now ≡ outline names.now }
-    ensures made { IfOk result (λ taken. (parts_faults names.now line parts.now ≡ []) ×
-        (taken.items ≡ taken_by_all names.now graph.now parts.now)) }
+    ensures made { IfOk result (λ excluded. (parts_faults names.now line parts.now ≡ []) ×
+        (excluded.items ≡ excluded_by_all names.now graph.now parts.now)) }
     ensures refused { IfErr result
         (TellsResolution (first_of (parts_faults names.now line parts.now))) }
 {
-    let mut taken = Vec::new(alloc);
+    let mut excluded = Vec::new(alloc);
     for part in parts {
-        push_part(names, graph, line, part, &mut taken)?;
+        push_part(names, graph, line, part, &mut excluded)?;
     }
-    Ok(taken)
+    Ok(excluded)
 }
 
 /// Whether a part is the router of a name.

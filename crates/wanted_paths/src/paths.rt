@@ -10,7 +10,7 @@ ghost use Rattle.wanted_paths.specs.Walks.{IsWalk};
 
 use crate::ResolutionFault;
 use crate::names::Names;
-use crate::parts::{has_marked, has_router, marked, taken_by};
+use crate::parts::{excluded_by, has_marked, has_router, marked};
 use crate::routes::{Walk, next_name, resolve_walk};
 use area_graph::{Graph, mark_excluded};
 use cost_base::{Listed, OutOfMemory, Refusal};
@@ -109,8 +109,8 @@ impl<'a> Resolver<'a> {
         // For the prover: what an area's type keeps is known once its links are read.
         let _links = self.names.links();
         self.graph.keeps_conditions();
-        let taken = taken_by(self.alloc, self.names, self.graph, line, parts)?;
-        mark_excluded(&mut self.marks, &taken);
+        let excluded = excluded_by(self.alloc, self.names, self.graph, line, parts)?;
+        mark_excluded(&mut self.marks, &excluded);
         if is_excluded(route, walk, parts, &self.marks) {
             return Err(Refusal::Refused {
                 fault: ResolutionFault::PathExcluded { line },

@@ -23,7 +23,10 @@ impl Model for Frac {
 
     ghost view = { λ q. record { numerator = q.numerator; denominator = q.denominator } };
 
-    ghost invariant = { λ q. IsFractionIn127Bits (record { numerator = q.numerator; denominator = q.denominator }) };
+    ghost invariant = { λ q. IsFractionIn127Bits (record {
+      numerator = q.numerator;
+      denominator = q.denominator;
+    }) };
 
     ghost inverse = { λ q. record { numerator = q.numerator; denominator = q.denominator } };
 }

@@ -65,8 +65,8 @@ fn cmp_by_sign(left: Frac, right: Frac) -> Ordering
     }
 }
 
-/// How `left / left_below` and `right / right_below` are ordered: by their whole parts, and where these are equal by the
-/// reciprocals of the rests, the other way round.
+/// How `left / left_below` and `right / right_below` are ordered: by their whole parts, and where these are equal by
+/// the reciprocals of the rests, the other way round.
 fn cmp_sizes(left: u128, left_below: u128, right: u128, right_below: u128) -> Ordering
     requires left_positive { 0 < left_below }
     requires right_positive { 0 < right_below }

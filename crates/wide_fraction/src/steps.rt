@@ -25,9 +25,9 @@ pub struct Wide {
     pub right: Frac,
 }
 
-/// The sum in lowest terms. `Wide` comes exactly where a whole number that the sum makes on its way passes `top` in size:
-/// with g the greatest common divisor of the denominators of a/b and c/d, these are a(d/g), c(b/g), their sum s and
-/// (b/g)(d/h), where h is the greatest common divisor of s and g.
+/// The sum in lowest terms. `Wide` comes exactly where a whole number that the sum makes on its way passes `top` in
+/// size: with g the greatest common divisor of the denominators of a/b and c/d, these are a(d/g), c(b/g), their sum s
+/// and (b/g)(d/h), where h is the greatest common divisor of s and g.
 pub fn add(left: Frac, right: Frac, top: Top) -> Result<Frac, Wide>
     // The numbers of both fractions are within the top.
     requires left_within { IsWithin top left }

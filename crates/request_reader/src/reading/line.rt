@@ -8,7 +8,7 @@ use crate::reading::statement::{Bounds, Statement};
 use crate::{Directive, RequestFault};
 use cost_base::{Name, OutOfMemory};
 use std::alloc::Global;
-use text_lines::{area, first_word, is_comment_word, number};
+use text_lines::{area, first_word, number};
 
 /// The first words of lines.
 const PATH: &[u8] = b"path";
@@ -23,29 +23,15 @@ const AREA: &[u8] = b"area";
 
 const DEFAULT_COST: &[u8] = b"default-cost";
 
-const OSPFCOST: &[u8] = b"ospfcost";
-
 /// The word that stands for every interface or link.
 const ALL: &[u8] = b"all";
 
-/// The words behind `ospfcost` in a header.
-const REQUEST: &[u8] = b"request";
-
-const VERSION: &[u8] = b"1";
-
-/// What a line says.
-pub(crate) fn statement_of(alloc: Global, line: &[u8]) -> Result<Statement, OutOfMemory>
-    ensures { IfOk result (λ said. said ≡ definition.request_statement_of (words line.now)) }
-{
-    match first_word(line) {
-        None => Ok(Statement::Passed),
-        Some((word, _)) if is_comment_word(word) => Ok(Statement::Passed),
-        Some((word, rest)) => line_of(alloc, word, rest),
-    }
-}
-
-/// What the words behind the first one say.
-fn line_of(alloc: Global, word: &[u8], rest: &[u8]) -> Result<Statement, OutOfMemory>
+/// What a statement says, by its first word and the text behind it.
+pub(crate) fn statement_of(
+    alloc: Global,
+    word: &[u8],
+    rest: &[u8],
+) -> Result<Statement, OutOfMemory>
     ensures { IfOk result (λ said. said ≡ definition.request_statement_by word.now
         (words rest.now)) }
 {
@@ -61,8 +47,6 @@ fn line_of(alloc: Global, word: &[u8], rest: &[u8]) -> Result<Statement, OutOfMe
         Ok(area_line(rest))
     } else if word == DEFAULT_COST {
         Ok(cost_line(rest))
-    } else if word == OSPFCOST {
-        Ok(header_line(rest))
     } else {
         Ok(Statement::Refused(RequestFault::BadRequestLine))
     }
@@ -108,16 +92,6 @@ fn four_words(text: &[u8]) -> Option<(&[u8], &[u8], &[u8], &[u8])>
     let (first, rest) = first_word(text)?;
     let (second, third, fourth) = three_words(rest)?;
     Some((first, second, third, fourth))
-}
-
-/// `ospfcost request 1`, without its first word.
-fn header_line(rest: &[u8]) -> Statement
-    ensures { result ≡ definition.header_line (words rest.now) }
-{
-    match two_words(rest) {
-        Some((request, version)) if request == REQUEST && version == VERSION => Statement::Header,
-        _ => Statement::Refused(RequestFault::BadRequestLine),
-    }
 }
 
 /// `area X`, without its first word.

@@ -1,4 +1,4 @@
-//! What a line of a request file says.
+//! What a statement of a request file says.
 use crate::{Directive, RequestFault};
 
 /// The bounds of a cost.
@@ -8,12 +8,9 @@ pub(crate) struct Bounds {
     pub(crate) highest: u16,
 }
 
-/// What a line of a request file says by itself.
+/// What a statement of a request file says by itself.
 #[derive(Drop)]
 pub(crate) enum Statement {
-    /// Nothing: the line is blank or a comment.
-    Passed,
-    Header,
     Area(u32),
     DefaultCost(u16),
     Ask(Directive),

@@ -1,4 +1,4 @@
-//! The lines of a file of sets.
+//! The statements of a file of sets.
 ghost use Rattle.std.specs.Prelude.{◌≡◌, ◌++◌, ◌∷◌, [], IfOk, OnOk};
 ghost use Rattle.text_lines.specs.Lines.{words};
 ghost use Rattle.set_reader.specs.SetLines as definition;
@@ -8,63 +8,28 @@ ghost use Rattle.set_reader.specs.ReadingSteps.{HasSeveral};
 use crate::reading::statement::Statement;
 use cost_base::{Listed, OutOfMemory};
 use std::alloc::Global;
-use text_lines::{first_word, is_comment_word, number};
+use text_lines::{first_word, number};
 
-/// The first words of lines.
+/// The first word of a statement.
 const SET: &[u8] = b"set";
-
-const OSPFCOST: &[u8] = b"ospfcost";
-
-/// The words behind `ospfcost` in a header.
-const SPREAD: &[u8] = b"spread";
-
-const VERSION: &[u8] = b"1";
 
 /// The greatest number of ten digits.
 const GREATEST: u64 = 9_999_999_999;
 
-/// What a line says.
-pub(crate) fn statement_of(alloc: Global, line: &[u8]) -> Result<Statement, OutOfMemory>
-    ensures said { IfOk result (λ said. said ≡ definition.set_statement_of (words line.now)) }
-    ensures several { IfOk result HasSeveral }
-{
-    match first_word(line) {
-        None => Ok(Statement::Passed),
-        Some((word, _)) if is_comment_word(word) => Ok(Statement::Passed),
-        Some((word, rest)) => line_of(alloc, word, rest),
-    }
-}
-
-/// What the words behind the first one say.
-fn line_of(alloc: Global, word: &[u8], rest: &[u8]) -> Result<Statement, OutOfMemory>
+/// What a statement says, by its first word and the text behind it.
+pub(crate) fn statement_of(
+    alloc: Global,
+    word: &[u8],
+    rest: &[u8],
+) -> Result<Statement, OutOfMemory>
     ensures said { IfOk result (λ said. said ≡ definition.set_statement_by word.now
         (words rest.now)) }
     ensures several { IfOk result HasSeveral }
 {
     if word == SET {
         set_line(alloc, rest)
-    } else if word == OSPFCOST {
-        Ok(header_line(rest))
     } else {
         Ok(Statement::Off)
-    }
-}
-
-/// `ospfcost spread 1`, without its first word.
-fn header_line(rest: &[u8]) -> Statement
-    ensures said { result ≡ definition.set_header_line (words rest.now) }
-    ensures several { HasSeveral result }
-{
-    let Some((spread, more)) = first_word(rest) else {
-        return Statement::Off;
-    };
-    let Some((version, end)) = first_word(more) else {
-        return Statement::Off;
-    };
-    if spread == SPREAD && version == VERSION && first_word(end).is_none() {
-        Statement::Header
-    } else {
-        Statement::Off
     }
 }
 

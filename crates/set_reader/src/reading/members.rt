@@ -5,12 +5,11 @@ ghost use Rattle.std.specs.List.{list_any};
 ghost use Rattle.cost_base.specs.Lists.{same_bytes};
 ghost use Rattle.area_graph.specs.Distances.{AreEdgeMarks};
 ghost use Rattle.design_problem.specs.Problems.{request_at};
-ghost use Rattle.text_lines.specs.LineFaults.{fault_in_line};
-ghost use Rattle.set_reader.specs.Reading.{same_ends, has_other_ends, excludes_edges, is_wrong_set, wrong_if, IsInOrder, TellsReading};
+ghost use Rattle.text_lines.specs.LineFaults.{TellsFault, fault_in_line};
+ghost use Rattle.set_reader.specs.Reading.{same_ends, has_other_ends, excludes_edges, is_wrong_set, wrong_if, IsInOrder};
 ghost use Rattle.set_reader.specs.ReadingSteps.{is_out_of_place};
 
 use crate::SetFault;
-use crate::reading::refusal;
 use cost_base::{OutOfMemory, Refusal};
 use design_problem::Request;
 use indexmap::IndexSet;
@@ -98,17 +97,17 @@ pub(crate) fn read_members(
 
     // Only what is no set behind the earlier ones is refused.
     ensures refused { IfErr result (λ refusal. (earlier : List ℕ) → AreEdgeMarks earlier taken.now →
-        TellsReading (fault_in_line line (wrong_if (is_wrong_set requests.now earlier numbers.now)))
+        TellsFault (fault_in_line line (wrong_if (is_wrong_set requests.now earlier numbers.now)))
         refusal) }
 {
     let mut members = Vec::new(alloc);
     let mut seen = IndexSet::new(alloc);
     for number in numbers {
         let Some(request) = find_member(requests, taken, members.as_slice(), *number) else {
-            return Err(refusal(line, SetFault::WrongSet));
+            return Err(Refusal::at(line, SetFault::WrongSet));
         };
         if !see(&mut seen, request)? {
-            return Err(refusal(line, SetFault::WrongSet));
+            return Err(Refusal::at(line, SetFault::WrongSet));
         }
         add_member(&mut members, *number as u32)?;
     }

@@ -1,27 +1,25 @@
-//! What the lines of a file of sets say together.
-ghost use Rattle.std.specs.Prelude.{◌≡◌, ◌+◌, ◌-◌, ◌^◌, ◌<◌, ◌≤◌, ◌∷◌, [], Some, None, true, false, length, IfOk, IfErr, OnOk};
-ghost use Rattle.text_lines.specs.LineFaults.{fault_at, fault_in_line};
+//! What the statements of a file of sets say together.
+ghost use Rattle.std.specs.Prelude.{◌≡◌, ◌≤◌, [], None, length, IfOk, IfErr, OnOk};
+ghost use Rattle.text_lines.specs.LineFaults.{TellsFault, fault_in_line};
 ghost use Rattle.set_reader.specs.SpreadSets.{AreSetsOf};
-ghost use Rattle.set_reader.specs.Reading.{set_fault_said, set_fault_behind_header, TellsReading};
-ghost use Rattle.set_reader.specs.ReadingSteps.{told_of, HasSeveral, TakesLine};
-ghost use Rattle.set_reader.specs.declared.fault.SetFault.TheVariants.{BadSetLine};
+ghost use Rattle.set_reader.specs.Reading.{set_fault_said};
+ghost use Rattle.set_reader.specs.ReadingSteps.{HasSeveral, TakesStatement};
 ghost use Rattle.set_reader.specs.declared.reading.statement.Statement.TheVariants.{Numbers as NumbersSaid};
 
+use crate::reading::line::statement_of;
 use crate::reading::members::{mark_members, read_members};
-use crate::reading::refusal;
 use crate::reading::statement::Statement;
 use crate::{SetFault, Sets};
 use cost_base::{Listed, OutOfMemory, Refusal};
 use design_problem::Problem;
 use std::alloc::Global;
 use std::marker::Model;
+use text_lines::StatementReader;
 
-/// What the lines that were read say together: whether a header was among them, and the sets. `taken` marks the requests
-/// that stand in a set.
+/// What the statements that were taken say together: the sets. `taken` marks the requests that stand in a set.
 #[derive(Drop)]
 pub(crate) struct Reader<'a> {
     problem: &'a Problem,
-    spoken: bool,
     sets: Vec<Listed<u32>>,
     taken: Vec<bool>,
 }
@@ -31,56 +29,46 @@ impl<'a> Model for Reader<'a> {
 
     ghost Value = { SoFar };
 
-    ghost view = { λ r. record { problem = r.problem.now; spoken = r.spoken; sets = r.sets.items } };
+    ghost view = { λ r. record { problem = r.problem.now; sets = r.sets.items } };
 
     ghost invariant = { λ r. KeepsSets r.problem.now r.sets.items r.taken.items };
 }
 
 impl<'a> Reader<'a> {
-    /// A reader that read nothing yet.
+    /// A reader that took nothing yet.
     pub(crate) fn new(alloc: Global, problem: &'a Problem) -> Result<Reader<'a>, OutOfMemory>
-        ensures { IfOk result (λ reader. reader ≡ record {
-          problem = problem.now;
-          spoken = false;
-          sets = [];
-        }) }
+        ensures { IfOk result (λ reader. reader ≡ record { problem = problem.now; sets = [] }) }
     {
         let taken = vec![in alloc; false; problem.paths.as_slice().len()]?;
         Ok(Reader {
             problem,
-            spoken: false,
             sets: Vec::new(alloc),
             taken,
         })
     }
 
     /// Takes what the line of this number says, unless that is a fault behind what was said before.
-    pub(crate) fn take(
+    fn take_said(
         &mut self,
         alloc: Global,
         line: u32,
         said: Statement,
     ) -> Result<(), Refusal<SetFault>>
         requires { HasSeveral said }
-        ensures taken { OnOk result (set_fault_said self.old.problem.paths (told_of self.old) said ≡
+        ensures taken { OnOk result (set_fault_said self.old.problem.paths self.old.sets said ≡
             None) }
-        ensures told { OnOk result (TakesLine self.old said self.new) }
+        ensures told { OnOk result (TakesStatement self.old said self.new) }
         ensures refused { IfErr result
-            (TellsReading
-            (fault_in_line line (set_fault_said self.old.problem.paths (told_of self.old) said))) }
+            (TellsFault
+            (fault_in_line line (set_fault_said self.old.problem.paths self.old.sets said))) }
     {
-        match (self.spoken, said) {
-            (_, Statement::Passed) => Ok(()),
-            (false, Statement::Header) => {
-                self.spoken = true;
-                Ok(())
-            }
-            (true, Statement::Numbers(numbers)) => self.take_set(alloc, line, numbers.as_slice()),
-            (_, _) => Err(refusal(line, SetFault::BadSetLine)),
+        match said {
+            Statement::Numbers(numbers) => self.take_set(alloc, line, numbers.as_slice()),
+            Statement::Off => Err(Refusal::at(line, SetFault::BadSetLine)),
         }
     }
 
-    /// Takes the set of a line behind the header, unless its numbers are no set behind the earlier ones.
+    /// Takes the set of a line, unless its numbers are no set behind the earlier ones.
     fn take_set(
         &mut self,
         alloc: Global,
@@ -88,13 +76,11 @@ impl<'a> Reader<'a> {
         numbers: &[u64],
     ) -> Result<(), Refusal<SetFault>>
         requires several { 2 ≤ length numbers.now }
-        requires spoken { self.old.spoken ≡ true }
-        ensures taken { OnOk result (set_fault_behind_header self.old.problem.paths
-            (told_of self.old) (NumbersSaid numbers.now) ≡ None) }
-        ensures told { OnOk result (TakesLine self.old (NumbersSaid numbers.now) self.new) }
+        ensures taken { OnOk result (set_fault_said self.old.problem.paths self.old.sets
+            (NumbersSaid numbers.now) ≡ None) }
+        ensures told { OnOk result (TakesStatement self.old (NumbersSaid numbers.now) self.new) }
         ensures refused { IfErr result
-            (TellsReading
-            (fault_in_line line (set_fault_behind_header self.old.problem.paths (told_of self.old)
+            (TellsFault (fault_in_line line (set_fault_said self.old.problem.paths self.old.sets
             (NumbersSaid numbers.now)))) }
     {
         let problem = self.problem;
@@ -109,17 +95,31 @@ impl<'a> Reader<'a> {
         Ok(())
     }
 
-    /// The sets. `lines` is how many lines there are.
-    pub(crate) fn finish(self, lines: u32) -> Result<Sets, Refusal<SetFault>>
-        requires { lines < 2 ^ 32 - 1 }
-        ensures made { IfOk result (λ sets. (self.entry.spoken ≡ true) × (sets ≡ self.entry.sets)) }
-        ensures lawful { IfOk result (AreSetsOf self.entry.problem) }
-        ensures refused { IfErr result (λ refusal. (self.entry.spoken ≡ false) ×
-            TellsReading (Some (fault_at (lines + 1) BadSetLine)) refusal) }
+    /// The sets.
+    pub(crate) fn into_sets(self) -> Sets
+        ensures same { result ≡ self.entry.sets }
+        ensures lawful { AreSetsOf self.entry.problem result }
     {
-        if !self.spoken {
-            return Err(refusal(lines + 1, SetFault::BadSetLine));
-        }
-        Ok(Sets::from_items(self.sets))
+        Sets::from_items(self.sets)
+    }
+}
+
+impl<'a> StatementReader<SetFault> for Reader<'a> {
+    ghost use Rattle.set_reader.specs.Reading.{set_rules};
+    ghost use Rattle.set_reader.specs.ReadingSteps.{HasTaken};
+
+    ghost fault_of = { λ r. (set_rules r.problem.paths).fault_of };
+
+    ghost took = { HasTaken };
+
+    fn take(
+        &mut self,
+        alloc: Global,
+        line: u32,
+        word: &[u8],
+        rest: &[u8],
+    ) -> Result<(), Refusal<SetFault>> {
+        let said = statement_of(alloc, word, rest)?;
+        self.take_said(alloc, line, said)
     }
 }

@@ -1,13 +1,9 @@
-//! What a line of a file of sets says.
+//! What a statement of a file of sets says.
 use cost_base::Listed;
 
-/// What a line of a file of sets says by itself.
+/// What a statement of a file of sets says by itself.
 #[derive(Drop)]
 pub(crate) enum Statement {
-    /// Nothing: the line is blank or a comment.
-    Passed,
-    /// The header.
-    Header,
     /// The numbers of a `set` line, in its order.
     Numbers(Listed<u64>),
     /// The line is off the form.

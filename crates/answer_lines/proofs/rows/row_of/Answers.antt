@@ -1,5 +1,5 @@
 use Rattle.std.proofs.Common.{◌≡◌, ◌∷◌, ◌∙◌, map, codes, sym, ap, subst, arith, ◌<◌, ◌^◌, All}
-use Rattle.design_problem.specs.Bounds.{IsThing}
+use Rattle.design_problem.specs.Bounds.{IsIndex}
 use Rattle.cost_base.specs.Decimal.{decimal}
 use Rattle.answer_lines.specs.Words.{words_left}
 use Rattle.answer_lines.proofs.ListParts.{rest-is, more-is}
@@ -27,7 +27,7 @@ returns c =
     let found = rw c.in-Some-2.is at c.in_ok-edges.ensures in
     let edges_are : words_left c.in-Some-number.edges ≡ map decimal c.from_items.result = found.0 ∙ ap (map decimal) (sym c.from_items.ensures) in
     let small : c.in-Some-number.request < 2 ^ 32 = omega (arith, c.in-Some-number.ensures.0) in (
-      (small, subst (λ ns. All IsThing ns) (sym c.from_items.ensures) found.1),
+      (small, subst (λ ns. All IsIndex ns) (sym c.from_items.ensures) found.1),
       from-words c.args.line.now (codes "row") (map decimal (c.in-Some-number.request ∷ c.from_items.result))
           (sym c.new.ensures ∙ more-is (words_left c.new.result) (codes "row") (words_left c.in-Some.numbers)
           (map decimal (c.in-Some-number.request ∷ c.from_items.result)) c.in-Some.ensures

@@ -27,5 +27,5 @@ returns c =
     c.requires.present c.in_ok-change.ensures in
     IfOk-weaker c.report_of_change-report.result (Reports (change_status change) (change_text network.requests network.lsdb network.problem change))
     (IsReportIn (limits_seen limits) network.requests network.lsdb network.problem)
-    (λ report reports. record { change = change; found = found; reports = reports; ceiling = c.keeps_ceiling.ensures })
+    (λ report reports. record { change = change; found = found; reports = reports; bound_small = c.keeps_greatest_bound.ensures })
     c.report_of_change-report.ensures

@@ -7,8 +7,8 @@ use Rattle.change_commands.proofs.step_text.push_steps.Goals as goal
 
 pub loop-number-init : goal.loop-number-init
 loop-number-init c =
-    lines_behind c.args.text.now.items c.push_steps_count.new.text.items ((codes "steps" ++ 32 ∷ decimal (length c.args.order.now)) ∷ [])
-    (step_lines_from c.args.of.by c.args.of.names.now c.args.of.moves.now 0 c.args.order.now) c.in_ok-push_steps_count.ensures
+    lines_behind c.args.text.now.items c.push_count_line.new.text.items ((codes "steps" ++ 32 ∷ decimal (length c.args.order.now)) ∷ [])
+    (step_lines_from c.args.of.by c.args.of.names.now c.args.of.moves.now 0 c.args.order.now) c.in_ok-push_count_line.ensures
 
 pub loop-number-preserved : goal.loop-number-preserved
 loop-number-preserved c =

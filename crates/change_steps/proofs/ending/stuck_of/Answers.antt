@@ -12,7 +12,7 @@ line_is : (c : In_ok-state) → c.in_ok-done.done.items ≡ order_behind_first c
 line_is c = c.in_ok-done.ensures ∙ ap (order_behind_first c.args.plan.now) c.deref.ensures.value
 
 marks_are : (c : In_ok-state) → c.in_ok-state.state.done.items ≡ marks_of c.args.plan.now.rollout (is_one_of c.in_ok-done.done.items)
-marks_are c = c.in_ok-state.ensures.done ∙ ap (λ (r : Rollout). marks_of r (is_one_of c.deref-2.result.now)) c.scene.ensures
+marks_are c = c.in_ok-state.ensures.done ∙ ap (λ (r : Rollout). marks_of r (is_one_of c.deref-2.result.now)) c.rollout.ensures
     ∙ ap (λ (xs : List ℕ). marks_of c.args.plan.now.rollout (is_one_of xs)) c.deref-2.ensures.value
 
 pub blocked_in-requires-clause-greatest : goal.blocked_in-requires-clause-greatest

@@ -7,6 +7,6 @@ use Rattle.change_steps.proofs.finding.find_steps.Goals as goal
 
 pub returns : goal.returns
 returns c =
-    steps_found c.new-scene.result _ c.in_ok-plan.plan.held c.args.nodes _ c.new-scene.ensures c.in_ok-plan.ensures.held
+    steps_found c.new-rollout.result _ c.in_ok-plan.plan.held c.args.nodes _ c.new-rollout.ensures c.in_ok-plan.ensures.held
     (subst (λ (r : Rollout). IsOutcome r c.in_ok-plan.plan.held c.args.nodes c.in_ok-outcome.outcome) c.in_ok-plan.ensures.plan c.in_ok-outcome.ensures)
     c.into_held.ensures

@@ -4,7 +4,7 @@ use Rattle.change_steps.proofs.held.held_in.Goals as goal
 use Rattle.change_steps.proofs.held.held_in.Goals.{then-is_only_in_both+in_ok-push, else-is_only_in_both}
 
 pub loop-number-init : goal.loop-number-init
-loop-number-init c = record { room = c.requires.room; held = held_none c.args.scene.now c.new-held.result.items c.new-held.ensures.items }
+loop-number-init c = record { room = c.requires.room; held = held_none c.args.rollout.now c.new-held.result.items c.new-held.ensures.items }
 
 pub is_only_in_both-requires-clause-known : goal.is_only_in_both-requires-clause-known
 is_only_in_both-requires-clause-known c = let below = c.loop-number-test.true in let count = c.path_count-number-end.ensures in omega (arith, below, count)
@@ -17,7 +17,7 @@ returns-in_err-push-clause-room c = c.is_only_in_both.ensures.room
 
 pub loop-number-preserved : goal.loop-number-preserved
 loop-number-preserved c =
-    let r = c.args.scene.now in
+    let r = c.args.rollout.now in
     let n = c.loop-number.number in
     elim c.if-is_only_in_both.branch [
       | then-is_only_in_both+in_ok-push w ↦ record {
@@ -39,6 +39,6 @@ returns-clause-room c = c.loop-number.invariant.room
 
 pub returns-clause-held : goal.returns-clause-held
 returns-clause-held c =
-    held_all c.args.scene.now c.loop-number.held.items c.loop-number.number
+    held_all c.args.rollout.now c.loop-number.held.items c.loop-number.number
     (let past = c.loop-number-test.false in let most = c.loop-number.auto.number-end in let count = c.path_count-number-end.ensures in
     omega (arith, past, most, count)) c.loop-number.invariant.held

@@ -4,6 +4,6 @@ use Rattle.change_steps.proofs.held.held_in.Given as goal
 
 abbrev pub invariant-loop-number : goal.invariant-loop-number
 invariant-loop-number l = record {
-  room : IsRoomFor l.scene.graph l.room;
-  held : AreHeldBelow l.scene l.number l.held.items;
+  room : IsRoomFor l.rollout.graph l.room;
+  held : AreHeldBelow l.rollout l.number l.held.items;
 }

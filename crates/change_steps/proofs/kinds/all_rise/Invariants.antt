@@ -5,4 +5,4 @@ use Rattle.change_steps.specs.Search.{AreHeldMarks}
 use Rattle.change_steps.proofs.kinds.all_rise.Given as goal
 
 abbrev pub invariant-loop-line : goal.invariant-loop-line
-invariant-loop-line l = (held : List ℕ) → AreHeldMarks l.scene held l.marks → list_all (rises_off_held l.scene held) (take l.line-index l.lines) ≡ true
+invariant-loop-line l = (held : List ℕ) → AreHeldMarks l.rollout held l.marks → list_all (rises_off_held l.rollout held) (take l.line-index l.lines) ≡ true

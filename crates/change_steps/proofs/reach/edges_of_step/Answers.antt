@@ -17,7 +17,7 @@ edge_of-requires c =
 
 pub loop-number-preserved : goal.loop-number-preserved
 loop-number-preserved c =
-    let r = c.args.scene.now in
+    let r = c.args.rollout.now in
     let n = c.loop-number.number in
     let edge_is = c.edge_of.ensures ∙ ap (λ (g : Area). edge_at g n) c.graph.ensures in
     let test = ap (λ (ls : List ℕ). has_price ls (edge_at r.graph n).price) (sym c.lines-lines.ensures)

@@ -7,4 +7,4 @@ use Rattle.change_steps.proofs.reach.edges_of_step.Given as goal
 
 abbrev pub invariant-loop-number : goal.invariant-loop-number
 invariant-loop-number l =
-    l.edges.items ≡ filter (λ e. has_price (lines_of_step l.scene.moves l.step) (edge_at l.scene.graph e).price) (numbers_from 0 l.number)
+    l.edges.items ≡ filter (λ e. has_price (lines_of_step l.rollout.moves l.step) (edge_at l.rollout.graph e).price) (numbers_from 0 l.number)

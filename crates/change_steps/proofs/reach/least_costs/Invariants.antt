@@ -4,4 +4,4 @@ use Rattle.change_steps.specs.Reaches.{least_cost}
 use Rattle.change_steps.proofs.reach.least_costs.Given as goal
 
 abbrev pub invariant-loop-line : goal.invariant-loop-line
-invariant-loop-line l = l.values.items ≡ map (least_cost l.scene.moves) (numbers_from 0 l.line)
+invariant-loop-line l = l.values.items ≡ map (least_cost l.rollout.moves) (numbers_from 0 l.line)

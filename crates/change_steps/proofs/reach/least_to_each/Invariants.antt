@@ -1,12 +1,12 @@
 use Rattle.std.proofs.Common.{◌≡◌, length}
 use Rattle.area_graph.specs.Costs.{at_costs}
 use Rattle.spf_ties.specs.Distances.{IsRoomFor}
-use Rattle.change_steps.specs.Reaches.{AreAtLeast, least_costs}
+use Rattle.change_steps.specs.Reaches.{AreLeastToEach, least_costs}
 use Rattle.change_steps.proofs.reach.least_to_each.Given as goal
 
 abbrev pub invariant-loop-target : goal.invariant-loop-target
 invariant-loop-target l = record {
-  room : IsRoomFor l.scene.graph l.room;
+  room : IsRoomFor l.rollout.graph l.room;
   count : length l.least.items ≡ l.target;
-  least : AreAtLeast l.scene.graph (at_costs (least_costs l.scene.moves)) l.least.items;
+  least : AreLeastToEach l.rollout.graph (at_costs (least_costs l.rollout.moves)) l.least.items;
 }

@@ -17,16 +17,16 @@ firsts c = c.deref.ensures.value
 
 pub after-requires : goal.after-requires
 after-requires c =
-    subst (λ (xs : List ℕ). All (λ k. k < step_count c.scene.result.now) xs) (sym (firsts (goal.at.after-requires c).After-deref))
-    (subst (λ (r : Rollout). All (λ k. k < step_count r) (first_steps c.args.plan.now.rollout c.args.plan.now.held)) (sym c.scene.ensures)
+    subst (λ (xs : List ℕ). All (λ k. k < step_count c.rollout.result.now) xs) (sym (firsts (goal.at.after-requires c).After-deref))
+    (subst (λ (r : Rollout). All (λ k. k < step_count r) (first_steps c.args.plan.now.rollout c.args.plan.now.held)) (sym c.rollout.ensures)
     (that_known c.args.plan.now.rollout (λ k. comes_first (kind_of_step c.args.plan.now.rollout c.args.plan.now.held k))))
 
 pub returns-clause-state : goal.returns-clause-state
-returns-clause-state c = subst (λ (r : Rollout). IfOk c.after.result (IsStateOf r)) c.scene.ensures c.after.ensures.state
+returns-clause-state c = subst (λ (r : Rollout). IfOk c.after.result (IsStateOf r)) c.rollout.ensures c.after.ensures.state
 
 pub returns-clause-done : goal.returns-clause-done
 returns-clause-done c =
     subst (λ (xs : List ℕ). IfOk c.after.result (λ (s : State). s.done.items ≡ marks_of c.args.plan.now.rollout (is_one_of xs)))
     (firsts (goal.at.returns-clause-done c).After-deref)
-    (subst (λ (r : Rollout). IfOk c.after.result (λ (s : State). s.done.items ≡ marks_of r (is_one_of c.deref.result.now))) c.scene.ensures
+    (subst (λ (r : Rollout). IfOk c.after.result (λ (s : State). s.done.items ≡ marks_of r (is_one_of c.deref.result.now))) c.rollout.ensures
     c.after.ensures.done)

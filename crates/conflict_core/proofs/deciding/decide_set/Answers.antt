@@ -71,6 +71,6 @@ returns-in-Undecided-clause-decided g c =
           few = omega (arith, decided.2);
         };
         undone = decided.1;
-        spent = decided.2;
+        used_up = decided.2;
       },
     )

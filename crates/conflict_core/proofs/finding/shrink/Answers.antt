@@ -79,8 +79,8 @@ returns-in-Undecided-clause-asked g c =
     let was = c.loop-shrunk.invariant.asked in
     let last = tried_as _ c.loop-shrunk.shrunk _ (Undecided c.in-Undecided.set) _ _ c.in-Undecided.is c.in_ok-next.ensures.asked in
     IfOk-weaker c.undecided.result _ _
-    (λ end spent. asked_since _ p limits.top limits.nodes c.args.conflict told begun c.loop-shrunk.shrunk was.0 _ _ _ end
-    (c.in_ok-members.ensures limits.top limits.nodes c.requires.conflict.tree) refl refl c.new.ensures.items was.1 was.2 (last.0, last.1 end spent, last.2))
+    (λ end used_up. asked_since _ p limits.top limits.nodes c.args.conflict told begun c.loop-shrunk.shrunk was.0 _ _ _ end
+    (c.in_ok-members.ensures limits.top limits.nodes c.requires.conflict.tree) refl refl c.new.ensures.items was.1 was.2 (last.0, last.1 end used_up, last.2))
     c.undecided.ensures.told
 
 pub returns-clause-asked : goal.returns-clause-asked

@@ -4,10 +4,10 @@ use Rattle.conflict_core.proofs.ShrinkingLaws.{undecided_found}
 use Rattle.conflict_core.proofs.finding.undecided.Goals as goal
 
 pub returns-clause-found : goal.returns-clause-found
-returns-clause-found c = λ top nodes spent. undecided_found c.args.problem.now top nodes c.args.set c.in_ok-members.field-0 spent
-    c.requires.tried (c.in_ok-members.ensures top nodes spent.tree)
+returns-clause-found c = λ top nodes used_up. undecided_found c.args.problem.now top nodes c.args.set c.in_ok-members.field-0 used_up
+    c.requires.tried (c.in_ok-members.ensures top nodes used_up.tree)
 
 pub returns-clause-told : goal.returns-clause-told
 returns-clause-told c =
-    let spent = c.requires.spent in
-    told_undecided c.args.problem.now spent.0 spent.1 c.args.set c.in_ok-members.field-0 (c.in_ok-members.ensures spent.0 spent.1 spent.2.tree)
+    let used_up = c.requires.used_up in
+    told_undecided c.args.problem.now used_up.0 used_up.1 c.args.set c.in_ok-members.field-0 (c.in_ok-members.ensures used_up.0 used_up.1 used_up.2.tree)

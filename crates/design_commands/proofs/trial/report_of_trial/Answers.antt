@@ -7,16 +7,16 @@ use Rattle.design_commands.proofs.trial.report_of_trial.Goals as goal
 
 pub best_report-requires-clause-lines : goal.best_report-requires-clause-lines
 best_report-requires-clause-lines c =
-    best_lines c.args.problem.now c.args.answer.now c.in-Optimal.greatest c.lines_of.result.now c.requires.answered
+    best_lines c.args.problem.now c.args.answer.now c.in-Optimal.greatest c.lines_in.result.now c.requires.answered
     (sym (ap (λ (a : AnswerParts). a.verdict) c.answer.view_is) ∙ c.in-Optimal.is)
-    (c.lines_of.ensures ∙ ap (λ (a : AnswerParts). lines_in a.costs) c.answer.view_is)
+    (c.lines_in.ensures ∙ ap (λ (a : AnswerParts). lines_in a.costs) c.answer.view_is)
 
 pub returns-in-Optimal-clause-tries : goal.returns-in-Optimal-clause-tries
 returns-in-Optimal-clause-tries c =
     best_tried c.args.trial.blocks c.args.trial.start c.args.problem.now c.args.answer.now c.in-Optimal.greatest
-    c.lines_of.result.now c.best_report.result c.requires.answered
+    c.lines_in.result.now c.best_report.result c.requires.answered
     (sym (ap (λ (a : AnswerParts). a.verdict) c.answer.view_is) ∙ c.in-Optimal.is)
-    (c.lines_of.ensures ∙ ap (λ (a : AnswerParts). lines_in a.costs) c.answer.view_is)
+    (c.lines_in.ensures ∙ ap (λ (a : AnswerParts). lines_in a.costs) c.answer.view_is)
     c.best_report.ensures
 
 pub returns-in-Impossible-clause-tries : goal.returns-in-Impossible-clause-tries
@@ -32,9 +32,9 @@ returns-in-Undecided-clause-tries c =
 
 pub returns-in-Optimal-clause-text : goal.returns-in-Optimal-clause-text
 returns-in-Optimal-clause-text c =
-    best_text c.args.trial.blocks c.args.trial.start c.args.problem.now c.args.answer.now c.in-Optimal.greatest c.lines_of.result.now c.best_report.result
+    best_text c.args.trial.blocks c.args.trial.start c.args.problem.now c.args.answer.now c.in-Optimal.greatest c.lines_in.result.now c.best_report.result
     (sym (ap (λ (a : AnswerParts). a.verdict) c.answer.view_is) ∙ c.in-Optimal.is)
-    (c.lines_of.ensures ∙ ap (λ (a : AnswerParts). lines_in a.costs) c.answer.view_is)
+    (c.lines_in.ensures ∙ ap (λ (a : AnswerParts). lines_in a.costs) c.answer.view_is)
     c.best_report.ensures
 
 pub returns-in-Impossible-clause-text : goal.returns-in-Impossible-clause-text

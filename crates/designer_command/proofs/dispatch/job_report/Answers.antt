@@ -2,47 +2,39 @@
 use Rattle.std.proofs.Common.{refl, ap, [], option_map, string_bytes}
 use Rattle.form_search.proofs.AdvisorLaws.{left_alike}
 use Rattle.text_lines.specs.Arguments.{texts}
-use Rattle.command_words.specs.Jobs.{limits_seen}
+use Rattle.command_words.specs.Jobs.{search_seen}
 use Rattle.command_words.specs.Jobs as read
 use Rattle.input_files.specs.declared.problem.View.TheVariants.{BesidePresent}
 use Rattle.input_files.specs.Outcomes.{outcome}
 use Rattle.input_files.specs.Stops.{files_named}
 use Rattle.change_commands.specs.Changes.{MayChange}
-use Rattle.change_commands.specs.Plans.{plan_read}
-use Rattle.change_commands.specs.Steps.{MaySteps}
 use Rattle.design_commands.specs.Designs.{MayDesign}
 use Rattle.design_commands.specs.TotalRuns.{MayTotal}
 use Rattle.path_commands.specs.Conflicts.{MayConflict}
-use Rattle.path_commands.specs.SetFiles.{spread_read}
-use Rattle.path_commands.specs.Spreads.{MaySpread}
 use Rattle.evidence_commands.specs.Checks.{MayCheck, claim_read}
 use Rattle.database_commands.specs.Compares.{MayCompare, compare_read}
 use Rattle.database_commands.specs.Lsas.{MayLsas, identified_read}
-use Rattle.designer_command.specs.Runs.{input_files_of}
+use Rattle.designer_command.specs.Runs.{input_files_of, searched}
 use Rattle.designer_command.proofs.Asking.{job_made, search_made, trial_made}
-use Rattle.designer_command.proofs.Runs.{files_made}
+use Rattle.designer_command.proofs.Runs.{files_made, steps_made}
 use Rattle.designer_command.proofs.dispatch.job_report.Goals as goal
 
 pub returns-in-Design-clause-made : goal.returns-in-Design-clause-made
 returns-in-Design-clause-made g c =
     let given = g.S.Shelf.gave c.args.shelf.now c.design_report.new.shelf in
-    let limits = limits_seen c.in-Design.search.limits in
-    search_made given _ c.args.job.now
-    (read.Design (record { request = c.deref.result.now; limits = limits; configs = texts c.deref-in-Design.result.now }))
-    (MayDesign limits) _ _ c.design_report.result (files_named c.files-words.result)
-    (input_files_of c.deref.result.now (texts c.deref-in-Design.result.now))
-    (rw (c.in-Design.is, c.deref.ensures, c.deref-in-Design.ensures.value) refl) c.files-words.ensures
-    c.design_report.ensures.read c.design_report.ensures.stopped (λ came h. h) (λ came bytes h. h)
+    let s = search_seen c.in-Design.search in
+    search_made given _ c.args.job.now (read.Design s) (MayDesign s.limits) _ _ c.design_report.result (files_named c.words.result) (searched s)
+    (ap read.seen c.in-Design.is) c.words.ensures c.design_report.ensures.read c.design_report.ensures.stopped (λ came h. h) (λ came bytes h. h)
 
 pub returns-in-Check-clause-made : goal.returns-in-Check-clause-made
 returns-in-Check-clause-made g c =
     let given = g.S.Shelf.gave c.args.shelf.now c.check_report.new.shelf in
     job_made given _ c.args.job.now
-    (read.Check c.deref-in-Check.result.now c.deref-in-Check-3.result.now (texts c.deref-in-Check-2.result.now))
+    (read.Check c.deref.result.now c.deref-in-Check-2.result.now (texts c.deref-in-Check.result.now))
     c.check_report.result
-    (rw (c.in-Check.is, c.deref-in-Check.ensures, c.deref-in-Check-3.ensures, c.deref-in-Check-2.ensures.value) refl) (λ came bytes. refl)
-    (files_made given (λ names. claim_read names c.deref-in-Check-3.result.now) MayCheck c.check_report.result
-    (files_named c.files.result) (input_files_of c.deref-in-Check.result.now (texts c.deref-in-Check-2.result.now))
+    (rw (c.in-Check.is, c.deref.ensures, c.deref-in-Check-2.ensures, c.deref-in-Check.ensures.value) refl) (λ came bytes. refl)
+    (files_made given (λ names. claim_read names c.deref-in-Check-2.result.now) MayCheck c.check_report.result
+    (files_named c.files.result) (input_files_of c.deref.result.now (texts c.deref-in-Check.result.now))
     c.files.ensures c.check_report.ensures)
 
 pub returns-in-Check-clause-advisors : goal.returns-in-Check-clause-advisors
@@ -76,27 +68,15 @@ returns-in-Trial-clause-made g c =
 pub returns-in-Conflict-clause-made : goal.returns-in-Conflict-clause-made
 returns-in-Conflict-clause-made g c =
     let given = g.S.Shelf.gave c.args.shelf.now c.conflict_report.new.shelf in
-    let limits = limits_seen c.in-Conflict.search.limits in
-    search_made given _ c.args.job.now
-    (read.Conflict (record { request = c.deref-in-Conflict.result.now; limits = limits; configs = texts c.deref-in-Conflict-2.result.now }))
-    (MayConflict limits) _ _ c.conflict_report.result (files_named c.files-words-in-Conflict.result)
-    (input_files_of c.deref-in-Conflict.result.now (texts c.deref-in-Conflict-2.result.now))
-    (rw (c.in-Conflict.is, c.deref-in-Conflict.ensures, c.deref-in-Conflict-2.ensures.value) refl) c.files-words-in-Conflict.ensures
-    c.conflict_report.ensures.read c.conflict_report.ensures.stopped (λ came h. h) (λ came bytes h. h)
+    let s = search_seen c.in-Conflict.search in
+    search_made given _ c.args.job.now (read.Conflict s) (MayConflict s.limits) _ _ c.conflict_report.result (files_named c.words-in-Conflict.result) (searched s)
+    (ap read.seen c.in-Conflict.is) c.words-in-Conflict.ensures c.conflict_report.ensures.read c.conflict_report.ensures.stopped (λ came h. h) (λ came bytes h. h)
 
 pub returns-in-Spread-clause-made : goal.returns-in-Spread-clause-made
 returns-in-Spread-clause-made g c =
-    let given = g.S.Shelf.gave c.args.shelf.now c.spread_report.new.shelf in
-    let limits = limits_seen c.in-Spread.search.limits in
-    job_made given _ c.args.job.now
-    (read.Spread (record { request = c.deref-in-Spread.result.now; limits = limits; configs = texts c.deref-in-Spread-2.result.now })
-    c.deref-in-Spread-3.result.now)
-    c.spread_report.result
-    (rw (c.in-Spread.is, c.deref-in-Spread.ensures, c.deref-in-Spread-2.ensures.value, c.deref-in-Spread-3.ensures) refl) (λ came bytes. refl)
-    (files_made given (λ names. spread_read names c.deref-in-Spread-3.result.now) (MaySpread limits)
-    c.spread_report.result (files_named c.files-words-in-Spread.result)
-    (input_files_of c.deref-in-Spread.result.now (texts c.deref-in-Spread-2.result.now)) c.files-words-in-Spread.ensures
-    c.spread_report.ensures)
+    job_made (g.S.Shelf.gave c.args.shelf.now c.made_spread.new.shelf) _ c.args.job.now
+    (read.Spread (search_seen c.in-Spread.search) c.deref-in-Spread.result.now) c.made_spread.result
+    (rw (c.in-Spread.is, c.deref-in-Spread.ensures) refl) (λ came bytes. refl) c.made_spread.ensures
 
 pub returns-in-Spread-clause-advisors : goal.returns-in-Spread-clause-advisors
 returns-in-Spread-clause-advisors g c = left_alike _ _ _ refl
@@ -104,24 +84,17 @@ returns-in-Spread-clause-advisors g c = left_alike _ _ _ refl
 pub returns-in-Total-clause-made : goal.returns-in-Total-clause-made
 returns-in-Total-clause-made g c =
     let given = g.S.Shelf.gave c.args.shelf.now c.total_report.new.shelf in
-    let limits = limits_seen c.in-Total.search.limits in
-    search_made given _ c.args.job.now
-    (read.Total (record { request = c.deref-in-Total.result.now; limits = limits; configs = texts c.deref-in-Total-2.result.now }))
-    (MayTotal limits) _ _ c.total_report.result (files_named c.files-words-in-Total.result)
-    (input_files_of c.deref-in-Total.result.now (texts c.deref-in-Total-2.result.now))
-    (rw (c.in-Total.is, c.deref-in-Total.ensures, c.deref-in-Total-2.ensures.value) refl) c.files-words-in-Total.ensures
-    c.total_report.ensures.read c.total_report.ensures.stopped (λ came h. h) (λ came bytes h. h)
+    let s = search_seen c.in-Total.search in
+    search_made given _ c.args.job.now (read.Total s) (MayTotal s.limits) _ _ c.total_report.result (files_named c.words-in-Total.result) (searched s)
+    (ap read.seen c.in-Total.is) c.words-in-Total.ensures c.total_report.ensures.read c.total_report.ensures.stopped (λ came h. h) (λ came bytes h. h)
 
 pub returns-in-Change-clause-made : goal.returns-in-Change-clause-made
 returns-in-Change-clause-made g c =
     let given = g.S.Shelf.gave c.args.shelf.now c.change_report.new.shelf in
-    let limits = limits_seen c.in-Change.search.limits in
-    job_made given _ c.args.job.now
-    (read.Change (record { request = c.deref-in-Change.result.now; limits = limits; configs = texts c.deref-in-Change-2.result.now }))
-    c.change_report.result (rw (c.in-Change.is, c.deref-in-Change.ensures, c.deref-in-Change-2.ensures.value) refl) (λ came bytes. refl)
-    (files_made given (outcome BesidePresent) (MayChange limits) c.change_report.result (files_named c.files-words-in-Change.result)
-    (input_files_of c.deref-in-Change.result.now (texts c.deref-in-Change-2.result.now)) c.files-words-in-Change.ensures
-    c.change_report.ensures)
+    let s = search_seen c.in-Change.search in
+    job_made given _ c.args.job.now (read.Change s) c.change_report.result (ap read.seen c.in-Change.is) (λ came bytes. refl)
+    (files_made given (outcome BesidePresent) (MayChange s.limits) c.change_report.result (files_named c.words-in-Change.result) (searched s)
+    c.words-in-Change.ensures c.change_report.ensures)
 
 pub returns-in-Change-clause-advisors : goal.returns-in-Change-clause-advisors
 returns-in-Change-clause-advisors g c = left_alike _ _ _ refl
@@ -129,13 +102,14 @@ returns-in-Change-clause-advisors g c = left_alike _ _ _ refl
 pub returns-in-Steps-clause-made : goal.returns-in-Steps-clause-made
 returns-in-Steps-clause-made g c =
     let given = g.S.Shelf.gave c.args.shelf.now c.steps_report.new.shelf in
+    let words = c.steps_words-steps in
     job_made given _ c.args.job.now
     (read.Steps c.deref-in-Steps-2.result.now c.deref-in-Steps.result.now c.in-Steps.nodes c.in-Steps.by (texts c.deref-in-Steps-3.result.now))
     c.steps_report.result
     (rw (c.in-Steps.is, c.deref-in-Steps.ensures, c.deref-in-Steps-2.ensures, c.deref-in-Steps-3.ensures.value) refl) (λ came bytes. refl)
-    (files_made given (λ names. plan_read names c.deref-in-Steps.result.now) (MaySteps c.in-Steps.nodes c.in-Steps.by) c.steps_report.result
-    (files_named c.files-in-Steps.result) (input_files_of c.deref-in-Steps-2.result.now (texts c.deref-in-Steps-3.result.now))
-    c.files-in-Steps.ensures c.steps_report.ensures)
+    (steps_made given (files_named c.files-in-Steps.result) (input_files_of c.deref-in-Steps-2.result.now (texts c.deref-in-Steps-3.result.now))
+    words.result.answer.now c.deref-in-Steps.result.now words.result.nodes c.in-Steps.nodes words.result.by c.in-Steps.by c.steps_report.result
+    c.files-in-Steps.ensures words.ensures.answer words.ensures.nodes words.ensures.by c.steps_report.ensures)
 
 pub returns-in-Steps-clause-advisors : goal.returns-in-Steps-clause-advisors
 returns-in-Steps-clause-advisors g c = left_alike _ _ _ refl

@@ -1,4 +1,4 @@
--- What stops the file stops the request.
+-- What stops a file stops the request file.
 use Rattle.std.proofs.lemmas.Result.{err_from_is_err_and}
 use Rattle.request_reader.specs.Reading.{request_fault}
 use Rattle.input_files.specs.Outcomes.{file_read, if_asked, longest_file}

@@ -3,11 +3,11 @@ use Rattle.std.specs.declared.alloc.Global.{Global}
 use Rattle.std.proofs.Common.{Vec, ◌≡◌, ℕ, ◌<◌, get_or}
 use Rattle.std.specs.Prelude.{vec_capacity, vec_len}
 use Rattle.integer_pivots.specs.declared.uses.Use.{Use}
-use Rattle.integer_pivots.specs.Uses.{held_in}
+use Rattle.integer_pivots.specs.Uses.{uses_in}
 use Rattle.integer_pivots.proofs.uses.reserve_uses.Given as goal
 
 abbrev pub invariant-loop-var : goal.invariant-loop-var
 invariant-loop-var l = record {
-  same : held_in l.uses ≡ held_in l.initial.uses;
+  same : uses_in l.uses ≡ uses_in l.initial.uses;
   room : (k : ℕ) (d : Vec Use Global) → k < l.var → vec_len (get_or l.uses k d) < vec_capacity (get_or l.uses k d);
 }

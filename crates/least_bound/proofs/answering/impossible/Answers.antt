@@ -1,4 +1,4 @@
--- No costs are fit: the tree at the greatest upper bound is printed.
+-- No costs are fit: the tree at the greatest bound is printed.
 use Rattle.std.proofs.Common.{◌≡◌, ℕ, List, refl, arith}
 use Rattle.std.specs.Prelude.{Option, Some, None}
 use Rattle.area_graph.specs.Area.{FitsGraph}
@@ -23,33 +23,33 @@ refuted_sheet p top nodes pool old t rows new_proof new_unfinished problem graph
 pub printed_both-requires-clause-proof : goal.printed_both-requires-clause-proof
 printed_both-requires-clause-proof c =
     let refuted = c.requires.refuted.3 in
-    names_rows c.args.problem.now c.requires.refuted.0 c.args.ceiling c.args.pool c.into_rows.result.items c.args.tree c.into_rows.ensures refuted.tree
+    names_rows c.args.problem.now c.requires.refuted.0 c.args.cap c.args.pool c.into_rows.result.items c.args.tree c.into_rows.ensures refuted.tree
 
 pub invariant_of-result : goal.invariant_of-result
 invariant_of-result c =
     let p = c.args.problem.now in
-    let t : CapTree = record { cap = c.args.ceiling; tree = c.args.tree } in
+    let t : CapTree = record { cap = c.args.cap; tree = c.args.tree } in
     let printed = c.in_ok-printed.printed in
     let refuted = c.requires.refuted.3 in
     let are = refuted_sheet p c.requires.refuted.0 c.requires.refuted.1 c.args.pool c.into_rows.result.items t
     printed.rows printed.proof printed.unfinished c.keeps_conditions.ensures.problem
     c.keeps_conditions.ensures.graph c.requires.pool c.into_rows.ensures refuted c.in_ok-printed.ensures in
     impossible_kept p c.requires.refuted.0 c.requires.refuted.1 c.args.pool (sheet_of (Some t) None printed.rows) t
-    printed.proof printed.unfinished are.sheet are.proof_is are.unfinished_is c.requires.ceiling
+    printed.proof printed.unfinished are.sheet are.proof_is are.unfinished_is c.requires.cap
     (omega arith) c.requires.refuted.2 refuted
 
 pub returns-clause-answered : goal.returns-clause-answered
 returns-clause-answered c = λ top nodes refuted.
     let p = c.args.problem.now in
-    let t : CapTree = record { cap = c.args.ceiling; tree = c.args.tree } in
+    let t : CapTree = record { cap = c.args.cap; tree = c.args.tree } in
     let printed = c.in_ok-printed.printed in
     let are = refuted_sheet p top nodes c.args.pool c.into_rows.result.items t printed.rows printed.proof
     printed.unfinished c.keeps_conditions.ensures.problem c.keeps_conditions.ensures.graph c.requires.pool
     c.into_rows.ensures refuted c.in_ok-printed.ensures in
     impossible_answered p top nodes c.args.pool (sheet_of (Some t) None printed.rows) t printed.proof printed.unfinished
-    are.sheet are.proof_is are.unfinished_is c.requires.ceiling refuted are.whole
+    are.sheet are.proof_is are.unfinished_is c.requires.cap refuted are.whole
 
 pub returns-clause-tells : goal.returns-clause-tells
 returns-clause-tells c =
-    let t : CapTree = record { cap = c.args.ceiling; tree = c.args.tree } in
+    let t : CapTree = record { cap = c.args.cap; tree = c.args.tree } in
     told_found c.args.problem.now None (Some t) (Some t) None _ _ refl c.in_ok-printed.ensures tt

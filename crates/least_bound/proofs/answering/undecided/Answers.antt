@@ -15,14 +15,14 @@ use Rattle.least_bound.proofs.Settling.{told_found}
 use Rattle.least_bound.proofs.answering.undecided.Goals as goal
 
 -- the sheet of a kept tree and of an unfinished one
-spent_sheet : (p : DesignProblem) (top nodes : ℕ) (pool : Pooled) (old : List Row) (kept lent : Option CapTree)
+used_up_sheet : (p : DesignProblem) (top nodes : ℕ) (pool : Pooled) (old : List Row) (kept lent : Option CapTree)
     (t : CapTree) (rows : List Row) (new_proof new_unfinished : Option CapTree) → IsProblem p → FitsGraph p.graph →
     IsRowPool p pool → old ≡ pool.rows → lent ≡ kept → IsTreeKeptBelow p top nodes pool t.cap kept →
     IsUndecidedAt p top nodes pool t →
     ArePrinted old lent (Some t) rows new_proof new_unfinished → AreOnSheet p pool kept (Some t) rows new_proof new_unfinished
-spent_sheet p top nodes pool old kept lent t rows new_proof new_unfinished problem graph is_pool same lent_is below spent =
+used_up_sheet p top nodes pool old kept lent t rows new_proof new_unfinished problem graph is_pool same lent_is below used_up =
     kept_on_sheet p top nodes t.cap pool old kept lent (Some t) rows new_proof new_unfinished problem graph is_pool same
-    lent_is below (names_rows p top t.cap pool old t.tree same spent.tree)
+    lent_is below (names_rows p top t.cap pool old t.tree same used_up.tree)
 
 pub printed_both-requires-clause-proof : goal.printed_both-requires-clause-proof
 printed_both-requires-clause-proof c =
@@ -33,9 +33,9 @@ printed_both-requires-clause-proof c =
 
 pub printed_both-requires-clause-unfinished : goal.printed_both-requires-clause-unfinished
 printed_both-requires-clause-unfinished c =
-    let spent = c.requires.trees.4 in
+    let used_up = c.requires.trees.4 in
     names_rows c.args.problem.now c.requires.trees.0 c.args.unfinished.cap c.args.pool c.into_rows.result.items
-    c.args.unfinished.tree c.into_rows.ensures spent.tree
+    c.args.unfinished.tree c.into_rows.ensures used_up.tree
 
 pub invariant_of-result : goal.invariant_of-result
 invariant_of-result c =
@@ -48,7 +48,7 @@ invariant_of-result c =
     let printed = c.in_ok-printed.printed in
     let lent : option_copied c.as_ref.result ≡ kept = search rules in
     let small : t.cap ≤ 65535 = omega (arith, c.cap_of-cap.ensures) in
-    let are = spent_sheet p top nodes pool c.into_rows.result.items kept (option_copied c.as_ref.result) t printed.rows
+    let are = used_up_sheet p top nodes pool c.into_rows.result.items kept (option_copied c.as_ref.result) t printed.rows
     printed.proof printed.unfinished c.keeps_conditions.ensures.problem c.keeps_conditions.ensures.graph
     c.requires.pool c.into_rows.ensures lent c.requires.trees.3 c.requires.trees.4 c.in_ok-printed.ensures in
     let holds =
@@ -59,20 +59,20 @@ invariant_of-result c =
     rw c.cap_of-cap.ensures holds
 
 pub returns-clause-answered : goal.returns-clause-answered
-returns-clause-answered c = λ top nodes below spent.
+returns-clause-answered c = λ top nodes below used_up.
     let p = c.args.problem.now in
     let pool = c.args.pool in
     let t = c.args.unfinished in
     let kept = c.args.kept in
     let printed = c.in_ok-printed.printed in
     let lent : option_copied c.as_ref.result ≡ kept = search rules in
-    let are = spent_sheet p top nodes pool c.into_rows.result.items kept (option_copied c.as_ref.result) t printed.rows
+    let are = used_up_sheet p top nodes pool c.into_rows.result.items kept (option_copied c.as_ref.result) t printed.rows
     printed.proof printed.unfinished c.keeps_conditions.ensures.problem c.keeps_conditions.ensures.graph
-    c.requires.pool c.into_rows.ensures lent below spent c.in_ok-printed.ensures in
+    c.requires.pool c.into_rows.ensures lent below used_up c.in_ok-printed.ensures in
     let holds =
     undecided_answered p top nodes pool (sheet_of kept (Some t) printed.rows) (option_copied c.args.costs)
     c.in_ok-printed_if_any.field-0 kept printed.proof t printed.unfinished are.sheet are.proof_is are.unfinished_is
-    c.requires.from_floor c.requires.costs c.in_ok-printed_if_any.ensures below spent are.whole in
+    c.requires.from_floor c.requires.costs c.in_ok-printed_if_any.ensures below used_up are.whole in
     rw c.cap_of-cap.ensures holds
 
 pub returns-clause-tells : goal.returns-clause-tells

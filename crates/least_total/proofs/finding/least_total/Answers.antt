@@ -8,7 +8,7 @@ use Rattle.least_total.specs.declared.rounds.TotalTree.{TotalTree}
 use Rattle.least_total.specs.Rounds.{EndsAt}
 use Rattle.least_total.specs.Results.{IsTotalAnswer}
 use Rattle.least_total.proofs.RoundLaws.{lows_below}
-use Rattle.least_total.proofs.FindingLaws.{Begins, begins, least_answered, unknown_answered}
+use Rattle.least_total.proofs.FindingLaws.{Begins, begins, least_answered, total_undecided}
 use Rattle.least_total.proofs.finding.least_total.Goals as goal
 use Rattle.least_total.proofs.finding.least_total.Goals.{In_ok-standing}
 
@@ -60,7 +60,7 @@ returns-in_ok-rows-in-Some c =
     let printed = c.in_ok-rows-in-Some.field-0 in
     subst (λ (n : ℕ). IsTotalAnswer p limits.top limits.nodes c.args.answer
     (Undecided c.in_ok-answer.answer c.from-total.result n printed.rows printed.tree)) (sym c.from.ensures)
-    (unknown_answered p limits.top limits.nodes cap c.args.answer c.in_ok-answer.answer s c.from-total.result
+    (total_undecided p limits.top limits.nodes cap c.args.answer c.in_ok-answer.answer s c.from-total.result
     c.in-Some.most c.in-Some.tree printed begun.can begun.tells c.in_ok-standing.ensures.standing ended.0
     ended.1 ended.2
     c.in_ok-answer.ensures c.from-total.ensures c.in_ok-rows-in-Some.ensures)

@@ -11,9 +11,9 @@ loop-request-preserved c =
     let g = c.args.problem.now.graph in
     record {
       room = subst (λ (p : DesignProblem). IsRoomFor p.graph c.found_live.new.room) c.problem.view_is c.found_live.ensures.room;
-      found = found_push (IsFoundLive g c.args.gone.now) c.as_slice-request-items.result.now c.loop-request.request-index
+      found = found_push (IsFoundLive g c.args.exclusion.now) c.as_slice-request-items.result.now c.loop-request.request-index
           c.request-item.result c.loop-request.found.items c.push.new.self.items c.in_ok-found_live.field-0 c.loop-request-test.true
           c.request-item.is c.loop-request.invariant.found
-          (subst (λ (p : DesignProblem). IsFoundLive p.graph c.args.gone.now c.request-item.result c.in_ok-found_live.field-0)
+          (subst (λ (p : DesignProblem). IsFoundLive p.graph c.args.exclusion.now c.request-item.result c.in_ok-found_live.field-0)
           c.problem.view_is c.in_ok-found_live.ensures.found) c.in_ok-push.ensures.items;
     }

@@ -8,5 +8,5 @@ use Rattle.path_commands.proofs.audit_live.audit_left_in.Given as goal
 abbrev pub invariant-loop-request : goal.invariant-loop-request
 invariant-loop-request l = record {
   room : IsRoomFor l.problem.graph l.room;
-  found : AllZip (IsFoundLive l.problem.graph l.gone) (take l.request-index l.request-items) l.found.items;
+  found : AllZip (IsFoundLive l.problem.graph l.exclusion) (take l.request-index l.request-items) l.found.items;
 }

@@ -11,8 +11,8 @@ audited-requires-clause-path c =
     let g = c.args.graph.now in
     let r = c.args.request.now in
     subst (λ (left : Request). IsPathOf g (request_ends left) left.path.edges) (sym c.in_ok-left.ensures)
-    (path_left g c.args.gone.now r c.requires.path
-    (subst (λ (es : List ℕ). Avoids c.args.gone.now es) c.as_slice.ensures (c.is_left.ensures.0 c.if-is_left.true)))
+    (path_left g c.args.exclusion.now r c.requires.path
+    (subst (λ (es : List ℕ). Avoids c.args.exclusion.now es) c.as_slice.ensures (c.is_left.ensures.0 c.if-is_left.true)))
 
 pub returns-clause-found : goal.returns-clause-found
 returns-clause-found c = search rules

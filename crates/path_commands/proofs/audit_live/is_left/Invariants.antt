@@ -4,4 +4,4 @@ use Rattle.area_graph.specs.Paths.{Avoids}
 use Rattle.path_commands.proofs.audit_live.is_left.Given as goal
 
 abbrev pub invariant-loop-edge : goal.invariant-loop-edge
-invariant-loop-edge l = Avoids l.gone l.edges ↔ Avoids l.gone (drop l.edge-index l.edges)
+invariant-loop-edge l = Avoids l.exclusion l.edges ↔ Avoids l.exclusion (drop l.edge-index l.edges)

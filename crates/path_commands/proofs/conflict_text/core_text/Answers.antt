@@ -13,8 +13,8 @@ push_evidence-requires-clause-rows c =
 pub push_evidence-requires-clause-tree : goal.push_evidence-requires-clause-tree
 push_evidence-requires-clause-tree c =
     made_part_short c.args.problem.now c.requires.0 c.requires.1 c.args.core.now.members.now c.args.core.now.rows.now c.args.tree
-    (codes "proof") c.at_ceiling-tree.result c.keeps_conditions.ensures.problem c.at_ceiling-tree.ensures.same
-    c.at_ceiling-tree.ensures.small c.requires.2 (omega arith) c.requires.3.told
+    (codes "proof") c.at_greatest_bound-tree.result c.keeps_conditions.ensures.problem c.at_greatest_bound-tree.ensures.same
+    c.at_greatest_bound-tree.ensures.small c.requires.2 (omega arith) c.requires.3.told
 
 pub push_without-requires-clause-within : goal.push_without-requires-clause-within
 push_without-requires-clause-within c =
@@ -24,8 +24,8 @@ push_without-requires-clause-within c =
 pub returns : goal.returns
 returns c =
     let p = c.args.problem.now in
-    let evidence = evidence_pushed p c.args.core.now.rows.now c.args.tree c.at_ceiling-tree.result
-    (codes "proof") c.in_ok-text.text.items c.push_evidence.new.text.items c.at_ceiling-tree.ensures.same
+    let evidence = evidence_pushed p c.args.core.now.rows.now c.args.tree c.at_greatest_bound-tree.result
+    (codes "proof") c.in_ok-text.text.items c.push_evidence.new.text.items c.at_greatest_bound-tree.ensures.same
     c.in_ok-push_evidence.ensures in
     core_spelled p c.args.core.now.members.now c.args.core.now.rows.now c.args.tree c.args.core.now.without.now c.in_ok-text.text.items
     c.push_evidence.new.text.items c.push_without.new.text.items c.push_line.new.text.items c.in_ok-text.ensures

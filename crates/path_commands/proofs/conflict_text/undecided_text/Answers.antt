@@ -13,14 +13,14 @@ push_evidence-requires-clause-rows c =
 pub push_evidence-requires-clause-tree : goal.push_evidence-requires-clause-tree
 push_evidence-requires-clause-tree c =
     made_part_short c.args.problem.now c.requires.0 c.requires.1 c.args.members.now c.args.rows.now c.args.tree
-    (codes "open") c.at_ceiling-tree.result c.keeps_conditions.ensures.problem c.at_ceiling-tree.ensures.same
-    c.at_ceiling-tree.ensures.small c.requires.2 (omega arith) c.requires.3.told
+    (codes "open") c.at_greatest_bound-tree.result c.keeps_conditions.ensures.problem c.at_greatest_bound-tree.ensures.same
+    c.at_greatest_bound-tree.ensures.small c.requires.2 (omega arith) c.requires.3.told
 
 pub returns : goal.returns
 returns c =
     let p = c.args.problem.now in
-    let evidence = evidence_pushed p c.args.rows.now c.args.tree c.at_ceiling-tree.result
-    (codes "open") c.in_ok-text.text.items c.push_evidence.new.text.items c.at_ceiling-tree.ensures.same
+    let evidence = evidence_pushed p c.args.rows.now c.args.tree c.at_greatest_bound-tree.result
+    (codes "open") c.in_ok-text.text.items c.push_evidence.new.text.items c.at_greatest_bound-tree.ensures.same
     c.in_ok-push_evidence.ensures in
     undecided_spelled p c.args.members.now c.args.rows.now c.args.tree c.in_ok-text.text.items
     c.push_evidence.new.text.items c.push_line.new.text.items c.in_ok-text.ensures evidence

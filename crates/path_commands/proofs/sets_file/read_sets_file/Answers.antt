@@ -3,7 +3,8 @@ use Rattle.std.proofs.Common.{◌≡◌, ◌∙◌, List, ℕ, [], sym, subst, O
 use Rattle.std.specs.Prelude.{Vec, None}
 use Rattle.std.specs.declared.alloc.Global.{Global}
 use Rattle.std.proofs.lemmas.Result.{err_from_is_err_and}
-use Rattle.set_reader.specs.Reading.{AreSaid, TellsReading, set_fault}
+use Rattle.text_lines.specs.LineFaults.{TellsFault}
+use Rattle.set_reader.specs.Reading.{AreSaid, set_fault}
 use Rattle.input_files.specs.declared.stop.Stop.{Stop}
 use Rattle.input_files.specs.Outcomes.{file_read}
 use Rattle.input_files.specs.Stops.{StopsAs}
@@ -43,5 +44,5 @@ returns-clause-read g c = λ d is.
     (λ read same.
     subst (λ (s : Stop). StopsAs (if_sets file d read (set_fault d.problem read)) [] s) (sym c.stop_of.ensures)
     (sets_stop c.args.name d c.args.problem.now read c.in-Err.refusal is
-    (subst (λ (bs : List ℕ). TellsReading (set_fault c.args.problem.now bs) c.in-Err.refusal) (c.deref.ensures.value ∙ same)
+    (subst (λ (bs : List ℕ). TellsFault (set_fault c.args.problem.now bs) c.in-Err.refusal) (c.deref.ensures.value ∙ same)
     c.in-Err.ensures.refused)))

@@ -22,5 +22,5 @@ pub returns : goal.returns
 returns g c = λ names d is.
     let made = c.in_ok-report.ensures in
     spread_found (g.S.Shelf.gave c.args.shelf.now c.read_sets_file.new.shelf) (limits_seen c.args.limits.now) c.args.sets.now d
-    c.args.problem.now c.in_ok-sets.sets made.spread c.in_ok-report.field-0 (is.same, ready_is names d is.came is.ends) made.ceiling
+    c.args.problem.now c.in_ok-sets.sets made.spread c.in_ok-report.field-0 (is.same, ready_is names d is.came is.ends) made.bound_small
     (c.in_ok-sets.ensures.read d is.same) made.found made.reports

@@ -17,5 +17,5 @@ returns c =
     let spread = c.in_ok-spread.spread in
     IfOk-weaker c.report_of_spread.result (Reports (spread_status spread) (spread_text p spread))
     (ReportsSpread (limits_seen c.args.limits.now) p c.args.sets.now)
-    (λ report reports. record { spread = spread; found = c.in_ok-spread.ensures; reports = reports; ceiling = c.keeps_ceiling.ensures })
+    (λ report reports. record { spread = spread; found = c.in_ok-spread.ensures; reports = reports; bound_small = c.keeps_greatest_bound.ensures })
     c.report_of_spread.ensures

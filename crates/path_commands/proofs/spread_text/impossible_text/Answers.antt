@@ -1,4 +1,4 @@
--- The closed tree at the greatest upper bound.
+-- The closed tree at the greatest bound.
 use Rattle.std.proofs.Common.{◌∙◌, ap}
 use Rattle.std.specs.Prelude.{None, Some, codes}
 use Rattle.design_problem.specs.declared.answer.CapTree.{CapTree}
@@ -9,7 +9,7 @@ use Rattle.path_commands.proofs.spread_text.impossible_text.Goals as goal
 
 pub returns : goal.returns
 returns c =
-    trees_behind (codes "verdict impossible") None c.args.rows.now (Some c.at_ceiling-tree.result) None c.in_ok-text.text.items
+    trees_behind (codes "verdict impossible") None c.args.rows.now (Some c.at_greatest_bound-tree.result) None c.in_ok-text.text.items
     c.push_trees.new.text.items c.in_ok-text.ensures c.in_ok-push_trees.ensures
     ∙ ap (λ (t : CapTree). with_ends (spread_lines (codes "verdict impossible") None c.args.rows.now (Some t) None))
-    c.at_ceiling-tree.ensures.same
+    c.at_greatest_bound-tree.ensures.same

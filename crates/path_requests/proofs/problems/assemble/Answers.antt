@@ -8,7 +8,7 @@ use Rattle.path_requests.proofs.WholeProblems.{whole_is_problem}
 use Rattle.path_requests.proofs.problems.assemble.Goals.{After-from_items-4}
 use Rattle.path_requests.proofs.problems.assemble.Goals as goal
 
--- the problem that is made is the requests'
+-- the problem that is made is the request file's
 made : (c : After-from_items-4) → ◌≡◌ {A = DesignProblem}
     (record {
       graph = c.in_ok-graph.graph;

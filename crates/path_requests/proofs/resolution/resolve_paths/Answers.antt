@@ -1,4 +1,4 @@
--- the items are those of the requests
+-- the items are those of the request file
 use Rattle.std.proofs.Common.{◌≡◌, List, [], subst, filter_map, IfOk, IfErr}
 use Rattle.cost_base.specs.Lists.{first_of}
 use Rattle.design_problem.specs.declared.problem.Request.{Request}

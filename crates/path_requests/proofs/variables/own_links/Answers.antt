@@ -3,7 +3,7 @@ use Rattle.std.specs.Prelude.{filter}
 use Rattle.cost_base.specs.Lists.{numbers_from}
 use Rattle.lsdb_build.proofs.GraphLaws.{numbers_step}
 use Rattle.path_requests.specs.Meaning.{own}
-use Rattle.wanted_paths.proofs.TakenEdges.{filter_head}
+use Rattle.wanted_paths.proofs.ExcludedEdges.{filter_head}
 use Rattle.lsdb_build.specs.declared.Linked.{Linked}
 use Rattle.path_requests.proofs.LinkSteps.{link_there}
 use Rattle.path_requests.proofs.variables.own_links.Goals as goal

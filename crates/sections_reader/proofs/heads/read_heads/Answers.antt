@@ -6,4 +6,4 @@ pub returns-in-Total : goal.returns-in-Total
 returns-in-Total c =
     let first = rw c.in-Total.is at c.in_ok-behind.ensures in
     rw c.in-Total.is
-    (MatchResult-weaker c.inner_head_at.result c.inner_head_at.ensures (λ rest goes. go-then first goes) (λ stop h. stop-then stop first h))
+    (MatchResult-weaker c.answer_head.result c.answer_head.ensures.inner (λ rest goes. go-then first goes) (λ stop h. stop-then stop first h))

@@ -1,23 +1,25 @@
-use Rattle.std.proofs.Common.{rules}
 use Rattle.std.proofs.lemmas.Result.{err_from_is_err_and}
-use Rattle.set_reader.proofs.FileLaws.{read_more, read_refused}
+use Rattle.text_lines.specs.Lines.{lines}
+use Rattle.text_lines.specs.Statements.{statements}
+use Rattle.set_reader.proofs.FileLaws.{begins, read_made, read_lawful, read_refused}
 use Rattle.set_reader.proofs.reading.read_sets.Goals as goal
 
-pub loop-line-preserved : goal.loop-line-preserved
-loop-line-preserved c =
-    read_more c.args.problem.now c.args.bytes.now c.loop-line.lines c.next_line.new.self c.loop-line.reader
-    c.read_line.new.reader c.in-Ok.line c.loop-line.invariant (rw c.in-Ok.is at c.in-Some.ensures.line)
-    c.in_ok-read_line-in-Ok.ensures.taken c.in_ok-read_line-in-Ok.ensures.told
+pub read_statements-requires-clause-none : goal.read_statements-requires-clause-none
+read_statements-requires-clause-none c = begins c.args.problem.now c.in_ok-reader.reader c.in_ok-reader.ensures
 
-pub returns-in_err-read_line-in-Ok-clause-refused :
-    goal.returns-in_err-read_line-in-Ok-clause-refused
-returns-in_err-read_line-in-Ok-clause-refused c =
-    let p = err_from_is_err_and c.from_residual-in_err-read_line-in-Ok.result c.from_residual-in_err-read_line-in-Ok.ensures.1 in
+pub returns-in_err-read_statements-clause-refused : goal.returns-in_err-read_statements-clause-refused
+returns-in_err-read_statements-clause-refused c =
+    let p = err_from_is_err_and c.from_residual-in_err-read_statements.result c.from_residual-in_err-read_statements.ensures.1 in
     rw (p.1, p.2)
-    (read_refused c.args.problem.now c.args.bytes.now c.loop-line.lines c.next_line.new.self c.loop-line.reader
-    c.in-Ok.line c.in_err-read_line-in-Ok.field-0.0 c.loop-line.invariant
-    (rw c.in-Ok.is at c.in-Some.ensures.line)
-    c.in_err-read_line-in-Ok.ensures.refused)
+    (read_refused c.args.problem.now c.args.bytes.now c.in_ok-reader.reader c.in_err-read_statements.field-0.0 c.in_ok-reader.ensures
+    c.in_err-read_statements.ensures.refused)
 
-pub returns-in-Err-clause-refused : goal.returns-in-Err-clause-refused
-returns-in-Err-clause-refused c = search rules
+pub returns-clause-made : goal.returns-clause-made
+returns-clause-made c =
+    read_made c.args.problem.now c.args.bytes.now c.in_ok-reader.reader c.read_statements.new.reader c.into_sets.result c.in_ok-reader.ensures
+    c.in_ok-read_statements.ensures.lawful c.in_ok-read_statements.ensures.taken c.into_sets.ensures.same
+
+pub returns-clause-lawful : goal.returns-clause-lawful
+returns-clause-lawful c =
+    read_lawful c.args.problem.now c.in_ok-reader.reader c.read_statements.new.reader (statements (lines c.args.bytes.now)) c.into_sets.result
+    c.in_ok-reader.ensures c.in_ok-read_statements.ensures.taken c.into_sets.ensures.lawful

@@ -28,11 +28,11 @@ loop-entry-init c =
           open-le c.args.subgraph.now.graph.now c.fill-2.new.self.items in omega arith;
       underway = (
         0,
-        subst (λ (d : List ℕ). Underway g p c.args.subgraph.now.removal.now t limit 0 [] (set d t 0) c.fill-2.new.self.items c.push.new.self.entries) (sym numbers)
+        subst (λ (d : List ℕ). Underway g p c.args.subgraph.now.exclusion.now t limit 0 [] (set d t 0) c.fill-2.new.self.items c.push.new.self.entries) (sym numbers)
             (subst (λ (settled : List Bool).
-            Underway g p c.args.subgraph.now.removal.now t limit 0 [] (set (replicate n limit) t 0) settled
+            Underway g p c.args.subgraph.now.exclusion.now t limit 0 [] (set (replicate n limit) t 0) settled
             c.push.new.self.entries) (sym marks)
-            (begun g p c.args.subgraph.now.removal.now t limit n m c.push.new.self.entries within alone)),
+            (begun g p c.args.subgraph.now.exclusion.now t limit n m c.push.new.self.entries within alone)),
       );
     }
 

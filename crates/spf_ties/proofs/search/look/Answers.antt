@@ -13,7 +13,7 @@ use Rattle.spf_ties.proofs.search.look.Goals as goal
 
 pub returns-then-not-leaves-clause-underway : goal.returns-then-not-leaves-clause-underway
 returns-then-not-leaves-clause-underway c = λ t limit least todo under.
-    kept c.args.subgraph.now.graph.now c.args.subgraph.now.point.now c.args.subgraph.now.removal.now t limit least c.args.number todo
+    kept c.args.subgraph.now.graph.now c.args.subgraph.now.point.now c.args.subgraph.now.exclusion.now t limit least c.args.number todo
     c.args.front.now.numbers.items c.args.front.now.settled.items c.args.front.now.waiting.entries under
     (λ left. let kept_edge : c.leaves.result ≡ true = c.leaves.ensures.1 left in let excluded : c.leaves.result ≡ false = search rules in absurd (cc))
 
@@ -55,19 +55,19 @@ returns-then-distance-index-clause-underway c = λ t limit least todo under.
     let read = (goal.at.returns-then-distance-index-clause-underway c).After-index-2 in
     let from : c.edge_of-edge.result.from ≡ (edge_at g e).from = ap (λ (edge : Edge). edge.from) c.edge_of-edge.ensures in
     let x = distance_through read in
-    let left : Lacks c.args.subgraph.now.removal.now e = search rules in
+    let left : Lacks c.args.subgraph.now.exclusion.now e = search rules in
     let old = number_before read in
     let less : through p (edge_at g e) d < get_or d (edge_at g e).from 0 = omega (arith, c.if-distance-index.true) in
     let moved : IsPermutation (entry_of (through p (edge_at g e) d) (edge_at g e).from ∷ c.args.front.now.waiting.entries) c.push.new.self.entries =
     subst (λ (i : ℕ). IsPermutation (entry_of (through p (edge_at g e) d) i ∷ c.args.front.now.waiting.entries) c.push.new.self.entries) from
     (subst (λ (y : ℕ). IsPermutation (entry_of y c.edge_of-edge.result.from ∷ c.args.front.now.waiting.entries)
     c.push.new.self.entries) x c.push.ensures.entries) in
-    subst (λ (i : ℕ). Underway g p c.args.subgraph.now.removal.now t limit least todo
+    subst (λ (i : ℕ). Underway g p c.args.subgraph.now.exclusion.now t limit least todo
     (set d i (c.narrow_price.result + c.index.result.now)) c.args.front.now.settled.items
     c.push.new.self.entries) (sym from)
-    (subst (λ (y : ℕ). Underway g p c.args.subgraph.now.removal.now t limit least todo (set d (edge_at g e).from y)
+    (subst (λ (y : ℕ). Underway g p c.args.subgraph.now.exclusion.now t limit least todo (set d (edge_at g e).from y)
     c.args.front.now.settled.items c.push.new.self.entries) (sym x)
-    (lowered g p c.args.subgraph.now.removal.now t limit least e todo d c.args.front.now.settled.items
+    (lowered g p c.args.subgraph.now.exclusion.now t limit least e todo d c.args.front.now.settled.items
     c.args.front.now.waiting.entries c.push.new.self.entries c.keeps_conditions.ensures.fits c.requires.front
     under left less moved))
 
@@ -76,6 +76,6 @@ returns-else-distance-index-clause-underway c = λ t limit least todo under.
     let read = (goal.at.returns-else-distance-index-clause-underway c).After-index-2 in
     let new = distance_through read in
     let old = number_before read in
-    kept c.args.subgraph.now.graph.now c.args.subgraph.now.point.now c.args.subgraph.now.removal.now t limit least c.args.number todo c.args.front.now.numbers.items
+    kept c.args.subgraph.now.graph.now c.args.subgraph.now.point.now c.args.subgraph.now.exclusion.now t limit least c.args.number todo c.args.front.now.numbers.items
     c.args.front.now.settled.items c.args.front.now.waiting.entries
     under (λ left. omega (arith, c.if-distance-index.false))

@@ -33,7 +33,7 @@ loop-number-preserved c =
       places = let before = c.loop-number.invariant.places in let after = c.look.ensures.waiting.places in omega arith;
       count = let before = c.loop-number.invariant.count in let after = c.look.ensures.waiting.one in omega arith;
       underway = λ t limit least under. c.look.ensures.underway t limit least (drop (i + 1) es)
-          (subst (λ (xs : List ℕ). Underway g c.args.subgraph.now.point.now c.args.subgraph.now.removal.now t limit least xs
+          (subst (λ (xs : List ℕ). Underway g c.args.subgraph.now.point.now c.args.subgraph.now.exclusion.now t limit least xs
           c.loop-number.front.numbers.items c.loop-number.front.settled.items
           c.loop-number.front.waiting.entries) split
           (c.loop-number.invariant.underway t limit least under));
@@ -55,6 +55,6 @@ returns-clause-underway c = λ t limit least under.
     let past : length es ≤ c.loop-number.number-index =
     subst (λ (xs : List ℕ). length xs ≤ c.loop-number.number-index) c.edges_in-number-items.ensures
     c.loop-number-test.false in
-    subst (λ (xs : List ℕ). Underway c.args.subgraph.now.graph.now c.args.subgraph.now.point.now c.args.subgraph.now.removal.now t limit least xs
+    subst (λ (xs : List ℕ). Underway c.args.subgraph.now.graph.now c.args.subgraph.now.point.now c.args.subgraph.now.exclusion.now t limit least xs
     c.loop-number.front.numbers.items c.loop-number.front.settled.items c.loop-number.front.waiting.entries)
     (drop_of_length-le es past) (c.loop-number.invariant.underway t limit least under)

@@ -14,7 +14,7 @@ returns-then-not-index-clause-underway c = λ t limit least waiting under moved 
     false within) ∙ mark in (
       c.args.entry.distance,
       c.settle.ensures.underway t limit c.args.entry.distance
-          (settled_next c.args.subgraph.now.graph.now c.args.subgraph.now.point.now c.args.subgraph.now.removal.now t limit least
+          (settled_next c.args.subgraph.now.graph.now c.args.subgraph.now.point.now c.args.subgraph.now.exclusion.now t limit least
           c.args.front.now.numbers.items c.args.front.now.settled.items c.args.entry waiting
           c.args.front.now.waiting.entries c.requires.front under moved nearest waited),
     )
@@ -28,7 +28,7 @@ returns-else-not-index-clause-underway c = λ t limit least waiting under moved 
     sym (c.index.ensures ∙ get_or_default c.args.front.now.settled.items c.args.entry.vertex c.index.result.now
     false within) ∙ mark in (
       least,
-      passed_over c.args.subgraph.now.graph.now c.args.subgraph.now.point.now c.args.subgraph.now.removal.now t limit least
+      passed_over c.args.subgraph.now.graph.now c.args.subgraph.now.point.now c.args.subgraph.now.exclusion.now t limit least
           c.args.front.now.numbers.items c.args.front.now.settled.items c.args.entry waiting
           c.args.front.now.waiting.entries under moved done,
     )

@@ -9,7 +9,7 @@ use Rattle.spread_sets.specs.declared.finding.Sought.{Sought}
 use Rattle.spread_sets.specs.Spreads.{SharesEach, forms_of_set_rows}
 use Rattle.spread_sets.specs.MemberSets.{AreMemberSets}
 use Rattle.spread_sets.specs.Sources.{IsSpreadSought}
-use Rattle.spread_sets.proofs.PrintedSets.{CanPrintSets, shown_closed, shown_spent, tree_names}
+use Rattle.spread_sets.proofs.PrintedSets.{CanPrintSets, shown_closed, shown_used_up, tree_names}
 use Rattle.spread_sets.proofs.finding.answered.Goals.{After-keeps_conditions}
 use Rattle.spread_sets.proofs.finding.answered.Goals as goal
 
@@ -41,7 +41,7 @@ can : (c : After-keeps_conditions) (sets : List (List ℕ)) → AreMemberSets c.
 can c sets are = record {
   kept = c.keeps_conditions.ensures;
   are = are;
-  small = c.requires.ceiling;
+  small = c.requires.bound_small;
   budget = c.args.limits.now.budget_end;
 }
 
@@ -60,5 +60,5 @@ returns-in_ok-rows-in-Undecided c = λ sets are distinct sought.
     let limits = c.args.limits.now in
     let sheet = c.in_ok-rows-in-Undecided.field-0 in
     let found = found_as p sets limits.top limits.nodes c.args.sought (Undecided c.in-Undecided.tree) c.in-Undecided.is sought in
-    shown_spent p sets limits.top limits.nodes c.args.sought.rows.items sheet.rows.items c.in-Undecided.tree sheet.tree
+    shown_used_up p sets limits.top limits.nodes c.args.sought.rows.items sheet.rows.items c.in-Undecided.tree sheet.tree
     (can (goal.at.returns-in_ok-rows-in-Undecided c).After-keeps_conditions sets are) sought.true_rows (sought.once distinct) found.0 found.1 found.2 c.in_ok-rows-in-Undecided.ensures

@@ -2,7 +2,7 @@ use Rattle.std.proofs.Common.{◌∙◌, ap, sym, ◌++◌, ℕ, List, ◌+◌, 
 use Rattle.std.specs.Prelude.{filter, slice_index_or}
 use Rattle.cost_base.specs.Lists.{numbers_from}
 use Rattle.lsdb_build.proofs.GraphLaws.{numbers_step}
-use Rattle.wanted_paths.proofs.TakenEdges.{filter_head}
+use Rattle.wanted_paths.proofs.ExcludedEdges.{filter_head}
 use Rattle.wanted_paths.proofs.parts.marked.Goals as goal
 
 pub loop-edge-preserved : goal.loop-edge-preserved

@@ -10,9 +10,9 @@ use Rattle.change_steps.proofs.plan.Plan.is_safe_after.Goals.{else-not-spares-vi
 pub loop-number-preserved : goal.loop-number-preserved
 loop-number-preserved c = elim c.else-not-spares.branch [
   | else-not-spares-via-then-not-spares+else-not-is_only w ↦ record {
-    room = subst (λ (f : Findings). IsRoomFor c.args.self.now.rollout.graph f) (sym w.room-is) (subst (λ (r : Rollout). IsRoomFor r.graph w.is_only.new.room) w.scene.ensures w.is_only.ensures.room);
+    room = subst (λ (f : Findings). IsRoomFor c.args.self.now.rollout.graph f) (sym w.room-is) (subst (λ (r : Rollout). IsRoomFor r.graph w.is_only.new.room) w.rollout.ensures w.is_only.ensures.room);
     safe = All-more (IsOnlyIn c.args.self.now.rollout (is_done_in c.args.state.now.done.items)) c.held-number-items.result.now c.loop-number.number-index 0
-        c.loop-number-test.true c.loop-number.invariant.safe (subst (λ (r : Rollout). IsOnlyIn r (is_done_in c.args.state.now.done.items) (get_or c.held-number-items.result.now c.loop-number.number-index 0)) w.scene.ensures (w.is_only.ensures.only.0 w.if-not-is_only.false));
+        c.loop-number-test.true c.loop-number.invariant.safe (subst (λ (r : Rollout). IsOnlyIn r (is_done_in c.args.state.now.done.items) (get_or c.held-number-items.result.now c.loop-number.number-index 0)) w.rollout.ensures (w.is_only.ensures.only.0 w.if-not-is_only.false));
   }
   | else-not-spares-via-else-not-spares w ↦ record {
     room = subst (λ (f : Findings). IsRoomFor c.args.self.now.rollout.graph f) (sym w.room-is) c.loop-number.invariant.room;

@@ -14,19 +14,19 @@ use Rattle.change_steps.proofs.reach.Reach.are_dearer_over.Goals as goal
 
 pub path_cost-requires-clause-fits : goal.path_cost-requires-clause-fits
 path_cost-requires-clause-fits c =
-    point_fits c.args.scene.now c.graph-graph.result.now c.args.state.now.done.items c.point-point.result.now c.keeps_conditions.ensures c.graph-graph.ensures
+    point_fits c.args.rollout.now c.graph-graph.result.now c.args.state.now.done.items c.point-point.result.now c.keeps_conditions.ensures c.graph-graph.ensures
     (c.point-point.ensures ∙ c.requires.state.point)
 
 pub price_of-requires-clause-known : goal.price_of-requires-clause-known
 price_of-requires-clause-known c =
-    let fits = point_fits c.args.scene.now c.graph-graph.result.now c.args.state.now.done.items c.point-point.result.now c.keeps_conditions.ensures
+    let fits = point_fits c.args.rollout.now c.graph-graph.result.now c.args.state.now.done.items c.point-point.result.now c.keeps_conditions.ensures
     c.graph-graph.ensures (c.point-point.ensures ∙ c.requires.state.point) in
     subst (λ (x : Edge). IsPriced (length c.point-point.result.now.values) x.price) (sym c.edge_of-over.ensures)
     (fits.priced c.args.edge no_edge (subst (λ (g : Area). c.args.edge < length g.edges) (sym c.graph-graph.ensures) c.requires.edge))
 
 pub overflow_add-result : goal.overflow_add-result
 overflow_add-result c =
-    let most = price_below c.args.scene.now c.graph-graph.result.now c.args.state.now.done.items c.point-point.result.now c.args.edge c.edge_of-over.result
+    let most = price_below c.args.rollout.now c.graph-graph.result.now c.args.state.now.done.items c.point-point.result.now c.args.edge c.edge_of-over.result
     c.keeps_conditions.ensures c.keeps_conditions-2.ensures.metrics c.graph-graph.ensures (c.point-point.ensures ∙ c.requires.state.point) c.requires.edge
     c.edge_of-over.ensures in
     let is = c.price_of.ensures in
@@ -35,7 +35,7 @@ overflow_add-result c =
 
 pub overflow_add-result-2 : goal.overflow_add-result-2
 overflow_add-result-2 c =
-    let most = price_below c.args.scene.now c.graph-graph.result.now c.args.state.now.done.items c.point-point.result.now c.args.edge c.edge_of-over.result
+    let most = price_below c.args.rollout.now c.graph-graph.result.now c.args.state.now.done.items c.point-point.result.now c.args.edge c.edge_of-over.result
     c.keeps_conditions.ensures c.keeps_conditions-2.ensures.metrics c.graph-graph.ensures (c.point-point.ensures ∙ c.requires.state.point) c.requires.edge
     c.edge_of-over.ensures in
     let is = c.price_of.ensures in
@@ -45,7 +45,7 @@ overflow_add-result-2 c =
 
 pub returns : goal.returns
 returns c = λ less.
-    let r = c.args.scene.now in
+    let r = c.args.rollout.now in
     let L = c.args.self.now.least in
     let q = c.request-request.ensures in
     let p = c.point-point.ensures ∙ c.requires.state.point in

@@ -13,7 +13,7 @@ returns-then-contains c = λ falls.
     let edge_is = c.edge_of.ensures ∙ ap (λ (g : Area). edge_at g c.args.edge) c.graph.ensures in
     let edges_are = c.as_slice-edges.ensures ∙ ap (λ (q : Request). q.path.edges) c.request.ensures in
     record {
-      on = λ has. sym (c.price_rises-rises.ensures ∙ ap (λ (x : Edge). price_rises c.args.scene.now.moves x.price) edge_is) ∙ not-true c.price_rises-rises.result falls;
+      on = λ has. sym (c.price_rises-rises.ensures ∙ ap (λ (x : Edge). price_rises c.args.rollout.now.moves x.price) edge_is) ∙ not-true c.price_rises-rises.result falls;
       off = λ away. absurd (away (subst (λ (es : List ℕ). Has es c.args.edge) edges_are
           (one_of_has c.as_slice-edges.result.now c.args.edge (sym c.contains.ensures.value ∙ c.if-contains.true))));
     }
@@ -25,5 +25,5 @@ returns-then-rises c = λ rises.
     record {
       on = λ has. absurd (both_ways c.contains.result c.if-contains.false
           (c.contains.ensures.value ∙ has_one_of c.as_slice-edges.result.now c.args.edge (subst (λ (es : List ℕ). Has es c.args.edge) (sym edges_are) has)));
-      off = λ away. inl (sym (c.price_rises-rises.ensures ∙ ap (λ (x : Edge). price_rises c.args.scene.now.moves x.price) edge_is) ∙ rises);
+      off = λ away. inl (sym (c.price_rises-rises.ensures ∙ ap (λ (x : Edge). price_rises c.args.rollout.now.moves x.price) edge_is) ∙ rises);
     }

@@ -16,7 +16,7 @@ do_step-requires-clause-step c = c.requires c.loop-step.step-index 0 c.loop-step
 pub loop-step-preserved : goal.loop-step-preserved
 loop-step-preserved c = record {
   state = c.do_step.ensures.state;
-  done = after_more c.args.scene.now c.loop-step.state.done.items c.do_step.new.self.done.items c.args.steps.now c.loop-step.step-index
+  done = after_more c.args.rollout.now c.loop-step.state.done.items c.do_step.new.self.done.items c.args.steps.now c.loop-step.step-index
       c.loop-step-test.true (c.requires c.loop-step.step-index 0 c.loop-step-test.true) c.loop-step.invariant.done c.do_step.ensures.done;
 }
 
@@ -26,4 +26,4 @@ returns-clause-state c = c.loop-step.invariant.state
 pub returns-clause-done : goal.returns-clause-done
 returns-clause-done c =
     c.loop-step.invariant.done
-    ∙ ap (λ (xs : List ℕ). marks_of c.args.scene.now (is_one_of xs)) (take_all c.loop-step.step-index c.args.steps.now c.loop-step-test.false)
+    ∙ ap (λ (xs : List ℕ). marks_of c.args.rollout.now (is_one_of xs)) (take_all c.loop-step.step-index c.args.steps.now c.loop-step-test.false)

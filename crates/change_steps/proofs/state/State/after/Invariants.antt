@@ -6,6 +6,6 @@ use Rattle.change_steps.proofs.state.State.after.Given as goal
 
 abbrev pub invariant-loop-step : goal.invariant-loop-step
 invariant-loop-step l = record {
-  state : IsStateOf l.scene l.state;
-  done : l.state.done.items ≡ marks_of l.scene (is_one_of (take l.step-index l.steps));
+  state : IsStateOf l.rollout l.state;
+  done : l.state.done.items ≡ marks_of l.rollout (is_one_of (take l.step-index l.steps));
 }

@@ -10,9 +10,9 @@ returns-clause-state c = record {
   count = c.in_ok-done.ensures.counted ∙ c.step_count.ensures;
   point = point_is 1 c.from_items.result _ refl
       (c.from_items.ensures ∙ c.in_ok-values.ensures ∙ c.present.ensures
-      ∙ sym (none_costs c.args.scene.now.moves (is_done_in c.in_ok-done.done.items) (λ k within. c.in_ok-done.ensures.none k)));
+      ∙ sym (none_costs c.args.rollout.now.moves (is_done_in c.in_ok-done.done.items) (λ k within. c.in_ok-done.ensures.none k)));
 }
 
 pub returns-clause-none : goal.returns-clause-none
 returns-clause-none c =
-    marks_same c.args.scene.now none_done c.in_ok-done.done.items (c.in_ok-done.ensures.counted ∙ c.step_count.ensures) (λ k within. c.in_ok-done.ensures.none k)
+    marks_same c.args.rollout.now none_done c.in_ok-done.done.items (c.in_ok-done.ensures.counted ∙ c.step_count.ensures) (λ k within. c.in_ok-done.ensures.none k)

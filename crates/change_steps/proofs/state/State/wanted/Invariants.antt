@@ -5,6 +5,6 @@ use Rattle.change_steps.proofs.state.State.wanted.Given as goal
 
 abbrev pub invariant-loop-step : goal.invariant-loop-step
 invariant-loop-step l = record {
-  state : IsStateOf l.scene l.state;
-  done : l.state.done.items ≡ marks_of l.scene (λ k. ltb k l.step);
+  state : IsStateOf l.rollout l.state;
+  done : l.state.done.items ≡ marks_of l.rollout (λ k. ltb k l.step);
 }

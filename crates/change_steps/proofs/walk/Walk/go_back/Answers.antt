@@ -7,7 +7,7 @@ use Rattle.change_steps.proofs.walk.Walk.go_back.Goals as goal
 
 pub undo_step-requires-clause-step : goal.undo_step-requires-clause-step
 undo_step-requires-clause-step c =
-    subst (λ (r : Rollout). c.in-Some.step < step_count r) (sym c.scene.ensures)
+    subst (λ (r : Rollout). c.in-Some.step < step_count r) (sym c.rollout.ensures)
     (popped_known c.args.plan.now c.args.self.now c.pop.new.self.items c.in-Some.step c.requires.walk
     (c.pop.ensures.items ∙ ap (λ (o : Option ℕ). c.pop.new.self.items ++ option_to_list o) c.in-Some.is))
 
@@ -23,5 +23,5 @@ pub returns-in-Some-clause-walk : goal.returns-in-Some-clause-walk
 returns-in-Some-clause-walk c =
     walk_backs c.args.plan.now c.args.self.now _ c.in-Some.step c.requires.walk c.requires.next
     (c.pop.ensures.items ∙ ap (λ (o : Option ℕ). c.pop.new.self.items ++ option_to_list o) c.in-Some.is)
-    (subst (λ (r : Rollout). IsStateOf r c.undo_step.new.self) c.scene.ensures c.undo_step.ensures.state) c.undo_step.ensures.undone refl refl refl
+    (subst (λ (r : Rollout). IsStateOf r c.undo_step.new.self) c.rollout.ensures c.undo_step.ensures.state) c.undo_step.ensures.undone refl refl refl
     c.requires.walk.room

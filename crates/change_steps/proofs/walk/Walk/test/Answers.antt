@@ -25,7 +25,7 @@ returns-in_ok-go_on-clause-walk c =
     (c.is_safe_after-safe.ensures.safe.0 c.if-safe.true))
     (subst (λ (f : Findings). IsRoomFor c.args.plan.now.rollout.graph f) (sym c.in_ok-go_on.ensures.room) c.is_safe_after-safe.ensures.room)
     (subst (λ (s : State). IsStateOf c.args.plan.now.rollout s) (sym c.in_ok-go_on.ensures.state)
-    (subst (λ (r : Rollout). IsStateOf r c.do_step.new.self) c.scene.ensures c.do_step.ensures.state))
+    (subst (λ (r : Rollout). IsStateOf r c.do_step.new.self) c.rollout.ensures c.do_step.ensures.state))
     (ap (λ (s : State). s.done.items) c.in_ok-go_on.ensures.state ∙ c.do_step.ensures.done) c.in_ok-go_on.ensures.order c.in_ok-go_on.ensures.next
     (c.in_ok-go_on.ensures.tested ∙ c.in_ok-add.ensures.added
     ∙ ap (λ (m : List Bool). c.args.self.now.tested ++ m ∷ []) (c.deref.ensures.value ∙ c.do_step.ensures.done)) c.in_ok-go_on.ensures.greatest
@@ -41,7 +41,7 @@ returns-else-safe-clause-walk c =
     (λ safe. both_ways c.is_safe_after-safe.result c.if-safe.false (c.is_safe_after-safe.ensures.safe.1
     (subst (λ (m : List Bool). IsSafe c.args.plan.now.rollout c.args.plan.now.held (is_done_in m)) (sym c.do_step.ensures.done) safe)))
     c.is_safe_after-safe.ensures.room
-    (subst (λ (r : Rollout). IsStateOf r c.undo_step.new.self) c.scene-else-safe.ensures c.undo_step.ensures.state)
+    (subst (λ (r : Rollout). IsStateOf r c.undo_step.new.self) c.rollout-else-safe.ensures c.undo_step.ensures.state)
     (c.undo_step.ensures.undone ∙ ap (λ (m : List Bool). set m c.args.step false) c.do_step.ensures.done) refl refl
     (c.in_ok-add.ensures.added ∙ ap (λ (m : List Bool). c.args.self.now.tested ++ m ∷ []) (c.deref.ensures.value ∙ c.do_step.ensures.done)) refl
 

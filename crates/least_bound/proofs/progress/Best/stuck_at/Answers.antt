@@ -1,4 +1,4 @@
--- Without costs the tree at the greatest upper bound stays.
+-- Without costs the tree at the greatest bound stays.
 use Rattle.std.proofs.Common.{◌≡◌, refl, subst, sym}
 use Rattle.std.specs.Prelude.{Some}
 use Rattle.least_bound.specs.declared.progress.Best.{Best}
@@ -8,7 +8,7 @@ use Rattle.least_bound.proofs.CapLaws.{still_none}
 use Rattle.least_bound.proofs.progress.Best.stuck_at.Goals as goal
 
 pub returns-in-NoCosts-clause-holds : goal.returns-in-NoCosts-clause-holds
-returns-in-NoCosts-clause-holds c = λ p top nodes old new most holds grows spent below.
+returns-in-NoCosts-clause-holds c = λ p top nodes old new most holds grows used_up below.
     still_none p top nodes old new most c.args.stuck.cap c.in-NoCosts.tree grows below
     (subst (λ (b : Best). BestHolds p top nodes old most b) c.in-NoCosts.is holds)
 

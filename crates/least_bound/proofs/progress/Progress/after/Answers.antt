@@ -4,7 +4,7 @@ use Rattle.design_problem.specs.Rows.{greatest_cost}
 use Rattle.form_search.specs.declared.found.Found.{Found}
 use Rattle.form_search.specs.declared.found.Found.TheVariants.{Costs, Refuted, Undecided}
 use Rattle.cost_branching.specs.Decisions.{IsDecided}
-use Rattle.least_bound.proofs.CapLaws.{after_costs, after_refuted, after_spent, costs_nearer}
+use Rattle.least_bound.proofs.CapLaws.{after_costs, after_refuted, after_used_up, costs_nearer}
 use Rattle.least_bound.specs.Asking.{after_cap}
 use Rattle.least_bound.specs.Caps.{caps_of}
 use Rattle.least_bound.proofs.Settling.{caps_costs, caps_undecided}
@@ -34,9 +34,9 @@ pub returns-in-Undecided-clause-holds : goal.returns-in-Undecided-clause-holds
 returns-in-Undecided-clause-holds c = λ p top nodes old new problem pool grows holds decided.
     let found : IsDecided p top nodes c.args.cap new (Undecided c.in-Undecided.tree) =
     subst (λ (f : Found). IsDecided p top nodes c.args.cap new f) c.in-Undecided.is decided in
-    after_spent p top nodes old new c.args.self c.args.cap c.stuck_at.result grows c.requires.from_least holds
+    after_used_up p top nodes old new c.args.self c.args.cap c.stuck_at.result grows c.requires.from_least holds
     (c.stuck_at.ensures.holds p top nodes old new c.args.self.most holds.best grows
-    (record { tree = found.0; undone = found.1; spent = found.2 }) c.requires.below_most)
+    (record { tree = found.0; undone = found.1; used_up = found.2 }) c.requires.below_most)
 
 pub returns-in-Costs-clause-caps : goal.returns-in-Costs-clause-caps
 returns-in-Costs-clause-caps c =

@@ -1,4 +1,4 @@
--- At the greatest upper bound nothing is known but the lower bounds.
+-- At the greatest bound nothing is known but the lower bounds.
 use Rattle.std.proofs.Common.{◌≡◌, ◌∙◌, ℕ, ap}
 use Rattle.std.specs.Prelude.{None}
 use Rattle.design_problem.specs.Problems.{DesignProblem}

@@ -21,10 +21,13 @@ returns-in_default-clause-refused c = λ earlier are.
     let n = get_or c.args.numbers.now c.loop-number.number-index 0 in
     let wrong = out_is_wrong requests taken earlier members n c.requires.count are
     (subst (λ (ms : List ℕ). is_out_of_place requests taken ms n ≡ true) c.as_slice.ensures.value c.in_default.ensures.found) in
-    rw (members_wrong requests taken c.args.numbers.now c.loop-number.number-index n members
-    (map {A = Bor (List ℕ)} {B = List ℕ} (λ edges. edges.now) c.loop-number.seen.keys) earlier
-    c.loop-number.invariant c.loop-number-test.true refl are wrong)
-    c.refusal.ensures
+    rw (
+      members_wrong requests taken c.args.numbers.now c.loop-number.number-index n members
+          (map {A = Bor (List ℕ)} {B = List ℕ} (λ edges. edges.now) c.loop-number.seen.keys) earlier
+          c.loop-number.invariant c.loop-number-test.true refl are wrong,
+      c.at.ensures,
+    )
+    refl
 
 pub returns-then-not-branch-clause-refused : goal.returns-then-not-branch-clause-refused
 returns-then-not-branch-clause-refused c = λ earlier are.
@@ -37,9 +40,12 @@ returns-then-not-branch-clause-refused c = λ earlier are.
     ap (λ (r : Request). list_any (same_bytes r.path.edges) edges) (sym c.in-Some.ensures.found.0)
     ∙ not-false (list_any (same_bytes c.in-Some.request.now.path.edges) edges) (sym c.in_ok-see.ensures.new ∙ c.if-not-branch.true) in
     let wrong = seen_is_wrong requests earlier members edges n c.loop-number.invariant.edges_are seen in
-    rw (members_wrong requests taken c.args.numbers.now c.loop-number.number-index n members edges earlier
-    c.loop-number.invariant c.loop-number-test.true refl are wrong)
-    c.refusal-then-not-branch.ensures
+    rw (
+      members_wrong requests taken c.args.numbers.now c.loop-number.number-index n members edges earlier
+          c.loop-number.invariant c.loop-number-test.true refl are wrong,
+      c.at-then-not-branch.ensures,
+    )
+    refl
 
 pub loop-number-preserved : goal.loop-number-preserved
 loop-number-preserved c =

@@ -5,7 +5,7 @@ use Rattle.std.specs.Prelude.{ℤ}
 use Rattle.std.specs.Vec.{with_items}
 use Rattle.fraction_table.specs.declared.table.Table.{Table}
 use Rattle.integer_pivots.specs.declared.uses.Use.{Use}
-use Rattle.integer_pivots.specs.Uses.{held_in}
+use Rattle.integer_pivots.specs.Uses.{uses_in}
 use Rattle.integer_pivots.proofs.UseLaws.{uses_lent}
 use Rattle.table_kernel.specs.declared.kernel.Kernel.{Kernel}
 use Rattle.table_kernel.specs.Rows.{HoldsNumbers}
@@ -16,7 +16,7 @@ use Rattle.table_kernel.proofs.kernel.Kernel.make_room.Goals as goal
 
 -- lists with more room hold the same numbers and uses
 held : (k : Kernel) (table : Table) (constants : Vec ℤ Global) (uses : Vec (Vec Use Global) Global) → constants.items ≡ k.constants.items →
-    held_in uses.items ≡ held_in k.uses.items → HoldsNumbers k (record k { table = table; constants = constants; uses = uses })
+    uses_in uses.items ≡ uses_in k.uses.items → HoldsNumbers k (record k { table = table; constants = constants; uses = uses })
 held k table constants uses constants_are uses_are = record {
   common = refl;
   lows = refl;
@@ -29,7 +29,7 @@ held k table constants uses constants_are uses_are = record {
 }
 
 -- the lists of uses that were lent hold the same uses
-uses_held : (c : After-reserve_uses) → held_in (with_items c.args.self.now.uses c.reserve_uses.new.uses).items ≡ held_in c.args.self.now.uses.items
+uses_held : (c : After-reserve_uses) → uses_in (with_items c.args.self.now.uses c.reserve_uses.new.uses).items ≡ uses_in c.args.self.now.uses.items
 uses_held c =
     let lists = c.args.self.now.uses in
     uses_lent lists.len lists.items c.as_mut_slice.result.now c.reserve_uses.new.uses c.as_mut_slice.ensures.value

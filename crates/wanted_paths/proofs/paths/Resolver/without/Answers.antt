@@ -6,9 +6,9 @@ use Rattle.lsdb_build.specs.Graphs.{Database, IsAreaDatabase}
 use Rattle.wanted_paths.specs.Paths.{next_name}
 use Rattle.wanted_paths.specs.LineFaults.{fault_unless, is_router_part, parts_faults}
 use Rattle.wanted_paths.specs.Paths.{outline}
-use Rattle.wanted_paths.specs.Taken.{taken_by_all}
+use Rattle.wanted_paths.specs.Excluded.{excluded_by_all}
 use Rattle.wanted_paths.proofs.Withouts.{excluded_marks, without_faults_are}
-use Rattle.wanted_paths.proofs.TakenEdges.{marked_are}
+use Rattle.wanted_paths.proofs.ExcludedEdges.{marked_are}
 use Rattle.wanted_paths.specs.declared.fault.ResolutionFault.TheVariants.{PathExcluded}
 use Rattle.wanted_paths.proofs.paths.Resolver.without.Goals as goal
 
@@ -20,14 +20,14 @@ returns-then-is_excluded-clause-refused c =
     let route = c.args.route.now in
     let parts = c.args.parts.now in
     let base = subst IsAreaDatabase is c.links-links.ensures.base in
-    let words = sym (ap (λ (b : Database). parts_faults b c.args.line parts) is) ∙ c.in_ok-taken.ensures.made.0 in
-    let all = c.in_ok-taken.ensures.made.1 ∙ ap (λ (b : Database). taken_by_all b g parts) is in
-    let excluded = excluded_marks d g parts c.deref.result.now c.in_ok-taken.taken.items c.self.inside.marks.items c.mark_excluded.new.marks.items
+    let words = sym (ap (λ (b : Database). parts_faults b c.args.line parts) is) ∙ c.in_ok-excluded.ensures.made.0 in
+    let all = c.in_ok-excluded.ensures.made.1 ∙ ap (λ (b : Database). excluded_by_all b g parts) is in
+    let excluded = excluded_marks d g parts c.deref.result.now c.in_ok-excluded.excluded.items c.self.inside.marks.items c.mark_excluded.new.marks.items
     (c.self.invariant.graph ∙ ap outline is) c.deref.ensures.value c.mark_excluded.ensures.marks all c.mark_excluded.ensures.count c.self.invariant.marks in
     let tests = c.is_excluded.ensures ∙ ap (λ (ms : List Bool).
     list_any (is_router_part (next_name route.hops route.last)) parts
     || list_any (λ e. slice_index_or ms e false) c.args.walk.now.path.edges) c.deref-2.ensures.value in
-    ap first_of (without_faults_are d c.args.line route c.args.walk.now parts c.in_ok-taken.taken.items c.mark_excluded.new.marks.items c.is_excluded.result
+    ap first_of (without_faults_are d c.args.line route c.args.walk.now parts c.in_ok-excluded.excluded.items c.mark_excluded.new.marks.items c.is_excluded.result
     base c.requires.walk c.requires.walks words excluded tests
     ∙ ap (λ b. fault_unless (not b) (PathExcluded c.args.line)) c.if-is_excluded.true)
 
@@ -39,16 +39,16 @@ returns-clause-made c =
     let route = c.args.route.now in
     let parts = c.args.parts.now in
     let base = subst IsAreaDatabase is c.links-links.ensures.base in
-    let words = sym (ap (λ (b : Database). parts_faults b c.args.line parts) is) ∙ c.in_ok-taken.ensures.made.0 in
-    let all = c.in_ok-taken.ensures.made.1 ∙ ap (λ (b : Database). taken_by_all b g parts) is in
-    let excluded = excluded_marks d g parts c.deref.result.now c.in_ok-taken.taken.items c.self.inside.marks.items c.mark_excluded.new.marks.items
+    let words = sym (ap (λ (b : Database). parts_faults b c.args.line parts) is) ∙ c.in_ok-excluded.ensures.made.0 in
+    let all = c.in_ok-excluded.ensures.made.1 ∙ ap (λ (b : Database). excluded_by_all b g parts) is in
+    let excluded = excluded_marks d g parts c.deref.result.now c.in_ok-excluded.excluded.items c.self.inside.marks.items c.mark_excluded.new.marks.items
     (c.self.invariant.graph ∙ ap outline is) c.deref.ensures.value c.mark_excluded.ensures.marks all c.mark_excluded.ensures.count c.self.invariant.marks in
     let tests = c.is_excluded.ensures ∙ ap (λ (ms : List Bool).
     list_any (is_router_part (next_name route.hops route.last)) parts
     || list_any (λ e. slice_index_or ms e false) c.args.walk.now.path.edges) c.deref-2.ensures.value in (
-      without_faults_are d c.args.line route c.args.walk.now parts c.in_ok-taken.taken.items c.mark_excluded.new.marks.items c.is_excluded.result
+      without_faults_are d c.args.line route c.args.walk.now parts c.in_ok-excluded.excluded.items c.mark_excluded.new.marks.items c.is_excluded.result
           base c.requires.walk c.requires.walks words excluded tests
           ∙ ap (λ b. fault_unless (not b) (PathExcluded c.args.line)) c.if-is_excluded.false,
       c.in_ok-marked.ensures ∙ ap (λ (ms : List Bool). filter (λ e. slice_index_or ms e false) (numbers_from 0 (length ms))) c.deref-3.ensures.value
-          ∙ marked_are d (outline d) parts c.in_ok-taken.taken.items c.mark_excluded.new.marks.items excluded.are excluded.all excluded.count,
+          ∙ marked_are d (outline d) parts c.in_ok-excluded.excluded.items c.mark_excluded.new.marks.items excluded.are excluded.all excluded.count,
     )

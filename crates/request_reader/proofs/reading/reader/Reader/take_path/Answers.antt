@@ -1,5 +1,5 @@
 -- The path is one too many, or keeps the rules.
-use Rattle.std.proofs.Common.{List, subst, sym}
+use Rattle.std.proofs.Common.{List, refl, subst, sym}
 use Rattle.request_reader.specs.declared.Item.{Item}
 use Rattle.request_reader.specs.ReadingSteps.{KeepsTold}
 use Rattle.request_reader.proofs.ReadingPaths.{counted_now, item_told, path_kept, path_lawful, path_refused}
@@ -7,15 +7,15 @@ use Rattle.request_reader.proofs.reading.reader.Reader.take_path.Goals as goal
 
 pub returns-then-self-ge-MOST_PATHS-clause-refused : goal.returns-then-self-ge-MOST_PATHS-clause-refused
 returns-then-self-ge-MOST_PATHS-clause-refused c =
-    path_refused c.args.self.now c.args.path.line c.args.path.what c.self.inside.paths c.refusal.result
-    (counted_now c.self.inside.spoken c.self.inside.area c.self.inside.default_cost c.self.inside.items.items
+    path_refused c.args.self.now c.args.path.line c.args.path.what c.self.inside.paths c.at.result
+    (counted_now c.self.inside.area c.self.inside.default_cost c.self.inside.items.items
     c.args.self.now c.self.inside.paths c.self.view_is c.self.invariant.counted)
-    c.if-self-ge-MOST_PATHS.true c.requires.path c.refusal.ensures
+    c.if-self-ge-MOST_PATHS.true c.requires.path (rw c.at.ensures refl)
 
 pub returns-clause-taken : goal.returns-clause-taken
 returns-clause-taken c =
     path_lawful c.args.self.now c.args.path.what c.self.inside.paths
-    (counted_now c.self.inside.spoken c.self.inside.area c.self.inside.default_cost c.self.inside.items.items
+    (counted_now c.self.inside.area c.self.inside.default_cost c.self.inside.items.items
     c.args.self.now c.self.inside.paths c.self.view_is c.self.invariant.counted)
     c.if-self-ge-MOST_PATHS.false
 
@@ -31,5 +31,5 @@ invariant_of-self-2 c =
 
 pub returns-clause-told : goal.returns-clause-told
 returns-clause-told c =
-    item_told c.self.inside.spoken c.self.inside.area c.self.inside.default_cost c.self.inside.items.items
+    item_told c.self.inside.area c.self.inside.default_cost c.self.inside.items.items
     c.add_item.new.items.items c.args.path c.args.self.now c.self.view_is c.in_ok-add_item.ensures.added

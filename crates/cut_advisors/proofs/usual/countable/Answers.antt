@@ -1,9 +1,0 @@
-use Rattle.std.proofs.Common.{◌^◌, arith, sym, length-take}
-use Rattle.std.proofs.lemmas.List.{take_all}
-use Rattle.cut_advisors.proofs.usual.countable.Goals as goal
-
-pub slice_bounds-result-end : goal.slice_bounds-result-end
-slice_bounds-result-end c = let h = c.if-choices.false in simp length-take (omega arith)
-
-pub returns-then-choices : goal.returns-then-choices
-returns-then-choices c = sym (take_all (2 ^ 32) c.args.choices.now c.if-choices.true)

@@ -1,5 +1,0 @@
-use Rattle.evidence_reader.proofs.OnePlace.{one_place}
-use Rattle.evidence_reader.proofs.reading.lines_lead_once.Goals as goal
-
-pub returns : goal.returns
-returns c = one_place

@@ -1,0 +1,14 @@
+-- Its word, the count, and the numbers behind it.
+use Rattle.std.proofs.Common.{◌∙◌, ap, sym, map, ℕ, List, ◌∷◌, ◌++◌}
+use Rattle.cost_base.specs.Decimal.{decimal}
+use Rattle.evidence_text.specs.Lines.{with_words}
+use Rattle.evidence_text.proofs.WordLaws.{spaced-with}
+use Rattle.printed_parts.proofs.number_lines.counted_line.Goals as goal
+
+pub returns : goal.returns
+returns c =
+    let words = map decimal c.args.numbers.now in
+    let count = decimal c.args.count in
+    c.in_ok-push_words.ensures
+    ∙ ap (λ (first : List ℕ). with_words first words) (c.in_ok-push_count.ensures ∙ ap (λ (first : List ℕ). first ++ 32 ∷ count) c.in_ok-line.ensures.items)
+    ∙ sym (spaced-with c.args.word.now (count ∷ words))
