@@ -1,7 +1,7 @@
 """Checks what the documents claim and a machine can tell. It is run by hand, from any folder:
 
-    python3 bench/documents.py          counts, edges of the map, names, definitions, refusal numbers, texts of help,
-                                        links, what must be believed
+    python3 bench/documents.py          counts, edges of the map, names, definitions, words of commands, statuses,
+                                        refusal numbers, texts of help, quoted lines, links, what must be believed
     python3 bench/documents.py --run    besides, each command of the documents and of the texts of help, with the built
                                         program
 
@@ -12,6 +12,7 @@ A document says in comments that no reader sees what its commands print:
     <!-- begins below -->               it prints that block, and more behind it
     <!-- makes MADE as FILE -->         it makes the file MADE, which is what FILE has; it lies there for later commands
     <!-- status N -->                   it ends with this status (0 unless said)
+    <!-- lines of FILE -->              each line of the next indented block stands in FILE, in this order
 
 A line that begins with `NAME=` in a block, or in backquotes as `NAME=VALUE`, sets a name for the commands behind it.
 It prints a line for each claim that fails, counts, and ends with status 1 where one did.
@@ -454,6 +455,53 @@ def run_help(claims, folder):
             claims.claim(is_told, path, f"{command} prints something else")
 
 
+# Words of commands, statuses and quoted lines.
+
+OPTION = re.compile(r"--[a-z]+")
+# What stands for options in the table of commands.
+SHARED = {"N": "--nodes", "B": "--bits"}
+
+
+def check_commands(claims):
+    """README's table of commands has each command of the usage text, in any order, with the options that it takes."""
+    usage = text_of("crates/designer_command/src/top_call.rt")
+    called = {it.split()[0]: set(OPTION.findall(it)) for it in re.findall(r"(?m)^(?:usage:| {6}) ospfcost (.*)$", usage)}
+    told = {}
+    for number, line in enumerate(text_of("README.md").splitlines(), 1):
+        found = re.match(r"\| `([a-z]+)( [^`]*)?` \|", line)
+        if found and found.group(1) in called:
+            words = (found.group(2) or "").replace("\\|", "|")
+            options = set(OPTION.findall(words)) | {SHARED[it] for it in words.split() if it in SHARED}
+            told.setdefault(found.group(1), (number, options))
+    claims.claim(set(told) == set(called), "README.md", f"the usage text has {sorted(set(called) ^ set(told))} besides")
+    for name, (number, options) in told.items():
+        text = f"`{name}` takes {sorted(called[name])}"
+        claims.claim(options == called[name], f"README.md:{number}", text)
+
+
+def check_statuses(claims):
+    """The names and numbers of statuses in README and on the operators' page are those of the code."""
+    code = text_of("crates/cost_base/src/lib.rt")
+    spoken = {re.sub(r"(?<=.)(?=[A-Z])", " ", name).lower(): int(number)
+              for name, number in re.findall(r"Status::(\w+) => (\d),", code)}
+    for path, pattern in (("README.md", r"\b(\d) \*([a-z ]+)\*"), ("docs/operators.md", r"(?m)^\| (\d) \| ([a-z ]+) \|")):
+        told = {name: int(number) for number, name in re.findall(pattern, " ".join(text_of(path).split("\n"))
+                                                                if path == "README.md" else text_of(path))}
+        claims.claim(told == spoken, path, f"the statuses are {spoken}")
+
+
+def check_quotes(claims):
+    """The lines of a block that is said to be of a file stand in it, in their order."""
+    for path in documents():
+        lines = text_of(path).splitlines()
+        for place, line in enumerate(lines):
+            for file in re.findall(r"<!-- lines of (.*?) -->", line):
+                left = iter(text_of(file).splitlines())
+                block = block_behind(lines, place).splitlines()
+                is_so = bool(block) and all(it in left for it in block)
+                claims.claim(is_so, f"{path}:{place + 1}", f"{file} hasn't these lines")
+
+
 # Links.
 
 PATH = re.compile(r"\b((?:docs|bench|examples|crates)/(?!NAME)[A-Za-z_0-9/.-]+\.(?:md|py|sh|txt|svg|rt|antt))\b")
@@ -580,7 +628,10 @@ def main(words):
     check_definitions(claims)
     check_numbers(claims)
     check_meanings(claims)
+    check_commands(claims)
+    check_statuses(claims)
     check_help(claims)
+    check_quotes(claims)
     check_links(claims)
     check_believed(claims)
     if words:
