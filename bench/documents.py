@@ -460,12 +460,18 @@ def run_help(claims, folder):
 OPTION = re.compile(r"--[a-z]+")
 # What stands for options in the table of commands.
 SHARED = {"N": "--nodes", "B": "--bits"}
+# How statuses are told: a number, and a name.
+STATUSES = {
+    "README.md": r"\b(\d) \*([a-z\s]+)\*",
+    "docs/operators.md": r"(?m)^\| (\d) \| ([a-z ]+) \|",
+}
 
 
 def check_commands(claims):
     """README's table of commands has each command of the usage text, in any order, with the options that it takes."""
     usage = text_of("crates/designer_command/src/top_call.rt")
-    called = {it.split()[0]: set(OPTION.findall(it)) for it in re.findall(r"(?m)^(?:usage:| {6}) ospfcost (.*)$", usage)}
+    lines = re.findall(r"(?m)^(?:usage:| {6}) ospfcost (.*)$", usage)
+    called = {line.split()[0]: set(OPTION.findall(line)) for line in lines}
     told = {}
     for number, line in enumerate(text_of("README.md").splitlines(), 1):
         found = re.match(r"\| `([a-z]+)( [^`]*)?` \|", line)
@@ -482,11 +488,11 @@ def check_commands(claims):
 def check_statuses(claims):
     """The names and numbers of statuses in README and on the operators' page are those of the code."""
     code = text_of("crates/cost_base/src/lib.rt")
-    spoken = {re.sub(r"(?<=.)(?=[A-Z])", " ", name).lower(): int(number)
-              for name, number in re.findall(r"Status::(\w+) => (\d),", code)}
-    for path, pattern in (("README.md", r"\b(\d) \*([a-z ]+)\*"), ("docs/operators.md", r"(?m)^\| (\d) \| ([a-z ]+) \|")):
-        told = {name: int(number) for number, name in re.findall(pattern, " ".join(text_of(path).split("\n"))
-                                                                if path == "README.md" else text_of(path))}
+    spoken = {}
+    for name, number in re.findall(r"Status::(\w+) => (\d),", code):
+        spoken[re.sub(r"(?<=.)(?=[A-Z])", " ", name).lower()] = int(number)
+    for path, pattern in STATUSES.items():
+        told = {" ".join(name.split()): int(number) for number, name in re.findall(pattern, text_of(path))}
         claims.claim(told == spoken, path, f"the statuses are {spoken}")
 
 
