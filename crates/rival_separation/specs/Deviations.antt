@@ -14,22 +14,20 @@ pub record IsOnward (g : Area) (p : Point) (excluded : List ℕ) (room : Finding
   pub distance : distance_at room (edge_at g e).to ≡ Some rest
   pub sums : total ≡ price_at p (edge_at g e).price + rest
 
--- at the vertex of a deviation's place the path may be left by an edge that isn't excluded, and from the edge's end on
--- some path costs least
-pub record Offers (g : Area) (p : Point) (excluded : List ℕ) (room : Findings) (path : List ℕ) (place e total : ℕ) : Type 0 where
+-- at the vertex of its place the path may be left by another edge, and with the cheapest way on from there it costs so much
+pub record DeviatesFromPath (g : Area) (p : Point) (excluded : List ℕ) (room : Findings) (path : List ℕ) (place e total : ℕ) : Type 0 where
   pub rest : ℕ
   pub within : place < length path
   pub known : e < length g.edges
   pub from : (edge_at g e).from ≡ (edge_at g (slice_index path place)).from
   pub other : e ≢ slice_index path place
-  pub left : Lacks excluded e
-  pub distance : distance_at room (edge_at g e).to ≡ Some rest
-  pub sums : total ≡ cost g p (take place path) + (price_at p (edge_at g e).price + rest)
+  pub onward : IsOnward g p excluded room e rest
+  pub sums : total ≡ cost g p (take place path) + rest
 
--- the best of the offers that were seen: none of them costs less; or none was made
-abbrev pub IsBestOffer : (ℕ → ℕ → ℕ → Type 0) → (ℕ → ℕ → Type 0) → Option Deviation → Type 0
-IsBestOffer Offer Seen None = (place e total : ℕ) → Seen place e → Offer place e total → ⊥
-IsBestOffer Offer Seen (Some best) = Offer best.place best.edge best.cost × ((place e total : ℕ) → Seen place e → Offer place e total → best.cost ≤ total)
+-- the best of the deviations that were seen: none of them costs less; or there was none
+abbrev pub IsBestDeviation : (ℕ → ℕ → ℕ → Type 0) → (ℕ → ℕ → Type 0) → Option Deviation → Type 0
+IsBestDeviation Deviates Seen None = (place e total : ℕ) → Seen place e → Deviates place e total → ⊥
+IsBestDeviation Deviates Seen (Some best) = Deviates best.place best.edge best.cost × ((place e total : ℕ) → Seen place e → Deviates place e total → best.cost ≤ total)
 
 -- the better of the best deviation so far and a later one: the first, unless the later one costs less
 abbrev pub IsBetter : Option Deviation → Deviation → Deviation → Type 0
