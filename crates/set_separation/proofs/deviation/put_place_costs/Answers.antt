@@ -6,8 +6,8 @@ use Rattle.area_graph.proofs.Bounds.{price-le}
 use Rattle.design_problem.specs.Problems.{request_ends}
 use Rattle.set_separation.specs.declared.prefix_tree.Step.{Step}
 use Rattle.set_separation.specs.PrefixTrees.{step_at}
-use Rattle.set_separation.proofs.DepartureLemmas.{place_below, step_known}
-use Rattle.set_separation.proofs.departure.put_place_costs.Goals as goal
+use Rattle.set_separation.proofs.DeviationLemmas.{place_below, step_known}
+use Rattle.set_separation.proofs.deviation.put_place_costs.Goals as goal
 
 pub edge_of-requires : goal.edge_of-requires
 edge_of-requires c =

@@ -1,7 +1,7 @@
 use Rattle.std.proofs.Common.{rules, arith, length}
 use Rattle.design_problem.specs.Problems.{request_ends}
-use Rattle.set_separation.proofs.DepartureLemmas.{place_below}
-use Rattle.set_separation.proofs.departure.departure.Goals as goal
+use Rattle.set_separation.proofs.DeviationLemmas.{place_below}
+use Rattle.set_separation.proofs.deviation.deviation_cost.Goals as goal
 
 pub overflow_add-result : goal.overflow_add-result
 overflow_add-result c =
@@ -14,7 +14,7 @@ overflow_add-result c =
     omega arith
 
 pub returns-in-None : goal.returns-in-None
-returns-in-None c = λ total departs. c.in-None.ensures.onward departs.rest departs.onward
+returns-in-None c = λ total deviates. c.in-None.ensures.onward deviates.rest deviates.onward
 
 pub returns-in-Some : goal.returns-in-Some
 returns-in-Some c = search rules

@@ -1,6 +1,6 @@
 use Rattle.std.proofs.Common.{◌≡◌, length}
-use Rattle.set_separation.specs.Departures.{ArePlaceCosts}
-use Rattle.set_separation.proofs.departure.put_place_costs.Given as goal
+use Rattle.set_separation.specs.Deviations.{ArePlaceCosts}
+use Rattle.set_separation.proofs.deviation.put_place_costs.Given as goal
 
 abbrev pub invariant-loop-i : goal.invariant-loop-i
 invariant-loop-i l = record {

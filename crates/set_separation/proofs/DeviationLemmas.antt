@@ -1,4 +1,4 @@
--- Departures from a tree of prefixes: where they begin, what they cost, and that each outsider takes one.
+-- Deviations from a tree of prefixes: where they begin, what they cost, and that each outsider takes one.
 use Rattle.std.proofs.Common.{◌≡◌, ◌≢◌, ℕ, zero, suc, ◌+◌, ◌*◌, ◌^◌, ◌<◌, ◌≤◌, refl, sym, ◌∙◌, ap, subst, inl, inr, ◌⊎◌, List, [], ◌∷◌, ◌++◌, length, get_or, arith, append_assoc, length-append, add-one, Bool, true, false}
 use Rattle.std.specs.Prelude.{All, Contains, slice_index}
 use Rattle.std.specs.List.{list_any}
@@ -19,12 +19,12 @@ use Rattle.area_graph.proofs.Bounds.{cost_below}
 use Rattle.spf_ties.specs.Distances.{Findings, distance_at}
 use Rattle.design_problem.proofs.PathBounds.{simple-short}
 use Rattle.rival_separation.specs.Rivals.{HasWay, IsFollowedByLeast, HasDistancesBelow, ends_from}
-use Rattle.rival_separation.proofs.OfferLemmas.{OffersOnce}
+use Rattle.rival_separation.proofs.DeviationLemmas.{DeviatesOnce}
 use Rattle.rival_separation.proofs.RivalLemmas.{is_least, some_least}
 use Rattle.set_separation.specs.declared.prefix_tree.Step.{Step}
 use Rattle.set_separation.specs.Outsiders.{CostAtLeast, IsCheapestOutsider, IsOutsider}
 use Rattle.set_separation.specs.PrefixTrees.{BeginsOneOf, HasStep, IsPrefixTree, no_step, prefix_of_place, step_at}
-use Rattle.set_separation.specs.Departures.{ArePlaceCosts, Departs, place_vertex}
+use Rattle.set_separation.specs.Deviations.{ArePlaceCosts, DeviatesFromTree, place_vertex}
 use Rattle.set_separation.proofs.PrefixLemmas.{any_step, is_step}
 
 -- Paths that are cut.
@@ -141,9 +141,9 @@ module _ (g : Area) (ends : Ends) (wanted : List (List ℕ)) (steps : List Step)
       let below = prefix_below p graph metrics fits k (omega arith) in
       omega arith
 
--- a departure by an edge at a place has one cost
-pub departs_once : (g : Area) (p : Point) (ends : Ends) (room : Findings) (steps : List Step) (costs : List ℕ) → OffersOnce (Departs g p ends room steps costs)
-departs_once g p ends room steps costs k e a b one two =
+-- a deviation by an edge at a place has one cost
+pub deviates_once : (g : Area) (p : Point) (ends : Ends) (room : Findings) (steps : List Step) (costs : List ℕ) → DeviatesOnce (DeviatesFromTree g p ends room steps costs)
+deviates_once g p ends room steps costs k e a b one two =
     let rest = same_Some one.onward.rest two.onward.rest (sym one.onward.distance ∙ two.onward.distance) in
     let first = one.onward.sums in
     let second = two.onward.sums in
@@ -165,12 +165,12 @@ has_or_lacks steps k e = by_test (list_any (is_step k e) steps) refl
           eq-eqb e (step_at steps has.0).edge (sym has.1.by),
         ) refl)))
 
--- the departure that a walk takes
-record Departed (g : Area) (p : Point) (ends : Ends) (room : Findings) (steps : List Step) (costs : List ℕ) (most : ℕ) : Type 0 where
+-- the deviation by which a walk leaves the tree
+record Deviated (g : Area) (p : Point) (ends : Ends) (room : Findings) (steps : List Step) (costs : List ℕ) (most : ℕ) : Type 0 where
   place : ℕ
   edge : ℕ
   total : ℕ
-  departs : Departs g p ends room steps costs place edge total
+  deviates : DeviatesFromTree g p ends room steps costs place edge total
   within : total ≤ most
 
 module _ (g : Area) (p : Point) (ends : Ends) (limit : ℕ) (room : Findings) (wanted : List (List ℕ)) (steps : List Step)
@@ -203,7 +203,7 @@ module _ (g : Area) (p : Point) (ends : Ends) (limit : ℕ) (room : Findings) (w
           absurd (ends_visited g (edge_at g e).to more ends.end behind.2 once.0)
 
   leaves : (q : List ℕ) → IsOutsider g ends wanted q → cost g p q < limit → (k : ℕ) → k ≤ length steps →
-      (rest : List ℕ) → q ≡ place_prefix k ++ rest → Departed g p ends room steps costs (cost g p q)
+      (rest : List ℕ) → q ≡ place_prefix k ++ rest → Deviated g p ends room steps costs (cost g p q)
   leaves q outsider near k known [] same =
       absurd (All-contains (λ w. q ≢ w) wanted q outsider.other (ended q outsider.path k known (same ∙ append-nil (place_prefix k))) refl)
   leaves q outsider near k known (e ∷ rest) same = elim (has_or_lacks steps k e) [
@@ -232,7 +232,7 @@ module _ (g : Area) (p : Point) (ends : Ends) (limit : ℕ) (room : Findings) (w
           place = k;
           edge = e;
           total = slice_index costs k + (price_at p (edge_at g e).price + some.least);
-          departs = record {
+          deviates = record {
             rest = price_at p (edge_at g e).price + some.least;
             within = known;
             known = parts.behind.0;
@@ -245,38 +245,38 @@ module _ (g : Area) (p : Point) (ends : Ends) (limit : ℕ) (room : Findings) (w
         })
   ]
 
-  -- no outsider costs less than every departure, where that is within the limit
+  -- no outsider costs less than every deviation, where that is within the limit
   pub outsiders_above : (most : ℕ) → most ≤ limit →
-      ((k e total : ℕ) → Departs g p ends room steps costs k e total → most ≤ total) → CostAtLeast g p ends wanted most
+      ((k e total : ℕ) → DeviatesFromTree g p ends room steps costs k e total → most ≤ total) → CostAtLeast g p ends wanted most
   outsiders_above most far above = λ q outsider. elim (cases_lt (cost g p q) limit) [
     | inl near ↦ (
-        let departed = leaves q outsider near 0 (omega arith) q (ap (λ (es : List ℕ). es ++ q) (sym tree.grown.root)) in
-        let least = above departed.place departed.edge departed.total departed.departs in
-        let within = departed.within in
+        let deviated = leaves q outsider near 0 (omega arith) q (ap (λ (es : List ℕ). es ++ q) (sym tree.grown.root)) in
+        let least = above deviated.place deviated.edge deviated.total deviated.deviates in
+        let within = deviated.within in
         omega arith)
     | inr beyond ↦ omega arith
   ]
 
   module _ (most place e total : ℕ) (fits : FitsPoint g p) (tied : All (λ w. cost g p w ≡ most) wanted)
-      (departs : Departs g p ends room steps costs place e total) (best : (k i other : ℕ) →
-      Departs g p ends room steps costs k i other → total ≤ other) (cheap : total < most + p.scale)
+      (deviates : DeviatesFromTree g p ends room steps costs place e total) (best : (k i other : ℕ) →
+      DeviatesFromTree g p ends room steps costs k i other → total ≤ other) (cheap : total < most + p.scale)
       (far : most + p.scale ≤ limit) where
-    -- the best departure, where it is cheap, makes with any path of least cost a cheapest outsider
+    -- the best deviation, where it is cheap, makes with any path of least cost a cheapest outsider
     pub cheapest_by : (rest : List ℕ) → IsPathOf g (ends_from ends (edge_at g e).to) rest →
-        cost g p rest ≡ departs.onward.rest →
+        cost g p rest ≡ deviates.onward.rest →
         IsCheapestOutsider g p ends wanted (most + p.scale) (place_prefix place ++ e ∷ rest)
     cheapest_by rest path costs_so =
         let within : total ≤ limit = omega arith in
         let front = place_prefix place in
-        let start = place_joins g ends wanted steps tree place departs.within in
-        let joins = join g ends.start front (e ∷ rest) (place_vertex g ends steps place) ends.end start (departs.known, departs.from, path.simple.joins) in
-        let kept = each_append (Lacks ends.excluded) front (e ∷ rest) (place_avoids g ends wanted steps tree place departs.within)
-        (departs.onward.left, path.kept) in
-        let here = prefix_cost g ends wanted steps tree p costs (length steps) (omega arith) are place place (omega arith) departs.within in
+        let start = place_joins g ends wanted steps tree place deviates.within in
+        let joins = join g ends.start front (e ∷ rest) (place_vertex g ends steps place) ends.end start (deviates.known, deviates.from, path.simple.joins) in
+        let kept = each_append (Lacks ends.excluded) front (e ∷ rest) (place_avoids g ends wanted steps tree place deviates.within)
+        (deviates.onward.left, path.kept) in
+        let here = prefix_cost g ends wanted steps tree p costs (length steps) (omega arith) are place place (omega arith) deviates.within in
         let split = sum_by-append (λ i. price_at p (edge_at g i).price) front (e ∷ rest) in
         let longer = sum_by-cons (λ i. price_at p (edge_at g i).price) e rest in
-        let sums = departs.sums in
-        let onward = departs.onward.sums in
+        let sums = deviates.sums in
+        let onward = deviates.onward.sums in
         let whole : cost g p (front ++ e ∷ rest) ≡ total = omega arith in
         let simple = simple_in_walk g p ends.excluded ends.start (front ++ e ∷ rest) ends.end graph fits joins kept in
         let start_known = (begun_path g ends wanted steps tree 0 (omega arith)).simple.start in
@@ -302,31 +302,31 @@ module _ (g : Area) (p : Point) (ends : Ends) (limit : ℕ) (room : Findings) (w
         record {
           outsider = record {
             path = record { simple = record { start = start_known; end = path.simple.end; joins = joins; none_twice = once }; kept = kept };
-            other = λ k d k_in same. departs.other
+            other = λ k d k_in same. deviates.other
                 (tree.grown.passed (get_or wanted k d) (k, k_in, get_or_default wanted k _ d k_in) place e rest
-                departs.within (sym same));
+                deviates.within (sym same));
           };
           cheap = omega (arith, whole, cheap);
           none_less = λ others outsider. (let above = outsiders_above total within best others outsider in omega (arith, whole, above));
         }
 
     -- so not every outsider costs as much as the wanted paths and the scale
-    pub undercut_by : CostAtLeast g p ends wanted (most + p.scale) → ⊥
-    undercut_by above =
-        let edge : FitsEdge g (edge_at g e) = graph.edges e no_edge departs.known in
-        let least = is_least g p (ends_from ends (edge_at g e).to) limit (distance_at room (edge_at g e).to) departs.onward.rest
-        (found.least (edge_at g e).to edge.to) departs.onward.distance in
+    pub leads_not : CostAtLeast g p ends wanted (most + p.scale) → ⊥
+    leads_not above =
+        let edge : FitsEdge g (edge_at g e) = graph.edges e no_edge deviates.known in
+        let least = is_least g p (ends_from ends (edge_at g e).to) limit (distance_at room (edge_at g e).to) deviates.onward.rest
+        (found.least (edge_at g e).to edge.to) deviates.onward.distance in
         let whole = cheapest_by least.path least.is_path least.costs in
         let no_less = above (place_prefix place ++ e ∷ least.path) whole.outsider in
         let below = whole.cheap in
         omega arith
 
-    -- so there is a way on from the departure's edge, behind the place's prefix and that edge
+    -- so there is a way on from the deviation's edge, behind the place's prefix and that edge
     pub way_on : HasWay g p ends (record room { path = place_prefix place ++ e ∷ [] }) (edge_at g e).to
     way_on = record {
-      known = (graph.edges e no_edge departs.known).to;
-      least = departs.onward.rest;
-      distance = departs.onward.distance;
+      known = (graph.edges e no_edge deviates.known).to;
+      least = deviates.onward.rest;
+      distance = deviates.onward.distance;
       short = λ rest path costs_so.
           let whole = cheapest_by rest path costs_so in
           let short = simple-short g ends.start (place_prefix place ++ e ∷ rest) ends.end graph whole.outsider.path.simple in
@@ -339,6 +339,6 @@ module _ (g : Area) (p : Point) (ends : Ends) (limit : ℕ) (room : Findings) (w
         IsFollowedByLeast g p ends (record room { path = place_prefix place ++ e ∷ [] }) (edge_at g e).to walk →
         IsCheapestOutsider g p ends wanted (most + p.scale) walk
     followed_cheapest walk followed =
-        let costs_so = same_Some (cost g p followed.rest) departs.onward.rest (sym followed.costs ∙ departs.onward.distance) in
+        let costs_so = same_Some (cost g p followed.rest) deviates.onward.rest (sym followed.costs ∙ deviates.onward.distance) in
         let whole = cheapest_by followed.rest followed.path costs_so in
         subst (IsCheapestOutsider g p ends wanted (most + p.scale)) (sym (followed.same ∙ append_assoc (place_prefix place) (e ∷ []) followed.rest)) whole

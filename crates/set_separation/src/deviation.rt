@@ -1,12 +1,12 @@
-//! The departure of least cost from a tree of prefixes.
+//! The deviation of least cost from a tree of prefixes.
 
 ghost use Rattle.std.specs.Prelude.{◌≡◌, ℕ, ◌+◌, ◌<◌, ◌≤◌, MatchOption, length, slice_index};
 ghost use Rattle.area_graph.specs.Area.{edge_at};
 ghost use Rattle.design_problem.specs.Problems.{request_ends};
-ghost use Rattle.rival_separation.specs.Offers.{IsBestOffer};
+ghost use Rattle.rival_separation.specs.Deviations.{IsBestDeviation};
 ghost use Rattle.rival_separation.specs.Outlooks.{FitsOutlook, HasDistances};
-ghost use Rattle.set_separation.specs.Departures.{ArePlaceCosts, place_vertex};
-ghost use Rattle.set_separation.specs.SeenTrees.{DepartsHere, HasPrefixTree, IsCosted};
+ghost use Rattle.set_separation.specs.Deviations.{ArePlaceCosts, place_vertex};
+ghost use Rattle.set_separation.specs.SeenTrees.{DeviatesHere, HasPrefixTree, IsCosted};
 
 use crate::PrefixTree;
 use area_graph::{edge_of, price_of};
@@ -54,7 +54,7 @@ fn vertex_of(outlook: &Outlook<'_>, tree: &PrefixTree, place: usize) -> u32
 
 /// What the cheapest walk costs that leaves the tree at a place by an edge; None where the edge leads to another place
 /// or is excluded, or where no path leads on from it.
-fn departure(
+fn deviation_cost(
     outlook: &Outlook<'_>,
     room: &Room,
     costed: &CostedTree<'_>,
@@ -78,8 +78,8 @@ fn departure(
 
     // There is a cost exactly where the edge leaves the tree with a way on to the request's end.
     ensures { MatchOption result
-        ((total : ℕ) → DepartsHere outlook.now room.now costed.now place number total → ⊥)
-        (λ total. DepartsHere outlook.now room.now costed.now place number total) }
+        ((total : ℕ) → DeviatesHere outlook.now room.now costed.now place number total → ⊥)
+        (λ total. DeviatesHere outlook.now room.now costed.now place number total) }
 {
     outlook.graph.keeps_conditions();
     if costed.tree.next(place, number).is_some() {
@@ -91,7 +91,7 @@ fn departure(
     }
 }
 
-/// The best of the departures before a place and at it; `best` is the best of those before it.
+/// The best of the deviations before a place and at it; `best` is the best of those before it.
 fn best_at(
     outlook: &Outlook<'_>,
     room: &Room,
@@ -107,26 +107,26 @@ fn best_at(
     requires tree { HasPrefixTree outlook.now costed.now.tree.now }
     requires costs { IsCosted outlook.now costed.now }
 
-    // The best of the departures before the place becomes the best of those up to it.
+    // The best of the deviations before the place becomes the best of those up to it.
     requires place { place ≤ length costed.now.tree.now }
-    requires best { IsBestOffer (DepartsHere outlook.now room.now costed.now)
+    requires best { IsBestDeviation (DeviatesHere outlook.now room.now costed.now)
         (λ earlier e. earlier < place) best }
-    ensures { IsBestOffer (DepartsHere outlook.now room.now costed.now)
+    ensures { IsBestDeviation (DeviatesHere outlook.now room.now costed.now)
         (λ earlier e. earlier < place + 1) result }
 {
     outlook.graph.keeps_conditions();
     let mut found = best;
     let vertex = vertex_of(outlook, costed.tree, place);
     for number in outlook.graph.edges_out(vertex) {
-        let cost = departure(outlook, room, costed, place, *number);
+        let cost = deviation_cost(outlook, room, costed, place, *number);
         found = better_by(found, place, *number, cost);
     }
     found
 }
 
-/// The departure of least cost from a tree: places are tried in order, edges out of a vertex in rising order, and the
+/// The deviation of least cost from a tree: places are tried in order, edges out of a vertex in rising order, and the
 /// first of least cost is kept. None where no walk leaves the tree and comes to the end of the request.
-pub(crate) fn least_departure(
+pub(crate) fn least_deviation(
     outlook: &Outlook<'_>,
     room: &Room,
     costed: &CostedTree<'_>,
@@ -135,7 +135,7 @@ pub(crate) fn least_departure(
     requires found { HasDistances outlook.now room.now }
     requires tree { HasPrefixTree outlook.now costed.now.tree.now }
     requires costs { IsCosted outlook.now costed.now }
-    ensures { IsBestOffer (DepartsHere outlook.now room.now costed.now)
+    ensures { IsBestDeviation (DeviatesHere outlook.now room.now costed.now)
         (λ place e. place ≤ length costed.now.tree.now) result }
 {
     let mut best = None;

@@ -5,7 +5,7 @@ use Rattle.area_graph.specs.Area.{Area, edge_at}
 use Rattle.area_graph.specs.Paths.{Ends}
 use Rattle.area_graph.specs.Costs.{cost, price_at}
 use Rattle.spf_ties.specs.Distances.{Findings}
-use Rattle.rival_separation.specs.Offers.{IsOnward}
+use Rattle.rival_separation.specs.Deviations.{IsOnward}
 use Rattle.set_separation.specs.declared.prefix_tree.Step.{Step}
 use Rattle.set_separation.specs.PrefixTrees.{HasStep, IsPrefixTree, step_at}
 
@@ -26,7 +26,7 @@ pub record IsTiedTree (g : Area) (p : Point) (ends : Ends) (most : ℕ) (wanted 
   pub tied : All (λ w. cost g p w ≡ most) wanted
 
 -- at its vertex the place may be left by an edge that leads to no place, and with the cheapest way on from there it costs so much
-pub record Departs (g : Area) (p : Point) (ends : Ends) (room : Findings) (steps : List Step) (costs : List ℕ) (place e total : ℕ) : Type 0 where
+pub record DeviatesFromTree (g : Area) (p : Point) (ends : Ends) (room : Findings) (steps : List Step) (costs : List ℕ) (place e total : ℕ) : Type 0 where
   pub rest : ℕ
   pub within : place ≤ length steps
   pub known : e < length g.edges

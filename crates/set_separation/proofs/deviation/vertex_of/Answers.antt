@@ -2,8 +2,8 @@ use Rattle.std.proofs.Common.{◌-◌, ◌<◌, sym, subst, arith, List, length}
 use Rattle.design_problem.specs.Problems.{request_ends}
 use Rattle.set_separation.specs.declared.prefix_tree.Step.{Step}
 use Rattle.set_separation.specs.PrefixTrees.{step_at}
-use Rattle.set_separation.proofs.DepartureLemmas.{step_known}
-use Rattle.set_separation.proofs.departure.vertex_of.Goals as goal
+use Rattle.set_separation.proofs.DeviationLemmas.{step_known}
+use Rattle.set_separation.proofs.deviation.vertex_of.Goals as goal
 
 pub edge_of-requires : goal.edge_of-requires
 edge_of-requires c =
