@@ -28,8 +28,8 @@ fn set_row_line(alloc: Global, row: &SetRow) -> Result<Vec<u8>, OutOfMemory>
     ensures { IfOk result (λ line. line.items ≡ set_row_line row.now) }
 {
     match row {
-        SetRow::Rival(set, rival) => {
-            counted_line(alloc, b"row", u64::from(*set), rival.as_slice())
+        SetRow::Outsider(set, outsider) => {
+            counted_line(alloc, b"row", u64::from(*set), outsider.as_slice())
         }
         SetRow::Same(set, first, other) => number_line(alloc, b"same", &[*set, *first, *other]),
     }

@@ -7,7 +7,7 @@ use Rattle.area_graph.specs.Paths.{Ends}
 use Rattle.spf_ties.specs.Distances.{Findings}
 use Rattle.set_separation.specs.declared.prefix_tree.Step.{Step}
 use Rattle.set_separation.specs.PrefixTrees.{IsGrown, IsPrefixTree, prefix_of_place, step_at}
-use Rattle.set_separation.proofs.DepartureLemmas.{place_short}
+use Rattle.set_separation.proofs.DeviationLemmas.{place_short}
 
 -- the edges, last first, from an earlier place to a place
 pub record IsPutBack (steps : List Step) (place earlier : ℕ) (path : List ℕ) : Type 0 where

@@ -16,7 +16,7 @@ use Rattle.printed_rows.proofs.SheetLaws.{pairs_first, pairs_left}
 use Rattle.set_reader.specs.Reading.{stands_in}
 use Rattle.set_reader.specs.SpreadSets.{AreSetsOf, IsSetOf}
 use Rattle.spread_sets.specs.declared.spread.SetRow.{SetRow}
-use Rattle.spread_sets.specs.declared.spread.SetRow.TheVariants.{Rival, Same}
+use Rattle.spread_sets.specs.declared.spread.SetRow.TheVariants.{Outsider, Same}
 use Rattle.spread_sets.specs.Spreads.{SetRowsDiffer, all_sets, edges_of, name_of_set, form_of_set_row, is_first, name_of, set_of}
 use Rattle.spread_sets.specs.MemberSets.{AreDistinctSets}
 use Rattle.spread_sets.specs.Sources.{KnownSets, set_at, tie_rows, ties_in, ties_of}
@@ -38,9 +38,9 @@ pairs_append {X} R (x ∷ xs) ys first second across =
 -- Rows of ties.
 
 names_differ : (a b : SetRow) → name_of a ≢ name_of b → SetRowsDiffer a b
-names_differ (Rival a rival) (Rival b other) differ = λ same edges. differ same
-names_differ (Rival a rival) (Same b i j) differ = tt
-names_differ (Same a i j) (Rival b rival) differ = tt
+names_differ (Outsider a outsider) (Outsider b other) differ = λ same edges. differ same
+names_differ (Outsider a outsider) (Same b i j) differ = tt
+names_differ (Same a i j) (Outsider b outsider) differ = tt
 names_differ (Same a i j) (Same b k l) differ = λ same first second. differ same
 
 -- a member that isn't among those of the ties
@@ -111,26 +111,26 @@ tie_rows_differ (set ∷ sets) names members =
     (λ other differ. names_differ row other (λ same. differ (sym is ∙ same))) (tie_rows sets) others)
     (ties_in set) (ties_named name set))
 
--- Rivals that come.
+-- Outsiders that come.
 
 not_below : (z : ℤ) → pos 0 ≤ℤ z → z <ℤ pos 0 → ⊥
 not_below z above below = omega (arith, ints, above, below)
 
--- a rival that is too cheap differs from each row that was passed
-pub passed_differs : (s : KnownSets) (point : Point) (count : ℕ) (row : SetRow) (rival : List ℕ) →
+-- an outsider that is too cheap differs from each row that was passed
+pub passed_differs : (s : KnownSets) (point : Point) (count : ℕ) (row : SetRow) (outsider : List ℕ) →
     AreDistinctSets s.sets → count < length s.sets →
-    value_at (form_of_set_row s.problem (Rival (name_of_set (set_at s.sets count)) rival)) point <ℤ pos 0 →
-    IsPassed s point count row → SetRowsDiffer row (Rival (name_of_set (set_at s.sets count)) rival)
-passed_differs s point count (Same name i j) rival distinct inside negative passed = tt
-passed_differs s point count (Rival name other) rival distinct inside negative (inl earlier) =
+    value_at (form_of_set_row s.problem (Outsider (name_of_set (set_at s.sets count)) outsider)) point <ℤ pos 0 →
+    IsPassed s point count row → SetRowsDiffer row (Outsider (name_of_set (set_at s.sets count)) outsider)
+passed_differs s point count (Same name i j) outsider distinct inside negative passed = tt
+passed_differs s point count (Outsider name other) outsider distinct inside negative (inl earlier) =
     λ same edges. distinct.names earlier.0 count [] earlier.1 inside (sym earlier.2 ∙ same)
-passed_differs s point count (Rival name other) rival distinct inside negative (inr met) =
+passed_differs s point count (Outsider name other) outsider distinct inside negative (inr met) =
     λ same edges.
     let p = s.problem in
     let value_of : ℕ → List ℕ → ℤ = λ k es. value_at (form_between p.graph (length p.low) (edges_of p k) es) point in
-    let one : value_of name other ≡ value_of (name_of_set (set_at s.sets count)) rival =
+    let one : value_of name other ≡ value_of (name_of_set (set_at s.sets count)) outsider =
     ap (λ (k : ℕ). value_of k other) same ∙ ap (value_of (name_of_set (set_at s.sets count))) edges in
-    not_below (value_of (name_of_set (set_at s.sets count)) rival) (subst (λ (z : ℤ). pos 0 ≤ℤ z) one met) negative
+    not_below (value_of (name_of_set (set_at s.sets count)) outsider) (subst (λ (z : ℤ). pos 0 ≤ℤ z) one met) negative
 
 pub passed_more : (s : KnownSets) (point : Point) (count : ℕ) (row : SetRow) → IsPassed s point count row → IsPassed s point (count + 1) row
 passed_more s point count row (inl earlier) = inl (earlier.0, (let before = earlier.1 in omega arith), earlier.2)

@@ -31,7 +31,7 @@ use Rattle.printed_rows.proofs.TreeCopies.{IsCopy, all_printed, copy_closed, cop
 use Rattle.printed_rows.proofs.TreeLines.{spaced-le, thing_digits}
 use Rattle.set_separation.specs.Outsiders.{IsOutsider}
 use Rattle.spread_sets.specs.declared.spread.SetRow.{SetRow}
-use Rattle.spread_sets.specs.declared.spread.SetRow.TheVariants.{Rival, Same}
+use Rattle.spread_sets.specs.declared.spread.SetRow.TheVariants.{Outsider, Same}
 use Rattle.spread_sets.specs.declared.spread.Spread.TheVariants.{Fit, Impossible, Undecided}
 use Rattle.spread_sets.specs.Spreads.{IsFormOfSetRow, IsSetRow, SetRowsDiffer, SharesEach, edges_of, ends_in, name_of_set, form_of_set_row, forms_of_set_rows, paths_of}
 use Rattle.printed_rows.specs.FittingTexts.{FitText, IsTextLine}
@@ -62,12 +62,12 @@ first_other : (p : DesignProblem) (set es : List ℕ) → 0 < length set → All
 first_other p [] es some other = absurd (omega arith)
 first_other p (i ∷ more) es some other = other 0 [] (omega arith)
 
-rival_row : (p : DesignProblem) (set : List ℕ) (rival : List ℕ) → IsMemberSet p set →
-    IsOutsider p.graph (ends_in p set) (paths_of p set) rival →
-    IsRivalOf p.graph (slice_get p.paths (name_of_set set)) rival
-rival_row p set rival is outsider =
-    rival_is p.graph p.paths (name_of_set set) rival (member_known p set (name_of_set set) is (first_listed set is.some))
-    outsider.path (first_other p set rival is.some outsider.other)
+outsider_row : (p : DesignProblem) (set es : List ℕ) → IsMemberSet p set →
+    IsOutsider p.graph (ends_in p set) (paths_of p set) es →
+    IsRivalOf p.graph (slice_get p.paths (name_of_set set)) es
+outsider_row p set es is outsider =
+    rival_is p.graph p.paths (name_of_set set) es (member_known p set (name_of_set set) is (first_listed set is.some))
+    outsider.path (first_other p set es is.some outsider.other)
 
 same_short : (name i j : ℕ) → name < 2 ^ 32 → i < 2 ^ 32 → j < 2 ^ 32 → IsTextLine (set_row_line (Same name i j))
 same_short name i j first second third =
@@ -75,10 +75,10 @@ same_short name i j first second third =
     omega (arith, thing_digits name first, thing_digits i second, thing_digits j third)
 
 set_row_short : (p : DesignProblem) (sets : List (List ℕ)) (row : SetRow) → IsProblemOnGraph p → AreMemberSets p sets → IsSetRow p sets row → IsTextLine (set_row_line row)
-set_row_short p sets (Rival name rival) kept are is =
+set_row_short p sets (Outsider name es) kept are is =
     let set_is = All-contains (IsMemberSet p) sets is.0 are is.1.listed in
-    let row : Row = record { request = name; rival = rival } in
-    let is_row : IsRow p row = subst (λ (k : ℕ). IsRivalOf p.graph (slice_get p.paths k) rival) is.1.first (rival_row p is.0 rival set_is is.2) in
+    let row : Row = record { request = name; rival = es } in
+    let is_row : IsRow p row = subst (λ (k : ℕ). IsRivalOf p.graph (slice_get p.paths k) es) is.1.first (outsider_row p is.0 es set_is is.2) in
     rows_short p (row ∷ []) kept.problem kept.graph (All-cons (IsRow p) row [] is_row (All-nil (IsRow p))) 0 row (omega arith)
 set_row_short p sets (Same name i j) kept are is =
     let set = is.0 in

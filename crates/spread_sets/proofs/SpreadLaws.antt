@@ -9,7 +9,7 @@ use Rattle.area_graph.specs.Paths.{IsPathOf}
 use Rattle.area_graph.specs.Costs.{at_costs, cost}
 use Rattle.design_problem.specs.Problems.{DesignProblem, IsProblem}
 use Rattle.design_problem.proofs.AtCosts.{value_at_costs}
-use Rattle.spread_sets.specs.declared.spread.SetRow.TheVariants.{Rival, Same}
+use Rattle.spread_sets.specs.declared.spread.SetRow.TheVariants.{Outsider, Same}
 use Rattle.spread_sets.specs.Spreads.{IsNamed, IsSpreadFit, Shares, all_sets, cost_of_set, edges_of, ends_in, name_of_set, form_of_set_row, paths_of}
 use Rattle.spread_sets.specs.MemberSets.{IsMemberSet}
 use Rattle.spread_sets.specs.Laws.{CheapestAreMembers, MeetsSetRows, SpreadMeansMet}
@@ -48,7 +48,7 @@ set_shares p sets w set kept count meets has =
       dearer = λ es outsider.
           dearer (cost_of es) (cost_of (edges_of p first))
           (subst (λ (z : ℤ). pos 0 ≤ℤ z) (between_at p w (edges_of p first) es kept count)
-          (meets (Rival first es) (set, named, outsider)));
+          (meets (Outsider first es) (set, named, outsider)));
     }
 
 pub spread_is_met : SpreadMeansMet

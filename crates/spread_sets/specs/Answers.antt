@@ -10,14 +10,14 @@ use Rattle.printed_rows.specs.FittingTexts.{FitText}
 use Rattle.printed_rows.specs.PrintedTrees.{IsPrintedOver, IsUndecidedOver}
 use Rattle.printed_rows.specs.Sheets.{IsSheet}
 use Rattle.spread_sets.specs.declared.spread.SetRow.{SetRow}
-use Rattle.spread_sets.specs.declared.spread.SetRow.TheVariants.{Rival, Same}
+use Rattle.spread_sets.specs.declared.spread.SetRow.TheVariants.{Outsider, Same}
 use Rattle.spread_sets.specs.declared.spread.Spread.{Spread}
 use Rattle.spread_sets.specs.declared.spread.Spread.TheVariants.{Fit, Impossible, Undecided}
 use Rattle.spread_sets.specs.Spreads.{IsFormOfSetRow, IsSetRow, IsSpreadFit, SetRowsDiffer, SharesEach, all_sets, forms_of_set_rows}
 
 -- the line of a row as it is printed
 abbrev pub set_row_line : SetRow → List ℕ
-set_row_line (Rival name rival) = row_line (record { request = name; rival = rival })
+set_row_line (Outsider name outsider) = row_line (record { request = name; rival = outsider })
 set_row_line (Same name i j) = spaced (codes "same" ∷ decimal name ∷ decimal i ∷ decimal j ∷ [])
 
 -- no costs are spread-fit

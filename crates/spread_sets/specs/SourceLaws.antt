@@ -21,7 +21,7 @@ use Rattle.cost_branching.specs.Rivals.{IsProblemOnGraph}
 use Rattle.cost_branching.specs.SourceLaws.{at_least, contains-map, multiple_divided, path_listed, scaled_cost, small_value, value_between}
 use Rattle.set_separation.specs.Outsiders.{IsOutsider}
 use Rattle.spread_sets.specs.declared.spread.SetRow.{SetRow}
-use Rattle.spread_sets.specs.declared.spread.SetRow.TheVariants.{Rival, Same}
+use Rattle.spread_sets.specs.declared.spread.SetRow.TheVariants.{Outsider, Same}
 use Rattle.spread_sets.specs.Spreads.{IsSetRow, Shares, SharesEach, cost_of_set, edges_of, ends_in, name_of_set, form_of_set_row, form_of_tie, paths_of}
 use Rattle.spread_sets.specs.MemberSets.{AreMemberSets, IsMemberSet}
 use Rattle.spread_sets.specs.Sources.{IsTrueOfSets, candidates_of, forms_of_pairs}
@@ -70,21 +70,21 @@ value_of_tie p point first second kept count =
 
 -- Every row's form holds where each set shares.
 
--- the form of a rival is at least 0 where each set shares
-rival_met : (p : DesignProblem) (sets : List (List ℕ)) (set es : List ℕ) (point : Point) → IsProblem p →
+-- the form of an outsider is at least 0 where each set shares
+outsider_met : (p : DesignProblem) (sets : List (List ℕ)) (set es : List ℕ) (point : Point) → IsProblem p →
     length point.values ≡ length p.low → Contains sets set → IsOutsider p.graph (ends_in p set) (paths_of p set) es →
     SharesEach p sets point →
     pos 0 ≤ℤ value_at (form_between p.graph (length p.low) (edges_of p (name_of_set set)) es) point
-rival_met p sets set es point kept count has outsider each =
+outsider_met p sets set es point kept count has outsider each =
     let shares = All-contains (Shares p point) sets set each has in
     subst (λ (z : ℤ). pos 0 ≤ℤ z) (sym (value_between p point (edges_of p (name_of_set set)) es kept count))
     (at_least (cost p.graph point es) (cost_of_set p point set) point.scale (shares.dearer es outsider))
 
--- the form of a rival is a true form
-rival_holds : (p : DesignProblem) (sets : List (List ℕ)) (set es : List ℕ) → IsProblemOnGraph p → AreMemberSets p sets →
+-- the form of an outsider is a true form
+outsider_holds : (p : DesignProblem) (sets : List (List ℕ)) (set es : List ℕ) → IsProblemOnGraph p → AreMemberSets p sets →
     Contains sets set → IsOutsider p.graph (ends_in p set) (paths_of p set) es →
     IsTrueForm (length p.low) (SharesEach p sets) (form_between p.graph (length p.low) (edges_of p (name_of_set set)) es)
-rival_holds p sets set es kept are has outsider =
+outsider_holds p sets set es kept are has outsider =
     let is = All-contains (IsMemberSet p) sets set are has in
     let wanted = member_path p set (name_of_set set) kept.problem is (first_listed set is.some) in
     let small = simple_form_small p.graph (length p.low) (ends_in p set) (ends_in p set) (edges_of p (name_of_set set)) es
@@ -93,7 +93,7 @@ rival_holds p sets set es kept are has outsider =
       count = small.count;
       sizes = small.sizes;
       values = λ w count each. small_value (length p.low) (form_between p.graph (length p.low) (edges_of p (name_of_set set)) es) w small each;
-      met = λ point count each. rival_met p sets set es point kept.problem count has outsider each;
+      met = λ point count each. outsider_met p sets set es point kept.problem count has outsider each;
     }
 
 -- two numbers differ by less than 2^27 where both differences, less 1, are below it in size
@@ -160,9 +160,9 @@ tie_holds p sets set i j kept are has has_i has_j =
 -- the form of each row of the sets is a true form
 row_holds : (p : DesignProblem) (sets : List (List ℕ)) (row : SetRow) → IsProblemOnGraph p → AreMemberSets p sets →
     IsSetRow p sets row → IsTrueForm (length p.low) (SharesEach p sets) (form_of_set_row p row)
-row_holds p sets (Rival name rival) kept are is =
-    subst (λ (k : ℕ). IsTrueForm (length p.low) (SharesEach p sets) (form_between p.graph (length p.low) (edges_of p k) rival)) is.1.first
-    (rival_holds p sets is.0 rival kept are is.1.listed is.2)
+row_holds p sets (Outsider name outsider) kept are is =
+    subst (λ (k : ℕ). IsTrueForm (length p.low) (SharesEach p sets) (form_between p.graph (length p.low) (edges_of p k) outsider)) is.1.first
+    (outsider_holds p sets is.0 outsider kept are is.1.listed is.2)
 row_holds p sets (Same name i j) kept are is = tie_holds p sets is.0 i j kept are is.1.listed is.2 is.3
 
 -- a true form is small, and at least 0 at each point where each set shares
@@ -174,9 +174,9 @@ set_forms_hold p sets form is =
 pub set_row_met : (p : DesignProblem) (sets : List (List ℕ)) (row : SetRow) (point : Point) → IsProblem p →
     length point.values ≡ length p.low → IsSetRow p sets row → SharesEach p sets point →
     pos 0 ≤ℤ value_at (form_of_set_row p row) point
-set_row_met p sets (Rival name rival) point kept count is each =
-    subst (λ (k : ℕ). pos 0 ≤ℤ value_at (form_between p.graph (length p.low) (edges_of p k) rival) point) is.1.first
-    (rival_met p sets is.0 rival point kept count is.1.listed is.2 each)
+set_row_met p sets (Outsider name outsider) point kept count is each =
+    subst (λ (k : ℕ). pos 0 ≤ℤ value_at (form_between p.graph (length p.low) (edges_of p k) outsider) point) is.1.first
+    (outsider_met p sets is.0 outsider point kept count is.1.listed is.2 each)
 set_row_met p sets (Same name i j) point kept count is each = tie_met p sets is.0 i j point kept count is.1.listed is.2 is.3 each
 
 -- Every true form stands in the list of the candidates.
@@ -196,7 +196,7 @@ pair_listed p form (r ∷ rs) (suc k) es known has =
 -- the form of each row of the sets is among the candidates
 row_listed : (p : DesignProblem) (sets : List (List ℕ)) (row : SetRow) → IsProblemOnGraph p → AreMemberSets p sets →
     IsSetRow p sets row → Contains (candidates_of p) (form_of_set_row p row)
-row_listed p sets (Rival name rival) kept are is =
+row_listed p sets (Outsider name outsider) kept are is =
     let set = is.0 in
     let is_set = All-contains (IsMemberSet p) sets set are is.1.listed in
     let between = form_between p.graph (length p.low) in
@@ -204,8 +204,8 @@ row_listed p sets (Rival name rival) kept are is =
     subst (λ (k : ℕ). k < length p.paths) is.1.first
     (member_known p set (name_of_set set) is_set (first_listed set is_set.some)) in
     Contains-append_left (forms_of_pairs p between p.paths)
-    (forms_of_pairs p (form_of_tie p.graph (length p.low)) p.paths) (between (edges_of p name) rival)
-    (pair_listed p between p.paths name rival known (path_listed p (ends_in p set) rival kept.graph is.2.path))
+    (forms_of_pairs p (form_of_tie p.graph (length p.low)) p.paths) (between (edges_of p name) outsider)
+    (pair_listed p between p.paths name outsider known (path_listed p (ends_in p set) outsider kept.graph is.2.path))
 row_listed p sets (Same name i j) kept are is =
     let set = is.0 in
     let is_set = All-contains (IsMemberSet p) sets set are is.1.listed in

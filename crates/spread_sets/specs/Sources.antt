@@ -35,12 +35,12 @@ pub record IsTrueOfSets (p : DesignProblem) (sets : List (List ℕ)) (form : For
   pub of_row : IsFormOfSetRow p sets form
 
 -- every other simple path of the members' request costs at least the scale more
-abbrev pub OutsidersAreDearer : DesignProblem → Point → List ℕ → Type 0
-OutsidersAreDearer p point set = CostAtLeast p.graph point (ends_in p set) (paths_of p set) (cost_of_set p point set + point.scale)
+abbrev pub AreOutsidersDear : DesignProblem → Point → List ℕ → Type 0
+AreOutsidersDear p point set = CostAtLeast p.graph point (ends_in p set) (paths_of p set) (cost_of_set p point set + point.scale)
 
--- a rival of a set that costs less at a point than its first member and the scale
+-- an outsider of a set that costs less at a point than its first member and the scale
 pub record IsOutsiderTooCheap (p : DesignProblem) (point : Point) (set : List ℕ) (edges : List ℕ) : Type 0 where
-  pub rival : IsOutsider p.graph (ends_in p set) (paths_of p set) edges
+  pub outsider : IsOutsider p.graph (ends_in p set) (paths_of p set) edges
   pub cheap : cost p.graph point edges < cost_of_set p point set + point.scale
 
 -- the rows that keep two members at one cost

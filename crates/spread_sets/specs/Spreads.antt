@@ -12,7 +12,7 @@ use Rattle.design_problem.specs.Rows.{box_of, fixed_cost, form_between, uses}
 use Rattle.set_reader.specs.Reading.{stands_in}
 use Rattle.set_separation.specs.Outsiders.{CostAtLeast, IsOutsider}
 use Rattle.spread_sets.specs.declared.spread.SetRow.{SetRow}
-use Rattle.spread_sets.specs.declared.spread.SetRow.TheVariants.{Rival, Same}
+use Rattle.spread_sets.specs.declared.spread.SetRow.TheVariants.{Outsider, Same}
 
 -- the set in which a path stands: one of the sets of lines, or the path by itself
 abbrev pub set_of : List (List ℕ) → ℕ → List ℕ
@@ -71,9 +71,9 @@ pub record IsNamed (sets : List (List ℕ)) (name : ℕ) (set : List ℕ) : Type
   pub listed : Contains sets set
   pub first : name_of_set set ≡ name
 
--- a row: a rival of a set is a simple path of the request that is no member, and two members of a set are kept at one cost
+-- a row: an outsider of a set, or two members of a set, which are kept at one cost
 abbrev pub IsSetRow : DesignProblem → List (List ℕ) → SetRow → Type 0
-IsSetRow p sets (Rival name rival) = (set : List ℕ) × IsNamed sets name set × IsOutsider p.graph (ends_in p set) (paths_of p set) rival
+IsSetRow p sets (Outsider name outsider) = (set : List ℕ) × IsNamed sets name set × IsOutsider p.graph (ends_in p set) (paths_of p set) outsider
 IsSetRow p sets (Same name i j) = (set : List ℕ) × IsNamed sets name set × Contains set i × Contains set j
 
 -- cost(second) - cost(first), in n variables
@@ -84,9 +84,9 @@ form_of_tie g n first second =
       coefficients = map (λ v. pos (uses g second v) -ℤ pos (uses g first v)) (numbers_from 0 n);
     }
 
--- the form of a row: cost(rival) - cost(first member) - 1, or cost(J) - cost(I)
+-- the form of a row: cost(outsider) - cost(first member) - 1, or cost(J) - cost(I)
 abbrev pub form_of_set_row : DesignProblem → SetRow → Form
-form_of_set_row p (Rival name rival) = form_between p.graph (length p.low) (edges_of p name) rival
+form_of_set_row p (Outsider name outsider) = form_between p.graph (length p.low) (edges_of p name) outsider
 form_of_set_row p (Same name i j) = form_of_tie p.graph (length p.low) (edges_of p i) (edges_of p j)
 
 -- the forms of rows of sets, in their order
@@ -101,12 +101,12 @@ pub record IsFormOfSetRow (p : DesignProblem) (sets : List (List ℕ)) (form : F
 
 -- the name of a row's set
 abbrev pub name_of : SetRow → ℕ
-name_of (Rival name rival) = name
+name_of (Outsider name outsider) = name
 name_of (Same name i j) = name
 
--- the rows differ in their sets, in their rivals' edges, or in their two members
+-- the rows differ in their sets, in their outsiders' edges, or in their two members
 abbrev pub SetRowsDiffer : SetRow → SetRow → Type 0
-SetRowsDiffer (Rival a rival) (Rival b other) = a ≡ b → rival ≡ other → ⊥
+SetRowsDiffer (Outsider a outsider) (Outsider b other) = a ≡ b → outsider ≡ other → ⊥
 SetRowsDiffer (Same a i j) (Same b k l) = a ≡ b → i ≡ k → j ≡ l → ⊥
-SetRowsDiffer (Rival a rival) (Same b i j) = Unit {0}
-SetRowsDiffer (Same a i j) (Rival b rival) = Unit {0}
+SetRowsDiffer (Outsider a outsider) (Same b i j) = Unit {0}
+SetRowsDiffer (Same a i j) (Outsider b outsider) = Unit {0}
