@@ -35,16 +35,6 @@ pub(crate) fn is_kind(kind: Kind, other: Kind) -> bool
     }
 }
 
-/// Whether a price is that of a variable.
-pub(crate) fn is_variable(price: Price, line: u32) -> bool
-    ensures { result ≡ is_var line price }
-{
-    match price {
-        Price::Var(number) => number == line,
-        Price::Fixed(_) | Price::Zero => false,
-    }
-}
-
 /// Marks the variable of a price, if it is one of those that have marks.
 fn mark_price(marks: &mut Vec<bool>, price: Price)
     ensures count { length marks.new.items ≡ length marks.old.items }

@@ -10,6 +10,7 @@ use Rattle.cut_advisors.specs.declared.candidate.Candidate.{Candidate}
 use Rattle.form_search.specs.declared.found.Found.{Found}
 use Rattle.form_search.specs.declared.found.Found.TheVariants.{Costs, Refuted, Undecided}
 use Rattle.printed_rows.specs.NewNumbers.{IsTreePrinted}
+use Rattle.form_search.specs.Advised.{by_rules}
 use Rattle.cost_branching.specs.Pools.{Pooled}
 use Rattle.cost_branching.specs.Advising.{AreAskedInTurn, IsAskedAt}
 use Rattle.conflict_core.specs.declared.conflict.Conflict.{Conflict}
@@ -94,5 +95,4 @@ AreSettledSets p (first ∷ behind) c = (first.set ≡ all_requests p) × AreSet
 abbrev pub AreAskedFinding : {A V : Type 0} {X : V → Type 0} → ((rules : V) → Ghosts (X rules)) → (A → V) → (A → List ℕ) →
     DesignProblem → ℕ → ℕ → List A → List A → Conflict → Type 0
 AreAskedFinding members rules state p top nodes old new c = (decisions : List SetDecision) × AreSettledSets p decisions c
-    × AreAskedInTurn (IsAskedOfSet (λ b c. rules c ≡ rules b) state (λ b. (members (rules b)).would) (λ b. (members (rules b)).left)
-    (λ b. (members (rules b)).after) p top nodes) decisions old new
+    × AreAskedInTurn (by_rules IsAskedOfSet members rules state p top nodes) decisions old new

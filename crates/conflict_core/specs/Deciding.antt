@@ -11,6 +11,7 @@ use Rattle.design_problem.specs.Answers.{greatest_bound}
 use Rattle.cut_advisors.specs.declared.advisor.Advisor.{Ghosts}
 use Rattle.form_search.specs.declared.found.Found.{Found}
 use Rattle.form_search.specs.declared.found.Found.TheVariants as finds
+use Rattle.form_search.specs.Advised.{by_rules}
 use Rattle.cost_branching.specs.Advising.{AreAskedInTurn}
 use Rattle.cost_branching.specs.Pools.{IsRowPool, Pooled}
 use Rattle.cost_branching.specs.Decisions.{IsTreeAt}
@@ -64,15 +65,13 @@ IsPoolOf (Undecided t) pool = pool ≡ t.pool
 -- the search of a restricted problem, which came to this decision, called the advisors, by their rules
 abbrev pub IsAskedSearching : {A V : Type 0} {X : V → Type 0} → ((rules : V) → Ghosts (X rules)) → (A → V) → (A → List ℕ) →
     DesignProblem → ℕ → ℕ → SetDecision → List A → List A → Type 0
-IsAskedSearching members rules state p top nodes d old new = IsAskedOfSet (λ b c. rules c ≡ rules b) state (λ b. (members (rules b)).would)
-    (λ b. (members (rules b)).left) (λ b. (members (rules b)).after) p top nodes d old new
+IsAskedSearching members rules state p top nodes d old new = by_rules IsAskedOfSet members rules state p top nodes d old new
 
 -- the search that decided a set of requests, by a pool, called the advisors, by their rules
 abbrev pub IsAskedDeciding : {A V : Type 0} {X : V → Type 0} → ((rules : V) → Ghosts (X rules)) → (A → V) → (A → List ℕ) →
     DesignProblem → ℕ → ℕ → List ℕ → Decided → List A → List A → Type 0
 IsAskedDeciding members rules state p top nodes set decided old new = (pool : Pooled) × IsPoolOf decided pool
-    × IsAskedOfSet (λ b c. rules c ≡ rules b) state (λ b. (members (rules b)).would)
-    (λ b. (members (rules b)).left) (λ b. (members (rules b)).after) p top nodes (record { set = set; pool = pool; found = search_found decided }) old new
+    × by_rules IsAskedOfSet members rules state p top nodes (record { set = set; pool = pool; found = search_found decided }) old new
 
 -- searches in order of a conflict that is made smaller
 abbrev pub AreShrinking : Shrunk → List SetDecision → Conflict → Type 0
@@ -86,8 +85,7 @@ AreBefore old new ds = (more : List SetDecision) (c : Conflict) → AreShrinking
 abbrev pub AreAskedFrom : {A V : Type 0} {X : V → Type 0} → ((rules : V) → Ghosts (X rules)) → (A → V) → (A → List ℕ) →
     DesignProblem → ℕ → ℕ → List ℕ → List Row → List (List ℕ) → List A → List A → Conflict → Type 0
 AreAskedFrom members rules state p top nodes set rows without old new c = (ds : List SetDecision) × AreSetsInOrder set rows without ds c
-    × AreAskedInTurn (IsAskedOfSet (λ b c. rules c ≡ rules b) state (λ b. (members (rules b)).would) (λ b. (members (rules b)).left)
-    (λ b. (members (rules b)).after) p top nodes) ds old new
+    × AreAskedInTurn (by_rules IsAskedOfSet members rules state p top nodes) ds old new
 
 -- the searches called the advisors by which a conflict was made smaller, from the tree that refuted a set on
 abbrev pub AreAskedShrinking : {A V : Type 0} {X : V → Type 0} → ((rules : V) → Ghosts (X rules)) → (A → V) → (A → List ℕ) →
@@ -105,8 +103,7 @@ IsTriedBy shrunk (TriedUndecided t) ds = (c : Conflict) → IsUndecidedOfSet t.m
 abbrev pub AreAskedTrying : {A V : Type 0} {X : V → Type 0} → ((rules : V) → Ghosts (X rules)) → (A → V) → (A → List ℕ) →
     DesignProblem → ℕ → ℕ → Shrunk → Tried → List A → List A → Type 0
 AreAskedTrying members rules state p top nodes shrunk tried old new = (ds : List SetDecision) × IsTriedBy shrunk tried ds
-    × AreAskedInTurn (IsAskedOfSet (λ b c. rules c ≡ rules b) state (λ b. (members (rules b)).would) (λ b. (members (rules b)).left)
-    (λ b. (members (rules b)).after) p top nodes) ds old new
+    × AreAskedInTurn (by_rules IsAskedOfSet members rules state p top nodes) ds old new
 
 -- costs for each of the first requests of a set, which are fit without it
 abbrev pub AreFitWithout : DesignProblem → List ℕ → List (List ℕ) → Type 0

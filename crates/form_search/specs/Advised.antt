@@ -82,6 +82,23 @@ abbrev pub IsSearched : {A : Type 0} → (A → A → Type 0) → (A → List �
 IsSearched IsItself state would left after old new = (box : CostBox) × (tree : Growing)
     × AreCalledBySearch IsPointOf (IsPick IsItself state would left) (AreAllTold IsItself state after) box tree old new
 
+-- what is said of advisors by their states and rules, where the rules are those of their kinds; an advisor stays itself
+-- where it keeps its kind
+abbrev pub by_rules : {A V : Type 0} {X : V → Type 0} {R : Type 1} → ((A → A → Type 0) → (A → List ℕ) → (A → List ℕ → List Candidate → ℕ) →
+    (A → List ℕ → List Candidate → List ℕ) → (A → List ℕ → Entry → List ℕ) → R) → ((rules : V) → Ghosts (X rules)) → (A → V) → (A → List ℕ) → R
+by_rules said members rules state =
+    said (λ b c. rules c ≡ rules b) state (λ b. (members (rules b)).would) (λ b. (members (rules b)).left) (λ b. (members (rules b)).after)
+
+-- what a pick does to the advisors, by the rules of their kinds
+abbrev pub IsPickByRules : {A V : Type 0} {X : V → Type 0} → ((rules : V) → Ghosts (X rules)) → (A → V) → (A → List ℕ) →
+    List Candidate → ℕ → List A → List A → Type 0
+IsPickByRules members rules state = by_rules (λ IsItself at would left after. IsPick IsItself at would left) members rules state
+
+-- what the telling of an entry does to the advisors, by the rules of their kinds
+abbrev pub AreToldByRules : {A V : Type 0} {X : V → Type 0} → ((rules : V) → Ghosts (X rules)) → (A → V) → (A → List ℕ) →
+    Entry → List A → List A → Type 0
+AreToldByRules members rules state = by_rules (λ IsItself at would left after. AreAllTold IsItself at after) members rules state
+
 -- the second list is what some searches, one after another, leave of the first list of advisors
 pub data AreAdvisorsLeft {A : Type 0} (Search : List A → List A → Type 0) : List A → List A → Type 0 where
   none : (xs : List A) → AreAdvisorsLeft Search xs xs
@@ -91,15 +108,15 @@ pub data AreAdvisorsLeft {A : Type 0} (Search : List A → List A → Type 0) : 
 -- that was dropped picked out of range, and each other one was told all entries and asked for each Split that came to it.
 abbrev pub AreCalled : {A V : Type 0} {X : V → Type 0} → ((rules : V) → Ghosts (X rules)) → (A → V) → (A → List ℕ) → List A → List A → Type 0
 AreCalled members rules state =
-    AreAdvisorsLeft (IsSearched (λ b c. rules c ≡ rules b) state (λ b. (members (rules b)).would) (λ b. (members (rules b)).left) (λ b. (members (rules b)).after))
+    AreAdvisorsLeft (by_rules IsSearched members rules state)
 
 -- the advisors were called along the tree that a search of the box answers, at the points that it asks for
 pub record AreAdvised {A V : Type 0} {X : V → Type 0} (members : (rules : V) → Ghosts (X rules)) (rules : A → V) (state : A → List ℕ)
     (IsHere : CostBox → Point → Type 0) (box : CostBox) (result : Result Found OutOfMemory) (old new : List A) : Type 0 where
   pub tree : Growing
   pub is_tree : IfOk result (IsTreeOf IsHere tree)
-  pub calls : AreCalledBySearch IsHere (IsPick (λ b c. rules c ≡ rules b) state (λ b. (members (rules b)).would) (λ b. (members (rules b)).left))
-      (AreAllTold (λ b c. rules c ≡ rules b) state (λ b. (members (rules b)).after)) box tree old new
+  pub calls : AreCalledBySearch IsHere (IsPickByRules members rules state)
+      (AreToldByRules members rules state) box tree old new
 
 -- before what comes next the advisors were asked for its Split, and for nothing where another entry comes, or none
 abbrev pub IsAskedNext : {A : Type 0} → (CostBox → Point → Type 0) → (List Candidate → ℕ → List A → List A → Type 0) → CostBox →
@@ -114,7 +131,7 @@ IsAskedNext IsHere Picks box (Err e) old new = new ≡ old
 abbrev pub AreAskedNext : {A V : Type 0} {X : V → Type 0} → ((rules : V) → Ghosts (X rules)) → (A → V) → (A → List ℕ) →
     (CostBox → Point → Type 0) → CostBox → Result Next OutOfMemory → List A → List A → Type 0
 AreAskedNext members rules state IsHere box result old new =
-    IsAskedNext IsHere (IsPick (λ b c. rules c ≡ rules b) state (λ b. (members (rules b)).would) (λ b. (members (rules b)).left)) box result old new
+    IsAskedNext IsHere (IsPickByRules members rules state) box result old new
 
 -- a point that may be asked for: of one box the one point
 abbrev pub IsAt : CostBox → Point → CostBox → Point → Type 0
@@ -124,7 +141,7 @@ IsAt box point b p = (b ≡ box) × (p ≡ point)
 abbrev pub AreAskedAt : {A V : Type 0} {X : V → Type 0} → ((rules : V) → Ghosts (X rules)) → (A → V) → (A → List ℕ) →
     CostBox → Point → Result Entry OutOfMemory → List A → List A → Type 0
 AreAskedAt members rules state box point (Ok entry) old new =
-    AreReadyFor (IsAt box point) (IsPick (λ b c. rules c ≡ rules b) state (λ b. (members (rules b)).would) (λ b. (members (rules b)).left)) box entry old new
+    AreReadyFor (IsAt box point) (IsPickByRules members rules state) box entry old new
 AreAskedAt members rules state box point (Err e) old new = new ≡ old
 
 -- the advisors were told the entry that comes next, if one does
@@ -143,4 +160,4 @@ IsToldNext Tells next (Err e) old new = (new ≡ old) ⊎ IsToldOf Tells next ol
 abbrev pub AreToldNext : {A V : Type 0} {X : V → Type 0} → ((rules : V) → Ghosts (X rules)) → (A → V) → (A → List ℕ) →
     Next → Result (ControlFlow Found Growing) OutOfMemory → List A → List A → Type 0
 AreToldNext members rules state next result old new =
-    IsToldNext (AreAllTold (λ b c. rules c ≡ rules b) state (λ b. (members (rules b)).after)) next result old new
+    IsToldNext (AreToldByRules members rules state) next result old new

@@ -9,4 +9,4 @@ mod turn;
 
 pub use row::TableRow;
 pub use sum::{sum_at, sum_lines};
-pub use turn::{PivotColumn, take_quotients, turn_row, turn_rows};
+pub use turn::{PivotColumn, take_quotients, turn_rows};

@@ -24,7 +24,7 @@ pub struct PivotColumn {
 /// # Errors
 ///
 /// `Wide` where one of these steps makes a whole number that passes `top`. Then the row is as before.
-pub fn turn_row(
+pub(crate) fn turn_row(
     row: &mut TableRow,
     pivot: &PivotColumn,
     quotients: &TableRow,

@@ -18,9 +18,7 @@ mod turn;
 mod uses;
 
 pub use bound_lines::{put_signed_line, step};
-pub use bounds::{
-    CONSTANT_LIMIT, ENTRY_LIMIT, FACTOR_LIMIT, WEIGHT_LIMIT, greater_size, greatest, within,
-};
+pub use bounds::{CONSTANT_LIMIT, ENTRY_LIMIT, FACTOR_LIMIT, WEIGHT_LIMIT, greatest, within};
 pub use choice::{keep_least, put_latest};
 pub use first_lines::{no_turns, room_of, unit_leads, unit_lines, zero_line, zeros};
 pub use leads::{put_leads, turn_leads};

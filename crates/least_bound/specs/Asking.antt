@@ -10,6 +10,7 @@ use Rattle.cut_advisors.specs.declared.candidate.Candidate.{Candidate}
 use Rattle.form_search.specs.declared.found.Found.{Found}
 use Rattle.form_search.specs.declared.found.Found.TheVariants.{Costs, Refuted, Undecided}
 use Rattle.printed_rows.specs.NewNumbers.{HasNumbers}
+use Rattle.form_search.specs.Advised.{by_rules}
 use Rattle.cost_branching.specs.Pools.{Pooled}
 use Rattle.cost_branching.specs.Advising.{AreAskedInTurn, IsAskedAt}
 use Rattle.least_bound.specs.Printing.{ArePrintedIfAny}
@@ -122,5 +123,4 @@ IsAskedAnswering IsItself state would left after p top nodes old new a =
 abbrev pub AreAskedAnswering : {A V : Type 0} {X : V → Type 0} → ((rules : V) → Ghosts (X rules)) → (A → V) → (A → List ℕ) →
     DesignProblem → ℕ → ℕ → List A → List A → AnswerParts → Type 0
 AreAskedAnswering members rules state p top nodes =
-    IsAskedAnswering (λ b c. rules c ≡ rules b) state (λ b. (members (rules b)).would) (λ b. (members (rules b)).left)
-    (λ b. (members (rules b)).after) p top nodes
+    by_rules IsAskedAnswering members rules state p top nodes

@@ -7,6 +7,7 @@ use Rattle.design_problem.specs.Rows.{IsFit, greatest_cost}
 use Rattle.design_problem.specs.Trees.{IsClosed, entry_count}
 use Rattle.design_problem.specs.Answers.{AnswerParts, greatest_bound}
 use Rattle.cut_advisors.specs.declared.advisor.Advisor.{Ghosts}
+use Rattle.form_search.specs.Advised.{by_rules}
 use Rattle.cost_branching.specs.Pools.{Pooled}
 use Rattle.cost_branching.specs.Decisions.{IsTreeAt}
 use Rattle.least_bound.specs.declared.progress.Best.{Best}
@@ -82,8 +83,7 @@ caps_of progress = record {
 abbrev pub AreAskedOn : {A V : Type 0} {X : V → Type 0} → ((rules : V) → Ghosts (X rules)) → (A → V) → (A → List ℕ) →
     DesignProblem → ℕ → ℕ → CapsSoFar → List A → List A → AnswerParts → Type 0
 AreAskedOn members rules state p top nodes s old new a = (ds : List CapDecision) × AreCapsInOrder p s ds a
-    × AreAskedAtCaps (λ b c. rules c ≡ rules b) state (λ b. (members (rules b)).would) (λ b. (members (rules b)).left)
-    (λ b. (members (rules b)).after) p top nodes ds old new
+    × by_rules AreAskedAtCaps members rules state p top nodes ds old new
 
 -- no cap is left to decide; without costs the floor itself isn't one
 abbrev pub AreCapsDone : ℕ → ℕ → ℕ → Best → Type 0

@@ -3,6 +3,7 @@ ghost use Rattle.std.specs.Prelude.{◌≡◌, ◌≤◌, ◌++◌, ℕ, List, N
 ghost use Rattle.std.specs.List.{list_any};
 ghost use Rattle.std.specs.Ordering.{nat_cmp};
 ghost use Rattle.std.specs.BTreeSet.{contains};
+ghost use Rattle.lsdb_build.specs.Graphs.{router_of};
 ghost use Rattle.lsa_bytes.specs.Databases.{is_router_of};
 ghost use Rattle.live_area.specs.declared.links.LiveLink.{LiveLink as OneLink};
 ghost use Rattle.live_area.specs.Indexes.{HasLinkMetrics};
@@ -43,8 +44,9 @@ fn router_ids(alloc: Global, lsas: &[Lsa]) -> Result<BTreeSet<u32>, OutOfMemory>
 }
 
 /// The number of the router of a link by its number, 0 where there is none.
+#[tactic(auto, using(crate::proofs::LineSteps::router_there, crate::proofs::LineSteps::router_missing))]
 fn router_of(links: &[Linked], link: usize) -> u32
-    ensures { result ≡ definition.router_of_link links.now link }
+    ensures { result ≡ router_of links.now link }
 {
     match links.get(link) {
         Some(link) => link.router,

@@ -4,7 +4,6 @@ ghost use Rattle.live_area.specs.LiveLinks as definition;
 
 use cost_base::OutOfMemory;
 use lsa_bytes::{Body, Lsa, LsaLink, POINT_TO_POINT_LINK, TRANSIT_LINK};
-use lsa_writer::LinkEnd;
 use std::alloc::Global;
 
 /// A link of type 1 or 2 of a router-LSA: its advertising router, its link data and its metric.
@@ -60,23 +59,4 @@ pub fn live_links(alloc: Global, lsas: &[Lsa]) -> Result<Vec<LiveLink>, OutOfMem
         found.extend_from_slice(&links)?;
     }
     Ok(found)
-}
-
-/// Whether a link is one of an interface with this end.
-fn is_of_end(link: &LiveLink, end: LinkEnd) -> bool
-    ensures { result ≡ definition.is_link_named_so (definition.name_of_end end) link.now }
-{
-    link.router == end.router && link.address == end.address
-}
-
-/// The metric of the link of an interface with this end: the first one with its router ID and its address.
-pub fn metric_at(links: &[LiveLink], end: LinkEnd) -> Option<u16>
-    ensures { result ≡ definition.metric_at end links.now }
-{
-    for link in links {
-        if is_of_end(link, end) {
-            return Some(link.metric);
-        }
-    }
-    None
 }

@@ -1,5 +1,5 @@
 //! What requests choose for each link of an area.
-ghost use Rattle.std.specs.Prelude.{◌≡◌, Some, slice_get, IfOk};
+ghost use Rattle.std.specs.Prelude.{◌≡◌, Some, map, slice_get, IfOk};
 ghost use Rattle.std.specs.Option.{option_and_then};
 ghost use Rattle.lsdb_build.specs.declared.Linked.{Linked as LinkValue};
 ghost use Rattle.lsdb_build.specs.Graphs.{IsAreaDatabase};
@@ -94,6 +94,14 @@ impl<'a> Choices<'a> {
         ensures base { IsAreaDatabase self.now.database }
     {
         self.names.links()
+    }
+
+    /// The ranges of the links, in order.
+    pub fn ranges(&self) -> &[Range]
+        ensures { result.now ≡ map (range_of self.now.asked self.now.database)
+            self.now.database.links }
+    {
+        self.ranges.as_slice()
     }
 
     /// The range of the link of a number, where there is one.

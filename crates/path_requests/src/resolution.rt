@@ -11,9 +11,10 @@ ghost use Rattle.wanted_paths.specs.Paths.{outline};
 ghost use Rattle.wanted_paths.specs.declared.fault.ResolutionFault.TheVariants.{TooManyVariables};
 
 use crate::choices::{Choices, items};
-use crate::present::{assemble_present, check_present};
+use crate::costless::{check_costs, check_present};
+use crate::present::assemble_present;
 use crate::problems::assemble;
-use crate::variables::{check_costs, check_ends, own_links};
+use crate::variables::{check_ends, own_links};
 use cost_base::Refusal;
 use design_problem::{Problem, Request};
 use lsdb_build::Lsdb;

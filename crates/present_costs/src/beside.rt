@@ -1,38 +1,17 @@
 //! The problem of a request file in an area where each link has a present cost, or its first fault.
-ghost use Rattle.std.specs.Prelude.{◌≡◌, ◌&&◌, not, is_some, Some, None, IfOk, IfErr};
-ghost use Rattle.cost_base.specs.Lists.{first_of};
+ghost use Rattle.std.specs.Prelude.{◌≡◌, Some, None, IfOk, IfErr};
 ghost use Rattle.wanted_paths.specs.LineFaults.{TellsResolution};
 ghost use Rattle.path_requests.specs.Meaning.{problem_of};
-ghost use Rattle.path_requests.specs.Resolving.{cost_faults, present_asked, resolution_fault};
+ghost use Rattle.path_requests.specs.Resolving.{resolution_fault};
 ghost use Rattle.present_costs.specs.PresentCosts.{fault_beside_present};
 
 use cost_base::Refusal;
 use design_problem::Problem;
-use lsdb_build::{Linked, Lsdb};
-use path_requests::resolve;
+use lsdb_build::Lsdb;
+use path_requests::{first_without_cost, resolve};
 use request_reader::RequestFile;
 use std::alloc::Global;
 use wanted_paths::ResolutionFault;
-
-/// Whether a link has no present cost: neither a cost line nor a default.
-fn lacks_present(requests: &RequestFile, link: &Linked) -> bool
-    ensures { result ≡ (not (is_some link.now.cost) && not (is_some requests.now.default_cost)) }
-{
-    link.cost.is_none() && requests.default_cost.is_none()
-}
-
-/// The fault of the first link without a present cost.
-fn first_without_cost(requests: &RequestFile, lsdb: &Lsdb) -> Option<ResolutionFault>
-    ensures { result ≡ first_of (cost_faults (present_asked requests.now) lsdb.now 0
-        lsdb.now.links) }
-{
-    for (i, link) in lsdb.links().iter().enumerate() {
-        if lacks_present(requests, link) {
-            return Some(ResolutionFault::NoCost { link: i as u32 });
-        }
-    }
-    None
-}
 
 /// The first fault beside present costs, where this is the first one of `resolve`: a fixed link without a cost gives
 /// way to the first link without one.

@@ -5,7 +5,7 @@ mod number_lines;
 mod parts;
 
 pub use number_lines::{
-    counted_line, number_line, push_count, push_count_line, push_counts, push_word, push_words,
+    counted_line, number_line, push_count, push_count_line, push_counts, push_word,
 };
 pub use parts::{
     at_greatest_bound, costs_by_name, head_lines, keeps_greatest_bound, push_line,

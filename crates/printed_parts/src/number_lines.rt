@@ -26,7 +26,7 @@ pub fn push_word(line: &mut Vec<u8>, number: u32) -> Result<(), OutOfMemory>
 /// # Errors
 ///
 /// `OutOfMemory`.
-pub fn push_words(line: &mut Vec<u8>, numbers: &[u32]) -> Result<(), OutOfMemory>
+pub(crate) fn push_words(line: &mut Vec<u8>, numbers: &[u32]) -> Result<(), OutOfMemory>
     ensures { OnOk result (line.new.items ≡ with_words line.old.items (map decimal numbers.now)) }
 {
     for number in numbers {

@@ -1,7 +1,7 @@
 use Rattle.std.proofs.Common.{◌≡◌, ℕ, ◌+◌, ◌*◌, ◌^◌, ◌<◌, drop, length, get_or}
 use Rattle.std.specs.Prelude.{pos, ◌+ℤ◌, ◌*ℤ◌, nat_abs, sum_by}
-use Rattle.evidence_checker.proofs.SumLaws.{sum_at}
-use Rattle.evidence_checker.proofs.sums.add_form.Given as goal
+use Rattle.multiplied_forms.proofs.SumLaws.{sum_at}
+use Rattle.multiplied_forms.proofs.sums.add_form.Given as goal
 
 abbrev pub invariant-loop-term : goal.invariant-loop-term
 invariant-loop-term l = record {

@@ -1,0 +1,3 @@
+pub mod Sizes
+pub mod SumLaws
+pub mod PartLaws

@@ -1,0 +1,7 @@
+//! Weighted sums of forms.
+#![tactic(auto)]
+
+mod products;
+mod sums;
+
+pub use sums::add_parts;
