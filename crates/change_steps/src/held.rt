@@ -7,7 +7,7 @@ ghost use Rattle.change_steps.specs.Search.{IsStateOf};
 
 use crate::rollout::Rollout;
 use crate::state::State;
-use cost_base::OutOfMemory;
+use cost_base::{OutOfMemory, push_if};
 use spf_ties::Room;
 use std::alloc::Global;
 
@@ -61,9 +61,8 @@ fn held_in(
 {
     let mut held = Vec::new(alloc);
     for number in 0..rollout.path_count() {
-        if is_only_in_both(rollout, present, wanted, number, room) {
-            held.push(number)?;
-        }
+        let is_held = is_only_in_both(rollout, present, wanted, number, room);
+        push_if(&mut held, number, is_held)?;
     }
     Ok(held)
 }

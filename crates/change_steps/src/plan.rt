@@ -16,7 +16,7 @@ use crate::kinds::{Kind, is_kind, kinds_of};
 use crate::reach::Reach;
 use crate::rollout::Rollout;
 use crate::state::State;
-use cost_base::OutOfMemory;
+use cost_base::{OutOfMemory, push_if};
 use spf_ties::Room;
 use std::alloc::Global;
 use std::marker::Model;
@@ -147,9 +147,7 @@ impl<'a> Plan<'a> {
             (numbers_from 0 (step_count self.now.rollout))) }
     {
         for step in 0..self.step_count() {
-            if is_kind(kind, self.kind(step)) {
-                steps.push(step)?;
-            }
+            push_if(steps, step, is_kind(kind, self.kind(step)))?;
         }
         Ok(())
     }

@@ -12,7 +12,7 @@ use crate::kinds::{Kind, is_kind, line_rises};
 use crate::rollout::Rollout;
 use crate::state::State;
 use area_graph::{FAR, Graph, Point, Price, edge_of, path_cost, price_of};
-use cost_base::{Listed, OutOfMemory, no_marks};
+use cost_base::{Listed, OutOfMemory, no_marks, push_if};
 use spf_ties::Room;
 use std::alloc::Global;
 
@@ -45,9 +45,8 @@ fn edges_of_step(alloc: Global, rollout: &Rollout, step: usize) -> Result<Vec<u3
     let lines = rollout.lines(step);
     let mut edges = Vec::new(alloc);
     for number in 0..rollout.edge_count() {
-        if has_price(lines, edge_of(rollout.graph(), number).price) {
-            edges.push(number)?;
-        }
+        let edge = edge_of(rollout.graph(), number);
+        push_if(&mut edges, number, has_price(lines, edge.price))?;
     }
     Ok(edges)
 }

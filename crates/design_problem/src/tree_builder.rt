@@ -10,6 +10,7 @@ ghost use Rattle.design_problem.specs.OpenPlaces.{first_place, fresh, grown, und
 use crate::marks::Marks;
 use crate::{CostBox, Entry, OpenBoxes, Side, Tree};
 use cost_base::OutOfMemory;
+use pushes::push_last;
 use std::alloc::Global;
 use std::marker::Model;
 
@@ -38,14 +39,6 @@ impl Model for TreeBuilder {
     } };
 
     ghost invariant = { λ t. KeepsBuilder t.entries.items t.is_open t.boxes t.marks };
-}
-
-/// Puts an entry at the end.
-fn push(entries: &mut Vec<Entry>, entry: Entry) -> Result<(), OutOfMemory>
-    ensures { OnOk result (entries.new.items ≡ entries.old.items ++ entry ∷ []) }
-{
-    entries.push(entry)?;
-    Ok(())
 }
 
 impl TreeBuilder {
@@ -124,7 +117,7 @@ impl TreeBuilder {
         } = self;
         let count = entries.as_slice().len() + 1;
         let is_open = go_on(&mut boxes, &mut marks, &entry, count)?;
-        push(&mut entries, entry)?;
+        push_last(&mut entries, entry)?;
         Ok(TreeBuilder {
             entries,
             boxes,

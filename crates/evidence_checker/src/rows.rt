@@ -1,5 +1,5 @@
 //! The tests of rows, and their forms.
-ghost use Rattle.std.specs.Prelude.{◌≡◌, ◌↔◌, ℕ, [], ◌∷◌, length, map, slice_get, All, IsTrue, ◌++◌, IfOk, IfErr, OnOk, MatchOption};
+ghost use Rattle.std.specs.Prelude.{◌≡◌, ◌↔◌, ℕ, [], ◌∷◌, length, map, slice_get, All, IsTrue, IfOk, IfErr, MatchOption};
 ghost use Rattle.cost_base.specs.Order.{FirstOf};
 ghost use Rattle.area_graph.specs.Paths.{IsPathOf};
 ghost use Rattle.design_problem.specs.Forms.{IsSmallForm};
@@ -14,6 +14,7 @@ use crate::CheckFault;
 use area_graph::{Graph, Path, is_path_of};
 use cost_base::{Listed, OutOfMemory, Refusal};
 use design_problem::{Form, Problem, Request, Row, form_of};
+use pushes::push_last;
 use std::alloc::Global;
 
 /// Whether edges are a simple path of a request.
@@ -72,14 +73,6 @@ fn form_of_rival(alloc: Global, problem: &Problem, row: &Row) -> Result<Form, Ou
     form_of(alloc, problem, row)
 }
 
-/// One form more.
-fn push_form(forms: &mut Vec<Form>, form: Form) -> Result<(), OutOfMemory>
-    ensures { OnOk result (forms.new.items ≡ forms.old.items ++ form ∷ []) }
-{
-    forms.push(form)?;
-    Ok(())
-}
-
 /// The forms of the rows. The rows are tested in order.
 pub(crate) fn forms_of(
     alloc: Global,
@@ -98,7 +91,7 @@ pub(crate) fn forms_of(
             return Err(Refusal::Refused { fault, place });
         }
         let form = form_of_rival(alloc, problem, row)?;
-        push_form(&mut forms, form)?;
+        push_last(&mut forms, form)?;
     }
     Ok(forms)
 }

@@ -1,11 +1,12 @@
 //! Which forms may still say something about the box at work.
-ghost use Rattle.std.specs.Prelude.{◌≡◌, ℕ, ◌<◌, ◌≤◌, ◌++◌, [], ◌∷◌, length, IfOk, IfSome, OnOk};
+ghost use Rattle.std.specs.Prelude.{◌≡◌, ℕ, ◌<◌, ◌≤◌, length, IfOk, IfSome};
 ghost use Rattle.std.specs.BinaryHeap.{heap_len};
 ghost use Rattle.design_problem.specs.OpenPlaces.{first_place};
 ghost use Rattle.form_search.specs.Turns.{IsWatch};
 
 use cost_base::OutOfMemory;
 use design_problem::{CostBox, Entry, Form, TreeBuilder};
+use pushes::push_last;
 use std::alloc::Global;
 use std::cmp::Reverse;
 use std::collections::BinaryHeap;
@@ -38,13 +39,6 @@ struct Changed {
     is_cut: bool,
 }
 
-/// Puts a thing at the end.
-fn push<T: Drop>(things: &mut Vec<T>, thing: T) -> Result<(), OutOfMemory>
-    ensures { OnOk result (things.new.items ≡ things.old.items ++ thing ∷ []) }
-{
-    Ok(things.push(thing)?)
-}
-
 /// So many empty lists.
 fn empty_lists(alloc: Global, count: usize) -> Result<Vec<Vec<usize>>, OutOfMemory>
     ensures { IfOk result (λ lists. length lists.items ≡ count) }
@@ -53,7 +47,7 @@ fn empty_lists(alloc: Global, count: usize) -> Result<Vec<Vec<usize>>, OutOfMemo
     for made in 0..count {
         // For the prover: an invariant names the number, which nothing else reads.
         let _ = made;
-        push(&mut lists, Vec::new(alloc))?;
+        push_last(&mut lists, Vec::new(alloc))?;
     }
     Ok(lists)
 }
@@ -63,7 +57,7 @@ fn note(lists: &mut Vec<Vec<usize>>, var: usize, row: usize) -> Result<(), OutOf
     ensures { length lists.new.items ≡ length lists.old.items }
 {
     if var < lists.len() {
-        push(&mut lists[var], row)
+        push_last(&mut lists[var], row)
     } else {
         Ok(())
     }
@@ -141,7 +135,7 @@ impl Watch {
         for term in form.terms() {
             self.learn_term(term.var, row)?;
         }
-        push(&mut self.pending, false)?;
+        push_last(&mut self.pending, false)?;
         wake(&mut self.pending, &mut self.waiting, row)
     }
 
@@ -182,7 +176,7 @@ impl Watch {
         requires watch { IsWatch (length costs.now.low) self.old }
         ensures { IsWatch (length costs.now.low) self.new }
     {
-        push(&mut self.changed, Changed { var, is_cut })?;
+        push_last(&mut self.changed, Changed { var, is_cut })?;
         self.look_at(costs, var as usize)
     }
 
@@ -274,7 +268,7 @@ impl Watch {
         ensures watch { (n : ℕ) → IsWatch n self.old → IsWatch n self.new }
         ensures waiting { self.new.waiting ≡ self.old.waiting }
     {
-        push(&mut self.barred, row)
+        push_last(&mut self.barred, row)
     }
 
     /// How many forms that were taken in have a coefficient other than 0 for the variable.

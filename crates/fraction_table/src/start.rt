@@ -15,6 +15,7 @@ use crate::table::Table;
 use cost_base::OutOfMemory;
 use design_problem::{CostBox, Member};
 use fraction_rows::TableRow;
+use pushes::push_last;
 use std::alloc::Global;
 use wide_fraction::{Frac, Top};
 
@@ -89,12 +90,6 @@ fn bound_row(alloc: Global, width: u32, form: UnitForm, top: Top) -> Result<Tabl
     Ok(row)
 }
 
-fn push_row(rows: &mut Vec<TableRow>, row: TableRow) -> Result<(), OutOfMemory>
-    ensures { OnOk result (rows.new.items ≡ rows.old.items ++ row ∷ []) }
-{
-    Ok(rows.push(row)?)
-}
-
 /// Puts the lines of x - low for each of so many variables.
 fn push_low_rows(
     alloc: Global,
@@ -113,7 +108,7 @@ fn push_low_rows(
             constant: 0,
             coefficient: 1,
         };
-        push_row(rows, bound_row(alloc, width, form, top)?)?;
+        push_last(rows, bound_row(alloc, width, form, top)?)?;
     }
     Ok(())
 }
@@ -150,7 +145,7 @@ fn push_high_rows(
             constant: range,
             coefficient: -1,
         };
-        push_row(rows, bound_row(alloc, width, form, top)?)?;
+        push_last(rows, bound_row(alloc, width, form, top)?)?;
     }
     Ok(())
 }

@@ -4,7 +4,7 @@ ghost use Rattle.design_problem.specs.Renumbering.{renumbered_part};
 ghost use Rattle.printed_rows.specs.NamedRows.{NamesBelow};
 ghost use Rattle.least_total.specs.Moving.{AreMovedNumbers, moved_entry, moved_number, picked, put_last};
 
-use cost_base::OutOfMemory;
+use cost_base::{OutOfMemory, push_if};
 use design_problem::{Entry, Parts, Tree};
 use printed_rows::renumbered_entry;
 use std::alloc::Global;
@@ -47,9 +47,8 @@ impl Move {
             (picked own self.place parts.now)) }
     {
         for (row, multiplier) in parts {
-            if (*row == self.place) == own {
-                pairs.push((self.number(*row), *multiplier))?;
-            }
+            let moved = (self.number(*row), *multiplier);
+            push_if(pairs, moved, (*row == self.place) == own)?;
         }
         Ok(())
     }

@@ -1,5 +1,5 @@
 //! Linked interfaces beside their links.
-ghost use Rattle.std.specs.Prelude.{◌≡◌, ◌≤◌, ◌++◌, ℕ, List, None, IfOk, OnOk, count_by, length, option_to_list, slice_index};
+ghost use Rattle.std.specs.Prelude.{◌≡◌, ◌≤◌, ◌++◌, ℕ, List, None, IfOk, OnOk, count_by, length, slice_index};
 ghost use Rattle.std.specs.List.{list_any};
 ghost use Rattle.std.specs.Ordering.{nat_cmp};
 ghost use Rattle.std.specs.BTreeSet.{contains};
@@ -15,6 +15,7 @@ use cost_base::OutOfMemory;
 use lsa_bytes::{Lsa, is_router};
 use lsa_writer::CostedLinks;
 use lsdb_build::Linked;
+use pushes::push_some;
 use std::alloc::Global;
 use std::collections::BTreeSet;
 
@@ -126,16 +127,6 @@ fn link_line(before: Option<u32>, interface: Compared) -> Option<Difference>
     }
 }
 
-/// Adds a line, if there is one.
-pub fn push_line(lines: &mut Vec<Difference>, line: Option<Difference>) -> Result<(), OutOfMemory>
-    ensures { OnOk result (lines.new.items ≡ lines.old.items ++ option_to_list line) }
-{
-    if let Some(line) = line {
-        lines.push(line)?;
-    }
-    Ok(())
-}
-
 /// Adds the lines of linked interfaces, in order.
 pub fn push_interface_lines(
     lines: &mut Vec<Difference>,
@@ -146,7 +137,7 @@ pub fn push_interface_lines(
 {
     let mut before = None;
     for interface in interfaces {
-        push_line(lines, link_line(before, *interface))?;
+        push_some(lines, link_line(before, *interface))?;
         before = Some(interface.router);
     }
     Ok(())

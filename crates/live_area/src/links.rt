@@ -2,7 +2,7 @@
 ghost use Rattle.std.specs.Prelude.{◌≡◌, ◌++◌, IfOk, OnOk, flat_map};
 ghost use Rattle.live_area.specs.LiveLinks as definition;
 
-use cost_base::OutOfMemory;
+use cost_base::{OutOfMemory, push_if};
 use lsa_bytes::{Body, Lsa, LsaLink, POINT_TO_POINT_LINK, TRANSIT_LINK};
 use std::alloc::Global;
 
@@ -27,13 +27,12 @@ fn push_links(found: &mut Vec<LiveLink>, router: u32, links: &[LsaLink]) -> Resu
         definition.live_links_among router links.now) }
 {
     for link in links {
-        if is_area_link(link) {
-            found.push(LiveLink {
-                router,
-                address: link.address,
-                metric: link.metric,
-            })?;
-        }
+        let live = LiveLink {
+            router,
+            address: link.address,
+            metric: link.metric,
+        };
+        push_if(found, live, is_area_link(link))?;
     }
     Ok(())
 }

@@ -10,7 +10,7 @@ ghost use Rattle.live_area.specs.LiveCosts as definition;
 
 use crate::links::{LiveLink, live_links};
 use crate::metrics::EndMetrics;
-use cost_base::{Listed, Name, OutOfMemory};
+use cost_base::{Listed, Name, OutOfMemory, push_if};
 use interface_model::RouterConfig;
 use lsa_bytes::{Database, Lsa};
 use lsa_writer::{LinkEnd, ends_of};
@@ -128,9 +128,7 @@ fn missing_of(alloc: Global, metrics: &[Option<u16>]) -> Result<Vec<u32>, OutOfM
 {
     let mut missing = Vec::new(alloc);
     for (number, metric) in metrics.iter().enumerate() {
-        if metric.is_none() {
-            missing.push(number as u32)?;
-        }
+        push_if(&mut missing, number as u32, metric.is_none())?;
     }
     Ok(missing)
 }

@@ -1,5 +1,5 @@
 //! Reading files of LSAs.
-ghost use Rattle.std.specs.Prelude.{◌≡◌, ◌<◌, ◌^◌, [], None, Ok, length, List, ℕ, All, map, MatchResult, OnOk, ◌++◌, ◌-◌, option_to_list, Result};
+ghost use Rattle.std.specs.Prelude.{◌≡◌, ◌<◌, ◌^◌, [], None, Ok, length, List, ℕ, All, map, MatchResult, ◌-◌, Result};
 ghost use Rattle.lsa_bytes.specs.declared.Lsa.{Lsa as OneLsa};
 ghost use Rattle.lsa_bytes.specs.declared.fault.LsaFault.{LsaFault as OneFault};
 ghost use Rattle.lsa_bytes.specs.Grammar.{length_of};
@@ -16,7 +16,8 @@ use crate::instances::Instance;
 use crate::newest::Newest;
 use crate::reader::Reader;
 use crate::{Database, LsaFault};
-use cost_base::{OutOfMemory, Refusal};
+use cost_base::Refusal;
+use pushes::push_some;
 use std::alloc::Global;
 
 /// The length of the LSA that begins the bytes, all of which they have.
@@ -37,16 +38,6 @@ fn whole_length(rest: &[u8], offset: u32) -> Result<usize, Refusal<LsaFault>>
     Ok(length)
 }
 
-/// Appends an instance, if there is one.
-fn push_said(instances: &mut Vec<Instance>, said: Option<Instance>) -> Result<(), OutOfMemory>
-    ensures { OnOk result (instances.new.items ≡ instances.old.items ++ option_to_list said) }
-{
-    if let Some(instance) = said {
-        instances.push(instance)?;
-    }
-    Ok(())
-}
-
 /// Appends what the LSAs of the bytes say, one after the other, up to the first that is off the grammar.
 fn push_instances(
     alloc: Global,
@@ -63,7 +54,7 @@ fn push_instances(
         let offset = (bytes.len() - rest.len()) as u32;
         let length = whole_length(rest, offset)?;
         let (lsa, behind) = rest.split_at(length);
-        push_said(instances, said_at(alloc, lsa, offset)?)?;
+        push_some(instances, said_at(alloc, lsa, offset)?)?;
         rest = behind;
     }
     Ok(())

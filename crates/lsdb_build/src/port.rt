@@ -6,6 +6,7 @@ ghost use Rattle.lsdb_build.specs.Tallies.{subnet_of};
 
 use cost_base::OutOfMemory;
 use interface_model::{Interface, Kind, RouterConfig, is_active, subnet};
+use pushes::push_some;
 use std::alloc::Global;
 use std::marker::Model;
 
@@ -71,9 +72,7 @@ fn push_ports<'a>(
     ensures valid { IsRouter config.now }
 {
     for interface in config.interfaces.as_slice() {
-        if let Some(port) = port_of(interface, router, area) {
-            into.push(port)?;
-        }
+        push_some(into, port_of(interface, router, area))?;
     }
     Ok(())
 }

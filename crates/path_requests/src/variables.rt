@@ -1,5 +1,5 @@
 //! Which links have which variables.
-ghost use Rattle.std.specs.Prelude.{◌≡◌, ◌&&◌, ◌==◌, ◌<◌, ◌++◌, ◌∷◌, [], Some, filter, option_to_list, map, slice_get, IfOk, IfErr, OnOk};
+ghost use Rattle.std.specs.Prelude.{◌≡◌, ◌&&◌, ◌==◌, ◌<◌, ◌++◌, [], Some, option_to_list, map, slice_get, IfOk, IfErr, OnOk};
 ghost use Rattle.std.specs.List.{list_any, filter_map};
 ghost use Rattle.cost_base.specs.Lists.{first_of};
 ghost use Rattle.path_requests.specs.Meaning.{AsItIs, range_of, is_free, low_of, high_of, is_symmetric, owner_at, own, owners, range_at};
@@ -8,7 +8,7 @@ ghost use Rattle.wanted_paths.specs.LineFaults.{TellsResolution};
 
 use crate::choices::Choices;
 use crate::ranges::{Range, same_range};
-use cost_base::{OutOfMemory, Refusal};
+use cost_base::{OutOfMemory, Refusal, push_if};
 use lsdb_build::Linked;
 use request_reader::{Directive, Item};
 use std::alloc::Global;
@@ -72,30 +72,14 @@ fn is_own(choices: &Choices, number: u32, link: &Linked) -> bool
     free && owner(choices, number, link) == number
 }
 
-/// Appends a link that has a variable of its own.
-fn push_own(
-    choices: &Choices,
-    number: u32,
-    link: &Linked,
-    made: &mut Vec<u32>,
-) -> Result<(), OutOfMemory>
-    requires { slice_get choices.now.database.links number ≡ Some link.now }
-    ensures { OnOk result (made.new.items ≡ made.old.items ++ filter
-        (own choices.now.asked choices.now.database) (number ∷ [])) }
-{
-    if is_own(choices, number, link) {
-        made.push(number)?;
-    }
-    Ok(())
-}
-
 /// The links that have a variable of their own, in order.
 pub fn own_links(alloc: Global, choices: &Choices) -> Result<Vec<u32>, OutOfMemory>
     ensures { IfOk result (λ made. made.items ≡ owners choices.now.asked choices.now.database) }
 {
     let mut made = Vec::new(alloc);
     for (i, link) in choices.links().iter().enumerate() {
-        push_own(choices, i as u32, link, &mut made)?;
+        let number = i as u32;
+        push_if(&mut made, number, is_own(choices, number, link))?;
     }
     Ok(made)
 }

@@ -1,5 +1,5 @@
 -- The list of excluded edges has exactly those that a part excludes.
-use Rattle.std.proofs.Common.{inl, inr, ◌≡◌, ℕ, zero, suc, ◌+◌, ◌<◌, ◌≤◌, refl, sym, ◌∙◌, ap, List, [], ◌∷◌, ◌++◌, length, get_or, arith, Bool, true, false, cond, Option, Some, None}
+use Rattle.std.proofs.Common.{inl, inr, ◌≡◌, ℕ, zero, suc, ◌+◌, ◌<◌, ◌≤◌, refl, sym, ◌∙◌, ap, List, [], ◌∷◌, length, get_or, arith, Bool, true, false, Option, Some, None}
 use Rattle.std.specs.Prelude.{All, filter, option_to_list, slice_get, slice_index_or, ◌&&◌, ◌||◌, ◌==◌}
 use Rattle.std.specs.List.{list_any}
 use Rattle.std.proofs.lemmas.List.Elements.{All-weaker}
@@ -21,13 +21,6 @@ use Rattle.wanted_paths.specs.Paths.{link_number, router_number, link_excludes, 
 use Rattle.wanted_paths.specs.Excluded.{excluded_from, excluded_at, excluded_by, excluded_by_all}
 use Rattle.wanted_paths.proofs.LookUps.{filter_twice}
 use Rattle.wanted_paths.proofs.RouteLaws.{lacks_from, lacks_test}
-
-pub filter_head : {X : Type 0} (p : X → Bool) (x : X) (xs : List X) → filter p (x ∷ xs) ≡ filter p (x ∷ []) ++ filter p xs
-filter_head p x xs = by_test (p x)
-  where
-    by_test : (b : Bool) → cond b (x ∷ filter p xs) (filter p xs) ≡ cond b (x ∷ []) [] ++ filter p xs
-    by_test true = refl
-    by_test false = refl
 
 -- whether an edge stands in a list
 abbrev pub has : ℕ → List ℕ → Bool

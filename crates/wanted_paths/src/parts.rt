@@ -1,5 +1,5 @@
 //! Resolves what a wanted path goes without.
-ghost use Rattle.std.specs.Prelude.{◌≡◌, ◌+◌, ◌^◌, ◌<◌, ◌==◌, ◌++◌, [], ◌∷◌, Some, false, filter, length, slice_get, slice_index_or, IfOk, IfErr, OnOk};
+ghost use Rattle.std.specs.Prelude.{◌≡◌, ◌+◌, ◌^◌, ◌<◌, ◌==◌, ◌++◌, [], Some, false, filter, length, slice_get, slice_index_or, IfOk, IfErr, OnOk};
 ghost use Rattle.std.specs.List.{list_any};
 ghost use Rattle.cost_base.specs.Lists.{first_of, numbers_from};
 ghost use Rattle.area_graph.specs.Area.{edge_at, edges_out, edges_in};
@@ -12,8 +12,9 @@ use crate::ResolutionFault;
 use crate::names::Names;
 use crate::routes::subnet_vertex;
 use area_graph::{Graph, far_end};
-use cost_base::{OutOfMemory, Refusal};
+use cost_base::{OutOfMemory, Refusal, push_if};
 use lsdb_build::{Far, Linked};
+use pushes::{push_last, push_some};
 use request_reader::Part;
 use std::alloc::Global;
 
@@ -28,9 +29,7 @@ fn push_into(
         filter (λ e. (edge_at graph.now e).to == vertex) edges.now) }
 {
     for edge in edges {
-        if far_end(graph, *edge) == vertex {
-            excluded.push(*edge)?;
-        }
+        push_if(excluded, *edge, far_end(graph, *edge) == vertex)?;
     }
     Ok(())
 }
@@ -70,10 +69,8 @@ fn push_link(
     ensures { OnOk result (excluded.new.items ≡ excluded.old.items ++
         excluded_by_link names.now graph.now number link.now) }
 {
-    excluded.push(number)?;
-    if let Some(link_back) = link.link_back {
-        excluded.push(link_back)?;
-    }
+    push_last(excluded, number)?;
+    push_some(excluded, link.link_back)?;
     push_from(names, graph, link.router, link.to, excluded)
 }
 
@@ -188,17 +185,6 @@ pub fn has_marked(marks: &[bool], edges: &[u32]) -> bool
     edges.iter().any(|edge| is_marked(marks, *edge))
 }
 
-/// Appends an edge that is marked.
-fn push_marked(marks: &[bool], edge: u32, found: &mut Vec<u32>) -> Result<(), OutOfMemory>
-    ensures { OnOk result (found.new.items ≡ found.old.items ++
-        filter (λ e. slice_index_or marks.now e false) (edge ∷ [])) }
-{
-    if is_marked(marks, edge) {
-        found.push(edge)?;
-    }
-    Ok(())
-}
-
 /// The numbers of the marked edges, in rising order.
 pub fn marked(alloc: Global, marks: &[bool]) -> Result<Vec<u32>, OutOfMemory>
     requires { length marks.now < 2 ^ 32 }
@@ -207,7 +193,7 @@ pub fn marked(alloc: Global, marks: &[bool]) -> Result<Vec<u32>, OutOfMemory>
 {
     let mut found = Vec::new(alloc);
     for edge in 0..marks.len() as u32 {
-        push_marked(marks, edge, &mut found)?;
+        push_if(&mut found, edge, is_marked(marks, edge))?;
     }
     Ok(found)
 }

@@ -18,6 +18,7 @@ use crate::names::Names;
 use area_graph::{Graph, Path, far_end, is_simple};
 use cost_base::{Listed, Name, OutOfMemory, Refusal};
 use lsdb_build::{Far, Linked};
+use pushes::{push_last, push_some};
 use request_reader::Hops;
 use std::alloc::Global;
 
@@ -161,11 +162,8 @@ fn edge_on(names: &Names, graph: &Graph, link: &Linked, next: u32) -> Option<u32
 fn push_edges(edges: &mut Vec<u32>, number: u32, on: Option<u32>) -> Result<(), OutOfMemory>
     ensures { OnOk result (edges.new.items ≡ edges.old.items ++ number ∷ option_to_list on) }
 {
-    edges.push(number)?;
-    if let Some(edge) = on {
-        edges.push(edge)?;
-    }
-    Ok(())
+    push_last(edges, number)?;
+    push_some(edges, on)
 }
 
 /// Appends the edges of a hop to the router of a name: over a transit subnet there are two.

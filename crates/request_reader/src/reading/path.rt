@@ -1,5 +1,5 @@
 //! The lines of a request file that want a path.
-ghost use Rattle.std.specs.Prelude.{◌≡◌, ◌∷◌, ◌++◌, [], None, Some, MatchOption, IfOk, OnOk};
+ghost use Rattle.std.specs.Prelude.{◌≡◌, ◌∷◌, [], None, Some, MatchOption, IfOk};
 ghost use Rattle.text_lines.specs.Lines.{words};
 ghost use Rattle.request_reader.specs.Routes.{route_of, hop_of};
 ghost use Rattle.request_reader.specs.ReadingLines as definition;
@@ -8,6 +8,7 @@ ghost use Rattle.request_reader.specs.ReadingLines.{to_without, behind_without, 
 use crate::reading::statement::Statement;
 use crate::{Directive, Hops, Part, RequestFault};
 use cost_base::{Listed, Name, OutOfMemory};
+use pushes::push_last;
 use std::alloc::Global;
 use text_lines::{cut, first_word};
 
@@ -55,7 +56,7 @@ fn read_route(alloc: Global, first: &[u8], text: &[u8]) -> Result<Option<Hops>, 
         let Some(hop) = read_hop(alloc, word)? else {
             return Ok(None);
         };
-        add_hop(&mut hops, hop)?;
+        push_last(&mut hops, hop)?;
         word = next;
         left = rest;
     }
@@ -71,14 +72,6 @@ pub(crate) fn is_router(word: &[u8]) -> bool
     ensures { result ≡ definition.is_router_word word.now }
 {
     cut(word, b':').is_none()
-}
-
-/// Adds a hop.
-fn add_hop(hops: &mut Vec<(Name, Name)>, hop: (Name, Name)) -> Result<(), OutOfMemory>
-    ensures { OnOk result (hops.new.items ≡ hops.old.items ++ hop ∷ []) }
-{
-    hops.push(hop)?;
-    Ok(())
 }
 
 /// The router and the interface of a word R:IF, cut at its first `:`, of which neither is empty;
@@ -136,18 +129,10 @@ fn read_parts(alloc: Global, text: &[u8]) -> Result<Option<Listed<Part>>, OutOfM
         let Some(part) = read_part(alloc, word)? else {
             return Ok(None);
         };
-        add_part(&mut parts, part)?;
+        push_last(&mut parts, part)?;
         left = rest;
     }
     Ok(Some(Listed::from_items(parts)))
-}
-
-/// Adds a part.
-fn add_part(parts: &mut Vec<Part>, part: Part) -> Result<(), OutOfMemory>
-    ensures { OnOk result (parts.new.items ≡ parts.old.items ++ part ∷ []) }
-{
-    parts.push(part)?;
-    Ok(())
 }
 
 /// A router of a word R, or an interface of a word R:IF; None exactly where the word is neither.

@@ -1,5 +1,5 @@
 //! What the statements of a request file say together.
-ghost use Rattle.std.specs.Prelude.{◌≡◌, ◌+◌, ◌-◌, ◌^◌, ◌<◌, ◌++◌, ◌∷◌, [], Some, None, true, false, IfOk, IfErr, OnOk, OnErr, is_some};
+ghost use Rattle.std.specs.Prelude.{◌≡◌, ◌+◌, ◌-◌, ◌^◌, ◌<◌, [], Some, None, true, false, IfOk, IfErr, OnOk, is_some};
 ghost use Rattle.text_lines.specs.LineFaults.{TellsFault, fault_at, fault_in_line};
 ghost use Rattle.request_reader.specs.Asked.{HasGoodBounds, is_path};
 ghost use Rattle.request_reader.specs.Reading.{told_by, fault_said, asked_of};
@@ -10,7 +10,8 @@ ghost use Rattle.request_reader.specs.declared.reading.statement.Statement.TheVa
 use crate::reading::line::statement_of;
 use crate::reading::statement::Statement;
 use crate::{Directive, Item, RequestFault, RequestFile};
-use cost_base::{Listed, OutOfMemory, Refusal};
+use cost_base::{Listed, Refusal};
+use pushes::push_last;
 use std::alloc::Global;
 use std::marker::Model;
 use text_lines::StatementReader;
@@ -115,7 +116,7 @@ impl Reader {
         if is_path(&item) {
             return self.take_path(item);
         }
-        add_item(&mut self.items, item)?;
+        push_last(&mut self.items, item)?;
         Ok(())
     }
 
@@ -135,7 +136,7 @@ impl Reader {
             drop(path);
             return Err(Refusal::at(line, RequestFault::TooManyPaths));
         }
-        add_item(&mut self.items, path)?;
+        push_last(&mut self.items, path)?;
         self.paths += 1;
         Ok(())
     }
@@ -183,13 +184,4 @@ fn is_path(item: &Item) -> bool
     ensures { result ≡ is_path item.now }
 {
     matches!(item.what, Directive::Path(_, _))
-}
-
-/// Adds an item.
-fn add_item(items: &mut Vec<Item>, item: Item) -> Result<(), OutOfMemory>
-    ensures added { OnOk result (items.new.items ≡ items.old.items ++ item ∷ []) }
-    ensures kept { OnErr result (items.new.items ≡ items.old.items) }
-{
-    items.push(item)?;
-    Ok(())
 }

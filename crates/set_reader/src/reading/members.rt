@@ -1,6 +1,6 @@
 //! The members of a set.
 ghost use Rattle.std.specs.Prelude.{◌≡◌, ◌↔◌, ◌^◌, ◌<◌, ℕ, List, ◌++◌, ◌∷◌, ◌||◌, [], not, true, false, length, map, All, IsTrue};
-ghost use Rattle.std.specs.Prelude.{IfOk, IfErr, IfSome, OnOk, MatchOption, slice_index_or};
+ghost use Rattle.std.specs.Prelude.{IfOk, IfErr, IfSome, MatchOption, slice_index_or};
 ghost use Rattle.std.specs.List.{list_any};
 ghost use Rattle.cost_base.specs.Lists.{same_bytes};
 ghost use Rattle.area_graph.specs.Distances.{AreEdgeMarks};
@@ -13,6 +13,7 @@ use crate::SetFault;
 use cost_base::{OutOfMemory, Refusal};
 use design_problem::Request;
 use indexmap::IndexSet;
+use pushes::push_last;
 use std::alloc::Global;
 
 /// Whether the paths of two requests lead between the same ends.
@@ -109,17 +110,10 @@ pub(crate) fn read_members(
         if !see(&mut seen, request)? {
             return Err(Refusal::at(line, SetFault::WrongSet));
         }
-        add_member(&mut members, *number as u32)?;
+        push_last(&mut members, *number as u32)?;
     }
     members.sort_unstable();
     Ok(members)
-}
-
-/// Adds a member.
-fn add_member(members: &mut Vec<u32>, member: u32) -> Result<(), OutOfMemory>
-    ensures { OnOk result (members.new.items ≡ members.old.items ++ member ∷ []) }
-{
-    Ok(members.push(member)?)
 }
 
 /// Marks the members of a set, beside what is marked.

@@ -23,10 +23,10 @@ loop-index-preserved c =
     let n = length p.low in
     record {
       rows = rows_more p rows k row c.loop-index-test.true c.index-rows-index.is is_row c.loop-index.invariant.rows;
-      forms = forms_more (form_of_row p) c.loop-index.forms.items c.push_form.new.forms.items c.in_ok-form.form rows k
-          row c.in_ok-push_form.ensures c.in_ok-form.ensures.form c.loop-index-test.true c.index-rows-index.is
+      forms = forms_more (form_of_row p) c.loop-index.forms.items c.push_last.new.things.items c.in_ok-form.form rows k
+          row c.in_ok-push_last.ensures.added c.in_ok-form.ensures.form c.loop-index-test.true c.index-rows-index.is
           c.loop-index.invariant.forms;
-      small = subst (λ (fs : List Form). All (IsSmallForm n) fs) (sym c.in_ok-push_form.ensures)
+      small = subst (λ (fs : List Form). All (IsSmallForm n) fs) (sym c.in_ok-push_last.ensures.added)
           (All-push (IsSmallForm n) c.loop-index.forms.items c.in_ok-form.form c.loop-index.invariant.small
           c.in_ok-form.ensures.small);
       first = first_goes_on p rows k row c.loop-index-test.true c.index-rows-index.is is_row c.loop-index.invariant.first;

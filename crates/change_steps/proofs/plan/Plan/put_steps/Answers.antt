@@ -1,9 +1,8 @@
-use Rattle.std.proofs.Common.{◌∙◌, ◌++◌, ℕ, Vec, Global, ap, append-nil, arith, filter, sym}
+use Rattle.std.proofs.Common.{◌∙◌, ◌++◌, ℕ, ap, append-nil, arith, filter, sym}
 use Rattle.cost_base.specs.Lists.{numbers_from}
 use Rattle.change_steps.specs.Kinds.{has_kind, kind_of_step}
-use Rattle.change_steps.proofs.PlanLaws.{kept_push, kept_same}
+use Rattle.change_steps.proofs.PlanLaws.{kept_more}
 use Rattle.change_steps.proofs.plan.Plan.put_steps.Goals as goal
-use Rattle.change_steps.proofs.plan.Plan.put_steps.Goals.{then-is_kind+in_ok-push, else-is_kind}
 
 pub loop-step-init : goal.loop-step-init
 loop-step-init c = sym (append-nil c.args.steps.now.items)
@@ -12,16 +11,10 @@ pub kind-requires : goal.kind-requires
 kind-requires c = let below = c.loop-step-test.true in let count = c.step_count-step-end.ensures in omega (arith, below, count)
 
 pub loop-step-preserved : goal.loop-step-preserved
-loop-step-preserved c = elim c.if-is_kind.branch [
-  | then-is_kind+in_ok-push w ↦
-      kept_push c.args.steps.now.items c.loop-step.steps.items c.if-is_kind.steps.items (λ k. has_kind c.args.kind (kind_of_step c.args.self.now.rollout c.args.self.now.held k))
-      c.loop-step.step (ap (has_kind c.args.kind) (sym c.kind.ensures) ∙ sym c.is_kind.ensures ∙ w.if-is_kind.true) c.loop-step.invariant
-      (ap (λ (v : Vec ℕ Global). v.items) w.steps-is ∙ w.in_ok-push.ensures.items)
-  | else-is_kind w ↦
-      kept_same c.args.steps.now.items c.loop-step.steps.items c.if-is_kind.steps.items (λ k. has_kind c.args.kind (kind_of_step c.args.self.now.rollout c.args.self.now.held k))
-      c.loop-step.step (ap (has_kind c.args.kind) (sym c.kind.ensures) ∙ sym c.is_kind.ensures ∙ w.if-is_kind.false) c.loop-step.invariant
-      (ap (λ (v : Vec ℕ Global). v.items) w.steps-is)
-]
+loop-step-preserved c =
+    kept_more c.args.steps.now.items c.loop-step.steps.items c.push_if.new.things.items
+    (λ k. has_kind c.args.kind (kind_of_step c.args.self.now.rollout c.args.self.now.held k)) c.loop-step.step c.is_kind.result
+    (ap (has_kind c.args.kind) (sym c.kind.ensures) ∙ sym c.is_kind.ensures) c.loop-step.invariant c.in_ok-push_if.ensures
 
 pub returns : goal.returns
 returns c =

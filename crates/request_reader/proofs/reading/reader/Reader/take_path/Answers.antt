@@ -22,14 +22,14 @@ returns-clause-taken c =
 pub invariant_of-self : goal.invariant_of-self
 invariant_of-self c =
     subst (λ (items : List Item). KeepsTold c.self.inside.default_cost c.self.inside.paths items)
-    (sym c.in_err-add_item.ensures.kept) c.self.invariant
+    (sym c.in_err-push_last.ensures.kept) c.self.invariant
 
 pub invariant_of-self-2 : goal.invariant_of-self-2
 invariant_of-self-2 c =
-    path_kept c.self.inside.default_cost c.self.inside.paths c.self.inside.items.items c.add_item.new.items.items c.args.path
-    c.self.invariant c.requires.bounds c.requires.path c.if-self-ge-MOST_PATHS.false c.in_ok-add_item.ensures.added
+    path_kept c.self.inside.default_cost c.self.inside.paths c.self.inside.items.items c.push_last.new.things.items c.args.path
+    c.self.invariant c.requires.bounds c.requires.path c.if-self-ge-MOST_PATHS.false c.in_ok-push_last.ensures.added
 
 pub returns-clause-told : goal.returns-clause-told
 returns-clause-told c =
     item_told c.self.inside.area c.self.inside.default_cost c.self.inside.items.items
-    c.add_item.new.items.items c.args.path c.args.self.now c.self.view_is c.in_ok-add_item.ensures.added
+    c.push_last.new.things.items c.args.path c.args.self.now c.self.view_is c.in_ok-push_last.ensures.added
