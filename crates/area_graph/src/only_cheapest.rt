@@ -13,7 +13,7 @@ use crate::passes::put_distances;
 use crate::paths::edge_of;
 use crate::subgraph::Subgraph;
 use crate::{Graph, Path, Point};
-use cost_base::OutOfMemory;
+use cost_base::{OutOfMemory, no_marks};
 use std::alloc::Global;
 
 /// What no path costs at scale 1: one over at most 1,000 routers, each left at a cost of at most 65535, costs less.
@@ -132,7 +132,7 @@ pub fn is_only_cheapest(
         (ends_wanted wanted.now) wanted.now.path.now.edges) }
 {
     graph.keeps_conditions();
-    let mut marks = vec![in alloc; false; graph.edges().len()]?;
+    let mut marks = no_marks(alloc, graph.edges().len())?;
     mark_excluded(&mut marks, wanted.excluded);
     let exclusion = Exclusion {
         excluded: wanted.excluded,

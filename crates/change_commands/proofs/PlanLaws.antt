@@ -1,14 +1,16 @@
 -- The steps that cost lines make, line by line and link by link.
 use Rattle.std.proofs.Common.{◌≡◌, ℕ, zero, suc, ◌+◌, ◌<◌, ◌≤◌, refl, sym, ◌∙◌, ap, subst, List, [], ◌∷◌, ◌++◌, length, map, filter, drop, get_or, arith, All, append_assoc, inl, inr, Bool, true, false, cond, Option, None, Some}
-use Rattle.std.specs.Prelude.{◌==◌, ◌||◌, ◌⊎◌, slice_index, slice_set, slice_index_or}
+use Rattle.std.specs.Prelude.{◌==◌, ◌||◌, ◌⊎◌, slice_index, slice_set}
 use Rattle.std.specs.List.{cons_option, list_any}
-use Rattle.std.proofs.lemmas.Bool.{eqb-true, eq-eqb, ne_eqb}
-use Rattle.std.proofs.lemmas.List.{at_drop_all, at_drop_more, get_or_default, length-set, get_or-set_same, get_or-set_other}
+use Rattle.std.proofs.Math.Bool.{or_comm}
+use Rattle.std.proofs.lemmas.Bool.{eqb-true}
+use Rattle.std.proofs.lemmas.List.{at_drop_all, at_drop_more, get_or_default, length-set}
 use Rattle.std.proofs.lemmas.List.Elements.{All-cons, All-filter, All-head, All-nil, All-set, All-tail, filter_map-append}
 use Rattle.std.proofs.lemmas.Option.{slice_get_within}
-use native.Mathlib.Decide.{ℕ_discrete}
 use Rattle.cost_base.specs.Lists.{numbers_from, Has}
 use Rattle.cost_base.proofs.ListLemmas.{all_kept, numbers_from-push}
+use Rattle.marks.specs.Marks.{is_marked, is_one_of}
+use Rattle.marks.proofs.MarkLaws.{written_mark}
 use Rattle.lsdb_build.specs.declared.Linked.{Linked}
 use Rattle.lsdb_build.specs.Graphs.{Database, router_of}
 use Rattle.design_problem.specs.declared.answer.CostLine.{CostLine}
@@ -46,12 +48,8 @@ fault_none d before line known new = rw (known, new) refl
 -- one link more is marked
 pub marked_more : (before : List ℕ) (seen : List Bool) (l : ℕ) → l < length seen → AreSeen before seen → AreSeen (l ∷ before) (slice_set seen l true)
 marked_more before seen l within marked k =
-    elim (ℕ_discrete k l) [
-      | yes same ↦ ap (λ n. get_or (slice_set seen l true) n false) same ∙ get_or-set_same seen l true false within
-          ∙ sym (ap (λ b. b || list_any (λ m. m == k) before) (eq-eqb l k (sym same)))
-      | no other ↦ get_or-set_other seen l k true false other ∙ marked k
-          ∙ sym (ap (λ b. b || list_any (λ m. m == k) before) (ne_eqb l k (λ same. other (sym same))))
-    ]
+    written_mark seen l k (λ same. within)
+    ∙ ap (λ (b : Bool). b || (l == k)) (marked k) ∙ or_comm (is_one_of before k) (l == k)
 
 -- how far the lines were taken: what the rest comes to is what all come to
 pub record AreTakenTo (d : Database) (present : List ℕ) (lines : List CostLine) (i : ℕ) (costs : List ℕ) (seen : List Bool) : Type 0 where
@@ -64,7 +62,7 @@ pub record AreTakenTo (d : Database) (present : List ℕ) (lines : List CostLine
 
 -- no line is taken yet
 pub none_taken : (d : Database) (present : List ℕ) (lines : List CostLine) (costs : List ℕ) (seen : List Bool) → costs ≡ present →
-    length seen ≡ length present → ((k : ℕ) → slice_index_or seen k false ≡ false) → length present ≡ length d.links →
+    length seen ≡ length present → ((k : ℕ) → is_marked seen k ≡ false) → length present ≡ length d.links →
     AreTakenTo d present lines 0 costs seen
 none_taken d present lines costs seen same counted none count = record {
   before = [];

@@ -5,8 +5,9 @@ use Rattle.std.specs.List.Sorted.{IsStrictlyIncreasing}
 use Rattle.std.proofs.lemmas.Bool.{both_ways, cases_lt}
 use Rattle.std.proofs.lemmas.List.{get_or_append_left, get_or_at, length_push}
 use Rattle.std.proofs.lemmas.List.Elements.{All-nil, All-push, All-weaker, Contains-append_left, Contains-push}
+use Rattle.marks.specs.Marks.{is_marked}
 use Rattle.change_steps.specs.Rollouts.{Rollout}
-use Rattle.change_steps.specs.States.{is_done_in, marks_of}
+use Rattle.change_steps.specs.States.{marks_of}
 use Rattle.change_steps.proofs.StateCosts.{only_agree}
 use Rattle.change_steps.proofs.MarkLaws.{marks_at}
 use Rattle.change_steps.specs.Orders.{AreHeld, IsOnlyIn, all_done, none_done}
@@ -85,19 +86,19 @@ held_less r n held are lost = record {
 }
 
 -- a path in a state and by its marks
-pub only_from_marks : (r : Rollout) (f : ℕ → Bool) (marks : List Bool) (k : ℕ) → marks ≡ marks_of r f → IsOnlyIn r (is_done_in marks) k → IsOnlyIn r f k
+pub only_from_marks : (r : Rollout) (f : ℕ → Bool) (marks : List Bool) (k : ℕ) → marks ≡ marks_of r f → IsOnlyIn r (is_marked marks) k → IsOnlyIn r f k
 only_from_marks r f marks k same only =
-    only_agree r (is_done_in marks) f k (λ i within. ap (λ (ms : List Bool). is_done_in ms i) same ∙ marks_at r f i within) only
+    only_agree r (is_marked marks) f k (λ i within. ap (λ (ms : List Bool). is_marked ms i) same ∙ marks_at r f i within) only
 
-pub only_to_marks : (r : Rollout) (f : ℕ → Bool) (marks : List Bool) (k : ℕ) → marks ≡ marks_of r f → IsOnlyIn r f k → IsOnlyIn r (is_done_in marks) k
+pub only_to_marks : (r : Rollout) (f : ℕ → Bool) (marks : List Bool) (k : ℕ) → marks ≡ marks_of r f → IsOnlyIn r f k → IsOnlyIn r (is_marked marks) k
 only_to_marks r f marks k same only =
-    only_agree r f (is_done_in marks) k (λ i within. sym (ap (λ (ms : List Bool). is_done_in ms i) same ∙ marks_at r f i within)) only
+    only_agree r f (is_marked marks) k (λ i within. sym (ap (λ (ms : List Bool). is_marked ms i) same ∙ marks_at r f i within)) only
 
 -- one more, put behind those that are held, where it is by the marks of both states
 pub held_if : (r : Rollout) (n : ℕ) (held new : List ℕ) (present wanted : List Bool) (both : Bool) → AreHeldBelow r n held →
     present ≡ marks_of r none_done → wanted ≡ marks_of r all_done →
-    (both ≡ true → IsOnlyIn r (is_done_in present) n × IsOnlyIn r (is_done_in wanted) n) →
-    (IsOnlyIn r (is_done_in present) n × IsOnlyIn r (is_done_in wanted) n → both ≡ true) → new ≡ cond both (held ++ n ∷ []) held →
+    (both ≡ true → IsOnlyIn r (is_marked present) n × IsOnlyIn r (is_marked wanted) n) →
+    (IsOnlyIn r (is_marked present) n × IsOnlyIn r (is_marked wanted) n → both ≡ true) → new ≡ cond both (held ++ n ∷ []) held →
     AreHeldBelow r (n + 1) new
 held_if r n held new present wanted true are none all tells told is =
     let only = tells refl in

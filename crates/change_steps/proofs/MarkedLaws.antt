@@ -1,11 +1,13 @@
 -- Variables on paths, item by item, and edges that have variables of their own.
-use Rattle.std.proofs.Common.{◌≡◌, ℕ, ◌+◌, ◌<◌, ◌≤◌, refl, sym, ◌∙◌, ap, subst, List, [], ◌++◌, All, length, get_or, take, drop, inl, inr, arith, Bool, true, false, ◌||◌, ◌&&◌, take_all}
-use Rattle.std.specs.Prelude.{not}
+use Rattle.std.proofs.Common.{◌≡◌, ℕ, ◌+◌, ◌<◌, ◌≤◌, refl, sym, ◌∙◌, ap, subst, List, [], ◌++◌, All, length, get_or, set, take, drop, inl, inr, arith, Bool, true, false, ◌||◌, ◌&&◌, take_all}
+use Rattle.std.specs.Prelude.{not, ◌==◌}
 use Rattle.std.proofs.Math.Bool.{or_assoc}
 use Rattle.std.proofs.lemmas.Bool.{and_from, and_parts, both_ways, cases_lt, not_from_false, not-true, false≢true}
 use Rattle.std.proofs.lemmas.List.{drop_more, take-append-drop}
 use Rattle.std.proofs.lemmas.List.Folds.{list_all_at, list_all_more, list_any_at, list_any_more}
 use Rattle.std.specs.List.{list_all}
+use Rattle.marks.specs.Marks.{is_marked}
+use Rattle.marks.proofs.MarkLaws.{written_mark}
 use Rattle.area_graph.specs.Area.{Area, edge_at}
 use Rattle.area_graph.specs.Paths.{IsPathOf}
 use Rattle.area_graph.proofs.Visits.{joined_known}
@@ -16,9 +18,14 @@ use Rattle.change_steps.specs.declared.kinds.Kind.TheVariants.{First, Between, L
 use Rattle.change_steps.specs.Rollouts.{IsRollout, Rollout, step_count}
 use Rattle.change_steps.specs.Orders.{IsOnlyIn}
 use Rattle.change_steps.specs.Kinds.{comes_between, falls_off_held, goes_over, kind_of_step, lies_on_held, rises, rises_off_held}
-use Rattle.change_steps.specs.States.{MayFollow, is_done_in}
+use Rattle.change_steps.specs.States.{MayFollow}
 use Rattle.change_steps.specs.Outcomes.{IsFirstLost}
 use Rattle.change_steps.specs.Search.{AreHeldMarks}
+
+-- marks behind a write, where there is one of the number
+pub mark_written : (old new : List Bool) (place v : ℕ) → new ≡ set old place true → v < length old → is_marked new v ≡ (is_marked old v || (place == v))
+mark_written old new place v put within =
+    ap (λ (ms : List Bool). is_marked ms v) put ∙ written_mark old place v (λ same. subst (λ (k : ℕ). k < length old) same within)
 
 -- Paths.
 
@@ -136,24 +143,24 @@ between_is Between is = refl
 between_is Last is = absurd (false≢true is)
 
 pub follows_by : (r : Rollout) (held : List ℕ) (marks : List Bool) (k : ℕ) → k < step_count r →
-    (comes_between (kind_of_step r held k) && not (is_done_in marks k)) ≡ true → MayFollow r held marks k
+    (comes_between (kind_of_step r held k) && not (is_marked marks k)) ≡ true → MayFollow r held marks k
 follows_by r held marks k known test =
-    let parts = and_parts (comes_between (kind_of_step r held k)) (not (is_done_in marks k)) test in
-    record { known = known; between = between_is (kind_of_step r held k) parts.0; left = not-true (is_done_in marks k) parts.1 }
+    let parts = and_parts (comes_between (kind_of_step r held k)) (not (is_marked marks k)) test in
+    record { known = known; between = between_is (kind_of_step r held k) parts.0; left = not-true (is_marked marks k) parts.1 }
 
 pub follows_test : (r : Rollout) (held : List ℕ) (marks : List Bool) (k : ℕ) → MayFollow r held marks k →
-    (comes_between (kind_of_step r held k) && not (is_done_in marks k)) ≡ true
+    (comes_between (kind_of_step r held k) && not (is_marked marks k)) ≡ true
 follows_test r held marks k follows =
-    and_from (comes_between (kind_of_step r held k)) (not (is_done_in marks k)) (ap comes_between follows.between) (not_from_false (is_done_in marks k) follows.left)
+    and_from (comes_between (kind_of_step r held k)) (not (is_marked marks k)) (ap comes_between follows.between) (not_from_false (is_marked marks k) follows.left)
 
 -- none of the first n, and one more
 pub none_follow_more : (r : Rollout) (held : List ℕ) (marks : List Bool) (n : ℕ) → ((k : ℕ) → k < n → MayFollow r held marks k → ⊥) →
-    (comes_between (kind_of_step r held n) && not (is_done_in marks n)) ≡ false → (k : ℕ) → k < n + 1 → MayFollow r held marks k → ⊥
+    (comes_between (kind_of_step r held n) && not (is_marked marks n)) ≡ false → (k : ℕ) → k < n + 1 → MayFollow r held marks k → ⊥
 none_follow_more r held marks n none test k below follows = elim (cases_lt k n) [
   | inl before ↦ none k before follows
   | inr last ↦
       let same : k ≡ n = omega (arith, below, last) in
-      both_ways (comes_between (kind_of_step r held n) && not (is_done_in marks n)) test
+      both_ways (comes_between (kind_of_step r held n) && not (is_marked marks n)) test
       (follows_test r held marks n (subst (MayFollow r held marks) same follows))
 ]
 

@@ -6,14 +6,15 @@ use Rattle.std.proofs.lemmas.List.{take-append-le, take_all, length-append}
 use Rattle.std.proofs.lemmas.List.Elements.{All-append, All-push, Contains-append_left, Contains-append_right}
 use Rattle.cost_base.specs.Lists.{Has, Lacks, NoneTwice, numbers_from}
 use Rattle.cost_base.proofs.ListLemmas.{All-left, all_kept, none_twice_push}
+use Rattle.marks.specs.Marks.{is_one_of}
+use Rattle.marks.proofs.MarkLaws.{has_one_of, one_of_has}
 use Rattle.change_steps.specs.declared.kinds.Kind.{Kind}
 use Rattle.change_steps.specs.declared.kinds.Kind.TheVariants.{First, Between, Last}
 use Rattle.change_steps.specs.Rollouts.{IsRollout, Rollout, step_count}
-use Rattle.change_steps.specs.Orders.{AreHeld, IsSafe, IsSafeLine, IsSafeOrder, all_done, is_one_of, none_done}
+use Rattle.change_steps.specs.Orders.{AreHeld, IsSafe, IsSafeLine, IsSafeOrder, all_done, none_done}
 use Rattle.change_steps.specs.Kinds.{comes_first, comes_last, first_steps, kind_of_step}
 use Rattle.change_steps.specs.States.{first_state, marks_of}
 use Rattle.change_steps.proofs.Keeping.{has_lacks, known_if, lacks_unless}
-use Rattle.change_steps.proofs.StateCosts.{has_one_of, one_of_has}
 use Rattle.change_steps.proofs.KindLaws.{eased_safe}
 use Rattle.change_steps.proofs.MarkLaws.{marks_agree}
 

@@ -4,6 +4,8 @@ use Rattle.std.proofs.lemmas.Bool.{both_ways, cases_Bool, cases_lt, cond-false, 
 use Rattle.std.proofs.lemmas.List.{get_or_append_left, get_or_at, get_or_default, get_or_past, length_push}
 use Rattle.cost_base.specs.Lists.{Has}
 use Rattle.cost_base.proofs.ListLemmas.{all_kept, get_or-map-numbers_from, kept_all, length-map-numbers_from}
+use Rattle.marks.specs.Marks.{is_marked, is_one_of}
+use Rattle.marks.proofs.MarkLaws.{has_one_of, one_of_has}
 use Rattle.area_graph.specs.declared.Edge.{Edge}
 use Rattle.area_graph.specs.declared.Point.{Point}
 use Rattle.area_graph.specs.declared.Price.TheVariants.{Var}
@@ -16,13 +18,12 @@ use Rattle.design_problem.specs.Problems.{request_at, request_ends}
 use Rattle.spf_ties.specs.Distances.{IsLeastCost}
 use Rattle.change_steps.specs.declared.reach.Reach.{Reach}
 use Rattle.change_steps.specs.Rollouts.{CostMoves, IsInterfaceCost, IsRollout, Rollout, lines_of_step, step_count}
-use Rattle.change_steps.specs.Orders.{IsOnlyIn, costs_in, is_changed, is_one_of}
-use Rattle.change_steps.specs.States.{is_done_in}
+use Rattle.change_steps.specs.Orders.{IsOnlyIn, costs_in, is_changed}
 use Rattle.change_steps.specs.Search.{HasMore}
 use Rattle.change_steps.specs.Reaches.{AreLeastToEach, AreDearerOver, AreLeastTo, IsHarmless, IsReach, least_from_to, edges_of_step, has_price, least_cost, least_costs, price_rises}
 use Rattle.change_steps.proofs.Keeping.{known_if, only_unless, paid, pays_more}
 use Rattle.change_steps.proofs.Passages.{costs_over}
-use Rattle.change_steps.proofs.StateCosts.{changed_if, cost_at, cost_changed, cost_left, costs_le, has_one_of, one_of_has, price_le}
+use Rattle.change_steps.proofs.StateCosts.{changed_if, cost_at, cost_changed, cost_left, costs_le, price_le}
 use Rattle.change_steps.proofs.KindLaws.{between_costs, same_change}
 use Rattle.change_steps.proofs.StateLaws.{point_fits}
 
@@ -149,7 +150,7 @@ step_within r reach step is known = let count = ap length is.edges ∙ length-ma
 
 -- a price in a state is an interface cost
 pub price_below : (r : Rollout) (g : Area) (marks : List Bool) (p : Point) (e : ℕ) (edge : Edge) → IsRollout r → HasMetrics g → g ≡ r.graph →
-    p ≡ at_costs (costs_in r.moves (is_done_in marks)) → e < length r.graph.edges → edge ≡ edge_at g e → price_at p edge.price ≤ 65535
+    p ≡ at_costs (costs_in r.moves (is_marked marks)) → e < length r.graph.edges → edge ≡ edge_at g e → price_at p edge.price ≤ 65535
 price_below r g marks p e edge is metrics graph same known edge_is =
     let fits = point_fits r g marks p is graph same in
     let within : e < length g.edges = subst (λ (h : Area). e < length h.edges) (sym graph) known in

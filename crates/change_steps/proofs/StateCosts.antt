@@ -6,6 +6,8 @@ use Rattle.std.proofs.lemmas.List.{get_or_default, get_or_past}
 use Rattle.std.proofs.lemmas.List.Folds.{Any-from_list_any, list_any_at}
 use Rattle.cost_base.specs.Lists.{Has, numbers_from}
 use Rattle.cost_base.proofs.ListLemmas.{get_or-map-numbers_from, get_or-numbers_from, length-map-numbers_from, length-numbers_from, map-numbers_from-agree, same_test}
+use Rattle.marks.specs.Marks.{is_one_of}
+use Rattle.marks.proofs.MarkLaws.{has_one_of, one_of_has}
 use Rattle.area_graph.specs.declared.Price.{Price}
 use Rattle.area_graph.specs.declared.Price.TheVariants.{Fixed, Var, Zero}
 use Rattle.area_graph.specs.Area.{Area, edge_at}
@@ -13,25 +15,11 @@ use Rattle.area_graph.specs.Costs.{FitsPoint, IsOnlyCheapest, IsPriced, at_costs
 use Rattle.design_problem.specs.Problems.{request_at, request_ends}
 use Rattle.design_problem.specs.Rows.{is_var}
 use Rattle.change_steps.specs.Rollouts.{AreMoves, CostMoves, IsInterfaceCost, IsRollout, Rollout, lines_of_step}
-use Rattle.change_steps.specs.Orders.{IsOnlyIn, IsSafe, cost_in, costs_in, is_changed, is_one_of}
+use Rattle.change_steps.specs.Orders.{IsOnlyIn, IsSafe, cost_in, costs_in, is_changed}
 use Rattle.change_steps.specs.Kinds.{goes_over}
 use Rattle.change_steps.proofs.Keeping.{only_kept}
 
 -- Tests and what they tell.
-
-pub one_of_has : (xs : List ℕ) (x : ℕ) → is_one_of xs x ≡ true → Has xs x
-one_of_has [] x is = absurd (false≢true is)
-one_of_has (y ∷ ys) x is = elim (or_cases (y == x) (is_one_of ys x) is) [
-  | inl here ↦ inl (sym (eqb-true y x here))
-  | inr later ↦ inr (one_of_has ys x later)
-]
-
-pub has_one_of : (xs : List ℕ) (x : ℕ) → Has xs x → is_one_of xs x ≡ true
-has_one_of [] x has = absurd has
-has_one_of (y ∷ ys) x has = elim has [
-  | inl here ↦ or_left (y == x) (is_one_of ys x) (eq-eqb y x (sym here))
-  | inr later ↦ or_right (y == x) (is_one_of ys x) (has_one_of ys x later)
-]
 
 -- a test that some number below n passes
 pub passed_below : (p : ℕ → Bool) (n : ℕ) → list_any p (numbers_from 0 n) ≡ true → (k : ℕ) × (k < n) × (p k ≡ true)

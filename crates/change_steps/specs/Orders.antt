@@ -1,15 +1,12 @@
 -- States of a rollout, the paths that it has to hold, and safe orders of its steps.
-use Rattle.std.specs.Prelude.{ℕ, ◌<◌, ◌≤◌, ◌==◌, ◌&&◌, Bool, true, false, cond, List, length, map, take, slice_index, All, Contains}
+use Rattle.std.specs.Prelude.{ℕ, ◌<◌, ◌≤◌, ◌&&◌, Bool, true, false, cond, List, length, map, take, slice_index, All, Contains}
 use Rattle.std.specs.List.{list_any}
 use Rattle.std.specs.List.Sorted.{IsStrictlyIncreasing}
 use Rattle.cost_base.specs.Lists.{NoneTwice, numbers_from}
+use Rattle.marks.specs.Marks.{is_one_of}
 use Rattle.area_graph.specs.Costs.{IsOnlyCheapest, at_costs}
 use Rattle.design_problem.specs.Problems.{request_at, request_ends}
 use Rattle.change_steps.specs.Rollouts.{CostMoves, Rollout, lines_of_step, step_count}
-
--- whether the number is one of these
-abbrev pub is_one_of : List ℕ → ℕ → Bool
-is_one_of xs x = list_any (λ y. y == x) xs
 
 -- A state says of each step whether it is done.
 

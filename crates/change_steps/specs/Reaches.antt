@@ -1,6 +1,7 @@
 -- What rivals cost at least that go over the links of a step. No public clause cites it.
 use Rattle.std.specs.Prelude.{◌≡◌, ℕ, nat_lt, ◌<◌, ◌≤◌, ◌⊎◌, Bool, true, false, cond, List, [], filter, length, map, slice_index, slice_index_or}
 use Rattle.cost_base.specs.Lists.{Has, numbers_from}
+use Rattle.marks.specs.Marks.{is_one_of}
 use Rattle.area_graph.specs.declared.Point.{Point}
 use Rattle.area_graph.specs.declared.Price.{Price}
 use Rattle.area_graph.specs.declared.Price.TheVariants.{Fixed, Var, Zero}
@@ -10,7 +11,7 @@ use Rattle.area_graph.specs.Costs.{at_costs, cost}
 use Rattle.design_problem.specs.Problems.{request_at, request_ends}
 use Rattle.change_steps.specs.declared.reach.Reach.{Reach}
 use Rattle.change_steps.specs.Rollouts.{CostMoves, Rollout, lines_of_step, step_count}
-use Rattle.change_steps.specs.Orders.{costs_in, is_one_of}
+use Rattle.change_steps.specs.Orders.{costs_in}
 use Rattle.change_steps.specs.Kinds.{rises}
 
 -- the price is the cost of one of these variables

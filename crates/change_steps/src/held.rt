@@ -1,8 +1,9 @@
 //! The paths that a rollout has to hold.
 ghost use Rattle.std.specs.Prelude.{◌≡◌, ◌↔◌, ◌<◌, IfOk, IsTrue, length};
+ghost use Rattle.marks.specs.Marks.{is_marked};
 ghost use Rattle.spf_ties.specs.Distances.{IsRoomFor};
 ghost use Rattle.change_steps.specs.Orders.{AreHeld, IsOnlyIn, all_done, none_done};
-ghost use Rattle.change_steps.specs.States.{is_done_in, marks_of};
+ghost use Rattle.change_steps.specs.States.{marks_of};
 ghost use Rattle.change_steps.specs.Search.{IsStateOf};
 
 use crate::rollout::Rollout;
@@ -29,8 +30,8 @@ fn is_only_in_both(
     ensures room { IsRoomFor rollout.now.graph room.new }
 
     // It tells of the request's path in the one state and in the other.
-    ensures both { IsTrue result ↔ (IsOnlyIn rollout.now (is_done_in first.now.done.items) number ×
-        IsOnlyIn rollout.now (is_done_in second.now.done.items) number) }
+    ensures both { IsTrue result ↔ (IsOnlyIn rollout.now (is_marked first.now.done.items) number ×
+        IsOnlyIn rollout.now (is_marked second.now.done.items) number) }
 {
     if !first.is_only(rollout, number, room) {
         return false;

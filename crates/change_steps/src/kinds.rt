@@ -1,7 +1,8 @@
 //! Which steps come first and last.
-ghost use Rattle.std.specs.Prelude.{◌≡◌, ◌<◌, ◌||◌, ℕ, All, List, IfOk, false, length, map, slice_index_or};
+ghost use Rattle.std.specs.Prelude.{◌≡◌, ◌<◌, ◌||◌, ℕ, All, List, IfOk, length, map};
 ghost use Rattle.std.specs.List.{list_all};
 ghost use Rattle.cost_base.specs.Lists.{numbers_from};
+ghost use Rattle.marks.specs.Marks.{is_marked};
 ghost use Rattle.design_problem.specs.Rows.{is_var};
 ghost use Rattle.change_steps.specs.Rollouts.{lines_of_step, step_count};
 ghost use Rattle.change_steps.specs.Kinds.{falls_off_held, goes_over, has_kind, kind_of_step, lies_on_held, rises, rises_off_held};
@@ -10,6 +11,7 @@ ghost use Rattle.change_steps.specs.Search.{AreHeldMarks};
 use crate::rollout::Rollout;
 use area_graph::{Graph, Price, edge_of};
 use cost_base::{OutOfMemory, no_marks};
+use marks::mark_within;
 use std::alloc::Global;
 
 /// When a step is done, by where its lines lie and whether their costs rise.
@@ -38,13 +40,12 @@ pub(crate) fn is_kind(kind: Kind, other: Kind) -> bool
 /// Marks the variable of a price, if it is one of those that have marks.
 fn mark_price(marks: &mut Vec<bool>, price: Price)
     ensures count { length marks.new.items ≡ length marks.old.items }
-    ensures marks { (v : ℕ) → v < length marks.old.items → slice_index_or marks.new.items v false ≡
-        (slice_index_or marks.old.items v false || is_var v price) }
+    ensures marks { (v : ℕ) → v < length marks.old.items → is_marked marks.new.items v ≡
+        (is_marked marks.old.items v || is_var v price) }
 {
-    if let Price::Var(number) = price {
-        if (number as usize) < marks.len() {
-            marks[number as usize] = true;
-        }
+    match price {
+        Price::Var(number) => mark_within(marks, number as usize),
+        Price::Fixed(_) | Price::Zero => {}
     }
 }
 
@@ -52,8 +53,8 @@ fn mark_price(marks: &mut Vec<bool>, price: Price)
 fn mark_path(marks: &mut Vec<bool>, graph: &Graph, edges: &[u32])
     requires { All (λ e. e < length graph.now.edges) edges.now }
     ensures count { length marks.new.items ≡ length marks.old.items }
-    ensures marks { (v : ℕ) → v < length marks.old.items → slice_index_or marks.new.items v false ≡
-        (slice_index_or marks.old.items v false || goes_over graph.now edges.now v) }
+    ensures marks { (v : ℕ) → v < length marks.old.items → is_marked marks.new.items v ≡
+        (is_marked marks.old.items v || goes_over graph.now edges.now v) }
 {
     for edge in edges {
         mark_price(marks, edge_of(graph, *edge).price);

@@ -2,12 +2,13 @@
 ghost use Rattle.std.specs.Prelude.{◌≡◌, ◌++◌, ◌↔◌, ◌<◌, ◌&&◌, ℕ, All, Bool, IfOk, IsTrue, List, MatchOption, OnOk, false, filter, length, not, slice_index_or, true};
 ghost use Rattle.std.specs.List.{list_all};
 ghost use Rattle.cost_base.specs.Lists.{numbers_from};
+ghost use Rattle.marks.specs.Marks.{is_marked};
 ghost use Rattle.spf_ties.specs.Distances.{IsRoomFor};
 ghost use Rattle.design_problem.specs.Problems.{request_at};
 ghost use Rattle.change_steps.specs.Rollouts.{IsRollout, lines_of_step, step_count};
 ghost use Rattle.change_steps.specs.Orders.{AreHeld, IsSafe, IsOnlyIn};
 ghost use Rattle.change_steps.specs.Kinds.{comes_between, goes_over, has_kind, kind_of_step};
-ghost use Rattle.change_steps.specs.States.{MayFollow, is_done_in};
+ghost use Rattle.change_steps.specs.States.{MayFollow};
 ghost use Rattle.change_steps.specs.Outcomes.{IsFirstLost};
 ghost use Rattle.change_steps.specs.Search.{HasMore, HeldRollout, IsStateOf};
 
@@ -131,7 +132,7 @@ impl<'a> Plan<'a> {
         requires count { length done.now ≡ step_count self.now.rollout }
         requires step { step < step_count self.now.rollout }
         ensures { result ≡ (comes_between (kind_of_step self.now.rollout self.now.held step) &&
-            not (is_done_in done.now step)) }
+            not (is_marked done.now step)) }
     {
         if is_kind(Kind::Between, self.kind(step)) {
             !done[step]
@@ -173,8 +174,8 @@ impl<'a> Plan<'a> {
         requires step { step < step_count self.now.rollout }
         requires known { number < length self.now.rollout.paths }
         ensures { IsTrue result → (before : ℕ → Bool) → HasMore self.now.rollout before
-            (is_done_in state.now.done.items) step → IsOnlyIn self.now.rollout before number →
-            IsOnlyIn self.now.rollout (is_done_in state.now.done.items) number }
+            (is_marked state.now.done.items) step → IsOnlyIn self.now.rollout before number →
+            IsOnlyIn self.now.rollout (is_marked state.now.done.items) number }
     {
         self.reach.spares(&self.rollout, state, number, step)
     }
@@ -185,10 +186,10 @@ impl<'a> Plan<'a> {
         requires state { IsStateOf self.now.rollout state.now }
         requires room { IsRoomFor self.now.rollout.graph room.old }
         requires before { (f : ℕ → Bool) × HasMore self.now.rollout f
-            (is_done_in state.now.done.items) step × IsSafe self.now.rollout self.now.held f }
+            (is_marked state.now.done.items) step × IsSafe self.now.rollout self.now.held f }
         ensures room { IsRoomFor self.now.rollout.graph room.new }
         ensures safe { IsTrue result ↔ IsSafe self.now.rollout self.now.held
-            (is_done_in state.now.done.items) }
+            (is_marked state.now.done.items) }
     {
         self.keeps_conditions();
         for number in self.held() {
@@ -205,8 +206,8 @@ impl<'a> Plan<'a> {
         requires room { IsRoomFor self.now.rollout.graph room.old }
         ensures room { IsRoomFor self.now.rollout.graph room.new }
         ensures lost { MatchOption result (IsSafe self.now.rollout self.now.held
-            (is_done_in state.now.done.items)) (λ path. IsFirstLost self.now.rollout self.now.held
-            (is_done_in state.now.done.items) path) }
+            (is_marked state.now.done.items)) (λ path. IsFirstLost self.now.rollout self.now.held
+            (is_marked state.now.done.items) path) }
     {
         self.keeps_conditions();
         for number in self.held() {

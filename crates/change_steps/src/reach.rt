@@ -1,10 +1,10 @@
 //! What rivals cost at least that go over the links of a step.
 ghost use Rattle.std.specs.Prelude.{◌≡◌, ◌++◌, ◌∷◌, ◌<◌, ◌≤◌, ◌^◌, ℕ, [], All, IfOk, IsTrue, OnOk, Some, length, map, slice_index_or};
 ghost use Rattle.cost_base.specs.Lists.{numbers_from};
+ghost use Rattle.marks.specs.Marks.{is_marked};
 ghost use Rattle.area_graph.specs.Costs.{FitsPoint, IsPriced, at_costs};
 ghost use Rattle.spf_ties.specs.Distances.{IsRoomFor};
 ghost use Rattle.change_steps.specs.Rollouts.{step_count};
-ghost use Rattle.change_steps.specs.States.{is_done_in};
 ghost use Rattle.change_steps.specs.Search.{IsStateOf};
 ghost use Rattle.change_steps.specs.Reaches.{AreLeastToEach, AreDearerOver, AreLeastTo, IsHarmless, IsReach, least_from_to, edges_of_step, has_price, least_cost, least_costs, price_rises};
 
@@ -13,6 +13,7 @@ use crate::rollout::Rollout;
 use crate::state::State;
 use area_graph::{FAR, Graph, Point, Price, edge_of, path_cost, price_of};
 use cost_base::{Listed, OutOfMemory, no_marks, push_if};
+use marks::mark_within;
 use spf_ties::Room;
 use std::alloc::Global;
 
@@ -110,22 +111,13 @@ fn least_to(
     Ok(least)
 }
 
-/// Marks a vertex, if it is one of those that have marks.
-fn mark(marks: &mut Vec<bool>, vertex: u32)
-    ensures { length marks.new.items ≡ length marks.old.items }
-{
-    if (vertex as usize) < marks.len() {
-        marks[vertex as usize] = true;
-    }
-}
-
 /// Marks the vertices that some edges leave.
 fn mark_starts(marks: &mut Vec<bool>, graph: &Graph, edges: &[u32])
     ensures { length marks.new.items ≡ length marks.old.items }
 {
     for number in edges {
         if let Some(edge) = graph.edges().get(*number as usize) {
-            mark(marks, edge.from);
+            mark_within(marks, edge.from as usize);
         }
     }
 }
@@ -136,7 +128,7 @@ fn mark_ends(marks: &mut Vec<bool>, rollout: &Rollout, held: &[u32])
     ensures { length marks.new.items ≡ length marks.old.items }
 {
     for number in held {
-        mark(marks, rollout.request(*number).end);
+        mark_within(marks, rollout.request(*number).end as usize);
     }
 }
 
@@ -343,7 +335,7 @@ impl Reach {
         requires state { IsStateOf rollout.now state.now }
         requires number { number < length rollout.now.paths }
         requires edge { edge < length rollout.now.graph.edges }
-        ensures { IsTrue result → AreDearerOver rollout.now (is_done_in state.now.done.items) number
+        ensures { IsTrue result → AreDearerOver rollout.now (is_marked state.now.done.items) number
             edge }
     {
         rollout.keeps_conditions();
@@ -363,7 +355,7 @@ impl Reach {
         requires state { IsStateOf rollout.now state.now }
         requires number { number < length rollout.now.paths }
         requires edge { edge < length rollout.now.graph.edges }
-        ensures { IsTrue result → IsHarmless rollout.now (is_done_in state.now.done.items) number
+        ensures { IsTrue result → IsHarmless rollout.now (is_marked state.now.done.items) number
             edge }
     {
         rollout.keeps_conditions();
@@ -383,7 +375,7 @@ impl Reach {
         requires number { number < length rollout.now.paths }
         requires step { step < step_count rollout.now }
         ensures { IsTrue result →
-            All (IsHarmless rollout.now (is_done_in state.now.done.items) number)
+            All (IsHarmless rollout.now (is_marked state.now.done.items) number)
             (edges_of_step rollout.now step) }
     {
         for edge in self.edges(step) {

@@ -1,9 +1,10 @@
 //! A state of a rollout, with its costs.
 ghost use Rattle.std.specs.Prelude.{◌≡◌, ◌↔◌, ◌<◌, ℕ, All, IfOk, IsTrue, cond, false, length, slice_index, slice_set, true};
+ghost use Rattle.marks.specs.Marks.{is_marked, is_one_of};
 ghost use Rattle.spf_ties.specs.Distances.{IsRoomFor};
 ghost use Rattle.change_steps.specs.Rollouts.{lines_of_step, step_count};
-ghost use Rattle.change_steps.specs.Orders.{IsOnlyIn, all_done, is_one_of, none_done};
-ghost use Rattle.change_steps.specs.States.{is_done_in, marks_of};
+ghost use Rattle.change_steps.specs.Orders.{IsOnlyIn, all_done, none_done};
+ghost use Rattle.change_steps.specs.States.{marks_of};
 ghost use Rattle.change_steps.specs.Search.{IsStateOf};
 
 use crate::rollout::Rollout;
@@ -138,7 +139,7 @@ impl State {
         requires room { IsRoomFor rollout.now.graph room.old }
         ensures room { IsRoomFor rollout.now.graph room.new }
         ensures only { IsTrue result ↔
-            IsOnlyIn rollout.now (is_done_in self.now.done.items) number }
+            IsOnlyIn rollout.now (is_marked self.now.done.items) number }
     {
         rollout.keeps_conditions();
         !find_rival(rollout.graph(), rollout.request(number), &self.point, room)

@@ -1,10 +1,11 @@
 //! The search for an order of the steps between.
 ghost use Rattle.std.specs.Prelude.{◌≡◌, ◌++◌, ◌∷◌, ◌↔◌, ◌+◌, ◌<◌, ◌≤◌, ℕ, [], Contains, IfOk, IsTrue, MatchBool, MatchOption, OnOk, false, length, max, slice_set, true, ⊤};
+ghost use Rattle.marks.specs.Marks.{is_marked, is_one_of};
 ghost use Rattle.spf_ties.specs.Distances.{IsRoomFor};
 ghost use Rattle.change_steps.specs.Rollouts.{step_count};
-ghost use Rattle.change_steps.specs.Orders.{IsSafe, is_one_of};
+ghost use Rattle.change_steps.specs.Orders.{IsSafe};
 ghost use Rattle.change_steps.specs.Kinds.{first_steps};
-ghost use Rattle.change_steps.specs.States.{MayFollow, is_done_in, marks_of};
+ghost use Rattle.change_steps.specs.States.{MayFollow, marks_of};
 ghost use Rattle.change_steps.specs.Search.{AllLack, IsNewStep, IsStateOf, longer_of};
 ghost use Rattle.change_steps.specs.Walks.{IsBegun, IsWalkEnded, IsWalkTurned, IsUnderWay, IsSearchWalk, position_of};
 
@@ -46,7 +47,7 @@ pub(crate) struct Walk {
 /// Whether a state with one step more wasn't tested yet. The marks are as before.
 fn is_new(tested: &Tested, marks: &mut Vec<bool>, step: usize) -> bool
     requires known { step < length marks.old.items }
-    requires left { is_done_in marks.old.items step ≡ false }
+    requires left { is_marked marks.old.items step ≡ false }
     ensures same { marks.new.items ≡ marks.old.items }
     ensures new { MatchBool result (Contains tested.now (slice_set marks.old.items step true) → ⊥)
         (Contains tested.now (slice_set marks.old.items step true)) }
@@ -168,7 +169,7 @@ impl Walk {
 
         // Where it is safe the walk goes on there, and its way is longer by one step at most.
         ensures safe { IfOk result (λ safe. IsTrue safe ↔ IsSafe plan.now.rollout plan.now.held
-            (is_done_in (slice_set self.old.state.done.items step true))) }
+            (is_marked (slice_set self.old.state.done.items step true))) }
         ensures here { IfOk result (λ safe. IsTrue safe → self.new.state.done.items ≡
             slice_set self.old.state.done.items step true) }
         ensures order { IfOk result (λ safe. length self.new.order.items ≤

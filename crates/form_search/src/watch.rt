@@ -6,6 +6,7 @@ ghost use Rattle.form_search.specs.Turns.{IsWatch};
 
 use cost_base::OutOfMemory;
 use design_problem::{CostBox, Entry, Form, TreeBuilder};
+use marks::filled_by;
 use pushes::push_last;
 use std::alloc::Global;
 use std::cmp::Reverse;
@@ -37,19 +38,6 @@ pub(crate) struct Watch {
 struct Changed {
     var: u32,
     is_cut: bool,
-}
-
-/// So many empty lists.
-fn empty_lists(alloc: Global, count: usize) -> Result<Vec<Vec<usize>>, OutOfMemory>
-    ensures { IfOk result (λ lists. length lists.items ≡ count) }
-{
-    let mut lists = Vec::new(alloc);
-    for made in 0..count {
-        // For the prover: an invariant names the number, which nothing else reads.
-        let _ = made;
-        push_last(&mut lists, Vec::new(alloc))?;
-    }
-    Ok(lists)
 }
 
 /// Puts a form's number into the list of a variable.
@@ -98,7 +86,7 @@ impl Watch {
     {
         let low = costs.low.as_slice().to_vec(alloc)?;
         let high = costs.high.as_slice().to_vec(alloc)?;
-        let forms_of = empty_lists(alloc, costs.low.as_slice().len())?;
+        let forms_of = filled_by(alloc, costs.low.as_slice().len(), || Vec::new(alloc))?;
         Ok(Watch {
             forms_of,
             pending: Vec::new(alloc),

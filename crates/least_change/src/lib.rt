@@ -12,7 +12,6 @@ mod counting;
 mod finding;
 pub mod laws;
 mod looking;
-mod marks;
 mod naming;
 mod question;
 mod searching;

@@ -15,7 +15,7 @@ ghost use Rattle.report_writer.specs.Reports.{bytes_in};
 use crate::audit::{AuditedPath, audited, line_of};
 use crate::link_edges::edges_of_links;
 use area_graph::{Exclusion, Graph, Path, Point, mark_excluded};
-use cost_base::{Listed, OutOfMemory, Shelf, Status};
+use cost_base::{Listed, OutOfMemory, Shelf, Status, no_marks};
 use design_problem::{Problem, Request};
 use input_files::{FileWords, Layout, Stop, View, read_layout, resolution_at_present};
 use live_area::{RunningArea, running_area};
@@ -162,7 +162,7 @@ fn audit_running(
         running.now.missing.items)) problem.now.paths found.items) }
 {
     let edges = edges_of_links(alloc, &running.lsdb, &problem.graph, &running.missing)?;
-    let mut marks = vec![in alloc; false; problem.graph.edges().len()]?;
+    let mut marks = no_marks(alloc, problem.graph.edges().len())?;
     mark_excluded(&mut marks, &edges);
     let exclusion = Exclusion {
         excluded: &edges,

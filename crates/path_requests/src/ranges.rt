@@ -119,11 +119,7 @@ fn decide_lines(names: &Names, items: &[Item], decided: &mut Vec<Option<Range>>)
 fn undecided(alloc: Global, names: &Names) -> Result<Vec<Option<Range>>, OutOfMemory>
     ensures { IfOk result (λ made. made.items ≡ map (λ link. None) names.now.links) }
 {
-    let mut made = Vec::new(alloc);
-    for _link in names.links() {
-        made.push(None)?;
-    }
-    Ok(made)
+    Ok(vec![in alloc; None; names.links().len()]?)
 }
 
 /// The ranges, of which those that are undecided are one.

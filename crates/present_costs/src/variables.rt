@@ -72,11 +72,7 @@ fn note(price: Price, cost: u16, noted: &mut Vec<Noted>)
 fn nothing_noted(alloc: Global, count: usize) -> Result<Vec<Noted>, OutOfMemory>
     ensures { IfOk result (λ noted. noted.items ≡ map (λ k. Nothing) (numbers_from 0 count)) }
 {
-    let mut noted = Vec::new(alloc);
-    for _ in 0..count {
-        noted.push(Noted::Nothing)?;
-    }
-    Ok(noted)
+    Ok(vec![in alloc; Noted::Nothing; count]?)
 }
 
 /// What is noted of each variable after all links: one pass over them.

@@ -4,17 +4,19 @@ use Rattle.std.specs.Prelude.{◌<◌, All, Option, None, Some, slice_index_or}
 use Rattle.std.proofs.lemmas.List.Elements.{All-head, All-tail}
 use Rattle.std.proofs.lemmas.List.Folds.{list_any_at}
 use Rattle.cost_base.specs.Lists.{numbers_from}
+use Rattle.marks.specs.Marks.{AreMarked, is_marked}
+use Rattle.marks.proofs.MarkLaws.{marks_from_none}
 use Rattle.design_problem.specs.declared.answer.CapTree.{CapTree}
 use Rattle.design_problem.specs.declared.tree.Entry.{Entry}
 use Rattle.design_problem.specs.Renumbering.{renumbered}
 use Rattle.printed_rows.specs.NamedRows.{IsKnown, NamesBelow, NamesKnown, TreeNamesBelow, TreeNamesKnown, entries_in, is_row_named, is_row_named_in}
-use Rattle.printed_rows.specs.NewNumbers.{AreMarked, AreNewNumbers, HasNumbers, is_marked, named_in, new_number, number_given, with_new_numbers}
+use Rattle.printed_rows.specs.NewNumbers.{AreNewNumbers, HasNumbers, named_in, new_number, number_given, with_new_numbers}
 use Rattle.printed_rows.proofs.NamedLaws.{entries_agree, names_known}
 use Rattle.printed_rows.proofs.NumberLaws.{number_at, numbers_counted}
 
 -- the marks of a test, where nothing was marked before
 marks_are : (test : ℕ → Bool) (none marks : List Bool) → ((row : ℕ) → is_marked none row ≡ false) → AreMarked test none marks → is_marked marks ≡ test
-marks_are test none marks empty are = λ i row. (are.marked row ∙ ap (λ (x : Bool). x || test row) (empty row)) i
+marks_are test none marks empty are = λ i row. marks_from_none test none marks row empty are i
 
 -- and of one test after the other
 both_marks_are : (first second : ℕ → Bool) (none middle marks : List Bool) → ((row : ℕ) → is_marked none row ≡ false) →

@@ -1,20 +1,11 @@
 -- The rows that are printed, and trees that name them by their new numbers.
-use Rattle.std.specs.Prelude.{◌≡◌, ℕ, zero, suc, ◌+◌, ◌^◌, ◌<◌, ◌||◌, List, [], ◌∷◌, Bool, false, if◌then◌else◌, map, length, slice_get, slice_index, slice_index_or, All, AllPairs, Contains, Option, None, Some}
+use Rattle.std.specs.Prelude.{◌≡◌, ℕ, zero, suc, ◌+◌, ◌^◌, ◌<◌, ◌||◌, List, [], ◌∷◌, Bool, if◌then◌else◌, map, length, slice_get, slice_index, All, AllPairs, Contains, Option, None, Some}
 use Rattle.cost_base.specs.Lists.{numbers_from}
 use Rattle.design_problem.specs.declared.answer.CapTree.{CapTree}
 use Rattle.design_problem.specs.declared.tree.Entry.{Entry}
 use Rattle.design_problem.specs.declared.tree.Entry.TheVariants.{Tighten, Split, Halve, Refute, Undone}
 use Rattle.design_problem.specs.Renumbering.{renumbered, renumbered_part}
 use Rattle.printed_rows.specs.NamedRows.{entries_in, is_row_named, is_row_named_in}
-
--- whether the row of this number is marked; none is past the end of the marks
-abbrev pub is_marked : List Bool → ℕ → Bool
-is_marked marks row = slice_index_or marks row false
-
--- marks of rows to which those of the rows that pass a test were added
-pub record AreMarked (test : ℕ → Bool) (old new : List Bool) : Type 0 where
-  pub counted : length new ≡ length old
-  pub marked : (row : ℕ) → is_marked new row ≡ (is_marked old row || test row)
 
 -- the rows that pass a test, in their order, where the first row has this number
 abbrev pub kept_from : {R : Type 0} → (ℕ → Bool) → ℕ → List R → List R

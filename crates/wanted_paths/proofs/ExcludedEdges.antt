@@ -1,6 +1,6 @@
 -- The list of excluded edges has exactly those that a part excludes.
 use Rattle.std.proofs.Common.{inl, inr, ◌≡◌, ℕ, zero, suc, ◌+◌, ◌<◌, ◌≤◌, refl, sym, ◌∙◌, ap, List, [], ◌∷◌, length, get_or, arith, Bool, true, false, Option, Some, None}
-use Rattle.std.specs.Prelude.{All, filter, option_to_list, slice_get, slice_index_or, ◌&&◌, ◌||◌, ◌==◌}
+use Rattle.std.specs.Prelude.{All, filter, option_to_list, slice_get, ◌&&◌, ◌||◌, ◌==◌}
 use Rattle.std.specs.List.{list_any}
 use Rattle.std.proofs.lemmas.List.Elements.{All-weaker}
 use Rattle.std.proofs.lemmas.List.{get_or_default}
@@ -9,6 +9,7 @@ use Rattle.std.proofs.Math.Bool.{or-false}
 use Rattle.std.proofs.lemmas.Bool.{cases_Bool, cases_eq, eq-eqb, ne_eqb, false≢true}
 use Rattle.cost_base.specs.Lists.{numbers_from}
 use Rattle.cost_base.proofs.ListLemmas.{filter-numbers_from-agree, list_any-agree}
+use Rattle.marks.specs.Marks.{is_marked}
 use Rattle.area_graph.specs.Area.{Area, edge_at, edges_out, edges_in}
 use Rattle.area_graph.specs.Distances.{AreEdgeMarks}
 use Rattle.lsdb_build.specs.declared.Far.{Far}
@@ -116,7 +117,7 @@ has_parts d g e (part ∷ parts) within =
 -- a mark tells whether the edge is excluded
 pub mark_is : (d : Database) (g : Area) (parts : List Part) (excluded : List ℕ) (marks : List Bool) (e : ℕ) →
     AreEdgeMarks excluded marks → excluded ≡ excluded_by_all d g parts → length marks ≡ length g.edges → e < length g.edges →
-    slice_index_or marks e false ≡ list_any (excludes d g e) parts
+    is_marked marks e ≡ list_any (excludes d g e) parts
 mark_is d g parts excluded marks e are is count within =
     let here = are e (omega arith) in
     let same = get_or_default marks e false true (omega arith) in
@@ -124,7 +125,7 @@ mark_is d g parts excluded marks e are is count within =
     ∙ ap (has e) is ∙ has_parts d g e parts within
   where
     by_mark : (mark found : Bool) → (mark ≡ false → found ≡ false) → (found ≡ false → mark ≡ false) →
-        slice_index_or marks e false ≡ mark → slice_index_or marks e false ≡ found
+        is_marked marks e ≡ mark → is_marked marks e ≡ found
     by_mark true true to from same = same
     by_mark true false to from same = absurd (false≢true (sym (from refl)))
     by_mark false true to from same = absurd (false≢true (sym (to refl)))
@@ -133,9 +134,9 @@ mark_is d g parts excluded marks e are is count within =
 -- the marked edges are those that the parts exclude
 pub marked_are : (d : Database) (g : Area) (parts : List Part) (excluded : List ℕ) (marks : List Bool) →
     AreEdgeMarks excluded marks → excluded ≡ excluded_by_all d g parts → length marks ≡ length g.edges →
-    filter (λ e. slice_index_or marks e false) (numbers_from 0 (length marks)) ≡ excluded_edges d g parts
+    filter (is_marked marks) (numbers_from 0 (length marks)) ≡ excluded_edges d g parts
 marked_are d g parts excluded marks are is count =
-    filter-numbers_from-agree (λ e. slice_index_or marks e false) (λ e. list_any (excludes d g e) parts) 0 (length marks)
+    filter-numbers_from-agree (is_marked marks) (λ e. list_any (excludes d g e) parts) 0 (length marks)
     (λ e above below. mark_is d g parts excluded marks e are is count (omega arith))
     ∙ ap (λ n. filter (λ e. list_any (excludes d g e) parts) (numbers_from 0 n)) count
 
@@ -143,8 +144,8 @@ marked_are d g parts excluded marks are is count =
 pub path_marked : (d : Database) (g : Area) (parts : List Part) (excluded : List ℕ) (marks : List Bool) (es : List ℕ) →
     AreEdgeMarks excluded marks → excluded ≡ excluded_by_all d g parts → length marks ≡ length g.edges →
     All (λ e. e < length g.edges) es →
-    list_any (λ e. slice_index_or marks e false) es ≡ list_any (λ e. list_any (excludes d g e) parts) es
+    list_any (is_marked marks) es ≡ list_any (λ e. list_any (excludes d g e) parts) es
 path_marked d g parts excluded marks es are is count within =
-    list_any-agree (λ e. slice_index_or marks e false) (λ e. list_any (excludes d g e) parts) es
-    (All-weaker (λ e. e < length g.edges) (λ e. slice_index_or marks e false ≡ list_any (excludes d g e) parts)
+    list_any-agree (is_marked marks) (λ e. list_any (excludes d g e) parts) es
+    (All-weaker (λ e. e < length g.edges) (λ e. is_marked marks e ≡ list_any (excludes d g e) parts)
     (λ e below. mark_is d g parts excluded marks e are is count below) es within)

@@ -1,8 +1,9 @@
 -- The faults of what a path goes without.
-use Rattle.std.proofs.Common.{◌≡◌, ℕ, refl, sym, ◌∙◌, ap, subst, List, [], ◌++◌, length, Bool, false}
-use Rattle.std.specs.Prelude.{slice_index_or, not, ◌||◌}
+use Rattle.std.proofs.Common.{◌≡◌, ℕ, refl, sym, ◌∙◌, ap, subst, List, [], ◌++◌, length, Bool}
+use Rattle.std.specs.Prelude.{not, ◌||◌}
 use Rattle.std.specs.List.{list_any}
 use Rattle.cost_base.proofs.ListLemmas.{append-none}
+use Rattle.marks.specs.Marks.{is_marked}
 use Rattle.area_graph.specs.Area.{Area}
 use Rattle.area_graph.specs.Distances.{AreEdgeMarks}
 use Rattle.area_graph.proofs.Visits.{joined_known}
@@ -54,7 +55,7 @@ pub without_faults_are : (d : Database) (line : ℕ) (route : Route) (walk : Wal
     (marks : List Bool) (tested : Bool) → IsAreaDatabase d → IsWalk d route walk → walk_faults d line route ≡ [] →
     parts_faults d line parts ≡ [] → AreExcluded d parts excluded marks →
     tested ≡ (list_any (is_router_part (next_name route.hops route.last)) parts
-    || list_any (λ e. slice_index_or marks e false) walk.path.edges) →
+    || list_any (is_marked marks) walk.path.edges) →
     without_faults d line route parts ≡ fault_unless (not tested) (PathExcluded line)
 without_faults_are d line route walk parts excluded marks tested base is walks words excluded_are tests =
     let simple = walk_simple d line route base walks in
@@ -65,5 +66,5 @@ without_faults_are d line route walk parts excluded marks tested base is walks w
     =
     ap (λ b. start || b) (sym (path_marked d (outline d) parts excluded marks edges excluded_are.are excluded_are.all
     excluded_are.count within)
-    ∙ ap (λ (es : List ℕ). list_any (λ e. slice_index_or marks e false) es) (sym is.edges)) ∙ sym tests in
+    ∙ ap (λ (es : List ℕ). list_any (is_marked marks) es) (sym is.edges)) ∙ sym tests in
     rw (words, same) refl

@@ -1,7 +1,8 @@
 //! Resolves what a wanted path goes without.
-ghost use Rattle.std.specs.Prelude.{◌≡◌, ◌+◌, ◌^◌, ◌<◌, ◌==◌, ◌++◌, [], Some, false, filter, length, slice_get, slice_index_or, IfOk, IfErr, OnOk};
+ghost use Rattle.std.specs.Prelude.{◌≡◌, ◌+◌, ◌^◌, ◌<◌, ◌==◌, ◌++◌, [], Some, false, filter, length, slice_get, IfOk, IfErr, OnOk};
 ghost use Rattle.std.specs.List.{list_any};
 ghost use Rattle.cost_base.specs.Lists.{first_of, numbers_from};
+ghost use Rattle.marks.specs.Marks.{is_marked, numbers_marked};
 ghost use Rattle.area_graph.specs.Area.{edge_at, edges_out, edges_in};
 ghost use Rattle.lsdb_build.specs.Graphs.{IsFar};
 ghost use Rattle.wanted_paths.specs.LineFaults.{part_faults, parts_faults, is_router_part, TellsResolution};
@@ -14,6 +15,7 @@ use crate::routes::subnet_vertex;
 use area_graph::{Graph, far_end};
 use cost_base::{OutOfMemory, Refusal, push_if};
 use lsdb_build::{Far, Linked};
+use marks::is_marked;
 use pushes::{push_last, push_some};
 use request_reader::Part;
 use std::alloc::Global;
@@ -168,32 +170,21 @@ pub fn has_router(name: &[u8], parts: &[Part]) -> bool
     parts.iter().any(|part| is_router_part(name, part))
 }
 
-/// Whether an edge is marked.
-fn is_marked(marks: &[bool], edge: u32) -> bool
-    ensures { result ≡ slice_index_or marks.now edge false }
-{
-    match marks.get(edge as usize) {
-        Some(mark) => *mark,
-        None => false,
-    }
-}
-
 /// Whether one of some edges is marked.
 pub fn has_marked(marks: &[bool], edges: &[u32]) -> bool
-    ensures { result ≡ list_any (λ e. slice_index_or marks.now e false) edges.now }
+    ensures { result ≡ list_any (is_marked marks.now) edges.now }
 {
-    edges.iter().any(|edge| is_marked(marks, *edge))
+    edges.iter().any(|edge| is_marked(marks, *edge as usize))
 }
 
 /// The numbers of the marked edges, in rising order.
 pub fn marked(alloc: Global, marks: &[bool]) -> Result<Vec<u32>, OutOfMemory>
     requires { length marks.now < 2 ^ 32 }
-    ensures { IfOk result (λ found. found.items ≡ filter (λ e. slice_index_or marks.now e false)
-        (numbers_from 0 (length marks.now))) }
+    ensures { IfOk result (λ found. found.items ≡ numbers_marked marks.now) }
 {
     let mut found = Vec::new(alloc);
     for edge in 0..marks.len() as u32 {
-        push_if(&mut found, edge, is_marked(marks, edge))?;
+        push_if(&mut found, edge, is_marked(marks, edge as usize))?;
     }
     Ok(found)
 }

@@ -1,7 +1,8 @@
 //! Resolves wanted paths.
-ghost use Rattle.std.specs.Prelude.{◌≡◌, ◌||◌, [], Some, false, slice_index_or, IfOk, IfErr};
+ghost use Rattle.std.specs.Prelude.{◌≡◌, ◌||◌, [], Some, IfOk, IfErr};
 ghost use Rattle.std.specs.List.{list_any};
 ghost use Rattle.cost_base.specs.Lists.{first_of};
+ghost use Rattle.marks.specs.Marks.{is_marked};
 ghost use Rattle.request_reader.specs.declared.Directive.TheVariants.{Path as WantedPath};
 ghost use Rattle.wanted_paths.specs.Paths.{next_name, excluded_edges, request_of};
 ghost use Rattle.wanted_paths.specs.LineFaults.{is_router_part, walk_faults, without_faults, path_faults, TellsResolution};
@@ -13,7 +14,7 @@ use crate::names::Names;
 use crate::parts::{excluded_by, has_marked, has_router, marked};
 use crate::routes::{Walk, next_name, resolve_walk};
 use area_graph::{Graph, mark_excluded};
-use cost_base::{Listed, OutOfMemory, Refusal};
+use cost_base::{Listed, OutOfMemory, Refusal, no_marks};
 use design_problem::Request;
 use request_reader::{Hops, Part};
 use std::alloc::Global;
@@ -22,7 +23,7 @@ use std::marker::Model;
 /// Whether the start of a walk is excluded, or one of its edges is marked.
 fn is_excluded(route: &Hops, walk: &Walk, parts: &[Part], marks: &[bool]) -> bool
     ensures { result ≡ (list_any (is_router_part (next_name route.now.hops route.now.last))
-        parts.now || list_any (λ e. slice_index_or marks.now e false) walk.now.path.edges) }
+        parts.now || list_any (is_marked marks.now) walk.now.path.edges) }
 {
     let start = next_name(route.as_slice(), route.last().as_bytes());
     has_router(start, parts) || has_marked(marks, walk.path.edges.as_slice())
@@ -63,7 +64,7 @@ impl<'a> Resolver<'a> {
         requires { graph.now ≡ outline names.now }
         ensures { IfOk result (λ resolver. resolver ≡ names.now) }
     {
-        let marks = vec![in alloc; false; graph.edges().len()]?;
+        let marks = no_marks(alloc, graph.edges().len())?;
         Ok(Resolver {
             alloc,
             names,

@@ -13,6 +13,7 @@ use crate::SetFault;
 use cost_base::{OutOfMemory, Refusal};
 use design_problem::Request;
 use indexmap::IndexSet;
+use marks::mark_all;
 use pushes::push_last;
 use std::alloc::Global;
 
@@ -123,7 +124,5 @@ pub(crate) fn mark_members(taken: &mut Vec<bool>, members: &[u32])
         AreEdgeMarks (earlier ++ members.now) taken.new.items }
     ensures count { length taken.new.items ≡ length taken.old.items }
 {
-    for member in members {
-        taken[*member as usize] = true;
-    }
+    mark_all(taken, members);
 }

@@ -10,7 +10,7 @@ use crate::reading::line::statement_of;
 use crate::reading::members::{mark_members, read_members};
 use crate::reading::statement::Statement;
 use crate::{SetFault, Sets};
-use cost_base::{Listed, OutOfMemory, Refusal};
+use cost_base::{Listed, OutOfMemory, Refusal, no_marks};
 use design_problem::Problem;
 use std::alloc::Global;
 use std::marker::Model;
@@ -39,7 +39,7 @@ impl<'a> Reader<'a> {
     pub(crate) fn new(alloc: Global, problem: &'a Problem) -> Result<Reader<'a>, OutOfMemory>
         ensures { IfOk result (λ reader. reader ≡ record { problem = problem.now; sets = [] }) }
     {
-        let taken = vec![in alloc; false; problem.paths.as_slice().len()]?;
+        let taken = no_marks(alloc, problem.paths.as_slice().len())?;
         Ok(Reader {
             problem,
             sets: Vec::new(alloc),

@@ -1,6 +1,6 @@
 use Rattle.std.proofs.Common.{◌∙◌, refl, sym}
+use Rattle.marks.specs.Marks.{is_marked}
 use Rattle.change_steps.specs.Orders.{none_done}
-use Rattle.change_steps.specs.States.{is_done_in}
 use Rattle.change_steps.proofs.MarkLaws.{marks_same}
 use Rattle.change_steps.proofs.StateLaws.{none_costs, point_is}
 use Rattle.change_steps.proofs.state.State.present.Goals as goal
@@ -10,7 +10,7 @@ returns-clause-state c = record {
   count = c.in_ok-done.ensures.counted ∙ c.step_count.ensures;
   point = point_is 1 c.from_items.result _ refl
       (c.from_items.ensures ∙ c.in_ok-values.ensures ∙ c.present.ensures
-      ∙ sym (none_costs c.args.rollout.now.moves (is_done_in c.in_ok-done.done.items) (λ k within. c.in_ok-done.ensures.none k)));
+      ∙ sym (none_costs c.args.rollout.now.moves (is_marked c.in_ok-done.done.items) (λ k within. c.in_ok-done.ensures.none k)));
 }
 
 pub returns-clause-none : goal.returns-clause-none
