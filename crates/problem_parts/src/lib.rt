@@ -13,4 +13,4 @@ pub use cost_sum::sum_of_costs;
 pub use named::{cost_line, var_name};
 pub use new_bound::NewBound;
 pub use open_boxes::go_on;
-pub use points::{fixed_point, point_of};
+pub use points::{empty_point, point_of};

@@ -24,8 +24,8 @@ pub fn point_of(alloc: Global, costs: &[u16]) -> Result<Point, OutOfMemory>
     })
 }
 
-/// The point of scale 1 without variables: costs of a graph whose edges have fixed prices alone. Takes no memory.
-pub fn fixed_point(alloc: Global) -> Point
+/// The point of scale 1 without values, for a graph whose edges have fixed prices alone. Takes no memory.
+pub fn empty_point(alloc: Global) -> Point
     ensures { result ≡ at_costs [] }
 {
     Point {
