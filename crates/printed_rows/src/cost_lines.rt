@@ -1,6 +1,7 @@
 //! The printed lines of costs.
 ghost use Rattle.std.specs.Prelude.{◌≡◌, ℕ, ◌<◌, ◌≤◌, length, slice_index, All, IfOk};
-ghost use Rattle.printed_rows.specs.PrintedCosts.{ArePrintedCosts, CostLinesOf};
+ghost use Rattle.design_problem.specs.Answers.{CostLinesOf};
+ghost use Rattle.printed_rows.specs.PrintedCosts.{ArePrintedCosts};
 
 use cost_base::{Listed, OutOfMemory};
 use design_problem::{CostLine, Costs, Problem, VarName, greatest_of};
