@@ -2,11 +2,10 @@
 ghost use Rattle.std.specs.Prelude.{◌≡◌, ◌≢◌, ℕ, ◌<◌, List, [], ◌∷◌, ◌++◌, Option, None, Some, All, MatchOption, MatchResult, IfOk, IfSome, IsTrue, ◌↔◌, codes};
 ghost use Rattle.std.specs.Option.{option_copied};
 ghost use Rattle.cost_base.specs.Words.{IsOneWord};
-ghost use Rattle.design_problem.specs.Text.{cost_lines, FitsCostLine};
+ghost use Rattle.design_problem.specs.Text.{cost_lines, FitsCostLine, interface_line, answer_cost_line, router_line};
 ghost use Rattle.answer_lines.specs.declared.other_text.OtherText.{OtherText};
-ghost use Rattle.answer_lines.specs.Grammar.{TextPlace, IsRouterNext, router_line, AtSections, AtInterface, AtCost, AtExit};
+ghost use Rattle.answer_lines.specs.Grammar.{TextPlace, IsRouterNext, AtSections, AtInterface, AtCost, AtExit};
 ghost use Rattle.design_problem.specs.Bounds.{IsCost};
-ghost use Rattle.evidence_text.specs.Parts.{interface_line, answer_cost_line};
 ghost use Rattle.answer_lines.specs.Places.{LacksLawful};
 ghost use Rattle.evidence_reader.specs.Sections.{IsCostBegun, LacksCost};
 ghost use Rattle.evidence_reader.specs.Stops.{StopsReader};
