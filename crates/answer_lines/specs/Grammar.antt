@@ -10,9 +10,9 @@ use Rattle.design_problem.specs.declared.tree.Entry.{Entry}
 use Rattle.design_problem.specs.declared.answer.Verdict.{Verdict}
 use Rattle.design_problem.specs.declared.answer.Floor.{Floor}
 use Rattle.design_problem.specs.Bounds.{IsIndex, IsCost, IsRowNumber, BoundsVerdict, BoundsFloor, BoundsRow, BoundsEntry}
-use Rattle.design_problem.specs.Text.{spaced, row_line, entry_line, FitsEntry}
+use Rattle.design_problem.specs.Text.{spaced, row_line, entry_line, FitsEntry, verdict_line, costs_line, interface_line, answer_cost_line, floor_line, rows_line}
 use Rattle.design_problem.specs.Trees.{subtree_count}
-use Rattle.evidence_text.specs.Parts.{verdict_line, costs_line, interface_line, answer_cost_line, floor_line, rows_line, no_tree_line, tree_line}
+use Rattle.evidence_text.specs.Parts.{no_tree_line, tree_line}
 use Rattle.evidence_text.specs.declared.TreePart.{TreePart}
 use Rattle.evidence_text.specs.declared.TreePart.TheVariants.{Proof, Unfinished}
 use Rattle.answer_lines.specs.declared.other_text.OtherText.{OtherText}
@@ -48,10 +48,6 @@ pub data TextPlace : Type 0 where
   AtSectionsEnd : OtherText → TextPlace
   -- among the lines that nobody reads, with how many lines `end` still stand before the last one
   AtUnread : ℕ → TextPlace
-
--- the line `router R` of a section
-abbrev pub router_line : List ℕ → List ℕ
-router_line name = spaced (codes "router" ∷ name ∷ [])
 
 -- the line of a router that isn't that of the cost line before, which leads to an interface
 pub record IsRouterNext (text : Option OtherText) (before : Option (List ℕ)) (line : List ℕ) (next : TextPlace) : Type 0 where

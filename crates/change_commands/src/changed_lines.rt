@@ -1,16 +1,17 @@
 //! The cost lines that differ from the present ones.
-ghost use Rattle.std.specs.Prelude.{◌≡◌, [], ◌++◌, slice_index_or, IfOk, OnOk};
+ghost use Rattle.std.specs.Prelude.{◌≡◌, ◌++◌, IfOk, OnOk};
 ghost use Rattle.lsdb_build.specs.Graphs.{IsAreaDatabase};
 ghost use Rattle.path_requests.specs.Meaning.{problem_of};
 ghost use Rattle.change_commands.specs.ChangedLines.{changed_lines, line_with, changed_cost};
 
 use area_graph::{Graph, Price};
-use cost_base::{Name, OutOfMemory};
+use cost_base::OutOfMemory;
 use design_problem::CostLine;
 use input_files::Network;
 use lsdb_build::{Linked, Lsdb};
 use path_requests::present_cost;
 use present_costs::price_of_link;
+use problem_parts::cost_line;
 use std::alloc::Global;
 
 /// The graph of a network's problem.
@@ -36,22 +37,6 @@ fn changed_cost(price: Price, present: u16, costs: &[u16]) -> Option<u16>
     }
 }
 
-/// The line that gives a link a cost.
-fn cost_line(alloc: Global, lsdb: &Lsdb, link: &Linked, cost: u16) -> Result<CostLine, OutOfMemory>
-    ensures { IfOk result
-        (λ line. line ≡ record {
-          router = slice_index_or lsdb.now.routers link.now.router [];
-          interface = link.now.interface;
-          cost = cost;
-        }) }
-{
-    Ok(CostLine {
-        router: Name::from_bytes(alloc, lsdb.router_name(link.router))?,
-        interface: Name::from_bytes(alloc, link.interface.as_bytes())?,
-        cost,
-    })
-}
-
 /// Adds the line of a link that has a new cost.
 fn push_changed(
     alloc: Global,
@@ -63,7 +48,8 @@ fn push_changed(
     ensures { OnOk result (lines.new.items ≡ lines.old.items ++ line_with lsdb.now link.now cost) }
 {
     if let Some(cost) = cost {
-        let line = cost_line(alloc, lsdb, link, cost)?;
+        let router = lsdb.router_name(link.router);
+        let line = cost_line(alloc, router, link.interface.as_bytes(), cost)?;
         lines.push(line)?;
     }
     Ok(())

@@ -10,6 +10,7 @@ ghost use Rattle.change_steps.specs.Search.{IsStateOf};
 use crate::rollout::Rollout;
 use area_graph::Point;
 use cost_base::{Listed, OutOfMemory, no_marks};
+use problem_parts::point_of;
 use rival_separation::find_rival;
 use spf_ties::Room;
 use std::alloc::Global;
@@ -19,17 +20,6 @@ use std::alloc::Global;
 pub(crate) struct State {
     pub(crate) done: Vec<bool>,
     point: Point,
-}
-
-/// These costs, as the values of a point.
-fn widened(alloc: Global, costs: &[u16]) -> Result<Vec<u128>, OutOfMemory>
-    ensures { IfOk result (λ values. values.items ≡ costs.now) }
-{
-    let mut values = Vec::new(alloc);
-    for cost in costs {
-        values.push(*cost as u128)?;
-    }
-    Ok(values)
 }
 
 /// Gives the variables of a step these costs.
@@ -53,14 +43,8 @@ impl State {
         ensures none { IfOk result (λ state. state.done.items ≡ marks_of rollout.now none_done) }
     {
         let done = no_marks(alloc, rollout.step_count())?;
-        let values = widened(alloc, rollout.present())?;
-        Ok(State {
-            done,
-            point: Point {
-                scale: 1,
-                values: Listed::from_items(values),
-            },
-        })
+        let point = point_of(alloc, rollout.present())?;
+        Ok(State { done, point })
     }
 
     /// The state after some steps.

@@ -97,7 +97,7 @@ too_cheap_of : (p : DesignProblem) (point : Point) (k : ℕ) (es : List ℕ) →
 too_cheap_of p point k es known cheapest =
     let here : slice_get p.paths k ≡ Some (request_at p.paths k) = slice_get-get_or p.paths k no_request known in
     record {
-      rival = subst (λ (r : Option Request). IsRivalOf p.graph r es) (sym here) (cheapest.rival.path, cheapest.rival.other);
+      rival = subst (λ (r : Option Request). IsRivalOf p.graph r es) (sym here) cheapest.rival;
       cheap = subst (λ (r : Option Request). cost p.graph point es < cost p.graph point (path_edges r) + point.scale) (sym here) cheapest.cheap;
     }
 

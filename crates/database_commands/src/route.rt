@@ -15,25 +15,16 @@ use crate::database::check_router;
 use crate::hops::RoutedGraph;
 use crate::quads::push_quad;
 use crate::vertices::{vertex_ids, vertex_of};
-use area_graph::{Graph, Point};
-use cost_base::{Listed, OutOfMemory, Shelf, Status};
+use area_graph::Graph;
+use cost_base::{OutOfMemory, Shelf, Status};
 use input_files::Stop;
 use live_input::read_database;
 use lsa_bytes::{Database, graph_of_lsas};
+use problem_parts::empty_point;
 use report_writer::Report;
 use spf_ties::Room;
 use std::alloc::Global;
 use text_lines::{push_bytes, push_number};
-
-/// Costs of a graph whose edges have fixed prices alone.
-fn fixed_costs(alloc: Global) -> Point
-    ensures { result ≡ at_costs [] }
-{
-    Point {
-        scale: 1,
-        values: Listed::from_items(Vec::new(alloc)),
-    }
-}
 
 /// Adds what is found of a route that doesn't end where it starts: ` cost C first X ..`, or ` unreachable`.
 fn push_end(line: &mut Vec<u8>, routed: &RoutedGraph, start: u32) -> Result<(), OutOfMemory>
@@ -67,7 +58,7 @@ fn route_end(
     requires end { end < length graph.now.vertices }
     ensures { IfOk result (λ words. EndsBy graph.now ids.now start end words.items) }
 {
-    let point = fixed_costs(alloc);
+    let point = empty_point(alloc);
     let mut room = Room::new(alloc, graph)?;
     room.distances_to(graph, &point, end);
     let routed = RoutedGraph {

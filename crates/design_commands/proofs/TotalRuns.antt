@@ -7,7 +7,6 @@ use Rattle.cost_base.specs.Histories.{Taken}
 use Rattle.text_lines.specs.Lines.{with_ends}
 use Rattle.text_lines.proofs.LineLaws.{with_ends-append}
 use Rattle.config_reader.proofs.PrintedLines.{all_lack_end}
-use Rattle.evidence_text.specs.Parts.{rows_lines}
 use Rattle.design_problem.specs.declared.answer.CapTree.{CapTree}
 use Rattle.design_problem.specs.declared.answer.Verdict.{Verdict}
 use Rattle.design_problem.specs.declared.answer.Verdict.TheVariants.{Optimal, Impossible, Undecided}
@@ -17,7 +16,7 @@ use Rattle.design_problem.specs.Problems.{DesignProblem}
 use Rattle.design_problem.specs.Rows.{greatest_cost}
 use Rattle.design_problem.specs.Answers.{AnswerParts, IsValid}
 use Rattle.design_problem.specs.ProblemLaws.{GivesBest}
-use Rattle.design_problem.specs.Text.{text, spaced, tree_lines}
+use Rattle.design_problem.specs.Text.{text, spaced, tree_lines, rows_lines}
 use Rattle.evidence_text.specs.AnswerValues.{IsAnswerValue}
 use Rattle.least_bound.specs.Answered.{ProofIsPrinted, VerdictHolds, IsAnswerSheet}
 use Rattle.least_total.specs.declared.finding.Total.{Total}

@@ -12,10 +12,9 @@ use Rattle.design_problem.specs.Trees.{IsClosed}
 use Rattle.design_problem.specs.declared.answer.Verdict.{Verdict}
 use Rattle.design_problem.specs.declared.answer.Verdict.TheVariants.{Optimal, Impossible as ByNone, Undecided as VerdictUndecided}
 use Rattle.design_problem.specs.Answers.{AnswerParts}
-use Rattle.design_problem.specs.Text.{row_line, spaced, text, tree_lines}
+use Rattle.design_problem.specs.Text.{row_line, spaced, text, tree_lines, rows_lines}
 use Rattle.evidence_text.specs.AnswerValues.{IsAnswerValue}
 use Rattle.text_lines.specs.Lines.{with_ends}
-use Rattle.evidence_text.specs.Parts.{rows_lines}
 use Rattle.least_total.specs.Totals.{HasLeastTotal, total}
 use Rattle.printed_rows.specs.FittingTexts.{FitText}
 use Rattle.least_total.specs.Results.{IsTotalAnswer, IsPrintedWithin, IsUndecidedTotal, IsTotalSheet}

@@ -17,7 +17,7 @@ use Rattle.design_problem.specs.Trees.{IsSoundTree, IsClosed, IsSingleTree, entr
 use Rattle.design_problem.specs.BranchingTrees.{BranchingTree, preorder}
 use Rattle.design_problem.specs.Earnest.{IsEarnestFor}
 use Rattle.design_problem.specs.Rows.{IsFit, AreBestCosts, IsRow, box_of, forms_of_rows, greatest_cost}
-use Rattle.design_problem.specs.Answers.{AnswerParts, Proves, ShowsLeastGreatest, GivesCosts, IsValid, Names, greatest_bound}
+use Rattle.design_problem.specs.Answers.{AnswerParts, Proves, ShowsLeastGreatest, GivesCosts, IsValid, CostLinesOf, greatest_bound}
 
 -- the greatest value is the value at some costs of the box
 abbrev pub GreatestReached : Type 0
@@ -49,7 +49,7 @@ pub record GivesBest (p : DesignProblem) (k : ℕ) (printed : Option Costs) : Ty
   pub costs : Costs
   pub is_printed : printed ≡ Some costs
   pub values : List ℕ
-  pub names : Names p costs.lines values
+  pub names : CostLinesOf values p.vars costs.lines
   pub best : AreBestCosts p values
   pub greatest : greatest_cost values ≡ k
 

@@ -5,7 +5,7 @@ use Rattle.area_graph.specs.Area.{Area, edge_at}
 use Rattle.area_graph.specs.declared.Price.{Price}
 use Rattle.area_graph.specs.declared.Price.TheVariants.{Fixed, Var, Zero}
 use Rattle.area_graph.specs.declared.Point.{Point}
-use Rattle.area_graph.specs.Paths.{IsPathOf}
+use Rattle.area_graph.specs.Paths.{Ends, IsPathOf}
 use Rattle.area_graph.specs.Costs.{cost, at_costs, IsOnlyCheapest, LeadsBy}
 use Rattle.design_problem.specs.declared.form.Form.{Form}
 use Rattle.design_problem.specs.declared.problem.Request.{Request}
@@ -69,10 +69,14 @@ pub record AreBestCosts (p : DesignProblem) (w : List ℕ) : Type 0 where
 abbrev pub LeadsEach : DesignProblem → Point → Type 0
 LeadsEach p point = All (λ r. LeadsBy point.scale p.graph point (request_ends r) r.path.edges) p.paths
 
+-- a rival of a wanted path between two ends: another simple path there without the excluded edges
+abbrev pub IsRivalBetween : Area → Ends → List ℕ → List ℕ → Type 0
+IsRivalBetween g ends wanted es = IsPathOf g ends es × (es ≢ wanted)
+
 -- the edges are a simple path of the request, other than the wanted path
 abbrev pub IsRivalOf : Area → Option Request → List ℕ → Type 0
 IsRivalOf g None es = ⊥
-IsRivalOf g (Some r) es = IsPathOf g (request_ends r) es × (es ≢ r.path.edges)
+IsRivalOf g (Some r) es = IsRivalBetween g (request_ends r) r.path.edges es
 
 -- the edges are a simple path of the request
 abbrev pub IsRouteOf : Area → Option Request → List ℕ → Type 0

@@ -81,17 +81,6 @@ fn terms_of_all(alloc: Global, coefficients: &[i64]) -> Result<Vec<Term>, OutOfM
     Ok(terms)
 }
 
-/// The same terms, in memory of their own.
-///
-/// # Errors
-///
-/// `OutOfMemory`.
-pub fn copied_terms(alloc: Global, terms: &[Term]) -> Result<Vec<Term>, OutOfMemory>
-    ensures { IfOk result (λ copy. copy.items ≡ terms.now) }
-{
-    Ok(terms.to_vec(alloc)?)
-}
-
 impl Form {
     /// The form with this constant and these coefficients, one for each variable in their order.
     ///
@@ -160,7 +149,7 @@ impl Form {
     pub fn copy(&self, alloc: Global) -> Result<Form, OutOfMemory>
         ensures { IfOk result (λ form. form ≡ self.now) }
     {
-        let terms = copied_terms(alloc, self.terms.as_slice())?;
+        let terms = Vec::from_slice(alloc, self.terms.as_slice())?;
         Ok(Form {
             constant: self.constant,
             variables: self.variables,

@@ -1,10 +1,11 @@
 //! The open boxes of a tree that is gone through entry by entry: one box, and a stack of the ends that were changed.
-ghost use Rattle.std.specs.Prelude.{◌≡◌, ◌+◌, ◌<◌, ◌∷◌, [], length, slice_index, MatchBool, OnErr, OnOk};
+ghost use Rattle.std.specs.Prelude.{◌≡◌, ◌+◌, ◌<◌, ◌∷◌, ◌++◌, List, [], length, slice_index, IfOk, MatchBool, OnErr, OnOk};
 ghost use Rattle.design_problem.specs.Boxes.{with_high, with_low};
 ghost use Rattle.design_problem.specs.Stack.{IsStack, waiting, open_boxes_of};
-ghost use Rattle.design_problem.specs.Trees.{tightened};
+ghost use Rattle.design_problem.specs.declared.form.Form.{Form};
+ghost use Rattle.design_problem.specs.Trees.{SoundAt, subboxes, tightened};
 
-use crate::{CostBox, Side};
+use crate::{CostBox, Entry, Side};
 use cost_base::OutOfMemory;
 use pushes::push_last;
 use std::alloc::Global;
@@ -141,5 +142,31 @@ impl OpenBoxes {
             (self.old.behind ≡ []) }
     {
         put_back(&mut self.costs, &mut self.changes)
+    }
+    /// Goes on behind an entry that is sound at the present box: with the boxes of its subtrees, and then those that
+    /// wait. Says whether a box is still open.
+    ///
+    /// # Errors
+    ///
+    /// `OutOfMemory` where the stack got no memory.
+    pub fn go_on(&mut self, entry: &Entry) -> Result<bool, OutOfMemory>
+        requires { (forms : List Form) × SoundAt forms self.old.present entry.now }
+        ensures { IfOk result
+            (λ more. MatchBool more (subboxes self.old.present entry.now ++ self.old.behind ≡
+            self.new.present ∷ self.new.behind) (subboxes self.old.present entry.now ++
+            self.old.behind ≡ [])) }
+    {
+        match entry {
+            Entry::Tighten {
+                var,
+                side,
+                value,
+                ..
+            } => self.tighten(*var, *side, *value)?,
+            Entry::Split { var, value } => self.cut(*var, *value)?,
+            Entry::Halve { var, value, .. } => self.cut(*var, *value)?,
+            Entry::Refute { .. } | Entry::Undone => return Ok(self.close()),
+        }
+        Ok(true)
     }
 }

@@ -8,26 +8,12 @@ use area_graph::Path;
 use cost_base::{Listed, Name, OutOfMemory};
 use std::alloc::Global;
 
-/// A copy of numbers.
-fn copied_numbers(alloc: Global, numbers: &[u32]) -> Result<Listed<u32>, OutOfMemory>
-    ensures { IfOk result (λ copy. copy ≡ numbers.now) }
-{
-    Ok(Listed::from_items(numbers.to_vec(alloc)?))
-}
-
-/// A copy of bounds.
-fn copied_bounds(alloc: Global, bounds: &[u16]) -> Result<Listed<u16>, OutOfMemory>
-    ensures { IfOk result (λ copy. copy ≡ bounds.now) }
-{
-    Ok(Listed::from_items(bounds.to_vec(alloc)?))
-}
-
 /// A copy of a request.
 fn copied_request(alloc: Global, request: &Request) -> Result<Request, OutOfMemory>
     ensures { IfOk result (λ copy. copy ≡ request.now) }
 {
-    let edges = copied_numbers(alloc, request.path.edges.as_slice())?;
-    let excluded = copied_numbers(alloc, request.excluded.as_slice())?;
+    let edges = request.path.edges.copy(alloc)?;
+    let excluded = request.excluded.copy(alloc)?;
     let start = request.path.start;
     Ok(Request {
         path: Path { start, edges },
@@ -90,8 +76,8 @@ impl Problem {
     {
         let paths = requests_of(alloc, self.paths.as_slice(), members)?;
         let vars = copied_names(alloc, self.vars.as_slice())?;
-        let low = copied_bounds(alloc, self.low.as_slice())?;
-        let high = copied_bounds(alloc, self.high.as_slice())?;
+        let low = self.low.copy(alloc)?;
+        let high = self.high.copy(alloc)?;
         let graph = self.graph.copy(alloc)?;
         Ok(Problem {
             graph,

@@ -173,28 +173,12 @@ fn go_on(
         count ≡ length entries + 1 →
         OnOk result (KeepsMarks n (entries ++ entry.now ∷ []) marks.new) }
 {
+    let is_open = boxes.go_on(entry)?;
     match entry {
-        Entry::Tighten {
-            var,
-            side,
-            value,
-            ..
-        } => {
-            boxes.tighten(*var, *side, *value)?;
-            marks.mark(*var as usize, *side, count);
-        }
-        Entry::Split { var, value } => {
-            boxes.cut(*var, *value)?;
+        Entry::Tighten { var, side, .. } => marks.mark(*var as usize, *side, count),
+        Entry::Split { .. } | Entry::Halve { .. } | Entry::Refute { .. } | Entry::Undone => {
             marks.clear(count);
-        }
-        Entry::Halve { var, value, .. } => {
-            boxes.cut(*var, *value)?;
-            marks.clear(count);
-        }
-        Entry::Refute { .. } | Entry::Undone => {
-            marks.clear(count);
-            return Ok(boxes.close());
         }
     }
-    Ok(true)
+    Ok(is_open)
 }

@@ -11,6 +11,7 @@ ghost use Rattle.evidence_checker.specs.Tests.{line_tests};
 use crate::CheckFault;
 use crate::sums::{refutes, rows_are_known, sum_is_small};
 use design_problem::{CostBox, Entry, Form, Side, greatest_removed};
+use problem_parts::NewBound;
 
 /// Whether a new bound makes a variable's range smaller, and not empty.
 fn is_smaller(costs: &CostBox, var: usize, side: Side, value: u16) -> bool
@@ -24,15 +25,6 @@ fn is_smaller(costs: &CostBox, var: usize, side: Side, value: u16) -> bool
         Side::Low => low < value && value <= high,
         Side::High => low <= value && value < high,
     }
-}
-
-/// What a Tighten makes a variable's range smaller by.
-#[derive(Clone, Copy)]
-struct NewBound {
-    var: u32,
-    /// Which end of the range it is.
-    side: Side,
-    value: u16,
 }
 
 /// Whether a Tighten by a row is a sound step at the box.

@@ -6,23 +6,10 @@ ghost use Rattle.design_problem.specs.Problems.{request_ends};
 ghost use Rattle.evidence_checker.specs.Costs.{IsFirstTied};
 
 use area_graph::{Graph, Point, WantedPath, is_only_cheapest};
-use cost_base::{Listed, OutOfMemory};
+use cost_base::OutOfMemory;
 use design_problem::Request;
+use problem_parts::point_of;
 use std::alloc::Global;
-
-/// Costs as a point of scale 1.
-fn point_of(alloc: Global, costs: &[u16]) -> Result<Point, OutOfMemory>
-    ensures { IfOk result (λ point. point ≡ at_costs costs.now) }
-{
-    let mut values = Vec::new(alloc);
-    for cost in costs {
-        values.push(u128::from(*cost))?;
-    }
-    Ok(Point {
-        scale: 1,
-        values: Listed::from_items(values),
-    })
-}
 
 /// Whether the request's path is the only cheapest among the simple paths of the request.
 fn is_only(

@@ -1,14 +1,14 @@
 //! The tests of rows, and their forms.
-ghost use Rattle.std.specs.Prelude.{◌≡◌, ◌↔◌, ℕ, [], ◌∷◌, length, map, slice_get, All, IsTrue, IfOk, IfErr, MatchOption};
+ghost use Rattle.std.specs.Prelude.{◌≡◌, ◌↔◌, ℕ, [], ◌∷◌, Some, length, map, slice_get, All, IsTrue, ◌++◌, IfOk, IfErr, OnOk, MatchOption};
 ghost use Rattle.cost_base.specs.Order.{FirstOf};
 ghost use Rattle.area_graph.specs.Paths.{IsPathOf};
 ghost use Rattle.design_problem.specs.Forms.{IsSmallForm};
 ghost use Rattle.design_problem.specs.Problems.{request_ends};
-ghost use Rattle.design_problem.specs.Rows.{IsRow, forms_of_rows, form_of_row};
+ghost use Rattle.design_problem.specs.Rows.{IsRivalOf, IsRow, forms_of_rows, form_of_row};
 ghost use Rattle.evidence_checker.specs.Refusals.{StopsBy, AtFirstItem};
 ghost use Rattle.evidence_checker.specs.Numbers.{check_fault_number};
 ghost use Rattle.evidence_checker.specs.Tests.{row_tests};
-ghost use Rattle.evidence_checker.specs.Routes.{route_tests, IsRivalRoute};
+ghost use Rattle.evidence_checker.specs.Routes.{route_tests};
 
 use crate::CheckFault;
 use area_graph::{Graph, Path, is_path_of};
@@ -41,7 +41,7 @@ fn route_fault(
     edges: &[u32],
 ) -> Result<Option<CheckFault>, OutOfMemory>
     ensures { IfOk result (λ fault. MatchOption fault
-        (IsRivalRoute graph.now request.now edges.now)
+        (IsRivalOf graph.now (Some request.now) edges.now)
         (λ f. FirstOf (route_tests graph.now request.now edges.now) (check_fault_number f))) }
 {
     if !is_route(alloc, graph, request, edges)? {

@@ -1,8 +1,8 @@
 //! The lines of a tree, tested in order.
-ghost use Rattle.std.specs.Prelude.{◌≡◌, ℕ, List, [], ◌∷◌, ◌++◌, length, map, min, All, IfOk, IfErr, false, MatchBool, MatchOption};
+ghost use Rattle.std.specs.Prelude.{◌≡◌, [], ◌∷◌, length, All, IfOk, IfErr, false, MatchOption};
 ghost use Rattle.design_problem.specs.Boxes.{capped};
-ghost use Rattle.design_problem.specs.Forms.{Form, IsSmallForm};
-ghost use Rattle.design_problem.specs.Trees.{IsSoundTree, IsClosed, IsSingleTree, SoundAt, is_undone, subboxes};
+ghost use Rattle.design_problem.specs.Forms.{IsSmallForm};
+ghost use Rattle.design_problem.specs.Trees.{IsSoundTree, IsClosed, IsSingleTree, SoundAt, is_undone};
 ghost use Rattle.evidence_checker.specs.Refusals.{StopsBy};
 ghost use Rattle.cost_base.specs.Order.{FirstOf};
 ghost use Rattle.evidence_checker.specs.Numbers.{check_fault_number};
@@ -12,6 +12,7 @@ use crate::CheckFault;
 use crate::lines::line_fault;
 use cost_base::{OutOfMemory, Refusal};
 use design_problem::{CapTree, CostBox, Entry, Form, OpenBoxes, capped_box};
+use problem_parts::go_on;
 use std::alloc::Global;
 
 /// Room for the sums of so many variables.
@@ -19,28 +20,6 @@ fn room_for_sums(alloc: Global, count: usize) -> Result<Vec<i128>, OutOfMemory>
     ensures { IfOk result (λ sums. length sums.items ≡ count) }
 {
     Ok(vec![in alloc; 0i128; count]?)
-}
-
-/// Goes on after a line that is sound at the present box, and says whether a box is still open.
-fn go_on(boxes: &mut OpenBoxes, entry: &Entry) -> Result<bool, OutOfMemory>
-    requires { (forms : List Form) × SoundAt forms boxes.old.present entry.now }
-    ensures { IfOk result
-        (λ more. MatchBool more (subboxes boxes.old.present entry.now ++ boxes.old.behind ≡
-        boxes.new.present ∷ boxes.new.behind) (subboxes boxes.old.present entry.now ++
-        boxes.old.behind ≡ [])) }
-{
-    match entry {
-        Entry::Tighten {
-            var,
-            side,
-            value,
-            ..
-        } => boxes.tighten(*var, *side, *value)?,
-        Entry::Split { var, value } => boxes.cut(*var, *value)?,
-        Entry::Halve { var, value, .. } => boxes.cut(*var, *value)?,
-        Entry::Refute { .. } | Entry::Undone => return Ok(boxes.close()),
-    }
-    Ok(true)
 }
 
 /// The first test that a line fails at a box. The sums are room for a number for each variable, before and after.

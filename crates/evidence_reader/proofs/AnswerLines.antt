@@ -9,11 +9,9 @@ use Rattle.design_problem.specs.declared.answer.Costs.{Costs}
 use Rattle.design_problem.specs.declared.answer.CostLine.{CostLine}
 use Rattle.design_problem.specs.declared.answer.CapTree.{CapTree}
 use Rattle.design_problem.specs.Answers.{AnswerParts}
-use Rattle.design_problem.specs.Text.{spaced, verdict_words, router_lines, cost_lines, costs_lines, floor_word, row_line, entry_line, tree_lines, FitsCostLine, FitsCosts}
+use Rattle.design_problem.specs.Text.{spaced, verdict_words, router_lines, cost_lines, costs_lines, floor_word, row_line, entry_line, tree_lines, FitsCostLine, FitsCosts, verdict_line, costs_line, interface_line, answer_cost_line, floor_line, rows_line, end_lines, router_line}
 use Rattle.text_lines.specs.Lines.{IsOneLine}
 use Rattle.text_lines.proofs.WordLaws.{word-line}
-use Rattle.answer_lines.specs.Grammar.{router_line}
-use Rattle.evidence_text.specs.Parts.{verdict_line, costs_line, interface_line, answer_cost_line, floor_line, rows_line, end_lines}
 use Rattle.evidence_text.proofs.AnswerOrder.{ordered, after_proof, after_rows, after_floor, after_costs, after_head}
 use Rattle.evidence_reader.proofs.WholeWords.{written, spaced-whole, number-whole, numbers-whole, verdict-whole, floor-whole, entry-line}
 

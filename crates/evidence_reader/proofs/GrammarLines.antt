@@ -6,14 +6,14 @@ use Rattle.std.proofs.lemmas.List.Elements.{All-append}
 use Rattle.cost_base.specs.Decimal.{decimal}
 use Rattle.design_problem.specs.declared.answer.Verdict.{Verdict}
 use Rattle.design_problem.specs.declared.answer.Floor.{Floor}
-use Rattle.design_problem.specs.Text.{spaced, verdict_words, floor_word, entry_line}
+use Rattle.design_problem.specs.Text.{spaced, verdict_words, floor_word, entry_line, verdict_line, floor_line}
 use Rattle.text_lines.specs.Lines.{IsOneLine}
 use Rattle.text_lines.proofs.WordLaws.{word-line}
 use Rattle.answer_lines.specs.declared.other_text.OtherText.{OtherText}
 use Rattle.answer_lines.specs.declared.other_text.OtherText.TheVariants.{Total, Spread, Change}
 use Rattle.answer_lines.specs.Words.{entry_words}
 use Rattle.answer_lines.specs.Grammar.{TextPlace, AtHead, AtVerdict, AtCosts, AtSections, AtInterface, AtCost, AtExit, AtFloor, AtRows, AtRow, AtTree, AtEnd, AfterEnd, AtOtherHead, AtInnerHead, AtOtherVerdict, AtOtherCosts, AtSectionsEnd, AtUnread, Next, IsInterfaceNext, IsInterfaceAgain, IsEndNext, IsPartNext, IsFrontAndNumber, IsPlainVerdict, IsOtherVerdict, answer_head, other_head}
-use Rattle.evidence_text.specs.Parts.{part_word, verdict_line, floor_line}
+use Rattle.evidence_text.specs.Parts.{part_word}
 use Rattle.evidence_text.specs.declared.TreePart.{TreePart}
 use Rattle.evidence_text.specs.declared.TreePart.TheVariants.{Proof, Unfinished}
 use Rattle.answer_lines.proofs.EntryWords.{entry_line-words}

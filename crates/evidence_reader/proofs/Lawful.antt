@@ -14,12 +14,12 @@ use Rattle.design_problem.specs.declared.answer.Floor.{Floor}
 use Rattle.design_problem.specs.declared.answer.CapTree.{CapTree}
 use Rattle.design_problem.specs.Answers.{AnswerParts}
 use Rattle.design_problem.specs.Bounds.{IsCost, IsRowNumber, BoundsVerdict, BoundsFloor, BoundsRow, BoundsEntry, BoundsCosts, BoundsTree, HasBounds}
-use Rattle.design_problem.specs.Text.{row_line, entry_line, cost_lines, costs_lines, tree_lines, answer_lines, FitsEntry, FitsCostLine, FitsCosts, FitsTree, FitsAnswer}
+use Rattle.design_problem.specs.Text.{row_line, entry_line, cost_lines, costs_lines, tree_lines, answer_lines, FitsEntry, FitsCostLine, FitsCosts, FitsTree, FitsAnswer, head_lines, interface_line, answer_cost_line, floor_line, rows_lines, end_lines, router_line}
 use Rattle.design_problem.specs.Trees.{subtree_count, AreSeveralTrees}
 use Rattle.answer_lines.specs.declared.other_text.OtherText.{OtherText}
 use Rattle.answer_lines.proofs.FirstLines.{has-room}
-use Rattle.answer_lines.specs.Grammar.{TextPlace, Next, IsInterfaceNext, AtHead, AtVerdict, AtCosts, AtSections, AtInterface, AtCost, AtExit, AtFloor, AtRows, AtRow, AtTree, AtEnd, AfterEnd, router_line}
-use Rattle.evidence_text.specs.Parts.{head_lines, interface_line, answer_cost_line, floor_line, rows_lines, part_word, end_lines}
+use Rattle.answer_lines.specs.Grammar.{TextPlace, Next, IsInterfaceNext, AtHead, AtVerdict, AtCosts, AtSections, AtInterface, AtCost, AtExit, AtFloor, AtRows, AtRow, AtTree, AtEnd, AfterEnd}
+use Rattle.evidence_text.specs.Parts.{part_word}
 use Rattle.answer_lines.specs.Lawful.{LeadOn}
 use Rattle.evidence_reader.specs.Stages.{before_part}
 use Rattle.evidence_text.specs.declared.TreePart.{TreePart}

@@ -6,14 +6,14 @@ use Rattle.std.specs.List.{list_all}
 use Rattle.cost_base.specs.Decimal.{is_digit, decimal}
 use Rattle.design_problem.specs.declared.tree.Entry.{Entry}
 use Rattle.design_problem.specs.declared.tree.Entry.TheVariants.{Tighten, Split, Halve, Refute, Undone}
-use Rattle.design_problem.specs.Text.{spaced, part_words, entry_line}
+use Rattle.design_problem.specs.Text.{spaced, part_words, entry_line, interface_line}
 use Rattle.design_problem.specs.Trees.{subtree_count}
 use Rattle.text_lines.specs.Numbers.{split}
 use Rattle.text_lines.proofs.Printed.{decimal-same, decimal-digits}
 use Rattle.answer_lines.specs.declared.other_text.OtherText.{OtherText}
 use Rattle.answer_lines.specs.declared.other_text.OtherText.TheVariants.{Total, Spread, Change}
 use Rattle.answer_lines.specs.Grammar.{TextPlace, AtHead, AtVerdict, AtCosts, AtSections, AtInterface, AtCost, AtExit, AtFloor, AtRows, AtRow, AtTree, AtEnd, AfterEnd, AtOtherHead, AtInnerHead, AtOtherVerdict, AtOtherCosts, AtSectionsEnd, AtUnread, Next, IsRouterNext, IsInterfaceAgain, IsEndNext, IsPartNext, costs_front}
-use Rattle.evidence_text.specs.Parts.{part_word, no_tree_line, tree_line, interface_line}
+use Rattle.evidence_text.specs.Parts.{part_word, no_tree_line, tree_line}
 use Rattle.evidence_text.specs.declared.TreePart.{TreePart}
 use Rattle.evidence_text.specs.declared.TreePart.TheVariants.{Proof, Unfinished}
 use Rattle.answer_lines.proofs.ListParts.{head-is, tail-is}

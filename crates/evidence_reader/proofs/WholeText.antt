@@ -3,11 +3,10 @@ use Rattle.std.proofs.Common.{◌≡◌, ℕ, zero, suc, ◌≤◌, Some, None, 
 use Rattle.std.proofs.lemmas.List.Elements.{All-nil, All-cons}
 use Rattle.cost_base.specs.declared.refusal.Refusal.{Refusal}
 use Rattle.design_problem.specs.Answers.{AnswerParts}
-use Rattle.design_problem.specs.Text.{costs_lines, tree_lines, text, FitsCosts, FitsTree, FitsAnswer}
+use Rattle.design_problem.specs.Text.{costs_lines, tree_lines, text, FitsCosts, FitsTree, FitsAnswer, head_lines, floor_line, rows_lines, end_lines}
 use Rattle.answer_lines.specs.Grammar.{TextPlace, Next, AtHead, AtVerdict, AtCosts, AtSections, AtInterface, AtCost, AtExit, AtFloor, AtRows, AtRow, AtTree, AtEnd, AfterEnd, AtOtherHead, AtInnerHead, AtOtherVerdict, AtOtherCosts, AtSectionsEnd, AtUnread}
 use Rattle.text_lines.specs.Lines.{with_ends}
 use Rattle.evidence_text.specs.Lines.{AreShort}
-use Rattle.evidence_text.specs.Parts.{head_lines, floor_line, rows_lines, end_lines}
 use Rattle.answer_lines.specs.Lawful.{HasLineRoom, LeadOn, IsRead}
 use Rattle.evidence_reader.specs.Refusals.{IsReaderStop}
 use Rattle.evidence_text.specs.declared.TreePart.TheVariants.{Proof, Unfinished}

@@ -1,10 +1,10 @@
 -- What the stages of a reader find, and where each leads. No public clause cites it.
 use Rattle.std.specs.Prelude.{◌≡◌, ◌≢◌, ℕ, zero, ◌<◌, List, [], ◌∷◌, ◌++◌, codes, Option, Some, None}
 use Rattle.cost_base.specs.Words.{IsOneWord}
-use Rattle.design_problem.specs.Text.{router_lines}
-use Rattle.evidence_text.specs.Parts.{costs_line, interface_line, answer_cost_line, no_tree_line, tree_line}
+use Rattle.design_problem.specs.Text.{router_lines, costs_line, interface_line, answer_cost_line, router_line}
+use Rattle.evidence_text.specs.Parts.{no_tree_line, tree_line}
 use Rattle.answer_lines.specs.declared.other_text.OtherText.{OtherText}
-use Rattle.answer_lines.specs.Grammar.{TextPlace, AtSections, AtInterface, AtCost, AtFloor, AtRow, AtTree, router_line}
+use Rattle.answer_lines.specs.Grammar.{TextPlace, AtSections, AtInterface, AtCost, AtFloor, AtRow, AtTree}
 use Rattle.evidence_text.specs.declared.TreePart.{TreePart}
 use Rattle.evidence_text.specs.declared.TreePart.TheVariants.{Proof, Unfinished}
 use Rattle.evidence_reader.specs.declared.stage_costs.CostsHead.{CostsHead}

@@ -2,7 +2,7 @@
 ghost use Rattle.std.specs.Prelude.{ℕ, zero, [], ◌∷◌, MatchResult, codes};
 ghost use Rattle.answer_lines.specs.Grammar.{AtTree, AtEnd, AfterEnd};
 ghost use Rattle.answer_lines.specs.Lawful.{IsRead};
-ghost use Rattle.evidence_text.specs.Parts.{end_lines};
+ghost use Rattle.design_problem.specs.Text.{end_lines};
 ghost use Rattle.evidence_reader.specs.Stops.{StopsReader};
 ghost use Rattle.answer_lines.specs.Going.{Goes};
 

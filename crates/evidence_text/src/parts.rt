@@ -1,10 +1,10 @@
 //! The parts of an answer's text behind a text.
 ghost use Rattle.std.specs.Prelude.{◌≡◌, ◌++◌, None, Some, IfOk, OnOk};
 ghost use Rattle.std.specs.Option.{option_copied};
-ghost use Rattle.design_problem.specs.Text.{text, cost_lines, costs_lines, tree_lines};
+ghost use Rattle.design_problem.specs.Text.{text, cost_lines, costs_lines, tree_lines, rows_lines};
 ghost use Rattle.text_lines.specs.Lines.{with_ends};
 ghost use Rattle.evidence_text.specs.Lines.{AreShort};
-ghost use Rattle.evidence_text.specs.Parts.{rows_lines, part_word};
+ghost use Rattle.evidence_text.specs.Parts.{part_word};
 
 use crate::line_buffer::LineBuffer;
 use crate::sections::{put_capped_tree, put_cost_lines};

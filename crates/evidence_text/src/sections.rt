@@ -2,10 +2,10 @@
 ghost use Rattle.std.specs.Prelude.{◌≡◌, ℕ, ◌+◌, ◌≤◌, List, [], ◌∷◌, ◌++◌, length, map, codes, OnOk, OnErr};
 ghost use Rattle.std.specs.Option.{option_copied};
 ghost use Rattle.cost_base.specs.Outside.{GotAll, GotPart, HasCause};
-ghost use Rattle.design_problem.specs.Text.{text, router_lines, cost_lines, costs_lines, row_line, entry_line, tree_lines};
+ghost use Rattle.design_problem.specs.Text.{text, router_lines, cost_lines, costs_lines, row_line, entry_line, tree_lines, head_lines, interface_lines, floor_line, rows_lines, end_lines};
 ghost use Rattle.text_lines.specs.Lines.{with_ends};
 ghost use Rattle.evidence_text.specs.Lines.{AreShort, IsPieceHanded};
-ghost use Rattle.evidence_text.specs.Parts.{head_lines, interface_lines, floor_line, rows_lines, part_word, end_lines};
+ghost use Rattle.evidence_text.specs.Parts.{part_word};
 
 use crate::TreePart;
 use crate::line_buffer::LineBuffer;

@@ -64,17 +64,17 @@ fn entry_of(
     if most < 0 {
         return Ok(Some(refute_by(alloc, row)?));
     }
-    let Some(step) = tighten_within(form, tree.costs(), most) else {
+    let Some(bound) = tighten_within(form, tree.costs(), most) else {
         return Ok(None);
     };
-    if tree.is_tightened(step.var, step.side) {
+    if tree.is_tightened(bound.var, bound.side) {
         watch.bar(row)?;
         return Ok(None);
     }
     Ok(Some(Entry::Tighten {
-        var: step.var,
-        side: step.side,
-        value: step.value,
+        var: bound.var,
+        side: bound.side,
+        value: bound.value,
         row: row as u64,
     }))
 }

@@ -15,9 +15,10 @@ ghost use Rattle.form_search.specs.Turns.{IsSoundNext, turned};
 use crate::at_box::next_at;
 use crate::next_entry::{Desk, Next};
 use crate::{FormPool, Found, RowSource};
-use cost_base::{Listed, OutOfMemory};
+use cost_base::OutOfMemory;
 use cut_advisors::{Advisor, tell};
 use design_problem::{CostBox, Entry, TreeBuilder};
+use problem_parts::copied_box;
 use std::alloc::Global;
 use std::ops::ControlFlow;
 use wide_fraction::Limits;
@@ -32,10 +33,10 @@ fn first_tree(alloc: Global, variables: u32, costs: &CostBox) -> Result<TreeBuil
     }) }
     ensures ranges { OnOk result (IsCostsBox variables costs.now) }
 {
-    let low = costs.low.copy(alloc)?;
-    let highs = costs.high.as_slice();
-    let high = Listed::from_slice(alloc, highs)?;
-    TreeBuilder::start(alloc, CostBox { low, high })
+    // For the prover: that each upper end has 16 bits is known once they are read.
+    let _ = costs.high.as_slice();
+    let copy = copied_box(alloc, costs)?;
+    TreeBuilder::start(alloc, copy)
 }
 
 /// The tree with one more entry, of which the advisors are told.

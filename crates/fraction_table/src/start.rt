@@ -15,19 +15,10 @@ use crate::table::Table;
 use cost_base::OutOfMemory;
 use design_problem::{CostBox, Member};
 use fraction_rows::TableRow;
+use problem_parts::copied_box;
 use pushes::push_last;
 use std::alloc::Global;
 use wide_fraction::{Frac, Top};
-
-/// An equal box.
-pub fn copy_box(alloc: Global, costs: &CostBox) -> Result<CostBox, OutOfMemory>
-    ensures { IfOk result (λ copy. copy ≡ costs.now) }
-{
-    Ok(CostBox {
-        low: costs.low.copy(alloc)?,
-        high: costs.high.copy(alloc)?,
-    })
-}
 
 /// The forms x - low, by the lower bounds.
 pub fn starting_basis(alloc: Global, low: &[u16]) -> Result<Vec<Member>, OutOfMemory>
@@ -182,7 +173,7 @@ pub fn starting_table(alloc: Global, costs: &CostBox, top: Top) -> Result<Table,
     let lines = bound_rows(alloc, costs, top)?;
     Ok(Table {
         top,
-        costs: copy_box(alloc, costs)?,
+        costs: copied_box(alloc, costs)?,
         rows: Vec::new(alloc),
         basis: starting_basis(alloc, costs.low.as_slice())?,
         lines,

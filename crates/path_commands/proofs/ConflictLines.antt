@@ -8,10 +8,9 @@ use Rattle.design_problem.specs.declared.tree.Entry.{Entry}
 use Rattle.design_problem.specs.Problems.{DesignProblem, IsProblem, restricted}
 use Rattle.design_problem.specs.Rows.{IsRow, LeadsEach, forms_of_rows}
 use Rattle.design_problem.specs.Answers.{greatest_bound, whole_box}
-use Rattle.design_problem.specs.Text.{tree_lines, row_line}
+use Rattle.design_problem.specs.Text.{tree_lines, row_line, rows_lines}
 use Rattle.design_problem.proofs.TreeShapes.{sound_whole}
 use Rattle.evidence_text.specs.Lines.{AreShort}
-use Rattle.evidence_text.specs.Parts.{rows_lines}
 use Rattle.printed_rows.proofs.AnswerLines.{rows_lines_short, trees_short}
 use Rattle.printed_rows.proofs.CapBoxes.{cost_bounds, low_below_greatest_bound}
 use Rattle.printed_rows.proofs.RowLines.{rows_short}

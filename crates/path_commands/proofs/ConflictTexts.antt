@@ -8,9 +8,8 @@ use Rattle.design_problem.specs.declared.tree.Entry.{Entry}
 use Rattle.design_problem.specs.Problems.{DesignProblem}
 use Rattle.design_problem.specs.Boxes.{IsInBox}
 use Rattle.design_problem.specs.Rows.{box_of}
-use Rattle.design_problem.specs.Text.{tree_lines}
+use Rattle.design_problem.specs.Text.{tree_lines, rows_lines}
 use Rattle.text_lines.specs.Lines.{with_ends}
-use Rattle.evidence_text.specs.Parts.{rows_lines}
 use Rattle.text_lines.proofs.LineLaws.{with_ends-append}
 use Rattle.conflict_core.specs.declared.conflict.Conflict.TheVariants.{Fits, Core, Undecided}
 use Rattle.conflict_core.specs.Conflicts.{IsCore, all_requests}

@@ -4,9 +4,8 @@ use Rattle.cost_base.specs.Decimal.{decimal}
 use Rattle.cost_base.specs.declared.Status.{Status}
 use Rattle.cost_base.specs.declared.Status.TheVariants.{Done, Undecided}
 use Rattle.design_problem.specs.Problems.{DesignProblem}
-use Rattle.design_problem.specs.Text.{spaced, tree_lines}
+use Rattle.design_problem.specs.Text.{spaced, tree_lines, rows_lines}
 use Rattle.text_lines.specs.Lines.{with_ends}
-use Rattle.evidence_text.specs.Parts.{rows_lines}
 use Rattle.conflict_core.specs.declared.conflict.Conflict.{Conflict}
 use Rattle.conflict_core.specs.declared.conflict.Conflict.TheVariants.{Fits, Core, Undecided as ConflictUndecided}
 use Rattle.conflict_core.specs.Conflicts.{IsConflictFound, all_requests}

@@ -6,9 +6,8 @@ use Rattle.area_graph.specs.Costs.{at_costs}
 use Rattle.design_problem.specs.declared.answer.CapTree.{CapTree}
 use Rattle.design_problem.specs.declared.answer.Costs.{Costs}
 use Rattle.design_problem.specs.Problems.{DesignProblem}
-use Rattle.design_problem.specs.Text.{costs_lines, tree_lines}
+use Rattle.design_problem.specs.Text.{costs_lines, tree_lines, rows_line}
 use Rattle.text_lines.specs.Lines.{with_ends}
-use Rattle.evidence_text.specs.Parts.{rows_line}
 use Rattle.spread_sets.specs.declared.spread.SetRow.{SetRow}
 use Rattle.spread_sets.specs.declared.spread.Spread.{Spread}
 use Rattle.spread_sets.specs.declared.spread.Spread.TheVariants.{Fit, Impossible, Undecided}

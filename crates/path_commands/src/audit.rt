@@ -12,9 +12,10 @@ ghost use Rattle.path_commands.specs.Audits.{IsAudited, MayAudit, ReportsAudit, 
 ghost use Rattle.report_writer.specs.Reports.{bytes_in};
 
 use area_graph::{Graph, Point, path_cost};
-use cost_base::{Listed, OutOfMemory, Shelf, Status};
+use cost_base::{OutOfMemory, Shelf, Status};
 use design_problem::{Problem, Request};
 use input_files::{FileWords, Stop, View, read_problem};
+use problem_parts::empty_point;
 use report_writer::Report;
 use rival_separation::find_rival;
 use spf_ties::Room;
@@ -126,10 +127,7 @@ fn audit_in(
     ensures { IfOk result (λ found. AllZip (IsAudited problem.now.graph) problem.now.paths
         found.items) }
 {
-    let point = Point {
-        scale: 1,
-        values: Listed::from_items(Vec::new(alloc)),
-    };
+    let point = empty_point(alloc);
     let mut found = Vec::new(alloc);
     for request in problem.paths.as_slice() {
         let path = audited(&problem.graph, request, &point, room);

@@ -21,6 +21,7 @@ use input_files::{FileWords, Layout, Stop, View, read_layout, resolution_at_pres
 use live_area::{RunningArea, running_area};
 use live_input::read_live_file;
 use lsa_bytes::Database;
+use problem_parts::empty_point;
 use report_writer::Report;
 use request_reader::RequestFile;
 use spf_ties::Room;
@@ -100,10 +101,7 @@ fn found_live(
     ensures room { IsRoomFor graph.now room.new }
     ensures found { IfOk result (IsFoundLive graph.now exclusion.now request.now) }
 {
-    let point = Point {
-        scale: 1,
-        values: Listed::new(alloc),
-    };
+    let point = empty_point(alloc);
     let left = left_without(alloc, exclusion, request)?;
     if is_left(exclusion, request.path.edges.as_slice()) {
         Ok(LivePath::Stands(audited(graph, &left, &point, room)))

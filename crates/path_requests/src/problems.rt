@@ -12,12 +12,12 @@ use crate::choices::Choices;
 use crate::ranges::Range;
 use crate::variables::{high_bounds, is_free, low_bounds, owner};
 use area_graph::{Graph, Price};
-use cost_base::{Listed, Name, OutOfMemory};
+use cost_base::{Listed, OutOfMemory};
 use design_problem::{Problem, Request, VarName};
 use lsdb_build::Linked;
+use problem_parts::var_name;
 use request_reader::RequestFile;
 use std::alloc::Global;
-use wanted_paths::Names;
 
 /// The present cost of a link's interface; the default of the request file where it has none, and 0 where
 /// there is none.
@@ -25,22 +25,6 @@ pub fn present_cost(requests: &RequestFile, link: &Linked) -> u16
     ensures { result ≡ present_cost requests.now link.now }
 {
     link.cost.unwrap_or(requests.default_cost.unwrap_or(0))
-}
-
-/// The name of a link with the number of its variable.
-fn name_of(alloc: Global, names: &Names, link: &Linked, var: u32) -> Result<VarName, OutOfMemory>
-    ensures { IfOk result
-        (λ name. name ≡ record {
-          router = slice_index_or names.now.routers link.now.router [];
-          interface = link.now.interface;
-          var = var;
-        }) }
-{
-    Ok(VarName {
-        router: Name::from_bytes(alloc, names.router_name(link.router))?,
-        interface: Name::from_bytes(alloc, link.interface.as_bytes())?,
-        var,
-    })
 }
 
 /// Choices, and the links with a variable of their own in order, by which the variables are numbered.
@@ -113,7 +97,8 @@ impl<'a> Numbering<'a> {
     {
         if is_free(self.choices.range_of(number)) {
             let var = self.variable_of(number, link);
-            let name = name_of(alloc, self.choices.names(), link, var)?;
+            let router = self.choices.names().router_name(link.router);
+            let name = var_name(alloc, router, link.interface.as_bytes(), var)?;
             made.push(name)?;
         }
         Ok(())

@@ -4,7 +4,8 @@ ghost use Rattle.cost_base.specs.Lists.{numbers_from};
 ghost use Rattle.area_graph.specs.Area.{edge_at};
 ghost use Rattle.path_requests.specs.Meaning.{problem_of};
 ghost use Rattle.present_costs.specs.PresentCosts.{costs_of_variable, if_within, present_of_variables};
-ghost use Rattle.present_costs.specs.Noted.{noted_with, noted_after, one_noted, noted_within, is_variable};
+ghost use Rattle.present_costs.specs.Noted.{noted_with, noted_after, one_noted, noted_within};
+ghost use Rattle.design_problem.specs.Rows.{is_var};
 ghost use Rattle.present_costs.specs.declared.variables.Noted.{Noted as NotedValue};
 ghost use Rattle.present_costs.specs.declared.variables.Noted.TheVariants.{Nothing};
 
@@ -54,7 +55,7 @@ pub fn price_of_link(graph: &Graph, number: u32) -> Price
 /// Notes the cost of a link whose price is a variable.
 fn note(price: Price, cost: u16, noted: &mut Vec<Noted>)
     ensures { (f : ℕ → NotedValue) (n : ℕ) → noted.old.items ≡ map f (numbers_from 0 n) →
-        noted.new.items ≡ map (λ k. if is_variable price k then noted_with (f k) cost else f k)
+        noted.new.items ≡ map (λ k. if is_var k price then noted_with (f k) cost else f k)
         (numbers_from 0 n) }
 {
     match price {

@@ -9,7 +9,8 @@ use Rattle.design_problem.specs.Text.{costs_lines}
 use Rattle.text_lines.specs.Lines.{with_ends}
 use Rattle.evidence_text.specs.Lines.{AreShort}
 use Rattle.text_lines.proofs.LineLaws.{with_ends-append}
-use Rattle.printed_rows.specs.PrintedCosts.{ArePrintedCosts, CostLinesOf, named_cost, named_costs}
+use Rattle.design_problem.specs.Answers.{CostLinesOf}
+use Rattle.printed_rows.specs.PrintedCosts.{ArePrintedCosts, named_cost, named_costs}
 use Rattle.printed_rows.proofs.AnswerLines.{costs_short}
 
 -- lines behind lines

@@ -20,8 +20,7 @@ use Rattle.design_problem.specs.declared.answer.Costs.{Costs}
 use Rattle.design_problem.specs.declared.answer.CostLine.{CostLine}
 use Rattle.design_problem.specs.declared.answer.CapTree.{CapTree}
 use Rattle.design_problem.specs.Answers.{AnswerParts}
-use Rattle.design_problem.specs.Text.{spaced, verdict_words, router_lines, cost_lines, costs_lines, row_line, entry_line, tree_lines, answer_lines, text}
-use Rattle.evidence_text.specs.Parts.{end_lines}
+use Rattle.design_problem.specs.Text.{spaced, verdict_words, router_lines, cost_lines, costs_lines, row_line, entry_line, tree_lines, answer_lines, text, end_lines}
 use Rattle.config_reader.specs.Statements.{begin_with}
 use Rattle.config_reader.specs.Sections.{config_section_lines}
 use Rattle.config_reader.proofs.PrintedLines.{all_lack_end, lines-with_ends}

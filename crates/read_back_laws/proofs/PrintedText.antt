@@ -27,8 +27,7 @@ use Rattle.design_problem.specs.declared.answer.Floor.{Floor}
 use Rattle.design_problem.specs.declared.answer.Floor.TheVariants.{Absent, Empty, Var}
 use Rattle.design_problem.specs.declared.answer.CapTree.{CapTree}
 use Rattle.design_problem.specs.Answers.{AnswerParts}
-use Rattle.design_problem.specs.Text.{spaced, verdict_words, router_lines, cost_lines, costs_lines, floor_word, row_line, side_word, step_word, integer, ratio_word, member_words, members_words, part_words, entry_line, tree_lines, answer_lines, text}
-use Rattle.evidence_text.specs.Parts.{end_lines}
+use Rattle.design_problem.specs.Text.{spaced, verdict_words, router_lines, cost_lines, costs_lines, floor_word, row_line, side_word, step_word, integer, ratio_word, member_words, members_words, part_words, entry_line, tree_lines, answer_lines, text, end_lines}
 use Rattle.config_reader.proofs.PrintedLines.{lacks_end, word_lacks_end, all_lack_end, lines-with_ends}
 use Rattle.text_lines.proofs.LineLaws.{with_ends-append}
 use Rattle.text_lines.proofs.WordLaws.{decimal-word}

@@ -197,13 +197,13 @@ cheapest_by g p ends limit room wanted place e total graph fits found path devia
     fits path.simple.joins path.simple.none_twice path.kept deviates (omega (arith, whole, cheap)) least in
     let joins = deviation_joins g ends.excluded ends.end ends.start wanted (take place wanted ++ e ∷ rest) path.simple.joins path.kept deviates in
     record {
-      rival = record {
-        path = record { simple = record { start = path.simple.start; end = path.simple.end; joins = joins.0; none_twice = once }; kept = joins.1 };
-        other = deviation_differs g ends.excluded ends.end ends.start wanted (take place wanted ++ e ∷ rest) deviates;
-      };
+      rival = (
+        record { simple = record { start = path.simple.start; end = path.simple.end; joins = joins.0; none_twice = once }; kept = joins.1 },
+        deviation_differs g ends.excluded ends.end ends.start wanted (take place wanted ++ e ∷ rest) deviates
+      );
       cheap = omega (arith, whole, cheap);
       none_less = λ other rival. (let above =
-          rival_above g p ends limit room wanted total graph found path within best other rival.path rival.other in
+          rival_above g p ends limit room wanted total graph found path within best other rival.0 rival.1 in
           omega (arith, whole));
     }
 
@@ -220,7 +220,7 @@ way_from g p ends limit room wanted front place e total graph fits found path de
   distance = deviation.onward.distance;
   short = λ rest is_path costs.
       let whole = cheapest_by g p ends limit room wanted place e total graph fits found path deviation best cheap far rest is_path costs in
-      let short = simple-short g ends.start (take place wanted ++ e ∷ rest) ends.end graph whole.rival.path.simple in
+      let short = simple-short g ends.start (take place wanted ++ e ∷ rest) ends.end graph whole.rival.0.simple in
       let count = length-append (take place wanted) (e ∷ rest) in
       let front_count = ap length is_front ∙ length-append (take place wanted) (e ∷ []) in
       omega arith;
@@ -253,7 +253,7 @@ leads_not g p ends limit room wanted place e total graph fits found path deviati
     let least = is_least g p (ends_from ends (edge_at g e).to) limit (distance_at room (edge_at g e).to) deviation.onward.rest
     (found.least (edge_at g e).to edge.to) deviation.onward.distance in
     let whole = cheapest_by g p ends limit room wanted place e total graph fits found path deviation best cheap far least.path least.is_path least.costs in
-    let above = leads (take place wanted ++ e ∷ least.path) whole.rival.path whole.rival.other in
+    let above = leads (take place wanted ++ e ∷ least.path) whole.rival.0 whole.rival.1 in
     let below = whole.cheap in
     omega arith
 

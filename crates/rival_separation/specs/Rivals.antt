@@ -1,16 +1,12 @@
 -- Rivals of a wanted path: the other simple paths of its request.
-use Rattle.std.specs.Prelude.{◌≡◌, ◌≢◌, ◌↔◌, ℕ, ◌+◌, ◌<◌, ◌≤◌, List, [], ◌∷◌, ◌++◌, length, slice_index_or, Some, true, false}
+use Rattle.std.specs.Prelude.{◌≡◌, ◌↔◌, ℕ, ◌+◌, ◌<◌, ◌≤◌, List, [], ◌∷◌, ◌++◌, length, slice_index_or, Some, true, false}
 use Rattle.area_graph.specs.declared.Point.{Point}
 use Rattle.area_graph.specs.Area.{Area, edge_at}
 use Rattle.area_graph.specs.Paths.{Ends, IsPathOf}
 use Rattle.area_graph.specs.Costs.{cost}
 use Rattle.area_graph.specs.Distances.{AreEdgeMarks}
+use Rattle.design_problem.specs.Rows.{IsRivalBetween}
 use Rattle.spf_ties.specs.Distances.{AreTight, Findings, IsLeastBelow, IsRoomFor, distance_at, is_tight}
-
--- a rival of a wanted path between two ends: another simple path there without the excluded edges
-pub record IsRivalBetween (g : Area) (ends : Ends) (wanted es : List ℕ) : Type 0 where
-  pub path : IsPathOf g ends es
-  pub other : es ≢ wanted
 
 -- a rival that costs less than the wanted path and the scale, and no rival costs less
 pub record IsCheapestRival (g : Area) (p : Point) (ends : Ends) (wanted es : List ℕ) : Type 0 where

@@ -6,7 +6,7 @@ ghost use Rattle.spread_sets.specs.Spreads.{edges_of, form_of_tie};
 use crate::member_sets::request_of;
 use cost_base::OutOfMemory;
 use cost_branching::row_of;
-use design_problem::{Form, Problem, copied_terms, form_of};
+use design_problem::{Form, Problem, form_of};
 use std::alloc::Global;
 
 /// The form with 1 more.
@@ -15,7 +15,7 @@ fn with_one_more(alloc: Global, form: &Form) -> Result<Form, OutOfMemory>
     ensures { IfOk result
         (λ more. more ≡ record form.now { constant = form.now.constant +ℤ pos 1 }) }
 {
-    let terms = copied_terms(alloc, form.terms())?;
+    let terms = Vec::from_slice(alloc, form.terms())?;
     Ok(Form::from_terms(form.variables(), form.constant() + 1, terms))
 }
 

@@ -3,7 +3,7 @@ use Rattle.std.proofs.Common.{◌≡◌, ap, sym, subst, List, ℕ, [], length, 
 use Rattle.std.specs.Prelude.{IfSome}
 use Rattle.design_problem.specs.declared.form.Row.{Row}
 use Rattle.evidence_text.specs.Lines.{AreShort}
-use Rattle.evidence_text.specs.Parts.{rows_lines}
+use Rattle.design_problem.specs.Text.{rows_lines}
 use Rattle.least_change.specs.declared.change.Change.{Change}
 use Rattle.least_change.specs.declared.change.KeptTree.{KeptTree}
 use Rattle.least_change.specs.Changes.{ChangeQuestion, IsChangeFound}

@@ -5,7 +5,7 @@ use Rattle.design_problem.specs.Answers.{AnswerParts}
 use Rattle.answer_lines.specs.Grammar.{AtHead, AtRows, AtRow, AfterEnd}
 use Rattle.answer_lines.specs.Lawful.{IsRead}
 use Rattle.answer_lines.specs.Going.{Goes}
-use Rattle.evidence_text.specs.Parts.{rows_lines}
+use Rattle.design_problem.specs.Text.{rows_lines}
 use Rattle.evidence_text.proofs.AnswerOrder.{ordered}
 use Rattle.evidence_reader.proofs.NextPlaces.{stop-then}
 use Rattle.evidence_reader.proofs.WholeText.{stop_at_start, parts_read, text_read, answer_kept}

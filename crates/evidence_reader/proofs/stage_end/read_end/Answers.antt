@@ -1,7 +1,7 @@
 use Rattle.std.proofs.Common.{ℕ, List, subst}
 use Rattle.std.proofs.lemmas.Result.{err_from_is_err_and, MatchResult-weaker}
 use Rattle.answer_lines.specs.Grammar.{AtTree, AfterEnd}
-use Rattle.evidence_text.specs.Parts.{end_lines}
+use Rattle.design_problem.specs.Text.{end_lines}
 use Rattle.answer_lines.specs.Lawful.{IsRead}
 use Rattle.evidence_text.specs.declared.TreePart.TheVariants.{Unfinished}
 use Rattle.evidence_reader.proofs.NextPlaces.{stop-then, go-then}

@@ -37,8 +37,8 @@ loop-lines-preserved c =
     let lines = c.loop-lines.lines.items in
     let more = c.push.new.self.items in
     let grown = c.in_ok-push.ensures.items in
-    let line = c.in_ok-cost_line_of.field-0 in
-    let is = c.in_ok-cost_line_of.ensures in
+    let line = c.in_ok-cost_line.field-0 in
+    let is = c.in_ok-cost_line.ensures in
     let fit = (rw c.in-Some.is at c.in_ok-words.ensures None).0 in
     let fits : FitsCostLine line =
     subst (λ (l : CostLine). FitsCostLine l) (sym is) (record { router = fit.router; interface = fit.interface; cost = fit.cost }) in

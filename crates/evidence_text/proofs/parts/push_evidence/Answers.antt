@@ -1,8 +1,8 @@
 -- The rows' lines, and behind them the tree's.
 use Rattle.std.specs.Prelude.{Some}
 use Rattle.std.proofs.lemmas.Result.{on_ok_weaker}
-use Rattle.design_problem.specs.Text.{tree_lines}
-use Rattle.evidence_text.specs.Parts.{rows_lines, part_word}
+use Rattle.design_problem.specs.Text.{tree_lines, rows_lines}
+use Rattle.evidence_text.specs.Parts.{part_word}
 use Rattle.text_lines.proofs.LineLaws.{lines_behind}
 use Rattle.evidence_text.proofs.parts.push_evidence.Goals as goal
 

@@ -3,9 +3,8 @@ use Rattle.std.specs.Option.{option_copied}
 use Rattle.design_problem.specs.declared.answer.CapTree.{CapTree}
 use Rattle.design_problem.specs.declared.answer.Costs.{Costs}
 use Rattle.design_problem.specs.declared.form.Row.{Row}
-use Rattle.design_problem.specs.Text.{costs_lines, tree_lines}
+use Rattle.design_problem.specs.Text.{costs_lines, tree_lines, rows_lines}
 use Rattle.evidence_text.specs.Lines.{AreShort}
-use Rattle.evidence_text.specs.Parts.{rows_lines}
 use Rattle.evidence_text.proofs.AnswerOrder.{parts_held, text-parts, short_parts}
 use Rattle.evidence_text.proofs.PutChains.{put-then, put-cut, put-as}
 use Rattle.evidence_text.proofs.sections.put_answer.Goals as goal

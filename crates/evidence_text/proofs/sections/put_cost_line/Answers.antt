@@ -1,7 +1,6 @@
 use Rattle.std.specs.Option.{option_copied}
-use Rattle.design_problem.specs.Text.{router_lines}
+use Rattle.design_problem.specs.Text.{router_lines, interface_lines}
 use Rattle.text_lines.specs.Lines.{with_ends}
-use Rattle.evidence_text.specs.Parts.{interface_lines}
 use Rattle.text_lines.proofs.LineLaws.{with_ends-append}
 use Rattle.evidence_text.proofs.TextLaws.{short_front, short_rest}
 use Rattle.evidence_text.proofs.PutChains.{put-then, put-cut, put-as}

@@ -1,5 +1,5 @@
 use Rattle.std.proofs.Common.{◌∷◌, ℕ, List, [], codes, sym, ap}
-use Rattle.evidence_text.specs.Parts.{end_lines}
+use Rattle.design_problem.specs.Text.{end_lines}
 use Rattle.evidence_text.proofs.PutLines.{begin, turn, stop_at, last}
 use Rattle.evidence_text.proofs.sections.put_end.Goals as goal
 

@@ -1,5 +1,5 @@
 use Rattle.std.proofs.Common.{◌∷◌, ℕ, List, [], sym, ap}
-use Rattle.evidence_text.specs.Parts.{head_lines, verdict_line}
+use Rattle.design_problem.specs.Text.{head_lines, verdict_line}
 use Rattle.evidence_text.proofs.PutLines.{begin, turn, stop_at, last}
 use Rattle.evidence_text.proofs.sections.put_head.Goals as goal
 

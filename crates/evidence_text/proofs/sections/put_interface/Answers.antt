@@ -1,5 +1,5 @@
 use Rattle.std.proofs.Common.{◌∷◌, ℕ, List, [], codes, sym, ap, arith}
-use Rattle.evidence_text.specs.Parts.{interface_lines, answer_cost_line}
+use Rattle.design_problem.specs.Text.{interface_lines, answer_cost_line}
 use Rattle.evidence_text.proofs.PutLines.{begin, turn, stop_at, last}
 use Rattle.evidence_text.proofs.sections.put_interface.Goals as goal
 

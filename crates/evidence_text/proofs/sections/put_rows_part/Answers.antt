@@ -1,6 +1,5 @@
 use Rattle.std.proofs.Common.{◌∷◌, ℕ, List, [], map, sym, refl, ap, arith}
-use Rattle.design_problem.specs.Text.{row_line}
-use Rattle.evidence_text.specs.Parts.{rows_lines}
+use Rattle.design_problem.specs.Text.{row_line, rows_lines}
 use Rattle.evidence_text.proofs.PutLines.{begin, turn, stop_at, last}
 use Rattle.evidence_text.proofs.sections.put_rows_part.Goals as goal
 

@@ -1,8 +1,7 @@
 use Rattle.std.proofs.Common.{◌∷◌, ℕ, List, [], sym, subst, ap, arith, None}
 use Rattle.design_problem.specs.declared.answer.CostLine.{CostLine}
-use Rattle.design_problem.specs.Text.{cost_lines}
+use Rattle.design_problem.specs.Text.{cost_lines, costs_line}
 use Rattle.evidence_text.specs.Lines.{AreShort}
-use Rattle.evidence_text.specs.Parts.{costs_line}
 use Rattle.evidence_text.proofs.PutLines.{begin, turn, stop_at, last}
 use Rattle.evidence_text.proofs.sections.put_some_costs.Goals as goal
 

@@ -14,8 +14,7 @@ invariant_of-result c =
     (map (request_at c.self.inside.paths) c.args.members.now)
     c.in_ok-graph.ensures
     (c.from_items.ensures ∙ c.in_ok-vars.ensures ∙ c.as_slice-2.ensures)
-    (c.in_ok-low.ensures ∙ c.as_slice-3.ensures)
-    (c.in_ok-high.ensures ∙ c.as_slice-4.ensures)
+    c.in_ok-low.ensures c.in_ok-high.ensures
     (c.from_items-2.ensures ∙ c.in_ok-paths.ensures ∙ ap (λ (rs : List Request). map (request_at rs) c.args.members.now) c.as_slice.ensures) in
     let known = subst (λ (q : DesignProblem). All (λ m. m < length q.paths) c.args.members.now) (sym c.self.view_is) c.requires.known in
     subst IsProblem (sym made) (restricted_kept (the_view c.self.inside) c.args.members.now c.self.invariant c.requires.rising known)
