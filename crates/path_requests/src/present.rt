@@ -42,10 +42,7 @@ pub fn check_present(
 {
     for (i, link) in names.links().iter().enumerate() {
         if lacks_present(names, requests, link) {
-            return Err(Refusal::Refused {
-                fault: ResolutionFault::NoCost { link: i as u32 },
-                place: (),
-            });
+            return Err(Refusal::at((), ResolutionFault::NoCost { link: i as u32 }));
         }
     }
     Ok(())

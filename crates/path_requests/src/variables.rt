@@ -187,10 +187,7 @@ pub fn check_costs(choices: &Choices) -> Result<(), Refusal<ResolutionFault, ()>
 {
     for (i, link) in choices.links().iter().enumerate() {
         if lacks_cost_at(choices, i as u32, link) {
-            return Err(Refusal::Refused {
-                fault: ResolutionFault::NoCost { link: i as u32 },
-                place: (),
-            });
+            return Err(Refusal::at((), ResolutionFault::NoCost { link: i as u32 }));
         }
     }
     Ok(())
@@ -264,10 +261,7 @@ pub fn check_ends(choices: &Choices, items: &[Item]) -> Result<(), Refusal<Resol
     let any = any_ends_differ(choices);
     for item in items {
         if ties_different(choices, any, &item.what) {
-            return Err(Refusal::Refused {
-                fault: ResolutionFault::EndsDiffer { line: item.line },
-                place: (),
-            });
+            return Err(Refusal::at((), ResolutionFault::EndsDiffer { line: item.line }));
         }
     }
     Ok(())
