@@ -17,8 +17,8 @@ use Rattle.design_problem.specs.declared.answer.CostLine.{CostLine}
 use Rattle.wanted_paths.specs.Paths.{link_number}
 use Rattle.wanted_paths.specs.Resolution.{knows_link}
 use Rattle.wanted_paths.proofs.RouteLaws.{link_known}
-use Rattle.change_commands.specs.declared.fault.PlanFault.{PlanFault}
-use Rattle.change_commands.specs.declared.fault.PlanFault.TheVariants.{LineTwice}
+use Rattle.sections_reader.specs.declared.fault.CostsFault.{CostsFault}
+use Rattle.sections_reader.specs.declared.fault.CostsFault.TheVariants.{LineTwice}
 use Rattle.change_steps.specs.Rollouts.{AreMoves, IsInterfaceCost}
 use Rattle.command_words.specs.declared.job.StepUnit.{StepUnit}
 use Rattle.command_words.specs.declared.job.StepUnit.TheVariants as unit
@@ -94,13 +94,13 @@ line_taken d present lines i costs seen line new_costs new_seen taken within at 
       rest = ap (λ (cs : List ℕ). with_lines d cs (drop (i + 1) lines)) is.1 ∙ sym (ap (with_lines d costs) next) ∙ taken.rest;
     }
   where
-    no_fault : (f : Option PlanFault) → f ≡ None → or_first f (first_fault_after d (link_of_line d line ∷ taken.before) (drop (i + 1) lines)) ≡ first_fault_after d (link_of_line d line ∷ taken.before) (drop (i + 1) lines)
+    no_fault : (f : Option CostsFault) → f ≡ None → or_first f (first_fault_after d (link_of_line d line ∷ taken.before) (drop (i + 1) lines)) ≡ first_fault_after d (link_of_line d line ∷ taken.before) (drop (i + 1) lines)
     no_fault None is = refl
     no_fault (Some fault) is = absurd cc
 
 -- a line with a fault
 pub line_refused : (d : Database) (present : List ℕ) (lines : List CostLine) (i : ℕ) (costs : List ℕ) (seen : List Bool)
-    (line : CostLine) (fault : PlanFault) (taken : AreTakenTo d present lines i costs seen) →
+    (line : CostLine) (fault : CostsFault) (taken : AreTakenTo d present lines i costs seen) →
     i < length lines → line ≡ get_or lines i line → line_fault d taken.before line ≡ Some fault → first_line_fault d lines ≡ Some fault
 line_refused d present lines i costs seen line fault taken within at is =
     let next : drop i lines ≡ line ∷ drop (i + 1) lines = at_drop_more (λ ls. ls) lines i line within ∙ ap (λ (x : CostLine). x ∷ drop (i + 1) lines) (sym at) in

@@ -2,6 +2,7 @@
 use Rattle.std.proofs.Common.{◌≡◌, ℕ, ◌<◌, ◌≤◌, refl, sym, ◌∙◌, ap, subst, List, length, map, replicate, get_or, arith, inr, All, None, Some}
 use Rattle.std.proofs.lemmas.List.{get_or-replicate, length-replicate}
 use Rattle.cost_base.specs.declared.Status.{Status}
+use Rattle.cost_base.specs.declared.Status.TheVariants.{EvidenceRefused}
 use Rattle.area_graph.specs.declared.Edge.{Edge}
 use Rattle.area_graph.specs.Costs.{IsPriced}
 use Rattle.lsdb_build.specs.Graphs.{Database}
@@ -29,9 +30,10 @@ use Rattle.change_steps.specs.declared.found.Outcome.TheVariants.{Order, NoOrder
 use Rattle.sections_reader.specs.Texts.{SaysCosts}
 use Rattle.report_writer.specs.declared.rejection.Rejection.{Rejection}
 use Rattle.report_writer.specs.declared.report.Report.{Report}
-use Rattle.report_writer.specs.Reports.{bytes_in}
-use Rattle.change_commands.specs.declared.fault.PlanFault.{PlanFault}
-use Rattle.change_commands.specs.FaultNumbers.{plan_fault_number}
+use Rattle.report_writer.specs.Reports.{Reports, bytes_in}
+use Rattle.report_writer.specs.Texts.{rejected_line}
+use Rattle.sections_reader.specs.declared.fault.CostsFault.{CostsFault}
+use Rattle.sections_reader.specs.FaultNumbers.{costs_fault_number}
 use Rattle.change_commands.specs.Plans.{IsAtPresent, IsPlanOf, Plan, first_line_fault, moves_between, moves_of, rollout_of, wanted_costs_in, with_lines}
 use Rattle.change_commands.specs.Steps.{IsPlanRefused, MaySteps, ReportsSteps, ShowsSteps, outcome_status, steps_text}
 
@@ -85,9 +87,9 @@ abbrev rollout : Database → List Request → CostMoves → Rollout
 rollout d paths moves = record { graph = graph_by_links d; paths = paths; moves = moves }
 
 -- a faulty line of a plan refuses it
-pub faulty : (plan : Plan) (network : Network) (names : Database) (lines : List CostLine) (fault : PlanFault) (rejection : Rejection) →
+pub faulty : (plan : Plan) (network : Network) (names : Database) (lines : List CostLine) (fault : CostsFault) (rejection : Rejection) →
     IsPlanOf network plan → SaysCosts plan.bytes (Some lines) → names ≡ network.lsdb → first_line_fault names lines ≡ Some fault →
-    rejection.number ≡ plan_fault_number fault → rejection.place ≡ 0 → IsPlanRefused plan rejection
+    rejection.number ≡ costs_fault_number fault → rejection.place ≡ 0 → IsPlanRefused plan rejection
 faulty plan network names lines fault rejection is said same first number place = inr (inr (record {
   lines = lines;
   said = said;
@@ -96,6 +98,12 @@ faulty plan network names lines fault rejection is said same first number place 
   number = number;
   place = place;
 }))
+
+-- a rejection of a text that makes no plan may be reported
+pub refused_may : (nodes : ℕ) (by : StepUnit) (plan : Plan) (rejection : Rejection) (report : Report) → IsPlanRefused plan rejection →
+    Reports EvidenceRefused (rejected_line rejection) report → MaySteps nodes by plan report.status (bytes_in report.text)
+refused_may nodes by plan rejection report refused reports =
+    subst (λ (s : Status). MaySteps nodes by plan s (bytes_in report.text)) (sym reports.status) (rejection, refused, reports.text)
 
 -- what was found of a plan's steps
 pub shown : (nodes : ℕ) (by : StepUnit) (plan : Plan) (network : Network) (lines : List CostLine) (names : Database)

@@ -6,11 +6,11 @@ ghost use Rattle.change_commands.specs.Plans.{router_steps, steps_of, with_lines
 ghost use Rattle.change_commands.specs.SeenLinks.{AreSeen};
 ghost use Rattle.cost_base.specs.Lists.{numbers_from};
 
-use crate::fault::PlanFault;
 use change_steps::Moves;
 use command_words::StepUnit;
 use cost_base::{Listed, OutOfMemory, no_marks, push_if};
 use design_problem::CostLine;
+use sections_reader::CostsFault;
 use std::alloc::Global;
 use wanted_paths::Names;
 
@@ -21,7 +21,7 @@ fn take_line(
     line: &CostLine,
     costs: &mut Vec<u16>,
     seen: &mut Vec<bool>,
-) -> Result<(), PlanFault>
+) -> Result<(), CostsFault>
     requires costs { length costs.old.items ≡ length names.now.links }
     requires seen { length seen.old.items ≡ length names.now.links }
     ensures { (before : List ℕ) → AreSeen before seen.old.items →
@@ -34,11 +34,11 @@ fn take_line(
 {
     let found = names.find_interface(line.router.as_bytes(), line.interface.as_bytes());
     let Some(link) = found else {
-        return Err(PlanFault::NoLink);
+        return Err(CostsFault::NoInterface);
     };
     let place = link as usize;
     if seen[place] {
-        return Err(PlanFault::LineTwice);
+        return Err(CostsFault::LineTwice);
     }
     seen[place] = true;
     costs[place] = line.cost;
@@ -51,7 +51,7 @@ pub(crate) fn wanted_costs(
     names: &Names,
     present: &[u16],
     lines: &[CostLine],
-) -> Result<Result<Vec<u16>, PlanFault>, OutOfMemory>
+) -> Result<Result<Vec<u16>, CostsFault>, OutOfMemory>
     requires { length present.now ≡ length names.now.links }
     ensures { IfOk result (λ wanted. MatchResult wanted (λ costs.
         (first_line_fault names.now lines.now ≡ None) ×

@@ -7,8 +7,8 @@ ghost use Rattle.lsa_bytes.specs.Databases.{is_router_of};
 ghost use Rattle.lsa_bytes.specs.Numbers.{lsa_fault_number};
 ghost use Rattle.input_files.specs.Stops.{IsRefusal};
 
-use cost_base::Fault;
-use input_files::Stop;
+use cost_base::Refusal;
+use input_files::{Stop, stop_of};
 use lsa_bytes::{Lsa, LsaFault, is_router};
 
 /// Whether an LSA is the router-LSA of a router.
@@ -35,10 +35,6 @@ pub fn check_router<'a>(lsas: &[Lsa], id: u32, file: &'a str, place: u32) -> Res
     if has_router(lsas, id) {
         Ok(())
     } else {
-        Err(Stop::Refused {
-            number: LsaFault::NoRouterId.number(),
-            file,
-            line: place,
-        })
+        Err(stop_of(Refusal::at(place, LsaFault::NoRouterId), file))
     }
 }

@@ -20,16 +20,15 @@ use Rattle.spread_sets.proofs.PrintedSets.{large_suffice as spread_large}
 use Rattle.least_total.specs.Totals.{forms_within}
 use Rattle.least_total.proofs.RoundLaws.{lows_below}
 use Rattle.cost_base.specs.Histories.{Taken}
-use Rattle.text_lines.specs.LineFaults.{FaultyLine}
-use Rattle.set_reader.specs.declared.fault.SetFault.{SetFault}
+use Rattle.set_reader.specs.FaultNumbers.{set_fault_number}
 use Rattle.set_reader.specs.Reading.{set_fault}
 use Rattle.input_files.specs.declared.problem.View.TheVariants.{AsRequested}
 use Rattle.input_files.specs.Inputs.{InputFiles}
-use Rattle.input_files.specs.Readings.{EndsAs, Says}
+use Rattle.input_files.specs.Readings.{EndsAs, Says, line_refused}
 use Rattle.input_files.specs.Outcomes.{Input, outcome}
-use Rattle.input_files.proofs.Readings.{one_said, said_faulty, was_read}
+use Rattle.input_files.proofs.Readings.{said_unless, was_read}
 use Rattle.input_files.proofs.ReadyInputs.{came_whole, ready_is}
-use Rattle.path_commands.specs.SetFiles.{Sharing, if_sets, sets_read, spread_read}
+use Rattle.path_commands.specs.SetFiles.{Sharing, sets_said, sets_read, spread_read}
 use Rattle.designer_command.specs.Completeness.{IsLarge, LargeBudgetIsEnough, LargeBudgetsSuffice}
 
 product_le : (a b c d : ℕ) → a ≤ b → c ≤ d → a * c ≤ b * d
@@ -78,18 +77,12 @@ enough limits p kept large = record {
 }
 
 -- the input that is read before a file of sets
-sets_of : (file bytes : List ℕ) (d : Input) (o : Option (FaultyLine SetFault)) (came : List Taken) (sharing : Sharing) →
-    EndsAs (if_sets file d bytes o) came (Says sharing) → sharing.input ≡ d
-sets_of file bytes d (Some faulty) [] sharing is = absurd (said_faulty sharing _ is)
-sets_of file bytes d (Some faulty) (taken ∷ more) sharing is = absurd is
-sets_of file bytes d None [] sharing is = ap (λ (s : Sharing). s.input) (one_said sharing (record { input = d; bytes = bytes }) is)
-sets_of file bytes d None (taken ∷ more) sharing is = absurd is
-
 sharing_of : (file : List ℕ) (d : Input) (came : List Taken) (sharing : Sharing) → EndsAs (sets_read file d) came (Says sharing) → sharing.input ≡ d
 sharing_of file d [] sharing is = absurd is
 sharing_of file d (taken ∷ more) sharing is =
-    came_whole taken.came (λ bytes. if_sets file d bytes (set_fault d.problem bytes)) more sharing file is.2
-    (λ bytes ends. sets_of file bytes d (set_fault d.problem bytes) more sharing ends)
+    came_whole taken.came (λ bytes. sets_said file d bytes) more sharing file is.2
+    (λ bytes ends. ap (λ (s : Sharing). s.input)
+    (said_unless (line_refused set_fault_number file) (record { input = d; bytes = bytes }) sharing (set_fault d.problem bytes) more ends).1)
 
 sharing_kept : (names : InputFiles) (file : List ℕ) (came : List Taken) (sharing : Sharing) →
     EndsAs (spread_read names file) came (Says sharing) → IsProblem sharing.input.problem

@@ -35,10 +35,7 @@ fn check_shape(problem: &Problem, answer: &Answer) -> Result<(), Refusal<CheckFa
     {
         return Ok(());
     }
-    Err(Refusal::Refused {
-        fault: CheckFault::WrongShape,
-        place: 0,
-    })
+    Err(Refusal::at(0, CheckFault::WrongShape))
 }
 
 /// Tests the costs and the floor of an optimal answer.

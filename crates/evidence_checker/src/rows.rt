@@ -88,7 +88,7 @@ pub(crate) fn forms_of(
     for (index, row) in rows.iter().enumerate() {
         if let Some(fault) = row_fault(alloc, problem, row)? {
             let place = index as u64;
-            return Err(Refusal::Refused { fault, place });
+            return Err(Refusal::at(place, fault));
         }
         let form = form_of_rival(alloc, problem, row)?;
         push_last(&mut forms, form)?;

@@ -65,7 +65,7 @@ fn check_lines(
     for (line, entry) in entries.iter().enumerate() {
         if let Some(fault) = fault_at(forms, boxes.present(), sums, entry) {
             let place = line as u64;
-            return Err(Refusal::Refused { fault, place });
+            return Err(Refusal::at(place, fault));
         }
         if !go_on(boxes, entry)? {
             return Ok(());

@@ -1,19 +1,19 @@
 -- The network that was made is that of the input.
-use Rattle.std.proofs.Common.{◌≡◌, refl, sym, ◌∙◌, ap, subst, List, [], ◌++◌, Option, None, Some, Ok}
+use Rattle.std.proofs.Common.{◌≡◌, refl, sym, ◌∙◌, ap, subst, List, [], ◌++◌, None, Ok}
 use Rattle.cost_base.specs.Histories.{Taken}
 use Rattle.interface_model.specs.Records.{Router}
 use Rattle.lsdb_build.specs.Graphs.{Database, IsAreaDatabase}
-use Rattle.lsdb_build.specs.Topology.{FaultyPlace, topology_fault, database_of}
+use Rattle.lsdb_build.specs.Topology.{topology_fault, database_of}
 use Rattle.design_problem.specs.Problems.{DesignProblem}
 use Rattle.request_reader.specs.Asked.{Asked, IsAsked as IsLawful}
 use Rattle.input_files.specs.declared.problem.View.{View}
 use Rattle.input_files.specs.declared.network.Network.{Network}
 use Rattle.input_files.specs.Inputs.{InputFiles}
 use Rattle.input_files.specs.Readings.{Reading, Take, Refused, Ready, Says, EndsAs, Gave}
-use Rattle.input_files.specs.Outcomes.{ConfigFile, Input, request_read, configs_read, routers_of, if_faultless, topology_read, problem_read, outcome}
+use Rattle.input_files.specs.Outcomes.{ConfigFile, Input, request_read, configs_read, routers_of, topology_read, topology_refused_at, problem_read, outcome}
 use Rattle.input_files.specs.Networks.{IsNetworkOf}
 use Rattle.input_files.specs.Stops.{IsReadAndMade}
-use Rattle.input_files.proofs.Readings.{ends_then, one_said, said_faulty}
+use Rattle.input_files.proofs.Readings.{ends_then, one_said, said_faulty, said_unless}
 use Rattle.input_files.proofs.Stops.{read_then, gave_then, gave_made}
 use Rattle.input_files.proofs.Problems.{after_topology, after_configs, after_request, IsAsked, AreRouters, IsProblemOf}
 
@@ -22,16 +22,6 @@ pub ready_is : {A : Type 0} (m : Reading A) (x : A) → EndsAs m [] (Says x) →
 ready_is (Ready y) x ends = sym (ap Ready (one_said x y ends))
 ready_is (Refused r) x ends = absurd (said_faulty x r ends)
 ready_is (Take name most next) x ends = absurd ends
-
--- a topology that is said has no fault
-record IsFaultless (base read : Database) (fault : Option FaultyPlace) : Type 0 where
-  none : fault ≡ None
-  same : read ≡ base
-
-faultless : (names : InputFiles) (base read : Database) (fault : Option FaultyPlace) →
-    EndsAs (if_faultless names base fault) [] (Says read) → IsFaultless base read fault
-faultless names base read None ends = record { none = refl; same = one_said read base ends }
-faultless names base read (Some place) ends = absurd (said_faulty read _ ends)
 
 -- what was read, made and resolved
 pub record AreParts (network : Network) (asked : Asked) (routers : List Router) (d : Database) (p : DesignProblem) : Type 0 where
@@ -71,7 +61,7 @@ network_is First Later Both view names network requests routers d p more base la
         (subst (λ (e : Database). EndsAs (problem_read view names requests e) [] (Says solved.said)) is
         solved.ends) in
         let built = moved asked files same are in
-        let whole = faultless names (database_of asked.area (routers_of files)) built.said (topology_fault asked.area (routers_of files)) built.ends in
+        let whole = said_unless (topology_refused_at names) (database_of asked.area (routers_of files)) built.said (topology_fault asked.area (routers_of files)) [] built.ends in
         record {
           said = x;
           ends = ends_then (problem_read view names asked read)
@@ -84,8 +74,8 @@ network_is First Later Both view names network requests routers d p more base la
             problem = parts.problem ∙ solved.fits;
             asked = subst IsLawful same lawful;
             base = subst IsAreaDatabase is base;
-            faultless = whole.none;
-            built = sym is ∙ built.fits ∙ whole.same;
+            faultless = whole.0;
+            built = sym is ∙ built.fits ∙ whole.1;
             resolved = ready_is (problem_read view names asked read) solved.said ends;
           };
         }

@@ -1,20 +1,24 @@
 -- The readings of words, one bound after another, as the code makes them.
-use Rattle.std.proofs.Common.{◌≡◌, refl, sym, ◌∙◌, subst, List, [], ◌++◌, Result, Ok, Err}
+use Rattle.std.proofs.Common.{◌≡◌, refl, sym, ◌∙◌, subst, List, [], ◌++◌, Option, Result, Ok, Err}
 use Rattle.std.specs.Prelude.{Vec}
 use Rattle.std.specs.declared.alloc.Global.{Global}
+use Rattle.cost_base.specs.declared.refusal.Refusal.{Refusal}
+use Rattle.cost_base.specs.declared.refusal.Refusal.TheVariants as refusals
 use Rattle.cost_base.specs.Histories.{Taken}
 use Rattle.interface_model.specs.Records.{Router}
 use Rattle.lsdb_build.specs.Graphs.{Database, IsAreaDatabase}
 use Rattle.design_problem.specs.Problems.{DesignProblem}
 use Rattle.request_reader.specs.Asked.{Asked}
+use Rattle.wanted_paths.specs.declared.fault.ResolutionFault.{ResolutionFault}
+use Rattle.wanted_paths.specs.LineFaults.{TellsResolution}
 use Rattle.input_files.specs.declared.stop.Stop.{Stop}
 use Rattle.input_files.specs.declared.problem.View.{View}
 use Rattle.input_files.specs.Inputs.{InputFiles}
-use Rattle.input_files.specs.Readings.{Reading, Ready, ◌>>=◌, Says, Gave}
-use Rattle.input_files.specs.Outcomes.{ConfigFile, Input, request_read, configs_read, routers_of, topology_read, problem_read, outcome}
-use Rattle.input_files.specs.Stops.{StopsAs, IsReadAndMade, IsReadAs}
+use Rattle.input_files.specs.Readings.{Reading, Ready, ◌>>=◌, unless_refused, Says, Gave}
+use Rattle.input_files.specs.Outcomes.{ConfigFile, Input, request_read, configs_read, routers_of, topology_read, problem_read, resolution_refused, outcome}
+use Rattle.input_files.specs.Stops.{StopsAs, IsReadAndMade, IsReadAs, IsStopOf}
 use Rattle.input_files.proofs.Readings.{ends_then}
-use Rattle.input_files.proofs.Stops.{stops_first, read_then, gave_then, gave_made, gave_stop}
+use Rattle.input_files.proofs.Stops.{fault_stops, memory_stops, stops_first, read_then, gave_then, gave_made, gave_stop}
 
 -- The rest of a reading behind each step.
 
@@ -111,3 +115,12 @@ pub routers_of_vector : (Given : List Taken → Type 0) (names : InputFiles) (co
     Gave Given (λ came. IsReadAndMade (configs_read names.configs) came AreRouters routers)
 routers_of_vector Given names configs routers same a =
     record { came = a.came; given = a.given; so = record { said = a.so.said; ends = a.so.ends; fits = same ∙ a.so.fits } }
+
+-- a refusal of resolution stops what is read of the problem, or of the lines
+pub resolution_stops : {A : Type 0} (names : InputFiles) (d : Database) (said : A) (found : Option ResolutionFault)
+    (refusal : Refusal ResolutionFault (Unit {0})) (stop : Stop) → TellsResolution found refusal →
+    IsStopOf (λ fault _. resolution_refused names d fault) refusal stop →
+    StopsAs (unless_refused (resolution_refused names d) said found) [] stop
+resolution_stops names d said found (refusals.Refused fault place) stop tells is = fault_stops (resolution_refused names d) said found fault stop tells is
+resolution_stops names d said found refusals.OutOfMemory stop tells is =
+    memory_stops (unless_refused (resolution_refused names d) said found) stop is

@@ -6,7 +6,7 @@ ghost use Rattle.live_input.specs.LiveReadings.{live_read};
 
 use crate::LONGEST_DATABASE;
 use cost_base::Shelf;
-use input_files::{Stop, read_file, stop_of};
+use input_files::{Stop, read_file, said_or_stop};
 use live_reader::read_live;
 use lsa_bytes::Database;
 use std::alloc::Global;
@@ -27,8 +27,5 @@ pub fn read_live_file<'a, S: Shelf>(
         (λ database lsas. database ≡ lsas) result) }
 {
     let bytes = read_file(alloc, shelf, name, LONGEST_DATABASE)?;
-    match read_live(alloc, &bytes, area) {
-        Ok(database) => Ok(database),
-        Err(refusal) => Err(stop_of(refusal, name)),
-    }
+    said_or_stop(read_live(alloc, &bytes, area), name)
 }

@@ -6,7 +6,7 @@ ghost use Rattle.live_input.specs.LsaFiles.{lsas_read};
 
 use crate::LONGEST_DATABASE;
 use cost_base::Shelf;
-use input_files::{Stop, read_file, stop_of};
+use input_files::{Stop, read_file, said_or_stop};
 use lsa_bytes::{Database, read_lsas};
 use std::alloc::Global;
 
@@ -24,8 +24,5 @@ pub fn read_database<'a, S: Shelf>(
         (λ database lsas. database ≡ lsas) result) }
 {
     let bytes = read_file(alloc, shelf, name, LONGEST_DATABASE)?;
-    match read_lsas(alloc, &bytes) {
-        Ok(database) => Ok(database),
-        Err(refusal) => Err(stop_of(refusal, name)),
-    }
+    said_or_stop(read_lsas(alloc, &bytes), name)
 }

@@ -99,14 +99,11 @@ fn link_at(
         (link_read around place (object_members place j)) refusal) }
 {
     if !opens_object(tape, place) {
-        return Err(Refusal::Refused {
-            fault: Lack,
-            place: around,
-        });
+        return Err(Refusal::at(around, Lack));
     }
     match link_said(tape, place) {
         Some(link) => Ok(link),
-        None => Err(Refusal::Refused { fault: Lack, place }),
+        None => Err(Refusal::at(place, Lack)),
     }
 }
 

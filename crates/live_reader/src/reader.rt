@@ -95,11 +95,9 @@ fn decide(
 {
     match database_of(alloc, instances) {
         Ok(database) => Ok(database),
-        Err(Refusal::Refused { fault, place }) => Err(Refusal::at(
-            token_line(text, place as usize),
-            LiveFault::Lsas(fault),
-        )),
-        Err(Refusal::OutOfMemory) => Err(Refusal::OutOfMemory),
+        Err(refusal) => Err(refusal.and_then(|fault, place| {
+            Refusal::at(token_line(text, place as usize), LiveFault::Lsas(fault))
+        })),
     }
 }
 
@@ -108,10 +106,7 @@ fn lacking(text: &[u8], refusal: Refusal<Lack, usize>) -> Refusal<LiveFault>
     requires { length text.now < 2 ^ 32 - 1 }
     ensures { result ≡ definition.lacking_in text.now refusal }
 {
-    match refusal {
-        Refusal::Refused { place, .. } => Refusal::at(token_line(text, place), LiveFault::BadLive),
-        Refusal::OutOfMemory => Refusal::OutOfMemory,
-    }
+    refusal.and_then(|_lack, place| Refusal::at(token_line(text, place), LiveFault::BadLive))
 }
 
 /// The LSAs of an area that a JSON text says.
@@ -171,8 +166,9 @@ fn read_bytes(alloc: Global, bytes: &[u8]) -> Result<Database, Refusal<LiveFault
 {
     match read_lsas(alloc, bytes) {
         Ok(database) => Ok(database),
-        Err(Refusal::Refused { fault, place }) => Err(Refusal::at(place, LiveFault::Lsas(fault))),
-        Err(Refusal::OutOfMemory) => Err(Refusal::OutOfMemory),
+        Err(refusal) => {
+            Err(refusal.and_then(|fault, place| Refusal::at(place, LiveFault::Lsas(fault))))
+        }
     }
 }
 

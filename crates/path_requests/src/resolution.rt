@@ -33,10 +33,7 @@ fn check_count(count: usize) -> Result<(), Refusal<ResolutionFault, ()>>
         (TellsResolution (first_of (fault_unless (nat_le count 1000) TooManyVariables))) }
 {
     if count > MOST_VARIABLES {
-        return Err(Refusal::Refused {
-            fault: ResolutionFault::TooManyVariables,
-            place: (),
-        });
+        return Err(Refusal::at((), ResolutionFault::TooManyVariables));
     }
     Ok(())
 }

@@ -206,10 +206,7 @@ pub fn check_ends(choices: &Choices, items: &[Item]) -> Result<(), Refusal<Resol
     let any = any_ends_differ(choices);
     for item in items {
         if ties_different(choices, any, &item.what) {
-            return Err(Refusal::Refused {
-                fault: ResolutionFault::EndsDiffer { line: item.line },
-                place: (),
-            });
+            return Err(Refusal::at((), ResolutionFault::EndsDiffer { line: item.line }));
         }
     }
     Ok(())

@@ -41,15 +41,9 @@ fn refusal_beside_present(
     requires { TellsResolution (resolution_fault requests.now lsdb.now) refusal }
     ensures { TellsResolution (fault_beside_present requests.now lsdb.now) result }
 {
-    match refusal {
-        Refusal::Refused { fault, place: () } => {
-            Refusal::Refused {
-                fault: fault_beside_present(requests, lsdb, fault),
-                place: (),
-            }
-        }
-        Refusal::OutOfMemory => Refusal::OutOfMemory,
-    }
+    refusal.and_then(|fault, place| {
+        Refusal::at(place, fault_beside_present(requests, lsdb, fault))
+    })
 }
 
 /// The problem that a request file makes of an area's routers and links, as `resolve` makes it, where each link has a
@@ -73,7 +67,7 @@ pub fn resolve_beside_present(
     match resolve(alloc, requests, lsdb) {
         Ok(problem) => match first_without_cost(requests, lsdb) {
             None => Ok(problem),
-            Some(fault) => Err(Refusal::Refused { fault, place: () }),
+            Some(fault) => Err(Refusal::at((), fault)),
         },
         Err(refusal) => Err(refusal_beside_present(requests, lsdb, refusal)),
     }

@@ -42,10 +42,7 @@ fn check_symmetric(
 {
     let number = names.link(line, router, interface)?;
     if !has_link_back(names, number) {
-        return Err(Refusal::Refused {
-            fault: ResolutionFault::NotALink { line },
-            place: (),
-        });
+        return Err(Refusal::at((), ResolutionFault::NotALink { line }));
     }
     Ok(())
 }

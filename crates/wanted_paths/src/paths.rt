@@ -113,10 +113,7 @@ impl<'a> Resolver<'a> {
         let excluded = excluded_by(self.alloc, self.names, self.graph, line, parts)?;
         mark_excluded(&mut self.marks, &excluded);
         if is_excluded(route, walk, parts, &self.marks) {
-            return Err(Refusal::Refused {
-                fault: ResolutionFault::PathExcluded { line },
-                place: (),
-            });
+            return Err(Refusal::at((), ResolutionFault::PathExcluded { line }));
         }
         Ok(marked(self.alloc, &self.marks)?)
     }

@@ -90,10 +90,7 @@ fn broken(line: u32, place: usize) -> Refusal<ResolutionFault, ()>
         return Refusal::OutOfMemory;
     }
     let hop = place as u32 + 1;
-    Refusal::Refused {
-        fault: ResolutionFault::BrokenPath { line, hop },
-        place: (),
-    }
+    Refusal::at((), ResolutionFault::BrokenPath { line, hop })
 }
 
 /// Whether each hop leads to the router of the next word; the number of the first one that doesn't. A hop
@@ -265,10 +262,7 @@ pub fn resolve_walk(
     check_hops(names, line, hops, last)?;
     let walk = walk_of(alloc, names, graph, route)?;
     if !is_simple_walk(graph, &walk) {
-        return Err(Refusal::Refused {
-            fault: ResolutionFault::LoopPath { line },
-            place: (),
-        });
+        return Err(Refusal::at((), ResolutionFault::LoopPath { line }));
     }
     Ok(walk)
 }

@@ -9,9 +9,9 @@ use Rattle.evidence_checker.proofs.rows.forms_of.Goals as goal
 
 pub returns-in-Some-clause-first : goal.returns-in-Some-clause-first
 returns-in-Some-clause-first c =
-    inl (first_is_here c.args.problem.now c.args.rows.now c.loop-index.index (check_fault_number c.in-Some.fault)
+    rw c.at.ensures (inl (first_is_here c.args.problem.now c.args.rows.now c.loop-index.index (check_fault_number c.in-Some.fault)
     c.index-rows-index.result c.loop-index-test.true c.index-rows-index.is
-    (at_some _ _ c.in_ok-fault.field-0 c.in-Some.fault c.in-Some.is c.in_ok-fault.ensures) c.loop-index.invariant.first)
+    (at_some _ _ c.in_ok-fault.field-0 c.in-Some.fault c.in-Some.is c.in_ok-fault.ensures) c.loop-index.invariant.first))
 
 pub loop-index-preserved : goal.loop-index-preserved
 loop-index-preserved c =
