@@ -139,14 +139,14 @@ found_between lsas g ids from to start end bytes graph names starts ends apart i
       written = moved.written
           ∙ ap (λ (hops : List ℕ). route_end (slice_index_or moved.room.costs (vertex_of_router lsas from) None) hops)
           (sym (map-map (id_at lsas) (λ e. (edge_at (lsa_graph lsas) e).to) (tight_out (lsa_graph lsas) (at_costs []) moved.room (vertex_of_router lsas from))))
-          ∙ sym (ap (λ b. cond b (codes " cost 0 first none")
+          ∙ sym (ap (λ b. cond b (codes "cost 0 first none")
           (route_end (slice_index_or moved.room.costs (vertex_of_router lsas from) None)
           (hop_ids lsas moved.room.costs (vertex_of_router lsas from)))) apart);
     }
 
 -- from a router to itself
 pub found_own : (lsas : List Lsa) (g : Area) (ids : List ℕ) (from to start end : ℕ) (bytes own : List ℕ) →
-    g ≡ lsa_graph lsas → end ≡ vertex_of_router lsas to → (from == to) ≡ true → own ≡ codes " cost 0 first none"
+    g ≡ lsa_graph lsas → end ≡ vertex_of_router lsas to → (from == to) ≡ true → own ≡ codes "cost 0 first none"
     → EndsBy g ids start end bytes → IsFoundEnd lsas from to own
 found_own lsas g ids from to start end bytes own graph ends same own_is is =
     let moved = subst (λ (h : Area). EndsBy h ids start (vertex_of_router lsas to) bytes) graph (subst (λ t. EndsBy g ids start t bytes) ends is) in
@@ -154,7 +154,7 @@ found_own lsas g ids from to start end bytes own graph ends same own_is is =
       distances = moved.room.costs;
       least = moved.least;
       written = own_is
-          ∙ sym (ap (λ b. cond b (codes " cost 0 first none")
+          ∙ sym (ap (λ b. cond b (codes "cost 0 first none")
           (route_end (slice_index_or moved.room.costs (vertex_of_router lsas from) None)
           (hop_ids lsas moved.room.costs (vertex_of_router lsas from)))) same);
     }

@@ -8,7 +8,6 @@ mod differences;
 mod hops;
 mod identified;
 mod lsas;
-mod quads;
 mod route;
 mod vertices;
 

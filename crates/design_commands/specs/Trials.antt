@@ -4,6 +4,7 @@ use Rattle.std.specs.List.{sum, zip}
 use Rattle.cost_base.specs.declared.Status.{Status}
 use Rattle.cost_base.specs.declared.Status.TheVariants.{Done, Impossible, Undecided, InputRefused}
 use Rattle.cost_base.specs.Decimal.{decimal}
+use Rattle.line_builder.specs.Words.{line_of_words}
 use Rattle.trial_maker.specs.declared.TrialTexts.{TrialTexts}
 use Rattle.trial_maker.specs.TrialTexts.{made_trial}
 use Rattle.design_problem.specs.Problems.{DesignProblem}
@@ -28,15 +29,15 @@ abbrev pub trial_limits : SearchLimits
 trial_limits = record { nodes = 100000; top = 2 ^ 127 - 1 }
 
 -- what a trial's summary line begins with: `trial blocks T start S routers R interfaces I requests Q`
-abbrev pub trial_part : ℕ → ℕ → List ℕ
-trial_part blocks start =
-    codes "trial blocks " ++ decimal blocks ++ codes " start " ++ decimal start ++ codes " routers " ++ decimal (3 * blocks + 1)
-    ++ codes " interfaces " ++ decimal (8 * blocks) ++ codes " requests " ++ decimal (blocks + 1)
+abbrev pub trial_words : ℕ → ℕ → List (List ℕ)
+trial_words blocks start =
+    codes "trial" ∷ codes "blocks" ∷ decimal blocks ∷ codes "start" ∷ decimal start ∷ codes "routers" ∷ decimal (3 * blocks + 1)
+    ∷ codes "interfaces" ∷ decimal (8 * blocks) ∷ codes "requests" ∷ decimal (blocks + 1) ∷ []
 
--- the summary line of a trial: what it is made of, ` verdict V greatest G total C`, and an LF
+-- the summary line of a trial: what it is made of, and `verdict V greatest G total C`
 abbrev pub summary_line : ℕ → ℕ → List ℕ → List ℕ → List ℕ → List ℕ
 summary_line blocks start verdict greatest total =
-    trial_part blocks start ++ codes " verdict " ++ verdict ++ codes " greatest " ++ greatest ++ codes " total " ++ total ++ 10 ∷ []
+    line_of_words (trial_words blocks start ++ codes "verdict" ∷ verdict ∷ codes "greatest" ∷ greatest ∷ codes "total" ∷ total ∷ [])
 
 -- the summary line of a trial without best costs
 abbrev pub costless_line : ℕ → ℕ → List ℕ → List ℕ

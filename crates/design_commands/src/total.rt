@@ -23,7 +23,7 @@ use design_problem::{Answer, CapTree, Problem, Row, Verdict};
 use evidence_text::{TreePart, keeps_answer, push_evidence, text_of_answer};
 use input_files::{FileWords, Stop, View, read_problem};
 use least_total::{Total, TotalProof, least_total};
-use printed_parts::push_count_line;
+use line_builder::{push_count_line, push_line};
 use report_writer::Report;
 use std::alloc::Global;
 use text_lines::push_bytes;
@@ -35,7 +35,7 @@ fn begun_text(alloc: Global, answer: &Answer, total: u64) -> Result<Vec<u8>, Out
         text answer.now ++ with_ends (spaced (codes "total" ∷ decimal total ∷ []) ∷ [])) }
 {
     let mut text = Vec::new(alloc);
-    push_bytes(&mut text, b"ospfcost total 1\n")?;
+    push_line(&mut text, b"ospfcost total 1")?;
     let inside = text_of_answer(alloc, answer)?;
     push_bytes(&mut text, &inside)?;
     push_count_line(alloc, &mut text, b"total", total)?;
@@ -53,7 +53,7 @@ fn push_proof(
     ensures { OnOk result (text.new.items ≡ text.old.items ++ with_ends (shown_lines cap proof)) }
 {
     match proof {
-        TotalProof::Floor => push_bytes(text, b"floor total\n"),
+        TotalProof::Floor => push_line(text, b"floor total"),
         TotalProof::Tree { rows, tree } => {
             push_evidence(alloc, text, &rows, TreePart::Proof, &CapTree { cap, tree })
         }
@@ -74,7 +74,7 @@ fn least_text(
 {
     let mut text = begun_text(alloc, answer, total)?;
     push_proof(alloc, &mut text, cap, proof)?;
-    push_bytes(&mut text, b"end\n")?;
+    push_line(&mut text, b"end")?;
     Ok(text)
 }
 
@@ -100,7 +100,7 @@ fn undecided_text(
     let mut text = begun_text(alloc, answer, range.total)?;
     push_count_line(alloc, &mut text, b"bound", range.bound)?;
     push_evidence(alloc, &mut text, rows, TreePart::Unfinished, tree)?;
-    push_bytes(&mut text, b"end\n")?;
+    push_line(&mut text, b"end")?;
     Ok(text)
 }
 

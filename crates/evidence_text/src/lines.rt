@@ -2,7 +2,7 @@
 ghost use Rattle.std.specs.Prelude.{◌≡◌, ℕ, ◌+◌, ◌≤◌, List, [], ◌∷◌, ◌++◌, length, map, codes};
 ghost use Rattle.cost_base.specs.Decimal.{decimal};
 ghost use Rattle.design_problem.specs.Text.{row_line, entry_line, side_word, step_word, ratio_word, member_words, members_words, part_words, verdict_line, costs_line, interface_line, answer_cost_line, floor_line, rows_line};
-ghost use Rattle.evidence_text.specs.Lines.{with_words};
+ghost use Rattle.line_builder.specs.Words.{with_words};
 ghost use Rattle.evidence_text.specs.Parts.{part_word, no_tree_line, tree_line};
 
 use crate::TreePart;

@@ -15,7 +15,7 @@ use Rattle.path_commands.specs.declared.audit.AuditedPath.{AuditedPath}
 use Rattle.input_files.specs.Outcomes.{Input}
 use Rattle.report_writer.specs.declared.report.Report.{Report}
 use Rattle.report_writer.specs.Reports.{Reports}
-use Rattle.report_writer.specs.Texts.{line_of_words}
+use Rattle.line_builder.specs.Words.{line_of_words}
 
 -- how a wanted path of this cost stands among the simple paths of its request, of which none costs less than `least`
 abbrev pub StandsAs : Area → Request → ℕ → ℕ → Standing → Type 0

@@ -23,7 +23,7 @@ use Rattle.input_files.specs.Outcomes.{problem_read, routers_of}
 use Rattle.input_files.specs.Readings.{Reading, Ready, ◌>>=◌}
 use Rattle.report_writer.specs.declared.report.Report.{Report}
 use Rattle.report_writer.specs.Reports.{Reports}
-use Rattle.report_writer.specs.Texts.{line_of_words}
+use Rattle.line_builder.specs.Words.{line_of_words}
 use Rattle.path_commands.specs.declared.audit_live.LivePath.{LivePath}
 use Rattle.path_commands.specs.declared.audit_live.LivePath.TheVariants.{Stands, Gone}
 use Rattle.path_commands.specs.Audits.{IsAudited, audit_line}

@@ -15,12 +15,13 @@ use area_graph::{Graph, Point, path_cost};
 use cost_base::{OutOfMemory, Shelf, Status};
 use design_problem::{Problem, Request};
 use input_files::{FileWords, Stop, View, read_problem};
+use line_builder::LineBuilder;
 use problem_parts::empty_point;
 use report_writer::Report;
 use rival_separation::find_rival;
 use spf_ties::Room;
 use std::alloc::Global;
-use text_lines::{push_bytes, push_number};
+use text_lines::push_bytes;
 
 /// How a wanted path stands among the simple paths of its request.
 #[derive(Clone, Copy, Debug, PartialEq, Eq)]
@@ -168,17 +169,14 @@ pub(crate) fn line_of(
 ) -> Result<Vec<u8>, OutOfMemory>
     ensures { IfOk result (λ line. line.items ≡ audit_line number path) }
 {
-    let mut line = Vec::new(alloc);
-    push_bytes(&mut line, b"path ")?;
-    push_number(&mut line, number as u128)?;
-    push_bytes(&mut line, b" cost ")?;
-    push_number(&mut line, path.cost)?;
-    push_bytes(&mut line, b" least ")?;
-    push_number(&mut line, path.least)?;
-    push_bytes(&mut line, b" ")?;
-    push_bytes(&mut line, word_of(path.standing))?;
-    push_bytes(&mut line, b"\n")?;
-    Ok(line)
+    let mut line = LineBuilder::new(alloc, b"path")?;
+    line.number(number as u128)?;
+    line.word(b"cost")?;
+    line.number(path.cost)?;
+    line.word(b"least")?;
+    line.number(path.least)?;
+    line.word(word_of(path.standing))?;
+    line.ended()
 }
 
 /// The text of an audit: a line for each path.

@@ -18,6 +18,7 @@ use area_graph::{Exclusion, Graph, Path, Point, mark_excluded};
 use cost_base::{Listed, OutOfMemory, Shelf, Status, no_marks};
 use design_problem::{Problem, Request};
 use input_files::{FileWords, Layout, Stop, View, read_layout, resolution_at_present};
+use line_builder::LineBuilder;
 use live_area::{RunningArea, running_area};
 use live_input::read_live_file;
 use lsa_bytes::Database;
@@ -26,7 +27,7 @@ use report_writer::Report;
 use request_reader::RequestFile;
 use spf_ties::Room;
 use std::alloc::Global;
-use text_lines::{push_bytes, push_number};
+use text_lines::push_bytes;
 
 /// What is found of a wanted path in an area of which edges are excluded.
 #[derive(Clone, Copy, Debug, PartialEq, Eq)]
@@ -173,18 +174,17 @@ fn audit_running(
 fn gone_line(alloc: Global, number: usize, least: Option<u128>) -> Result<Vec<u8>, OutOfMemory>
     ensures { IfOk result (λ line. line.items ≡ live_line number (LivePath.Gone least)) }
 {
-    let mut line = Vec::new(alloc);
-    push_bytes(&mut line, b"path ")?;
-    push_number(&mut line, number as u128)?;
+    let mut line = LineBuilder::new(alloc, b"path")?;
+    line.number(number as u128)?;
+    line.word(b"gone")?;
     match least {
         Some(least) => {
-            push_bytes(&mut line, b" gone least ")?;
-            push_number(&mut line, least)?;
-            push_bytes(&mut line, b"\n")?;
+            line.word(b"least")?;
+            line.number(least)?;
         }
-        None => push_bytes(&mut line, b" gone unreachable\n")?,
+        None => line.word(b"unreachable")?,
     }
-    Ok(line)
+    line.ended()
 }
 
 /// The line of a path by its number, with its LF.

@@ -13,9 +13,8 @@ use cost_base::OutOfMemory;
 use cost_branching::keeps_conditions;
 use design_problem::{CostList, Problem, Row, Tree};
 use evidence_text::{TreePart, push_costs, push_evidence};
-use printed_parts::{
-    at_greatest_bound, costs_by_name, counted_line, head_lines, number_line, push_line,
-};
+use line_builder::{LineBuilder, head_lines, push_line};
+use printed_parts::{at_greatest_bound, costs_by_name};
 use std::alloc::Global;
 
 /// The first lines, up to that of the requests.
@@ -24,9 +23,9 @@ fn head_of(alloc: Global, verdict: &[u8], members: &[u32]) -> Result<Vec<u8>, Ou
         (λ text. text.items ≡ with_ends (codes "ospfcost conflict 1" ∷ verdict.now ∷
         members_line members.now ∷ [])) }
 {
-    let members = counted_line(alloc, b"members", members.len() as u64, members)?;
+    let members = LineBuilder::of_count(alloc, b"members", members.len() as u64, members)?;
     let mut text = head_lines(alloc, b"ospfcost conflict 1", verdict)?;
-    push_line(&mut text, members.as_slice())?;
+    members.end_in(&mut text)?;
     Ok(text)
 }
 
@@ -57,8 +56,8 @@ fn push_without_one(
     ensures { OnOk result (text.new.items ≡ text.old.items ++ with_ends
         (without_line member ∷ costs_part problem.now costs.now)) }
 {
-    let line = number_line(alloc, b"without", &[member])?;
-    push_line(text, line.as_slice())?;
+    let line = LineBuilder::of_numbers(alloc, b"without", &[member])?;
+    line.end_in(text)?;
     push_costs_part(alloc, text, problem, costs)
 }
 

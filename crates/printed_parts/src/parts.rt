@@ -1,5 +1,5 @@
-//! The first lines of texts, and the parts of costs and trees.
-ghost use Rattle.std.specs.Prelude.{◌≡◌, ◌≤◌, ◌∷◌, ◌++◌, [], Some, IfOk, OnOk};
+//! The parts of costs and trees.
+ghost use Rattle.std.specs.Prelude.{◌≡◌, ◌≤◌, ◌++◌, Some, IfOk, OnOk};
 ghost use Rattle.design_problem.specs.Boxes.{IsInBox};
 ghost use Rattle.design_problem.specs.Rows.{box_of};
 ghost use Rattle.design_problem.specs.Answers.{greatest_bound};
@@ -16,33 +16,6 @@ use design_problem::{CapTree, CostList, Costs, Problem, Tree, greatest_of};
 use evidence_text::{TreePart, push_capped_tree};
 use printed_rows::printed_costs;
 use std::alloc::Global;
-use text_lines::push_bytes;
-
-/// Adds a line at the end.
-///
-/// # Errors
-///
-/// `OutOfMemory`.
-pub fn push_line(text: &mut Vec<u8>, line: &[u8]) -> Result<(), OutOfMemory>
-    ensures { OnOk result (text.new.items ≡ text.old.items ++ with_ends (line.now ∷ [])) }
-{
-    push_bytes(text, line)?;
-    push_bytes(text, b"\n")
-}
-
-/// The first lines of a text: the one that tells its kind, and that of its verdict.
-///
-/// # Errors
-///
-/// `OutOfMemory`.
-pub fn head_lines(alloc: Global, kind: &[u8], verdict: &[u8]) -> Result<Vec<u8>, OutOfMemory>
-    ensures { IfOk result (λ text. text.items ≡ with_ends (kind.now ∷ verdict.now ∷ [])) }
-{
-    let mut text = Vec::new(alloc);
-    push_line(&mut text, kind)?;
-    push_line(&mut text, verdict)?;
-    Ok(text)
-}
 
 /// Costs of a problem's variables as they are printed, with the names of the free interfaces.
 ///

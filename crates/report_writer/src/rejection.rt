@@ -4,8 +4,8 @@ ghost use Rattle.report_writer.specs.Rejections.{IsRejectionOf};
 ghost use Rattle.report_writer.specs.Texts.{rejected_line};
 
 use cost_base::{Fault, OutOfMemory, Refusal};
+use line_builder::LineBuilder;
 use std::alloc::Global;
-use text_lines::{push_bytes, push_number};
 
 /// A rejection of a file with costs or evidence: the number of a fault of its text or of a test, and the place.
 #[derive(Clone, Copy, Debug, PartialEq, Eq)]
@@ -48,11 +48,8 @@ pub fn rejection_of<F: Fault, P: Into<u64>>(
 pub(crate) fn rejected_line_of(alloc: Global, rejection: Rejection) -> Result<Vec<u8>, OutOfMemory>
     ensures { IfOk result (λ text. text.items ≡ rejected_line rejection) }
 {
-    let mut text = Vec::new(alloc);
-    push_bytes(&mut text, b"rejected ")?;
-    push_number(&mut text, u128::from(rejection.number))?;
-    push_bytes(&mut text, b" ")?;
-    push_number(&mut text, u128::from(rejection.place))?;
-    push_bytes(&mut text, b"\n")?;
-    Ok(text)
+    let mut line = LineBuilder::new(alloc, b"rejected")?;
+    line.number(u128::from(rejection.number))?;
+    line.number(u128::from(rejection.place))?;
+    line.ended()
 }

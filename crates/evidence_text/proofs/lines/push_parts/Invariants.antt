@@ -1,6 +1,6 @@
 use Rattle.std.proofs.Common.{◌≡◌, drop}
 use Rattle.design_problem.specs.Text.{part_words}
-use Rattle.evidence_text.specs.Lines.{with_words}
+use Rattle.line_builder.specs.Words.{with_words}
 use Rattle.evidence_text.proofs.lines.push_parts.Given as goal
 
 abbrev pub invariant-loop-part : goal.invariant-loop-part

@@ -1,7 +1,7 @@
 use Rattle.std.proofs.Common.{◌≤◌, ℕ, List, length, codes, sym, subst, ap, ◌∙◌}
 use Rattle.design_problem.specs.Text.{part_words}
-use Rattle.evidence_text.specs.Lines.{with_words}
-use Rattle.evidence_text.proofs.WordLaws.{spaced-with}
+use Rattle.line_builder.specs.Words.{with_words}
+use Rattle.line_builder.proofs.WordLaws.{spaced-with}
 use Rattle.evidence_text.proofs.lines.write_refute.Goals as goal
 
 pub push_parts-requires : goal.push_parts-requires
