@@ -6,8 +6,7 @@ ghost use Rattle.design_problem.specs.declared.form.Form.{Form};
 ghost use Rattle.design_problem.specs.Trees.{SoundAt, subboxes, tightened};
 
 use crate::{CostBox, Entry, Side};
-use cost_base::OutOfMemory;
-use pushes::push_last;
+use cost_base::{OutOfMemory, push_last};
 use std::alloc::Global;
 use std::marker::Model;
 

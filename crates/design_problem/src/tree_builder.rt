@@ -9,8 +9,7 @@ ghost use Rattle.design_problem.specs.OpenPlaces.{first_place, fresh, grown, und
 
 use crate::marks::Marks;
 use crate::{CostBox, Entry, OpenBoxes, Side, Tree};
-use cost_base::OutOfMemory;
-use pushes::push_last;
+use cost_base::{OutOfMemory, push_last};
 use std::alloc::Global;
 use std::marker::Model;
 

@@ -12,9 +12,8 @@ ghost use Rattle.evidence_checker.specs.Routes.{route_tests};
 
 use crate::CheckFault;
 use area_graph::{Graph, Path, is_path_of};
-use cost_base::{Listed, OutOfMemory, Refusal};
+use cost_base::{Listed, OutOfMemory, Refusal, push_last};
 use design_problem::{Form, Problem, Request, Row, form_of};
-use pushes::push_last;
 use std::alloc::Global;
 
 /// Whether edges are a simple path of a request.

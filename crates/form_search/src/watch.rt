@@ -4,10 +4,9 @@ ghost use Rattle.std.specs.BinaryHeap.{heap_len};
 ghost use Rattle.design_problem.specs.OpenPlaces.{first_place};
 ghost use Rattle.form_search.specs.Turns.{IsWatch};
 
-use cost_base::OutOfMemory;
+use cost_base::{OutOfMemory, push_last};
 use design_problem::{CostBox, Entry, Form, TreeBuilder};
 use marks::filled_by;
-use pushes::push_last;
 use std::alloc::Global;
 use std::cmp::Reverse;
 use std::collections::BinaryHeap;

@@ -12,11 +12,10 @@ ghost use Rattle.fraction_table.specs.Tableaus.{starting};
 ghost use Rattle.fraction_table.specs.ValidTables.{IsSound, held_of, members_of_box, starting_line};
 
 use crate::table::Table;
-use cost_base::OutOfMemory;
+use cost_base::{OutOfMemory, push_last};
 use design_problem::{CostBox, Member};
 use fraction_rows::TableRow;
 use problem_parts::copied_box;
-use pushes::push_last;
 use std::alloc::Global;
 use wide_fraction::{Frac, Top};
 

@@ -11,11 +11,10 @@ ghost use Rattle.live_area.specs.Differences as definition;
 
 use crate::Difference;
 use crate::metrics::EndMetrics;
-use cost_base::OutOfMemory;
+use cost_base::{OutOfMemory, push_some};
 use lsa_bytes::{Lsa, is_router};
 use lsa_writer::CostedLinks;
 use lsdb_build::Linked;
-use pushes::push_some;
 use std::alloc::Global;
 use std::collections::BTreeSet;
 

@@ -9,10 +9,9 @@ ghost use Rattle.live_area.specs.Differences as definition;
 use crate::Difference;
 use crate::links::{LiveLink, links_of_lsa};
 use crate::metrics::EndMetrics;
-use cost_base::OutOfMemory;
+use cost_base::{OutOfMemory, push_some};
 use interface_model::RouterConfig;
 use lsa_bytes::{Lsa, have_id, is_router};
-use pushes::push_some;
 use std::alloc::Global;
 use std::collections::BTreeSet;
 

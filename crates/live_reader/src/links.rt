@@ -12,10 +12,9 @@ use crate::fault::Lack;
 use crate::fields::{number_named, quad_named, text_of_name};
 use crate::tree::opens_object;
 use crate::walk::last_places;
-use cost_base::Refusal;
+use cost_base::{Refusal, push_some};
 use json::Tape;
 use lsa_bytes::{LsaLink, POINT_TO_POINT_LINK, TRANSIT_LINK};
-use pushes::push_some;
 use std::alloc::Global;
 
 /// The text of a link of type 1.

@@ -16,8 +16,7 @@ use crate::instances::Instance;
 use crate::newest::Newest;
 use crate::reader::Reader;
 use crate::{Database, LsaFault};
-use cost_base::Refusal;
-use pushes::push_some;
+use cost_base::{Refusal, push_some};
 use std::alloc::Global;
 
 /// The length of the LSA that begins the bytes, all of which they have.

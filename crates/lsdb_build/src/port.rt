@@ -4,9 +4,8 @@ ghost use Rattle.interface_model.specs.Records.{IsRouter};
 ghost use Rattle.lsdb_build.specs.Neighbours.{port_of, ports_of, ports, shares_subnet, is_broadcast};
 ghost use Rattle.lsdb_build.specs.Tallies.{subnet_of};
 
-use cost_base::OutOfMemory;
+use cost_base::{OutOfMemory, push_some};
 use interface_model::{Interface, Kind, RouterConfig, is_active, subnet};
-use pushes::push_some;
 use std::alloc::Global;
 use std::marker::Model;
 

@@ -13,10 +13,9 @@ use crate::ResolutionFault;
 use crate::names::Names;
 use crate::routes::subnet_vertex;
 use area_graph::{Graph, far_end};
-use cost_base::{OutOfMemory, Refusal, push_if};
+use cost_base::{OutOfMemory, Refusal, push_if, push_last, push_some};
 use lsdb_build::{Far, Linked};
 use marks::is_marked;
-use pushes::{push_last, push_some};
 use request_reader::Part;
 use std::alloc::Global;
 

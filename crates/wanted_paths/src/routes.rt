@@ -16,9 +16,8 @@ ghost use Rattle.wanted_paths.specs.Walks.{IsWalk};
 use crate::ResolutionFault;
 use crate::names::Names;
 use area_graph::{Graph, Path, far_end, is_simple};
-use cost_base::{Listed, Name, OutOfMemory, Refusal};
+use cost_base::{Listed, Name, OutOfMemory, Refusal, push_last, push_some};
 use lsdb_build::{Far, Linked};
-use pushes::{push_last, push_some};
 use request_reader::Hops;
 use std::alloc::Global;
 

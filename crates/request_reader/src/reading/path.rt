@@ -7,8 +7,7 @@ ghost use Rattle.request_reader.specs.ReadingLines.{to_without, behind_without, 
 
 use crate::reading::statement::Statement;
 use crate::{Directive, Hops, Part, RequestFault};
-use cost_base::{Listed, Name, OutOfMemory};
-use pushes::push_last;
+use cost_base::{Listed, Name, OutOfMemory, push_last};
 use std::alloc::Global;
 use text_lines::{cut, first_word};
 

@@ -10,8 +10,7 @@ ghost use Rattle.request_reader.specs.declared.reading.statement.Statement.TheVa
 use crate::reading::line::statement_of;
 use crate::reading::statement::Statement;
 use crate::{Directive, Item, RequestFault, RequestFile};
-use cost_base::{Listed, Refusal};
-use pushes::push_last;
+use cost_base::{Listed, Refusal, push_last};
 use std::alloc::Global;
 use std::marker::Model;
 use text_lines::StatementReader;
