@@ -5,7 +5,7 @@ ghost use Rattle.cost_base.specs.Lists.{Lacks};
 ghost use Rattle.area_graph.specs.Distances.{AreEdgeMarks};
 
 use crate::paths::lacks;
-use marks::mark_within;
+use cost_base::mark_within;
 use std::marker::Model;
 
 /// The excluded edges of a request, with a mark for each edge of the graph that tells at once whether it is one of

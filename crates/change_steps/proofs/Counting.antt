@@ -4,8 +4,8 @@ use Rattle.std.proofs.lemmas.Bool.{cases_lt}
 use Rattle.std.proofs.lemmas.List.{ext_get_or, get_or-map, get_or-take, get_or_at, get_or_append_left, get_or_default, length-map, length-take, length_push}
 use Rattle.cost_base.specs.Lists.{Has, Lacks, NoneTwice}
 use Rattle.cost_base.proofs.ListLemmas.{each_mapped}
-use Rattle.marks.specs.Marks.{is_marked}
-use Rattle.marks.proofs.MarkLaws.{one_of_has}
+use Rattle.cost_base.specs.Marks.{is_marked}
+use Rattle.cost_base.proofs.MarkLaws.{one_of_has}
 use Rattle.design_problem.proofs.PathBounds.{none_twice-le}
 use Rattle.change_steps.specs.declared.kinds.Kind.{Kind}
 use Rattle.change_steps.specs.declared.kinds.Kind.TheVariants.{First, Between, Last}

@@ -7,8 +7,8 @@ use Rattle.std.proofs.lemmas.List.Elements.{All-nil, All-push, Contains-get_or}
 use Rattle.std.proofs.lemmas.List.Folds.{list_any-append}
 use Rattle.cost_base.specs.Lists.{numbers_from}
 use Rattle.cost_base.proofs.ListLemmas.{filter-numbers_from-agree, none_twice_push}
-use Rattle.marks.specs.Marks.{is_marked, is_one_of}
-use Rattle.marks.proofs.MarkLaws.{has_one_of, one_of_has}
+use Rattle.cost_base.specs.Marks.{is_marked, is_one_of}
+use Rattle.cost_base.proofs.MarkLaws.{has_one_of, one_of_has}
 use Rattle.change_steps.specs.declared.kinds.Kind.{Kind}
 use Rattle.change_steps.specs.declared.kinds.Kind.TheVariants.{First, Between, Last}
 use Rattle.change_steps.specs.declared.found.Blocked.{Blocked}

@@ -9,8 +9,8 @@ use Rattle.std.proofs.lemmas.List.Folds.{list_any-append}
 use Rattle.std.proofs.lemmas.List.Sums.{sum_by-set}
 use Rattle.cost_base.specs.Lists.{NoneTwice, numbers_from}
 use Rattle.cost_base.proofs.ListLemmas.{get_or-map-numbers_from, length-map-numbers_from}
-use Rattle.marks.specs.Marks.{is_marked, is_one_of}
-use Rattle.marks.proofs.MarkLaws.{one_of_has}
+use Rattle.cost_base.specs.Marks.{is_marked, is_one_of}
+use Rattle.cost_base.proofs.MarkLaws.{one_of_has}
 use Rattle.change_steps.specs.Rollouts.{Rollout, step_count}
 use Rattle.change_steps.specs.Orders.{IsSafe}
 use Rattle.change_steps.specs.States.{marks_of}

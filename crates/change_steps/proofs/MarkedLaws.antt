@@ -6,8 +6,8 @@ use Rattle.std.proofs.lemmas.Bool.{and_from, and_parts, both_ways, cases_lt, not
 use Rattle.std.proofs.lemmas.List.{drop_more, take-append-drop}
 use Rattle.std.proofs.lemmas.List.Folds.{list_all_at, list_all_more, list_any_at, list_any_more}
 use Rattle.std.specs.List.{list_all}
-use Rattle.marks.specs.Marks.{is_marked}
-use Rattle.marks.proofs.MarkLaws.{written_mark}
+use Rattle.cost_base.specs.Marks.{is_marked}
+use Rattle.cost_base.proofs.MarkLaws.{written_mark}
 use Rattle.area_graph.specs.Area.{Area, edge_at}
 use Rattle.area_graph.specs.Paths.{IsPathOf}
 use Rattle.area_graph.proofs.Visits.{joined_known}

@@ -6,8 +6,8 @@ use Rattle.std.proofs.lemmas.List.{take-append-le, take_all, length-append}
 use Rattle.std.proofs.lemmas.List.Elements.{All-append, All-push, Contains-append_left, Contains-append_right}
 use Rattle.cost_base.specs.Lists.{Has, Lacks, NoneTwice, numbers_from}
 use Rattle.cost_base.proofs.ListLemmas.{All-left, all_kept, none_twice_push}
-use Rattle.marks.specs.Marks.{is_one_of}
-use Rattle.marks.proofs.MarkLaws.{has_one_of, one_of_has}
+use Rattle.cost_base.specs.Marks.{is_one_of}
+use Rattle.cost_base.proofs.MarkLaws.{has_one_of, one_of_has}
 use Rattle.change_steps.specs.declared.kinds.Kind.{Kind}
 use Rattle.change_steps.specs.declared.kinds.Kind.TheVariants.{First, Between, Last}
 use Rattle.change_steps.specs.Rollouts.{IsRollout, Rollout, step_count}

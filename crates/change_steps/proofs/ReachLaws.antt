@@ -4,8 +4,8 @@ use Rattle.std.proofs.lemmas.Bool.{both_ways, cases_Bool, cases_lt, cond-false, 
 use Rattle.std.proofs.lemmas.List.{get_or_append_left, get_or_at, get_or_default, get_or_past, length_push}
 use Rattle.cost_base.specs.Lists.{Has}
 use Rattle.cost_base.proofs.ListLemmas.{all_kept, get_or-map-numbers_from, kept_all, length-map-numbers_from}
-use Rattle.marks.specs.Marks.{is_marked, is_one_of}
-use Rattle.marks.proofs.MarkLaws.{has_one_of, one_of_has}
+use Rattle.cost_base.specs.Marks.{is_marked, is_one_of}
+use Rattle.cost_base.proofs.MarkLaws.{has_one_of, one_of_has}
 use Rattle.area_graph.specs.declared.Edge.{Edge}
 use Rattle.area_graph.specs.declared.Point.{Point}
 use Rattle.area_graph.specs.declared.Price.TheVariants.{Var}

@@ -5,7 +5,7 @@ use Rattle.std.proofs.lemmas.Bool.{cases_lt}
 use Rattle.std.proofs.lemmas.List.{get_or_at, get_or_append_left, get_or_default, length-append, length_push, take-append-le, take_all, take_at}
 use Rattle.std.proofs.lemmas.List.Elements.{All-nil, All-push, Contains-append_left, Contains-get_or, Contains-push, Contains-push_cases}
 use Rattle.cost_base.proofs.ListLemmas.{All-left}
-use Rattle.marks.specs.Marks.{is_marked, is_one_of}
+use Rattle.cost_base.specs.Marks.{is_marked, is_one_of}
 use Rattle.change_steps.specs.declared.kinds.Kind.TheVariants.{Between}
 use Rattle.change_steps.specs.Rollouts.{IsRollout, step_count}
 use Rattle.change_steps.specs.Orders.{AreHeld, IsSafe, IsSafeLine}

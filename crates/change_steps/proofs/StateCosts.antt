@@ -6,8 +6,8 @@ use Rattle.std.proofs.lemmas.List.{get_or_default, get_or_past}
 use Rattle.std.proofs.lemmas.List.Folds.{Any-from_list_any, list_any_at}
 use Rattle.cost_base.specs.Lists.{Has, numbers_from}
 use Rattle.cost_base.proofs.ListLemmas.{get_or-map-numbers_from, get_or-numbers_from, length-map-numbers_from, length-numbers_from, map-numbers_from-agree, same_test}
-use Rattle.marks.specs.Marks.{is_one_of}
-use Rattle.marks.proofs.MarkLaws.{has_one_of, one_of_has}
+use Rattle.cost_base.specs.Marks.{is_one_of}
+use Rattle.cost_base.proofs.MarkLaws.{has_one_of, one_of_has}
 use Rattle.area_graph.specs.declared.Price.{Price}
 use Rattle.area_graph.specs.declared.Price.TheVariants.{Fixed, Var, Zero}
 use Rattle.area_graph.specs.Area.{Area, edge_at}

@@ -16,8 +16,8 @@ use Rattle.change_steps.proofs.StateCosts.{changed_by, changed_if, changes_more,
 use Rattle.change_steps.proofs.KindLaws.{same_change}
 use Rattle.change_steps.proofs.MarkLaws.{marks_agree, marks_more, marks_push}
 use Rattle.cost_base.proofs.ListLemmas.{same_test}
-use Rattle.marks.specs.Marks.{is_marked, is_one_of}
-use Rattle.marks.proofs.MarkLaws.{has_one_of, one_of_has}
+use Rattle.cost_base.specs.Marks.{is_marked, is_one_of}
+use Rattle.cost_base.proofs.MarkLaws.{has_one_of, one_of_has}
 
 -- the lines of a step have costs
 pub lines_known : (r : Rollout) (step : ℕ) → IsRollout r → step < step_count r → All (λ v. v < length r.moves.present) (lines_of_step r.moves step)

@@ -5,8 +5,8 @@ use Rattle.std.proofs.lemmas.Bool.{cases_Bool}
 use Rattle.std.proofs.lemmas.List.{get_or_at, length_push, set-get_or, set-set}
 use Rattle.cost_base.specs.Lists.{NoneTwice}
 use Rattle.cost_base.proofs.ListLemmas.{none_twice_seam}
-use Rattle.marks.specs.Marks.{is_marked, is_one_of}
-use Rattle.marks.proofs.MarkLaws.{one_of_has}
+use Rattle.cost_base.specs.Marks.{is_marked, is_one_of}
+use Rattle.cost_base.proofs.MarkLaws.{one_of_has}
 use Rattle.spf_ties.specs.Distances.{IsRoomFor}
 use Rattle.change_steps.specs.declared.walk.Walk.{Walk}
 use Rattle.change_steps.specs.declared.walk.End.{End}

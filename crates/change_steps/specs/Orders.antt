@@ -3,7 +3,7 @@ use Rattle.std.specs.Prelude.{ℕ, ◌<◌, ◌≤◌, ◌&&◌, Bool, true, fal
 use Rattle.std.specs.List.{list_any}
 use Rattle.std.specs.List.Sorted.{IsStrictlyIncreasing}
 use Rattle.cost_base.specs.Lists.{NoneTwice, numbers_from}
-use Rattle.marks.specs.Marks.{is_one_of}
+use Rattle.cost_base.specs.Marks.{is_one_of}
 use Rattle.area_graph.specs.Costs.{IsOnlyCheapest, at_costs}
 use Rattle.design_problem.specs.Problems.{request_at, request_ends}
 use Rattle.change_steps.specs.Rollouts.{CostMoves, Rollout, lines_of_step, step_count}

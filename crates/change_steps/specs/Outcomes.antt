@@ -1,7 +1,7 @@
 -- What is found of a rollout's steps.
 use Rattle.std.specs.Prelude.{◌≡◌, ℕ, ◌<◌, ◌≤◌, ◌^◌, max, ◌&&◌, ◌++◌, ◌∷◌, Bool, true, not, List, [], length, map, filter, slice_index_or, slice_set, All, Contains, count_by}
 use Rattle.cost_base.specs.Lists.{numbers_from}
-use Rattle.marks.specs.Marks.{is_marked, is_one_of}
+use Rattle.cost_base.specs.Marks.{is_marked, is_one_of}
 use Rattle.change_steps.specs.declared.found.Barrier.{Barrier}
 use Rattle.change_steps.specs.declared.found.Barrier.TheVariants.{Path, Untested}
 use Rattle.change_steps.specs.declared.found.Blocked.{Blocked}

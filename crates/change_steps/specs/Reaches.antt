@@ -1,7 +1,7 @@
 -- What rivals cost at least that go over the links of a step. No public clause cites it.
 use Rattle.std.specs.Prelude.{◌≡◌, ℕ, nat_lt, ◌<◌, ◌≤◌, ◌⊎◌, Bool, true, false, cond, List, [], filter, length, map, slice_index, slice_index_or}
 use Rattle.cost_base.specs.Lists.{Has, numbers_from}
-use Rattle.marks.specs.Marks.{is_one_of}
+use Rattle.cost_base.specs.Marks.{is_one_of}
 use Rattle.area_graph.specs.declared.Point.{Point}
 use Rattle.area_graph.specs.declared.Price.{Price}
 use Rattle.area_graph.specs.declared.Price.TheVariants.{Fixed, Var, Zero}

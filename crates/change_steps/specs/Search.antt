@@ -1,7 +1,7 @@
 -- What a search for an order keeps. No public clause cites it.
 use Rattle.std.specs.Prelude.{◌≡◌, ◌≢◌, ℕ, nat_lt, ◌<◌, ◌≤◌, ◌&&◌, ◌++◌, ◌∷◌, ◌⊎◌, Bool, true, false, not, List, [], filter, length, map, take, slice_index_or, slice_set, All, Contains, if◌then◌else◌}
 use Rattle.cost_base.specs.Lists.{numbers_from}
-use Rattle.marks.specs.Marks.{is_marked, is_one_of}
+use Rattle.cost_base.specs.Marks.{is_marked, is_one_of}
 use Rattle.area_graph.specs.Costs.{at_costs}
 use Rattle.change_steps.specs.declared.found.Blocked.{Blocked}
 use Rattle.change_steps.specs.declared.kinds.Kind.{Kind}

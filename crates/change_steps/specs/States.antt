@@ -1,7 +1,7 @@
 -- The states that a search tested.
 use Rattle.std.specs.Prelude.{◌≡◌, ◌≢◌, ℕ, ◌<◌, Bool, true, false, List, [], length, map, take, slice_index_or, slice_set, Contains}
 use Rattle.cost_base.specs.Lists.{numbers_from}
-use Rattle.marks.specs.Marks.{is_marked}
+use Rattle.cost_base.specs.Marks.{is_marked}
 use Rattle.change_steps.specs.declared.kinds.Kind.TheVariants.{Between}
 use Rattle.change_steps.specs.Rollouts.{Rollout, step_count}
 use Rattle.change_steps.specs.Orders.{IsSafe}

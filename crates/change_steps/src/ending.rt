@@ -1,6 +1,6 @@
 //! What a search that ended found.
 ghost use Rattle.std.specs.Prelude.{◌≡◌, ◌++◌, ◌<◌, ℕ, Contains, IfOk, false, slice_set, true};
-ghost use Rattle.marks.specs.Marks.{is_marked};
+ghost use Rattle.cost_base.specs.Marks.{is_marked};
 ghost use Rattle.spf_ties.specs.Distances.{IsRoomFor};
 ghost use Rattle.change_steps.specs.Rollouts.{step_count};
 ghost use Rattle.change_steps.specs.Orders.{IsSafe};

@@ -1,6 +1,6 @@
 //! The paths that a rollout has to hold.
 ghost use Rattle.std.specs.Prelude.{◌≡◌, ◌↔◌, ◌<◌, IfOk, IsTrue, length};
-ghost use Rattle.marks.specs.Marks.{is_marked};
+ghost use Rattle.cost_base.specs.Marks.{is_marked};
 ghost use Rattle.spf_ties.specs.Distances.{IsRoomFor};
 ghost use Rattle.change_steps.specs.Orders.{AreHeld, IsOnlyIn, all_done, none_done};
 ghost use Rattle.change_steps.specs.States.{marks_of};

@@ -2,7 +2,7 @@
 ghost use Rattle.std.specs.Prelude.{◌≡◌, ◌<◌, ◌||◌, ℕ, All, List, IfOk, length, map};
 ghost use Rattle.std.specs.List.{list_all};
 ghost use Rattle.cost_base.specs.Lists.{numbers_from};
-ghost use Rattle.marks.specs.Marks.{is_marked};
+ghost use Rattle.cost_base.specs.Marks.{is_marked};
 ghost use Rattle.design_problem.specs.Rows.{is_var};
 ghost use Rattle.change_steps.specs.Rollouts.{lines_of_step, step_count};
 ghost use Rattle.change_steps.specs.Kinds.{falls_off_held, goes_over, has_kind, kind_of_step, lies_on_held, rises, rises_off_held};
@@ -10,8 +10,7 @@ ghost use Rattle.change_steps.specs.Search.{AreHeldMarks};
 
 use crate::rollout::Rollout;
 use area_graph::{Graph, Price, edge_of};
-use cost_base::{OutOfMemory, no_marks};
-use marks::mark_within;
+use cost_base::{OutOfMemory, mark_within, no_marks};
 use std::alloc::Global;
 
 /// When a step is done, by where its lines lie and whether their costs rise.

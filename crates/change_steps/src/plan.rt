@@ -2,7 +2,7 @@
 ghost use Rattle.std.specs.Prelude.{◌≡◌, ◌++◌, ◌↔◌, ◌<◌, ◌&&◌, ℕ, All, Bool, IfOk, IsTrue, List, MatchOption, OnOk, false, filter, length, not, slice_index_or, true};
 ghost use Rattle.std.specs.List.{list_all};
 ghost use Rattle.cost_base.specs.Lists.{numbers_from};
-ghost use Rattle.marks.specs.Marks.{is_marked};
+ghost use Rattle.cost_base.specs.Marks.{is_marked};
 ghost use Rattle.spf_ties.specs.Distances.{IsRoomFor};
 ghost use Rattle.design_problem.specs.Problems.{request_at};
 ghost use Rattle.change_steps.specs.Rollouts.{IsRollout, lines_of_step, step_count};

@@ -1,7 +1,7 @@
 //! What rivals cost at least that go over the links of a step.
 ghost use Rattle.std.specs.Prelude.{◌≡◌, ◌++◌, ◌∷◌, ◌<◌, ◌≤◌, ◌^◌, ℕ, [], All, IfOk, IsTrue, OnOk, Some, length, map, slice_index_or};
 ghost use Rattle.cost_base.specs.Lists.{numbers_from};
-ghost use Rattle.marks.specs.Marks.{is_marked};
+ghost use Rattle.cost_base.specs.Marks.{is_marked};
 ghost use Rattle.area_graph.specs.Costs.{FitsPoint, IsPriced, at_costs};
 ghost use Rattle.spf_ties.specs.Distances.{IsRoomFor};
 ghost use Rattle.change_steps.specs.Rollouts.{step_count};
@@ -12,8 +12,7 @@ use crate::kinds::{Kind, is_kind, line_rises};
 use crate::rollout::Rollout;
 use crate::state::State;
 use area_graph::{FAR, Graph, Point, Price, edge_of, path_cost, price_of};
-use cost_base::{Listed, OutOfMemory, no_marks, push_if};
-use marks::mark_within;
+use cost_base::{Listed, OutOfMemory, mark_within, no_marks, push_if};
 use spf_ties::Room;
 use std::alloc::Global;
 

@@ -1,6 +1,6 @@
 //! A state of a rollout, with its costs.
 ghost use Rattle.std.specs.Prelude.{◌≡◌, ◌↔◌, ◌<◌, ℕ, All, IfOk, IsTrue, cond, false, length, slice_index, slice_set, true};
-ghost use Rattle.marks.specs.Marks.{is_marked, is_one_of};
+ghost use Rattle.cost_base.specs.Marks.{is_marked, is_one_of};
 ghost use Rattle.spf_ties.specs.Distances.{IsRoomFor};
 ghost use Rattle.change_steps.specs.Rollouts.{lines_of_step, step_count};
 ghost use Rattle.change_steps.specs.Orders.{IsOnlyIn, all_done, none_done};

@@ -1,6 +1,6 @@
 //! The search for an order of the steps between.
 ghost use Rattle.std.specs.Prelude.{◌≡◌, ◌++◌, ◌∷◌, ◌↔◌, ◌+◌, ◌<◌, ◌≤◌, ℕ, [], Contains, IfOk, IsTrue, MatchBool, MatchOption, OnOk, false, length, max, slice_set, true, ⊤};
-ghost use Rattle.marks.specs.Marks.{is_marked, is_one_of};
+ghost use Rattle.cost_base.specs.Marks.{is_marked, is_one_of};
 ghost use Rattle.spf_ties.specs.Distances.{IsRoomFor};
 ghost use Rattle.change_steps.specs.Rollouts.{step_count};
 ghost use Rattle.change_steps.specs.Orders.{IsSafe};

@@ -4,9 +4,8 @@ ghost use Rattle.std.specs.BinaryHeap.{heap_len};
 ghost use Rattle.design_problem.specs.OpenPlaces.{first_place};
 ghost use Rattle.form_search.specs.Turns.{IsWatch};
 
-use cost_base::{OutOfMemory, push_last};
+use cost_base::{OutOfMemory, filled_by, push_last};
 use design_problem::{CostBox, Entry, Form, TreeBuilder};
-use marks::filled_by;
 use std::alloc::Global;
 use std::cmp::Reverse;
 use std::collections::BinaryHeap;

@@ -4,8 +4,8 @@ use Rattle.std.specs.Prelude.{◌<◌, All, Option, None, Some, slice_index_or}
 use Rattle.std.proofs.lemmas.List.Elements.{All-head, All-tail}
 use Rattle.std.proofs.lemmas.List.Folds.{list_any_at}
 use Rattle.cost_base.specs.Lists.{numbers_from}
-use Rattle.marks.specs.Marks.{AreMarked, is_marked}
-use Rattle.marks.proofs.MarkLaws.{marks_from_none}
+use Rattle.cost_base.specs.Marks.{AreMarked, is_marked}
+use Rattle.cost_base.proofs.MarkLaws.{marks_from_none}
 use Rattle.design_problem.specs.declared.answer.CapTree.{CapTree}
 use Rattle.design_problem.specs.declared.tree.Entry.{Entry}
 use Rattle.design_problem.specs.Renumbering.{renumbered}

@@ -1,7 +1,7 @@
 //! New numbers for the rows that are named.
 ghost use Rattle.std.specs.Prelude.{◌≡◌, ℕ, ◌<◌, length, map, Bool, All, IfOk};
 ghost use Rattle.std.specs.Option.{option_copied};
-ghost use Rattle.marks.specs.Marks.{is_marked};
+ghost use Rattle.cost_base.specs.Marks.{is_marked};
 ghost use Rattle.design_problem.specs.Renumbering.{renumbered, renumbered_member, renumbered_part, renumbered_wide};
 ghost use Rattle.printed_rows.specs.NamedRows.{MemberBelow, NamesBelow, NamesKnown, TreeNamesKnown};
 ghost use Rattle.printed_rows.specs.NewNumbers.{AreNewNumbers, HasNumbers, KeepsOrder, PartsKeepOrder, kept_rows, new_number, number_given};

@@ -2,11 +2,11 @@
 ghost use Rattle.std.specs.Prelude.{◌<◌, length, All};
 ghost use Rattle.std.specs.List.{list_any};
 ghost use Rattle.std.specs.Option.{option_copied};
-ghost use Rattle.marks.specs.Marks.{AreMarked};
+ghost use Rattle.cost_base.specs.Marks.{AreMarked};
 ghost use Rattle.printed_rows.specs.NamedRows.{MemberBelow, NamesBelow, TreeNamesBelow, entries_in, is_row_named, is_row_named_in, member_names, names, part_names};
 
+use cost_base::mark;
 use design_problem::{CapTree, Entry, Member, Tree};
-use marks::mark;
 
 /// Marks the row of a form of a basis, where it is a row's.
 fn mark_member(marks: &mut Vec<bool>, member: &Member)

@@ -2,8 +2,7 @@
 
 ghost use Rattle.std.specs.Prelude.{◌≡◌, ◌<◌, IfOk, length, slice_set};
 
-use cost_base::{Listed, OutOfMemory};
-use marks::filled_by;
+use cost_base::{Listed, OutOfMemory, filled_by};
 use std::alloc::Global;
 
 /// So many places, and nothing told at any of them.

@@ -12,8 +12,8 @@ use Rattle.std.proofs.lemmas.List.Sorted.{IsPermutation-refl, IsPermutation-sym,
 use Rattle.std.proofs.lemmas.Map.Views.{list_any-from_Contains}
 use Rattle.cost_base.proofs.ByteLemmas.{same_bytes-same}
 use Rattle.cost_base.proofs.ListLemmas.{none_passes}
-use Rattle.marks.specs.Marks.{AreMarked, is_marked, is_one_of}
-use Rattle.marks.proofs.MarkLaws.{clear_marks, marked_none, marked_rest}
+use Rattle.cost_base.specs.Marks.{AreMarked, is_marked, is_one_of}
+use Rattle.cost_base.proofs.MarkLaws.{clear_marks, marked_none, marked_rest}
 use Rattle.area_graph.specs.Distances.{AreEdgeMarks}
 use Rattle.area_graph.proofs.ExcludedMarks.{marks_more, no_marks}
 use Rattle.design_problem.specs.declared.problem.Request.{Request}

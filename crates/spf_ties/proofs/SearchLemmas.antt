@@ -8,7 +8,7 @@ use Rattle.std.proofs.lemmas.List.Sums.{sum_by-cons, count_by-le-length, length-
 use native.Mathlib.Decide.{ℕ_discrete}
 use Rattle.cost_base.specs.Lists.{Lacks, numbers_from}
 use Rattle.cost_base.proofs.ListLemmas.{length-numbers_from, all_kept, kept_all, all_lacks}
-use Rattle.marks.specs.Marks.{is_marked}
+use Rattle.cost_base.specs.Marks.{is_marked}
 use Rattle.area_graph.specs.declared.Point.{Point}
 use Rattle.area_graph.specs.Area.{Area, edge_at, edges_in, no_edge, FitsGraph, FitsEdge}
 use Rattle.area_graph.specs.Costs.{price_at}

@@ -2,7 +2,7 @@
 -- clause cites it.
 use Rattle.std.specs.Prelude.{◌≡◌, ℕ, ◌+◌, ◌^◌, ◌<◌, ◌≤◌, List, length, slice_index, All, Contains, Bool, true, false, not, count_by}
 use Rattle.cost_base.specs.Lists.{Lacks, numbers_from}
-use Rattle.marks.specs.Marks.{is_marked}
+use Rattle.cost_base.specs.Marks.{is_marked}
 use Rattle.area_graph.specs.declared.Point.{Point}
 use Rattle.area_graph.specs.Area.{Area, edge_at}
 use Rattle.area_graph.specs.declared.subgraph.Subgraph.{Subgraph}

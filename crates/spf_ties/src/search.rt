@@ -2,7 +2,7 @@
 //! each (Dijkstra's algorithm, with which RFC 2328, 16.1 builds its tree).
 
 ghost use Rattle.std.specs.Prelude.{◌≡◌, ◌≤◌, ◌<◌, ◌*◌, ◌^◌, [], ◌∷◌, ℕ, All, IsPermutation, List, false, length, slice_set, true};
-ghost use Rattle.marks.specs.Marks.{is_marked};
+ghost use Rattle.cost_base.specs.Marks.{is_marked};
 ghost use Rattle.area_graph.specs.Area.{edge_at, edges_in};
 ghost use Rattle.area_graph.specs.Costs.{IsPriced, price_at};
 ghost use Rattle.area_graph.specs.Distances.{AreDistancesTo, FitsSubgraph, far};

@@ -3,7 +3,7 @@ use Rattle.std.proofs.Common.{◌≡◌, ℕ, refl, sym, ◌∙◌, ap, subst, L
 use Rattle.std.specs.Prelude.{not, ◌||◌}
 use Rattle.std.specs.List.{list_any}
 use Rattle.cost_base.proofs.ListLemmas.{append-none}
-use Rattle.marks.specs.Marks.{is_marked}
+use Rattle.cost_base.specs.Marks.{is_marked}
 use Rattle.area_graph.specs.Area.{Area}
 use Rattle.area_graph.specs.Distances.{AreEdgeMarks}
 use Rattle.area_graph.proofs.Visits.{joined_known}

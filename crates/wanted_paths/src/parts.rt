@@ -2,7 +2,7 @@
 ghost use Rattle.std.specs.Prelude.{◌≡◌, ◌+◌, ◌^◌, ◌<◌, ◌==◌, ◌++◌, [], Some, false, filter, length, slice_get, IfOk, IfErr, OnOk};
 ghost use Rattle.std.specs.List.{list_any};
 ghost use Rattle.cost_base.specs.Lists.{first_of, numbers_from};
-ghost use Rattle.marks.specs.Marks.{is_marked, numbers_marked};
+ghost use Rattle.cost_base.specs.Marks.{is_marked, numbers_marked};
 ghost use Rattle.area_graph.specs.Area.{edge_at, edges_out, edges_in};
 ghost use Rattle.lsdb_build.specs.Graphs.{IsFar};
 ghost use Rattle.wanted_paths.specs.LineFaults.{part_faults, parts_faults, is_router_part, TellsResolution};
@@ -13,9 +13,8 @@ use crate::ResolutionFault;
 use crate::names::Names;
 use crate::routes::subnet_vertex;
 use area_graph::{Graph, far_end};
-use cost_base::{OutOfMemory, Refusal, push_if, push_last, push_some};
+use cost_base::{OutOfMemory, Refusal, is_marked, push_if, push_last, push_some};
 use lsdb_build::{Far, Linked};
-use marks::is_marked;
 use request_reader::Part;
 use std::alloc::Global;
 

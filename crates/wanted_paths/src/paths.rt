@@ -2,7 +2,7 @@
 ghost use Rattle.std.specs.Prelude.{◌≡◌, ◌||◌, [], Some, IfOk, IfErr};
 ghost use Rattle.std.specs.List.{list_any};
 ghost use Rattle.cost_base.specs.Lists.{first_of};
-ghost use Rattle.marks.specs.Marks.{is_marked};
+ghost use Rattle.cost_base.specs.Marks.{is_marked};
 ghost use Rattle.request_reader.specs.declared.Directive.TheVariants.{Path as WantedPath};
 ghost use Rattle.wanted_paths.specs.Paths.{next_name, excluded_edges, request_of};
 ghost use Rattle.wanted_paths.specs.LineFaults.{is_router_part, walk_faults, without_faults, path_faults, TellsResolution};

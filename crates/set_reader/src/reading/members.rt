@@ -10,10 +10,9 @@ ghost use Rattle.set_reader.specs.Reading.{same_ends, has_other_ends, excludes_e
 ghost use Rattle.set_reader.specs.ReadingSteps.{is_out_of_place};
 
 use crate::SetFault;
-use cost_base::{OutOfMemory, Refusal, push_last};
+use cost_base::{OutOfMemory, Refusal, mark_all, push_last};
 use design_problem::Request;
 use indexmap::IndexSet;
-use marks::mark_all;
 use std::alloc::Global;
 
 /// Whether the paths of two requests lead between the same ends.

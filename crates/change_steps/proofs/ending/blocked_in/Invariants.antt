@@ -1,7 +1,7 @@
 use Rattle.std.proofs.Common.{◌≡◌, ◌&&◌, All, map, filter}
 use Rattle.std.specs.Prelude.{not, slice_set, true}
 use Rattle.cost_base.specs.Lists.{numbers_from}
-use Rattle.marks.specs.Marks.{is_marked}
+use Rattle.cost_base.specs.Marks.{is_marked}
 use Rattle.spf_ties.specs.Distances.{IsRoomFor}
 use Rattle.change_steps.specs.Kinds.{comes_between, kind_of_step}
 use Rattle.change_steps.specs.Outcomes.{IsBarrier}

@@ -1,5 +1,5 @@
 use Rattle.std.proofs.Common.{◌≡◌, ◌∙◌, ℕ, List, ap}
-use Rattle.marks.specs.Marks.{is_one_of}
+use Rattle.cost_base.specs.Marks.{is_one_of}
 use Rattle.change_steps.specs.Rollouts.{Rollout}
 use Rattle.change_steps.specs.States.{marks_of}
 use Rattle.change_steps.specs.Search.{order_behind_first}

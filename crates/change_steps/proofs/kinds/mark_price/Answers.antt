@@ -1,5 +1,5 @@
 use Rattle.std.proofs.Common.{rules, ◌≡◌, ◌<◌, ◌∙◌, ◌==◌, ◌||◌, ℕ, ap, length, length-set, true}
-use Rattle.marks.specs.Marks.{is_marked}
+use Rattle.cost_base.specs.Marks.{is_marked}
 use Rattle.change_steps.proofs.MarkedLaws.{mark_written}
 use Rattle.change_steps.proofs.kinds.mark_price.Goals as goal
 

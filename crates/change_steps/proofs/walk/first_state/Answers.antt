@@ -1,6 +1,6 @@
 use Rattle.std.proofs.Common.{◌≡◌, ◌<◌, ◌∙◌, ℕ, All, List, subst, sym}
 use Rattle.std.specs.Prelude.{IfOk}
-use Rattle.marks.specs.Marks.{is_one_of}
+use Rattle.cost_base.specs.Marks.{is_one_of}
 use Rattle.change_steps.specs.declared.state.State.{State}
 use Rattle.change_steps.specs.Rollouts.{Rollout, step_count}
 use Rattle.change_steps.specs.Kinds.{comes_first, first_steps, kind_of_step}

@@ -1,7 +1,7 @@
 -- So many zeros.
 use Rattle.std.proofs.Common.{◌≡◌, ◌∙◌, replicate, rules}
 use Rattle.std.specs.Prelude.{pos}
-use Rattle.marks.proofs.FillLaws.{filled_numbers}
+use Rattle.cost_base.proofs.FillLaws.{filled_numbers}
 use Rattle.integer_pivots.proofs.first_lines.zeros.Goals as goal
 
 pub returns : goal.returns

@@ -1,5 +1,5 @@
 use Rattle.std.proofs.Common.{◌≡◌, ◌∙◌, ap, length, replicate, sym, rules, None, Option}
-use Rattle.marks.proofs.FillLaws.{map_same}
+use Rattle.cost_base.proofs.FillLaws.{map_same}
 use Rattle.lsdb_build.specs.declared.Linked.{Linked}
 use Rattle.path_requests.specs.declared.ranges.Range.{Range}
 use Rattle.path_requests.proofs.ranges.undecided.Goals as goal

@@ -1,6 +1,6 @@
 -- nothing is noted of each variable
 use Rattle.std.proofs.Common.{◌≡◌, ◌∙◌, replicate, rules}
-use Rattle.marks.proofs.FillLaws.{filled_numbers}
+use Rattle.cost_base.proofs.FillLaws.{filled_numbers}
 use Rattle.present_costs.specs.declared.variables.Noted.TheVariants.{Nothing}
 use Rattle.present_costs.proofs.variables.nothing_noted.Goals as goal
 

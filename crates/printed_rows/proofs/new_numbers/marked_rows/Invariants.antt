@@ -1,5 +1,5 @@
 use Rattle.std.proofs.Common.{◌≡◌, ◌+◌, ◌++◌, length}
-use Rattle.marks.specs.Marks.{is_marked}
+use Rattle.cost_base.specs.Marks.{is_marked}
 use Rattle.printed_rows.specs.NewNumbers.{kept_from, kept_rows}
 use Rattle.printed_rows.proofs.new_numbers.marked_rows.Given as goal
 

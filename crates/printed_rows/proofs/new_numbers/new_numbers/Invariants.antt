@@ -1,5 +1,5 @@
 use Rattle.std.proofs.Common.{◌≡◌, ◌≤◌}
-use Rattle.marks.specs.Marks.{is_marked}
+use Rattle.cost_base.specs.Marks.{is_marked}
 use Rattle.printed_rows.specs.NewNumbers.{AreNewNumbers, new_number}
 use Rattle.printed_rows.proofs.new_numbers.new_numbers.Given as goal
 

@@ -1,6 +1,6 @@
 -- The rows that the trees name are marked, numbered and kept.
 use Rattle.std.proofs.Common.{rules, ◌≡◌, ◌^◌, ◌<◌, ◌∙◌, ap, sym, List, ℕ, Bool, length}
-use Rattle.marks.specs.Marks.{is_marked}
+use Rattle.cost_base.specs.Marks.{is_marked}
 use Rattle.printed_rows.specs.NamedRows.{is_row_named_in}
 use Rattle.printed_rows.specs.NewNumbers.{kept_rows}
 use Rattle.printed_rows.proofs.PrintLaws.{trees_agree, trees_known, trees_numbered}

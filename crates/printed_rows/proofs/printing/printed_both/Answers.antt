@@ -1,7 +1,7 @@
 -- The rows that the trees name are marked, numbered and kept.
 use Rattle.std.proofs.Common.{rules, ◌≡◌, ◌^◌, ◌<◌, ◌∙◌, ap, sym, subst, List, ℕ, Bool, length}
 use Rattle.std.specs.Option.{option_copied}
-use Rattle.marks.specs.Marks.{is_marked}
+use Rattle.cost_base.specs.Marks.{is_marked}
 use Rattle.printed_rows.specs.NewNumbers.{kept_rows, named_in}
 use Rattle.printed_rows.proofs.PrintLaws.{both_numbered, first_named, second_named, tree_agrees, if_any_known}
 use Rattle.printed_rows.proofs.printing.printed_both.Goals as goal

@@ -1,5 +1,5 @@
 use Rattle.std.proofs.Common.{take}
-use Rattle.marks.specs.Marks.{AreMarked}
+use Rattle.cost_base.specs.Marks.{AreMarked}
 use Rattle.printed_rows.specs.NamedRows.{is_row_named}
 use Rattle.printed_rows.proofs.row_marks.mark_entries.Given as goal
 

@@ -1,6 +1,6 @@
 use Rattle.std.proofs.Common.{take}
 use Rattle.std.specs.List.{list_any}
-use Rattle.marks.specs.Marks.{AreMarked}
+use Rattle.cost_base.specs.Marks.{AreMarked}
 use Rattle.printed_rows.specs.NamedRows.{part_names}
 use Rattle.printed_rows.proofs.row_marks.mark_parts.Given as goal
 

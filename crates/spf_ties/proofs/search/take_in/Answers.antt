@@ -1,6 +1,6 @@
 use Rattle.std.proofs.Common.{rules, ◌≡◌, ◌<◌, ◌∙◌, sym, arith, length, false, true}
 use Rattle.std.proofs.lemmas.List.{get_or_default}
-use Rattle.marks.specs.Marks.{is_marked}
+use Rattle.cost_base.specs.Marks.{is_marked}
 use Rattle.spf_ties.proofs.SearchLemmas.{passed_over, settled_next}
 use Rattle.spf_ties.proofs.search.take_in.Goals as goal
 

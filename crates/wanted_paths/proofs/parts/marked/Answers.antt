@@ -1,6 +1,6 @@
 use Rattle.std.proofs.Common.{◌∙◌, ap, ◌++◌, ◌∷◌, [], Bool, cond}
 use Rattle.cost_base.proofs.ListLemmas.{filter-numbers_from-push}
-use Rattle.marks.specs.Marks.{is_marked}
+use Rattle.cost_base.specs.Marks.{is_marked}
 use Rattle.wanted_paths.proofs.parts.marked.Goals as goal
 
 pub loop-edge-preserved : goal.loop-edge-preserved

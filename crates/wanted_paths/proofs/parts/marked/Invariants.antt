@@ -1,7 +1,7 @@
 use Rattle.std.proofs.Common.{◌≡◌}
 use Rattle.std.specs.Prelude.{filter}
 use Rattle.cost_base.specs.Lists.{numbers_from}
-use Rattle.marks.specs.Marks.{is_marked}
+use Rattle.cost_base.specs.Marks.{is_marked}
 use Rattle.wanted_paths.proofs.parts.marked.Given as goal
 
 -- the marked ones of the edges so far

@@ -1,6 +1,6 @@
 use Rattle.std.proofs.Common.{◌∙◌, ℕ, All, List, get_or, refl, subst, sym, take_all}
 use Rattle.std.proofs.lemmas.List.Elements.{All-more}
-use Rattle.marks.specs.Marks.{is_marked}
+use Rattle.cost_base.specs.Marks.{is_marked}
 use Rattle.spf_ties.specs.Distances.{Findings, IsRoomFor}
 use Rattle.change_steps.specs.Rollouts.{Rollout}
 use Rattle.change_steps.specs.Orders.{IsOnlyIn}

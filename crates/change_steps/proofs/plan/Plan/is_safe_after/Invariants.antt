@@ -1,5 +1,5 @@
 use Rattle.std.proofs.Common.{All, take}
-use Rattle.marks.specs.Marks.{is_marked}
+use Rattle.cost_base.specs.Marks.{is_marked}
 use Rattle.spf_ties.specs.Distances.{IsRoomFor}
 use Rattle.change_steps.specs.Orders.{IsOnlyIn}
 use Rattle.change_steps.proofs.plan.Plan.is_safe_after.Given as goal

@@ -1,5 +1,5 @@
 use Rattle.std.proofs.Common.{All, ap, subst}
-use Rattle.marks.specs.Marks.{is_marked}
+use Rattle.cost_base.specs.Marks.{is_marked}
 use Rattle.change_steps.specs.Rollouts.{IsRollout, Rollout}
 use Rattle.change_steps.specs.Search.{HeldRollout}
 use Rattle.change_steps.specs.Reaches.{IsHarmless, edges_of_step}

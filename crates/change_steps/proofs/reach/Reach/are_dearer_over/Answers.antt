@@ -1,5 +1,5 @@
 use Rattle.std.proofs.Common.{◌+◌, ◌<◌, ◌∙◌, ap, arith, length, ltb-true, subst, sym}
-use Rattle.marks.specs.Marks.{is_marked}
+use Rattle.cost_base.specs.Marks.{is_marked}
 use Rattle.area_graph.specs.declared.Edge.{Edge}
 use Rattle.area_graph.specs.declared.Point.{Point}
 use Rattle.area_graph.specs.Area.{Area, edge_at, no_edge}

@@ -1,6 +1,6 @@
 use Rattle.std.proofs.Common.{◌<◌, ◌∙◌, ℕ, All, List, length, subst, sym, take_all}
 use Rattle.std.proofs.lemmas.List.Elements.{All-more}
-use Rattle.marks.specs.Marks.{is_marked}
+use Rattle.cost_base.specs.Marks.{is_marked}
 use Rattle.change_steps.specs.Reaches.{IsHarmless}
 use Rattle.change_steps.proofs.ReachLaws.{step_edges, step_edges_known, step_within}
 use Rattle.change_steps.proofs.reach.Reach.spares.Goals as goal

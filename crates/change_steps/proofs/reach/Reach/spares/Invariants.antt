@@ -1,5 +1,5 @@
 use Rattle.std.proofs.Common.{All, take}
-use Rattle.marks.specs.Marks.{is_marked}
+use Rattle.cost_base.specs.Marks.{is_marked}
 use Rattle.change_steps.specs.Reaches.{IsHarmless}
 use Rattle.change_steps.proofs.reach.Reach.spares.Given as goal
 

@@ -1,6 +1,6 @@
 use Rattle.std.proofs.Common.{◌∙◌, ap, sym}
 use Rattle.area_graph.specs.Costs.{at_costs}
-use Rattle.marks.specs.Marks.{is_marked}
+use Rattle.cost_base.specs.Marks.{is_marked}
 use Rattle.change_steps.specs.Orders.{none_done}
 use Rattle.change_steps.proofs.MarkLaws.{marks_same}
 use Rattle.change_steps.proofs.StateLaws.{none_costs}

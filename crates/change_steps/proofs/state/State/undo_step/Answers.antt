@@ -1,5 +1,5 @@
 use Rattle.std.proofs.Common.{◌≡◌, ◌<◌, ◌∙◌, ℕ, All, List, ap, length, length-set, subst, sym}
-use Rattle.marks.specs.Marks.{is_marked}
+use Rattle.cost_base.specs.Marks.{is_marked}
 use Rattle.area_graph.specs.declared.Point.{Point}
 use Rattle.change_steps.proofs.StateCosts.{length-costs_in}
 use Rattle.change_steps.proofs.StateLaws.{undo_costs, lines_known, point_is}

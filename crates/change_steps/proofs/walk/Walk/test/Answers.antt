@@ -1,7 +1,7 @@
 use Rattle.std.proofs.Common.{◌∙◌, ◌++◌, ◌∷◌, [], List, Bool, ap, false, refl, set, subst, sym}
 use Rattle.std.specs.Prelude.{◌↔◌, Contains, IsTrue}
 use Rattle.std.proofs.lemmas.Bool.{both_ways}
-use Rattle.marks.specs.Marks.{is_marked}
+use Rattle.cost_base.specs.Marks.{is_marked}
 use Rattle.spf_ties.specs.Distances.{Findings, IsRoomFor}
 use Rattle.change_steps.specs.declared.state.State.{State}
 use Rattle.change_steps.specs.Rollouts.{Rollout}

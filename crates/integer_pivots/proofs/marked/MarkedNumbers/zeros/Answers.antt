@@ -1,7 +1,7 @@
 -- Each number is 0.
 use Rattle.std.proofs.Common.{◌≡◌, ◌+◌, ◌/◌, ◌∙◌, replicate, rules}
 use Rattle.std.specs.Prelude.{pos}
-use Rattle.marks.proofs.FillLaws.{filled_numbers}
+use Rattle.cost_base.proofs.FillLaws.{filled_numbers}
 use Rattle.integer_pivots.proofs.MarkLaws.{zeros_marked}
 use Rattle.integer_pivots.proofs.marked.MarkedNumbers.zeros.Goals as goal
 

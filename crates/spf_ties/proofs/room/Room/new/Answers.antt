@@ -1,5 +1,5 @@
 use Rattle.std.proofs.Common.{rules, ◌≡◌, length}
-use Rattle.marks.proofs.MarkLaws.{clear_marks}
+use Rattle.cost_base.proofs.MarkLaws.{clear_marks}
 use Rattle.spf_ties.proofs.LeastCosts.{none_known}
 use Rattle.spf_ties.proofs.room.Room.new.Goals as goal
 

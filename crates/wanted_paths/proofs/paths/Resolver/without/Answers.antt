@@ -2,7 +2,7 @@ use Rattle.std.proofs.Common.{◌∙◌, ap, sym, subst, List, length, Bool, fal
 use Rattle.std.specs.Prelude.{filter, not, ◌||◌}
 use Rattle.std.specs.List.{list_any}
 use Rattle.cost_base.specs.Lists.{first_of, numbers_from}
-use Rattle.marks.specs.Marks.{is_marked}
+use Rattle.cost_base.specs.Marks.{is_marked}
 use Rattle.lsdb_build.specs.Graphs.{Database, IsAreaDatabase}
 use Rattle.wanted_paths.specs.Paths.{next_name}
 use Rattle.wanted_paths.specs.LineFaults.{fault_unless, is_router_part, parts_faults}

@@ -1,6 +1,6 @@
 use Rattle.std.proofs.Common.{take}
-use Rattle.marks.specs.Marks.{AreMarked, is_one_of}
-use Rattle.marks.proofs.marks.mark_all.Given as goal
+use Rattle.cost_base.specs.Marks.{AreMarked, is_one_of}
+use Rattle.cost_base.proofs.marks.mark_all.Given as goal
 
 -- the places so far are marked
 abbrev pub invariant-loop-place : goal.invariant-loop-place

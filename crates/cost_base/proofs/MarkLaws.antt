@@ -8,7 +8,7 @@ use Rattle.std.proofs.lemmas.Bool.{eq-eqb, eqb-true, false≢true, ne_eqb, or_ca
 use Rattle.std.proofs.lemmas.List.Folds.{list_any_at, list_any_more}
 use native.Mathlib.Decide.{ℕ_discrete}
 use Rattle.cost_base.specs.Lists.{Has}
-use Rattle.marks.specs.Marks.{AreMarked, is_marked, is_one_of}
+use Rattle.cost_base.specs.Marks.{AreMarked, is_marked, is_one_of}
 
 -- marks of one test, and then of another one
 pub marked_then : (f g h : ℕ → Bool) (a b c : List Bool) → ((k : ℕ) → h k ≡ (f k || g k)) → AreMarked f a b → AreMarked g b c → AreMarked h a c

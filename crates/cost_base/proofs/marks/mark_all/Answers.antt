@@ -1,7 +1,7 @@
 use Rattle.std.proofs.Common.{rules, ◌<◌, ◌≤◌, ◌==◌, length, get_or}
 use Rattle.std.proofs.lemmas.List.{get_or_default}
-use Rattle.marks.proofs.MarkLaws.{all_marked, marked_more}
-use Rattle.marks.proofs.marks.mark_all.Goals as goal
+use Rattle.cost_base.proofs.MarkLaws.{all_marked, marked_more}
+use Rattle.cost_base.proofs.marks.mark_all.Goals as goal
 
 pub loop-place-preserved : goal.loop-place-preserved
 loop-place-preserved c =

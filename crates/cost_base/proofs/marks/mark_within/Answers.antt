@@ -1,6 +1,6 @@
 use Rattle.std.proofs.Common.{rules, sym, ◌≤◌, length, true}
 use Rattle.std.proofs.lemmas.List.{set_past}
-use Rattle.marks.proofs.marks.mark_within.Goals as goal
+use Rattle.cost_base.proofs.marks.mark_within.Goals as goal
 
 pub returns-else-place-len : goal.returns-else-place-len
 returns-else-place-len c =

@@ -1,7 +1,7 @@
 //! Lists of things of one make.
 ghost use Rattle.std.specs.Prelude.{◌≡◌, All, IfOk, length};
 
-use cost_base::OutOfMemory;
+use crate::OutOfMemory;
 use std::alloc::Global;
 
 /// So many things, each made anew.
