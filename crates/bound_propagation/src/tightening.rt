@@ -4,8 +4,7 @@ ghost use Rattle.design_problem.specs.Boxes.{greatest};
 ghost use Rattle.bound_propagation.specs.Tightening.{IsExactTightening, NoneBefore};
 
 use crate::range::exact_bound;
-use design_problem::{CostBox, Form, greatest_over};
-use problem_parts::NewBound;
+use design_problem::{CostBox, Form, NewBound, greatest_over};
 
 /// The first variable whose range the form alone makes smaller, with its exact new bound: the form is negative over the
 /// part of the box that is removed, and not over the part at the new bound itself. None exactly where the form makes no

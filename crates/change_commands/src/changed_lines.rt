@@ -6,12 +6,11 @@ ghost use Rattle.change_commands.specs.ChangedLines.{changed_lines, line_with, c
 
 use area_graph::{Graph, Price};
 use cost_base::OutOfMemory;
-use design_problem::CostLine;
+use design_problem::{CostLine, cost_line};
 use input_files::Network;
 use lsdb_build::{Linked, Lsdb};
 use path_requests::present_cost;
 use present_costs::price_of_link;
-use problem_parts::cost_line;
 use std::alloc::Global;
 
 /// The graph of a network's problem.

@@ -8,9 +8,8 @@ ghost use Rattle.change_steps.specs.States.{marks_of};
 ghost use Rattle.change_steps.specs.Search.{IsStateOf};
 
 use crate::rollout::Rollout;
-use area_graph::Point;
+use area_graph::{Point, point_of};
 use cost_base::{Listed, OutOfMemory, no_marks};
-use problem_parts::point_of;
 use rival_separation::find_rival;
 use spf_ties::Room;
 use std::alloc::Global;

@@ -4,8 +4,7 @@ ghost use Rattle.std.specs.List.{sum};
 ghost use Rattle.design_problem.specs.GivenCosts.{costs_given};
 
 use cost_base::OutOfMemory;
-use design_problem::{CostLine, Problem, costs_given};
-use problem_parts::sum_of_costs;
+use design_problem::{CostLine, Problem, costs_given, sum_of_costs};
 use std::alloc::Global;
 
 /// The total of the costs of all variables, by the lines of an answer.

@@ -54,6 +54,22 @@ impl Model for Form {
         f.terms.items ≡ terms_of (form_by f.variables f.constant f.terms.items) };
 }
 
+impl CostBox {
+    /// An equal box.
+    ///
+    /// # Errors
+    ///
+    /// `OutOfMemory`.
+    pub fn copy(&self, alloc: Global) -> Result<CostBox, OutOfMemory>
+        ensures { IfOk result (λ copy. copy ≡ self.now) }
+    {
+        Ok(CostBox {
+            low: self.low.copy(alloc)?,
+            high: self.high.copy(alloc)?,
+        })
+    }
+}
+
 /// Puts the term of a coefficient at the end, unless it is 0.
 pub(crate) fn push_term(
     terms: &mut Vec<Term>,

@@ -3,9 +3,9 @@ ghost use Rattle.std.specs.Prelude.{◌≡◌, ℕ, ◌<◌, length, map, All, I
 ghost use Rattle.std.specs.List.Sorted.{IsStrictlyIncreasing};
 ghost use Rattle.design_problem.specs.Problems.{request_at, restricted};
 
-use crate::{Problem, Request, VarName};
+use crate::{Problem, Request, VarName, var_name};
 use area_graph::Path;
-use cost_base::{Listed, Name, OutOfMemory};
+use cost_base::{Listed, OutOfMemory};
 use std::alloc::Global;
 
 /// A copy of a request.
@@ -22,26 +22,14 @@ fn copied_request(alloc: Global, request: &Request) -> Result<Request, OutOfMemo
     })
 }
 
-/// An equal free interface.
-fn copied_name(alloc: Global, name: &VarName) -> Result<VarName, OutOfMemory>
-    ensures { IfOk result (λ copy. copy ≡ name.now) }
-{
-    let router = Name::from_bytes(alloc, name.router.as_bytes())?;
-    let interface = Name::from_bytes(alloc, name.interface.as_bytes())?;
-    Ok(VarName {
-        router,
-        interface,
-        var: name.var,
-    })
-}
-
 /// Equal free interfaces, in the same order.
 fn copied_names(alloc: Global, names: &[VarName]) -> Result<Vec<VarName>, OutOfMemory>
     ensures { IfOk result (λ copies. copies.items ≡ names.now) }
 {
     let mut copies = Vec::new(alloc);
     for name in names {
-        copies.push(copied_name(alloc, name)?)?;
+        let (router, interface) = (name.router.as_bytes(), name.interface.as_bytes());
+        copies.push(var_name(alloc, router, interface, name.var)?)?;
     }
     Ok(copies)
 }

@@ -10,8 +10,7 @@ ghost use Rattle.evidence_checker.specs.Tests.{line_tests};
 
 use crate::CheckFault;
 use crate::sums::{refutes, rows_are_known, sum_is_small};
-use design_problem::{CostBox, Entry, Form, Side, greatest_removed};
-use problem_parts::NewBound;
+use design_problem::{CostBox, Entry, Form, NewBound, Side, greatest_removed};
 
 /// Whether a new bound makes a variable's range smaller, and not empty.
 fn is_smaller(costs: &CostBox, var: usize, side: Side, value: u16) -> bool

@@ -5,10 +5,9 @@ ghost use Rattle.area_graph.specs.Paths.{IsPathOf};
 ghost use Rattle.design_problem.specs.Problems.{request_ends};
 ghost use Rattle.evidence_checker.specs.Costs.{IsFirstTied};
 
-use area_graph::{Graph, Point, WantedPath, is_only_cheapest};
+use area_graph::{Graph, Point, WantedPath, is_only_cheapest, point_of};
 use cost_base::OutOfMemory;
 use design_problem::Request;
-use problem_parts::point_of;
 use std::alloc::Global;
 
 /// Whether the request's path is the only cheapest among the simple paths of the request.

@@ -12,7 +12,6 @@ use crate::CheckFault;
 use crate::lines::line_fault;
 use cost_base::{OutOfMemory, Refusal};
 use design_problem::{CapTree, CostBox, Entry, Form, OpenBoxes, capped_box};
-use problem_parts::go_on;
 use std::alloc::Global;
 
 /// Room for the sums of so many variables.
@@ -67,7 +66,7 @@ fn check_lines(
             let place = line as u64;
             return Err(Refusal::at(place, fault));
         }
-        if !go_on(boxes, entry)? {
+        if !boxes.go_on(entry)? {
             return Ok(());
         }
     }

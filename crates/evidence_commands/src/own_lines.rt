@@ -4,8 +4,7 @@ ghost use Rattle.evidence_commands.specs.Rewrites.{AddsLine, last_lines, own_lin
 
 use config_reader::Names;
 use cost_base::{Name, OutOfMemory};
-use design_problem::CostLine;
-use problem_parts::cost_line;
+use design_problem::{CostLine, cost_line};
 use std::alloc::Global;
 
 /// The lines of a router; where one interface has several, the last one.

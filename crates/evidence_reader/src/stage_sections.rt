@@ -17,8 +17,7 @@ use crate::faults::fault_at;
 use answer_lines::{TextLeft, name_after, number_after};
 use begun_lines::{begins_cost, begins_exit, begins_interface};
 use cost_base::Refusal;
-use design_problem::CostLine;
-use problem_parts::cost_line;
+use design_problem::{CostLine, cost_line};
 use std::alloc::Global;
 
 /// The cost lines of a text.

@@ -18,7 +18,6 @@ use crate::{FormPool, Found, RowSource};
 use cost_base::OutOfMemory;
 use cut_advisors::{Advisor, tell};
 use design_problem::{CostBox, Entry, TreeBuilder};
-use problem_parts::copied_box;
 use std::alloc::Global;
 use std::ops::ControlFlow;
 use wide_fraction::Limits;
@@ -35,7 +34,7 @@ fn first_tree(alloc: Global, variables: u32, costs: &CostBox) -> Result<TreeBuil
 {
     // For the prover: that each upper end has 16 bits is known once they are read.
     let _ = costs.high.as_slice();
-    let copy = copied_box(alloc, costs)?;
+    let copy = costs.copy(alloc)?;
     TreeBuilder::start(alloc, copy)
 }
 

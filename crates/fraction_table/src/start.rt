@@ -15,7 +15,6 @@ use crate::table::Table;
 use cost_base::{OutOfMemory, push_last};
 use design_problem::{CostBox, Member};
 use fraction_rows::TableRow;
-use problem_parts::copied_box;
 use std::alloc::Global;
 use wide_fraction::{Frac, Top};
 
@@ -172,7 +171,7 @@ pub fn starting_table(alloc: Global, costs: &CostBox, top: Top) -> Result<Table,
     let lines = bound_rows(alloc, costs, top)?;
     Ok(Table {
         top,
-        costs: copied_box(alloc, costs)?,
+        costs: costs.copy(alloc)?,
         rows: Vec::new(alloc),
         basis: starting_basis(alloc, costs.low.as_slice())?,
         lines,

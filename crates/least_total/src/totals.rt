@@ -6,8 +6,7 @@ ghost use Rattle.least_total.specs.Totals.{total, total_form};
 
 use area_graph::Point;
 use cost_base::OutOfMemory;
-use design_problem::Form;
-use problem_parts::sum_of_costs;
+use design_problem::{Form, sum_of_costs};
 use std::alloc::Global;
 
 /// The total of costs of at most 1,000 variables: their sum.

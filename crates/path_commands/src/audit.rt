@@ -11,12 +11,11 @@ ghost use Rattle.input_files.specs.Stops.{IsReadAs, files_named};
 ghost use Rattle.path_commands.specs.Audits.{IsAudited, MayAudit, ReportsAudit, audit_line, audit_lines, standing_by, standing_word};
 ghost use Rattle.report_writer.specs.Reports.{bytes_in};
 
-use area_graph::{Graph, Point, path_cost};
+use area_graph::{Graph, Point, empty_point, path_cost};
 use cost_base::{OutOfMemory, Shelf, Status};
 use design_problem::{Problem, Request};
 use input_files::{FileWords, Stop, View, read_problem};
 use line_builder::LineBuilder;
-use problem_parts::empty_point;
 use report_writer::Report;
 use rival_separation::find_rival;
 use spf_ties::Room;

@@ -14,7 +14,7 @@ ghost use Rattle.report_writer.specs.Reports.{bytes_in};
 
 use crate::audit::{AuditedPath, audited, line_of};
 use crate::link_edges::edges_of_links;
-use area_graph::{Exclusion, Graph, Path, Point, mark_excluded};
+use area_graph::{Exclusion, Graph, Path, Point, empty_point, mark_excluded};
 use cost_base::{Listed, OutOfMemory, Shelf, Status, no_marks};
 use design_problem::{Problem, Request};
 use input_files::{FileWords, Layout, Stop, View, read_layout, resolution_at_present};
@@ -22,7 +22,6 @@ use line_builder::LineBuilder;
 use live_area::{RunningArea, running_area};
 use live_input::read_live_file;
 use lsa_bytes::Database;
-use problem_parts::empty_point;
 use report_writer::Report;
 use request_reader::RequestFile;
 use spf_ties::Room;

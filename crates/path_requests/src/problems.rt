@@ -13,9 +13,8 @@ use crate::ranges::Range;
 use crate::variables::{high_bounds, is_free, low_bounds, owner};
 use area_graph::{Graph, Price};
 use cost_base::{Listed, OutOfMemory};
-use design_problem::{Problem, Request, VarName};
+use design_problem::{Problem, Request, VarName, var_name};
 use lsdb_build::Linked;
-use problem_parts::var_name;
 use request_reader::RequestFile;
 use std::alloc::Global;
 

@@ -4,8 +4,7 @@ ghost use Rattle.design_problem.specs.Answers.{CostLinesOf};
 ghost use Rattle.printed_rows.specs.PrintedCosts.{ArePrintedCosts};
 
 use cost_base::{Listed, OutOfMemory};
-use design_problem::{CostLine, Costs, Problem, VarName, greatest_of};
-use problem_parts::cost_line;
+use design_problem::{CostLine, Costs, Problem, VarName, cost_line, greatest_of};
 use std::alloc::Global;
 
 /// The lines that give each free interface the cost of its variable, in order.

@@ -6,7 +6,6 @@ use crate::source::FormList;
 use cost_base::OutOfMemory;
 use design_problem::{CostBox, Form};
 use exact_simplex::Tableau;
-use problem_parts::copied_box;
 use std::alloc::{AllocError, Global};
 use wide_fraction::Top;
 
@@ -26,7 +25,7 @@ pub(crate) fn scene_of(alloc: Global, costs: &CostBox, top: Top) -> Result<Scene
     requires ranges { IsBox (length costs.now.low) costs.now }
     requires few { length costs.now.low < 2 ^ 32 }
 {
-    let Ok(copy) = copied_box(alloc, costs) else {
+    let Ok(copy) = costs.copy(alloc) else {
         return Err(AllocError);
     };
     match Tableau::start(alloc, costs, top) {

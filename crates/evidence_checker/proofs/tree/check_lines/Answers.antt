@@ -88,8 +88,8 @@ loop-line-preserved c =
     let next = when_true _ _ c.in_ok-go_on.field-0 c.if-not-branch.false c.in_ok-go_on.ensures in
     record {
       walks = walk_goes_on forms (c.args.boxes.now.present ∷ []) c.args.entries.now boxes.present boxes.behind c.loop-line.line
-          entry _ c.go_on.new.boxes.present c.go_on.new.boxes.behind walks here.0 here.1 next;
-      ends = next_have_ends (length c.args.boxes.now.present.low) boxes.present boxes.behind entry c.go_on.new.boxes.present
-          c.go_on.new.boxes.behind c.loop-line.invariant.ends next;
+          entry _ c.go_on.new.self.present c.go_on.new.self.behind walks here.0 here.1 next;
+      ends = next_have_ends (length c.args.boxes.now.present.low) boxes.present boxes.behind entry c.go_on.new.self.present
+          c.go_on.new.self.behind c.loop-line.invariant.ends next;
       sums = c.in_default.ensures.sums ∙ c.loop-line.invariant.sums;
     }

@@ -2,7 +2,7 @@
 ghost use Rattle.std.specs.Prelude.{◌≡◌, [], IfOk};
 ghost use Rattle.area_graph.specs.Costs.{at_costs};
 
-use area_graph::Point;
+use crate::Point;
 use cost_base::{Listed, OutOfMemory};
 use std::alloc::Global;
 

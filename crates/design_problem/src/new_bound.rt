@@ -1,5 +1,5 @@
 //! New bounds of variables.
-use design_problem::Side;
+use crate::Side;
 
 /// A new bound of a variable at a side of its range.
 #[derive(Clone, Copy, Debug, PartialEq, Eq)]

@@ -1,6 +1,6 @@
 use Rattle.std.proofs.Common.{◌∙◌, ◌++◌, ◌∷◌, [], ℕ, List, ap, sym, take}
 use Rattle.std.proofs.lemmas.List.{take_more}
-use Rattle.problem_parts.proofs.points.point_of.Goals as goal
+use Rattle.area_graph.proofs.points.point_of.Goals as goal
 
 pub loop-cost-preserved : goal.loop-cost-preserved
 loop-cost-preserved c =

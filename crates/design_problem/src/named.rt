@@ -1,8 +1,8 @@
 //! What names an interface: a cost line, and a free interface with its variable.
 ghost use Rattle.std.specs.Prelude.{◌≡◌, IfOk};
 
+use crate::{CostLine, VarName};
 use cost_base::{Name, OutOfMemory};
-use design_problem::{CostLine, VarName};
 use std::alloc::Global;
 
 /// The line that gives an interface of a router a cost.
