@@ -6,7 +6,7 @@ use Rattle.std.specs.Prelude.{ℤ, pos, negsuc, ◌*ℤ◌, ◌<ℤ◌, nat_abs,
 use Rattle.std.proofs.Math.Nat.{mul-le-mul_left}
 use Rattle.std.proofs.lemmas.Int.{ints, to_z-of_z}
 use Rattle.design_problem.specs.Boxes.{upper_term}
-use Rattle.multiplied_forms.proofs.Sizes.{fits_size}
+use Rattle.design_problem.proofs.ProductSizes.{fits_size}
 
 -- a term is within its coefficient's size, times the most that an end can be
 pub upper_size : (c : ℤ) (l h : ℕ) → l ≤ 65535 → h ≤ 65535 → nat_abs (upper_term c l h) ≤ nat_abs c * 65535

@@ -5,8 +5,7 @@ ghost use Rattle.design_problem.specs.Boxes.{upper_sum, greatest};
 ghost use Rattle.design_problem.specs.Forms.{weighted, IsSmallForm};
 
 use crate::products::greatest_term;
-use design_problem::{CostBox, Form};
-use multiplied_forms::add_parts;
+use design_problem::{CostBox, Form, add_parts};
 
 /// The sum of a Refute's multipliers is below this.
 const MOST: u128 = 1 << 100;

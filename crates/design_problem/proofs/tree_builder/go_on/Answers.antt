@@ -13,10 +13,10 @@ returns-in-Split-clause-marks c n entries marked counted =
     c.clear.ensures n entries c.args.entry.now marked counted (elim c.in-Split.is [
       | inl cut ↦ ap (λ (e : Entry). last_run (e ∷ [])) cut.2
       | inr other ↦ elim other [
-          | inl halved ↦ ap (λ (e : Entry). last_run (e ∷ [])) halved.3
-          | inr last ↦ elim last [
-              | inl refuted ↦ ap (λ (e : Entry). last_run (e ∷ [])) refuted.1
-              | inr undone ↦ ap (λ (e : Entry). last_run (e ∷ [])) undone
-            ]
+        | inl halved ↦ ap (λ (e : Entry). last_run (e ∷ [])) halved.3
+        | inr last ↦ elim last [
+          | inl refuted ↦ ap (λ (e : Entry). last_run (e ∷ [])) refuted.1
+          | inr undone ↦ ap (λ (e : Entry). last_run (e ∷ [])) undone
         ]
+      ]
     ])

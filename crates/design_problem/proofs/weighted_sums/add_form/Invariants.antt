@@ -1,7 +1,7 @@
 use Rattle.std.proofs.Common.{◌≡◌, ℕ, ◌+◌, ◌*◌, ◌^◌, ◌<◌, drop, length, get_or}
 use Rattle.std.specs.Prelude.{pos, ◌+ℤ◌, ◌*ℤ◌, nat_abs, sum_by}
-use Rattle.multiplied_forms.proofs.SumLaws.{sum_at}
-use Rattle.multiplied_forms.proofs.sums.add_form.Given as goal
+use Rattle.design_problem.proofs.TermSums.{sum_at}
+use Rattle.design_problem.proofs.weighted_sums.add_form.Given as goal
 
 abbrev pub invariant-loop-term : goal.invariant-loop-term
 invariant-loop-term l = record {

@@ -2,8 +2,8 @@ use Rattle.std.proofs.Common.{sym, ◌∙◌, ap, subst, SFits, to_z, of_z}
 use Rattle.std.specs.Int.{w128}
 use Rattle.std.specs.Prelude.{ℤ, nat_abs}
 use Rattle.std.proofs.lemmas.Int.{to_z-of_z}
-use Rattle.multiplied_forms.proofs.Sizes.{product_is, product_fits, sum_is, sum_fits}
-use Rattle.multiplied_forms.proofs.products.plus_product.Goals as goal
+use Rattle.design_problem.proofs.ProductSizes.{product_is, product_fits, sum_is, sum_fits}
+use Rattle.design_problem.proofs.products.plus_product.Goals as goal
 
 pub overflow_mul-result : goal.overflow_mul-result
 overflow_mul-result c =

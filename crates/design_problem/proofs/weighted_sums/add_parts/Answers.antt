@@ -3,9 +3,9 @@ use Rattle.std.specs.Int.{w128}
 use Rattle.std.specs.Prelude.{ℤ, pos, ◌+ℤ◌, ◌*ℤ◌, nat_abs, sum_by}
 use Rattle.std.proofs.lemmas.Int.{to_z-of_z}
 use Rattle.design_problem.specs.Forms.{Form, IsSmallForm}
-use Rattle.multiplied_forms.proofs.PartLaws.{constant_more, coefficient_more, size_of_part, room_for, constant_small, sizes_small, coefficient_small, small_at, form_read}
-use Rattle.multiplied_forms.proofs.sums.add_parts.Goals.{After-index-forms-part}
-use Rattle.multiplied_forms.proofs.sums.add_parts.Goals as goal
+use Rattle.design_problem.proofs.PartLaws.{constant_more, coefficient_more, size_of_part, room_for, constant_small, sizes_small, coefficient_small, small_at, form_read}
+use Rattle.design_problem.proofs.weighted_sums.add_parts.Goals.{After-index-forms-part}
+use Rattle.design_problem.proofs.weighted_sums.add_parts.Goals as goal
 
 -- the form of the part's row is small
 small_here : (c : After-index-forms-part) → IsSmallForm (length c.args.sums.now) c.index-forms-part.result

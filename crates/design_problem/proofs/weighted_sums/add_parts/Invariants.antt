@@ -1,7 +1,7 @@
 use Rattle.std.proofs.Common.{◌≡◌, ℕ, ◌*◌, ◌^◌, ◌<◌, ◌≤◌, drop, take, length, get_or}
 use Rattle.std.specs.Prelude.{pos, ◌+ℤ◌, nat_abs, sum_by}
 use Rattle.design_problem.specs.Forms.{weighted}
-use Rattle.multiplied_forms.proofs.sums.add_parts.Given as goal
+use Rattle.design_problem.proofs.weighted_sums.add_parts.Given as goal
 
 abbrev pub invariant-loop-part : goal.invariant-loop-part
 invariant-loop-part l =

@@ -7,8 +7,8 @@ use Rattle.std.proofs.Math.ListN.{length-set}
 use Rattle.design_problem.specs.declared.form.Term.{Term}
 use Rattle.design_problem.proofs.TermLaws.{sizes_from}
 use Rattle.design_problem.specs.Forms.{no_term}
-use Rattle.multiplied_forms.proofs.SumLaws.{each_more, size_more, sum_at, sum_is_coefficient}
-use Rattle.multiplied_forms.proofs.sums.add_form.Goals as goal
+use Rattle.design_problem.proofs.TermSums.{each_more, size_more, sum_at, sum_is_coefficient}
+use Rattle.design_problem.proofs.weighted_sums.add_form.Goals as goal
 
 pub loop-term-init : goal.loop-term-init
 loop-term-init c =

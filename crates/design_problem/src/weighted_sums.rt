@@ -2,8 +2,8 @@
 ghost use Rattle.std.specs.Prelude.{◌≡◌, ℕ, ◌+◌, ◌*◌, ◌^◌, ◌<◌, pos, ◌+ℤ◌, ◌*ℤ◌, nat_abs, length, slice_index_or, sum_by, All};
 ghost use Rattle.design_problem.specs.Forms.{weighted, IsSmallForm};
 
+use crate::Form;
 use crate::products::plus_product;
-use design_problem::Form;
 
 /// Adds a form's coefficients, each times the multiplier, to the sums of their variables.
 fn add_form(sums: &mut [i128], multiplier: u128, form: &Form)
