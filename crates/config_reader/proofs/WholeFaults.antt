@@ -27,7 +27,8 @@ use Rattle.config_reader.specs.Hearing.{heard, sets, named_by}
 use Rattle.config_reader.specs.Drafting.{network_lines, covers, whole_address, at_place, find_draft, is_second, second_of, first_second, first_clash, earliest, name_from, name_fault}
 use Rattle.config_reader.proofs.FirstFaults.{firsts_at, bound, merge, agree, never, met_at, past_all, first_flat, first_five, first_front, first_filtered, filter_map-map}
 use Rattle.config_reader.proofs.DraftLaws.{draft_of, plain, plain_by, any_matched}
-use Rattle.config_reader.proofs.LongerLists.{any-map, last_passing-lt}
+use Rattle.text_lines.proofs.Images.{any-map}
+use Rattle.config_reader.proofs.LongerLists.{last_passing-lt}
 use Rattle.config_reader.proofs.BlockFacts.{about-unheaded, head_names}
 use Rattle.config_reader.proofs.HeadSteps.{is_headed}
 use Rattle.config_reader.proofs.HeardSteps.{length-read_lines}

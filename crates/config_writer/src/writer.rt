@@ -8,10 +8,9 @@ ghost use Rattle.config_writer.specs.Writing.{OpensHead, GoesOverLine, put_for};
 
 use crate::config_lines::{interface_opened, sets_cost};
 use crate::new_costs::NewCosts;
-use config_reader::Names;
 use cost_base::OutOfMemory;
 use std::alloc::Global;
-use text_lines::{LineKind, kind_of, push_bytes, push_number};
+use text_lines::{LineKind, Names, kind_of, push_bytes, push_number};
 
 /// What was written for the lines so far, the heads that were met, and whether the open block is of an interface that
 /// has a new cost.

@@ -2,10 +2,10 @@
 ghost use Rattle.std.specs.Prelude.{◌≡◌, IfOk, OnOk};
 ghost use Rattle.evidence_commands.specs.Rewrites.{AddsLine, last_lines, own_lines};
 
-use config_reader::Names;
 use cost_base::{Name, OutOfMemory};
 use design_problem::{CostLine, cost_line};
 use std::alloc::Global;
+use text_lines::Names;
 
 /// The lines of a router; where one interface has several, the last one.
 pub(crate) fn last_lines(

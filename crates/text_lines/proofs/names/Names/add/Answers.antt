@@ -1,8 +1,8 @@
 use Rattle.std.proofs.Common.{◌∙◌, ap, map, Bor, List, ℕ, not, [], ◌∷◌, ◌++◌, cond}
 use Rattle.std.specs.List.{list_any}
 use Rattle.cost_base.specs.Lists.{same_bytes}
-use Rattle.config_reader.proofs.LongerLists.{any-map, map-unless}
-use Rattle.config_reader.proofs.names.Names.add.Goals as goal
+use Rattle.text_lines.proofs.Images.{any-map, map-unless}
+use Rattle.text_lines.proofs.names.Names.add.Goals as goal
 
 pub returns-clause-new : goal.returns-clause-new
 returns-clause-new c = c.in_ok-new.ensures.added

@@ -2,8 +2,8 @@ use Rattle.std.proofs.Common.{◌∙◌, ap, Bor, List, ℕ}
 use Rattle.std.specs.Prelude.{position}
 use Rattle.std.specs.List.{list_any}
 use Rattle.cost_base.specs.Lists.{same_bytes}
-use Rattle.config_reader.proofs.LongerLists.{position-map, any-map}
-use Rattle.config_reader.proofs.names.Names.place.Goals as goal
+use Rattle.text_lines.proofs.Images.{position-map, any-map}
+use Rattle.text_lines.proofs.names.Names.place.Goals as goal
 
 pub returns-clause-place : goal.returns-clause-place
 returns-clause-place c = c.get_index_of.ensures.index
