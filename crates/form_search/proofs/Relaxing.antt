@@ -12,7 +12,7 @@ use Rattle.form_search.specs.declared.relaxation.Relaxed.{Relaxed}
 use Rattle.form_search.specs.declared.table.HeldTableau.{HeldTableau}
 use Rattle.form_search.specs.Sources.{Grows, IsTrueForm}
 use Rattle.form_search.specs.Points.{IsCostsBox}
-use Rattle.form_search.specs.Tables.{IsHeld, IsRelaxation, IsRoundTold, IsTableauKept, StandsAt}
+use Rattle.form_search.specs.Tables.{IsHeld, IsRelaxation, IsRoundTold, StandsAt}
 use Rattle.form_search.specs.Turns.{HasNew}
 use Rattle.form_search.proofs.CostPoints.{low_values}
 use Rattle.form_search.proofs.MissingForms.{missing, missing_falls}
@@ -40,11 +40,6 @@ held_more top n old new more table same held = subst (λ (forms : List Form). Is
   rows = held.rows ∙ sym (take-append-le held.taken old more held.few);
   all = held.all;
 })
-
--- so does one that is kept
-pub kept_more : (old new more : List Form) (kept : Option HeldTableau) → new ≡ old ++ more → IsTableauKept old kept → IsTableauKept new kept
-kept_more old new more None same is = tt
-kept_more old new more (Some table) same is = held_more table.top table.variables old new more table same is
 
 -- and one that stands over a box stands there with more forms
 pub stands_more : (top : ℕ) (box : CostBox) (old new more : List Form) (table : HeldTableau) → new ≡ old ++ more →

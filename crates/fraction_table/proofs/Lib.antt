@@ -1,5 +1,4 @@
 pub mod theory
-pub mod StandingRows
 pub mod IntegralTurns
 pub mod Bases
 pub mod StartingTables

@@ -7,6 +7,5 @@ pub mod ReadyInputs
 pub mod Present
 pub mod Ends
 pub mod Networks
-pub mod LaterFiles
 pub mod PresentNetworks
 pub mod Layouts
